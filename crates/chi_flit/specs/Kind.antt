@@ -1,0 +1,62 @@
+-- The table of kinds, a line a cell: the state that each needs at its issue, the snoop that serves it,
+-- which are copy-backs (Arm IHI 0050 B, 4.2; docs/PROTOCOL.md, "Kinds of request").
+use Rattle.std.specs.Prelude.{ℕ, List, Bool, true, false, Option, Some, None, codes}
+use Rattle.chi_flit.specs.declared.state.State.{State}
+use Rattle.chi_flit.specs.declared.state.State.TheVariants.{I, SC, UC, UD, SD}
+use Rattle.chi_flit.specs.declared.snoop.Snoop.{Snoop}
+use Rattle.chi_flit.specs.declared.snoop.Snoop.TheVariants.{SnpShared, SnpNotSharedDirty, SnpUnique, SnpCleanInvalid}
+use Rattle.chi_flit.specs.declared.kind.Kind.{Kind}
+use Rattle.chi_flit.specs.declared.kind.Kind.TheVariants.{ReadNotSharedDirty, ReadShared, ReadUnique, CleanUnique, Evict, WriteBackFull, WriteCleanFull, WriteEvictFull}
+
+-- whether a copy in the state may issue the kind; also whether a retried one may be resent
+abbrev pub is_needed : Kind → State → Bool
+is_needed ReadNotSharedDirty I = true
+is_needed ReadNotSharedDirty _ = false
+is_needed ReadShared I = true
+is_needed ReadShared _ = false
+is_needed ReadUnique I = true
+is_needed ReadUnique _ = false
+is_needed CleanUnique SC = true
+is_needed CleanUnique SD = true
+is_needed CleanUnique _ = false
+is_needed Evict SC = true
+is_needed Evict UC = true
+is_needed Evict _ = false
+is_needed WriteBackFull UD = true
+is_needed WriteBackFull SD = true
+is_needed WriteBackFull _ = false
+is_needed WriteCleanFull UD = true
+is_needed WriteCleanFull SD = true
+is_needed WriteCleanFull _ = false
+is_needed WriteEvictFull UC = true
+is_needed WriteEvictFull _ = false
+
+abbrev pub snoop_of : Kind → Option Snoop
+snoop_of ReadNotSharedDirty = Some SnpNotSharedDirty
+snoop_of ReadShared = Some SnpShared
+snoop_of ReadUnique = Some SnpUnique
+snoop_of CleanUnique = Some SnpCleanInvalid
+snoop_of Evict = None
+snoop_of WriteBackFull = None
+snoop_of WriteCleanFull = None
+snoop_of WriteEvictFull = None
+
+abbrev pub is_copy_back : Kind → Bool
+is_copy_back ReadNotSharedDirty = false
+is_copy_back ReadShared = false
+is_copy_back ReadUnique = false
+is_copy_back CleanUnique = false
+is_copy_back Evict = false
+is_copy_back WriteBackFull = true
+is_copy_back WriteCleanFull = true
+is_copy_back WriteEvictFull = true
+
+abbrev pub kind_text : Kind → List ℕ
+kind_text ReadNotSharedDirty = codes "ReadNotSharedDirty"
+kind_text ReadShared = codes "ReadShared"
+kind_text ReadUnique = codes "ReadUnique"
+kind_text CleanUnique = codes "CleanUnique"
+kind_text Evict = codes "Evict"
+kind_text WriteBackFull = codes "WriteBackFull"
+kind_text WriteCleanFull = codes "WriteCleanFull"
+kind_text WriteEvictFull = codes "WriteEvictFull"

@@ -1,0 +1,6 @@
+pub mod State
+pub mod Kind
+pub mod Credit
+pub mod Snoop
+pub mod Message
+pub mod Refusal

@@ -1,0 +1,39 @@
+-- Answers to snoops, a line a cell: the next state and the message, by state and snoop
+-- (Arm IHI 0050 B, 4.7; docs/PROTOCOL.md, "Answers to snoops").
+use Rattle.std.specs.Prelude.{ℕ, List, codes}
+use Rattle.chi_flit.specs.declared.state.State.{State}
+use Rattle.chi_flit.specs.declared.state.State.TheVariants.{I, SC, UC, UD, SD}
+use Rattle.chi_flit.specs.declared.snoop.Snoop.{Snoop}
+use Rattle.chi_flit.specs.declared.snoop.Snoop.TheVariants.{SnpShared, SnpNotSharedDirty, SnpUnique, SnpCleanInvalid}
+use Rattle.chi_flit.specs.declared.message.RspUp.TheVariants.{SnpRespI, SnpRespSC}
+use Rattle.chi_flit.specs.declared.message.DatUp.TheVariants.{SnpRespDataIPD, SnpRespDataSCPD, SnpRespDataSD}
+use Rattle.chi_flit.specs.declared.message.Msg.{Msg}
+use Rattle.chi_flit.specs.declared.message.Msg.TheVariants.{RspUp, DatUp}
+
+abbrev pub answer_of : State → Snoop → List ℕ → State × Msg
+answer_of I SnpShared words = (I, RspUp SnpRespI)
+answer_of I SnpNotSharedDirty words = (I, RspUp SnpRespI)
+answer_of I SnpUnique words = (I, RspUp SnpRespI)
+answer_of I SnpCleanInvalid words = (I, RspUp SnpRespI)
+answer_of SC SnpShared words = (SC, RspUp SnpRespSC)
+answer_of SC SnpNotSharedDirty words = (SC, RspUp SnpRespSC)
+answer_of SC SnpUnique words = (I, RspUp SnpRespI)
+answer_of SC SnpCleanInvalid words = (I, RspUp SnpRespI)
+answer_of UC SnpShared words = (SC, RspUp SnpRespSC)
+answer_of UC SnpNotSharedDirty words = (SC, RspUp SnpRespSC)
+answer_of UC SnpUnique words = (I, RspUp SnpRespI)
+answer_of UC SnpCleanInvalid words = (I, RspUp SnpRespI)
+answer_of UD SnpShared words = (SD, DatUp (SnpRespDataSD words))
+answer_of UD SnpNotSharedDirty words = (SC, DatUp (SnpRespDataSCPD words))
+answer_of UD SnpUnique words = (I, DatUp (SnpRespDataIPD words))
+answer_of UD SnpCleanInvalid words = (I, DatUp (SnpRespDataIPD words))
+answer_of SD SnpShared words = (SD, DatUp (SnpRespDataSD words))
+answer_of SD SnpNotSharedDirty words = (SC, DatUp (SnpRespDataSCPD words))
+answer_of SD SnpUnique words = (I, DatUp (SnpRespDataIPD words))
+answer_of SD SnpCleanInvalid words = (I, DatUp (SnpRespDataIPD words))
+
+abbrev pub snoop_text : Snoop → List ℕ
+snoop_text SnpShared = codes "SnpShared"
+snoop_text SnpNotSharedDirty = codes "SnpNotSharedDirty"
+snoop_text SnpUnique = codes "SnpUnique"
+snoop_text SnpCleanInvalid = codes "SnpCleanInvalid"

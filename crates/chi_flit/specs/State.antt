@@ -1,0 +1,32 @@
+-- Cache states: which hold a copy, hold it alone, owe memory its value (Arm IHI 0050 B, 4.1).
+use Rattle.std.specs.Prelude.{ℕ, List, Bool, true, false, codes}
+use Rattle.chi_flit.specs.declared.state.State.{State}
+use Rattle.chi_flit.specs.declared.state.State.TheVariants.{I, SC, UC, UD, SD}
+
+abbrev pub is_valid : State → Bool
+is_valid I = false
+is_valid SC = true
+is_valid UC = true
+is_valid UD = true
+is_valid SD = true
+
+abbrev pub is_unique : State → Bool
+is_unique I = false
+is_unique SC = false
+is_unique UC = true
+is_unique UD = true
+is_unique SD = false
+
+abbrev pub is_dirty : State → Bool
+is_dirty I = false
+is_dirty SC = false
+is_dirty UC = false
+is_dirty UD = true
+is_dirty SD = true
+
+abbrev pub state_text : State → List ℕ
+state_text I = codes "I"
+state_text SC = codes "SC"
+state_text UC = codes "UC"
+state_text UD = codes "UD"
+state_text SD = codes "SD"

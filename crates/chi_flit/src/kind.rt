@@ -1,0 +1,88 @@
+//! The kinds of request.
+
+ghost use Rattle.std.specs.Prelude.{◌≡◌, Some};
+ghost use Rattle.chi_flit.specs.Kind.{is_needed, snoop_of, is_copy_back, kind_text};
+
+use crate::snoop::Snoop;
+use crate::state::State;
+use std::fmt;
+
+/// A kind of request that a fully coherent requester issues (Arm IHI 0050 B, 4.2).
+#[derive(Clone, Copy, Debug, PartialEq, Eq)]
+pub enum Kind {
+    /// A read that never leaves its requester in `SD`.
+    ReadNotSharedDirty,
+    /// A read that accepts any shared state.
+    ReadShared,
+    /// A read that leaves its requester the only holder.
+    ReadUnique,
+    /// Makes a shared holder the only one, without data.
+    CleanUnique,
+    /// Tells the home that a clean copy is gone.
+    Evict,
+    /// Writes a dirty copy back and gives it up.
+    WriteBackFull,
+    /// Writes a dirty copy back and keeps it clean.
+    WriteCleanFull,
+    /// Hands a unique clean copy back and gives it up.
+    WriteEvictFull,
+}
+
+impl Kind {
+    /// Whether a copy in `state` is in the state that this kind needs at its issue.
+    /// Source: `docs/PROTOCOL.md`, "Kinds of request".
+    pub fn needs(self, state: State) -> bool
+        ensures { result ≡ is_needed self state }
+    {
+        match self {
+            Kind::ReadNotSharedDirty | Kind::ReadShared | Kind::ReadUnique => {
+                matches!(state, State::I)
+            }
+            Kind::CleanUnique => matches!(state, State::SC | State::SD),
+            Kind::Evict => matches!(state, State::SC | State::UC),
+            Kind::WriteBackFull | Kind::WriteCleanFull => matches!(state, State::UD | State::SD),
+            Kind::WriteEvictFull => matches!(state, State::UC),
+        }
+    }
+
+    /// The snoop by which the home serves this kind; `None` for a kind that snoops nobody.
+    /// Source: `docs/PROTOCOL.md`, "Kinds of request".
+    pub fn snoop(self) -> Option<Snoop>
+        ensures { result ≡ snoop_of self }
+    {
+        match self {
+            Kind::ReadNotSharedDirty => Some(Snoop::SnpNotSharedDirty),
+            Kind::ReadShared => Some(Snoop::SnpShared),
+            Kind::ReadUnique => Some(Snoop::SnpUnique),
+            Kind::CleanUnique => Some(Snoop::SnpCleanInvalid),
+            Kind::Evict | Kind::WriteBackFull | Kind::WriteCleanFull | Kind::WriteEvictFull => None,
+        }
+    }
+
+    /// Whether this kind ends with write data: `WriteBackFull`, `WriteCleanFull` and `WriteEvictFull`.
+    pub fn is_copy_back(self) -> bool
+        ensures { result ≡ is_copy_back self }
+    {
+        matches!(
+            self,
+            Kind::WriteBackFull | Kind::WriteCleanFull | Kind::WriteEvictFull
+        )
+    }
+}
+
+impl fmt::Display for Kind {
+    ghost output = { λ kind. Some (kind_text kind) };
+
+    fn fmt<W: fmt::Write>(&self, f: &mut fmt::Formatter<W>) -> fmt::Result {
+        match self {
+            Kind::ReadNotSharedDirty => write!(f, "ReadNotSharedDirty"),
+            Kind::ReadShared => write!(f, "ReadShared"),
+            Kind::ReadUnique => write!(f, "ReadUnique"),
+            Kind::CleanUnique => write!(f, "CleanUnique"),
+            Kind::Evict => write!(f, "Evict"),
+            Kind::WriteBackFull => write!(f, "WriteBackFull"),
+            Kind::WriteCleanFull => write!(f, "WriteCleanFull"),
+            Kind::WriteEvictFull => write!(f, "WriteEvictFull"),
+        }
+    }
+}

@@ -1,0 +1,77 @@
+//! What is numbered: agents, lines, slots, entries and words; and the data of a line.
+
+ghost use Rattle.std.specs.Prelude.{Some};
+ghost use Rattle.std.specs.Fmt.{decimal};
+
+use std::fmt;
+
+/// A requester (RN-F), by its number from 0.
+#[derive(Clone, Copy, Debug, PartialEq, Eq)]
+pub struct Agent(pub u8);
+
+/// A cache line of 64 bytes, by its number from 0.
+#[derive(Clone, Copy, Debug, PartialEq, Eq)]
+pub struct Line(pub u8);
+
+/// One of a requester's eight transaction slots, by its number from 0.
+#[derive(Clone, Copy, Debug, PartialEq, Eq)]
+pub struct Slot(pub u8);
+
+/// An entry of the home's tracker, by its number from 0.
+#[derive(Clone, Copy, Debug, PartialEq, Eq)]
+pub struct Entry(pub u8);
+
+/// One of the eight words of 64 bits in a line, by its number from 0.
+#[derive(Clone, Copy, Debug, PartialEq, Eq)]
+pub struct WordNo(pub u8);
+
+/// The eight words of a line, lowest address first.
+pub type Data = [u64; 8];
+
+/// A line whose words are all 0, as memory is at first.
+pub const NO_DATA: Data = [0; 8];
+
+impl fmt::Display for Agent {
+    ghost output = { λ agent. Some (decimal agent.0) };
+
+    fn fmt<W: fmt::Write>(&self, f: &mut fmt::Formatter<W>) -> fmt::Result {
+        let number = self.0;
+        write!(f, "{number}")
+    }
+}
+
+impl fmt::Display for Line {
+    ghost output = { λ line. Some (decimal line.0) };
+
+    fn fmt<W: fmt::Write>(&self, f: &mut fmt::Formatter<W>) -> fmt::Result {
+        let number = self.0;
+        write!(f, "{number}")
+    }
+}
+
+impl fmt::Display for Slot {
+    ghost output = { λ slot. Some (decimal slot.0) };
+
+    fn fmt<W: fmt::Write>(&self, f: &mut fmt::Formatter<W>) -> fmt::Result {
+        let number = self.0;
+        write!(f, "{number}")
+    }
+}
+
+impl fmt::Display for Entry {
+    ghost output = { λ entry. Some (decimal entry.0) };
+
+    fn fmt<W: fmt::Write>(&self, f: &mut fmt::Formatter<W>) -> fmt::Result {
+        let number = self.0;
+        write!(f, "{number}")
+    }
+}
+
+impl fmt::Display for WordNo {
+    ghost output = { λ word. Some (decimal word.0) };
+
+    fn fmt<W: fmt::Write>(&self, f: &mut fmt::Formatter<W>) -> fmt::Result {
+        let number = self.0;
+        write!(f, "{number}")
+    }
+}

@@ -1,0 +1,62 @@
+//! Snoops, and what a snooped requester answers.
+
+ghost use Rattle.std.specs.Prelude.{◌≡◌, Some};
+ghost use Rattle.chi_flit.specs.Snoop.{answer_of, snoop_text};
+
+use crate::message::{DatUp, Msg, RspUp};
+use crate::numbers::Data;
+use crate::state::State;
+use std::fmt;
+
+/// A snoop that the home sends to a requester (Arm IHI 0050 B, 4.3).
+#[derive(Clone, Copy, Debug, PartialEq, Eq)]
+pub enum Snoop {
+    /// Leaves any shared copy, dirty ones too.
+    SnpShared,
+    /// Leaves a shared copy that owes memory nothing.
+    SnpNotSharedDirty,
+    /// Leaves no copy, and wants dirty data.
+    SnpUnique,
+    /// Leaves no copy, and wants dirty data written.
+    SnpCleanInvalid,
+}
+
+/// What a copy in `state` with the data `words` does at a snoop: its next state, and the message that
+/// its requester answers by. Dirty data goes with the answer, with `_PD` where the responsibility goes
+/// with it.
+/// Source: `docs/PROTOCOL.md`, "Answers to snoops".
+pub fn answer(state: State, snoop: Snoop, words: Data) -> (State, Msg)
+    ensures { result ≡ answer_of state snoop words }
+{
+    match (state, snoop) {
+        (State::I, _) => (State::I, Msg::RspUp(RspUp::SnpRespI)),
+        (State::SC | State::UC, Snoop::SnpShared | Snoop::SnpNotSharedDirty) => {
+            (State::SC, Msg::RspUp(RspUp::SnpRespSC))
+        }
+        (State::SC | State::UC, Snoop::SnpUnique | Snoop::SnpCleanInvalid) => {
+            (State::I, Msg::RspUp(RspUp::SnpRespI))
+        }
+        (State::UD | State::SD, Snoop::SnpShared) => {
+            (State::SD, Msg::DatUp(DatUp::SnpRespDataSD(words)))
+        }
+        (State::UD | State::SD, Snoop::SnpNotSharedDirty) => {
+            (State::SC, Msg::DatUp(DatUp::SnpRespDataSCPD(words)))
+        }
+        (State::UD | State::SD, Snoop::SnpUnique | Snoop::SnpCleanInvalid) => {
+            (State::I, Msg::DatUp(DatUp::SnpRespDataIPD(words)))
+        }
+    }
+}
+
+impl fmt::Display for Snoop {
+    ghost output = { λ snoop. Some (snoop_text snoop) };
+
+    fn fmt<W: fmt::Write>(&self, f: &mut fmt::Formatter<W>) -> fmt::Result {
+        match self {
+            Snoop::SnpShared => write!(f, "SnpShared"),
+            Snoop::SnpNotSharedDirty => write!(f, "SnpNotSharedDirty"),
+            Snoop::SnpUnique => write!(f, "SnpUnique"),
+            Snoop::SnpCleanInvalid => write!(f, "SnpCleanInvalid"),
+        }
+    }
+}

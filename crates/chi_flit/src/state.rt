@@ -1,0 +1,58 @@
+//! The cache states of a copy.
+
+ghost use Rattle.std.specs.Prelude.{◌≡◌, Some};
+ghost use Rattle.chi_flit.specs.State.{state_text, is_valid, is_unique, is_dirty};
+
+use std::fmt;
+
+/// The state of one requester's copy of a line (Arm IHI 0050 B, 4.1).
+#[derive(Clone, Copy, Debug, PartialEq, Eq)]
+pub enum State {
+    /// Invalid: no copy.
+    I,
+    /// Shared, clean: others may hold the line, and this holder owes memory nothing.
+    SC,
+    /// Unique, clean: no other cache holds the line, and memory has its value.
+    UC,
+    /// Unique, dirty: no other cache holds the line, and this holder owes memory its value.
+    UD,
+    /// Shared, dirty: others may hold the line, and this holder owes memory its value.
+    SD,
+}
+
+impl State {
+    /// Whether there is a copy at all: true in every state but `I`.
+    pub fn is_valid(self) -> bool
+        ensures { result ≡ is_valid self }
+    {
+        !matches!(self, State::I)
+    }
+
+    /// Whether no other cache may hold the line: true in `UC` and `UD`.
+    pub fn is_unique(self) -> bool
+        ensures { result ≡ is_unique self }
+    {
+        matches!(self, State::UC | State::UD)
+    }
+
+    /// Whether the holder owes memory the line's value: true in `UD` and `SD`.
+    pub fn is_dirty(self) -> bool
+        ensures { result ≡ is_dirty self }
+    {
+        matches!(self, State::UD | State::SD)
+    }
+}
+
+impl fmt::Display for State {
+    ghost output = { λ state. Some (state_text state) };
+
+    fn fmt<W: fmt::Write>(&self, f: &mut fmt::Formatter<W>) -> fmt::Result {
+        match self {
+            State::I => write!(f, "I"),
+            State::SC => write!(f, "SC"),
+            State::UC => write!(f, "UC"),
+            State::UD => write!(f, "UD"),
+            State::SD => write!(f, "SD"),
+        }
+    }
+}
