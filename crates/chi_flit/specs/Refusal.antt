@@ -1,7 +1,12 @@
 -- The number and the name of each refusal (docs/PROTOCOL.md, "Refusals").
-use Rattle.std.specs.Prelude.{ℕ, List, codes}
+use Rattle.std.specs.Prelude.{ℕ, List, Option, Some, None, Result, Ok, Err, codes}
 use Rattle.chi_flit.specs.declared.refusal.Refusal.{Refusal}
 use Rattle.chi_flit.specs.declared.refusal.Refusal.TheVariants.{JournalFull, WrongState, Pending, NothingPending, LineBusy, NotWaiting, NoFlit, NoMemory, MustAccept, OutOfRange, NotOpen, NoCredit}
+
+-- the refusal that a result is, if it is one
+abbrev pub refusal_of : {A : Type 0} → Result A Refusal → Option Refusal
+refusal_of (Ok answer) = None
+refusal_of (Err refusal) = Some refusal
 
 abbrev pub refusal_number : Refusal → ℕ
 refusal_number JournalFull = 1

@@ -4,6 +4,7 @@
 //! Source: Arm IHI 0050 Issue B, and `docs/PROTOCOL.md` where that leaves a choice.
 #![tactic(auto)]
 
+mod action;
 mod credit;
 mod kind;
 mod message;
@@ -12,6 +13,7 @@ mod refusal;
 mod snoop;
 mod state;
 
+pub use action::{Action, Effect};
 pub use credit::{CreditType, Profile, credit_type};
 pub use kind::Kind;
 pub use message::{Channel, CompData, DatUp, Msg, Request, RspDown, RspUp, write_data};
