@@ -1,0 +1,66 @@
+-- The snoop filter: a set of named agents, the flag of a lone holder, and the owner
+-- (Arm IHI 0050 B, 4.1; docs/PROTOCOL.md, "The filter"). A set of agents is a list of eight marks.
+use Rattle.std.specs.Prelude.{ℕ, List, Bool, true, false, ◌&&◌, ◌==◌, Option, Some, None, slice_set, replicate, if◌then◌else◌}
+use Rattle.std.specs.List.{list_any, slice_index_or}
+use Rattle.chi_flit.specs.declared.numbers.Agent.{Agent}
+
+pub record FilterState : Type 0 where
+  pub named : List Bool
+  pub unique : Bool
+  pub owner : Option Agent
+
+-- the empty set
+abbrev pub nobody : List Bool
+nobody = replicate 8 false
+
+-- the set of one agent
+abbrev pub only_set : ℕ → List Bool
+only_set n = slice_set nobody n true
+
+-- whether an agent is in a set
+abbrev pub is_in : List Bool → ℕ → Bool
+is_in set n = slice_index_or set n false
+
+-- whether anybody is in a set
+abbrev pub has_any : List Bool → Bool
+has_any set = list_any (λ b. b) set
+
+-- a set without an agent
+abbrev pub others_than : ℕ → List Bool → List Bool
+others_than n set = slice_set set n false
+
+abbrev pub is_named : FilterState → ℕ → Bool
+is_named f n = is_in f.named n
+
+-- whether the agent is the owner
+abbrev pub owned_by : Option Agent → ℕ → Bool
+owned_by None n = false
+owned_by (Some a) n = a.0 == n
+
+-- the owner as a set
+abbrev pub owner_set : Option Agent → List Bool
+owner_set None = nobody
+owner_set (Some a) = only_set a.0
+
+-- the owner where the agent may not be it any more
+abbrev pub owner_without : Option Agent → ℕ → Option Agent
+owner_without owner n = if owned_by owner n then None else owner
+
+abbrev pub empty_filter : FilterState
+empty_filter = record { named = nobody; unique = false; owner = None }
+
+-- the agent named too: the flag stays only for an agent that was named already
+abbrev pub added : FilterState → ℕ → FilterState
+added f n = record { named = slice_set f.named n true; unique = f.unique && is_named f n; owner = f.owner }
+
+-- the agent named no more, and no owner: the flag ends with its only member
+abbrev pub removed : FilterState → ℕ → FilterState
+removed f n = record { named = others_than n f.named; unique = f.unique && has_any (others_than n f.named); owner = owner_without f.owner n }
+
+-- the agent alone, with the flag and without an owner
+abbrev pub only_named : ℕ → FilterState
+only_named n = record { named = only_set n; unique = true; owner = None }
+
+-- the flag cleared
+abbrev pub shared : FilterState → FilterState
+shared f = record f { unique = false }

@@ -1,0 +1,148 @@
+//! The agents that may hold one line.
+
+ghost use Rattle.std.specs.Prelude.{◌≡◌, ◌<◌};
+ghost use Rattle.chi_filter.specs.Filter.{FilterState, added, empty_filter, has_any, only_named, others_than, owner_set, owner_without, removed, shared};
+
+use chi_flit::Agent;
+use std::marker::Model;
+
+/// Whether anybody is in a set of agents, given as a mark for each agent number.
+pub fn has_any(agents: &[bool; 8]) -> bool
+    ensures { result ≡ has_any agents.now }
+{
+    agents.iter().any(|named| *named)
+}
+
+/// The owner that is left where the agent may not be it any more.
+fn owner_without(owner: Option<Agent>, agent: Agent) -> Option<Agent>
+    ensures { result ≡ owner_without owner agent.0 }
+{
+    match owner {
+        Some(owner) if owner.0 == agent.0 => None,
+        Some(owner) => Some(owner),
+        None => None,
+    }
+}
+
+/// The owner as a set.
+fn owner_set(owner: Option<Agent>) -> [bool; 8]
+    ensures { result ≡ owner_set owner }
+{
+    match owner {
+        Some(owner) if owner.0 < 8 => {
+            let mut owners = [false; 8];
+            owners[owner.0 as usize] = true;
+            owners
+        }
+        Some(_) | None => [false; 8],
+    }
+}
+
+/// The agents that the home names as possible holders of a line, a flag that says that the one named
+/// holds it alone, and the owner, who answers for dirty shared data. Contracts see it as a
+/// `FilterState`. No call is refused; each agent's number is below 8.
+/// Source: `docs/PROTOCOL.md`, "The filter".
+pub struct Filter {
+    named: [bool; 8],
+    unique: bool,
+    owner: Option<Agent>,
+}
+
+impl Model for Filter {
+    ghost use Rattle.chi_filter.specs.Filter.{FilterState};
+
+    ghost Value = { FilterState };
+
+    ghost view = { λ filter. record { named = filter.named; unique = filter.unique; owner = filter.owner } };
+}
+
+impl Filter {
+    /// A filter that names nobody.
+    pub fn new() -> Filter
+        ensures { result ≡ empty_filter }
+    {
+        Filter {
+            named: [false; 8],
+            unique: false,
+            owner: None,
+        }
+    }
+
+    /// Names the agent; the flag stays only where the agent was named already, and the owner stays.
+    pub fn add(&mut self, agent: Agent)
+        requires { agent.0 < 8 }
+        ensures { self.new ≡ added self.old agent.0 }
+    {
+        self.unique = self.unique && self.named[agent.0 as usize];
+        self.named[agent.0 as usize] = true;
+    }
+
+    /// Names the agent no more: it is no owner then, and the flag ends where nobody else is named.
+    pub fn remove(&mut self, agent: Agent)
+        requires { agent.0 < 8 }
+        ensures { self.new ≡ removed self.old agent.0 }
+    {
+        self.named[agent.0 as usize] = false;
+        self.unique = self.unique && has_any(&self.named);
+        self.owner = owner_without(self.owner, agent);
+    }
+
+    /// Names the agent alone, with the flag set and no owner.
+    pub fn only(&mut self, agent: Agent)
+        requires { agent.0 < 8 }
+        ensures { self.new ≡ only_named agent.0 }
+    {
+        self.named = [false; 8];
+        self.named[agent.0 as usize] = true;
+        self.unique = true;
+        self.owner = None;
+    }
+
+    /// Clears the flag; who is named and who is the owner stay.
+    pub fn share(&mut self)
+        ensures { self.new ≡ shared self.old }
+    {
+        self.unique = false;
+    }
+
+    /// Everybody named but the agent, a mark for each agent number.
+    pub fn others_than(&self, agent: Agent) -> [bool; 8]
+        requires { agent.0 < 8 }
+        ensures { result ≡ others_than agent.0 self.now.named }
+    {
+        let mut others = self.named;
+        others[agent.0 as usize] = false;
+        others
+    }
+
+    /// The owner, where it is another agent, as a mark for each agent number.
+    pub fn other_owner(&self, agent: Agent) -> [bool; 8]
+        requires { agent.0 < 8 }
+        ensures { result ≡ others_than agent.0 (owner_set self.now.owner) }
+    {
+        let mut owners = owner_set(self.owner);
+        owners[agent.0 as usize] = false;
+        owners
+    }
+
+    /// Everybody named, a mark for each agent number.
+    pub fn named(&self) -> [bool; 8]
+        ensures { result ≡ self.now.named }
+    {
+        self.named
+    }
+
+    /// Whether the one named agent holds the line alone.
+    pub fn is_unique(&self) -> bool
+        ensures { result ≡ self.now.unique }
+    {
+        self.unique
+    }
+
+    /// The agent that answers for dirty shared data.
+    pub fn owner(&self) -> Option<Agent>
+        ensures { result ≡ self.now.owner }
+    {
+        self.owner
+    }
+}

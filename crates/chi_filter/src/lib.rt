@@ -1,0 +1,6 @@
+//! The snoop filter of one line: which agents may hold it.
+#![tactic(auto)]
+
+mod filter;
+
+pub use filter::{Filter, has_any};

@@ -1,0 +1,148 @@
+-- One line at the home, and the home's part of each action (docs/PROTOCOL.md, "One line", "Start",
+-- "Completion" and "The actions").
+use Rattle.std.specs.Prelude.{◌≡◌, ℕ, List, Bool, true, false, ◌&&◌, ◌==◌, not, Option, Some, None, is_some, slice_set, replicate, if◌then◌else◌}
+use Rattle.std.specs.List.{slice_index_or}
+use Rattle.chi_flit.specs.declared.numbers.Agent.{Agent}
+use Rattle.chi_flit.specs.declared.numbers.Slot.{Slot}
+use Rattle.chi_flit.specs.declared.kind.Kind.{Kind}
+use Rattle.chi_flit.specs.declared.snoop.Snoop.{Snoop}
+use Rattle.chi_flit.specs.declared.snoop.Snoop.TheVariants.{SnpNotSharedDirty, SnpShared, SnpUnique, SnpCleanInvalid}
+use Rattle.chi_flit.specs.declared.message.RspDown.TheVariants.{CompUC, CompDBIDResp}
+use Rattle.chi_flit.specs.declared.message.Msg.{Msg}
+use Rattle.chi_flit.specs.declared.message.Msg.TheVariants as messages
+use Rattle.chi_flit.specs.declared.refusal.Refusal.{Refusal}
+use Rattle.chi_flit.specs.declared.refusal.Refusal.TheVariants.{LineBusy, NotWaiting}
+use Rattle.chi_flit.specs.Kind.{snoop_of, is_copy_back}
+use Rattle.chi_flit.specs.Message.{no_words}
+use Rattle.chi_filter.specs.Filter.{FilterState, added, empty_filter, has_any, nobody, only_named, others_than, owner_set, removed, shared}
+use Rattle.chi_homeline.specs.declared.serving.Waiting.{Waiting}
+use Rattle.chi_homeline.specs.declared.serving.Serving.{Serving}
+use Rattle.chi_homeline.specs.declared.serving.Serving.TheVariants.{Idle, Snooping, AwaitingCompAck, AwaitingWriteData}
+use Rattle.chi_homeline.specs.declared.serving.Started.{Started}
+use Rattle.chi_homeline.specs.declared.serving.Started.TheVariants.{Sends, Evicted, Snoops}
+
+-- what the home keeps of a line: while it snoops, awaited are the agents whose answer isn't in
+pub record Home : Type 0 where
+  pub memory : List ℕ
+  pub filter : FilterState
+  pub serving : Serving
+  pub awaited : List Bool
+  pub waiting : List (Option Waiting)
+
+abbrev pub nothing_waits : List (Option Waiting)
+nothing_waits = replicate 8 None
+
+-- memory 0, nobody named, nothing served, nothing waiting
+abbrev pub idle_home : Home
+idle_home = record { memory = no_words; filter = empty_filter; serving = Idle; awaited = nobody; waiting = nothing_waits }
+
+-- the agent's request that waits
+abbrev pub waiting_of : Home → ℕ → Option Waiting
+waiting_of home n = slice_index_or home.waiting n None
+
+-- Admit: the request waits
+abbrev pub admitted : Home → ℕ → Waiting → Home
+admitted home n request = record home { waiting = slice_set home.waiting n (Some request) }
+
+-- what is left of a line when a waiting request is taken up
+abbrev pub taken_up : Home → ℕ → Home
+taken_up home n = record home { waiting = slice_set home.waiting n None }
+
+-- whether a line serves no request
+abbrev pub is_idle : Serving → Bool
+is_idle Idle = true
+is_idle (Snooping agent kind slot) = false
+is_idle (AwaitingCompAck agent slot) = false
+is_idle (AwaitingWriteData agent kind slot) = false
+
+-- whom a shared read asks: the one other agent that holds the line alone, else another owner
+abbrev pub asks_shared : FilterState → ℕ → List Bool
+asks_shared f n = if f.unique && has_any (others_than n f.named) then others_than n f.named else others_than n (owner_set f.owner)
+
+-- whom a request asks, by the snoop that serves it
+abbrev pub asks : Snoop → FilterState → ℕ → List Bool
+asks SnpNotSharedDirty f n = asks_shared f n
+asks SnpShared f n = asks_shared f n
+asks SnpUnique f n = others_than n f.named
+asks SnpCleanInvalid f n = others_than n f.named
+
+-- whether a completion leaves its agent the only one named: a shared read does where nobody else is
+abbrev pub completes_unique : Snoop → FilterState → ℕ → Bool
+completes_unique SnpNotSharedDirty f n = not (has_any (others_than n f.named))
+completes_unique SnpShared f n = not (has_any (others_than n f.named))
+completes_unique SnpUnique f n = true
+completes_unique SnpCleanInvalid f n = true
+
+-- the filter after a completion
+abbrev pub completed_filter : Bool → FilterState → ℕ → FilterState
+completed_filter true f n = only_named n
+completed_filter false f n = added (shared f) n
+
+-- Completion: the filter is as above, and the CompAck is awaited
+abbrev pub completed : Home → Snoop → Agent → Slot → Home
+completed home snoop agent slot = record home { filter = completed_filter (completes_unique snoop home.filter agent.0) home.filter agent.0; serving = AwaitingCompAck agent slot }
+
+-- the message of a completion, with the data that is sent: a CleanUnique, served by SnpCleanInvalid, has none
+abbrev pub completion_message : Snoop → Bool → List ℕ → Msg
+completion_message SnpNotSharedDirty unique sent = messages.DatDown (record { unique = unique; words = sent })
+completion_message SnpShared unique sent = messages.DatDown (record { unique = unique; words = sent })
+completion_message SnpUnique unique sent = messages.DatDown (record { unique = unique; words = sent })
+completion_message SnpCleanInvalid unique sent = messages.RspDown CompUC
+
+abbrev pub completion_of : Home → Snoop → Agent → List ℕ → Msg
+completion_of home snoop agent sent = completion_message snoop (completes_unique snoop home.filter agent.0) sent
+
+-- the home snoops for a request, or completes it at once where there is nobody to ask
+abbrev pub served : Home → Kind → Snoop → Agent → Slot → Home
+served home kind snoop agent slot =
+    if has_any (asks snoop home.filter agent.0)
+    then record home { serving = Snooping agent kind slot; awaited = asks snoop home.filter agent.0 }
+    else completed home snoop agent slot
+
+abbrev pub served_sends : Home → Snoop → Agent → Started
+served_sends home snoop agent =
+    if has_any (asks snoop home.filter agent.0)
+    then Snoops snoop (asks snoop home.filter agent.0)
+    else Sends (completion_of home snoop agent home.memory)
+
+-- a request that is taken up, by its kind and the kind's snoop: served with it; or, a copy-back, asked
+-- for its write data; or, an Evict, done, its agent named no more
+abbrev pub started_as : Kind → Option Snoop → Home → Agent → Slot → Home
+started_as kind (Some snoop) home agent slot = served home kind snoop agent slot
+started_as kind None home agent slot =
+    if is_copy_back kind
+    then record home { serving = AwaitingWriteData agent kind slot }
+    else record home { filter = removed home.filter agent.0 }
+
+abbrev pub started_sends_as : Kind → Option Snoop → Home → Agent → Slot → Started
+started_sends_as kind (Some snoop) home agent slot = served_sends home snoop agent
+started_sends_as kind None home agent slot = if is_copy_back kind then Sends (messages.RspDown CompDBIDResp) else Evicted slot
+
+-- Start of a request that waits
+abbrev pub started : Home → Agent → Waiting → Home
+started home agent request = started_as request.kind (snoop_of request.kind) (taken_up home agent.0) agent request.slot
+
+abbrev pub started_sends : Home → Agent → Waiting → Started
+started_sends home agent request = started_sends_as request.kind (snoop_of request.kind) home agent request.slot
+
+-- Start: 6 where the agent doesn't wait, then 5 where the line is served
+abbrev pub start_refusal : Home → ℕ → Option Refusal
+start_refusal home n = if is_some (waiting_of home n) then (if is_idle home.serving then None else Some LineBusy) else Some NotWaiting
+
+-- whether the agent's CompAck is awaited
+abbrev pub acks_for : Serving → ℕ → Bool
+acks_for Idle n = false
+acks_for (Snooping agent kind slot) n = false
+acks_for (AwaitingCompAck agent slot) n = agent.0 == n
+acks_for (AwaitingWriteData agent kind slot) n = false
+
+-- the slot of the request that is served
+abbrev pub served_slot : Serving → Option Slot
+served_slot Idle = None
+served_slot (Snooping agent kind slot) = Some slot
+served_slot (AwaitingCompAck agent slot) = Some slot
+served_slot (AwaitingWriteData agent kind slot) = Some slot
+
+-- RecvAck: the line is idle
+abbrev pub acknowledged : Home → Home
+acknowledged home = record home { serving = Idle }
