@@ -1,0 +1,43 @@
+-- The six cells of one agent at one line (Arm IHI 0050 B, 1.5; docs/PROTOCOL.md, "Messages").
+use Rattle.std.specs.Prelude.{Option, Some, None}
+use Rattle.chi_flit.specs.declared.message.Channel.{Channel}
+use Rattle.chi_flit.specs.declared.message.Channel.TheVariants as channels
+use Rattle.chi_flit.specs.declared.message.Msg.{Msg}
+use Rattle.chi_flit.specs.declared.message.Msg.TheVariants as messages
+use Rattle.chi_wires.specs.declared.cells.Cells.{Cells}
+
+-- nothing in flight
+abbrev pub no_flits : Cells
+no_flits = record { req = None; snp = None; rsp_down = None; dat_down = None; rsp_up = None; dat_up = None }
+
+-- a part that may be there, as a message
+abbrev pub message_if : {A : Type 0} → (A → Msg) → Option A → Option Msg
+message_if as_message None = None
+message_if as_message (Some part) = Some (as_message part)
+
+-- what is in flight on the channel
+abbrev pub cell_of : Cells → Channel → Option Msg
+cell_of cells channels.Req = message_if messages.Req cells.req
+cell_of cells channels.Snp = message_if messages.Snp cells.snp
+cell_of cells channels.RspDown = message_if messages.RspDown cells.rsp_down
+cell_of cells channels.DatDown = message_if messages.DatDown cells.dat_down
+cell_of cells channels.RspUp = message_if messages.RspUp cells.rsp_up
+cell_of cells channels.DatUp = message_if messages.DatUp cells.dat_up
+
+-- the message is in flight on its own channel
+abbrev pub with_message : Cells → Msg → Cells
+with_message cells (messages.Req request) = record cells { req = Some request }
+with_message cells (messages.Snp snoop) = record cells { snp = Some snoop }
+with_message cells (messages.RspDown response) = record cells { rsp_down = Some response }
+with_message cells (messages.DatDown response) = record cells { dat_down = Some response }
+with_message cells (messages.RspUp response) = record cells { rsp_up = Some response }
+with_message cells (messages.DatUp response) = record cells { dat_up = Some response }
+
+-- nothing is in flight on the channel
+abbrev pub emptied : Cells → Channel → Cells
+emptied cells channels.Req = record cells { req = None }
+emptied cells channels.Snp = record cells { snp = None }
+emptied cells channels.RspDown = record cells { rsp_down = None }
+emptied cells channels.DatDown = record cells { dat_down = None }
+emptied cells channels.RspUp = record cells { rsp_up = None }
+emptied cells channels.DatUp = record cells { dat_up = None }

@@ -1,0 +1,122 @@
+//! The cells of the lines of one slice.
+
+ghost use Rattle.std.specs.Prelude.{◌≡◌, ℕ, ◌<◌, true, false, None, length, replicate, slice_index_or, slice_set, IfOk, OnOk, OnErr};
+ghost use Rattle.chi_flit.specs.Message.{channel_of};
+ghost use Rattle.chi_wires.specs.Cell.{no_flits, cell_of, with_message, emptied};
+ghost use Rattle.chi_wires.specs.Wires.{flits_at, with_flits, taken_from, row_of, with_snoops};
+
+use crate::cells::Cells;
+use chi_flit::{Agent, Channel, Line, Msg, NoMemory, Refusal, Snoop};
+use std::alloc::Allocator;
+use std::marker::Model;
+
+/// The flits in flight of the lines of one slice. Contracts see it as a list by line of lists by agent
+/// of cells; each line has the cells of eight agents.
+#[derive(Drop)]
+pub struct Wires<A: Allocator> {
+    cells: Vec<[Cells; 8], A>,
+}
+
+impl<A: Allocator> Model for Wires<A> {
+    ghost use Rattle.std.specs.Prelude.{List};
+    ghost use Rattle.chi_wires.specs.declared.cells.Cells.{Cells};
+
+    ghost Value = { List (List Cells) };
+
+    ghost view = { λ wires. wires.cells.items };
+}
+
+impl<A: Allocator> Wires<A> {
+    /// The wires of so many lines, with nothing in flight. Refused where memory runs out.
+    pub fn new(alloc: A, lines: u8) -> Result<Wires<A>, NoMemory>
+        ensures { IfOk result (λ wires. wires ≡ replicate lines (replicate 8 no_flits)) }
+    {
+        let mut cells = Vec::with_capacity(alloc, usize::from(lines))?;
+        for _ in 0..lines {
+            cells.push([Cells::new(); 8])?;
+        }
+        Ok(Wires { cells })
+    }
+
+    /// The number of lines.
+    pub fn lines(&self) -> usize
+        ensures { result ≡ length self.now }
+    {
+        self.cells.len()
+    }
+
+    /// What is in flight between the agent and the home for the line, counted from the first of these.
+    pub fn cells(&self, agent: Agent, line: Line) -> Cells
+        requires agent { agent.0 < 8 }
+        requires line { line.0 < length self.now }
+        ensures { result ≡ flits_at self.now line.0 agent.0 }
+    {
+        let row = &self.cells[usize::from(line.0)];
+        row[usize::from(agent.0)]
+    }
+
+    /// What `take` would answer, left in place; `None` where the cell is empty.
+    pub fn has(&self, channel: Channel, agent: Agent, line: Line) -> Option<Msg>
+        requires agent { agent.0 < 8 }
+        requires line { line.0 < length self.now }
+        ensures { result ≡ cell_of (flits_at self.now line.0 agent.0) channel }
+    {
+        self.cells(agent, line).get(channel)
+    }
+
+    /// Puts the message on its channel, whose cell must be empty. All else stays.
+    pub fn put(&mut self, agent: Agent, line: Line, message: Msg)
+        requires agent { agent.0 < 8 }
+        requires line { line.0 < length self.old }
+        requires empty { cell_of (flits_at self.old line.0 agent.0) (channel_of message) ≡ None }
+        ensures { self.new ≡ with_flits self.old line.0 agent.0 (with_message (flits_at self.old line.0 agent.0) message) }
+    {
+        self.cells[usize::from(line.0)][usize::from(agent.0)].put(message);
+    }
+
+    /// Takes the message that is in flight on `channel`: its cell is empty then, and all else stays.
+    ///
+    /// Refused 7 (NoFlit) exactly where the cell is empty; nothing changes then.
+    pub fn take(&mut self, channel: Channel, agent: Agent, line: Line) -> Result<Msg, Refusal>
+        requires agent { agent.0 < 8 }
+        requires line { line.0 < length self.old }
+        ensures answer { result ≡ taken_from (cell_of (flits_at self.old line.0 agent.0) channel) }
+        ensures ok { OnOk result (self.new ≡ with_flits self.old line.0 agent.0 (emptied (flits_at self.old line.0 agent.0) channel)) }
+        ensures err { OnErr result (self.new ≡ self.old) }
+    {
+        let message = self.has(channel, agent, line).ok_or(Refusal::NoFlit)?;
+        self.cells[usize::from(line.0)][usize::from(agent.0)].clear(channel);
+        Ok(message)
+    }
+
+    /// Empties the cell of `taken`, and puts the message on its own channel, whose cell must be empty or
+    /// be the one that is emptied. All else stays.
+    pub fn exchange(&mut self, agent: Agent, line: Line, taken: Channel, message: Msg)
+        requires agent { agent.0 < 8 }
+        requires line { line.0 < length self.old }
+        requires empty { cell_of (emptied (flits_at self.old line.0 agent.0) taken) (channel_of message) ≡ None }
+        ensures { self.new ≡ with_flits self.old line.0 agent.0 (with_message (emptied (flits_at self.old line.0 agent.0) taken) message) }
+    {
+        self.cells[usize::from(line.0)][usize::from(agent.0)].exchange(taken, message);
+    }
+
+    /// Puts the snoop to each marked agent, whose cells for snoops must be empty. All else stays.
+    pub fn put_snoops(&mut self, line: Line, agents: [bool; 8], snoop: Snoop)
+        requires line { line.0 < length self.old }
+        requires empty { (agent : ℕ) → slice_index_or agents agent false ≡ true → (flits_at self.old line.0 agent).snp ≡ None }
+        ensures { self.new ≡ slice_set self.old line.0 (with_snoops agents snoop (row_of self.old line.0)) }
+    {
+        snoop_row(&mut self.cells[usize::from(line.0)], agents, snoop);
+    }
+}
+
+/// Puts the snoop to each marked agent of a row.
+fn snoop_row(row: &mut [Cells; 8], agents: [bool; 8], snoop: Snoop)
+    ensures { row.new ≡ with_snoops agents snoop row.old }
+{
+    for (agent, cells) in row.iter_mut().enumerate() {
+        if agents[agent] {
+            cells.snp = Some(snoop);
+        }
+    }
+}
