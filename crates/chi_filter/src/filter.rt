@@ -42,6 +42,7 @@ fn owner_set(owner: Option<Agent>) -> [bool; 8]
 /// holds it alone, and the owner, who answers for dirty shared data. Contracts see it as a
 /// `FilterState`. No call is refused; each agent's number is below 8.
 /// Source: `docs/PROTOCOL.md`, "The filter".
+#[derive(Drop)]
 pub struct Filter {
     named: [bool; 8],
     unique: bool,

@@ -12,6 +12,7 @@ use chi_flit::{Agent, CompData, Data, Kind, Msg, NO_DATA, Refusal, RspDown, Slot
 use std::marker::Model;
 
 /// What the home keeps of one line. Contracts see it as a `Home`. Each agent's number is below 8.
+#[derive(Drop)]
 pub struct HomeLine {
     memory: Data,
     filter: Filter,

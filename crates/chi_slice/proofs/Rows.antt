@@ -1,0 +1,123 @@
+-- The row of a line that is in the slice.
+use Rattle.std.proofs.Common.{◌≡◌, ℕ, ◌+◌, ◌-◌, ◌*◌, ◌/◌, ◌%◌, ◌<◌, ◌≤◌, Bool, true, false, ◌&&◌, ◌||◌, ◌==◌, ◌≢◌, nat_le, nat_lt, refl, subst, sym, arith, rules, ◌⊎◌, inl, inr, ⊎_elim}
+use Rattle.chi_flit.specs.declared.action.Action.{Action}
+use Rattle.chi_flit.specs.Action.{agent_of, line_of}
+use Rattle.chi_slice.specs.Config.{Sizes, are_entries, are_in_limits, is_between, is_slice_count}
+use Rattle.chi_slice.specs.Slice.{SliceState, SliceKept, is_in_range, is_line_in_range, is_slot_in_range, row_count, row_of_line}
+
+both : (a b : Bool) → (a && b) ≡ true → (a ≡ true) × (b ≡ true)
+both true b h = (refl, h)
+both false b h = absurd (cc (h))
+
+either : (a b : Bool) → (a || b) ≡ true → (a ≡ true) ⊎ (b ≡ true)
+either true b h = inl refl
+either false b h = inr h
+
+is_low : (a b : ℕ) → nat_lt a b ≡ true → a < b
+is_low a b h = grind (arith, h)
+
+at_most : (a b : ℕ) → nat_le a b ≡ true → a ≤ b
+at_most a b h = grind (arith, h)
+
+is_equal : (a b : ℕ) → (a == b) ≡ true → a ≡ b
+is_equal a b h = grind (arith, h)
+
+-- how many slices there may be
+counts : (n : ℕ) → is_slice_count n ≡ true → (n ≡ 1) ⊎ ((n ≡ 2) ⊎ ((n ≡ 4) ⊎ (n ≡ 8)))
+counts n h = ⊎_elim (λ e. inl (is_equal n 1 e)) (λ k. inr (⊎_elim (λ e. inl (is_equal n 2 e)) (λ m. inr (⊎_elim (λ e. inl (is_equal n 4 e)) (λ e. inr (is_equal n 8 e)) (either (n == 4) (n == 8) m))) (either (n == 2) (n == 4 || n == 8) k))) (either (n == 1) (n == 2 || (n == 4 || n == 8)) h)
+
+-- what the limits say of the numbers of agents, lines and slices
+pub record InLimits (config : Sizes) : Type 0 where
+  pub agents : config.agents ≤ 8
+  pub some_agent : 1 ≤ config.agents
+  pub lines : config.lines ≤ 64
+  pub some_line : 1 ≤ config.lines
+  pub slices : config.slices ≤ config.lines
+  pub some_slice : 1 ≤ config.slices
+  pub count : is_slice_count config.slices ≡ true
+
+pub in_limits : (config : Sizes) → are_in_limits config ≡ true → InLimits config
+in_limits config h =
+    let a = both (is_between 1 8 config.agents) _ h in
+    let l = both (is_between 1 64 config.lines) _ a.1 in
+    let s = both (is_slice_count config.slices) _ l.1 in
+    let m = both (nat_le config.slices config.lines) _ s.1 in
+    let a' = both (nat_le 1 config.agents) (nat_le config.agents 8) a.0 in
+    let l' = both (nat_le 1 config.lines) (nat_le config.lines 64) l.0 in
+    record {
+      agents = at_most config.agents 8 a'.1;
+      some_agent = at_most 1 config.agents a'.0;
+      lines = at_most config.lines 64 l'.1;
+      some_line = at_most 1 config.lines l'.0;
+      slices = at_most config.slices config.lines m.0;
+      some_slice = least config.slices (counts config.slices s.0);
+      count = s.0;
+    }
+  where
+    least : (n : ℕ) → (n ≡ 1) ⊎ ((n ≡ 2) ⊎ ((n ≡ 4) ⊎ (n ≡ 8))) → 1 ≤ n
+    least n c = ⊎_elim (λ (e : n ≡ 1). omega (arith, e)) (⊎_elim (λ (e : n ≡ 2). omega (arith, e)) (⊎_elim (λ (e : n ≡ 4). omega (arith, e)) (λ (e : n ≡ 8). omega (arith, e)))) c
+
+by_one : (l lines index : ℕ) → l < lines → index < 1 → l % 1 ≡ index → l / 1 < (lines - 1 - index) / 1 + 1
+by_one l lines index low inside same = omega arith
+
+by_two : (l lines index : ℕ) → l < lines → index < 2 → l % 2 ≡ index → l / 2 < (lines - 1 - index) / 2 + 1
+by_two l lines index low inside same = omega arith
+
+by_four : (l lines index : ℕ) → l < lines → index < 4 → l % 4 ≡ index → l / 4 < (lines - 1 - index) / 4 + 1
+by_four l lines index low inside same = omega arith
+
+by_eight : (l lines index : ℕ) → l < lines → index < 8 → l % 8 ≡ index → l / 8 < (lines - 1 - index) / 8 + 1
+by_eight l lines index low inside same = omega arith
+
+abbrev IsRowLow : ℕ → ℕ → ℕ → ℕ → Type 0
+IsRowLow l lines index n = index < n → l % n ≡ index → l / n < (lines - 1 - index) / n + 1
+
+row_low : (l lines index n : ℕ) → l < lines → (n ≡ 1) ⊎ ((n ≡ 2) ⊎ ((n ≡ 4) ⊎ (n ≡ 8))) → IsRowLow l lines index n
+row_low l lines index n low = ⊎_elim
+    (λ (e : n ≡ 1). subst (IsRowLow l lines index) (sym e) (by_one l lines index low))
+    (⊎_elim (λ (e : n ≡ 2). subst (IsRowLow l lines index) (sym e) (by_two l lines index low))
+    (⊎_elim (λ (e : n ≡ 4). subst (IsRowLow l lines index) (sym e) (by_four l lines index low))
+    (λ (e : n ≡ 8). subst (IsRowLow l lines index) (sym e) (by_eight l lines index low))))
+
+-- a line that is in the slice has a row
+pub row_in_slice : (s : SliceState) (l : ℕ) → SliceKept s → is_line_in_range s l ≡ true → row_of_line s l < row_count s.config s.index
+row_in_slice s l k h =
+    let parts = both (nat_lt l s.config.lines) (l % s.config.slices == s.index) h in
+    let limits = in_limits s.config k.config in
+    row_low l s.config.lines s.index s.config.slices (is_low l s.config.lines parts.0) (counts s.config.slices limits.count) k.index (is_equal (l % s.config.slices) s.index parts.1)
+
+-- the numbers of an action that is in range
+pub record InRange (s : SliceState) (action : Action) : Type 0 where
+  pub agent : (agent_of action).0 < 8
+  pub row : row_of_line s (line_of action).0 < row_count s.config s.index
+
+pub in_range : (s : SliceState) (action : Action) → SliceKept s → is_in_range s action ≡ true → InRange s action
+in_range s action k h =
+    let parts = both (nat_lt (agent_of action).0 s.config.agents) (is_line_in_range s (line_of action).0 && is_slot_in_range action) h in
+    let low = is_low (agent_of action).0 s.config.agents parts.0 in
+    let limits = in_limits s.config k.config in
+    record {
+      agent = omega (arith, low, limits.agents);
+      row = row_in_slice s (line_of action).0 k (both (is_line_in_range s (line_of action).0) (is_slot_in_range action) parts.1).0;
+    }
+
+abbrev IsSame : ℕ → ℕ → ℕ → Type 0
+IsSame l other n = (index : ℕ) → l % n ≡ index → other % n ≡ index → other / n ≡ l / n → other ≡ l
+
+-- Lines of one slice that are apart have rows that are apart.
+apart_by : (l other n : ℕ) → (n ≡ 1) ⊎ ((n ≡ 2) ⊎ ((n ≡ 4) ⊎ (n ≡ 8))) → (index : ℕ) → l % n ≡ index → other % n ≡ index → other / n ≡ l / n → other ≡ l
+apart_by l other n = ⊎_elim
+    (λ (e : n ≡ 1). subst (IsSame l other) (sym e) (λ index a b c. omega arith))
+    (⊎_elim (λ (e : n ≡ 2). subst (IsSame l other) (sym e) (λ index a b c. omega arith))
+    (⊎_elim (λ (e : n ≡ 4). subst (IsSame l other) (sym e) (λ index a b c. omega arith))
+    (λ (e : n ≡ 8). subst (IsSame l other) (sym e) (λ index a b c. omega arith))))
+
+pub rows_apart : (s : SliceState) (l other : ℕ) → SliceKept s → is_line_in_range s l ≡ true → is_line_in_range s other ≡ true → other ≢ l → row_of_line s other ≢ row_of_line s l
+rows_apart s l other k here there apart = λ (e : other / s.config.slices ≡ l / s.config.slices).
+    let a = both (nat_lt l s.config.lines) (l % s.config.slices == s.index) here in
+    let b = both (nat_lt other s.config.lines) (other % s.config.slices == s.index) there in
+    let limits = in_limits s.config k.config in
+    apart (apart_by l other s.config.slices (counts s.config.slices limits.count) s.index (is_equal (l % s.config.slices) s.index a.1) (is_equal (other % s.config.slices) s.index b.1) e)
+
+pub line_in_range : (s : SliceState) (action : Action) → is_in_range s action ≡ true → is_line_in_range s (line_of action).0 ≡ true
+line_in_range s action h = (both (is_line_in_range s (line_of action).0) (is_slot_in_range action) (both (nat_lt (agent_of action).0 s.config.agents) (is_line_in_range s (line_of action).0 && is_slot_in_range action) h).1).0

@@ -1,0 +1,36 @@
+-- The sizes of a node, and their limits (docs/PROTOCOL.md, "Limits").
+use Rattle.std.specs.Prelude.{ℕ, ◌+◌, ◌-◌, ◌/◌, ◌%◌, List, [], ◌∷◌, Bool, true, false, ◌&&◌, ◌||◌, ◌==◌, nat_le, nat_lt, Option, Some, None, if◌then◌else◌}
+use Rattle.std.specs.List.{slice_index_or}
+use Rattle.chi_flit.specs.declared.credit.Profile.{Profile}
+use Rattle.chi_flit.specs.declared.credit.Profile.TheVariants.{Two, Four}
+
+pub record Sizes : Type 0 where
+  pub agents : ℕ
+  pub lines : ℕ
+  pub slices : ℕ
+  pub entries : List ℕ
+  pub journal : ℕ
+  pub profile : Profile
+
+abbrev pub two_types : ℕ → ℕ → ℕ → ℕ → ℕ → ℕ → Sizes
+two_types agents lines slices t0 t1 journal = record { agents = agents; lines = lines; slices = slices; entries = t0 ∷ t1 ∷ 0 ∷ 0 ∷ []; journal = journal; profile = Two }
+
+abbrev pub is_between : ℕ → ℕ → ℕ → Bool
+is_between low high n = nat_le low n && nat_le n high
+
+-- line l is in slice l mod slices
+abbrev pub is_slice_count : ℕ → Bool
+is_slice_count n = n == 1 || (n == 2 || (n == 4 || n == 8))
+
+-- the entries of each type: each type of the profile has at least one, and no other has any
+abbrev pub are_entries : Profile → List ℕ → Bool
+are_entries Two (t0 ∷ t1 ∷ t2 ∷ t3 ∷ []) = nat_le 1 t0 && (nat_le 1 t1 && (nat_le (t0 + t1) 64 && (t2 == 0 && t3 == 0)))
+are_entries Four (t0 ∷ t1 ∷ t2 ∷ t3 ∷ []) = nat_le 1 t0 && (nat_le 1 t1 && (nat_le 1 t2 && (nat_le 1 t3 && nat_le (t0 + (t1 + (t2 + t3))) 256)))
+are_entries profile entries = false
+
+abbrev pub are_in_limits : Sizes → Bool
+are_in_limits c = is_between 1 8 c.agents && (is_between 1 64 c.lines && (is_slice_count c.slices && (nat_le c.slices c.lines && (is_between 1 65536 c.journal && are_entries c.profile c.entries))))
+
+-- the sizes, where they are in the limits
+abbrev pub config_if : Sizes → Option Sizes
+config_if c = if are_in_limits c then Some c else None

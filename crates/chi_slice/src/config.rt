@@ -1,0 +1,141 @@
+//! The sizes of a node.
+
+ghost use Rattle.std.specs.Prelude.{◌≡◌, ◌+◌, ◌&&◌, nat_le, true};
+ghost use Rattle.chi_slice.specs.Config.{Sizes, are_in_limits, config_if, is_between, is_slice_count, two_types};
+
+use chi_flit::Profile;
+use std::alloc::AllocError;
+use std::marker::Model;
+
+/// The size of a node and its profile of credit types. Contracts see it as `Sizes`, which are always in
+/// the limits.
+/// Source: `docs/PROTOCOL.md`, "Limits".
+pub struct Config {
+    agents: u8,
+    lines: u8,
+    slices: u8,
+    entries: [u16; 4],
+    journal: u32,
+    profile: Profile,
+}
+
+impl Model for Config {
+    ghost use Rattle.std.specs.Prelude.{◌≡◌, true};
+    ghost use Rattle.chi_slice.specs.Config.{Sizes, are_in_limits};
+
+    ghost Value = { Sizes };
+
+    ghost view = { λ c. record { agents = c.agents; lines = c.lines; slices = c.slices; entries = c.entries; journal = c.journal; profile = c.profile } };
+
+    ghost invariant = { λ c. are_in_limits (record { agents = c.agents; lines = c.lines; slices = c.slices; entries = c.entries; journal = c.journal; profile = c.profile }) ≡ true };
+
+    ghost inverse = { λ c. record { agents = c.agents; lines = c.lines; slices = c.slices; entries = c.entries; journal = c.journal; profile = c.profile } };
+}
+
+impl Clone for Config {
+    fn clone(&self) -> Result<Self, AllocError> {
+        Ok(*self)
+    }
+}
+
+impl Copy for Config {}
+
+/// Whether a number is in a range, both ends in it.
+fn is_between(low: u32, high: u32, n: u32) -> bool
+    ensures { result ≡ is_between low high n }
+{
+    low <= n && n <= high
+}
+
+/// Whether there may be so many slices.
+fn is_slice_count(n: u8) -> bool
+    ensures { result ≡ is_slice_count n }
+{
+    n == 1 || n == 2 || n == 4 || n == 8
+}
+
+/// Whether all but the entries is in the limits.
+fn are_sizes(agents: u8, lines: u8, slices: u8, journal: u32) -> bool
+    ensures { result ≡ (is_between 1 8 agents && (is_between 1 64 lines && (is_slice_count slices && (nat_le slices lines && is_between 1 65536 journal)))) }
+{
+    is_between(1, 8, u32::from(agents))
+        && is_between(1, 64, u32::from(lines))
+        && is_slice_count(slices)
+        && slices <= lines
+        && is_between(1, 65536, journal)
+}
+
+/// Whether there may be so many entries of two types.
+fn are_two_entries(t0: u16, t1: u16) -> bool
+    ensures { result ≡ (nat_le 1 t0 && (nat_le 1 t1 && nat_le (t0 + t1) 64)) }
+{
+    1 <= t0 && 1 <= t1 && u32::from(t0) + u32::from(t1) <= 64
+}
+
+impl Config {
+    /// A node of two credit types, with `t0` and `t1` entries of them: `agents` requesters, `lines` lines
+    /// in `slices` slices, and `journal` records a slice. `None` exactly where a number is outside its
+    /// limits.
+    pub fn new(agents: u8, lines: u8, slices: u8, t0: u16, t1: u16, journal: u32) -> Option<Config>
+        ensures { result ≡ config_if (two_types agents lines slices t0 t1 journal) }
+    {
+        if !are_sizes(agents, lines, slices, journal) || !are_two_entries(t0, t1) {
+            return None;
+        }
+        Some(Config {
+            agents,
+            lines,
+            slices,
+            entries: [t0, t1, 0, 0],
+            journal,
+            profile: Profile::Two,
+        })
+    }
+
+    /// The number of requesters, 1 to 8.
+    pub fn agents(&self) -> u8
+        ensures value { result ≡ self.now.agents }
+        ensures limits { are_in_limits self.now ≡ true }
+    {
+        self.agents
+    }
+
+    /// The number of lines, 1 to 64.
+    pub fn lines(&self) -> u8
+        ensures value { result ≡ self.now.lines }
+        ensures limits { are_in_limits self.now ≡ true }
+    {
+        self.lines
+    }
+
+    /// The number of slices, 1, 2, 4 or 8: line `l` is in slice `l mod slices`.
+    pub fn slices(&self) -> u8
+        ensures value { result ≡ self.now.slices }
+        ensures limits { are_in_limits self.now ≡ true }
+    {
+        self.slices
+    }
+
+    /// The number of tracker entries of each credit type.
+    pub fn entries(&self) -> [u16; 4]
+        ensures value { result ≡ self.now.entries }
+        ensures limits { are_in_limits self.now ≡ true }
+    {
+        self.entries
+    }
+
+    /// The number of journal records that a slice holds.
+    pub fn journal(&self) -> u32
+        ensures value { result ≡ self.now.journal }
+        ensures limits { are_in_limits self.now ≡ true }
+    {
+        self.journal
+    }
+
+    /// Which kinds share a credit type.
+    pub fn profile(&self) -> Profile
+        ensures { result ≡ self.now.profile }
+    {
+        self.profile
+    }
+}

@@ -1,0 +1,10 @@
+//! The protocol: a slice of the home's lines, the requesters' copies of them, and the flits in flight.
+#![tactic(auto)]
+
+mod act;
+mod config;
+mod slice;
+
+pub use chi_flit::{Action, Effect};
+pub use config::Config;
+pub use slice::Slice;
