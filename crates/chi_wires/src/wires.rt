@@ -1,9 +1,12 @@
 //! The cells of the lines of one slice.
 
-ghost use Rattle.std.specs.Prelude.{◌≡◌, ℕ, ◌<◌, true, false, None, length, replicate, slice_index_or, slice_set, IfOk, OnOk, OnErr};
+ghost use Rattle.std.specs.Prelude.{◌≡◌, ℕ, ◌<◌, true, false, None, [], ◌∷◌, ◌++◌, length, replicate, slice_index_or, slice_set, IfOk, OnOk, OnErr};
+ghost use Rattle.std.specs.List.{filter};
+ghost use Rattle.std.specs.List.Sorted.{IsPermutation};
 ghost use Rattle.chi_flit.specs.Message.{channel_of};
 ghost use Rattle.chi_wires.specs.Cell.{no_flits, cell_of, with_message, emptied};
-ghost use Rattle.chi_wires.specs.Wires.{flits_at, with_flits, taken_from, row_of, with_snoops};
+ghost use Rattle.chi_wires.specs.Wires.{flits_at, with_flits, taken_from, row_of, with_snoops, IsWide};
+ghost use Rattle.chi_wires.specs.Flight.{in_flight, flit, flit_of, is_at, snoop_flits};
 
 use crate::cells::Cells;
 use chi_flit::{Agent, Channel, Line, Msg, NoMemory, Refusal, Snoop};
@@ -20,16 +23,20 @@ pub struct Wires<A: Allocator> {
 impl<A: Allocator> Model for Wires<A> {
     ghost use Rattle.std.specs.Prelude.{List};
     ghost use Rattle.chi_wires.specs.declared.cells.Cells.{Cells};
+    ghost use Rattle.chi_wires.specs.Wires.{IsWide};
 
     ghost Value = { List (List Cells) };
 
     ghost view = { λ wires. wires.cells.items };
+
+    ghost invariant = { λ wires. IsWide wires.cells.items };
 }
 
 impl<A: Allocator> Wires<A> {
     /// The wires of so many lines, with nothing in flight. Refused where memory runs out.
     pub fn new(alloc: A, lines: u8) -> Result<Wires<A>, NoMemory>
-        ensures { IfOk result (λ wires. wires ≡ replicate lines (replicate 8 no_flits)) }
+        ensures empty { IfOk result (λ wires. wires ≡ replicate lines (replicate 8 no_flits)) }
+        ensures none { IfOk result (λ wires. in_flight wires ≡ []) }
     {
         let mut cells = Vec::with_capacity(alloc, usize::from(lines))?;
         for _ in 0..lines {
@@ -40,7 +47,8 @@ impl<A: Allocator> Wires<A> {
 
     /// The number of lines.
     pub fn lines(&self) -> usize
-        ensures { result ≡ length self.now }
+        ensures number { result ≡ length self.now }
+        ensures wide { IsWide self.now }
     {
         self.cells.len()
     }
@@ -59,7 +67,8 @@ impl<A: Allocator> Wires<A> {
     pub fn has(&self, channel: Channel, agent: Agent, line: Line) -> Option<Msg>
         requires agent { agent.0 < 8 }
         requires line { line.0 < length self.now }
-        ensures { result ≡ cell_of (flits_at self.now line.0 agent.0) channel }
+        ensures answer { result ≡ cell_of (flits_at self.now line.0 agent.0) channel }
+        ensures once { filter (is_at channel agent line) (in_flight self.now) ≡ flit_of channel agent line result }
     {
         self.cells(agent, line).get(channel)
     }
@@ -69,7 +78,8 @@ impl<A: Allocator> Wires<A> {
         requires agent { agent.0 < 8 }
         requires line { line.0 < length self.old }
         requires empty { cell_of (flits_at self.old line.0 agent.0) (channel_of message) ≡ None }
-        ensures { self.new ≡ with_flits self.old line.0 agent.0 (with_message (flits_at self.old line.0 agent.0) message) }
+        ensures after { self.new ≡ with_flits self.old line.0 agent.0 (with_message (flits_at self.old line.0 agent.0) message) }
+        ensures adds { IsPermutation (in_flight self.new) (flit (channel_of message) agent line message ∷ in_flight self.old) }
     {
         self.cells[usize::from(line.0)][usize::from(agent.0)].put(message);
     }
@@ -82,6 +92,7 @@ impl<A: Allocator> Wires<A> {
         requires line { line.0 < length self.old }
         ensures answer { result ≡ taken_from (cell_of (flits_at self.old line.0 agent.0) channel) }
         ensures ok { OnOk result (self.new ≡ with_flits self.old line.0 agent.0 (emptied (flits_at self.old line.0 agent.0) channel)) }
+        ensures removes { IfOk result (λ message. IsPermutation (in_flight self.old) (flit channel agent line message ∷ in_flight self.new)) }
         ensures err { OnErr result (self.new ≡ self.old) }
     {
         let message = self.has(channel, agent, line).ok_or(Refusal::NoFlit)?;
@@ -95,7 +106,8 @@ impl<A: Allocator> Wires<A> {
         requires agent { agent.0 < 8 }
         requires line { line.0 < length self.old }
         requires empty { cell_of (emptied (flits_at self.old line.0 agent.0) taken) (channel_of message) ≡ None }
-        ensures { self.new ≡ with_flits self.old line.0 agent.0 (with_message (emptied (flits_at self.old line.0 agent.0) taken) message) }
+        ensures after { self.new ≡ with_flits self.old line.0 agent.0 (with_message (emptied (flits_at self.old line.0 agent.0) taken) message) }
+        ensures swaps { IsPermutation (flit_of taken agent line (cell_of (flits_at self.old line.0 agent.0) taken) ++ in_flight self.new) (flit (channel_of message) agent line message ∷ in_flight self.old) }
     {
         self.cells[usize::from(line.0)][usize::from(agent.0)].exchange(taken, message);
     }
@@ -104,7 +116,8 @@ impl<A: Allocator> Wires<A> {
     pub fn put_snoops(&mut self, line: Line, agents: [bool; 8], snoop: Snoop)
         requires line { line.0 < length self.old }
         requires empty { (agent : ℕ) → slice_index_or agents agent false ≡ true → (flits_at self.old line.0 agent).snp ≡ None }
-        ensures { self.new ≡ slice_set self.old line.0 (with_snoops agents snoop (row_of self.old line.0)) }
+        ensures after { self.new ≡ slice_set self.old line.0 (with_snoops agents snoop (row_of self.old line.0)) }
+        ensures adds { IsPermutation (in_flight self.new) (snoop_flits 0 line agents snoop ++ in_flight self.old) }
     {
         snoop_row(&mut self.cells[usize::from(line.0)], agents, snoop);
     }
