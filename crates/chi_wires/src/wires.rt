@@ -34,6 +34,7 @@ impl<A: Allocator> Model for Wires<A> {
 
 impl<A: Allocator> Wires<A> {
     /// The wires of so many lines, with nothing in flight. Refused where memory runs out.
+    #[tactic(auto, using(crate::proofs::Moved::none_in_rows))]
     pub fn new(alloc: A, lines: u8) -> Result<Wires<A>, NoMemory>
         ensures empty { IfOk result (λ wires. wires ≡ replicate lines (replicate 8 no_flits)) }
         ensures none { IfOk result (λ wires. in_flight wires ≡ []) }
@@ -64,6 +65,7 @@ impl<A: Allocator> Wires<A> {
     }
 
     /// What `take` would answer, left in place; `None` where the cell is empty.
+    #[tactic(auto, using(crate::proofs::Once::once))]
     pub fn has(&self, channel: Channel, agent: Agent, line: Line) -> Option<Msg>
         requires agent { agent.0 < 8 }
         requires line { line.0 < length self.now }
@@ -74,6 +76,7 @@ impl<A: Allocator> Wires<A> {
     }
 
     /// Puts the message on its channel, whose cell must be empty. All else stays.
+    #[tactic(auto, using(crate::proofs::Moved::put_adds))]
     pub fn put(&mut self, agent: Agent, line: Line, message: Msg)
         requires agent { agent.0 < 8 }
         requires line { line.0 < length self.old }
@@ -87,6 +90,7 @@ impl<A: Allocator> Wires<A> {
     /// Takes the message that is in flight on `channel`: its cell is empty then, and all else stays.
     ///
     /// Refused 7 (NoFlit) exactly where the cell is empty; nothing changes then.
+    #[tactic(auto, using(crate::proofs::Moved::take_one))]
     pub fn take(&mut self, channel: Channel, agent: Agent, line: Line) -> Result<Msg, Refusal>
         requires agent { agent.0 < 8 }
         requires line { line.0 < length self.old }
@@ -102,6 +106,7 @@ impl<A: Allocator> Wires<A> {
 
     /// Empties the cell of `taken`, and puts the message on its own channel, whose cell must be empty or
     /// be the one that is emptied. All else stays.
+    #[tactic(auto, using(crate::proofs::Moved::exchange_swaps))]
     pub fn exchange(&mut self, agent: Agent, line: Line, taken: Channel, message: Msg)
         requires agent { agent.0 < 8 }
         requires line { line.0 < length self.old }
@@ -113,6 +118,7 @@ impl<A: Allocator> Wires<A> {
     }
 
     /// Puts the snoop to each marked agent, whose cells for snoops must be empty. All else stays.
+    #[tactic(auto, using(crate::proofs::Moved::snoops_add, crate::proofs::Wide::snoops_wide))]
     pub fn put_snoops(&mut self, line: Line, agents: [bool; 8], snoop: Snoop)
         requires line { line.0 < length self.old }
         requires empty { (agent : ℕ) → slice_index_or agents agent false ≡ true → (flits_at self.old line.0 agent).snp ≡ None }
@@ -131,5 +137,61 @@ fn snoop_row(row: &mut [Cells; 8], agents: [bool; 8], snoop: Snoop)
         if agents[agent] {
             cells.snp = Some(snoop);
         }
+    }
+}
+
+#[cfg(test)]
+mod tests {
+    use super::*;
+    use chi_flit::{Kind, Request, RspUp, Slot};
+    use linked_list_allocator::LocalHeap;
+
+    const REQUEST: Msg = Msg::Req(Request {
+        kind: Kind::ReadUnique,
+        slot: Slot(3),
+        allow_retry: true,
+    });
+
+    #[test]
+    fn carries_a_message_on_its_own_channel(rt: HostRuntime) {
+        let mut wires = Wires::new(rt.alloc(), 64).expect(&rt, "memory for 64 lines");
+        assert_eq!(rt; wires.lines(), 64);
+        wires.put(Agent(7), Line(63), REQUEST);
+        assert_eq!(rt; wires.has(Channel::Req, Agent(7), Line(63)), Some(REQUEST));
+        assert_eq!(rt; wires.has(Channel::Snp, Agent(7), Line(63)), None);
+        assert_eq!(rt; wires.has(Channel::Req, Agent(6), Line(63)), None);
+        assert_eq!(rt; wires.take(Channel::Req, Agent(7), Line(63)), Ok(REQUEST));
+        assert_eq!(rt;
+            wires.take(Channel::Req, Agent(7), Line(63)),
+            Err(Refusal::NoFlit)
+        );
+    }
+
+    #[test]
+    fn snoops_the_marked_and_takes_their_answers(rt: HostRuntime) {
+        let mut wires = Wires::new(rt.alloc(), 1).expect(&rt, "memory for a line");
+        let marked = [false, true, false, false, false, false, false, true];
+        wires.put_snoops(Line(0), marked, Snoop::SnpShared);
+        for agent in 0..8 {
+            let cells = wires.cells(Agent(agent), Line(0));
+            assert_eq!(rt; cells.snp.is_some(), marked[usize::from(agent)]);
+        }
+        let answer = Msg::RspUp(RspUp::SnpRespI);
+        wires.exchange(Agent(1), Line(0), Channel::Snp, answer);
+        let cells = wires.cells(Agent(1), Line(0));
+        assert_eq!(rt; cells.get(Channel::Snp), None);
+        assert_eq!(rt; cells.get(Channel::RspUp), Some(answer));
+        assert_eq!(rt; wires.cells(Agent(0), Line(0)), Cells::new());
+    }
+
+    #[test]
+    fn answers_no_memory_where_a_growth_is_refused(rt: HostRuntime) {
+        let small = LocalHeap::new(rt.alloc(), 256).expect(&rt, "memory for a small heap");
+        assert_eq!(rt;
+            Wires::new(&small, 2).map(|wires| wires.lines()),
+            Err(NoMemory)
+        );
+        let large = LocalHeap::new(rt.alloc(), 16384).expect(&rt, "memory for a large heap");
+        assert_eq!(rt; Wires::new(&large, 2).map(|wires| wires.lines()), Ok(2));
     }
 }
