@@ -1,1 +1,4 @@
 pub mod Marked
+pub mod Moved
+pub mod Wide
+pub mod Once

@@ -1,6 +1,6 @@
 -- The flits in flight of the lines of one slice: a row for each line, in it the cells of each of the
 -- eight agents (docs/PROTOCOL.md, "Messages").
-use Rattle.std.specs.Prelude.{ℕ, List, [], ◌∷◌, Bool, true, false, Option, Some, None, Result, Ok, Err, get_or, slice_set}
+use Rattle.std.specs.Prelude.{◌≡◌, ℕ, ◌<◌, length, List, [], ◌∷◌, Bool, true, false, Option, Some, None, Result, Ok, Err, get_or, slice_set}
 use Rattle.chi_flit.specs.declared.message.Msg.{Msg}
 use Rattle.chi_flit.specs.declared.refusal.Refusal.{Refusal}
 use Rattle.chi_flit.specs.declared.refusal.Refusal.TheVariants.{NoFlit}
@@ -19,6 +19,10 @@ flits_at wires line agent = get_or (row_of wires line) agent no_flits
 -- an agent's cells at a line are these, all others stay
 abbrev pub with_flits : List (List Cells) → ℕ → ℕ → Cells → List (List Cells)
 with_flits wires line agent cells = slice_set wires line (slice_set (row_of wires line) agent cells)
+
+-- each line has the cells of eight agents
+pub record IsWide (wires : List (List Cells)) : Type 0 where
+  pub eight : (line : ℕ) → line < length wires → length (row_of wires line) ≡ 8
 
 -- what a call that takes from this cell answers: refusal 7 where it is empty
 abbrev pub taken_from : Option Msg → Result Msg Refusal

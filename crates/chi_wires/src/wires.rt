@@ -1,9 +1,12 @@
 //! The cells of the lines of one slice.
 
-ghost use Rattle.std.specs.Prelude.{◌≡◌, ℕ, ◌<◌, true, false, None, length, replicate, slice_index_or, slice_set, IfOk, OnOk, OnErr};
+ghost use Rattle.std.specs.Prelude.{◌≡◌, ℕ, ◌<◌, true, false, None, [], ◌∷◌, ◌++◌, length, replicate, slice_index_or, slice_set, IfOk, OnOk, OnErr};
+ghost use Rattle.std.specs.List.{filter};
+ghost use Rattle.std.specs.List.Sorted.{IsPermutation};
 ghost use Rattle.chi_flit.specs.Message.{channel_of};
 ghost use Rattle.chi_wires.specs.Cell.{no_flits, cell_of, with_message, emptied};
-ghost use Rattle.chi_wires.specs.Wires.{flits_at, with_flits, taken_from, row_of, with_snoops};
+ghost use Rattle.chi_wires.specs.Wires.{flits_at, with_flits, taken_from, row_of, with_snoops, IsWide};
+ghost use Rattle.chi_wires.specs.Flight.{in_flight, flit, flit_of, is_at, snoop_flits};
 
 use crate::cells::Cells;
 use chi_flit::{Agent, Channel, Line, Msg, NoMemory, Refusal, Snoop};
@@ -20,16 +23,21 @@ pub struct Wires<A: Allocator> {
 impl<A: Allocator> Model for Wires<A> {
     ghost use Rattle.std.specs.Prelude.{List};
     ghost use Rattle.chi_wires.specs.declared.cells.Cells.{Cells};
+    ghost use Rattle.chi_wires.specs.Wires.{IsWide};
 
     ghost Value = { List (List Cells) };
 
     ghost view = { λ wires. wires.cells.items };
+
+    ghost invariant = { λ wires. IsWide wires.cells.items };
 }
 
 impl<A: Allocator> Wires<A> {
     /// The wires of so many lines, with nothing in flight. Refused where memory runs out.
+    #[tactic(auto, using(crate::proofs::Moved::none_in_rows))]
     pub fn new(alloc: A, lines: u8) -> Result<Wires<A>, NoMemory>
-        ensures { IfOk result (λ wires. wires ≡ replicate lines (replicate 8 no_flits)) }
+        ensures empty { IfOk result (λ wires. wires ≡ replicate lines (replicate 8 no_flits)) }
+        ensures none { IfOk result (λ wires. in_flight wires ≡ []) }
     {
         let mut cells = Vec::with_capacity(alloc, usize::from(lines))?;
         for _ in 0..lines {
@@ -40,7 +48,8 @@ impl<A: Allocator> Wires<A> {
 
     /// The number of lines.
     pub fn lines(&self) -> usize
-        ensures { result ≡ length self.now }
+        ensures number { result ≡ length self.now }
+        ensures wide { IsWide self.now }
     {
         self.cells.len()
     }
@@ -56,20 +65,24 @@ impl<A: Allocator> Wires<A> {
     }
 
     /// What `take` would answer, left in place; `None` where the cell is empty.
+    #[tactic(auto, using(crate::proofs::Once::once))]
     pub fn has(&self, channel: Channel, agent: Agent, line: Line) -> Option<Msg>
         requires agent { agent.0 < 8 }
         requires line { line.0 < length self.now }
-        ensures { result ≡ cell_of (flits_at self.now line.0 agent.0) channel }
+        ensures answer { result ≡ cell_of (flits_at self.now line.0 agent.0) channel }
+        ensures once { filter (is_at channel agent line) (in_flight self.now) ≡ flit_of channel agent line result }
     {
         self.cells(agent, line).get(channel)
     }
 
     /// Puts the message on its channel, whose cell must be empty. All else stays.
+    #[tactic(auto, using(crate::proofs::Moved::put_adds))]
     pub fn put(&mut self, agent: Agent, line: Line, message: Msg)
         requires agent { agent.0 < 8 }
         requires line { line.0 < length self.old }
         requires empty { cell_of (flits_at self.old line.0 agent.0) (channel_of message) ≡ None }
-        ensures { self.new ≡ with_flits self.old line.0 agent.0 (with_message (flits_at self.old line.0 agent.0) message) }
+        ensures after { self.new ≡ with_flits self.old line.0 agent.0 (with_message (flits_at self.old line.0 agent.0) message) }
+        ensures adds { IsPermutation (in_flight self.new) (flit (channel_of message) agent line message ∷ in_flight self.old) }
     {
         self.cells[usize::from(line.0)][usize::from(agent.0)].put(message);
     }
@@ -77,11 +90,13 @@ impl<A: Allocator> Wires<A> {
     /// Takes the message that is in flight on `channel`: its cell is empty then, and all else stays.
     ///
     /// Refused 7 (NoFlit) exactly where the cell is empty; nothing changes then.
+    #[tactic(auto, using(crate::proofs::Moved::take_one))]
     pub fn take(&mut self, channel: Channel, agent: Agent, line: Line) -> Result<Msg, Refusal>
         requires agent { agent.0 < 8 }
         requires line { line.0 < length self.old }
         ensures answer { result ≡ taken_from (cell_of (flits_at self.old line.0 agent.0) channel) }
         ensures ok { OnOk result (self.new ≡ with_flits self.old line.0 agent.0 (emptied (flits_at self.old line.0 agent.0) channel)) }
+        ensures removes { IfOk result (λ message. IsPermutation (in_flight self.old) (flit channel agent line message ∷ in_flight self.new)) }
         ensures err { OnErr result (self.new ≡ self.old) }
     {
         let message = self.has(channel, agent, line).ok_or(Refusal::NoFlit)?;
@@ -91,20 +106,24 @@ impl<A: Allocator> Wires<A> {
 
     /// Empties the cell of `taken`, and puts the message on its own channel, whose cell must be empty or
     /// be the one that is emptied. All else stays.
+    #[tactic(auto, using(crate::proofs::Moved::exchange_swaps))]
     pub fn exchange(&mut self, agent: Agent, line: Line, taken: Channel, message: Msg)
         requires agent { agent.0 < 8 }
         requires line { line.0 < length self.old }
         requires empty { cell_of (emptied (flits_at self.old line.0 agent.0) taken) (channel_of message) ≡ None }
-        ensures { self.new ≡ with_flits self.old line.0 agent.0 (with_message (emptied (flits_at self.old line.0 agent.0) taken) message) }
+        ensures after { self.new ≡ with_flits self.old line.0 agent.0 (with_message (emptied (flits_at self.old line.0 agent.0) taken) message) }
+        ensures swaps { IsPermutation (flit_of taken agent line (cell_of (flits_at self.old line.0 agent.0) taken) ++ in_flight self.new) (flit (channel_of message) agent line message ∷ in_flight self.old) }
     {
         self.cells[usize::from(line.0)][usize::from(agent.0)].exchange(taken, message);
     }
 
     /// Puts the snoop to each marked agent, whose cells for snoops must be empty. All else stays.
+    #[tactic(auto, using(crate::proofs::Moved::snoops_add, crate::proofs::Wide::snoops_wide))]
     pub fn put_snoops(&mut self, line: Line, agents: [bool; 8], snoop: Snoop)
         requires line { line.0 < length self.old }
         requires empty { (agent : ℕ) → slice_index_or agents agent false ≡ true → (flits_at self.old line.0 agent).snp ≡ None }
-        ensures { self.new ≡ slice_set self.old line.0 (with_snoops agents snoop (row_of self.old line.0)) }
+        ensures after { self.new ≡ slice_set self.old line.0 (with_snoops agents snoop (row_of self.old line.0)) }
+        ensures adds { IsPermutation (in_flight self.new) (snoop_flits 0 line agents snoop ++ in_flight self.old) }
     {
         snoop_row(&mut self.cells[usize::from(line.0)], agents, snoop);
     }
@@ -118,5 +137,61 @@ fn snoop_row(row: &mut [Cells; 8], agents: [bool; 8], snoop: Snoop)
         if agents[agent] {
             cells.snp = Some(snoop);
         }
+    }
+}
+
+#[cfg(test)]
+mod tests {
+    use super::*;
+    use chi_flit::{Kind, Request, RspUp, Slot};
+    use linked_list_allocator::LocalHeap;
+
+    const REQUEST: Msg = Msg::Req(Request {
+        kind: Kind::ReadUnique,
+        slot: Slot(3),
+        allow_retry: true,
+    });
+
+    #[test]
+    fn carries_a_message_on_its_own_channel(rt: HostRuntime) {
+        let mut wires = Wires::new(rt.alloc(), 64).expect(&rt, "memory for 64 lines");
+        assert_eq!(rt; wires.lines(), 64);
+        wires.put(Agent(7), Line(63), REQUEST);
+        assert_eq!(rt; wires.has(Channel::Req, Agent(7), Line(63)), Some(REQUEST));
+        assert_eq!(rt; wires.has(Channel::Snp, Agent(7), Line(63)), None);
+        assert_eq!(rt; wires.has(Channel::Req, Agent(6), Line(63)), None);
+        assert_eq!(rt; wires.take(Channel::Req, Agent(7), Line(63)), Ok(REQUEST));
+        assert_eq!(rt;
+            wires.take(Channel::Req, Agent(7), Line(63)),
+            Err(Refusal::NoFlit)
+        );
+    }
+
+    #[test]
+    fn snoops_the_marked_and_takes_their_answers(rt: HostRuntime) {
+        let mut wires = Wires::new(rt.alloc(), 1).expect(&rt, "memory for a line");
+        let marked = [false, true, false, false, false, false, false, true];
+        wires.put_snoops(Line(0), marked, Snoop::SnpShared);
+        for agent in 0..8 {
+            let cells = wires.cells(Agent(agent), Line(0));
+            assert_eq!(rt; cells.snp.is_some(), marked[usize::from(agent)]);
+        }
+        let answer = Msg::RspUp(RspUp::SnpRespI);
+        wires.exchange(Agent(1), Line(0), Channel::Snp, answer);
+        let cells = wires.cells(Agent(1), Line(0));
+        assert_eq!(rt; cells.get(Channel::Snp), None);
+        assert_eq!(rt; cells.get(Channel::RspUp), Some(answer));
+        assert_eq!(rt; wires.cells(Agent(0), Line(0)), Cells::new());
+    }
+
+    #[test]
+    fn answers_no_memory_where_a_growth_is_refused(rt: HostRuntime) {
+        let small = LocalHeap::new(rt.alloc(), 256).expect(&rt, "memory for a small heap");
+        assert_eq!(rt;
+            Wires::new(&small, 2).map(|wires| wires.lines()),
+            Err(NoMemory)
+        );
+        let large = LocalHeap::new(rt.alloc(), 16384).expect(&rt, "memory for a large heap");
+        assert_eq!(rt; Wires::new(&large, 2).map(|wires| wires.lines()), Ok(2));
     }
 }

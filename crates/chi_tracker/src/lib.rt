@@ -1,0 +1,8 @@
+//! The home's tracker: its entries by credit type, and who holds each.
+//!
+//! Source: Arm IHI 0050 B, 2.9.
+#![tactic(auto)]
+
+mod tracker;
+
+pub use tracker::{Counts, Tracker};
