@@ -1,0 +1,5 @@
+pub mod LimitLemmas
+pub mod LineLemmas
+pub mod CommandLoop
+pub mod FaultLemmas
+pub mod FileLemmas
