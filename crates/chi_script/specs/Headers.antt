@@ -1,5 +1,5 @@
 -- The header of a replay file and its limits (docs/PROTOCOL.md, "Replay files" and "Limits").
-use Rattle.std.specs.Prelude.{ℕ, slice_index, ◌+◌, ◌≤◌, ◌==◌, ◌&&◌, ◌||◌, nat_le, Bool, true, false, List, [], ◌∷◌, Option, Some, None, if◌then◌else◌, codes}
+use Rattle.std.specs.Prelude.{◌≡◌, ℕ, sum, slice_index, ◌+◌, ◌≤◌, ◌==◌, ◌&&◌, ◌||◌, nat_le, Bool, true, false, List, [], ◌∷◌, Option, Some, None, if◌then◌else◌, codes}
 use Rattle.chi_flit.specs.declared.credit.Profile.{Profile}
 use Rattle.chi_flit.specs.declared.credit.Profile.TheVariants.{Two, Four}
 use Rattle.chi_script.specs.declared.headers.Header.{Header}
@@ -68,6 +68,10 @@ sizes_of _ = None
 abbrev pub kept : Header → Option Header
 kept header = if is_in_limits header && is_served header then Some header else None
 
+-- what is known of every header that was read
+abbrev pub IsKept : Header → Type 0
+IsKept header = (is_in_limits header ≡ true) × (is_served header ≡ true)
+
 -- node and the sizes
 abbrev pub header_of : List (List ℕ) → Option Header
 header_of [] = None
@@ -77,10 +81,17 @@ header_of (verb ∷ numbers) = if is_text verb (codes "node") then (sizes_of num
 abbrev pub sized : Sizes → Header
 sized sizes = record { agents = sizes.agents; lines = sizes.lines; slices = sizes.slices; entries = sizes.entries; journal = sizes.journal; profile = sizes.profile }
 
--- What callers know of a header that was read. An absent type has no entries.
+-- what the limits say of each number
 pub record IsInLimits (header : Header) : Type 0 where
   pub agents : (1 ≤ header.agents) × (header.agents ≤ 8)
   pub lines : (1 ≤ header.lines) × (header.lines ≤ 64)
   pub slices : (1 ≤ header.slices) × (header.slices ≤ 8) × (header.slices ≤ header.lines)
-  pub entries : (ty : ℕ) → slice_index header.entries ty ≤ 256
+  pub entries : (1 ≤ slice_index header.entries 0) × (1 ≤ slice_index header.entries 1)
+  pub total : sum header.entries ≤ 256
   pub journal : (1 ≤ header.journal) × (header.journal ≤ 65536)
+
+-- and what is served of them
+pub record IsServed (header : Header) : Type 0 where
+  pub agents : header.agents ≡ 1
+  pub slices : header.slices ≡ 1
+  pub profile : header.profile ≡ Two

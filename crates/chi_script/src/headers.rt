@@ -1,9 +1,9 @@
 //! The header of a replay file: the sizes of the system that its commands are for.
 
-ghost use Rattle.std.specs.Prelude.{◌≡◌};
+ghost use Rattle.std.specs.Prelude.{◌≡◌, IfSome};
 ghost use Rattle.std.specs.Option.{option_map};
 ghost use Rattle.chi_script.specs.Words.{texts_of};
-ghost use Rattle.chi_script.specs.Headers.{header_of, sizes_of, types_of, is_from, is_slice_count, are_entries, is_in_limits, is_served, kept, sized};
+ghost use Rattle.chi_script.specs.Headers.{header_of, sizes_of, types_of, is_from, is_slice_count, are_entries, is_in_limits, is_served, kept, IsKept, sized};
 
 use crate::numbers::number;
 use crate::words::is;
@@ -53,7 +53,8 @@ struct CreditTypes {
 /// limits, and sizes that aren't served.
 /// Source: `docs/PROTOCOL.md`, "Replay files" and "Limits".
 pub fn read_header(words: &[&[u8]]) -> Option<Header>
-    ensures { result ≡ header_of (texts_of words.now) }
+    ensures read { result ≡ header_of (texts_of words.now) }
+    ensures kept { IfSome result IsKept }
 {
     match words {
         [verb, numbers @ ..] if is(verb, "node") => read_sizes(numbers)?.header(),
@@ -151,7 +152,8 @@ impl Sizes {
 
     /// The header of these sizes, where they are within the limits and served.
     fn header(&self) -> Option<Header>
-        ensures { result ≡ kept (sized self.now) }
+        ensures read { result ≡ kept (sized self.now) }
+        ensures kept { IfSome result IsKept }
     {
         if !self.is_in_limits() || !self.is_served() {
             return None;
