@@ -3,3 +3,5 @@ pub mod LineLemmas
 pub mod CommandLoop
 pub mod FaultLemmas
 pub mod FileLemmas
+pub mod NumberLemmas
+pub mod CommandLemmas

@@ -3,3 +3,4 @@ pub mod Commands
 pub mod Headers
 pub mod Faults
 pub mod Files
+pub mod Spelling

@@ -8,6 +8,7 @@ mod commands;
 mod faults;
 mod files;
 mod headers;
+mod laws;
 mod numbers;
 mod words;
 
@@ -15,4 +16,5 @@ pub use commands::{Command, read_command};
 pub use faults::Fault;
 pub use files::{MOST_BYTES, Script, read_file};
 pub use headers::{Header, read_header};
+pub use laws::{commands_are_lines, commands_are_spelled, numbers_are_decimal};
 pub use numbers::{number, small};
