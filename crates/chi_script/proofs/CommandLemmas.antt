@@ -1,6 +1,6 @@
 -- Commands are read as they are spelled, and only so.
-use Rattle.std.proofs.Common.{◌≡◌, ℕ, Bool, true, false, cond, List, [], ◌∷◌, Option, Some, None, refl, sym, ap, subst, ◌∙◌, codes}
-use Rattle.std.specs.List.{slice_split, join_with_byte}
+use Rattle.std.proofs.Common.{◌≡◌, ℕ, Bool, true, false, cond, List, [], ◌∷◌, Option, Some, None, refl, sym, ap, subst, codes}
+use Rattle.std.specs.List.{join_with_byte}
 use Rattle.std.proofs.lemmas.List.Splits.{join_with_byte-slice_split}
 use Rattle.std.proofs.lemmas.Slice.Eq.{bytes_eq-Decides}
 use Rattle.chi_flit.specs.Kind.{kind_text}
@@ -12,6 +12,7 @@ use Rattle.chi_script.specs.declared.commands.Command.TheVariants.{Totals, Show,
 use Rattle.chi_script.specs.Words.{◌>>=◌, is_text, words_of, small_of}
 use Rattle.chi_script.specs.Commands.{agent_at, line_at, slot_at, kind_of, command_bare, command_one, command_two, command_four, command_of}
 use Rattle.chi_script.specs.Spelling.{IsSmall, IsKind, WithOne, WithTwo, WithKind, Spells, IsLine}
+use Rattle.chi_script.proofs.SpaceLemmas.{no_space, joined_again, decimal_no_space}
 use Rattle.chi_script.proofs.NumberLemmas.{small_read, small_again, bound}
 
 text_is : (word text : List ℕ) → is_text word text ≡ true → word ≡ text
@@ -59,12 +60,12 @@ four_read : (verb a b c d : List ℕ) (n l : ℕ) (command : Command) → IsSmal
 four_read verb a b c d n l command is_n is_l e =
     let P : Command → Type 0 = λ x. Spells x (verb ∷ a ∷ b ∷ c ∷ d ∷ []) in
     pick_read P (is_text verb (codes "issue")) _ None
-      (λ is x read.
-        let kind = bound (kind_of c) (λ k. small_of d >>= λ slot. Some (Act (Issue (agent_at n) (line_at l) k (slot_at slot)))) x read in
-        let slot = bound (small_of d) (λ s. Some (Act (Issue (agent_at n) (line_at l) kind.0 (slot_at s)))) x kind.2 in
-        let same : Act (Issue (agent_at n) (line_at l) kind.0 (slot_at slot.0)) ≡ x = cc in
-        subst P same (a, b, c, d, is_n, is_l, kind_read c kind.0 kind.1, small_read d slot.0 slot.1, ap (λ v. v ∷ a ∷ b ∷ c ∷ d ∷ []) (text_is verb _ is)))
-      (none_left P) command e
+    (λ is x read.
+    let kind = bound (kind_of c) (λ k. small_of d >>= λ slot. Some (Act (Issue (agent_at n) (line_at l) k (slot_at slot)))) x read in
+    let slot = bound (small_of d) (λ s. Some (Act (Issue (agent_at n) (line_at l) kind.0 (slot_at s)))) x kind.2 in
+    let same : Act (Issue (agent_at n) (line_at l) kind.0 (slot_at slot.0)) ≡ x = cc in
+    subst P same (a, b, c, d, is_n, is_l, kind_read c kind.0 kind.1, small_read d slot.0 slot.1, ap (λ v. v ∷ a ∷ b ∷ c ∷ d ∷ []) (text_is verb _ is)))
+    (none_left P) command e
 
 pub command_read : (words : List (List ℕ)) (command : Command) → command_of words ≡ Some command → Spells command words
 command_read [] command e = cc
@@ -112,3 +113,39 @@ command_again words (Act (Admit n l)) is = absurd is
 
 pub line_read : (line : List ℕ) (command : Command) → command_of (words_of line) ≡ Some command → IsLine command line
 line_read line command e = (words_of line, command_read (words_of line) command e, sym (join_with_byte-slice_split 32 line))
+
+small_spaceless : (n : ℕ) (word : List ℕ) → IsSmall n word → no_space word ≡ true
+small_spaceless n word is = rw is.1.1 (decimal_no_space is.0 is.1.0)
+
+kind_spaceless : (kind : Kind) (word : List ℕ) → IsKind kind word → no_space word ≡ true
+kind_spaceless ReadNotSharedDirty word is = rw is refl
+kind_spaceless ReadShared word is = absurd is
+kind_spaceless ReadUnique word is = absurd is
+kind_spaceless CleanUnique word is = absurd is
+kind_spaceless Evict word is = absurd is
+kind_spaceless WriteBackFull word is = absurd is
+kind_spaceless WriteCleanFull word is = absurd is
+kind_spaceless WriteEvictFull word is = absurd is
+
+one_joined : (verb : List ℕ) (l : ℕ) (words : List (List ℕ)) → no_space verb ≡ true → WithOne verb l words → words_of (join_with_byte 32 words) ≡ words
+one_joined verb l words plain is = rw is.2 (joined_again verb (is.0 ∷ []) (rw (plain, small_spaceless l is.0 is.1) refl))
+
+two_joined : (verb : List ℕ) (n l : ℕ) (words : List (List ℕ)) → no_space verb ≡ true → WithTwo verb n l words → words_of (join_with_byte 32 words) ≡ words
+two_joined verb n l words plain is = rw is.4 (joined_again verb (is.0 ∷ is.1 ∷ []) (rw (plain, small_spaceless n is.0 is.2, small_spaceless l is.1 is.3) refl))
+
+kind_joined : (verb : List ℕ) (n l : ℕ) (kind : Kind) (s : ℕ) (words : List (List ℕ)) → no_space verb ≡ true → WithKind verb n l kind s words → words_of (join_with_byte 32 words) ≡ words
+kind_joined verb n l kind s words plain is = rw is.8 (joined_again verb (is.0 ∷ is.1 ∷ is.2 ∷ is.3 ∷ []) (rw (plain, small_spaceless n is.0 is.4, small_spaceless l is.1 is.5, kind_spaceless kind is.2 is.6, small_spaceless s is.3 is.7) refl))
+
+joined : (words : List (List ℕ)) (command : Command) → Spells command words → words_of (join_with_byte 32 words) ≡ words
+joined words Totals is = rw is (joined_again (codes "totals") [] refl)
+joined words (Show l) is = one_joined (codes "show") l.0 words refl is
+joined words (Flits n l) is = two_joined (codes "flits") n.0 l.0 words refl is
+joined words (Arrive n l) is = two_joined (codes "arrive") n.0 l.0 words refl is
+joined words (Act (Start n l)) is = two_joined (codes "start") n.0 l.0 words refl is
+joined words (Act (RecvData n l)) is = two_joined (codes "data") n.0 l.0 words refl is
+joined words (Act (RecvAck n l)) is = two_joined (codes "ack") n.0 l.0 words refl is
+joined words (Act (Issue n l kind slot)) is = kind_joined (codes "issue") n.0 l.0 kind slot.0 words refl is
+joined words (Act (Admit n l)) is = absurd is
+
+pub line_again : (line : List ℕ) (command : Command) → IsLine command line → command_of (words_of line) ≡ Some command
+line_again line command is = rw (is.2, joined is.0 command is.1) (command_again is.0 command is.1)

@@ -5,3 +5,4 @@ pub mod FaultLemmas
 pub mod FileLemmas
 pub mod NumberLemmas
 pub mod CommandLemmas
+pub mod SpaceLemmas

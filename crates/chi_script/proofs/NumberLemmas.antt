@@ -1,5 +1,5 @@
 -- Numbers are read as they are written, and only so.
-use Rattle.std.proofs.Common.{◌≡◌, ℕ, zero, suc, ◌+◌, ◌-◌, ◌*◌, ◌^◌, ◌<◌, ◌≤◌, ◌==◌, ◌&&◌, Bool, true, false, cond, min, nat_lt, List, [], ◌∷◌, length, get_or, Option, Some, None, rules, arith, lit<, refl, sym, ap, ◌∙◌}
+use Rattle.std.proofs.Common.{◌≡◌, ℕ, zero, suc, ◌+◌, ◌-◌, ◌*◌, ◌^◌, ◌<◌, ◌≤◌, ◌&&◌, Bool, true, false, min, List, [], ◌∷◌, length, get_or, Option, Some, None, rules, arith, lit<, refl, sym, ap, ◌∙◌}
 use Rattle.std.specs.Str.{all_ascii_digits}
 use Rattle.std.specs.Char.{is_ascii_digit}
 use Rattle.std.specs.Fmt.{decimal}
@@ -14,7 +14,7 @@ abbrev pub value : ℕ → List ℕ → ℕ
 value n [] = n
 value n (d ∷ ds) = value (10 * n + (d - 48)) ds
 
-own : IsNumeralModel (λ ds. all_ascii_digits ds ≡ true) (value 0)
+pub own : IsNumeralModel (λ ds. all_ascii_digits ds ≡ true) (value 0)
 own = numerals_by_fold _ (search rules) value (search rules)
 
 grows : (n : ℕ) (ds : List ℕ) → n ≤ value n ds
@@ -50,15 +50,15 @@ digits_read n (d ∷ ds) m small e =
     let rest = digits_read step.0 ds m (omega (arith, one.1, one.2)) step.2 in
     record { digits = and_true (is_ascii_digit d) (all_ascii_digits ds) one.0 rest.digits; value_is = rest.value_is ∙ ap (λ h. value h ds) one.1; fits = rest.fits }
 
-first_digit : (a b : Bool) → (a && b) ≡ true → (a ≡ true) × (b ≡ true)
-first_digit true b e = (refl, e)
-first_digit false b e = cc
+pub both : (a b : Bool) → (a && b) ≡ true → (a ≡ true) × (b ≡ true)
+both true b e = (refl, e)
+both false b e = cc
 
 pub digits_again : (n : ℕ) (ds : List ℕ) → all_ascii_digits ds ≡ true → value n ds < 2 ^ 64 → digits_of n ds ≡ Some (value n ds)
 unfolding digits_of
 digits_again n [] all fits = refl
 digits_again n (d ∷ ds) all fits =
-    let each = first_digit (is_ascii_digit d) (all_ascii_digits ds) all in
+    let each = both (is_ascii_digit d) (all_ascii_digits ds) all in
     rw (digit_fits n d each.0 (omega (arith, grows (10 * n + (d - 48)) ds, fits))) (digits_again (10 * n + (d - 48)) ds each.1 fits)
 
 -- a word that is read has a digit, and a zero at its front only alone
