@@ -1,0 +1,19 @@
+-- What a device did with bytes and with its count of failures (docs/PROTOCOL.md, "The program").
+use Rattle.std.specs.Prelude.{◌≡◌, ℕ, ◌+◌, List, Option, take}
+use Rattle.std.specs.Io.KnownBytes.{Appends}
+use Rattle.chi_script.specs.declared.faults.Fault.{Fault}
+use Rattle.chi_script.specs.declared.faults.Fault.TheVariants.{NoMemory, BadHeader, BadCommand, MissingNewline, TooLarge, Read, Write}
+
+-- the known bytes grow by a front of these
+abbrev pub AppendsFront : Option (List ℕ) → Option (List ℕ) → List ℕ → Type 0
+AppendsFront old new bytes = (n : ℕ) × Appends old new (take n bytes)
+
+-- the fault with which reading an input ends: Read where a failure was counted, else want of memory
+abbrev pub CountsFault : ℕ → ℕ → Fault → Type 0
+CountsFault before after Read = after ≡ before + 1
+CountsFault before after NoMemory = after ≡ before
+CountsFault before after BadHeader = ⊥
+CountsFault before after (BadCommand line) = ⊥
+CountsFault before after (MissingNewline line) = ⊥
+CountsFault before after TooLarge = ⊥
+CountsFault before after Write = ⊥

@@ -1,0 +1,44 @@
+//! What a device is.
+
+ghost use Rattle.std.specs.Prelude.{◌≡◌, ℕ, ◌+◌, ◌^◌, ◌<◌, ◌≤◌, List, Option, length, IfOk, OnOk, OnErr};
+ghost use Rattle.std.specs.Io.KnownBytes.{ReadConsumes, Appends};
+ghost use Rattle.chi_devices.specs.Devices.{AppendsFront};
+
+/// A device failed, and counted it.
+#[derive(Clone, Copy, Debug, PartialEq, Eq)]
+pub struct Failed;
+
+/// What bytes are read from. It counts its failures, so that who called it can tell that it failed.
+pub trait Input {
+    /// The bytes that are still to be read, where they are known.
+    ghost left: { Self → Option (List ℕ) };
+
+    /// How often a read failed.
+    ghost failures: { Self → ℕ };
+
+    /// Reads bytes into the front of the buffer, and answers how many: 0 of a buffer with room only at
+    /// the end. A read that fails takes no byte, and counts.
+    fn read(&mut self, buffer: &mut [u8]) -> Result<usize, Failed>
+        requires { failures self.old + 1 < 2 ^ 64 }
+        ensures bound { IfOk result (λ count. count ≤ length buffer.new) }
+        ensures bytes { ReadConsumes (left self.old) (left self.new) result buffer.new }
+        ensures ok { OnOk result (failures self.new ≡ failures self.old) }
+        ensures err { OnErr result (failures self.new ≡ failures self.old + 1) };
+}
+
+/// What bytes are written to. It counts its failures, so that who called it can tell that it failed.
+pub trait Output {
+    /// The bytes that were written, where they are known.
+    ghost written: { Self → Option (List ℕ) };
+
+    /// How often a write failed.
+    ghost failures: { Self → ℕ };
+
+    /// Writes all of the bytes. Where that fails it counts, and a front of them was written.
+    fn write_all(&mut self, bytes: &[u8]) -> Result<(), Failed>
+        requires { failures self.old + 1 < 2 ^ 64 }
+        ensures written { OnOk result (Appends (written self.old) (written self.new) bytes.now) }
+        ensures front { OnErr result (AppendsFront (written self.old) (written self.new) bytes.now) }
+        ensures ok { OnOk result (failures self.new ≡ failures self.old) }
+        ensures err { OnErr result (failures self.new ≡ failures self.old + 1) };
+}

@@ -1,0 +1,36 @@
+//! Reading an input to its end, or to where it is too large.
+
+ghost use Rattle.std.specs.Prelude.{◌≡◌, ◌+◌, ◌^◌, ◌<◌, ◌≤◌, length, take, IfOk, OnOk, IfErr, IfSome};
+ghost use Rattle.chi_devices.specs.Devices.{CountsFault};
+
+use crate::devices::{Failed, Input};
+use chi_script::{Fault, MOST_BYTES};
+use std::alloc::Allocator;
+
+/// How many bytes one read takes at most.
+const PIECE: usize = 4_096;
+
+/// The bytes of the input from its beginning on: all of them, or one more than a file may have, which is
+/// enough to tell that it is too large.
+///
+/// `Read` where the input failed, `NoMemory` where memory ran out.
+pub fn read_all<A: Allocator, I: Input>(alloc: A, input: &mut I) -> Result<Vec<u8, A>, Fault>
+    requires { I.failures input.old + 1 < 2 ^ 64 }
+    ensures front { IfOk result (λ bytes. IfSome (I.left input.old) (λ file. bytes.items ≡ take 1048577 file)) }
+    ensures bound { IfOk result (λ bytes. length bytes.items ≤ 1048577) }
+    ensures ok { OnOk result (I.failures input.new ≡ I.failures input.old) }
+    ensures err { IfErr result (CountsFault (I.failures input.old) (I.failures input.new)) }
+{
+    let mut bytes = Vec::new(alloc);
+    let mut buffer = [0; PIECE];
+    'pieces: while bytes.len() <= MOST_BYTES {
+        let room = PIECE.min(MOST_BYTES + 1 - bytes.len());
+        let piece = &mut buffer[..room];
+        match input.read(piece) {
+            Ok(0) => break,
+            Ok(count) => bytes.extend_from_slice(&piece[..count])?,
+            Err(Failed) => return Err(Fault::Read),
+        }
+    }
+    Ok(bytes)
+}

@@ -1,0 +1,48 @@
+-- Reading the commands one after the other, as a loop does.
+use Rattle.std.proofs.Common.{◌≡◌, ℕ, ◌+◌, ◌==◌, true, false, List, [], ◌∷◌, ◌++◌, length, Result, Ok, Err, refl, sym, ap, ◌∙◌, append_assoc}
+use Rattle.std.proofs.lemmas.List.{append-nil}
+use Rattle.chi_script.specs.declared.commands.Command.{Command}
+use Rattle.chi_script.specs.declared.faults.Fault.{Fault}
+use Rattle.chi_script.specs.declared.faults.Fault.TheVariants.{MissingNewline}
+use Rattle.chi_script.specs.Faults.{Fails}
+use Rattle.chi_script.specs.Files.{◌>>=◌, lines_of, command_at, commands_of}
+use Rattle.chi_script.proofs.FaultLemmas.{failed}
+use Rattle.chi_script.proofs.LineLemmas.{parts_of}
+
+-- what was read before, and what is still read
+abbrev pub with_front : List Command → Result (List Command) Fault → Result (List Command) Fault
+with_front front read = read >>= λ commands. Ok (front ++ commands)
+
+-- one line that a line end closes, and what follows it
+one_line : (n : ℕ) (rest line after : List ℕ) → lines_of rest ≡ line ∷ lines_of after
+    → commands_of n (lines_of rest) ≡ (command_at n line >>= λ command. commands_of (n + 1) (lines_of after) >>= λ commands. Ok (command ∷ commands))
+unfolding commands_of
+one_line n rest line after e = let more = parts_of (λ b. b == 10) after in rw (e, more.2) refl
+
+regroup : (front : List Command) (command : Command) (read : Result (List Command) Fault) → with_front front (read >>= λ commands. Ok (command ∷ commands)) ≡ with_front (front ++ command ∷ []) read
+regroup front command (Ok commands) = ap Ok (simp append_assoc)
+regroup front command (Err fault) = refl
+
+pub goes_on : (front : List Command) (n : ℕ) (rest line after : List ℕ) (command : Command) (total : Result (List Command) Fault) → lines_of rest ≡ line ∷ lines_of after → command_at n line ≡ Ok command
+    → with_front front (commands_of n (lines_of rest)) ≡ total → with_front (front ++ command ∷ []) (commands_of (n + 1) (lines_of after)) ≡ total
+goes_on front n rest line after command total e is so_far =
+    let one : with_front front (commands_of n (lines_of rest)) ≡ with_front (front ++ command ∷ []) (commands_of (n + 1) (lines_of after)) = rw (one_line n rest line after e, is) (regroup front command (commands_of (n + 1) (lines_of after))) in
+    sym one ∙ so_far
+
+pub stops : (fault : Fault) (front : List Command) (n : ℕ) (rest line after : List ℕ) (total : Result (List Command) Fault) → lines_of rest ≡ line ∷ lines_of after → Fails fault (command_at n line)
+    → with_front front (commands_of n (lines_of rest)) ≡ total → Fails fault total
+stops fault front n rest line after total e is so_far =
+    let one : with_front front (commands_of n (lines_of rest)) ≡ ((command_at n line >>= λ command. commands_of (n + 1) (lines_of after) >>= λ commands. Ok (command ∷ commands)) >>= λ commands. Ok (front ++ commands)) = rw (one_line n rest line after e) refl in
+    rw (sym so_far ∙ one) (failed fault _ _ (failed fault _ _ is))
+
+pub is_done : (front : List Command) (n : ℕ) (rest : List ℕ) (total : Result (List Command) Fault) → lines_of rest ≡ rest ∷ [] → (length rest == 0) ≡ true → with_front front (commands_of n (lines_of rest)) ≡ total → total ≡ Ok front
+unfolding commands_of
+is_done front n rest total e empty so_far =
+    let one : with_front front (commands_of n (lines_of rest)) ≡ Ok front = rw (e, empty) (ap Ok (append-nil front)) in
+    sym so_far ∙ one
+
+pub is_open : (front : List Command) (n : ℕ) (rest : List ℕ) (total : Result (List Command) Fault) → lines_of rest ≡ rest ∷ [] → (length rest == 0) ≡ false → with_front front (commands_of n (lines_of rest)) ≡ total → total ≡ Err (MissingNewline n)
+unfolding commands_of
+is_open front n rest total e some so_far =
+    let one : with_front front (commands_of n (lines_of rest)) ≡ Err (MissingNewline n) = rw (e, some) refl in
+    sym so_far ∙ one

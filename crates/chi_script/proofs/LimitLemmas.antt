@@ -1,0 +1,68 @@
+-- What the limits say of each number of a header, for whoever is given one.
+use Rattle.std.proofs.Common.{◌≡◌, ℕ, ◌+◌, ◌≤◌, Bool, true, false, ◌==◌, ◌&&◌, List, [], ◌∷◌, slice_index, sum, arith, eqb-true, refl}
+use Rattle.std.proofs.lemmas.Bool.Decides.{nat_tests}
+use Rattle.chi_flit.specs.declared.credit.Profile.{Profile}
+use Rattle.chi_flit.specs.declared.credit.Profile.TheVariants.{Two, Four}
+use Rattle.chi_script.specs.declared.headers.Header.{Header}
+use Rattle.chi_script.specs.Headers.{is_from, is_slice_count, are_entries, is_in_limits, is_served, is_profile_two, IsInLimits, IsServed}
+
+from_to : (least most n : ℕ) → is_from least most n ≡ true → (least ≤ n) × (n ≤ most)
+from_to least most n e = (grind (arith, nat_tests), grind (arith, nat_tests))
+
+slice_count : (lines n : ℕ) → is_slice_count lines n ≡ true → (1 ≤ n) × (n ≤ 8) × (n ≤ lines)
+slice_count lines n e = (grind (arith, nat_tests), grind (arith, nat_tests), grind (arith, nat_tests))
+
+two_types : (t0 t1 t2 t3 : ℕ) → are_entries Two (t0 ∷ t1 ∷ t2 ∷ t3 ∷ []) ≡ true → (1 ≤ t0) × (1 ≤ t1) × (t0 + t1 + t2 + t3 ≤ 256)
+two_types t0 t1 t2 t3 e = (grind (arith, nat_tests), grind (arith, nat_tests), grind (arith, nat_tests))
+
+four_types : (t0 t1 t2 t3 : ℕ) → are_entries Four (t0 ∷ t1 ∷ t2 ∷ t3 ∷ []) ≡ true → (1 ≤ t0) × (1 ≤ t1) × (t0 + t1 + t2 + t3 ≤ 256)
+four_types t0 t1 t2 t3 e = (grind (arith, nat_tests), grind (arith, nat_tests), grind (arith, nat_tests))
+
+-- the two types of either profile, and all types together
+record AreCounted (entries : List ℕ) : Type 0 where
+  some : (1 ≤ slice_index entries 0) × (1 ≤ slice_index entries 1)
+  total : sum entries ≤ 256
+
+counted : (profile : Profile) (entries : List ℕ) → are_entries profile entries ≡ true → AreCounted entries
+counted Two [] e = cc
+counted Four [] e = cc
+counted Two (t0 ∷ []) e = cc
+counted Four (t0 ∷ []) e = cc
+counted Two (t0 ∷ t1 ∷ []) e = cc
+counted Four (t0 ∷ t1 ∷ []) e = cc
+counted Two (t0 ∷ t1 ∷ t2 ∷ []) e = cc
+counted Four (t0 ∷ t1 ∷ t2 ∷ []) e = cc
+counted Two (t0 ∷ t1 ∷ t2 ∷ t3 ∷ []) e = let n = two_types t0 t1 t2 t3 e in record { some = (n.0, n.1); total = omega (arith, n.2) }
+counted Four (t0 ∷ t1 ∷ t2 ∷ t3 ∷ []) e = let n = four_types t0 t1 t2 t3 e in record { some = (n.0, n.1); total = omega (arith, n.2) }
+counted Two (t0 ∷ t1 ∷ t2 ∷ t3 ∷ t4 ∷ more) e = cc
+counted Four (t0 ∷ t1 ∷ t2 ∷ t3 ∷ t4 ∷ more) e = cc
+
+both : (a b : Bool) → (a && b) ≡ true → (a ≡ true) × (b ≡ true)
+both true b e = (refl, e)
+both false b e = cc
+
+pub limits_of : (header : Header) → is_in_limits header ≡ true → IsInLimits header
+limits_of header e =
+    let agents = both (is_from 1 8 header.agents) _ e in
+    let lines = both (is_from 1 64 header.lines) _ agents.1 in
+    let slices = both (is_slice_count header.lines header.slices) _ lines.1 in
+    let entries = both (are_entries header.profile header.entries) _ slices.1 in
+    let types = counted header.profile header.entries entries.0 in
+    record {
+      agents = from_to 1 8 header.agents agents.0;
+      lines = from_to 1 64 header.lines lines.0;
+      slices = slice_count header.lines header.slices slices.0;
+      entries = types.some;
+      total = types.total;
+      journal = from_to 1 65536 header.journal entries.1;
+    }
+
+two_only : (profile : Profile) → is_profile_two profile ≡ true → profile ≡ Two
+two_only Two e = refl
+two_only Four e = cc
+
+pub served_of : (header : Header) → is_served header ≡ true → IsServed header
+served_of header e =
+    let counts = both (header.agents == 1 && header.slices == 1) (is_profile_two header.profile) e in
+    let each = both (header.agents == 1) (header.slices == 1) counts.0 in
+    record { agents = eqb-true _ _ each.0; slices = eqb-true _ _ each.1; profile = two_only header.profile counts.1 }

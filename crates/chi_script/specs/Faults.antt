@@ -1,0 +1,29 @@
+-- Faults and their statuses (docs/PROTOCOL.md, "The program").
+use Rattle.std.specs.Prelude.{◌≡◌, ℕ, Result, Ok, Err}
+use Rattle.chi_script.specs.declared.faults.Fault.{Fault}
+use Rattle.chi_script.specs.declared.faults.Fault.TheVariants as faults
+
+abbrev pub status_of : Fault → ℕ
+status_of faults.NoMemory = 3
+status_of faults.BadHeader = 1
+status_of (faults.BadCommand line) = 1
+status_of (faults.MissingNewline line) = 1
+status_of faults.TooLarge = 1
+status_of faults.Read = 1
+status_of faults.Write = 1
+
+-- A fault that reading answers is the one that the grammar names, but for want of memory. It is none of
+-- a device.
+abbrev pub Fails : {Y : Type 0} → Fault → Result Y Fault → Type 0
+Fails faults.NoMemory read = Unit {0}
+Fails faults.BadHeader read = read ≡ Err faults.BadHeader
+Fails (faults.BadCommand line) read = read ≡ Err (faults.BadCommand line)
+Fails (faults.MissingNewline line) read = read ≡ Err (faults.MissingNewline line)
+Fails faults.TooLarge read = read ≡ Err faults.TooLarge
+Fails faults.Read read = ⊥
+Fails faults.Write read = ⊥
+
+-- What a function returned, seen by view, is what the grammar reads, unless memory ran out.
+abbrev pub Gives : {X Y : Type 0} → (X → Y) → Result X Fault → Result Y Fault → Type 0
+Gives view (Ok x) read = read ≡ Ok (view x)
+Gives view (Err fault) read = Fails fault read

@@ -1,0 +1,97 @@
+-- The header of a replay file and its limits (docs/PROTOCOL.md, "Replay files" and "Limits").
+use Rattle.std.specs.Prelude.{◌≡◌, ℕ, sum, slice_index, ◌+◌, ◌≤◌, ◌==◌, ◌&&◌, ◌||◌, nat_le, Bool, true, false, List, [], ◌∷◌, Option, Some, None, if◌then◌else◌, codes}
+use Rattle.chi_flit.specs.declared.credit.Profile.{Profile}
+use Rattle.chi_flit.specs.declared.credit.Profile.TheVariants.{Two, Four}
+use Rattle.chi_script.specs.declared.headers.Header.{Header}
+use Rattle.chi_script.specs.declared.headers.CreditTypes.{CreditTypes}
+use Rattle.chi_script.specs.declared.headers.Sizes.{Sizes}
+use Rattle.chi_script.specs.Words.{◌>>=◌, is_text, number_of}
+
+-- whether n is one of the numbers from least to most
+abbrev pub is_from : ℕ → ℕ → ℕ → Bool
+is_from least most n = nat_le least n && nat_le n most
+
+-- so many slices, which are no more than the lines
+abbrev pub is_slice_count : ℕ → ℕ → Bool
+is_slice_count lines n = (n == 1 || n == 2 || n == 4 || n == 8) && nat_le n lines
+
+-- the entries of each type, by rising type: none of a type that the profile lacks
+abbrev pub are_entries : Profile → List ℕ → Bool
+are_entries Two (t0 ∷ t1 ∷ t2 ∷ t3 ∷ []) = nat_le 1 t0 && nat_le 1 t1 && t2 == 0 && t3 == 0 && nat_le (t0 + t1) 64
+are_entries Four (t0 ∷ t1 ∷ t2 ∷ t3 ∷ []) = nat_le 1 t0 && nat_le 1 t1 && nat_le 1 t2 && nat_le 1 t3 && nat_le (t0 + t1 + t2 + t3) 256
+are_entries _ _ = false
+
+-- the limits, a line for each number
+abbrev pub is_in_limits : Header → Bool
+is_in_limits header =
+    is_from 1 8 header.agents && (
+    is_from 1 64 header.lines && (
+    is_slice_count header.lines header.slices && (
+    are_entries header.profile header.entries &&
+    is_from 1 65536 header.journal)))
+
+abbrev pub is_profile_two : Profile → Bool
+is_profile_two Two = true
+is_profile_two Four = false
+
+-- what is served of the limits: one requester, one slice, two credit types
+abbrev pub is_served : Header → Bool
+is_served header = header.agents == 1 && header.slices == 1 && is_profile_two header.profile
+
+-- the credit types: T0 T1 K, or T0 T1 T2 T3 K; a type that the profile lacks has no entries
+abbrev pub types_of : List (List ℕ) → Option CreditTypes
+types_of (t0 ∷ t1 ∷ k ∷ []) = do
+  first ← number_of t0
+  second ← number_of t1
+  journal ← number_of k
+  Some (record { entries = first ∷ second ∷ 0 ∷ 0 ∷ []; journal = journal; profile = Two })
+types_of (t0 ∷ t1 ∷ t2 ∷ t3 ∷ k ∷ []) = do
+  first ← number_of t0
+  second ← number_of t1
+  third ← number_of t2
+  fourth ← number_of t3
+  journal ← number_of k
+  Some (record { entries = first ∷ second ∷ third ∷ fourth ∷ []; journal = journal; profile = Four })
+types_of _ = None
+
+-- the sizes that so many numbers write: A L S, and the credit types
+abbrev pub sizes_of : List (List ℕ) → Option Header
+sizes_of (a ∷ l ∷ s ∷ rest) = do
+  agents ← number_of a
+  lines ← number_of l
+  slices ← number_of s
+  types ← types_of rest
+  Some (record { agents = agents; lines = lines; slices = slices; entries = types.entries; journal = types.journal; profile = types.profile })
+sizes_of _ = None
+
+-- a header within the limits that is served
+abbrev pub kept : Header → Option Header
+kept header = if is_in_limits header && is_served header then Some header else None
+
+-- what is known of every header that was read
+abbrev pub IsKept : Header → Type 0
+IsKept header = (is_in_limits header ≡ true) × (is_served header ≡ true)
+
+-- node and the sizes
+abbrev pub header_of : List (List ℕ) → Option Header
+header_of [] = None
+header_of (verb ∷ numbers) = if is_text verb (codes "node") then (sizes_of numbers >>= kept) else None
+
+-- the same sizes, read but not yet held against the limits
+abbrev pub sized : Sizes → Header
+sized sizes = record { agents = sizes.agents; lines = sizes.lines; slices = sizes.slices; entries = sizes.entries; journal = sizes.journal; profile = sizes.profile }
+
+-- what the limits say of each number
+pub record IsInLimits (header : Header) : Type 0 where
+  pub agents : (1 ≤ header.agents) × (header.agents ≤ 8)
+  pub lines : (1 ≤ header.lines) × (header.lines ≤ 64)
+  pub slices : (1 ≤ header.slices) × (header.slices ≤ 8) × (header.slices ≤ header.lines)
+  pub entries : (1 ≤ slice_index header.entries 0) × (1 ≤ slice_index header.entries 1)
+  pub total : sum header.entries ≤ 256
+  pub journal : (1 ≤ header.journal) × (header.journal ≤ 65536)
+
+-- and what is served of them
+pub record IsServed (header : Header) : Type 0 where
+  pub agents : header.agents ≡ 1
+  pub slices : header.slices ≡ 1
+  pub profile : header.profile ≡ Two

@@ -1,0 +1,58 @@
+-- How numbers, commands and headers are written (docs/PROTOCOL.md, "Replay files"): apart from how they
+-- are read.
+use Rattle.std.specs.Prelude.{◌≡◌, ℕ, ◌^◌, ◌<◌, min, List, [], ◌∷◌, codes}
+use Rattle.std.specs.List.{join_with_byte}
+use Rattle.std.specs.Fmt.{decimal}
+use Rattle.chi_flit.specs.Kind.{kind_text}
+use Rattle.chi_flit.specs.declared.kind.Kind.{Kind}
+use Rattle.chi_flit.specs.declared.kind.Kind.TheVariants.{ReadNotSharedDirty, ReadShared, ReadUnique, CleanUnique, Evict, WriteBackFull, WriteCleanFull, WriteEvictFull}
+use Rattle.chi_flit.specs.declared.action.Action.TheVariants.{Issue, Admit, Start, RecvData, RecvAck}
+use Rattle.chi_script.specs.declared.commands.Command.{Command}
+use Rattle.chi_script.specs.declared.commands.Command.TheVariants.{Totals, Show, Flits, Arrive, Act}
+
+-- a number of 64 bits, in decimal
+abbrev pub IsNumber : ℕ → List ℕ → Type 0
+IsNumber n word = (n < 2 ^ 64) × (word ≡ decimal n)
+
+-- a number that is read as 255 where it is above that
+abbrev pub IsSmall : ℕ → List ℕ → Type 0
+IsSmall n word = (written : ℕ) × IsNumber written word × (n ≡ min written 255)
+
+-- a kind of request that a command can name
+abbrev pub IsKind : Kind → List ℕ → Type 0
+IsKind ReadNotSharedDirty word = word ≡ kind_text ReadNotSharedDirty
+IsKind ReadShared word = ⊥
+IsKind ReadUnique word = ⊥
+IsKind CleanUnique word = ⊥
+IsKind Evict word = ⊥
+IsKind WriteBackFull word = ⊥
+IsKind WriteCleanFull word = ⊥
+IsKind WriteEvictFull word = ⊥
+
+-- VERB L
+abbrev pub WithOne : List ℕ → ℕ → List (List ℕ) → Type 0
+WithOne verb l words = (line : List ℕ) × IsSmall l line × (words ≡ verb ∷ line ∷ [])
+
+-- VERB N L
+abbrev pub WithTwo : List ℕ → ℕ → ℕ → List (List ℕ) → Type 0
+WithTwo verb n l words = (agent line : List ℕ) × IsSmall n agent × IsSmall l line × (words ≡ verb ∷ agent ∷ line ∷ [])
+
+-- VERB N L KIND SLOT
+abbrev pub WithKind : List ℕ → ℕ → ℕ → Kind → ℕ → List (List ℕ) → Type 0
+WithKind verb n l kind s words = (agent line name slot : List ℕ) × IsSmall n agent × IsSmall l line × IsKind kind name × IsSmall s slot × (words ≡ verb ∷ agent ∷ line ∷ name ∷ slot ∷ [])
+
+-- the words of each command
+abbrev pub Spells : Command → List (List ℕ) → Type 0
+Spells Totals words = words ≡ codes "totals" ∷ []
+Spells (Show l) words = WithOne (codes "show") l.0 words
+Spells (Flits n l) words = WithTwo (codes "flits") n.0 l.0 words
+Spells (Arrive n l) words = WithTwo (codes "arrive") n.0 l.0 words
+Spells (Act (Issue n l kind slot)) words = WithKind (codes "issue") n.0 l.0 kind slot.0 words
+Spells (Act (Start n l)) words = WithTwo (codes "start") n.0 l.0 words
+Spells (Act (RecvData n l)) words = WithTwo (codes "data") n.0 l.0 words
+Spells (Act (RecvAck n l)) words = WithTwo (codes "ack") n.0 l.0 words
+Spells (Act (Admit n l)) words = ⊥
+
+-- the words with one space between two of them
+abbrev pub IsLine : Command → List ℕ → Type 0
+IsLine command line = (words : List (List ℕ)) × Spells command words × (line ≡ join_with_byte 32 words)

@@ -1,0 +1,104 @@
+//! A whole replay file: its header and its commands, or its first fault.
+
+ghost use Rattle.std.specs.Prelude.{◌≡◌, ◌<◌, ◌+◌, ◌==◌, ◌≤◌, ◌∷◌, [], length, IfNone, IfSome, IfOk, true};
+ghost use Rattle.std.specs.List.{position};
+ghost use Rattle.chi_script.specs.Headers.{is_in_limits, is_served, IsKept};
+ghost use Rattle.chi_script.specs.Faults.{Gives};
+ghost use Rattle.chi_script.specs.Files.{lines_of, header_at, command_at, commands_of, file_of};
+
+use crate::commands::{Command, read_command};
+use crate::faults::Fault;
+use crate::headers::{Header, read_header};
+use crate::words::words_in;
+use std::alloc::Allocator;
+
+/// The most bytes that a file may have.
+/// Source: `docs/PROTOCOL.md`, "Limits".
+pub const MOST_BYTES: usize = 1_048_576;
+
+/// A good replay file: the sizes of the system, and the commands in order.
+#[derive(Drop)]
+pub struct Script<A: Allocator> {
+    pub header: Header,
+    pub commands: Vec<Command, A>,
+    pub ghost in_limits: { is_in_limits header ≡ true },
+    pub ghost served: { is_served header ≡ true },
+}
+
+/// The header and the commands of a replay file, which is read whole.
+///
+/// `TooLarge` where the file has more than `MOST_BYTES` bytes, before all else. Otherwise the first
+/// faulty line is told: `BadHeader`, `BadCommand`, or `MissingNewline` where bytes stand behind the last
+/// line end. An empty file is `BadHeader`. `NoMemory` where memory runs out.
+/// Source: `docs/PROTOCOL.md`, "Replay files".
+#[tactic(auto, unfolding(crate::specs::Files::file_of))]
+pub fn read_file<A: Allocator + Copy>(alloc: A, bytes: &[u8]) -> Result<Script<A>, Fault>
+    ensures { Gives (λ script. (script.header, script.commands.items)) result (file_of bytes.now) }
+{
+    if bytes.len() > MOST_BYTES {
+        return Err(Fault::TooLarge);
+    }
+    match first_line(bytes) {
+        None if bytes.is_empty() => Err(Fault::BadHeader),
+        None => Err(Fault::MissingNewline(1)),
+        Some((line, rest)) => {
+            let header = header_in(alloc, line)?;
+            let commands = read_commands(alloc, rest)?;
+            Ok(Script { header, commands })
+        }
+    }
+}
+
+/// The commands of the lines from line 2 on.
+fn read_commands<A: Allocator + Copy>(alloc: A, bytes: &[u8]) -> Result<Vec<Command, A>, Fault>
+    requires { length bytes.now ≤ 1048576 }
+    ensures { Gives (λ commands. commands.items) result (commands_of 2 (lines_of bytes.now)) }
+{
+    let mut commands = Vec::new(alloc);
+    let mut rest = bytes;
+    let mut number = 2;
+    while let Some((line, after)) = first_line(rest) {
+        let command = command_in(alloc, line, number)?;
+        commands.push(command)?;
+        rest = after;
+        number += 1;
+    }
+    if rest.is_empty() {
+        Ok(commands)
+    } else {
+        Err(Fault::MissingNewline(number))
+    }
+}
+
+/// The header that a line is.
+fn header_in<A: Allocator>(alloc: A, line: &[u8]) -> Result<Header, Fault>
+    ensures read { Gives (λ header. header) result (header_at line.now) }
+    ensures kept { IfOk result IsKept }
+{
+    let words = words_in(alloc, line)?;
+    read_header(&words).ok_or(Fault::BadHeader)
+}
+
+/// The command that a line is; its number is for the fault.
+fn command_in<A: Allocator>(alloc: A, line: &[u8], number: usize) -> Result<Command, Fault>
+    ensures { Gives (λ command. command) result (command_at number line.now) }
+{
+    let words = words_in(alloc, line)?;
+    read_command(&words).ok_or(Fault::BadCommand(number))
+}
+
+/// The bytes before the first line end, and those after it. `None` where there is no line end.
+fn first_line(bytes: &[u8]) -> Option<(&[u8], &[u8])>
+    ensures some { IfSome result (λ parts. (lines_of bytes.now ≡ parts.0.now ∷ lines_of parts.1.now) × (length parts.1.now < length bytes.now)) }
+    ensures none { IfNone result (lines_of bytes.now ≡ bytes.now ∷ []) }
+{
+    let end = line_end(bytes)?;
+    Some((&bytes[..end], &bytes[end + 1..]))
+}
+
+/// Where the first line end stands.
+fn line_end(bytes: &[u8]) -> Option<usize>
+    ensures { result ≡ position (λ byte. byte == 10) bytes.now }
+{
+    bytes.iter().position(|byte| *byte == b'\n')
+}

@@ -1,0 +1,20 @@
+//! The grammar of replay files: from a file's bytes to its header and its commands, or to its first
+//! fault.
+//!
+//! Source: `docs/PROTOCOL.md`, "Replay files" and "Limits".
+#![tactic(auto)]
+
+mod commands;
+mod faults;
+mod files;
+mod headers;
+mod laws;
+mod numbers;
+mod words;
+
+pub use commands::{Command, read_command};
+pub use faults::Fault;
+pub use files::{MOST_BYTES, Script, read_file};
+pub use headers::{Header, read_header};
+pub use laws::{commands_are_lines, front_is_enough, numbers_are_decimal};
+pub use numbers::{number, small};

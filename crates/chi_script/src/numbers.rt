@@ -1,0 +1,50 @@
+//! Numbers as a file writes them.
+
+ghost use Rattle.std.specs.Prelude.{◌≡◌};
+ghost use Rattle.chi_script.specs.Words.{number_of, small_of, with_digit, digits_of};
+
+/// The number that the word writes: `0`, or decimal digits without a leading zero, at most
+/// 18,446,744,073,709,551,615. `None` for every other word.
+/// Source: `docs/PROTOCOL.md`, "Replay files".
+pub fn number(word: &[u8]) -> Option<u64>
+    ensures { result ≡ number_of word.now }
+{
+    match word {
+        [] => None,
+        [_] => digits(0, word),
+        [b'0', _, ..] => None,
+        [_, ..] => digits(0, word),
+    }
+}
+
+/// The number that the word writes, read as 255 where it is above that, which is outside every range of
+/// agents, lines, words, slots and types. `None` where the word is no number.
+/// Source: `docs/PROTOCOL.md`, "Replay files".
+pub fn small(word: &[u8]) -> Option<u8>
+    ensures { result ≡ small_of word.now }
+{
+    let written = number(word)?;
+    Some(u8::try_from(written).unwrap_or(u8::MAX))
+}
+
+/// The number whose digits are those of `high` and then all of `word`.
+#[tactic(auto, unfolding(crate::specs::Words::digits_of))]
+fn digits(high: u64, word: &[u8]) -> Option<u64>
+    ensures { result ≡ digits_of high word.now }
+{
+    let mut number = high;
+    for digit in word {
+        number = with_digit(number, *digit)?;
+    }
+    Some(number)
+}
+
+/// The number with one more digit at its end.
+fn with_digit(number: u64, digit: u8) -> Option<u64>
+    ensures { result ≡ with_digit number digit }
+{
+    if !digit.is_ascii_digit() {
+        return None;
+    }
+    number.checked_mul(10)?.checked_add(u64::from(digit - b'0'))
+}
