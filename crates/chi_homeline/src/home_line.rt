@@ -177,6 +177,13 @@ impl HomeLine {
         self.awaited
     }
 
+    /// The requests that wait, by agent.
+    pub fn all_waiting(&self) -> [Option<Waiting>; 8]
+        ensures { result ≡ self.now.waiting }
+    {
+        self.waiting
+    }
+
     /// The agent's request that waits.
     pub fn waiting(&self, agent: Agent) -> Option<Waiting>
         requires { agent.0 < 8 }

@@ -18,3 +18,4 @@ pub mod Starts
 pub mod After
 pub mod Acts
 pub mod Steps
+pub mod Views

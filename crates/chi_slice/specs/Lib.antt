@@ -5,3 +5,4 @@ pub mod Coherent
 pub mod Config
 pub mod Slice
 pub mod LineStep
+pub mod View

@@ -99,6 +99,10 @@ with_line s row new = record s { requesters = slice_set s.requesters row new.req
 abbrev pub acted : SliceState → Action → SliceState
 acted s action = with_line s (row_of_line s (line_of action).0) (after (line s (line_of action).0) action)
 
+-- why a line can't be looked at
+abbrev pub view_refusal : SliceState → ℕ → Option Refusal
+view_refusal s l = if is_line_in_range s l then None else Some OutOfRange
+
 -- all lines of a slice but one are as before
 abbrev pub OtherLinesStay : SliceState → SliceState → ℕ → Type 0
 OtherLinesStay old new l = (other : ℕ) → is_line_in_range old other ≡ true → other ≢ l → line new other ≡ line old other

@@ -4,6 +4,7 @@ ghost use Rattle.std.specs.Prelude.{◌≡◌, ℕ, [], ◌<◌, true, None, Som
 ghost use Rattle.chi_flit.specs.Message.{no_words};
 ghost use Rattle.chi_flit.specs.Refusal.{refusal_of};
 ghost use Rattle.chi_flit.specs.Action.{agent_of};
+ghost use Rattle.chi_flit.specs.Kind.{is_copy_back, snoop_of};
 ghost use Rattle.chi_flit.specs.declared.message.Request.{Request};
 ghost use Rattle.chi_flit.specs.declared.message.CompData.{CompData};
 ghost use Rattle.chi_flit.specs.declared.message.RspUp.TheVariants.{CompAck};
@@ -14,12 +15,13 @@ ghost use Rattle.chi_rnline.specs.Rn.{issued, issue_refusal, no_line, received, 
 ghost use Rattle.chi_homeline.specs.declared.serving.Waiting.{Waiting};
 ghost use Rattle.chi_homeline.specs.Home.{acknowledged, acks_for, admitted, is_idle, served_slot, start_refusal, started, started_sends, waiting_of};
 ghost use Rattle.chi_slice.specs.Kept.{Kept};
-ghost use Rattle.chi_slice.specs.Step.{after, effect_of, is_ack, is_slot, line_of_parts, line_refusal, line_uses, no_flit_unless, sent, slot_served_for, started_effect};
+ghost use Rattle.chi_slice.specs.Slice.{slot_unless};
+ghost use Rattle.chi_slice.specs.Step.{after, completed_effect, effect_of, evicted_if, is_ack, is_slot, line_of_parts, line_refusal, line_uses, no_flit_unless, sent, slot_served_for, started_effect, waiting_effect};
 
 use chi_flit::{Action, Agent, Channel, Effect, Kind, Line, Msg, Refusal, RspDown, RspUp, Slot};
 use chi_homeline::{HomeLine, Serving, Started, Waiting};
 use chi_rnline::RnLine;
-use chi_wires::Wires;
+use chi_wires::{Cells, Wires};
 use std::alloc::Allocator;
 
 /// Does an action on a line, out of its parts: `used` says whether the slot that an Issue names is in use.
@@ -264,5 +266,52 @@ fn receive_ack<A: Allocator>(
             Ok(home.ack(agent))
         }
         Some(_) | None => Err(Refusal::NoFlit),
+    }
+}
+
+/// The slot that a Start of the agent's request would complete: that of an Evict that waits at an idle
+/// line.
+pub fn evicted_slot(home: &HomeLine, agent: Agent) -> Option<Slot>
+    requires { agent.0 < 8 }
+    ensures { result ≡ slot_unless (start_refusal home.now agent.0) (waiting_effect (record { requesters = []; home = home.now; flits = [] }) agent (waiting_of home.now agent.0)) }
+{
+    let request = home.waiting(agent)?;
+    match home.serving() {
+        Serving::Idle => evicted(request),
+        Serving::Snooping { .. }
+        | Serving::AwaitingCompAck { .. }
+        | Serving::AwaitingWriteData { .. } => None,
+    }
+}
+
+/// The slot of a request that its start completes: that of an Evict.
+fn evicted(request: Waiting) -> Option<Slot>
+    ensures { result ≡ evicted_if (snoop_of request.kind) (is_copy_back request.kind) request.slot }
+{
+    if request.kind.snoop().is_some() || request.kind.is_copy_back() {
+        return None;
+    }
+    Some(request.slot)
+}
+
+/// The slot that the CompAck among these cells would complete.
+pub fn acknowledged_slot(home: &HomeLine, cells: Cells) -> Option<Slot>
+    ensures { result ≡ slot_unless (no_flit_unless (is_ack cells.rsp_up)) (completed_effect (served_slot home.now.serving)) }
+{
+    match cells.rsp_up {
+        Some(RspUp::CompAck) => served_slot(home.serving()),
+        Some(RspUp::SnpRespI | RspUp::SnpRespSC) | None => None,
+    }
+}
+
+/// The slot of the request that is served.
+fn served_slot(serving: Serving) -> Option<Slot>
+    ensures { result ≡ served_slot serving }
+{
+    match serving {
+        Serving::Idle => None,
+        Serving::Snooping { slot, .. }
+        | Serving::AwaitingCompAck { slot, .. }
+        | Serving::AwaitingWriteData { slot, .. } => Some(slot),
     }
 }

@@ -4,7 +4,9 @@
 mod act;
 mod config;
 mod slice;
+mod view;
 
 pub use chi_flit::{Action, Effect};
 pub use config::Config;
 pub use slice::Slice;
+pub use view::{CopyView, LineView};

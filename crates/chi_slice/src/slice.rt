@@ -8,11 +8,15 @@ ghost use Rattle.chi_homeline.specs.Home.{idle_home};
 ghost use Rattle.chi_slice.specs.Config.{Sizes, are_in_limits};
 ghost use Rattle.chi_slice.specs.Step.{effect_of};
 ghost use Rattle.chi_slice.specs.LineStep.{LineStep};
-ghost use Rattle.chi_slice.specs.Slice.{acted, is_in_range, is_line_in_range, is_slot_in_range, is_slot_used, line, opening_slice, OtherLinesStay, SliceKept, refused, row_count, row_of_line, uses_below};
+ghost use Rattle.chi_flit.specs.Message.{no_words};
+ghost use Rattle.chi_slice.specs.Coherent.{Coherent};
+ghost use Rattle.chi_slice.specs.View.{shown};
+ghost use Rattle.chi_slice.specs.Slice.{acted, is_in_range, is_line_in_range, is_slot_in_range, is_slot_used, line, line as line_of_slice, completes, opening_slice, OtherLinesStay, SliceKept, refused, row_count, row_of_line, uses_below, view_refusal};
 
-use crate::act::{act_on, line_uses};
+use crate::act::{acknowledged_slot, act_on, evicted_slot, line_uses};
 use crate::config::Config;
-use chi_flit::{Action, Agent, Effect, Line, NoMemory, Refusal, Slot};
+use crate::view::{LineView, view_of};
+use chi_flit::{Action, Agent, Effect, Line, NO_DATA, NoMemory, Refusal, Slot};
 use chi_homeline::HomeLine;
 use chi_rnline::RnLine;
 use chi_wires::Wires;
@@ -177,6 +181,45 @@ impl<A: Allocator> Slice<A> {
         ensures err { OnErr result (self.new ≡ self.old) }
     {
         self.perform(action)
+    }
+
+    /// The slot of the request that the action would complete; `None` where it would be refused, or
+    /// completes nothing.
+    pub fn completes(&self, action: Action) -> Option<Slot>
+        ensures { result ≡ completes self.now action }
+    {
+        if !self.is_in_range(action) {
+            return None;
+        }
+        let row = action.line().0 / self.config.slices();
+        let home = &self.homes[usize::from(row)];
+        match action {
+            Action::Start { agent, .. } => evicted_slot(home, agent),
+            Action::RecvAck { agent, .. } => {
+                acknowledged_slot(home, self.wires.cells(agent, Line(row)))
+            }
+            Action::Issue { .. } | Action::Admit { .. } | Action::RecvData { .. } => None,
+        }
+    }
+
+    /// All parts of a line, as plain data. The line is coherent. Takes no memory.
+    ///
+    /// Refused 10 (OutOfRange) exactly where the line is outside the node or in another slice.
+    pub fn view(&self, line: Line) -> Result<LineView, Refusal>
+        ensures shown { IfOk result (λ view. view ≡ shown (line_of_slice self.now line.0) no_words) }
+        ensures coherent { OnOk result (Coherent no_words (line_of_slice self.now line.0)) }
+        ensures refusal { refusal_of result ≡ view_refusal self.now line.0 }
+    {
+        if !self.is_line_in_range(line) {
+            return Err(Refusal::OutOfRange);
+        }
+        let row = line.0 / self.config.slices();
+        Ok(view_of(
+            &self.requesters[usize::from(row)],
+            &self.homes[usize::from(row)],
+            self.wires.row(Line(row)),
+            NO_DATA,
+        ))
     }
 
     /// The size of the node.

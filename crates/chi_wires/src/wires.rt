@@ -64,6 +64,14 @@ impl<A: Allocator> Wires<A> {
         row[usize::from(agent.0)]
     }
 
+    /// What is in flight for the line, by agent.
+    pub fn row(&self, line: Line) -> [Cells; 8]
+        requires { line.0 < length self.now }
+        ensures { result ≡ row_of self.now line.0 }
+    {
+        self.cells[usize::from(line.0)]
+    }
+
     /// What `take` would answer, left in place; `None` where the cell is empty.
     #[tactic(auto, using(crate::proofs::Once::once))]
     pub fn has(&self, channel: Channel, agent: Agent, line: Line) -> Option<Msg>

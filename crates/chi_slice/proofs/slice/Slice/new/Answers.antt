@@ -11,4 +11,4 @@ invariant_of-result g c =
     opening_slice_kept c.args.config.now c.args.index _ _ _ c.row_count-rows.ensures.limits c.requires
     (c.in_ok-requesters.ensures ∙ ap (λ n. replicate n (replicate 8 no_line)) c.row_count-rows.ensures.count)
     (c.in_ok-homes.ensures ∙ ap (λ n. replicate n idle_home) c.row_count-rows.ensures.count)
-    (c.in_ok-wires.ensures ∙ ap (λ n. replicate n (replicate 8 no_flits)) c.row_count-rows.ensures.count)
+    (c.in_ok-wires.ensures.empty ∙ ap (λ n. replicate n (replicate 8 no_flits)) c.row_count-rows.ensures.count)
