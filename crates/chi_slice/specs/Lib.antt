@@ -1,0 +1,4 @@
+pub mod LineState
+pub mod Step
+pub mod Kept
+pub mod Coherent

@@ -1,0 +1,136 @@
+-- The actions on one line as functions: what each leaves, its effect, and why it is refused
+-- (docs/PROTOCOL.md, "The actions" and "Start"). A case says what changes; all else stays.
+use Rattle.std.specs.Prelude.{ℕ, List, Bool, true, false, Option, Some, None, is_some, slice_set, ◌==◌, ◌||◌, if◌then◌else◌}
+use Rattle.std.specs.List.{slice_index_or}
+use Rattle.chi_flit.specs.declared.numbers.Agent.{Agent}
+use Rattle.chi_flit.specs.declared.numbers.Line.{Line}
+use Rattle.chi_flit.specs.declared.numbers.Slot.{Slot}
+use Rattle.chi_flit.specs.declared.kind.Kind.{Kind}
+use Rattle.chi_flit.specs.declared.action.Action.{Action}
+use Rattle.chi_flit.specs.declared.action.Action.TheVariants.{Issue, Admit, Start, RecvData, RecvAck}
+use Rattle.chi_flit.specs.declared.action.Effect.{Effect}
+use Rattle.chi_flit.specs.declared.action.Effect.TheVariants.{Nothing, Completed}
+use Rattle.chi_flit.specs.declared.message.Request.{Request}
+use Rattle.chi_flit.specs.declared.message.RspDown.TheVariants.{CompI}
+use Rattle.chi_flit.specs.declared.message.CompData.{CompData}
+use Rattle.chi_flit.specs.declared.message.RspUp.{RspUp}
+use Rattle.chi_flit.specs.declared.message.RspUp.TheVariants.{SnpRespI, SnpRespSC, CompAck}
+use Rattle.chi_flit.specs.declared.message.Msg.TheVariants as messages
+use Rattle.chi_flit.specs.declared.refusal.Refusal.{Refusal}
+use Rattle.chi_flit.specs.declared.refusal.Refusal.TheVariants as refusals
+use Rattle.chi_wires.specs.declared.cells.Cells.{Cells}
+use Rattle.chi_wires.specs.Cell.{no_flits, with_message}
+use Rattle.chi_wires.specs.Wires.{with_snoops}
+use Rattle.chi_rnline.specs.declared.pending.Pending.{Pending}
+use Rattle.chi_rnline.specs.Rn.{issued, issue_refusal, received, request_message}
+use Rattle.chi_homeline.specs.declared.serving.Serving.{Serving}
+use Rattle.chi_homeline.specs.declared.serving.Serving.TheVariants.{Idle, Snooping, AwaitingCompAck, AwaitingWriteData}
+use Rattle.chi_homeline.specs.declared.serving.Waiting.{Waiting}
+use Rattle.chi_homeline.specs.declared.serving.Started.{Started}
+use Rattle.chi_homeline.specs.declared.serving.Started.TheVariants.{Sends, Evicted, Snoops}
+use Rattle.chi_homeline.specs.Home.{Home, acknowledged, admitted, served_slot, start_refusal, started, started_sends, waiting_of}
+use Rattle.chi_slice.specs.LineState.{LineState, rn_of, cells_of}
+
+-- Issue: the request is pending, and in flight with AllowRetry
+abbrev pub issued_line : LineState → ℕ → Kind → Slot → LineState
+issued_line s n kind slot = record s { requesters = slice_set s.requesters n (issued (rn_of s n) kind slot); flits = slice_set s.flits n (with_message (cells_of s n) (request_message kind slot true)) }
+
+-- Admit: the request that was in flight waits
+abbrev pub admitted_line : LineState → ℕ → Request → LineState
+admitted_line s n request = record s { home = admitted s.home n (record { kind = request.kind; slot = request.slot }); flits = slice_set s.flits n (record (cells_of s n) { req = None }) }
+
+-- what a start leaves in flight
+abbrev pub sent : List Cells → ℕ → Started → List Cells
+sent flits n (Sends message) = slice_set flits n (with_message (slice_index_or flits n no_flits) message)
+sent flits n (Evicted slot) = slice_set flits n (with_message (slice_index_or flits n no_flits) (messages.RspDown CompI))
+sent flits n (Snoops snoop agents) = with_snoops agents snoop flits
+
+-- Start: the home serves the request that waited, and sends what the start sends
+abbrev pub started_line : LineState → Agent → Waiting → LineState
+started_line s agent request = record s { home = started s.home agent request; flits = sent s.flits agent.0 (started_sends s.home agent request) }
+
+-- RecvData: the copy is the message's, nothing is pending, and CompAck is in flight
+abbrev pub received_line : LineState → ℕ → CompData → LineState
+received_line s n message = record s { requesters = slice_set s.requesters n (received (rn_of s n) message); flits = slice_set s.flits n (record (cells_of s n) { dat_down = None; rsp_up = Some CompAck }) }
+
+-- RecvAck: the CompAck is taken, and the line is idle
+abbrev pub acknowledged_line : LineState → ℕ → LineState
+acknowledged_line s n = record s { home = acknowledged s.home; flits = slice_set s.flits n (record (cells_of s n) { rsp_up = None }) }
+
+-- a step that takes something away: none where there is nothing
+abbrev pub where_some : {A : Type 0} → LineState → Option A → (A → LineState) → LineState
+where_some s None step = s
+where_some s (Some taken) step = step taken
+
+-- what an action that is done leaves
+abbrev pub after : LineState → Action → LineState
+after s (Issue agent line kind slot) = issued_line s agent.0 kind slot
+after s (Admit agent line) = where_some s (cells_of s agent.0).req (admitted_line s agent.0)
+after s (Start agent line) = where_some s (waiting_of s.home agent.0) (started_line s agent)
+after s (RecvData agent line) = where_some s (cells_of s agent.0).dat_down (received_line s agent.0)
+after s (RecvAck agent line) = acknowledged_line s agent.0
+
+-- the effect of a start: an Evict is complete with it
+abbrev pub started_effect : Started → Effect
+started_effect (Sends message) = Nothing
+started_effect (Evicted slot) = Completed slot
+started_effect (Snoops snoop agents) = Nothing
+
+abbrev pub waiting_effect : LineState → Agent → Option Waiting → Effect
+waiting_effect s agent None = Nothing
+waiting_effect s agent (Some request) = started_effect (started_sends s.home agent request)
+
+abbrev pub completed_effect : Option Slot → Effect
+completed_effect None = Nothing
+completed_effect (Some slot) = Completed slot
+
+-- the effect of an action that is done
+abbrev pub effect_of : LineState → Action → Effect
+effect_of s (Issue agent line kind slot) = Nothing
+effect_of s (Admit agent line) = Nothing
+effect_of s (Start agent line) = waiting_effect s agent (waiting_of s.home agent.0)
+effect_of s (RecvData agent line) = Nothing
+effect_of s (RecvAck agent line) = completed_effect (served_slot s.home.serving)
+
+-- whether a slot is this one
+abbrev pub is_slot : Option Slot → Slot → Bool
+is_slot None slot = false
+is_slot (Some other) slot = other.0 == slot.0
+
+-- the slot of an agent's request: pending, waiting at the home, or served there
+abbrev pub pending_slot : Option Pending → Option Slot
+pending_slot None = None
+pending_slot (Some request) = Some request.slot
+
+abbrev pub waiting_slot : Option Waiting → Option Slot
+waiting_slot None = None
+waiting_slot (Some request) = Some request.slot
+
+abbrev pub slot_served_for : Serving → ℕ → Option Slot
+slot_served_for Idle n = None
+slot_served_for (Snooping agent kind slot) n = if agent.0 == n then Some slot else None
+slot_served_for (AwaitingCompAck agent slot) n = if agent.0 == n then Some slot else None
+slot_served_for (AwaitingWriteData agent kind slot) n = if agent.0 == n then Some slot else None
+
+-- whether the agent's slot is in use at the line
+abbrev pub line_uses : LineState → ℕ → Slot → Bool
+line_uses s n slot = is_slot (pending_slot (rn_of s n).pending) slot || (is_slot (waiting_slot (waiting_of s.home n)) slot || is_slot (slot_served_for s.home.serving n) slot)
+
+-- whether a cell has a CompAck
+abbrev pub is_ack : Option RspUp → Bool
+is_ack None = false
+is_ack (Some SnpRespI) = false
+is_ack (Some SnpRespSC) = false
+is_ack (Some CompAck) = true
+
+abbrev pub no_flit_unless : Bool → Option Refusal
+no_flit_unless there = if there then None else Some refusals.NoFlit
+
+-- why an action on the line is refused, its numbers being in range; used says whether the slot that an
+-- Issue names is in use
+abbrev pub line_refusal : Bool → LineState → Action → Option Refusal
+line_refusal used s (Issue agent line kind slot) = if used then Some refusals.Pending else issue_refusal (rn_of s agent.0) kind
+line_refusal used s (Admit agent line) = no_flit_unless (is_some (cells_of s agent.0).req)
+line_refusal used s (Start agent line) = start_refusal s.home agent.0
+line_refusal used s (RecvData agent line) = no_flit_unless (is_some (cells_of s agent.0).dat_down)
+line_refusal used s (RecvAck agent line) = no_flit_unless (is_ack (cells_of s agent.0).rsp_up)
