@@ -1,9 +1,10 @@
 -- Each action keeps what a line keeps.
-use Rattle.std.proofs.Common.{◌≡◌, ◌≢◌, ℕ, ◌+◌, ◌<◌, List, Bool, true, false, Option, Some, None, length, is_some, eqb, set, arith, refl, sym, subst, ◌∙◌}
+use Rattle.std.proofs.Common.{◌≡◌, ◌≢◌, ℕ, ◌+◌, ◌<◌, List, Bool, true, false, Option, Some, None, length, is_some, eqb, set, arith, refl, sym, subst, ap, ◌∙◌}
 use Rattle.std.proofs.lemmas.List.{length-set}
 use Rattle.chi_flit.specs.declared.numbers.Agent.{Agent}
 use Rattle.chi_flit.specs.declared.numbers.Slot.{Slot}
 use Rattle.chi_flit.specs.declared.state.State.{State}
+use Rattle.chi_flit.specs.declared.state.State.TheVariants.{I}
 use Rattle.chi_flit.specs.declared.kind.Kind.{Kind}
 use Rattle.chi_flit.specs.declared.kind.Kind.TheVariants.{ReadNotSharedDirty, ReadShared, ReadUnique, CleanUnique, Evict, WriteBackFull, WriteCleanFull, WriteEvictFull}
 use Rattle.chi_flit.specs.declared.message.Request.{Request}
@@ -89,3 +90,58 @@ kept_admitted last s n request low here k =
         (λ m at apart. k.lanes m at);
       flag_means_one = k.flag_means_one;
       memory_last = λ clean. k.memory_last (clean_by s _ n _ moves low (λ c. record { copy = c.copy; on_its_way = c.on_its_way }) clean) }
+
+-- a copy that the data of a read finds is clean
+not_dirty_none : (state : State) → state ≡ I → is_dirty state ≡ false
+not_dirty_none state is = ap is_dirty is
+
+-- RecvData
+received_awaited : (last : List ℕ) (s : LineState) (n : ℕ) (message : CompData) → n < 8
+    → (cells_of s n).dat_down ≡ Some message → AwaitsAck s.home.serving n → Kept last s → Kept last (received_line s n message)
+received_awaited last s n message low here awaits k =
+    let own : LaneKept s.home.serving s.home.filter.unique s.home.filter.owner last n (lane s n) = k.lanes n low in
+    kept_by last s n _ _ low k
+      (subst (λ v. LaneKept v s.home.filter.unique s.home.filter.owner last n (record (lane s n) { rn = received (rn_of s n) message; flits = record (cells_of s n) { dat_down = None; rsp_up = Some CompAck } })) (sym awaits.serving_is)
+        (receive_lane awaits.agent awaits.slot s.home.filter.unique s.home.filter.owner last n (lane s n) message here
+          (subst (λ v. LaneKept v s.home.filter.unique s.home.filter.owner last n (lane s n)) awaits.serving_is own)))
+      (λ clean. record { copy = not_dirty_none (rn_of s n).state (own.read_finds_none (ap is_some here)); on_its_way = clean.on_its_way })
+
+pub kept_received : (last : List ℕ) (s : LineState) (n : ℕ) (message : CompData) → n < 8
+    → (cells_of s n).dat_down ≡ Some message → Kept last s → Kept last (received_line s n message)
+kept_received last s n message low here k =
+    received_awaited last s n message low here
+      (awaits_ack s.home.serving n (acked_for_data s.home.serving s.home.filter.unique s.home.filter.owner last n (lane s n) message here (k.lanes n low))) k
+
+-- RecvAck
+not_served : (agent n m : ℕ) → agent ≡ n → m ≢ n → eqb agent m ≡ false
+not_served agent n m is apart = grind arith
+
+acknowledged_awaited : (last : List ℕ) (s : LineState) (n : ℕ) → n < 8
+    → is_ack (cells_of s n).rsp_up ≡ true → AwaitsAck s.home.serving n → Kept last s → Kept last (acknowledged_line s n)
+acknowledged_awaited last s n low here awaits k =
+    let unique = s.home.filter.unique in
+    let owner = s.home.filter.owner in
+    let before : (m : ℕ) → m < 8 → LaneKept (AwaitingCompAck awaits.agent awaits.slot) unique owner last m (lane s m) =
+          λ m at. subst (λ v. LaneKept v unique owner last m (lane s m)) awaits.serving_is (k.lanes m at) in
+    let moves : Moves s (acknowledged_line s n) n _ = moves_by s (acknowledged_line s n) n
+          (record (lane s n) { flits = record (cells_of s n) { rsp_up = None } })
+          (puts_nothing _ s.requesters n) (puts_set _ s.flits n _ (subst (λ l. n < l) (sym k.flits) low))
+          (puts_nothing _ s.home.filter.named n) (puts_nothing _ s.home.awaited n) (puts_nothing _ s.home.waiting n) in
+    record {
+      requesters = k.requesters;
+      flits = length-set s.flits n _ ∙ k.flits;
+      named = k.named;
+      awaited = k.awaited;
+      waiting = k.waiting;
+      in_range = tt;
+      lanes = lanes_by s _ Idle unique owner last n _ moves
+        (acknowledge_lane awaits.agent awaits.slot unique owner last n (lane s n) here (before n low))
+        (λ m at apart. acknowledge_other awaits.agent awaits.slot unique owner last m (lane s m) (not_served awaits.agent.0 n m awaits.agent_is apart) (before m at));
+      flag_means_one = k.flag_means_one;
+      memory_last = λ clean. k.memory_last (clean_by s _ n _ moves low (λ c. record { copy = c.copy; on_its_way = c.on_its_way }) clean) }
+
+pub kept_acknowledged : (last : List ℕ) (s : LineState) (n : ℕ) → n < 8
+    → is_ack (cells_of s n).rsp_up ≡ true → Kept last s → Kept last (acknowledged_line s n)
+kept_acknowledged last s n low here k =
+    acknowledged_awaited last s n low here
+      (awaits_ack s.home.serving n (acked_for_ack s.home.serving s.home.filter.unique s.home.filter.owner last n (lane s n) here (k.lanes n low))) k
