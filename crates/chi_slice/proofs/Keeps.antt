@@ -1,7 +1,6 @@
 -- Each action keeps what a line keeps.
-use Rattle.std.proofs.Common.{◌≡◌, ◌≢◌, ℕ, ◌+◌, ◌<◌, List, Bool, true, false, Option, Some, None, length, is_some, eqb, set, arith, refl, sym, subst, ap, ◌∙◌}
+use Rattle.std.proofs.Common.{◌≡◌, ◌≢◌, ℕ, ◌<◌, List, true, false, Some, None, is_some, eqb, set, arith, sym, subst, ap, ◌∙◌}
 use Rattle.std.proofs.lemmas.List.{length-set}
-use Rattle.chi_flit.specs.declared.numbers.Agent.{Agent}
 use Rattle.chi_flit.specs.declared.numbers.Slot.{Slot}
 use Rattle.chi_flit.specs.declared.state.State.{State}
 use Rattle.chi_flit.specs.declared.state.State.TheVariants.{I}
@@ -14,14 +13,13 @@ use Rattle.chi_flit.specs.Kind.{is_needed}
 use Rattle.chi_flit.specs.State.{is_dirty}
 use Rattle.chi_wires.specs.Cell.{with_message}
 use Rattle.chi_rnline.specs.declared.pending.Phase.TheVariants.{Sent}
-use Rattle.chi_rnline.specs.Rn.{issued, received, request_message}
-use Rattle.chi_homeline.specs.declared.serving.Serving.{Serving}
+use Rattle.chi_rnline.specs.Rn.{received, request_message}
 use Rattle.chi_homeline.specs.declared.serving.Serving.TheVariants.{Idle, AwaitingCompAck}
-use Rattle.chi_homeline.specs.Home.{acks_for, served_slot, waiting_of}
+use Rattle.chi_homeline.specs.Home.{waiting_of}
 use Rattle.chi_slice.specs.LineState.{LineState, rn_of, cells_of}
-use Rattle.chi_slice.specs.Kept.{Lane, LaneKept, IsCleanLane, IsClean, Kept, allows, writes_for, lane}
+use Rattle.chi_slice.specs.Kept.{LaneKept, Kept, lane}
 use Rattle.chi_slice.specs.Step.{is_ack, is_slot, line_uses, slot_served_for, pending_slot, waiting_slot, issued_line, admitted_line, received_line, acknowledged_line}
-use Rattle.chi_slice.proofs.Frame.{Moves, moves_by, puts_set, puts_nothing, nothing_waiting, lanes_by, clean_by, kept_by, moves_requester, moves_flits}
+use Rattle.chi_slice.proofs.Frame.{Moves, moves_by, puts_set, puts_nothing, lanes_by, clean_by, kept_by}
 use Rattle.chi_slice.proofs.Lanes.{issue_lane, evict_lane, admit_lane, receive_lane, acknowledge_lane, acknowledge_other}
 use Rattle.chi_slice.proofs.Facts.{AwaitsAck, awaits_ack, acked_for_data, acked_for_ack, ack_slot_apart, write_slot_apart, uses_served, needed_allowed, evict_not_dirty}
 
