@@ -1,0 +1,38 @@
+-- What a start does to one lane: its agent's own, and every other.
+use Rattle.std.specs.Prelude.{◌≡◌, ◌≢◌, ℕ, ◌<◌, List, length, Bool, true, false, ◌==◌, Option, Some, None, is_some}
+use Rattle.std.proofs.Common.{refl, arith}
+use Rattle.chi_flit.specs.declared.numbers.Agent.{Agent}
+use Rattle.chi_flit.specs.declared.numbers.Slot.{Slot}
+use Rattle.chi_flit.specs.declared.kind.Kind.{Kind}
+use Rattle.chi_flit.specs.declared.kind.Kind.TheVariants.{Evict, CleanUnique}
+use Rattle.chi_flit.specs.declared.snoop.Snoop.{Snoop}
+use Rattle.chi_flit.specs.declared.message.RspDown.TheVariants.{CompUC, CompI, CompDBIDResp}
+use Rattle.chi_flit.specs.Kind.{snoop_of, is_copy_back}
+use Rattle.chi_filter.specs.Filter.{owned_by}
+use Rattle.chi_homeline.specs.declared.serving.Waiting.{Waiting}
+use Rattle.chi_homeline.specs.declared.serving.Serving.{Serving}
+use Rattle.chi_homeline.specs.declared.serving.Serving.TheVariants.{Idle, Snooping, AwaitingCompAck, AwaitingWriteData}
+use Rattle.chi_slice.specs.Kept.{Lane, LaneKept, is_read, shares, invalidates}
+use Rattle.chi_slice.proofs.Asks.{same}
+
+-- the own lane where a snoop, or its want of anybody to ask, serves the request
+pub snooping_own : (unique : Bool) (owner : Option Agent) (last : List ℕ) (agent : Agent) (request : Waiting) (x : Lane)
+    → x.waiting ≡ Some request → (agent.0 == agent.0) ≡ true
+    → LaneKept Idle unique owner last agent.0 x
+    → LaneKept (Snooping agent request.kind request.slot) unique owner last agent.0 (record x { waiting = None; awaited = false })
+snooping_own unique owner last agent request x is itself k = search (arith, k)
+
+-- the lane of another that isn't asked
+pub snooping_other : (unique : Bool) (owner : Option Agent) (last : List ℕ) (agent : Agent) (kind : Kind) (slot : Slot) (m : ℕ) (x : Lane)
+    → (agent.0 == m) ≡ false → (invalidates (snoop_of kind) ≡ true → x.named ≡ false)
+    → LaneKept Idle unique owner last m x
+    → LaneKept (Snooping agent kind slot) unique owner last m (record x { awaited = false })
+snooping_other unique owner last agent kind slot m x other unnamed k = search (arith, k)
+
+-- the lane of another that is asked
+pub snooping_asked : (unique : Bool) (owner : Option Agent) (last : List ℕ) (agent : Agent) (kind : Kind) (slot : Slot) (snoop : Snoop) (m : ℕ) (x : Lane)
+    → (agent.0 == m) ≡ false → snoop_of kind ≡ Some snoop → x.named ≡ true
+    → (shares (Some snoop) ≡ true → owned_by owner m ≡ false → unique ≡ true)
+    → LaneKept Idle unique owner last m x
+    → LaneKept (Snooping agent kind slot) unique owner last m (record x { awaited = true; flits = record x.flits { snp = Some snoop } })
+snooping_asked unique owner last agent kind slot snoop m x other is named one k = search (arith, k)
