@@ -3,6 +3,7 @@ use Rattle.std.specs.Prelude.{◌≡◌, ◌≢◌, ℕ, ◌<◌, List, length, 
 use Rattle.std.proofs.Common.{refl, arith}
 use Rattle.chi_flit.specs.declared.numbers.Agent.{Agent}
 use Rattle.chi_flit.specs.declared.numbers.Slot.{Slot}
+use Rattle.chi_flit.specs.declared.state.State.TheVariants.{I}
 use Rattle.chi_flit.specs.declared.kind.Kind.{Kind}
 use Rattle.chi_flit.specs.declared.kind.Kind.TheVariants.{Evict, CleanUnique}
 use Rattle.chi_flit.specs.declared.snoop.Snoop.{Snoop}
@@ -36,3 +37,31 @@ pub snooping_asked : (unique : Bool) (owner : Option Agent) (last : List ℕ) (a
     → LaneKept Idle unique owner last m x
     → LaneKept (Snooping agent kind slot) unique owner last m (record x { awaited = true; flits = record x.flits { snp = Some snoop } })
 snooping_asked unique owner last agent kind slot snoop m x other is named one k = search (arith, k)
+
+-- the own lane of a copy-back, whose write data is asked for
+pub writing_own : (unique : Bool) (owner : Option Agent) (last : List ℕ) (agent : Agent) (request : Waiting) (x : Lane)
+    → x.waiting ≡ Some request → (agent.0 == agent.0) ≡ true
+    → LaneKept Idle unique owner last agent.0 x
+    → LaneKept (AwaitingWriteData agent request.kind request.slot) unique owner last agent.0 (record x { waiting = None; flits = record x.flits { rsp_down = Some CompDBIDResp } })
+writing_own unique owner last agent request x is itself k = search (arith, k)
+
+pub writing_other : (unique : Bool) (owner : Option Agent) (last : List ℕ) (agent : Agent) (kind : Kind) (slot : Slot) (m : ℕ) (x : Lane)
+    → (agent.0 == m) ≡ false
+    → LaneKept Idle unique owner last m x
+    → LaneKept (AwaitingWriteData agent kind slot) unique owner last m x
+writing_other unique owner last agent kind slot m x other k = search (arith, k)
+
+-- the own lane of an Evict, whose agent leaves the filter: any flag, since the copy is I
+pub evicting_own : (unique unique' : Bool) (owner owner' : Option Agent) (last : List ℕ) (n : ℕ) (request : Waiting) (x : Lane)
+    → x.waiting ≡ Some request → request.kind ≡ Evict → x.rn.state ≡ I → owned_by owner' n ≡ false
+    → LaneKept Idle unique owner last n x
+    → LaneKept Idle unique' owner' last n (record x { waiting = None; named = false; flits = record x.flits { rsp_down = Some CompI } })
+evicting_own unique unique' owner owner' last n request x is evicts none unowned k = search (arith, k)
+
+-- the lane of another: the flag goes with its only member
+pub evicting_other : (unique unique' : Bool) (owner owner' : Option Agent) (last : List ℕ) (m : ℕ) (x : Lane)
+    → (unique ≡ true → x.named ≡ true → unique' ≡ true) → (unique' ≡ true → unique ≡ true)
+    → owned_by owner' m ≡ owned_by owner m
+    → LaneKept Idle unique owner last m x
+    → LaneKept Idle unique' owner' last m x
+evicting_other unique unique' owner owner' last m x stays was owners k = search (arith, k)
