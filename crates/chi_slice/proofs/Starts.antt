@@ -1,0 +1,136 @@
+-- A start keeps what the line keeps.
+use Rattle.std.specs.Prelude.{◌≡◌, ◌≢◌, ℕ, ◌<◌, List, length, Bool, true, false, ◌&&◌, ◌==◌, not, Option, Some, None, get_or, slice_set, if◌then◌else◌}
+use Rattle.std.proofs.Common.{refl, sym, ◌∙◌, ap, subst, ⊎_elim, arith}
+use Rattle.std.proofs.lemmas.List.{get_or-set_same, get_or-set_other, length-set}
+use Rattle.std.proofs.lemmas.Bool.{both_ways, cases_eq, false_from_ne_true, false≢true, true≢false, not-false}
+use Rattle.chi_flit.specs.declared.numbers.Agent.{Agent}
+use Rattle.chi_flit.specs.declared.numbers.Slot.{Slot}
+use Rattle.chi_flit.specs.declared.state.State.TheVariants.{I}
+use Rattle.chi_flit.specs.declared.kind.Kind.{Kind}
+use Rattle.chi_flit.specs.declared.kind.Kind.TheVariants.{ReadNotSharedDirty, ReadShared, ReadUnique, CleanUnique, Evict, WriteBackFull, WriteCleanFull, WriteEvictFull}
+use Rattle.chi_flit.specs.declared.snoop.Snoop.{Snoop}
+use Rattle.chi_flit.specs.declared.snoop.Snoop.TheVariants.{SnpShared, SnpNotSharedDirty, SnpUnique, SnpCleanInvalid}
+use Rattle.chi_flit.specs.declared.message.RspDown.TheVariants.{CompI, CompDBIDResp}
+use Rattle.chi_flit.specs.declared.message.Msg.TheVariants as messages
+use Rattle.chi_flit.specs.Kind.{snoop_of, is_copy_back}
+use Rattle.chi_filter.specs.Filter.{FilterState, is_in, has_any, others_than, is_named, owned_by, owner_without, removed}
+use Rattle.chi_wires.specs.declared.cells.Cells.{Cells}
+use Rattle.chi_wires.specs.Cell.{no_flits, with_message}
+use Rattle.chi_wires.specs.Wires.{with_snoops}
+use Rattle.chi_rnline.specs.Rn.{Rn, no_line}
+use Rattle.chi_homeline.specs.declared.serving.Waiting.{Waiting}
+use Rattle.chi_homeline.specs.declared.serving.Serving.{Serving}
+use Rattle.chi_homeline.specs.declared.serving.Serving.TheVariants.{Idle, Snooping, AwaitingCompAck, AwaitingWriteData}
+use Rattle.chi_homeline.specs.declared.serving.Started.{Started}
+use Rattle.chi_homeline.specs.declared.serving.Started.TheVariants.{Sends, Evicted, Snoops}
+use Rattle.chi_homeline.specs.Home.{Home, asks, asks_shared, completes_unique, completed, completion_of, is_idle, served, served_sends, started, started_as, started_sends, started_sends_as, taken_up, waiting_of}
+use Rattle.chi_slice.specs.LineState.{LineState, rn_of, cells_of}
+use Rattle.chi_slice.specs.Step.{sent, started_line}
+use Rattle.chi_slice.specs.Kept.{IsClean, IsCleanLane, Kept, Lane, LaneKept, allows, invalidates, is_read, lane, passes_dirty, shares}
+use Rattle.chi_slice.proofs.Frame.{Puts, Moves, moves_by, puts_nothing, puts_set, nothing_waiting, lanes_by, clean_by}
+use Rattle.chi_slice.proofs.Asks.{AsksFit, asks_fit, apart, same, has_in, none_in, left_in, length-others}
+use Rattle.chi_slice.proofs.Snoops.{snooped_at, snooped_cells, length-with_snoops}
+use Rattle.chi_slice.proofs.StartLanes.{snooping_own, snooping_other, snooping_asked, asking_own, asking_other, writing_own, writing_other, evicting_own, evicting_other, idle_awaited, idle_clean, idle_owner}
+use Rattle.chi_slice.proofs.CompleteLanes.{allows_read}
+use Rattle.chi_slice.proofs.Completes.{MayComplete, completed_line, kept_completed}
+
+idle_is : (serving : Serving) → is_idle serving ≡ true → serving ≡ Idle
+idle_is Idle idle = refl
+idle_is (Snooping agent kind slot) idle = absurd (false≢true idle)
+idle_is (AwaitingCompAck agent slot) idle = absurd (false≢true idle)
+idle_is (AwaitingWriteData agent kind slot) idle = absurd (false≢true idle)
+
+-- an idle line at which the agent's request waits
+pub record MayStart (last : List ℕ) (s : LineState) (agent : Agent) (request : Waiting) : Type 0 where
+  pub here : agent.0 < 8
+  pub waits : waiting_of s.home agent.0 ≡ Some request
+  pub idle : s.home.serving ≡ Idle
+  pub kept : Kept last s
+
+idle_lanes : (last : List ℕ) (s : LineState) (agent : Agent) (request : Waiting) → MayStart last s agent request
+    → (m : ℕ) → m < 8 → LaneKept Idle s.home.filter.unique s.home.filter.owner last m (lane s m)
+idle_lanes last s agent request may m low =
+    subst (λ serving. LaneKept serving s.home.filter.unique s.home.filter.owner last m (lane s m)) may.idle (may.kept.lanes m low)
+
+lanes_equal : (r r' : Rn) (f f' : Cells) (m m' a a' : Bool) (w w' : Option Waiting) → r ≡ r' → f ≡ f' → m ≡ m' → a ≡ a' → w ≡ w'
+    → (let x : Lane = record { rn = r; flits = f; named = m; awaited = a; waiting = w } in let y : Lane = record { rn = r'; flits = f'; named = m'; awaited = a'; waiting = w' } in x ≡ y)
+lanes_equal r r' f f' m m' a a' w w' is_r is_f is_m is_a is_w = cc
+
+-- the request snoops for: the marked agents are asked
+abbrev pub snooping_line : LineState → Agent → Waiting → Snoop → List Bool → LineState
+snooping_line s agent request snoop marks = record s {
+  home = record (taken_up s.home agent.0) { serving = Snooping agent request.kind request.slot; awaited = marks };
+  flits = with_snoops marks snoop s.flits }
+
+snooped_up : (marked : Bool) (snoop : Snoop) (cells : Cells) → (snooped_cells marked snoop cells).dat_up ≡ cells.dat_up
+snooped_up true snoop cells = refl
+snooped_up false snoop cells = refl
+
+-- what makes an agent marked doesn't hold of one that isn't
+unmarked : (holds marked : Bool) → (holds ≡ true → marked ≡ true) → marked ≡ false → holds ≡ false
+unmarked holds marked marks not_marked = false_from_ne_true holds (λ (h : holds ≡ true). both_ways marked not_marked (marks h))
+
+-- who is asked is named
+asked_named : (named : Bool) (last : List ℕ) (s : LineState) (agent : Agent) (request : Waiting) (snoop : Snoop) (marks : List Bool) (m : ℕ)
+    → MayStart last s agent request → AsksFit snoop s.home.filter agent.0 marks → m < 8
+    → is_named s.home.filter m ≡ named → is_in marks m ≡ true → is_named s.home.filter m ≡ true
+asked_named true last s agent request snoop marks m may fit low is asked = is
+asked_named false last s agent request snoop marks m may fit low is asked =
+    idle_owner s.home.filter.unique s.home.filter.owner last m (lane s m) (fit.named_or_owner m low asked is) (idle_lanes last s agent request may m low)
+
+-- the lane of another, where it is known whether it is asked
+snooping_lane : (marked : Bool) (last : List ℕ) (s : LineState) (agent : Agent) (request : Waiting) (snoop : Snoop) (marks : List Bool) (m : ℕ)
+    → MayStart last s agent request → snoop_of request.kind ≡ Some snoop → AsksFit snoop s.home.filter agent.0 marks → m < 8 → m ≢ agent.0
+    → is_in marks m ≡ marked
+    → LaneKept (Snooping agent request.kind request.slot) s.home.filter.unique s.home.filter.owner last m (record (lane s m) { awaited = marked; flits = snooped_cells marked snoop (cells_of s m) })
+snooping_lane true last s agent request snoop marks m may is fit low other marked =
+    snooping_asked s.home.filter.unique s.home.filter.owner last agent request.kind request.slot snoop m (lane s m) (apart agent.0 m other) is
+      (asked_named (is_named s.home.filter m) last s agent request snoop marks m may fit low refl marked)
+      (λ sharing unowned. fit.shared_one sharing m low marked unowned)
+      (idle_lanes last s agent request may m low)
+snooping_lane false last s agent request snoop marks m may is fit low other marked =
+    snooping_other s.home.filter.unique s.home.filter.owner last agent request.kind request.slot m (lane s m) (apart agent.0 m other)
+      (λ inv. unmarked (is_named s.home.filter m) (is_in marks m) (fit.all_others (subst (λ v. invalidates v ≡ true) is inv) m low other) marked)
+      (idle_lanes last s agent request may m low)
+
+-- the lanes of the line that snoops
+snooping_at : (last : List ℕ) (s : LineState) (agent : Agent) (request : Waiting) (snoop : Snoop) (marks : List Bool) (m : ℕ)
+    → MayStart last s agent request → m < 8 → m ≢ agent.0
+    → lane (snooping_line s agent request snoop marks) m ≡ record (lane s m) { awaited = is_in marks m; flits = snooped_cells (is_in marks m) snoop (cells_of s m) }
+snooping_at last s agent request snoop marks m may low other =
+    lanes_equal _ _ _ _ _ _ _ _ _ _ refl (snooped_at marks snoop s.flits m (omega (arith, may.kept.flits, low))) refl refl
+      (get_or-set_other s.home.waiting agent.0 m None None other)
+
+snooping_at_own : (last : List ℕ) (s : LineState) (agent : Agent) (request : Waiting) (snoop : Snoop) (marks : List Bool)
+    → MayStart last s agent request → AsksFit snoop s.home.filter agent.0 marks
+    → lane (snooping_line s agent request snoop marks) agent.0 ≡ record (lane s agent.0) { waiting = None; awaited = false }
+snooping_at_own last s agent request snoop marks may fit =
+    lanes_equal _ _ _ _ _ _ _ _ _ _ refl
+      (snooped_at marks snoop s.flits agent.0 (omega (arith, may.kept.flits, may.here)) ∙ ap (λ marked. snooped_cells marked snoop (cells_of s agent.0)) fit.not_itself)
+      refl fit.not_itself
+      (get_or-set_same s.home.waiting agent.0 None None (omega (arith, may.kept.waiting, may.here)))
+
+snooping_kept : (last : List ℕ) (s : LineState) (agent : Agent) (request : Waiting) (snoop : Snoop) (marks : List Bool)
+    → MayStart last s agent request → snoop_of request.kind ≡ Some snoop → AsksFit snoop s.home.filter agent.0 marks
+    → Kept last (snooping_line s agent request snoop marks)
+snooping_kept last s agent request snoop marks may is fit =
+    let s' : LineState = snooping_line s agent request snoop marks in
+    let k = may.kept in
+    record {
+      requesters = k.requesters;
+      flits = length-with_snoops marks snoop s.flits ∙ k.flits;
+      named = k.named;
+      awaited = fit.eight;
+      waiting = length-set s.home.waiting agent.0 None ∙ k.waiting;
+      in_range = may.here;
+      lanes = λ m low. ⊎_elim
+        (λ (own : m ≡ agent.0). subst (λ n. LaneKept (Snooping agent request.kind request.slot) s.home.filter.unique s.home.filter.owner last n (lane s' n)) (sym own)
+          (subst (LaneKept (Snooping agent request.kind request.slot) s.home.filter.unique s.home.filter.owner last agent.0) (sym (snooping_at_own last s agent request snoop marks may fit))
+            (snooping_own s.home.filter.unique s.home.filter.owner last agent request (lane s agent.0) may.waits (same agent.0) (idle_lanes last s agent request may agent.0 may.here))))
+        (λ (other : m ≢ agent.0). subst (LaneKept (Snooping agent request.kind request.slot) s.home.filter.unique s.home.filter.owner last m) (sym (snooping_at last s agent request snoop marks m may low other))
+          (snooping_lane (is_in marks m) last s agent request snoop marks m may is fit low other refl))
+        (cases_eq m agent.0);
+      flag_means_one = k.flag_means_one;
+      memory_last = λ clean. k.memory_last (λ m low. record {
+        copy = (clean m low).copy;
+        on_its_way = ap passes_dirty (sym (ap (λ (c : Cells). c.dat_up) (snooped_at marks snoop s.flits m (omega (arith, k.flits, low))) ∙ snooped_up (is_in marks m) snoop (cells_of s m))) ∙ (clean m low).on_its_way }) }
