@@ -102,3 +102,7 @@ pub idle_clean : (unique : Bool) (owner : Option Agent) (last : List ℕ) (n : �
     → (unique ≡ true → x.named ≡ false) → (owned_by owner n ≡ true → x.named ≡ false)
     → LaneKept Idle unique owner last n x → IsCleanLane x
 idle_clean unique owner last n x unflagged unowned k = search (arith, k)
+
+pub none_clean : (unique : Bool) (owner : Option Agent) (last : List ℕ) (n : ℕ) (x : Lane)
+    → x.rn.state ≡ I → LaneKept Idle unique owner last n x → IsCleanLane x
+none_clean unique owner last n x none k = search (arith, k)

@@ -30,7 +30,7 @@ use Rattle.chi_slice.specs.Kept.{IsClean, IsCleanLane, Kept, Lane, LaneKept, all
 use Rattle.chi_slice.proofs.Frame.{Puts, Moves, moves_by, puts_nothing, puts_set, nothing_waiting, lanes_by, clean_by}
 use Rattle.chi_slice.proofs.Asks.{AsksFit, asks_fit, apart, same, has_in, none_in, left_in, length-others}
 use Rattle.chi_slice.proofs.Snoops.{snooped_at, snooped_cells, length-with_snoops}
-use Rattle.chi_slice.proofs.StartLanes.{snooping_own, snooping_other, snooping_asked, asking_own, asking_other, writing_own, writing_other, evicting_own, evicting_other, idle_awaited, idle_clean, idle_owner}
+use Rattle.chi_slice.proofs.StartLanes.{snooping_own, snooping_other, snooping_asked, asking_own, asking_other, writing_own, writing_other, evicting_own, evicting_other, idle_awaited, idle_clean, idle_owner, none_clean}
 use Rattle.chi_slice.proofs.CompleteLanes.{allows_read}
 use Rattle.chi_slice.proofs.Completes.{MayComplete, completed_line, kept_completed}
 
@@ -134,3 +134,78 @@ snooping_kept last s agent request snoop marks may is fit =
       memory_last = λ clean. k.memory_last (λ m low. record {
         copy = (clean m low).copy;
         on_its_way = ap passes_dirty (sym (ap (λ (c : Cells). c.dat_up) (snooped_at marks snoop s.flits m (omega (arith, k.flits, low))) ∙ snooped_up (is_in marks m) snoop (cells_of s m))) ∙ (clean m low).on_its_way }) }
+
+-- the same line, had it nobody to ask: what a completion at once is seen to begin from
+abbrev asking_line : LineState → Agent → Waiting → LineState
+asking_line s agent request = record s { home = record (taken_up s.home agent.0) { serving = Snooping agent request.kind request.slot } }
+
+asking_kept : (last : List ℕ) (s : LineState) (agent : Agent) (request : Waiting) (snoop : Snoop)
+    → MayStart last s agent request → snoop_of request.kind ≡ Some snoop
+    → (invalidates (Some snoop) ≡ true → (m : ℕ) → m < 8 → m ≢ agent.0 → is_named s.home.filter m ≡ false)
+    → Kept last (asking_line s agent request)
+asking_kept last s agent request snoop may is unnamed =
+    let k = may.kept in
+    let s' : LineState = asking_line s agent request in
+    let x : Lane = record (lane s agent.0) { waiting = None } in
+    let moves : Moves s s' agent.0 x = moves_by s s' agent.0 x
+        (puts_nothing no_line s.requesters agent.0)
+        (puts_nothing no_flits s.flits agent.0)
+        (puts_nothing false s.home.filter.named agent.0)
+        (puts_nothing false s.home.awaited agent.0)
+        (puts_set nothing_waiting s.home.waiting agent.0 nothing_waiting (omega (arith, k.waiting, may.here))) in
+    record {
+      requesters = k.requesters;
+      flits = k.flits;
+      named = k.named;
+      awaited = k.awaited;
+      waiting = length-set s.home.waiting agent.0 None ∙ k.waiting;
+      in_range = may.here;
+      lanes = lanes_by s s' (Snooping agent request.kind request.slot) s.home.filter.unique s.home.filter.owner last agent.0 x moves
+        (asking_own s.home.filter.unique s.home.filter.owner last agent request (lane s agent.0) may.waits (same agent.0) (idle_lanes last s agent request may agent.0 may.here))
+        (λ m low other. asking_other s.home.filter.unique s.home.filter.owner last agent request.kind request.slot m (lane s m) (apart agent.0 m other)
+          (λ inv. unnamed (subst (λ v. invalidates v ≡ true) is inv) m low other) (idle_lanes last s agent request may m low));
+      flag_means_one = k.flag_means_one;
+      memory_last = λ clean. k.memory_last (λ m low. record { copy = (clean m low).copy; on_its_way = (clean m low).on_its_way }) }
+
+-- where nobody is asked no other lane has a dirty copy
+nobody_dirty : (last : List ℕ) (s : LineState) (agent : Agent) (request : Waiting) (snoop : Snoop) (marks : List Bool)
+    → MayStart last s agent request → AsksFit snoop s.home.filter agent.0 marks → has_any marks ≡ false
+    → (lane s agent.0).rn.state ≡ I → IsClean s
+nobody_dirty last s agent request snoop marks may fit nobody none m low =
+    ⊎_elim
+      (λ (own : m ≡ agent.0). subst (λ n. IsCleanLane (lane s n)) (sym own)
+        (none_clean s.home.filter.unique s.home.filter.owner last agent.0 (lane s agent.0) none (idle_lanes last s agent request may agent.0 may.here)))
+      (λ (other : m ≢ agent.0). idle_clean s.home.filter.unique s.home.filter.owner last m (lane s m)
+        (λ flag. unmarked (is_named s.home.filter m) (is_in marks m) (λ named. fit.flagged flag m low other named) (none_in marks m fit.eight low nobody))
+        (λ owns. unmarked (is_named s.home.filter m) (is_in marks m) (λ named. fit.owner m low other named owns) (none_in marks m fit.eight low nobody))
+        (idle_lanes last s agent request may m low))
+      (cases_eq m agent.0)
+
+-- where others stay named and nobody is asked, the flag is clear
+not_flagged : (unique : Bool) (f : FilterState) (n : ℕ) → f.unique ≡ unique → has_any (asks_shared f n) ≡ false → not (has_any (others_than n f.named)) ≡ false → f.unique ≡ false
+not_flagged unique f n is nobody others = grind (arith, not-false)
+
+flag_clear : (snoop : Snoop) (f : FilterState) (n : ℕ) → has_any (asks snoop f n) ≡ false → completes_unique snoop f n ≡ false → f.unique ≡ false
+flag_clear SnpNotSharedDirty f n nobody others = not_flagged f.unique f n refl nobody others
+flag_clear SnpShared f n nobody others = not_flagged f.unique f n refl nobody others
+flag_clear SnpUnique f n nobody others = absurd (true≢false others)
+flag_clear SnpCleanInvalid f n nobody others = absurd (true≢false others)
+
+completing_kept : (last : List ℕ) (s : LineState) (agent : Agent) (request : Waiting) (snoop : Snoop)
+    → MayStart last s agent request → snoop_of request.kind ≡ Some snoop → has_any (asks snoop s.home.filter agent.0) ≡ false
+    → Kept last (completed_line (asking_line s agent request) snoop agent request.slot s.home.memory)
+completing_kept last s agent request snoop may is nobody =
+    let k = may.kept in
+    let marks = asks snoop s.home.filter agent.0 in
+    let fit : AsksFit snoop s.home.filter agent.0 marks = asks_fit snoop s.home.filter agent.0 may.here k.named in
+    let may_complete : MayComplete last (asking_line s agent request) agent request.kind snoop request.slot s.home.memory = record {
+      here = may.here;
+      serves = refl;
+      snoop_is = is;
+      all_in = λ m low. idle_awaited s.home.filter.unique s.home.filter.owner last m (lane s m) (idle_lanes last s agent request may m low);
+      sent_is = λ reads. k.memory_last (nobody_dirty last s agent request snoop marks may fit nobody
+        (allows_read request.kind (lane s agent.0).rn.state reads ((k.lanes agent.0 may.here).kind_fits request.kind ((k.lanes agent.0 may.here).waiting_kind request may.waits))));
+      flag_clear = flag_clear snoop s.home.filter agent.0 nobody } in
+    kept_completed last (asking_line s agent request) agent request.kind snoop request.slot s.home.memory may_complete
+      (asking_kept last s agent request snoop may is
+        (λ inv m low other. unmarked (is_named s.home.filter m) (is_in marks m) (fit.all_others inv m low other) (none_in marks m fit.eight low nobody)))
