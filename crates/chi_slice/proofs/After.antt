@@ -14,8 +14,8 @@ use Rattle.chi_homeline.specs.Home.{Home, is_idle, start_refusal, waiting_of}
 use Rattle.chi_slice.specs.LineState.{LineState, rn_of, cells_of}
 use Rattle.chi_slice.specs.Kept.{Kept}
 use Rattle.chi_slice.specs.Step.{after, where_some, line_refusal, line_uses, no_flit_unless, is_ack, admitted_line, received_line, started_line}
-use Rattle.chi_slice.proofs.Finds.{idle_is}
 use Rattle.chi_slice.proofs.Keeps.{kept_issued, kept_admitted, kept_received, kept_acknowledged}
+use Rattle.chi_slice.proofs.Starts.{kept_started}
 
 -- an Issue that isn't refused: its slot is idle, nothing is pending, the copy is in the needed state
 pub record IssueAllowed (used : Bool) (rn : Rn) (kind : Kind) : Type 0 where
@@ -52,22 +52,17 @@ kept_where_some : {A : Type 0} (last : List ℕ) (s : LineState) (there : Option
 kept_where_some last s None step k keeps = k
 kept_where_some last s (Some a) step k keeps = keeps a refl
 
--- that Start keeps it
-abbrev pub StartKeeps : Type 0
-StartKeeps = (last : List ℕ) (s : LineState) (agent : Agent) (request : Waiting) → agent.0 < 8
-    → waiting_of s.home agent.0 ≡ Some request → s.home.serving ≡ Idle → Kept last s → Kept last (started_line s agent request)
-
-pub kept_after : StartKeeps → (used : Bool) (last : List ℕ) (s : LineState) (a : Action) → (agent_of a).0 < 8
+pub kept_after : (used : Bool) (last : List ℕ) (s : LineState) (a : Action) → (agent_of a).0 < 8
     → line_refusal used s a ≡ None → (used ≡ false → names_used_slot s a ≡ false) → Kept last s → Kept last (after s a)
-kept_after starts used last s (Issue agent line kind slot) low allowed free k =
+kept_after used last s (Issue agent line kind slot) low allowed free k =
     let may : IssueAllowed used (rn_of s agent.0) kind = issue_allowed used (rn_of s agent.0) kind allowed in
     kept_issued last s agent.0 kind slot low may.none may.needed (free may.idle_slot) k
-kept_after starts used last s (Admit agent line) low allowed free k =
+kept_after used last s (Admit agent line) low allowed free k =
     kept_where_some last s (cells_of s agent.0).req (admitted_line s agent.0) k (λ request here. kept_admitted last s agent.0 request low here k)
-kept_after starts used last s (Start agent line) low allowed free k =
+kept_after used last s (Start agent line) low allowed free k =
     kept_where_some last s (waiting_of s.home agent.0) (started_line s agent) k
-      (λ request here. starts last s agent request low here (idle_is s.home.serving (start_allowed s.home agent.0 allowed).idle) k)
-kept_after starts used last s (RecvData agent line) low allowed free k =
+      (λ request here. kept_started s last agent request low here (start_allowed s.home agent.0 allowed).idle k)
+kept_after used last s (RecvData agent line) low allowed free k =
     kept_where_some last s (cells_of s agent.0).dat_down (received_line s agent.0) k (λ message here. kept_received last s agent.0 message low here k)
-kept_after starts used last s (RecvAck agent line) low allowed free k =
+kept_after used last s (RecvAck agent line) low allowed free k =
     kept_acknowledged last s agent.0 low (flit_there (is_ack (cells_of s agent.0).rsp_up) allowed) k
