@@ -17,7 +17,7 @@ none_unless UC none = absurd (none refl)
 none_unless UD none = absurd (none refl)
 none_unless SD none = absurd (none refl)
 
-unique_valid : (state : State) → is_unique state ≡ true → is_valid state ≡ true
+pub unique_valid : (state : State) → is_unique state ≡ true → is_valid state ≡ true
 unique_valid state unique = search arith
 
 -- beside the owner, a copy is SD only where the flag is set
