@@ -36,6 +36,7 @@ pub record AnswerIs (state : State) (snoop : Snoop) (words : List ℕ) (after : 
   pub clean_data : (sent : List ℕ) → up ≡ Some (SnpRespDataSCPD sent) → (is_dirty after ≡ false) × (shares (Some snoop) ≡ true) × (is_valid state ≡ true) × (sent ≡ words)
   pub dirty_data : (sent : List ℕ) → up ≡ Some (SnpRespDataSD sent) → (after ≡ SD) × (snoop ≡ SnpShared) × (is_valid state ≡ true) × (sent ≡ words)
   pub shared_dirty : after ≡ SD → is_shared_dirty_data up ≡ true
+  pub stays_dirty : is_dirty after ≡ false → passes_dirty up ≡ false → is_dirty state ≡ false
 
 -- RecvSnp
 pub snoop_lane : (agent : Agent) (kind : Kind) (slot : Slot) (unique : Bool) (owner : Option Agent) (last : List ℕ) (n : ℕ) (x : Lane)
