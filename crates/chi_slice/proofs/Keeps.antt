@@ -111,7 +111,7 @@ kept_received last s n message low here k =
       (awaits_ack s.home.serving n (acked_for_data s.home.serving s.home.filter.unique s.home.filter.owner last n (lane s n) message here (k.lanes n low))) k
 
 -- RecvAck
-not_served : (agent n m : ℕ) → agent ≡ n → m ≢ n → eqb agent m ≡ false
+pub not_served : (agent n m : ℕ) → agent ≡ n → m ≢ n → eqb agent m ≡ false
 not_served agent n m is apart = grind arith
 
 acknowledged_awaited : (last : List ℕ) (s : LineState) (n : ℕ) → n < 8
