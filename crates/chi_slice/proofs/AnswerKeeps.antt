@@ -1,0 +1,134 @@
+-- Answers to snoops, and the completion that the last one brings, keep what a line keeps.
+use Rattle.std.proofs.Common.{◌≡◌, ◌≢◌, ℕ, ◌+◌, ◌<◌, List, Bool, true, false, Option, Some, None, length, is_some, eqb, arith, refl, sym, subst, ap, ◌∙◌, ⊎_elim, if◌then◌else◌, ◌&&◌, set, not, inl, inr, ◌⊎◌, get_or}
+use Rattle.std.proofs.lemmas.Bool.{cases_eq}
+use Rattle.std.proofs.lemmas.List.{length-set, get_or_default}
+use Rattle.std.proofs.lemmas.List.Folds.{list_any_none}
+use Rattle.chi_flit.specs.declared.numbers.Agent.{Agent}
+use Rattle.chi_flit.specs.declared.numbers.Slot.{Slot}
+use Rattle.chi_flit.specs.declared.state.State.{State}
+use Rattle.chi_flit.specs.declared.state.State.TheVariants.{I, SC, UC, UD, SD}
+use Rattle.chi_flit.specs.declared.kind.Kind.{Kind}
+use Rattle.chi_flit.specs.declared.kind.Kind.TheVariants.{ReadNotSharedDirty, ReadShared, ReadUnique, CleanUnique, Evict, WriteBackFull, WriteCleanFull, WriteEvictFull}
+use Rattle.chi_flit.specs.declared.snoop.Snoop.{Snoop}
+use Rattle.chi_flit.specs.declared.snoop.Snoop.TheVariants.{SnpShared, SnpNotSharedDirty, SnpUnique, SnpCleanInvalid}
+use Rattle.chi_flit.specs.declared.message.RspUp.TheVariants.{SnpRespI, SnpRespSC}
+use Rattle.chi_flit.specs.declared.message.DatUp.TheVariants.{SnpRespDataIPD, SnpRespDataSCPD, SnpRespDataSD}
+use Rattle.chi_flit.specs.Kind.{snoop_of}
+use Rattle.chi_flit.specs.State.{is_dirty}
+use Rattle.chi_filter.specs.Filter.{FilterState, has_any, is_in, is_named, others_than, owned_by, owner_without, removed}
+use Rattle.chi_wires.specs.declared.cells.Cells.{Cells}
+use Rattle.chi_homeline.specs.declared.serving.Serving.{Serving}
+use Rattle.chi_homeline.specs.declared.serving.Serving.TheVariants.{Idle, Snooping, AwaitingCompAck, AwaitingWriteData}
+use Rattle.chi_homeline.specs.Home.{left_owner, left_shared}
+use Rattle.chi_slice.specs.LineState.{LineState, rn_of, cells_of}
+use Rattle.chi_slice.specs.Kept.{Lane, LaneKept, IsCleanLane, IsClean, IsServedInRange, Kept, invalidates, is_answer, is_read, is_snoop_data, lane, shares, snoop_out}
+use Rattle.chi_slice.specs.Step.{answered_line, finished, finished_for, completed_with, none_answered, shared_answered, none_sent, shared_sent, owner_sent}
+use Rattle.chi_slice.proofs.Frame.{Moves, Puts, moves_by, puts_set, puts_nothing, lanes_by, clean_by}
+use Rattle.chi_slice.proofs.Asks.{none_in, left_in, left_out, same, are_same, apart}
+use Rattle.chi_slice.proofs.CompleteLanes.{read_from_none}
+use Rattle.chi_slice.proofs.Completes.{MayComplete, kept_completed}
+use Rattle.chi_slice.proofs.CopyKeeps.{IsSnooping, is_snooping}
+use Rattle.chi_slice.proofs.WriteKeeps.{unowned_here, owned_elsewhere}
+use Rattle.chi_slice.proofs.WriteLanes.{none_answered_lane, shared_answered_lane, none_sent_lane, shared_sent_lane, owner_sent_lane, answer_other, flagged_unowned, quiet_own, quiet_asked, quiet_shared, rsp_awaited, data_awaited}
+
+-- a line that snoops, and awaits the answer of n
+pub record AwaitsAnswer (s : LineState) (n : ℕ) : Type 0 where
+  pub here : n < 8
+  pub snooping : IsSnooping s.home.serving
+  pub awaited : is_in s.home.awaited n ≡ true
+
+-- the lanes of a line that snoops
+abbrev Snooped : List ℕ → LineState → Agent → Kind → Slot → Type 0
+Snooped last s agent kind slot = (m : ℕ) → m < 8 → LaneKept (Snooping agent kind slot) s.home.filter.unique s.home.filter.owner last m (lane s m)
+
+snooped_lanes : (last : List ℕ) (s : LineState) (is : IsSnooping s.home.serving) → Kept last s → Snooped last s is.agent is.kind is.slot
+snooped_lanes last s is k = λ m at. subst (λ v. LaneKept v s.home.filter.unique s.home.filter.owner last m (lane s m)) is.serving_is (k.lanes m at)
+
+-- nobody is in a set that no agent is in
+nobody_in : (marks : List Bool) → length marks ≡ 8 → ((m : ℕ) → m < 8 → is_in marks m ≡ false) → has_any marks ≡ false
+nobody_in marks eight none = list_any_none (λ b. b) marks (λ m d at. get_or_default marks m d false at ∙ none m (omega (arith, at, eight)))
+
+not_true : (b : Bool) → (b ≡ true → ⊥) → b ≡ false
+not_true true never = absurd (never refl)
+not_true false never = refl
+
+-- where an awaited agent is flagged, nobody else is named
+alone_named : (last : List ℕ) (s : LineState) (n : ℕ) → AwaitsAnswer s n → Kept last s
+    → s.home.filter.unique ≡ true → (m : ℕ) → m < 8 → m ≢ n → is_named s.home.filter m ≡ false
+alone_named last s n may k flag m at other =
+    not_true (is_named s.home.filter m) (λ named. other (k.flag_means_one flag m n at may.here named ((k.lanes n may.here).awaited_named may.awaited)))
+
+none_other : (n m : ℕ) (marks : List Bool) → n < 8 → length marks ≡ 8 → (m ≢ n → is_in marks m ≡ false) → is_in (others_than n marks) m ≡ false
+none_other n m marks low eight other = ⊎_elim
+    (λ (is : m ≡ n). subst (λ k. is_in (others_than n marks) k ≡ false) (sym is) (left_out n marks low eight))
+    (λ (apart : m ≢ n). left_in n m marks apart ∙ other apart)
+    (cases_eq m n)
+
+flag_ends : (a b : Bool) → (a ≡ true → b ≡ false) → (a && b) ≡ false
+flag_ends true b ends = ends refl
+flag_ends false b ends = refl
+
+removed_clear : (last : List ℕ) (s : LineState) (n : ℕ) → AwaitsAnswer s n → Kept last s → (removed s.home.filter n).unique ≡ false
+removed_clear last s n may k = flag_ends s.home.filter.unique (has_any (others_than n s.home.filter.named))
+    (λ flag. nobody_in (others_than n s.home.filter.named) (length-set s.home.filter.named n false ∙ k.named)
+      (λ m at. none_other n m s.home.filter.named may.here k.named (alone_named last s n may k flag m at)))
+
+-- beside an awaited agent of a shared read nobody else is the owner
+owner_is : (owner : Option Agent) (n m : ℕ) → m ≢ n → owned_by owner n ≡ true → owned_by owner m ≡ false
+owner_is None n m other here = refl
+owner_is (Some agent) n m other here = grind arith
+
+lonely : (last : List ℕ) (s : LineState) (n : ℕ) (may : AwaitsAnswer s n) → Kept last s → shares (snoop_of may.snooping.kind) ≡ true
+    → (m : ℕ) → m < 8 → m ≢ n → owned_by s.home.filter.owner m ≡ false
+lonely last s n may k shared m at other = go (owned_by s.home.filter.owner n) refl
+  where
+    go : (b : Bool) → owned_by s.home.filter.owner n ≡ b → owned_by s.home.filter.owner m ≡ false
+    go true here = owner_is s.home.filter.owner n m other here
+    go false here = (k.lanes m at).flag_no_owner
+      (flagged_unowned may.snooping.agent may.snooping.kind may.snooping.slot s.home.filter.unique s.home.filter.owner last n (lane s n) shared may.awaited here
+        (snooped_lanes last s may.snooping k n may.here))
+
+-- the filter after an answer of n
+record FilterLeft (f after : FilterState) (n : ℕ) : Type 0 where
+  eight : length after.named ≡ 8
+  puts : Puts false f.named after.named n (is_named after n)
+  clear : after.unique ≡ false
+  owner_stays : (m : ℕ) → m < 8 → m ≢ n → owned_by after.owner m ≡ owned_by f.owner m
+
+no_two : (b : Bool) → b ≡ false → b ≡ true → ⊥
+no_two b clear is = cc
+
+answered_moves : (last : List ℕ) (s : LineState) (n : ℕ) (memory : List ℕ) (after : FilterState) (c : Cells) → n < 8
+    → FilterLeft s.home.filter after n → Kept last s
+    → Moves s (answered_line s n memory after c) n (record (lane s n) { named = is_named after n; awaited = false; flits = c })
+answered_moves last s n memory after c low fits k = moves_by s (answered_line s n memory after c) n
+    (record (lane s n) { named = is_named after n; awaited = false; flits = c })
+    (puts_nothing _ s.requesters n) (puts_set _ s.flits n c (subst (λ l. n < l) (sym k.flits) low))
+    fits.puts (puts_set _ s.home.awaited n false (subst (λ l. n < l) (sym k.awaited) low)) (puts_nothing _ s.home.waiting n)
+
+-- an answer taken, out of its sender's lane
+kept_answered : (last : List ℕ) (s : LineState) (n : ℕ) (memory : List ℕ) (after : FilterState) (c : Cells) (may : AwaitsAnswer s n)
+    → FilterLeft s.home.filter after n
+    → LaneKept (Snooping may.snooping.agent may.snooping.kind may.snooping.slot) false after.owner last n (record (lane s n) { named = is_named after n; awaited = false; flits = c })
+    → (IsClean (answered_line s n memory after c) → memory ≡ last)
+    → Kept last s → Kept last (answered_line s n memory after c)
+kept_answered last s n memory after c may fits own clean_memory k =
+    let agent = may.snooping.agent in
+    let kind = may.snooping.kind in
+    let slot = may.snooping.slot in
+    let moves = answered_moves last s n memory after c may.here fits k in
+    let lanes : (m : ℕ) → m < 8 → LaneKept (Snooping agent kind slot) false after.owner last m (lane (answered_line s n memory after c) m) =
+          lanes_by s _ (Snooping agent kind slot) false after.owner last n _ moves own
+            (λ m at other. answer_other agent kind slot s.home.filter.unique s.home.filter.owner after.owner last m (lane s m)
+              (λ flag. alone_named last s n may k flag m at other) (fits.owner_stays m at other) (snooped_lanes last s may.snooping k m at)) in
+    record {
+      requesters = k.requesters;
+      flits = length-set s.flits n c ∙ k.flits;
+      named = fits.eight;
+      awaited = length-set s.home.awaited n false ∙ k.awaited;
+      waiting = k.waiting;
+      in_range = k.in_range;
+      lanes = λ m at. subst (λ v. LaneKept v after.unique after.owner last m (lane (answered_line s n memory after c) m)) (sym may.snooping.serving_is)
+        (subst (λ u. LaneKept (Snooping agent kind slot) u after.owner last m (lane (answered_line s n memory after c) m)) (sym fits.clear) (lanes m at));
+      flag_means_one = λ flag. absurd (no_two after.unique fits.clear flag);
+      memory_last = clean_memory }
