@@ -132,3 +132,119 @@ kept_answered last s n memory after c may fits own clean_memory k =
         (subst (λ u. LaneKept (Snooping agent kind slot) u after.owner last m (lane (answered_line s n memory after c) m)) (sym fits.clear) (lanes m at));
       flag_means_one = λ flag. absurd (no_two after.unique fits.clear flag);
       memory_last = clean_memory }
+
+-- what a request that is snooped for needs to complete, once nobody is awaited
+record MayFinish (last : List ℕ) (s : LineState) (sent : List ℕ) : Type 0 where
+  snooping : IsSnooping s.home.serving
+  clear : s.home.filter.unique ≡ false
+  sent_is : ((m : ℕ) → m < 8 → is_in s.home.awaited m ≡ false) → is_read snooping.kind ≡ true → sent ≡ last
+
+-- the last answer completes the request
+finished_done : (last : List ℕ) (s : LineState) (sent : List ℕ) (may : MayFinish last s sent) → Kept last s
+    → has_any s.home.awaited ≡ false → (snoop : Option Snoop) → snoop_of may.snooping.kind ≡ snoop
+    → Kept last (completed_with s snoop may.snooping.agent may.snooping.slot sent)
+finished_done last s sent may k none None is = k
+finished_done last s sent may k none (Some snoop) is =
+    let all_in : (m : ℕ) → m < 8 → is_in s.home.awaited m ≡ false = λ m at. none_in s.home.awaited m k.awaited at none in
+    kept_completed last s may.snooping.agent may.snooping.kind snoop may.snooping.slot sent
+      (record { here = subst IsServedInRange may.snooping.serving_is k.in_range;
+                serves = may.snooping.serving_is; snoop_is = is; all_in = all_in;
+                sent_is = may.sent_is all_in; flag_clear = λ shared. may.clear }) k
+
+finished_if : (last : List ℕ) (s : LineState) (sent : List ℕ) (may : MayFinish last s sent) → Kept last s
+    → (b : Bool) → has_any s.home.awaited ≡ b
+    → Kept last (if b then s else completed_with s (snoop_of may.snooping.kind) may.snooping.agent may.snooping.slot sent)
+finished_if last s sent may k true some = k
+finished_if last s sent may k false none = finished_done last s sent may k none (snoop_of may.snooping.kind) refl
+
+kept_finished : (last : List ℕ) (s : LineState) (sent : List ℕ) → MayFinish last s sent → Kept last s → Kept last (finished s sent)
+kept_finished last s sent may k =
+    subst (λ v. Kept last (finished_for s v sent)) (sym may.snooping.serving_is) (finished_if last s sent may k (has_any s.home.awaited) refl)
+
+-- a read's snoop shares, or invalidates
+read_snoop : (kind : Kind) → is_read kind ≡ true → (invalidates (snoop_of kind) ≡ true) ⊎ (shares (snoop_of kind) ≡ true)
+read_snoop ReadNotSharedDirty reads = inr refl
+read_snoop ReadShared reads = inr refl
+read_snoop ReadUnique reads = inl refl
+read_snoop CleanUnique reads = absurd cc
+read_snoop Evict reads = absurd cc
+read_snoop WriteBackFull reads = absurd cc
+read_snoop WriteCleanFull reads = absurd cc
+read_snoop WriteEvictFull reads = absurd cc
+
+shares_only : (snoop : Option Snoop) → shares snoop ≡ true → invalidates snoop ≡ false
+shares_only None shared = refl
+shares_only (Some SnpShared) shared = refl
+shares_only (Some SnpNotSharedDirty) shared = refl
+shares_only (Some SnpUnique) shared = absurd cc
+shares_only (Some SnpCleanInvalid) shared = absurd cc
+
+-- once a read awaits nobody, nobody is flagged, and a shared one has no owner left, the line is clean
+quiet_line : (last : List ℕ) (s : LineState) (is : IsSnooping s.home.serving) → Kept last s
+    → s.home.filter.unique ≡ false → ((m : ℕ) → m < 8 → is_in s.home.awaited m ≡ false)
+    → is_read is.kind ≡ true → (shares (snoop_of is.kind) ≡ true → (m : ℕ) → m < 8 → owned_by s.home.filter.owner m ≡ false)
+    → IsClean s
+quiet_line last s is k clear done reads unowned m at = ⊎_elim own other (cases_eq m is.agent.0)
+  where
+    lanes : (m : ℕ) → m < 8 → LaneKept (Snooping is.agent is.kind is.slot) false s.home.filter.owner last m (lane s m)
+    lanes m at = subst (λ u. LaneKept (Snooping is.agent is.kind is.slot) u s.home.filter.owner last m (lane s m)) clear (snooped_lanes last s is k m at)
+    served : is.agent.0 < 8
+    served = subst IsServedInRange is.serving_is k.in_range
+    own : m ≡ is.agent.0 → IsCleanLane (lane s m)
+    own here = subst (λ j. IsCleanLane (lane s j)) (sym here)
+      (quiet_own is.agent is.kind is.slot false s.home.filter.owner last is.agent.0 (lane s is.agent.0) (done is.agent.0 served)
+        (read_from_none false s.home.filter.owner last is.agent is.kind is.slot (lane s is.agent.0) (same is.agent.0) reads (lanes is.agent.0 served)) (lanes is.agent.0 served))
+    other : m ≢ is.agent.0 → IsCleanLane (lane s m)
+    other away = ⊎_elim
+      (λ (all : invalidates (snoop_of is.kind) ≡ true). quiet_asked is.agent is.kind is.slot false s.home.filter.owner last m (lane s m) (done m at) (apart is.agent.0 m away) all (lanes m at))
+      (λ (shared : shares (snoop_of is.kind) ≡ true). quiet_shared is.agent is.kind is.slot s.home.filter.owner last m (lane s m) (done m at) (unowned shared m at) (lanes m at))
+      (read_snoop is.kind reads)
+
+-- nobody owns the line once n, the only agent asked, answered a shared read
+nobody_owns : (last : List ℕ) (s : LineState) (n : ℕ) (may : AwaitsAnswer s n) → Kept last s → shares (snoop_of may.snooping.kind) ≡ true
+    → (m : ℕ) → m < 8 → owned_by (owner_without s.home.filter.owner n) m ≡ false
+nobody_owns last s n may k shared m at = ⊎_elim
+    (λ (here : m ≡ n). subst (λ j. owned_by (owner_without s.home.filter.owner n) j ≡ false) (sym here) (unowned_here s.home.filter.owner n))
+    (λ (other : m ≢ n). owned_elsewhere s.home.filter.owner n m other ∙ lonely last s n may k shared m at other)
+    (cases_eq m n)
+
+-- the filters that answers leave
+removed_left : (last : List ℕ) (s : LineState) (n : ℕ) → AwaitsAnswer s n → Kept last s → FilterLeft s.home.filter (removed s.home.filter n) n
+removed_left last s n may k = record {
+  eight = length-set s.home.filter.named n false ∙ k.named;
+  puts = record { at = refl; others = λ m other. left_in n m s.home.filter.named other };
+  clear = removed_clear last s n may k;
+  owner_stays = λ m at other. owned_elsewhere s.home.filter.owner n m other }
+
+shared_left : (last : List ℕ) (s : LineState) (n : ℕ) → Kept last s → FilterLeft s.home.filter (left_shared s.home.filter n) n
+shared_left last s n k = record {
+  eight = k.named;
+  puts = record { at = refl; others = λ m other. refl };
+  clear = refl;
+  owner_stays = λ m at other. owned_elsewhere s.home.filter.owner n m other }
+
+owner_left : (last : List ℕ) (s : LineState) (agent : Agent) (may : AwaitsAnswer s agent.0) → Kept last s → shares (snoop_of may.snooping.kind) ≡ true
+    → FilterLeft s.home.filter (left_owner s.home.filter agent) agent.0
+owner_left last s agent may k shared = record {
+  eight = k.named;
+  puts = record { at = refl; others = λ m other. refl };
+  clear = refl;
+  owner_stays = λ m at other. apart agent.0 m other ∙ sym (lonely last s agent.0 may k shared m at other) }
+
+-- an answer without data: memory is what a read is sent
+finished_memory : (last : List ℕ) (s : LineState) (n : ℕ) (after : FilterState) (c : Cells) (may : AwaitsAnswer s n)
+    → FilterLeft s.home.filter after n → after.owner ≡ owner_without s.home.filter.owner n → Kept last s
+    → Kept last (answered_line s n s.home.memory after c) → Kept last (finished (answered_line s n s.home.memory after c) s.home.memory)
+finished_memory last s n after c may fits owner k answered =
+    kept_finished last (answered_line s n s.home.memory after c) s.home.memory
+      (record { snooping = may.snooping; clear = fits.clear;
+                sent_is = λ done reads. answered.memory_last (quiet_line last (answered_line s n s.home.memory after c) may.snooping answered fits.clear done reads
+                  (λ shared m at. ap (λ o. owned_by o m) owner ∙ nobody_owns last s n may k shared m at)) }) answered
+
+-- an answer with data, which is what was last stored
+finished_data : (last : List ℕ) (s : LineState) (n : ℕ) (memory : List ℕ) (after : FilterState) (c : Cells) (may : AwaitsAnswer s n) (words : List ℕ)
+    → FilterLeft s.home.filter after n → words ≡ last
+    → Kept last (answered_line s n memory after c) → Kept last (finished (answered_line s n memory after c) words)
+finished_data last s n memory after c may words fits is answered =
+    kept_finished last (answered_line s n memory after c) words
+      (record { snooping = may.snooping; clear = fits.clear; sent_is = λ done reads. is }) answered
