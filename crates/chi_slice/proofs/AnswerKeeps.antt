@@ -248,3 +248,130 @@ finished_data : (last : List ℕ) (s : LineState) (n : ℕ) (memory : List ℕ) 
 finished_data last s n memory after c may words fits is answered =
     kept_finished last (answered_line s n memory after c) words
       (record { snooping = may.snooping; clear = fits.clear; sent_is = λ done reads. is }) answered
+
+-- whose answer is in flight is awaited, by a line that snoops
+response_awaited : (serving : Serving) (unique : Bool) (owner : Option Agent) (last : List ℕ) (n : ℕ) (x : Lane)
+    → is_answer x.flits.rsp_up ≡ true → LaneKept serving unique owner last n x → x.awaited ≡ true
+response_awaited serving unique owner last n x here k = search (arith, k.one_answer)
+
+sent_awaited : (serving : Serving) (unique : Bool) (owner : Option Agent) (last : List ℕ) (n : ℕ) (x : Lane)
+    → is_snoop_data x.flits.dat_up ≡ true → LaneKept serving unique owner last n x → x.awaited ≡ true
+sent_awaited serving unique owner last n x here k = search (arith, k.one_answer)
+
+awaits_answer : (last : List ℕ) (s : LineState) (n : ℕ) → n < 8 → is_in s.home.awaited n ≡ true → Kept last s → AwaitsAnswer s n
+awaits_answer last s n low awaited k = record {
+  here = low; snooping = is_snooping s.home.serving ((k.lanes n low).awaited_snooped awaited); awaited = awaited }
+
+awaits_response : (last : List ℕ) (s : LineState) (n : ℕ) → n < 8 → is_answer (cells_of s n).rsp_up ≡ true → Kept last s → AwaitsAnswer s n
+awaits_response last s n low here k = awaits_answer last s n low
+    (response_awaited s.home.serving s.home.filter.unique s.home.filter.owner last n (lane s n) here (k.lanes n low)) k
+
+awaits_data : (last : List ℕ) (s : LineState) (n : ℕ) → n < 8 → is_snoop_data (cells_of s n).dat_up ≡ true → Kept last s → AwaitsAnswer s n
+awaits_data last s n low here k = awaits_answer last s n low
+    (sent_awaited s.home.serving s.home.filter.unique s.home.filter.owner last n (lane s n) here (k.lanes n low)) k
+
+shared_snoop : (s : LineState) (is : IsSnooping s.home.serving) → shares (snoop_out s.home.serving) ≡ true → shares (snoop_of is.kind) ≡ true
+shared_snoop s is shared = sym (ap (λ v. shares (snoop_out v)) is.serving_is) ∙ shared
+
+-- memory after an answer without data, on a line that is clean then
+memory_stays : (last : List ℕ) (s : LineState) (n : ℕ) (after : FilterState) → n < 8 → FilterLeft s.home.filter after n → Kept last s
+    → IsClean (answered_line s n s.home.memory after (record (cells_of s n) { rsp_up = None })) → s.home.memory ≡ last
+memory_stays last s n after low fits k clean =
+    k.memory_last (clean_by s _ n _ (answered_moves last s n s.home.memory after (record (cells_of s n) { rsp_up = None }) low fits k) low
+      (λ c. record { copy = c.copy; on_its_way = c.on_its_way }) clean)
+
+-- SnpResp_I
+none_answered_by : (last : List ℕ) (s : LineState) (n : ℕ) → (cells_of s n).rsp_up ≡ Some SnpRespI → AwaitsAnswer s n
+    → Kept last s → Kept last (none_answered s n)
+none_answered_by last s n here may k =
+    let is = may.snooping in
+    let f' = removed s.home.filter n in
+    let c = record (cells_of s n) { rsp_up = None } in
+    let fits = removed_left last s n may k in
+    finished_memory last s n f' c may fits refl k
+      (kept_answered last s n s.home.memory f' c may fits
+        (subst (λ b. LaneKept (Snooping is.agent is.kind is.slot) false f'.owner last n (record (lane s n) { named = b; awaited = false; flits = c })) (sym (left_out n s.home.filter.named may.here k.named))
+          (none_answered_lane is.agent is.kind is.slot s.home.filter.unique s.home.filter.owner f'.owner last n (lane s n) here (unowned_here s.home.filter.owner n) (snooped_lanes last s is k n may.here)))
+        (memory_stays last s n f' may.here fits k) k)
+
+pub kept_none_answered : (last : List ℕ) (s : LineState) (n : ℕ) → n < 8
+    → (cells_of s n).rsp_up ≡ Some SnpRespI → Kept last s → Kept last (none_answered s n)
+kept_none_answered last s n low here k = none_answered_by last s n here (awaits_response last s n low (ap is_answer here) k) k
+
+-- SnpResp_SC
+shared_answered_by : (last : List ℕ) (s : LineState) (n : ℕ) → (cells_of s n).rsp_up ≡ Some SnpRespSC → AwaitsAnswer s n
+    → Kept last s → Kept last (shared_answered s n)
+shared_answered_by last s n here may k =
+    let is = may.snooping in
+    let f' = left_shared s.home.filter n in
+    let c = record (cells_of s n) { rsp_up = None } in
+    let fits = shared_left last s n k in
+    finished_memory last s n f' c may fits refl k
+      (kept_answered last s n s.home.memory f' c may fits
+        (shared_answered_lane is.agent is.kind is.slot s.home.filter.unique s.home.filter.owner f'.owner last n (lane s n) here (unowned_here s.home.filter.owner n)
+          (shares_only (snoop_of is.kind)) (snooped_lanes last s is k n may.here))
+        (memory_stays last s n f' may.here fits k) k)
+
+pub kept_shared_answered : (last : List ℕ) (s : LineState) (n : ℕ) → n < 8
+    → (cells_of s n).rsp_up ≡ Some SnpRespSC → Kept last s → Kept last (shared_answered s n)
+kept_shared_answered last s n low here k = shared_answered_by last s n here (awaits_response last s n low (ap is_answer here) k) k
+
+-- SnpRespData_I_PD
+none_sent_by : (last : List ℕ) (s : LineState) (n : ℕ) (words : List ℕ) → (cells_of s n).dat_up ≡ Some (SnpRespDataIPD words) → AwaitsAnswer s n
+    → Kept last s → Kept last (none_sent s n words)
+none_sent_by last s n words here may k =
+    let is = may.snooping in
+    let f' = removed s.home.filter n in
+    let c = record (cells_of s n) { dat_up = None } in
+    let fits = removed_left last s n may k in
+    let sent : words ≡ last = ((k.lanes n may.here).invalid_data words here).1 in
+    finished_data last s n words f' c may words fits sent
+      (kept_answered last s n words f' c may fits
+        (subst (λ b. LaneKept (Snooping is.agent is.kind is.slot) false f'.owner last n (record (lane s n) { named = b; awaited = false; flits = c })) (sym (left_out n s.home.filter.named may.here k.named))
+          (none_sent_lane is.agent is.kind is.slot s.home.filter.unique s.home.filter.owner f'.owner last n (lane s n) words here (unowned_here s.home.filter.owner n) (snooped_lanes last s is k n may.here)))
+        (λ clean. sent) k)
+
+pub kept_none_sent : (last : List ℕ) (s : LineState) (n : ℕ) (words : List ℕ) → n < 8
+    → (cells_of s n).dat_up ≡ Some (SnpRespDataIPD words) → Kept last s → Kept last (none_sent s n words)
+kept_none_sent last s n words low here k = none_sent_by last s n words here (awaits_data last s n low (ap is_snoop_data here) k) k
+
+-- SnpRespData_SC_PD
+shared_sent_by : (last : List ℕ) (s : LineState) (n : ℕ) (words : List ℕ) → (cells_of s n).dat_up ≡ Some (SnpRespDataSCPD words) → AwaitsAnswer s n
+    → Kept last s → Kept last (shared_sent s n words)
+shared_sent_by last s n words here may k =
+    let is = may.snooping in
+    let f' = left_shared s.home.filter n in
+    let c = record (cells_of s n) { dat_up = None } in
+    let fits = shared_left last s n k in
+    let sent : words ≡ last = ((k.lanes n may.here).clean_data words here).3 in
+    finished_data last s n words f' c may words fits sent
+      (kept_answered last s n words f' c may fits
+        (shared_sent_lane is.agent is.kind is.slot s.home.filter.unique s.home.filter.owner f'.owner last n (lane s n) words here (unowned_here s.home.filter.owner n)
+          (shares_only (snoop_of is.kind)) (snooped_lanes last s is k n may.here))
+        (λ clean. sent) k)
+
+pub kept_shared_sent : (last : List ℕ) (s : LineState) (n : ℕ) (words : List ℕ) → n < 8
+    → (cells_of s n).dat_up ≡ Some (SnpRespDataSCPD words) → Kept last s → Kept last (shared_sent s n words)
+kept_shared_sent last s n words low here k = shared_sent_by last s n words here (awaits_data last s n low (ap is_snoop_data here) k) k
+
+-- SnpRespData_SD: its sender's copy is dirty, so the line isn't clean
+dirty_copy : (state : State) → state ≡ SD → is_dirty state ≡ false → ⊥
+dirty_copy state is clean = cc
+
+owner_sent_by : (last : List ℕ) (s : LineState) (agent : Agent) (words : List ℕ) → (cells_of s agent.0).dat_up ≡ Some (SnpRespDataSD words) → AwaitsAnswer s agent.0
+    → Kept last s → Kept last (owner_sent s agent words)
+owner_sent_by last s agent words here may k =
+    let is = may.snooping in
+    let f' = left_owner s.home.filter agent in
+    let c = record (cells_of s agent.0) { dat_up = None } in
+    let told = (k.lanes agent.0 may.here).dirty_data words here in
+    let fits = owner_left last s agent may k (shared_snoop s is (ap shares told.1)) in
+    finished_data last s agent.0 s.home.memory f' c may words fits told.2
+      (kept_answered last s agent.0 s.home.memory f' c may fits
+        (owner_sent_lane is.agent is.kind is.slot s.home.filter.unique s.home.filter.owner f'.owner last agent.0 (lane s agent.0) words here (same agent.0)
+          (shares_only (snoop_of is.kind)) (snooped_lanes last s is k agent.0 may.here))
+        (λ clean. absurd (dirty_copy (rn_of s agent.0).state told.0 (clean agent.0 may.here).copy)) k)
+
+pub kept_owner_sent : (last : List ℕ) (s : LineState) (agent : Agent) (words : List ℕ) → agent.0 < 8
+    → (cells_of s agent.0).dat_up ≡ Some (SnpRespDataSD words) → Kept last s → Kept last (owner_sent s agent words)
+kept_owner_sent last s agent words low here k = owner_sent_by last s agent words here (awaits_data last s agent.0 low (ap is_snoop_data here) k) k
