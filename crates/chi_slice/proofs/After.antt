@@ -1,6 +1,5 @@
 -- Every action that isn't refused keeps what a line keeps.
 use Rattle.std.proofs.Common.{◌≡◌, ℕ, ◌<◌, List, Bool, true, false, Option, Some, None, is_some, arith, refl, if◌then◌else◌}
-use Rattle.chi_flit.specs.declared.numbers.Agent.{Agent}
 use Rattle.chi_flit.specs.declared.kind.Kind.{Kind}
 use Rattle.chi_flit.specs.declared.action.Action.{Action}
 use Rattle.chi_flit.specs.declared.action.Action.TheVariants.{Issue, Admit, Start, RecvData, RecvAck}
@@ -8,8 +7,6 @@ use Rattle.chi_flit.specs.declared.refusal.Refusal.TheVariants as refusals
 use Rattle.chi_flit.specs.Action.{agent_of}
 use Rattle.chi_flit.specs.Kind.{is_needed}
 use Rattle.chi_rnline.specs.Rn.{Rn, issue_refusal}
-use Rattle.chi_homeline.specs.declared.serving.Serving.TheVariants.{Idle}
-use Rattle.chi_homeline.specs.declared.serving.Waiting.{Waiting}
 use Rattle.chi_homeline.specs.Home.{Home, is_idle, start_refusal, waiting_of}
 use Rattle.chi_slice.specs.LineState.{LineState, rn_of, cells_of}
 use Rattle.chi_slice.specs.Kept.{Kept}

@@ -1,12 +1,12 @@
 -- Answers to snoops, and the completion that the last one brings, keep what a line keeps.
-use Rattle.std.proofs.Common.{◌≡◌, ◌≢◌, ℕ, ◌+◌, ◌<◌, List, Bool, true, false, Option, Some, None, length, is_some, eqb, arith, refl, sym, subst, ap, ◌∙◌, ⊎_elim, if◌then◌else◌, ◌&&◌, set, not, inl, inr, ◌⊎◌, get_or}
+use Rattle.std.proofs.Common.{◌≡◌, ◌≢◌, ℕ, ◌<◌, List, Bool, true, false, Option, Some, None, length, arith, refl, sym, subst, ap, ◌∙◌, ⊎_elim, if◌then◌else◌, ◌&&◌, inl, inr, ◌⊎◌}
 use Rattle.std.proofs.lemmas.Bool.{cases_eq}
 use Rattle.std.proofs.lemmas.List.{length-set, get_or_default}
 use Rattle.std.proofs.lemmas.List.Folds.{list_any_none}
 use Rattle.chi_flit.specs.declared.numbers.Agent.{Agent}
 use Rattle.chi_flit.specs.declared.numbers.Slot.{Slot}
 use Rattle.chi_flit.specs.declared.state.State.{State}
-use Rattle.chi_flit.specs.declared.state.State.TheVariants.{I, SC, UC, UD, SD}
+use Rattle.chi_flit.specs.declared.state.State.TheVariants.{SD}
 use Rattle.chi_flit.specs.declared.kind.Kind.{Kind}
 use Rattle.chi_flit.specs.declared.kind.Kind.TheVariants.{ReadNotSharedDirty, ReadShared, ReadUnique, CleanUnique, Evict, WriteBackFull, WriteCleanFull, WriteEvictFull}
 use Rattle.chi_flit.specs.declared.snoop.Snoop.{Snoop}
@@ -18,18 +18,18 @@ use Rattle.chi_flit.specs.State.{is_dirty}
 use Rattle.chi_filter.specs.Filter.{FilterState, has_any, is_in, is_named, others_than, owned_by, owner_without, removed}
 use Rattle.chi_wires.specs.declared.cells.Cells.{Cells}
 use Rattle.chi_homeline.specs.declared.serving.Serving.{Serving}
-use Rattle.chi_homeline.specs.declared.serving.Serving.TheVariants.{Idle, Snooping, AwaitingCompAck, AwaitingWriteData}
+use Rattle.chi_homeline.specs.declared.serving.Serving.TheVariants.{Snooping}
 use Rattle.chi_homeline.specs.Home.{left_owner, left_shared}
 use Rattle.chi_slice.specs.LineState.{LineState, rn_of, cells_of}
 use Rattle.chi_slice.specs.Kept.{Lane, LaneKept, IsCleanLane, IsClean, IsServedInRange, Kept, invalidates, is_answer, is_read, is_snoop_data, lane, shares, snoop_out}
 use Rattle.chi_slice.specs.Step.{answered_line, finished, finished_for, completed_with, none_answered, shared_answered, none_sent, shared_sent, owner_sent}
 use Rattle.chi_slice.proofs.Frame.{Moves, Puts, moves_by, puts_set, puts_nothing, lanes_by, clean_by}
-use Rattle.chi_slice.proofs.Asks.{none_in, left_in, left_out, same, are_same, apart}
+use Rattle.chi_slice.proofs.Asks.{none_in, left_in, left_out, same, apart}
 use Rattle.chi_slice.proofs.CompleteLanes.{read_from_none}
-use Rattle.chi_slice.proofs.Completes.{MayComplete, kept_completed}
+use Rattle.chi_slice.proofs.Completes.{kept_completed}
 use Rattle.chi_slice.proofs.CopyKeeps.{IsSnooping, is_snooping}
 use Rattle.chi_slice.proofs.WriteKeeps.{unowned_here, owned_elsewhere}
-use Rattle.chi_slice.proofs.WriteLanes.{none_answered_lane, shared_answered_lane, none_sent_lane, shared_sent_lane, owner_sent_lane, answer_other, flagged_unowned, quiet_own, quiet_asked, quiet_shared, rsp_awaited, data_awaited}
+use Rattle.chi_slice.proofs.WriteLanes.{none_answered_lane, shared_answered_lane, none_sent_lane, shared_sent_lane, owner_sent_lane, answer_other, flagged_unowned, quiet_own, quiet_asked, quiet_shared}
 
 -- a line that snoops, and awaits the answer of n
 pub record AwaitsAnswer (s : LineState) (n : ℕ) : Type 0 where

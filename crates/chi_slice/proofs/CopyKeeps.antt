@@ -1,5 +1,5 @@
 -- RecvSnp, RecvComp and RecvDbid keep what a line keeps.
-use Rattle.std.proofs.Common.{◌≡◌, ◌≢◌, ℕ, ◌+◌, ◌<◌, List, Bool, true, false, Option, Some, None, is_some, eqb, arith, refl, sym, subst, ap, ◌∙◌}
+use Rattle.std.proofs.Common.{◌≡◌, ℕ, ◌<◌, List, Bool, true, false, Option, Some, None, is_some, arith, refl, sym, subst, ap}
 use Rattle.chi_flit.specs.declared.numbers.Agent.{Agent}
 use Rattle.chi_flit.specs.declared.numbers.Slot.{Slot}
 use Rattle.chi_flit.specs.declared.state.State.{State}
@@ -19,11 +19,11 @@ use Rattle.chi_homeline.specs.declared.serving.Serving.{Serving}
 use Rattle.chi_homeline.specs.declared.serving.Serving.TheVariants.{Idle, Snooping, AwaitingCompAck, AwaitingWriteData}
 use Rattle.chi_homeline.specs.Home.{acks_for}
 use Rattle.chi_slice.specs.LineState.{LineState, rn_of, cells_of}
-use Rattle.chi_slice.specs.Kept.{Lane, LaneKept, IsCleanLane, Kept, kind_of, lane, passes_dirty, served_kind, snoop_out, writes_for}
+use Rattle.chi_slice.specs.Kept.{Lane, LaneKept, Kept, kind_of, lane, passes_dirty, snoop_out, writes_for}
 use Rattle.chi_slice.specs.Step.{snooped_line, comp_received_line, dbid_received_line}
 use Rattle.chi_slice.proofs.Frame.{kept_by}
 use Rattle.chi_slice.proofs.Facts.{AwaitsAck, awaits_ack}
-use Rattle.chi_slice.proofs.CopyLanes.{AnswerIs, CompIs, WriteIs, snoop_lane, comp_received_lane, dbid_received_lane}
+use Rattle.chi_slice.proofs.CopyLanes.{snoop_lane, comp_received_lane, dbid_received_lane}
 use Rattle.chi_slice.proofs.CopyTables.{AnswerRow, answer_row, rsp_of, dat_of, with_up, comp_is, words_sent, write_data_is, write_is}
 
 -- a line that snoops

@@ -1,23 +1,20 @@
 -- What RecvSnp, RecvComp, RecvDbid and RecvWrData leave of the lanes that they touch.
-use Rattle.std.proofs.Common.{◌≡◌, ◌≢◌, ℕ, ◌+◌, ◌<◌, List, Bool, true, false, Option, Some, None, is_some, eqb, set, arith, refl}
+use Rattle.std.proofs.Common.{◌≡◌, ℕ, ◌+◌, List, Bool, true, false, Option, Some, None, arith}
 use Rattle.chi_flit.specs.declared.numbers.Agent.{Agent}
 use Rattle.chi_flit.specs.declared.numbers.Slot.{Slot}
 use Rattle.chi_flit.specs.declared.state.State.{State}
-use Rattle.chi_flit.specs.declared.state.State.TheVariants.{I, SC, UC, UD, SD}
+use Rattle.chi_flit.specs.declared.state.State.TheVariants.{I, SD}
 use Rattle.chi_flit.specs.declared.kind.Kind.{Kind}
 use Rattle.chi_flit.specs.declared.snoop.Snoop.{Snoop}
-use Rattle.chi_flit.specs.declared.snoop.Snoop.TheVariants.{SnpShared, SnpNotSharedDirty, SnpUnique, SnpCleanInvalid}
+use Rattle.chi_flit.specs.declared.snoop.Snoop.TheVariants.{SnpShared}
 use Rattle.chi_flit.specs.declared.message.RspDown.TheVariants.{CompUC, CompDBIDResp}
 use Rattle.chi_flit.specs.declared.message.RspUp.{RspUp}
 use Rattle.chi_flit.specs.declared.message.RspUp.TheVariants.{SnpRespI, SnpRespSC, CompAck}
 use Rattle.chi_flit.specs.declared.message.DatUp.{DatUp}
 use Rattle.chi_flit.specs.declared.message.DatUp.TheVariants.{SnpRespDataIPD, SnpRespDataSCPD, SnpRespDataSD, CopyBackWrData}
 use Rattle.chi_flit.specs.State.{is_unique, is_valid, is_dirty}
-use Rattle.chi_flit.specs.Message.{write_data_of}
-use Rattle.chi_rnline.specs.Rn.{comp_received, dbid_received}
-use Rattle.chi_homeline.specs.declared.serving.Serving.{Serving}
-use Rattle.chi_homeline.specs.declared.serving.Serving.TheVariants.{Idle, Snooping, AwaitingCompAck, AwaitingWriteData}
-use Rattle.chi_slice.specs.Kept.{Lane, LaneKept, allows, bit, is_answer, is_comp_unique, is_dbid, is_snoop_data, is_write_data, passes_dirty, shares, is_shared_dirty_data, is_shared_dirty, is_shared_dirty_write, gives_up}
+use Rattle.chi_homeline.specs.declared.serving.Serving.TheVariants.{Snooping, AwaitingCompAck, AwaitingWriteData}
+use Rattle.chi_slice.specs.Kept.{Lane, LaneKept, allows, bit, is_answer, is_snoop_data, is_write_data, passes_dirty, shares, is_shared_dirty_data, is_shared_dirty, gives_up}
 use Rattle.chi_slice.specs.Step.{is_ack}
 
 -- what an answer to a snoop tells: the copy's state after it, and the cells of the two channels up

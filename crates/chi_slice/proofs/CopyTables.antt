@@ -1,5 +1,5 @@
 -- What the tables of answers, of Comp_UC and of write data tell.
-use Rattle.std.proofs.Common.{◌≡◌, ◌≢◌, ℕ, ◌+◌, ◌<◌, List, Bool, true, false, Option, Some, None, is_some, arith, refl}
+use Rattle.std.proofs.Common.{◌≡◌, ℕ, List, Bool, true, false, Option, Some, None, arith, refl}
 use Rattle.chi_flit.specs.declared.state.State.{State}
 use Rattle.chi_flit.specs.declared.state.State.TheVariants.{I, SC, UC, UD, SD}
 use Rattle.chi_flit.specs.declared.kind.Kind.{Kind}

@@ -1,20 +1,20 @@
 -- Store, Drop and the actions of the retry flow keep what a line keeps.
-use Rattle.std.proofs.Common.{◌≡◌, ◌≢◌, ℕ, ◌+◌, ◌<◌, List, Bool, true, false, Option, Some, None, length, is_some, eqb, set, arith, refl, sym, subst, ap, ◌∙◌, ⊎_elim}
+use Rattle.std.proofs.Common.{◌≡◌, ℕ, ◌<◌, List, Bool, true, false, Some, None, set, arith, refl, sym, subst, ap, ◌∙◌}
 use Rattle.std.proofs.lemmas.List.{length-set}
 use Rattle.chi_flit.specs.declared.credit.Profile.{Profile}
 use Rattle.chi_flit.specs.declared.credit.CreditType.{CreditType}
 use Rattle.chi_flit.specs.declared.state.State.{State}
-use Rattle.chi_flit.specs.declared.state.State.TheVariants.{I, SC, UC, UD, SD}
+use Rattle.chi_flit.specs.declared.state.State.TheVariants.{UD}
 use Rattle.chi_flit.specs.declared.message.Request.{Request}
 use Rattle.chi_flit.specs.declared.message.RspDown.TheVariants.{RetryAck, CompI}
 use Rattle.chi_flit.specs.Credit.{credit_type_of}
-use Rattle.chi_flit.specs.State.{is_valid, is_unique, is_dirty}
+use Rattle.chi_flit.specs.State.{is_unique, is_dirty}
 use Rattle.chi_filter.specs.Filter.{is_named}
 use Rattle.chi_rnline.specs.declared.pending.Pending.{Pending}
 use Rattle.chi_rnline.specs.declared.pending.Phase.TheVariants.{Retried}
 use Rattle.chi_rnline.specs.Rn.{is_clean_copy, stored}
 use Rattle.chi_slice.specs.LineState.{LineState, rn_of, cells_of}
-use Rattle.chi_slice.specs.Kept.{Lane, LaneKept, IsCleanLane, IsClean, Kept, lane}
+use Rattle.chi_slice.specs.Kept.{Lane, IsCleanLane, Kept, lane}
 use Rattle.chi_slice.specs.Step.{stored_line, dropped_line, retried_line, retry_received_line, resent_line, cancelled_line, evict_received_line}
 use Rattle.chi_slice.proofs.Frame.{Moves, moves_by, puts_set, puts_nothing, lanes_by, kept_by, kept_by_requester, kept_by_flits}
 use Rattle.chi_slice.proofs.Coherence.{unique_valid}

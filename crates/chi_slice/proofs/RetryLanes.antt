@@ -1,20 +1,16 @@
 -- What Store, Drop, and the actions of the retry flow leave of the lanes that they touch.
-use Rattle.std.proofs.Common.{◌≡◌, ◌≢◌, ℕ, ◌+◌, ◌<◌, List, Bool, true, false, Option, Some, None, is_some, eqb, set, arith}
+use Rattle.std.proofs.Common.{◌≡◌, ℕ, List, Bool, true, false, Option, Some, None, set, arith}
 use Rattle.chi_flit.specs.declared.numbers.Agent.{Agent}
-use Rattle.chi_flit.specs.declared.numbers.Slot.{Slot}
 use Rattle.chi_flit.specs.declared.credit.CreditType.{CreditType}
-use Rattle.chi_flit.specs.declared.state.State.{State}
-use Rattle.chi_flit.specs.declared.state.State.TheVariants.{I, SC, UC, UD, SD}
-use Rattle.chi_flit.specs.declared.kind.Kind.{Kind}
 use Rattle.chi_flit.specs.declared.message.Request.{Request}
 use Rattle.chi_flit.specs.declared.message.RspDown.TheVariants.{RetryAck, CompI}
 use Rattle.chi_flit.specs.State.{is_unique}
 use Rattle.chi_wires.specs.Cell.{with_message}
 use Rattle.chi_rnline.specs.declared.pending.Pending.{Pending}
-use Rattle.chi_rnline.specs.declared.pending.Phase.TheVariants.{Sent, Retried}
+use Rattle.chi_rnline.specs.declared.pending.Phase.TheVariants.{Retried}
 use Rattle.chi_rnline.specs.Rn.{cancelled, dropped, evict_received, is_clean_copy, request_message, resent, retry_received, stored}
 use Rattle.chi_homeline.specs.declared.serving.Serving.{Serving}
-use Rattle.chi_slice.specs.Kept.{Lane, LaneKept, is_retried}
+use Rattle.chi_slice.specs.Kept.{Lane, LaneKept}
 
 -- Store
 pub store_lane : (serving : Serving) (unique : Bool) (owner : Option Agent) (last : List ℕ) (n : ℕ) (x : Lane) (word value : ℕ)

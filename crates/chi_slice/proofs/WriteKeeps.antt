@@ -1,7 +1,7 @@
 -- RecvWrData keeps what a line keeps.
-use Rattle.std.proofs.Common.{◌≡◌, ◌≢◌, ℕ, ◌+◌, ◌<◌, List, Bool, true, false, Option, Some, None, length, is_some, eqb, arith, refl, sym, subst, ap, ◌∙◌, ⊎_elim, if◌then◌else◌, ◌&&◌, set, not, inl, inr, ◌⊎◌}
+use Rattle.std.proofs.Common.{◌≡◌, ◌≢◌, ℕ, ◌<◌, List, Bool, true, false, Option, Some, None, length, arith, refl, sym, subst, ap, ◌∙◌, ⊎_elim, if◌then◌else◌, ◌&&◌, set, not, inl, inr, ◌⊎◌}
 use Rattle.std.proofs.lemmas.Bool.{cases_eq}
-use Rattle.std.proofs.lemmas.List.{length-set, get_or-set_same, get_or-set_other}
+use Rattle.std.proofs.lemmas.List.{length-set}
 use Rattle.chi_flit.specs.declared.numbers.Agent.{Agent}
 use Rattle.chi_flit.specs.declared.numbers.Slot.{Slot}
 use Rattle.chi_flit.specs.declared.state.State.{State}
@@ -9,16 +9,16 @@ use Rattle.chi_flit.specs.declared.state.State.TheVariants.{I, SC, UC, UD, SD}
 use Rattle.chi_flit.specs.declared.kind.Kind.{Kind}
 use Rattle.chi_flit.specs.declared.kind.Kind.TheVariants.{ReadNotSharedDirty, ReadShared, ReadUnique, CleanUnique, Evict, WriteBackFull, WriteCleanFull, WriteEvictFull}
 use Rattle.chi_flit.specs.declared.message.DatUp.TheVariants.{CopyBackWrData}
-use Rattle.chi_flit.specs.State.{is_valid, is_unique, is_dirty}
-use Rattle.chi_filter.specs.Filter.{FilterState, has_any, is_in, is_named, others_than, owned_by, owner_without, removed}
+use Rattle.chi_flit.specs.State.{is_valid, is_dirty}
+use Rattle.chi_filter.specs.Filter.{FilterState, has_any, is_named, others_than, owned_by, owner_without, removed}
 use Rattle.chi_homeline.specs.declared.serving.Serving.{Serving}
-use Rattle.chi_homeline.specs.declared.serving.Serving.TheVariants.{Idle, Snooping, AwaitingCompAck, AwaitingWriteData}
-use Rattle.chi_homeline.specs.Home.{leaves, written, written_filter}
+use Rattle.chi_homeline.specs.declared.serving.Serving.TheVariants.{Idle, AwaitingWriteData}
+use Rattle.chi_homeline.specs.Home.{leaves, written_filter}
 use Rattle.chi_slice.specs.LineState.{LineState, rn_of, cells_of}
-use Rattle.chi_slice.specs.Kept.{Lane, LaneKept, IsCleanLane, IsClean, Kept, gives_up, is_unique_dirty, is_write_data, lane, passes_dirty, served_kind, writes_for}
+use Rattle.chi_slice.specs.Kept.{Lane, LaneKept, IsClean, Kept, gives_up, is_unique_dirty, is_write_data, lane, passes_dirty, served_kind, writes_for}
 use Rattle.chi_slice.specs.Step.{written_line}
 use Rattle.chi_slice.proofs.Frame.{Moves, Puts, moves_by, puts_set, puts_nothing, lanes_by, clean_by}
-use Rattle.chi_slice.proofs.Asks.{has_in, left_out, left_in, left_apart, was_in}
+use Rattle.chi_slice.proofs.Asks.{has_in, left_in, was_in}
 use Rattle.chi_slice.proofs.Keeps.{not_served}
 use Rattle.chi_slice.proofs.CopyKeeps.{AwaitsWrite, awaits_write}
 use Rattle.chi_slice.proofs.WriteLanes.{write_lane, write_other}

@@ -1,18 +1,18 @@
 -- What RecvWrData and the answers to snoops leave of lanes.
-use Rattle.std.proofs.Common.{◌≡◌, ◌≢◌, ℕ, ◌+◌, ◌<◌, List, Bool, true, false, Option, Some, None, is_some, eqb, set, arith, refl, ap, ◌⊎◌}
+use Rattle.std.proofs.Common.{◌≡◌, ℕ, List, Bool, true, false, Option, Some, None, eqb, arith, ap}
 use Rattle.chi_flit.specs.declared.numbers.Agent.{Agent}
 use Rattle.chi_flit.specs.declared.numbers.Slot.{Slot}
 use Rattle.chi_flit.specs.declared.state.State.{State}
-use Rattle.chi_flit.specs.declared.state.State.TheVariants.{I, SC, UC, UD, SD}
+use Rattle.chi_flit.specs.declared.state.State.TheVariants.{I}
 use Rattle.chi_flit.specs.declared.kind.Kind.{Kind}
 use Rattle.chi_flit.specs.declared.message.RspUp.TheVariants.{SnpRespI, SnpRespSC}
 use Rattle.chi_flit.specs.declared.message.DatUp.TheVariants.{SnpRespDataIPD, SnpRespDataSCPD, SnpRespDataSD, CopyBackWrData}
-use Rattle.chi_flit.specs.State.{is_unique, is_valid, is_dirty}
+use Rattle.chi_flit.specs.State.{is_valid, is_dirty}
 use Rattle.chi_flit.specs.Kind.{snoop_of}
 use Rattle.chi_filter.specs.Filter.{owned_by}
 use Rattle.chi_homeline.specs.declared.serving.Serving.{Serving}
-use Rattle.chi_homeline.specs.declared.serving.Serving.TheVariants.{Idle, Snooping, AwaitingCompAck, AwaitingWriteData}
-use Rattle.chi_slice.specs.Kept.{Lane, LaneKept, IsCleanLane, invalidates, is_answer, is_read, is_snoop_data, passes_dirty, shares}
+use Rattle.chi_homeline.specs.declared.serving.Serving.TheVariants.{Idle, Snooping, AwaitingWriteData}
+use Rattle.chi_slice.specs.Kept.{Lane, LaneKept, IsCleanLane, invalidates, is_answer, is_snoop_data, passes_dirty, shares}
 
 -- RecvWrData: named and flag may end where no copy is left
 pub write_lane : (agent : Agent) (kind : Kind) (slot : Slot) (unique unique' : Bool) (owner owner' : Option Agent) (last : List ℕ) (n : ℕ) (x : Lane) (form : State) (words : List ℕ) (named : Bool)
