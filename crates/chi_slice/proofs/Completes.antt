@@ -1,6 +1,6 @@
 -- A completion keeps what the line keeps: at a start that has nobody to ask, and after the last answer.
-use Rattle.std.specs.Prelude.{◌≡◌, ◌≢◌, ℕ, ◌<◌, ◌≤◌, List, length, Bool, true, false, ◌==◌, not, Option, Some, None, get_or, slice_set}
-use Rattle.std.proofs.Common.{refl, sym, ◌∙◌, ap, subst, ⊎_elim, arith}
+use Rattle.std.specs.Prelude.{◌≡◌, ◌≢◌, ℕ, ◌<◌, ◌≤◌, List, length, Bool, true, false, not, Some, None, get_or, slice_set}
+use Rattle.std.proofs.Common.{refl, sym, ◌∙◌, subst, ⊎_elim, arith}
 use Rattle.std.proofs.lemmas.List.{get_or-set_same, get_or-set_other, get_or-replicate, get_or_past, length-set}
 use Rattle.std.proofs.lemmas.Bool.{cases_lt, false≢true, true≢false, not-true}
 use Rattle.chi_flit.specs.declared.numbers.Agent.{Agent}
@@ -9,18 +9,16 @@ use Rattle.chi_flit.specs.declared.kind.Kind.{Kind}
 use Rattle.chi_flit.specs.declared.kind.Kind.TheVariants.{ReadNotSharedDirty, ReadShared, ReadUnique, CleanUnique, Evict, WriteBackFull, WriteCleanFull, WriteEvictFull}
 use Rattle.chi_flit.specs.declared.snoop.Snoop.{Snoop}
 use Rattle.chi_flit.specs.declared.snoop.Snoop.TheVariants.{SnpShared, SnpNotSharedDirty, SnpUnique, SnpCleanInvalid}
-use Rattle.chi_flit.specs.declared.message.RspDown.TheVariants.{CompUC}
 use Rattle.chi_flit.specs.Kind.{snoop_of}
 use Rattle.chi_filter.specs.Filter.{FilterState, nobody, only_named, only_set, is_in, has_any, others_than, is_named}
 use Rattle.chi_wires.specs.declared.cells.Cells.{Cells}
 use Rattle.chi_wires.specs.Cell.{no_flits, with_message}
 use Rattle.chi_rnline.specs.Rn.{no_line}
-use Rattle.chi_homeline.specs.declared.serving.Serving.{Serving}
 use Rattle.chi_homeline.specs.declared.serving.Serving.TheVariants.{Snooping, AwaitingCompAck}
 use Rattle.chi_homeline.specs.Home.{completed, completed_filter, completes_unique, completion_message, completion_of}
-use Rattle.chi_slice.specs.LineState.{LineState, rn_of, cells_of}
+use Rattle.chi_slice.specs.LineState.{LineState, cells_of}
 use Rattle.chi_slice.specs.Kept.{Kept, Lane, LaneKept, IsCleanLane, invalidates, is_read, lane}
-use Rattle.chi_slice.proofs.Frame.{Puts, Moves, moves_by, puts_nothing, puts_set, puts_same, nothing_waiting, lanes_by, clean_by}
+use Rattle.chi_slice.proofs.Frame.{Puts, Moves, moves_by, puts_nothing, puts_set, nothing_waiting, lanes_by, clean_by}
 use Rattle.chi_slice.proofs.Asks.{apart, same, are_same, in_only, none_in, left_in, length-others}
 use Rattle.chi_slice.proofs.CompleteLanes.{read_completes, clean_completes, no_owner, alone_other, shared_other, none_left, read_from_none}
 
@@ -136,9 +134,9 @@ alone : (last : List ℕ) (s : LineState) (agent : Agent) (kind : Kind) (snoop :
     → completes_unique snoop s.home.filter agent.0 ≡ true → IsAlone s.home.filter agent.0
 alone last s agent kind snoop slot sent may k is =
     alone_by snoop s.home.filter agent.0 k.named
-      (λ (inv : invalidates (Some snoop) ≡ true) (m : ℕ) (low : m < 8) (other : m ≢ agent.0).
+      (λ (invalidating : invalidates (Some snoop) ≡ true) (m : ℕ) (low : m < 8) (other : m ≢ agent.0).
         none_left s.home.filter.unique s.home.filter.owner last agent kind slot m (lane s m) (apart agent.0 m other)
-          (subst (λ v. invalidates v ≡ true) (sym may.snoop_is) inv) (may.all_in m low) (snooped_lanes last s agent kind snoop slot sent may k m low))
+          (subst (λ v. invalidates v ≡ true) (sym may.snoop_is) invalidating) (may.all_in m low) (snooped_lanes last s agent kind snoop slot sent may k m low))
       is
 
 -- the line where it is known whether its agent has it alone
@@ -149,7 +147,7 @@ completed_as unique s snoop agent slot sent = record s {
 
 -- the only one named
 only_one : (n a b : ℕ) → n < 8 → a < 8 → b < 8 → is_in (only_set n) a ≡ true → is_in (only_set n) b ≡ true → a ≡ b
-only_one n a b low lowa lowb ina inb = sym (are_same n a (in_only n a lowa ina)) ∙ are_same n b (in_only n b lowb inb)
+only_one n a b low below_a below_b in_a in_b = sym (are_same n a (in_only n a below_a in_a)) ∙ are_same n b (in_only n b below_b in_b)
 
 read_alone : (last : List ℕ) (s : LineState) (agent : Agent) (kind : Kind) (snoop : Snoop) (slot : Slot) (sent : List ℕ)
     → MayComplete last s agent kind snoop slot sent → Kept last s → is_read kind ≡ true
@@ -166,7 +164,7 @@ read_alone last s agent kind snoop slot sent may k reads is =
       (read_completes f.unique true f.owner None last agent kind slot sent (lane s agent.0) (same agent.0) reads (may.sent_is reads)
         (read_from_none f.unique f.owner last agent kind slot (lane s agent.0) (same agent.0) reads (lanes agent.0 may.here)) refl (lanes agent.0 may.here))
       (λ m low other. alone_other f.unique f.owner last agent kind slot m (lane s m) (apart agent.0 m other) (lonely m low other) (lanes m low))
-      (λ flag a b lowa lowb ina inb. only_one agent.0 a b may.here lowa lowb ina inb)
+      (λ flag a b below_a below_b in_a in_b. only_one agent.0 a b may.here below_a below_b in_a in_b)
       refl
 
 clean_alone : (last : List ℕ) (s : LineState) (agent : Agent) (slot : Slot) (sent : List ℕ)
@@ -180,7 +178,7 @@ clean_alone last s agent slot sent may k =
       (only_puts f.named agent.0 may.here k.named lonely)
       (clean_completes f.unique f.owner last agent slot (lane s agent.0) (same agent.0) (lanes agent.0 may.here))
       (λ m low other. alone_other f.unique f.owner last agent CleanUnique slot m (lane s m) (apart agent.0 m other) (lonely m low other) (lanes m low))
-      (λ flag a b lowa lowb ina inb. only_one agent.0 a b may.here lowa lowb ina inb)
+      (λ flag a b below_a below_b in_a in_b. only_one agent.0 a b may.here below_a below_b in_a in_b)
       refl
 
 read_shared : (last : List ℕ) (s : LineState) (agent : Agent) (kind : Kind) (snoop : Snoop) (slot : Slot) (sent : List ℕ)

@@ -1,20 +1,18 @@
 -- What a start does to one lane: its agent's own, and every other.
-use Rattle.std.specs.Prelude.{◌≡◌, ◌≢◌, ℕ, ◌<◌, List, length, Bool, true, false, ◌==◌, Option, Some, None, is_some}
-use Rattle.std.proofs.Common.{refl, arith}
+use Rattle.std.specs.Prelude.{◌≡◌, ℕ, List, Bool, true, false, ◌==◌, Option, Some, None}
+use Rattle.std.proofs.Common.{arith}
 use Rattle.chi_flit.specs.declared.numbers.Agent.{Agent}
 use Rattle.chi_flit.specs.declared.numbers.Slot.{Slot}
 use Rattle.chi_flit.specs.declared.state.State.TheVariants.{I, SD}
 use Rattle.chi_flit.specs.declared.kind.Kind.{Kind}
-use Rattle.chi_flit.specs.declared.kind.Kind.TheVariants.{Evict, CleanUnique}
+use Rattle.chi_flit.specs.declared.kind.Kind.TheVariants.{Evict}
 use Rattle.chi_flit.specs.declared.snoop.Snoop.{Snoop}
-use Rattle.chi_flit.specs.declared.message.RspDown.TheVariants.{CompUC, CompI, CompDBIDResp}
-use Rattle.chi_flit.specs.Kind.{snoop_of, is_copy_back}
+use Rattle.chi_flit.specs.declared.message.RspDown.TheVariants.{CompI, CompDBIDResp}
+use Rattle.chi_flit.specs.Kind.{snoop_of}
 use Rattle.chi_filter.specs.Filter.{owned_by}
 use Rattle.chi_homeline.specs.declared.serving.Waiting.{Waiting}
-use Rattle.chi_homeline.specs.declared.serving.Serving.{Serving}
-use Rattle.chi_homeline.specs.declared.serving.Serving.TheVariants.{Idle, Snooping, AwaitingCompAck, AwaitingWriteData}
-use Rattle.chi_slice.specs.Kept.{IsCleanLane, Lane, LaneKept, is_read, passes_dirty, shares, invalidates}
-use Rattle.chi_slice.proofs.Asks.{same}
+use Rattle.chi_homeline.specs.declared.serving.Serving.TheVariants.{Idle, Snooping, AwaitingWriteData}
+use Rattle.chi_slice.specs.Kept.{IsCleanLane, Lane, LaneKept, passes_dirty, shares, invalidates}
 
 -- the own lane where a snoop, or its want of anybody to ask, serves the request
 pub snooping_own : (unique : Bool) (owner : Option Agent) (last : List ℕ) (agent : Agent) (request : Waiting) (x : Lane)
