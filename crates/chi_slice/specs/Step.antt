@@ -11,7 +11,12 @@ use Rattle.chi_flit.specs.declared.action.Action.TheVariants.{Issue, Admit, Star
 use Rattle.chi_flit.specs.declared.action.Effect.{Effect}
 use Rattle.chi_flit.specs.declared.action.Effect.TheVariants.{Nothing, Completed}
 use Rattle.chi_flit.specs.declared.message.Request.{Request}
-use Rattle.chi_flit.specs.declared.message.RspDown.TheVariants.{CompI}
+use Rattle.chi_flit.specs.declared.message.RspDown.TheVariants.{CompI, RetryAck}
+use Rattle.chi_flit.specs.declared.credit.Profile.{Profile}
+use Rattle.chi_flit.specs.declared.snoop.Snoop.{Snoop}
+use Rattle.chi_flit.specs.Credit.{credit_type_of}
+use Rattle.chi_flit.specs.Message.{write_data_of}
+use Rattle.chi_flit.specs.Snoop.{answer_of}
 use Rattle.chi_flit.specs.declared.message.CompData.{CompData}
 use Rattle.chi_flit.specs.declared.message.RspUp.{RspUp}
 use Rattle.chi_flit.specs.declared.message.RspUp.TheVariants.{SnpRespI, SnpRespSC, CompAck}
@@ -22,7 +27,7 @@ use Rattle.chi_wires.specs.declared.cells.Cells.{Cells}
 use Rattle.chi_wires.specs.Cell.{no_flits, with_message}
 use Rattle.chi_wires.specs.Wires.{with_snoops}
 use Rattle.chi_rnline.specs.declared.pending.Pending.{Pending}
-use Rattle.chi_rnline.specs.Rn.{issued, issue_refusal, received, request_message}
+use Rattle.chi_rnline.specs.Rn.{cancelled, comp_received, dbid_received, dropped, evict_received, issued, issue_refusal, received, request_message, resent, retry_received, snoop_received, stored}
 use Rattle.chi_homeline.specs.declared.serving.Serving.{Serving}
 use Rattle.chi_homeline.specs.declared.serving.Serving.TheVariants.{Idle, Snooping, AwaitingCompAck, AwaitingWriteData}
 use Rattle.chi_homeline.specs.declared.serving.Waiting.{Waiting}
@@ -56,6 +61,46 @@ received_line s n message = record s { requesters = slice_set s.requesters n (re
 -- RecvAck: the CompAck is taken, and the line is idle
 abbrev pub acknowledged_line : LineState → ℕ → LineState
 acknowledged_line s n = record s { home = acknowledged s.home; flits = slice_set s.flits n (record (cells_of s n) { rsp_up = None }) }
+
+-- Store: the word of the copy has the value
+abbrev pub stored_line : LineState → ℕ → ℕ → ℕ → LineState
+stored_line s n word value = record s { requesters = slice_set s.requesters n (stored (rn_of s n) word value) }
+
+-- Drop: no copy
+abbrev pub dropped_line : LineState → ℕ → LineState
+dropped_line s n = record s { requesters = slice_set s.requesters n (dropped (rn_of s n)) }
+
+-- Retry: the request is taken, and RetryAck of its credit type is in flight
+abbrev pub retried_line : Profile → LineState → ℕ → Request → LineState
+retried_line profile s n request = record s { flits = slice_set s.flits n (record (cells_of s n) { req = None; rsp_down = Some (RetryAck (credit_type_of profile request.kind)) }) }
+
+-- RecvRetry: the request is in phase Retried
+abbrev pub retry_received_line : LineState → ℕ → LineState
+retry_received_line s n = record s { requesters = slice_set s.requesters n (retry_received (rn_of s n)); flits = slice_set s.flits n (record (cells_of s n) { rsp_down = None }) }
+
+-- Resend: the request is in flight without AllowRetry
+abbrev pub resent_line : LineState → ℕ → Pending → LineState
+resent_line s n request = record s { requesters = slice_set s.requesters n (resent (rn_of s n)); flits = slice_set s.flits n (with_message (cells_of s n) (request_message request.kind request.slot false)) }
+
+-- Cancel: nothing is pending
+abbrev pub cancelled_line : LineState → ℕ → LineState
+cancelled_line s n = record s { requesters = slice_set s.requesters n (cancelled (rn_of s n)) }
+
+-- RecvSnp: the snoop is taken, and its answer is in flight
+abbrev pub snooped_line : LineState → ℕ → Snoop → LineState
+snooped_line s n snoop = record s { requesters = slice_set s.requesters n (snoop_received (rn_of s n) snoop); flits = slice_set s.flits n (with_message (record (cells_of s n) { snp = None }) (answer_of (rn_of s n).state snoop (rn_of s n).words).1) }
+
+-- RecvComp of Comp_UC: CompAck is in flight
+abbrev pub comp_received_line : LineState → ℕ → LineState
+comp_received_line s n = record s { requesters = slice_set s.requesters n (comp_received (rn_of s n)); flits = slice_set s.flits n (record (cells_of s n) { rsp_down = None; rsp_up = Some CompAck }) }
+
+-- RecvComp of Comp_I
+abbrev pub evict_received_line : LineState → ℕ → LineState
+evict_received_line s n = record s { requesters = slice_set s.requesters n (evict_received (rn_of s n)); flits = slice_set s.flits n (record (cells_of s n) { rsp_down = None }) }
+
+-- RecvDbid of a request of the kind: the write data is in flight
+abbrev pub dbid_received_line : LineState → ℕ → Kind → LineState
+dbid_received_line s n kind = record s { requesters = slice_set s.requesters n (dbid_received (rn_of s n) kind); flits = slice_set s.flits n (record (cells_of s n) { rsp_down = None; dat_up = Some (write_data_of (rn_of s n).state (rn_of s n).words) }) }
 
 -- a step that takes something away: none where there is nothing
 abbrev pub where_some : {A : Type 0} → LineState → Option A → (A → LineState) → LineState
