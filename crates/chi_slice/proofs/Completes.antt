@@ -76,7 +76,8 @@ pub only_puts : (marks : List Bool) (n : ℕ) → n < 8 → length marks ≡ 8
     → ((m : ℕ) → m < 8 → m ≢ n → is_in marks m ≡ false) → Puts false marks (only_set n) n true
 only_puts marks n low eight nobody_else = record {
   at = get_or-set_same nobody n true false low;
-  others = λ m other. get_or-set_other nobody n m true false other ∙ (nowhere m ∙ sym (none_else marks n eight nobody_else m other)) }
+  others = λ m other. get_or-set_other nobody n m true false other ∙ (nowhere m ∙ sym (none_else marks n eight nobody_else m other));
+}
 
 -- a step after which the CompAck is awaited: n is named, its cells are c, and the filter is as given
 pub kept_awaiting : (last : List ℕ) (s : LineState) (agent : Agent) (slot : Slot) (filter : FilterState) (c : Cells)
@@ -91,11 +92,11 @@ kept_awaiting last s agent slot filter c low k eight names own other one up =
     let s' : LineState = record s { home = record s.home { filter = filter; serving = AwaitingCompAck agent slot }; flits = slice_set s.flits agent.0 c } in
     let x : Lane = record (lane s agent.0) { named = true; flits = c } in
     let moves : Moves s s' agent.0 x = moves_by s s' agent.0 x
-        (puts_nothing no_line s.requesters agent.0)
-        (puts_set no_flits s.flits agent.0 c (omega (arith, k.flits, low)))
-        names
-        (puts_nothing false s.home.awaited agent.0)
-        (puts_nothing nothing_waiting s.home.waiting agent.0) in
+    (puts_nothing no_line s.requesters agent.0)
+    (puts_set no_flits s.flits agent.0 c (omega (arith, k.flits, low)))
+    names
+    (puts_nothing false s.home.awaited agent.0)
+    (puts_nothing nothing_waiting s.home.waiting agent.0) in
     let back : IsCleanLane x → IsCleanLane (lane s agent.0) = λ (clean : IsCleanLane x). record { copy = clean.copy; on_its_way = cc } in
     record {
       requesters = k.requesters;
@@ -106,7 +107,8 @@ kept_awaiting last s agent slot filter c low k eight names own other one up =
       in_range = low;
       lanes = lanes_by s s' (AwaitingCompAck agent slot) filter.unique filter.owner last agent.0 x moves own other;
       flag_means_one = one;
-      memory_last = λ clean. k.memory_last (clean_by s s' agent.0 x moves low back clean) }
+      memory_last = λ clean. k.memory_last (clean_by s s' agent.0 x moves low back clean);
+    }
 
 snooped_lanes : (last : List ℕ) (s : LineState) (agent : Agent) (kind : Kind) (snoop : Snoop) (slot : Slot) (sent : List ℕ)
     → MayComplete last s agent kind snoop slot sent → Kept last s → (m : ℕ) → m < 8
@@ -134,16 +136,17 @@ alone : (last : List ℕ) (s : LineState) (agent : Agent) (kind : Kind) (snoop :
     → completes_unique snoop s.home.filter agent.0 ≡ true → IsAlone s.home.filter agent.0
 alone last s agent kind snoop slot sent may k is =
     alone_by snoop s.home.filter agent.0 k.named
-      (λ (invalidating : invalidates (Some snoop) ≡ true) (m : ℕ) (low : m < 8) (other : m ≢ agent.0).
-        none_left s.home.filter.unique s.home.filter.owner last agent kind slot m (lane s m) (apart agent.0 m other)
-          (subst (λ v. invalidates v ≡ true) (sym may.snoop_is) invalidating) (may.all_in m low) (snooped_lanes last s agent kind snoop slot sent may k m low))
-      is
+    (λ (invalidating : invalidates (Some snoop) ≡ true) (m : ℕ) (low : m < 8) (other : m ≢ agent.0).
+    none_left s.home.filter.unique s.home.filter.owner last agent kind slot m (lane s m) (apart agent.0 m other)
+    (subst (λ v. invalidates v ≡ true) (sym may.snoop_is) invalidating) (may.all_in m low) (snooped_lanes last s agent kind snoop slot sent may k m low))
+    is
 
 -- the line where it is known whether its agent has it alone
 abbrev completed_as : Bool → LineState → Snoop → Agent → Slot → List ℕ → LineState
 completed_as unique s snoop agent slot sent = record s {
   home = record s.home { filter = completed_filter unique s.home.filter agent.0; serving = AwaitingCompAck agent slot };
-  flits = slice_set s.flits agent.0 (with_message (cells_of s agent.0) (completion_message snoop unique sent)) }
+  flits = slice_set s.flits agent.0 (with_message (cells_of s agent.0) (completion_message snoop unique sent));
+}
 
 -- the only one named
 only_one : (n a b : ℕ) → n < 8 → a < 8 → b < 8 → is_in (only_set n) a ≡ true → is_in (only_set n) b ≡ true → a ≡ b
@@ -153,19 +156,20 @@ read_alone : (last : List ℕ) (s : LineState) (agent : Agent) (kind : Kind) (sn
     → MayComplete last s agent kind snoop slot sent → Kept last s → is_read kind ≡ true
     → completes_unique snoop s.home.filter agent.0 ≡ true
     → Kept last (record s {
-        home = record s.home { filter = only_named agent.0; serving = AwaitingCompAck agent slot };
-        flits = slice_set s.flits agent.0 (record (cells_of s agent.0) { dat_down = Some (record { unique = true; words = sent }) }) })
+      home = record s.home { filter = only_named agent.0; serving = AwaitingCompAck agent slot };
+      flits = slice_set s.flits agent.0 (record (cells_of s agent.0) { dat_down = Some (record { unique = true; words = sent }) });
+    })
 read_alone last s agent kind snoop slot sent may k reads is =
     let lanes : (m : ℕ) → m < 8 → LaneKept (Snooping agent kind slot) s.home.filter.unique s.home.filter.owner last m (lane s m) = snooped_lanes last s agent kind snoop slot sent may k in
     let lonely : IsAlone s.home.filter agent.0 = alone last s agent kind snoop slot sent may k is in
     let f = s.home.filter in
     kept_awaiting last s agent slot (only_named agent.0) _ may.here k (length-set nobody agent.0 true)
-      (only_puts f.named agent.0 may.here k.named lonely)
-      (read_completes f.unique true f.owner None last agent kind slot sent (lane s agent.0) (same agent.0) reads (may.sent_is reads)
-        (read_from_none f.unique f.owner last agent kind slot (lane s agent.0) (same agent.0) reads (lanes agent.0 may.here)) refl (lanes agent.0 may.here))
-      (λ m low other. alone_other f.unique f.owner last agent kind slot m (lane s m) (apart agent.0 m other) (lonely m low other) (lanes m low))
-      (λ flag a b below_a below_b in_a in_b. only_one agent.0 a b may.here below_a below_b in_a in_b)
-      refl
+    (only_puts f.named agent.0 may.here k.named lonely)
+    (read_completes f.unique true f.owner None last agent kind slot sent (lane s agent.0) (same agent.0) reads (may.sent_is reads)
+    (read_from_none f.unique f.owner last agent kind slot (lane s agent.0) (same agent.0) reads (lanes agent.0 may.here)) refl (lanes agent.0 may.here))
+    (λ m low other. alone_other f.unique f.owner last agent kind slot m (lane s m) (apart agent.0 m other) (lonely m low other) (lanes m low))
+    (λ flag a b below_a below_b in_a in_b. only_one agent.0 a b may.here below_a below_b in_a in_b)
+    refl
 
 clean_alone : (last : List ℕ) (s : LineState) (agent : Agent) (slot : Slot) (sent : List ℕ)
     → MayComplete last s agent CleanUnique SnpCleanInvalid slot sent → Kept last s
@@ -175,31 +179,32 @@ clean_alone last s agent slot sent may k =
     let lonely : IsAlone s.home.filter agent.0 = alone last s agent CleanUnique SnpCleanInvalid slot sent may k refl in
     let f = s.home.filter in
     kept_awaiting last s agent slot (only_named agent.0) _ may.here k (length-set nobody agent.0 true)
-      (only_puts f.named agent.0 may.here k.named lonely)
-      (clean_completes f.unique f.owner last agent slot (lane s agent.0) (same agent.0) (lanes agent.0 may.here))
-      (λ m low other. alone_other f.unique f.owner last agent CleanUnique slot m (lane s m) (apart agent.0 m other) (lonely m low other) (lanes m low))
-      (λ flag a b below_a below_b in_a in_b. only_one agent.0 a b may.here below_a below_b in_a in_b)
-      refl
+    (only_puts f.named agent.0 may.here k.named lonely)
+    (clean_completes f.unique f.owner last agent slot (lane s agent.0) (same agent.0) (lanes agent.0 may.here))
+    (λ m low other. alone_other f.unique f.owner last agent CleanUnique slot m (lane s m) (apart agent.0 m other) (lonely m low other) (lanes m low))
+    (λ flag a b below_a below_b in_a in_b. only_one agent.0 a b may.here below_a below_b in_a in_b)
+    refl
 
 read_shared : (last : List ℕ) (s : LineState) (agent : Agent) (kind : Kind) (snoop : Snoop) (slot : Slot) (sent : List ℕ)
     → MayComplete last s agent kind snoop slot sent → Kept last s → is_read kind ≡ true
     → completes_unique snoop s.home.filter agent.0 ≡ false
     → Kept last (record s {
-        home = record s.home { filter = completed_filter false s.home.filter agent.0; serving = AwaitingCompAck agent slot };
-        flits = slice_set s.flits agent.0 (record (cells_of s agent.0) { dat_down = Some (record { unique = false; words = sent }) }) })
+      home = record s.home { filter = completed_filter false s.home.filter agent.0; serving = AwaitingCompAck agent slot };
+      flits = slice_set s.flits agent.0 (record (cells_of s agent.0) { dat_down = Some (record { unique = false; words = sent }) });
+    })
 read_shared last s agent kind snoop slot sent may k reads is =
     let f = s.home.filter in
     let lanes : (m : ℕ) → m < 8 → LaneKept (Snooping agent kind slot) s.home.filter.unique s.home.filter.owner last m (lane s m) = snooped_lanes last s agent kind snoop slot sent may k in
     let clear_lanes : (m : ℕ) → m < 8 → LaneKept (Snooping agent kind slot) false s.home.filter.owner last m (lane s m) =
-        λ m low. subst (λ unique. LaneKept (Snooping agent kind slot) unique s.home.filter.owner last m (lane s m)) (may.flag_clear is) (lanes m low) in
+    λ m low. subst (λ unique. LaneKept (Snooping agent kind slot) unique s.home.filter.owner last m (lane s m)) (may.flag_clear is) (lanes m low) in
     let none = read_from_none f.unique f.owner last agent kind slot (lane s agent.0) (same agent.0) reads (lanes agent.0 may.here) in
     kept_awaiting last s agent slot (completed_filter false f agent.0) _ may.here k (length-set f.named agent.0 true ∙ k.named)
-      (puts_set false f.named agent.0 true (omega (arith, k.named, may.here)))
-      (read_completes f.unique false f.owner f.owner last agent kind slot sent (lane s agent.0) (same agent.0) reads (may.sent_is reads)
-        none (no_owner f.unique f.owner last agent kind slot (lane s agent.0) (same agent.0) none (lanes agent.0 may.here)) (lanes agent.0 may.here))
-      (λ m low other. shared_other f.owner last agent kind slot m (lane s m) (apart agent.0 m other) (may.all_in m low) (clear_lanes m low))
-      (λ (flag : false ≡ true). absurd (false≢true flag))
-      refl
+    (puts_set false f.named agent.0 true (omega (arith, k.named, may.here)))
+    (read_completes f.unique false f.owner f.owner last agent kind slot sent (lane s agent.0) (same agent.0) reads (may.sent_is reads)
+    none (no_owner f.unique f.owner last agent kind slot (lane s agent.0) (same agent.0) none (lanes agent.0 may.here)) (lanes agent.0 may.here))
+    (λ m low other. shared_other f.owner last agent kind slot m (lane s m) (apart agent.0 m other) (may.all_in m low) (clear_lanes m low))
+    (λ (flag : false ≡ true). absurd (false≢true flag))
+    refl
 
 reads_by : (kind : Kind) (snoop : Snoop) → snoop_of kind ≡ Some snoop → serves_read snoop ≡ true → is_read kind ≡ true
 reads_by kind snoop is serves = is_read_by kind snoop is ∙ serves
