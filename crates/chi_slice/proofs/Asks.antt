@@ -90,11 +90,11 @@ pub others_fit : (snoop : Snoop) (f : FilterState) (n : ℕ) → n < 8 → lengt
 others_fit snoop f n low eight alone = record {
   eight = length-others n f.named eight;
   not_itself = left_out n f.named low eight;
-  named_or_owner = λ m lowm here unnamed. absurd (both_ways (is_named f m) unnamed (was_in n m f.named low eight here));
-  shared_one = λ sharing m lowm here unowned. alone sharing;
-  all_others = λ inv m lowm other named. left_in n m f.named other ∙ named;
-  flagged = λ flag m lowm other named. left_in n m f.named other ∙ named;
-  owner = λ m lowm other named owns. left_in n m f.named other ∙ named;
+  named_or_owner = λ m below here unnamed. absurd (both_ways (is_named f m) unnamed (was_in n m f.named low eight here));
+  shared_one = λ sharing m below here unowned. alone sharing;
+  all_others = λ invalidating m below other named. left_in n m f.named other ∙ named;
+  flagged = λ flag m below other named. left_in n m f.named other ∙ named;
+  owner = λ m below other named owns. left_in n m f.named other ∙ named;
 }
 
 pub owner_fit : (snoop : Snoop) (f : FilterState) (n : ℕ) → n < 8 → length f.named ≡ 8
@@ -103,22 +103,22 @@ pub owner_fit : (snoop : Snoop) (f : FilterState) (n : ℕ) → n < 8 → length
 owner_fit snoop f n low eight asks_others nobody_else = record {
   eight = length-others n (owner_set f.owner) (length-owner_set f.owner);
   not_itself = left_out n (owner_set f.owner) low (length-owner_set f.owner);
-  named_or_owner = λ m lowm here unnamed. owner_in f.owner m lowm (was_in n m (owner_set f.owner) low (length-owner_set f.owner) here);
-  shared_one = λ sharing m lowm here unowned. absurd (both_ways (owned_by f.owner m) unowned (owner_in f.owner m lowm (was_in n m (owner_set f.owner) low (length-owner_set f.owner) here)));
-  all_others = λ inv m lowm other named. absurd (both_ways (invalidates (Some snoop)) asks_others inv);
-  flagged = λ flag m lowm other named. absurd (both_ways (is_in (others_than n f.named) m) (none_in (others_than n f.named) m (length-others n f.named eight) lowm (nobody_else flag)) (left_in n m f.named other ∙ named));
-  owner = λ m lowm other named owns. left_in n m (owner_set f.owner) other ∙ in_owner f.owner m lowm owns;
+  named_or_owner = λ m below here unnamed. owner_in f.owner m below (was_in n m (owner_set f.owner) low (length-owner_set f.owner) here);
+  shared_one = λ sharing m below here unowned. absurd (both_ways (owned_by f.owner m) unowned (owner_in f.owner m below (was_in n m (owner_set f.owner) low (length-owner_set f.owner) here)));
+  all_others = λ invalidating m below other named. absurd (both_ways (invalidates (Some snoop)) asks_others invalidating);
+  flagged = λ flag m below other named. absurd (both_ways (is_in (others_than n f.named) m) (none_in (others_than n f.named) m (length-others n f.named eight) below (nobody_else flag)) (left_in n m f.named other ∙ named));
+  owner = λ m below other named owns. left_in n m (owner_set f.owner) other ∙ in_owner f.owner m below owns;
 }
 
 asks_shared_by : (both : Bool) (snoop : Snoop) (f : FilterState) (n : ℕ) → n < 8 → length f.named ≡ 8
     → invalidates (Some snoop) ≡ false → (f.unique && has_any (others_than n f.named)) ≡ both
     → AsksFit snoop f n (if both then others_than n f.named else others_than n (owner_set f.owner))
-asks_shared_by true snoop f n low eight inv is = others_fit snoop f n low eight (λ sharing. (and_parts f.unique (has_any (others_than n f.named)) is).0)
-asks_shared_by false snoop f n low eight inv is = owner_fit snoop f n low eight inv (λ flag. grind (arith, is, flag))
+asks_shared_by true snoop f n low eight invalidating is = others_fit snoop f n low eight (λ sharing. (and_parts f.unique (has_any (others_than n f.named)) is).0)
+asks_shared_by false snoop f n low eight invalidating is = owner_fit snoop f n low eight invalidating (λ flag. grind (arith, is, flag))
 
 asks_shared_fit : (snoop : Snoop) (f : FilterState) (n : ℕ) → n < 8 → length f.named ≡ 8
     → invalidates (Some snoop) ≡ false → AsksFit snoop f n (asks_shared f n)
-asks_shared_fit snoop f n low eight inv = asks_shared_by (f.unique && has_any (others_than n f.named)) snoop f n low eight inv refl
+asks_shared_fit snoop f n low eight invalidating = asks_shared_by (f.unique && has_any (others_than n f.named)) snoop f n low eight invalidating refl
 
 pub asks_fit : (snoop : Snoop) (f : FilterState) (n : ℕ) → n < 8 → length f.named ≡ 8 → AsksFit snoop f n (asks snoop f n)
 asks_fit SnpNotSharedDirty f n low eight = asks_shared_fit SnpNotSharedDirty f n low eight refl

@@ -1,5 +1,5 @@
 -- What a completion does to one lane: its agent's own, and every other.
-use Rattle.std.specs.Prelude.{◌≡◌, ◌≢◌, ℕ, ◌<◌, List, length, Bool, true, false, ◌==◌, Option, Some, None, is_some}
+use Rattle.std.specs.Prelude.{◌≡◌, ℕ, List, Bool, true, false, ◌==◌, Option, Some, None}
 use Rattle.std.proofs.Common.{refl, arith}
 use Rattle.chi_flit.specs.declared.numbers.Agent.{Agent}
 use Rattle.chi_flit.specs.declared.numbers.Slot.{Slot}
@@ -9,9 +9,7 @@ use Rattle.chi_flit.specs.declared.state.State.TheVariants.{I, SC, UC, UD, SD}
 use Rattle.chi_flit.specs.declared.kind.Kind.{Kind}
 use Rattle.chi_flit.specs.declared.kind.Kind.TheVariants.{ReadNotSharedDirty, ReadShared, ReadUnique, CleanUnique, Evict, WriteBackFull, WriteCleanFull, WriteEvictFull}
 use Rattle.chi_flit.specs.declared.message.RspDown.TheVariants.{CompUC}
-use Rattle.chi_flit.specs.declared.message.CompData.{CompData}
 use Rattle.chi_filter.specs.Filter.{owned_by}
-use Rattle.chi_homeline.specs.declared.serving.Serving.{Serving}
 use Rattle.chi_homeline.specs.declared.serving.Serving.TheVariants.{Snooping, AwaitingCompAck}
 use Rattle.chi_flit.specs.Kind.{snoop_of}
 use Rattle.chi_slice.specs.Kept.{Lane, LaneKept, allows, invalidates, is_read}

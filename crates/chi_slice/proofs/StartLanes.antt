@@ -1,20 +1,18 @@
 -- What a start does to one lane: its agent's own, and every other.
-use Rattle.std.specs.Prelude.{◌≡◌, ◌≢◌, ℕ, ◌<◌, List, length, Bool, true, false, ◌==◌, Option, Some, None, is_some}
-use Rattle.std.proofs.Common.{refl, arith}
+use Rattle.std.specs.Prelude.{◌≡◌, ℕ, List, Bool, true, false, ◌==◌, Option, Some, None}
+use Rattle.std.proofs.Common.{arith}
 use Rattle.chi_flit.specs.declared.numbers.Agent.{Agent}
 use Rattle.chi_flit.specs.declared.numbers.Slot.{Slot}
-use Rattle.chi_flit.specs.declared.state.State.TheVariants.{I, SD}
+use Rattle.chi_flit.specs.declared.state.State.TheVariants.{I}
 use Rattle.chi_flit.specs.declared.kind.Kind.{Kind}
-use Rattle.chi_flit.specs.declared.kind.Kind.TheVariants.{Evict, CleanUnique}
+use Rattle.chi_flit.specs.declared.kind.Kind.TheVariants.{Evict}
 use Rattle.chi_flit.specs.declared.snoop.Snoop.{Snoop}
-use Rattle.chi_flit.specs.declared.message.RspDown.TheVariants.{CompUC, CompI, CompDBIDResp}
-use Rattle.chi_flit.specs.Kind.{snoop_of, is_copy_back}
+use Rattle.chi_flit.specs.declared.message.RspDown.TheVariants.{CompI, CompDBIDResp}
+use Rattle.chi_flit.specs.Kind.{snoop_of}
 use Rattle.chi_filter.specs.Filter.{owned_by}
 use Rattle.chi_homeline.specs.declared.serving.Waiting.{Waiting}
-use Rattle.chi_homeline.specs.declared.serving.Serving.{Serving}
-use Rattle.chi_homeline.specs.declared.serving.Serving.TheVariants.{Idle, Snooping, AwaitingCompAck, AwaitingWriteData}
-use Rattle.chi_slice.specs.Kept.{IsCleanLane, Lane, LaneKept, is_read, passes_dirty, shares, invalidates}
-use Rattle.chi_slice.proofs.Asks.{same}
+use Rattle.chi_homeline.specs.declared.serving.Serving.TheVariants.{Idle, Snooping, AwaitingWriteData}
+use Rattle.chi_slice.specs.Kept.{IsCleanLane, Lane, LaneKept, shares, invalidates}
 
 -- the own lane where a snoop, or its want of anybody to ask, serves the request
 pub snooping_own : (unique : Bool) (owner : Option Agent) (last : List ℕ) (agent : Agent) (request : Waiting) (x : Lane)
@@ -66,7 +64,7 @@ pub evicting_other : (unique unique' : Bool) (owner owner' : Option Agent) (last
     → LaneKept Idle unique' owner' last m x
 evicting_other unique unique' owner owner' last m x stays was owners k = search (arith, k)
 
--- the same where nobody is asked, and what is awaited stays
+-- a request that snoops, had it nobody to ask
 pub asking_own : (unique : Bool) (owner : Option Agent) (last : List ℕ) (agent : Agent) (request : Waiting) (x : Lane)
     → x.waiting ≡ Some request → (agent.0 == agent.0) ≡ true
     → LaneKept Idle unique owner last agent.0 x
@@ -79,30 +77,19 @@ pub asking_other : (unique : Bool) (owner : Option Agent) (last : List ℕ) (age
     → LaneKept (Snooping agent kind slot) unique owner last m x
 asking_other unique owner last agent kind slot m x other unnamed k = search (arith, k)
 
--- on an idle line nobody is awaited, and no dirty data is on its way
-pub idle_awaited : (unique : Bool) (owner : Option Agent) (last : List ℕ) (n : ℕ) (x : Lane)
-    → LaneKept Idle unique owner last n x → x.awaited ≡ false
-idle_awaited unique owner last n x k = search (arith, k)
-
-pub idle_data : (unique : Bool) (owner : Option Agent) (last : List ℕ) (n : ℕ) (x : Lane)
-    → LaneKept Idle unique owner last n x → passes_dirty x.flits.dat_up ≡ false
-idle_data unique owner last n x k = search (arith, k)
-
--- the owner's copy is SD there, so the owner is named; and a copy SD is the owner's
+-- on an idle line the owner's copy is SD, so the owner is named
 pub idle_owner : (unique : Bool) (owner : Option Agent) (last : List ℕ) (n : ℕ) (x : Lane)
     → owned_by owner n ≡ true → LaneKept Idle unique owner last n x → x.named ≡ true
 idle_owner unique owner last n x owns k = search (arith, k)
 
-pub idle_shared_dirty : (unique : Bool) (owner : Option Agent) (last : List ℕ) (n : ℕ) (x : Lane)
-    → x.rn.state ≡ SD → LaneKept Idle unique owner last n x → owned_by owner n ≡ true
-idle_shared_dirty unique owner last n x dirty k = search (arith, k)
-
--- a lane with neither the flag nor the owner, or whose agent isn't named, has no dirty copy on an idle line
+-- an agent that isn't named, where it would be flagged or the owner, has no dirty copy there, and no dirty
+-- data is on its way
 pub idle_clean : (unique : Bool) (owner : Option Agent) (last : List ℕ) (n : ℕ) (x : Lane)
     → (unique ≡ true → x.named ≡ false) → (owned_by owner n ≡ true → x.named ≡ false)
     → LaneKept Idle unique owner last n x → IsCleanLane x
 idle_clean unique owner last n x unflagged unowned k = search (arith, k)
 
+-- nor has one whose copy is I
 pub none_clean : (unique : Bool) (owner : Option Agent) (last : List ℕ) (n : ℕ) (x : Lane)
     → x.rn.state ≡ I → LaneKept Idle unique owner last n x → IsCleanLane x
 none_clean unique owner last n x none k = search (arith, k)

@@ -1,10 +1,9 @@
 -- A start keeps what the line keeps.
-use Rattle.std.specs.Prelude.{◌≡◌, ◌≢◌, ℕ, ◌<◌, List, length, Bool, true, false, ◌&&◌, ◌==◌, not, Option, Some, None, get_or, slice_set, if◌then◌else◌}
+use Rattle.std.specs.Prelude.{◌≡◌, ◌≢◌, ℕ, ◌<◌, List, Bool, true, false, not, Option, Some, None, slice_set, if◌then◌else◌}
 use Rattle.std.proofs.Common.{refl, sym, ◌∙◌, ap, subst, ⊎_elim, arith}
 use Rattle.std.proofs.lemmas.List.{get_or-set_same, get_or-set_other, length-set}
 use Rattle.std.proofs.lemmas.Bool.{and_from, and_parts, both_ways, cases_eq, false_from_ne_true, false≢true, true≢false, not-false}
 use Rattle.chi_flit.specs.declared.numbers.Agent.{Agent}
-use Rattle.chi_flit.specs.declared.numbers.Slot.{Slot}
 use Rattle.chi_flit.specs.declared.state.State.{State}
 use Rattle.chi_flit.specs.declared.state.State.TheVariants.{I, SC, UC, UD, SD}
 use Rattle.chi_flit.specs.declared.kind.Kind.{Kind}
@@ -16,30 +15,24 @@ use Rattle.chi_flit.specs.declared.message.Msg.TheVariants as messages
 use Rattle.chi_flit.specs.Kind.{snoop_of, is_copy_back}
 use Rattle.chi_filter.specs.Filter.{FilterState, is_in, has_any, others_than, is_named, owned_by, owner_without, removed}
 use Rattle.chi_wires.specs.declared.cells.Cells.{Cells}
-use Rattle.chi_wires.specs.Cell.{no_flits, with_message}
+use Rattle.chi_wires.specs.Cell.{no_flits}
 use Rattle.chi_wires.specs.Wires.{with_snoops}
-use Rattle.chi_rnline.specs.Rn.{Rn, no_line}
+use Rattle.chi_rnline.specs.Rn.{no_line}
 use Rattle.chi_homeline.specs.declared.serving.Waiting.{Waiting}
-use Rattle.chi_homeline.specs.declared.serving.Serving.{Serving}
-use Rattle.chi_homeline.specs.declared.serving.Serving.TheVariants.{Idle, Snooping, AwaitingCompAck, AwaitingWriteData}
+use Rattle.chi_homeline.specs.declared.serving.Serving.TheVariants.{Idle, Snooping, AwaitingWriteData}
 use Rattle.chi_homeline.specs.declared.serving.Started.{Started}
 use Rattle.chi_homeline.specs.declared.serving.Started.TheVariants.{Sends, Evicted, Snoops}
-use Rattle.chi_homeline.specs.Home.{Home, asks, asks_shared, completes_unique, completed, completion_of, is_idle, served, served_sends, started, started_as, started_sends, started_sends_as, taken_up, waiting_of}
-use Rattle.chi_slice.specs.LineState.{LineState, rn_of, cells_of}
+use Rattle.chi_homeline.specs.Home.{Home, asks, asks_shared, completes_unique, completed, completion_of, is_idle, started_as, started_sends_as, taken_up, waiting_of}
+use Rattle.chi_slice.specs.LineState.{LineState, cells_of}
 use Rattle.chi_slice.specs.Step.{sent, started_line}
-use Rattle.chi_slice.specs.Kept.{IsClean, IsCleanLane, Kept, Lane, LaneKept, allows, invalidates, is_read, lane, passes_dirty, shares}
-use Rattle.chi_slice.proofs.Frame.{Puts, Moves, moves_by, puts_nothing, puts_set, nothing_waiting, lanes_by, clean_by}
+use Rattle.chi_slice.specs.Kept.{IsClean, IsCleanLane, Kept, Lane, LaneKept, allows, invalidates, lane, passes_dirty}
+use Rattle.chi_slice.proofs.Frame.{Moves, moves_by, puts_nothing, puts_set, nothing_waiting, lanes_by, clean_by, same_lane}
+use Rattle.chi_slice.proofs.Finds.{idle_awaits_nobody, idle_is}
 use Rattle.chi_slice.proofs.Asks.{AsksFit, asks_fit, apart, same, has_in, none_in, left_in, length-others, was_in}
 use Rattle.chi_slice.proofs.Snoops.{snooped_at, snooped_cells, length-with_snoops}
-use Rattle.chi_slice.proofs.StartLanes.{snooping_own, snooping_other, snooping_asked, asking_own, asking_other, writing_own, writing_other, evicting_own, evicting_other, idle_awaited, idle_clean, idle_owner, none_clean}
+use Rattle.chi_slice.proofs.StartLanes.{snooping_own, snooping_other, snooping_asked, asking_own, asking_other, writing_own, writing_other, evicting_own, evicting_other, idle_clean, idle_owner, none_clean}
 use Rattle.chi_slice.proofs.CompleteLanes.{allows_read}
 use Rattle.chi_slice.proofs.Completes.{MayComplete, completed_line, kept_completed}
-
-idle_is : (serving : Serving) → is_idle serving ≡ true → serving ≡ Idle
-idle_is Idle idle = refl
-idle_is (Snooping agent kind slot) idle = absurd (false≢true idle)
-idle_is (AwaitingCompAck agent slot) idle = absurd (false≢true idle)
-idle_is (AwaitingWriteData agent kind slot) idle = absurd (false≢true idle)
 
 -- an idle line at which the agent's request waits
 pub record MayStart (last : List ℕ) (s : LineState) (agent : Agent) (request : Waiting) : Type 0 where
@@ -53,15 +46,12 @@ idle_lanes : (last : List ℕ) (s : LineState) (agent : Agent) (request : Waitin
 idle_lanes last s agent request may m low =
     subst (λ serving. LaneKept serving s.home.filter.unique s.home.filter.owner last m (lane s m)) may.idle (may.kept.lanes m low)
 
-lanes_equal : (r r' : Rn) (f f' : Cells) (m m' a a' : Bool) (w w' : Option Waiting) → r ≡ r' → f ≡ f' → m ≡ m' → a ≡ a' → w ≡ w'
-    → (let x : Lane = record { rn = r; flits = f; named = m; awaited = a; waiting = w } in let y : Lane = record { rn = r'; flits = f'; named = m'; awaited = a'; waiting = w' } in x ≡ y)
-lanes_equal r r' f f' m m' a a' w w' is_r is_f is_m is_a is_w = cc
-
 -- the request snoops for: the marked agents are asked
 abbrev pub snooping_line : LineState → Agent → Waiting → Snoop → List Bool → LineState
 snooping_line s agent request snoop marks = record s {
   home = record (taken_up s.home agent.0) { serving = Snooping agent request.kind request.slot; awaited = marks };
-  flits = with_snoops marks snoop s.flits }
+  flits = with_snoops marks snoop s.flits;
+}
 
 snooped_up : (marked : Bool) (snoop : Snoop) (cells : Cells) → (snooped_cells marked snoop cells).dat_up ≡ cells.dat_up
 snooped_up true snoop cells = refl
@@ -86,30 +76,30 @@ snooping_lane : (marked : Bool) (last : List ℕ) (s : LineState) (agent : Agent
     → LaneKept (Snooping agent request.kind request.slot) s.home.filter.unique s.home.filter.owner last m (record (lane s m) { awaited = marked; flits = snooped_cells marked snoop (cells_of s m) })
 snooping_lane true last s agent request snoop marks m may is fit low other marked =
     snooping_asked s.home.filter.unique s.home.filter.owner last agent request.kind request.slot snoop m (lane s m) (apart agent.0 m other) is
-      (asked_named (is_named s.home.filter m) last s agent request snoop marks m may fit low refl marked)
-      (λ sharing unowned. fit.shared_one sharing m low marked unowned)
-      (idle_lanes last s agent request may m low)
+    (asked_named (is_named s.home.filter m) last s agent request snoop marks m may fit low refl marked)
+    (λ sharing unowned. fit.shared_one sharing m low marked unowned)
+    (idle_lanes last s agent request may m low)
 snooping_lane false last s agent request snoop marks m may is fit low other marked =
     snooping_other s.home.filter.unique s.home.filter.owner last agent request.kind request.slot m (lane s m) (apart agent.0 m other)
-      (λ inv. unmarked (is_named s.home.filter m) (is_in marks m) (fit.all_others (subst (λ v. invalidates v ≡ true) is inv) m low other) marked)
-      (idle_lanes last s agent request may m low)
+    (λ invalidating. unmarked (is_named s.home.filter m) (is_in marks m) (fit.all_others (subst (λ v. invalidates v ≡ true) is invalidating) m low other) marked)
+    (idle_lanes last s agent request may m low)
 
 -- the lanes of the line that snoops
 snooping_at : (last : List ℕ) (s : LineState) (agent : Agent) (request : Waiting) (snoop : Snoop) (marks : List Bool) (m : ℕ)
     → MayStart last s agent request → m < 8 → m ≢ agent.0
     → lane (snooping_line s agent request snoop marks) m ≡ record (lane s m) { awaited = is_in marks m; flits = snooped_cells (is_in marks m) snoop (cells_of s m) }
 snooping_at last s agent request snoop marks m may low other =
-    lanes_equal _ _ _ _ _ _ _ _ _ _ refl (snooped_at marks snoop s.flits m (omega (arith, may.kept.flits, low))) refl refl
-      (get_or-set_other s.home.waiting agent.0 m None None other)
+    same_lane _ _ _ _ _ _ _ _ _ _ refl (snooped_at marks snoop s.flits m (omega (arith, may.kept.flits, low))) refl refl
+    (get_or-set_other s.home.waiting agent.0 m None None other)
 
 snooping_at_own : (last : List ℕ) (s : LineState) (agent : Agent) (request : Waiting) (snoop : Snoop) (marks : List Bool)
     → MayStart last s agent request → AsksFit snoop s.home.filter agent.0 marks
     → lane (snooping_line s agent request snoop marks) agent.0 ≡ record (lane s agent.0) { waiting = None; awaited = false }
 snooping_at_own last s agent request snoop marks may fit =
-    lanes_equal _ _ _ _ _ _ _ _ _ _ refl
-      (snooped_at marks snoop s.flits agent.0 (omega (arith, may.kept.flits, may.here)) ∙ ap (λ marked. snooped_cells marked snoop (cells_of s agent.0)) fit.not_itself)
-      refl fit.not_itself
-      (get_or-set_same s.home.waiting agent.0 None None (omega (arith, may.kept.waiting, may.here)))
+    same_lane _ _ _ _ _ _ _ _ _ _ refl
+    (snooped_at marks snoop s.flits agent.0 (omega (arith, may.kept.flits, may.here)) ∙ ap (λ marked. snooped_cells marked snoop (cells_of s agent.0)) fit.not_itself)
+    refl fit.not_itself
+    (get_or-set_same s.home.waiting agent.0 None None (omega (arith, may.kept.waiting, may.here)))
 
 snooping_kept : (last : List ℕ) (s : LineState) (agent : Agent) (request : Waiting) (snoop : Snoop) (marks : List Bool)
     → MayStart last s agent request → snoop_of request.kind ≡ Some snoop → AsksFit snoop s.home.filter agent.0 marks
@@ -125,16 +115,18 @@ snooping_kept last s agent request snoop marks may is fit =
       waiting = length-set s.home.waiting agent.0 None ∙ k.waiting;
       in_range = may.here;
       lanes = λ m low. ⊎_elim
-        (λ (own : m ≡ agent.0). subst (λ n. LaneKept (Snooping agent request.kind request.slot) s.home.filter.unique s.home.filter.owner last n (lane s' n)) (sym own)
+          (λ (own : m ≡ agent.0). subst (λ n. LaneKept (Snooping agent request.kind request.slot) s.home.filter.unique s.home.filter.owner last n (lane s' n)) (sym own)
           (subst (LaneKept (Snooping agent request.kind request.slot) s.home.filter.unique s.home.filter.owner last agent.0) (sym (snooping_at_own last s agent request snoop marks may fit))
-            (snooping_own s.home.filter.unique s.home.filter.owner last agent request (lane s agent.0) may.waits (same agent.0) (idle_lanes last s agent request may agent.0 may.here))))
-        (λ (other : m ≢ agent.0). subst (LaneKept (Snooping agent request.kind request.slot) s.home.filter.unique s.home.filter.owner last m) (sym (snooping_at last s agent request snoop marks m may low other))
+          (snooping_own s.home.filter.unique s.home.filter.owner last agent request (lane s agent.0) may.waits (same agent.0) (idle_lanes last s agent request may agent.0 may.here))))
+          (λ (other : m ≢ agent.0). subst (LaneKept (Snooping agent request.kind request.slot) s.home.filter.unique s.home.filter.owner last m) (sym (snooping_at last s agent request snoop marks m may low other))
           (snooping_lane (is_in marks m) last s agent request snoop marks m may is fit low other refl))
-        (cases_eq m agent.0);
+          (cases_eq m agent.0);
       flag_means_one = k.flag_means_one;
       memory_last = λ clean. k.memory_last (λ m low. record {
         copy = (clean m low).copy;
-        on_its_way = ap passes_dirty (sym (ap (λ (c : Cells). c.dat_up) (snooped_at marks snoop s.flits m (omega (arith, k.flits, low))) ∙ snooped_up (is_in marks m) snoop (cells_of s m))) ∙ (clean m low).on_its_way }) }
+        on_its_way = ap passes_dirty (sym (ap (λ (c : Cells). c.dat_up) (snooped_at marks snoop s.flits m (omega (arith, k.flits, low))) ∙ snooped_up (is_in marks m) snoop (cells_of s m))) ∙ (clean m low).on_its_way;
+      });
+    }
 
 -- the same line, had it nobody to ask: what a completion at once is seen to begin from
 abbrev asking_line : LineState → Agent → Waiting → LineState
@@ -149,11 +141,11 @@ asking_kept last s agent request snoop may is unnamed =
     let s' : LineState = asking_line s agent request in
     let x : Lane = record (lane s agent.0) { waiting = None } in
     let moves : Moves s s' agent.0 x = moves_by s s' agent.0 x
-        (puts_nothing no_line s.requesters agent.0)
-        (puts_nothing no_flits s.flits agent.0)
-        (puts_nothing false s.home.filter.named agent.0)
-        (puts_nothing false s.home.awaited agent.0)
-        (puts_set nothing_waiting s.home.waiting agent.0 nothing_waiting (omega (arith, k.waiting, may.here))) in
+    (puts_nothing no_line s.requesters agent.0)
+    (puts_nothing no_flits s.flits agent.0)
+    (puts_nothing false s.home.filter.named agent.0)
+    (puts_nothing false s.home.awaited agent.0)
+    (puts_set nothing_waiting s.home.waiting agent.0 nothing_waiting (omega (arith, k.waiting, may.here))) in
     record {
       requesters = k.requesters;
       flits = k.flits;
@@ -162,11 +154,12 @@ asking_kept last s agent request snoop may is unnamed =
       waiting = length-set s.home.waiting agent.0 None ∙ k.waiting;
       in_range = may.here;
       lanes = lanes_by s s' (Snooping agent request.kind request.slot) s.home.filter.unique s.home.filter.owner last agent.0 x moves
-        (asking_own s.home.filter.unique s.home.filter.owner last agent request (lane s agent.0) may.waits (same agent.0) (idle_lanes last s agent request may agent.0 may.here))
-        (λ m low other. asking_other s.home.filter.unique s.home.filter.owner last agent request.kind request.slot m (lane s m) (apart agent.0 m other)
-          (λ inv. unnamed (subst (λ v. invalidates v ≡ true) is inv) m low other) (idle_lanes last s agent request may m low));
+          (asking_own s.home.filter.unique s.home.filter.owner last agent request (lane s agent.0) may.waits (same agent.0) (idle_lanes last s agent request may agent.0 may.here))
+          (λ m low other. asking_other s.home.filter.unique s.home.filter.owner last agent request.kind request.slot m (lane s m) (apart agent.0 m other)
+          (λ invalidating. unnamed (subst (λ v. invalidates v ≡ true) is invalidating) m low other) (idle_lanes last s agent request may m low));
       flag_means_one = k.flag_means_one;
-      memory_last = λ clean. k.memory_last (λ m low. record { copy = (clean m low).copy; on_its_way = (clean m low).on_its_way }) }
+      memory_last = λ clean. k.memory_last (λ m low. record { copy = (clean m low).copy; on_its_way = (clean m low).on_its_way });
+    }
 
 -- where nobody is asked no other lane has a dirty copy
 nobody_dirty : (last : List ℕ) (s : LineState) (agent : Agent) (request : Waiting) (snoop : Snoop) (marks : List Bool)
@@ -174,13 +167,13 @@ nobody_dirty : (last : List ℕ) (s : LineState) (agent : Agent) (request : Wait
     → (lane s agent.0).rn.state ≡ I → IsClean s
 nobody_dirty last s agent request snoop marks may fit nobody none m low =
     ⊎_elim
-      (λ (own : m ≡ agent.0). subst (λ n. IsCleanLane (lane s n)) (sym own)
-        (none_clean s.home.filter.unique s.home.filter.owner last agent.0 (lane s agent.0) none (idle_lanes last s agent request may agent.0 may.here)))
-      (λ (other : m ≢ agent.0). idle_clean s.home.filter.unique s.home.filter.owner last m (lane s m)
-        (λ flag. unmarked (is_named s.home.filter m) (is_in marks m) (λ named. fit.flagged flag m low other named) (none_in marks m fit.eight low nobody))
-        (λ owns. unmarked (is_named s.home.filter m) (is_in marks m) (λ named. fit.owner m low other named owns) (none_in marks m fit.eight low nobody))
-        (idle_lanes last s agent request may m low))
-      (cases_eq m agent.0)
+    (λ (own : m ≡ agent.0). subst (λ n. IsCleanLane (lane s n)) (sym own)
+    (none_clean s.home.filter.unique s.home.filter.owner last agent.0 (lane s agent.0) none (idle_lanes last s agent request may agent.0 may.here)))
+    (λ (other : m ≢ agent.0). idle_clean s.home.filter.unique s.home.filter.owner last m (lane s m)
+    (λ flag. unmarked (is_named s.home.filter m) (is_in marks m) (λ named. fit.flagged flag m low other named) (none_in marks m fit.eight low nobody))
+    (λ owns. unmarked (is_named s.home.filter m) (is_in marks m) (λ named. fit.owner m low other named owns) (none_in marks m fit.eight low nobody))
+    (idle_lanes last s agent request may m low))
+    (cases_eq m agent.0)
 
 -- where others stay named and nobody is asked, the flag is clear
 not_flagged : (unique : Bool) (f : FilterState) (n : ℕ) → f.unique ≡ unique → has_any (asks_shared f n) ≡ false → not (has_any (others_than n f.named)) ≡ false → f.unique ≡ false
@@ -203,31 +196,33 @@ completing_kept last s agent request snoop may is nobody =
       here = may.here;
       serves = refl;
       snoop_is = is;
-      all_in = λ m low. idle_awaited s.home.filter.unique s.home.filter.owner last m (lane s m) (idle_lanes last s agent request may m low);
+      all_in = λ m low. idle_awaits_nobody s.home.filter.unique s.home.filter.owner last m (lane s m) (idle_lanes last s agent request may m low);
       sent_is = λ reads. k.memory_last (nobody_dirty last s agent request snoop marks may fit nobody
-        (allows_read request.kind (lane s agent.0).rn.state reads ((k.lanes agent.0 may.here).kind_fits request.kind ((k.lanes agent.0 may.here).waiting_kind request may.waits))));
-      flag_clear = flag_clear snoop s.home.filter agent.0 nobody } in
+          (allows_read request.kind (lane s agent.0).rn.state reads ((k.lanes agent.0 may.here).kind_fits request.kind ((k.lanes agent.0 may.here).waiting_kind request may.waits))));
+      flag_clear = flag_clear snoop s.home.filter agent.0 nobody;
+    } in
     kept_completed last (asking_line s agent request) agent request.kind snoop request.slot s.home.memory may_complete
-      (asking_kept last s agent request snoop may is
-        (λ inv m low other. unmarked (is_named s.home.filter m) (is_in marks m) (fit.all_others inv m low other) (none_in marks m fit.eight low nobody)))
+    (asking_kept last s agent request snoop may is
+    (λ invalidating m low other. unmarked (is_named s.home.filter m) (is_in marks m) (fit.all_others invalidating m low other) (none_in marks m fit.eight low nobody)))
 
 -- a copy-back: its write data is asked for
 writing_kept : (last : List ℕ) (s : LineState) (agent : Agent) (request : Waiting)
     → MayStart last s agent request
     → Kept last (record s {
-        home = record (taken_up s.home agent.0) { serving = AwaitingWriteData agent request.kind request.slot };
-        flits = slice_set s.flits agent.0 (record (cells_of s agent.0) { rsp_down = Some CompDBIDResp }) })
+      home = record (taken_up s.home agent.0) { serving = AwaitingWriteData agent request.kind request.slot };
+      flits = slice_set s.flits agent.0 (record (cells_of s agent.0) { rsp_down = Some CompDBIDResp });
+    })
 writing_kept last s agent request may =
     let k = may.kept in
     let c : Cells = record (cells_of s agent.0) { rsp_down = Some CompDBIDResp } in
     let s' : LineState = record s { home = record (taken_up s.home agent.0) { serving = AwaitingWriteData agent request.kind request.slot }; flits = slice_set s.flits agent.0 c } in
     let x : Lane = record (lane s agent.0) { waiting = None; flits = c } in
     let moves : Moves s s' agent.0 x = moves_by s s' agent.0 x
-        (puts_nothing no_line s.requesters agent.0)
-        (puts_set no_flits s.flits agent.0 c (omega (arith, k.flits, may.here)))
-        (puts_nothing false s.home.filter.named agent.0)
-        (puts_nothing false s.home.awaited agent.0)
-        (puts_set nothing_waiting s.home.waiting agent.0 nothing_waiting (omega (arith, k.waiting, may.here))) in
+    (puts_nothing no_line s.requesters agent.0)
+    (puts_set no_flits s.flits agent.0 c (omega (arith, k.flits, may.here)))
+    (puts_nothing false s.home.filter.named agent.0)
+    (puts_nothing false s.home.awaited agent.0)
+    (puts_set nothing_waiting s.home.waiting agent.0 nothing_waiting (omega (arith, k.waiting, may.here))) in
     let back : IsCleanLane x → IsCleanLane (lane s agent.0) = λ (clean : IsCleanLane x). record { copy = clean.copy; on_its_way = clean.on_its_way } in
     record {
       requesters = k.requesters;
@@ -237,10 +232,11 @@ writing_kept last s agent request may =
       waiting = length-set s.home.waiting agent.0 None ∙ k.waiting;
       in_range = may.here;
       lanes = lanes_by s s' (AwaitingWriteData agent request.kind request.slot) s.home.filter.unique s.home.filter.owner last agent.0 x moves
-        (writing_own s.home.filter.unique s.home.filter.owner last agent request (lane s agent.0) may.waits (same agent.0) (idle_lanes last s agent request may agent.0 may.here))
-        (λ m low other. writing_other s.home.filter.unique s.home.filter.owner last agent request.kind request.slot m (lane s m) (apart agent.0 m other) (idle_lanes last s agent request may m low));
+          (writing_own s.home.filter.unique s.home.filter.owner last agent request (lane s agent.0) may.waits (same agent.0) (idle_lanes last s agent request may agent.0 may.here))
+          (λ m low other. writing_other s.home.filter.unique s.home.filter.owner last agent request.kind request.slot m (lane s m) (apart agent.0 m other) (idle_lanes last s agent request may m low));
       flag_means_one = k.flag_means_one;
-      memory_last = λ clean. k.memory_last (clean_by s s' agent.0 x moves may.here back clean) }
+      memory_last = λ clean. k.memory_last (clean_by s s' agent.0 x moves may.here back clean);
+    }
 
 -- an agent that leaves isn't the owner, and who else is the owner stays it
 leaves_owner : (owner : Option Agent) (owns : Bool) (n : ℕ) → owned_by owner n ≡ owns → owned_by (owner_without owner n) n ≡ false
@@ -262,8 +258,9 @@ allows_evict SD fits = absurd (false≢true fits)
 evicting_kept : (last : List ℕ) (s : LineState) (agent : Agent) (request : Waiting)
     → MayStart last s agent request → request.kind ≡ Evict
     → Kept last (record s {
-        home = record (taken_up s.home agent.0) { filter = removed s.home.filter agent.0 };
-        flits = slice_set s.flits agent.0 (record (cells_of s agent.0) { rsp_down = Some CompI }) })
+      home = record (taken_up s.home agent.0) { filter = removed s.home.filter agent.0 };
+      flits = slice_set s.flits agent.0 (record (cells_of s agent.0) { rsp_down = Some CompI });
+    })
 evicting_kept last s agent request may evicts =
     let k = may.kept in
     let f = s.home.filter in
@@ -272,15 +269,15 @@ evicting_kept last s agent request may evicts =
     let s' : LineState = record s { home = record (taken_up s.home agent.0) { filter = removed s.home.filter agent.0 }; flits = slice_set s.flits agent.0 c } in
     let x : Lane = record (lane s agent.0) { waiting = None; named = false; flits = c } in
     let moves : Moves s s' agent.0 x = moves_by s s' agent.0 x
-        (puts_nothing no_line s.requesters agent.0)
-        (puts_set no_flits s.flits agent.0 c (omega (arith, k.flits, may.here)))
-        (puts_set false f.named agent.0 false (omega (arith, k.named, may.here)))
-        (puts_nothing false s.home.awaited agent.0)
-        (puts_set nothing_waiting s.home.waiting agent.0 nothing_waiting (omega (arith, k.waiting, may.here))) in
+    (puts_nothing no_line s.requesters agent.0)
+    (puts_set no_flits s.flits agent.0 c (omega (arith, k.flits, may.here)))
+    (puts_set false f.named agent.0 false (omega (arith, k.named, may.here)))
+    (puts_nothing false s.home.awaited agent.0)
+    (puts_set nothing_waiting s.home.waiting agent.0 nothing_waiting (omega (arith, k.waiting, may.here))) in
     let back : IsCleanLane x → IsCleanLane (lane s agent.0) = λ (clean : IsCleanLane x). record { copy = clean.copy; on_its_way = clean.on_its_way } in
     let own : LaneKept Idle f.unique f.owner last agent.0 (lane s agent.0) = idle_lanes last s agent request may agent.0 may.here in
     let none : (lane s agent.0).rn.state ≡ I = allows_evict (lane s agent.0).rn.state
-        (subst (λ kind. allows kind (lane s agent.0).rn.state ≡ true) evicts (own.kind_fits request.kind (own.waiting_kind request may.waits))) in
+    (subst (λ kind. allows kind (lane s agent.0).rn.state ≡ true) evicts (own.kind_fits request.kind (own.waiting_kind request may.waits))) in
     record {
       requesters = k.requesters;
       flits = length-set s.flits agent.0 c ∙ k.flits;
@@ -289,16 +286,17 @@ evicting_kept last s agent request may evicts =
       waiting = length-set s.home.waiting agent.0 None ∙ k.waiting;
       in_range = k.in_range;
       lanes = subst (λ serving. (m : ℕ) → m < 8 → LaneKept serving f'.unique f'.owner last m (lane s' m)) (sym may.idle)
-        (lanes_by s s' Idle f'.unique f'.owner last agent.0 x moves
+          (lanes_by s s' Idle f'.unique f'.owner last agent.0 x moves
           (evicting_own f.unique f'.unique f.owner f'.owner last agent.0 request (lane s agent.0) may.waits evicts none (leaves_owner f.owner (owned_by f.owner agent.0) agent.0 refl) own)
           (λ m low other. evicting_other f.unique f'.unique f.owner f'.owner last m (lane s m)
-            (λ flag named. and_from f.unique (has_any (others_than agent.0 f.named)) flag
-              (has_in (others_than agent.0 f.named) m (length-others agent.0 f.named k.named) low (left_in agent.0 m f.named other ∙ named)))
-            (λ flag. (and_parts f.unique (has_any (others_than agent.0 f.named)) flag).0)
-            (keeps_owner f.owner agent.0 m other) (idle_lanes last s agent request may m low)));
-      flag_means_one = λ flag a b lowa lowb ina inb. k.flag_means_one ((and_parts f.unique (has_any (others_than agent.0 f.named)) flag).0) a b lowa lowb
-        (was_in agent.0 a f.named may.here k.named ina) (was_in agent.0 b f.named may.here k.named inb);
-      memory_last = λ clean. k.memory_last (clean_by s s' agent.0 x moves may.here back clean) }
+          (λ flag named. and_from f.unique (has_any (others_than agent.0 f.named)) flag
+          (has_in (others_than agent.0 f.named) m (length-others agent.0 f.named k.named) low (left_in agent.0 m f.named other ∙ named)))
+          (λ flag. (and_parts f.unique (has_any (others_than agent.0 f.named)) flag).0)
+          (keeps_owner f.owner agent.0 m other) (idle_lanes last s agent request may m low)));
+      flag_means_one = λ flag a b below_a below_b in_a in_b. k.flag_means_one ((and_parts f.unique (has_any (others_than agent.0 f.named)) flag).0) a b below_a below_b
+          (was_in agent.0 a f.named may.here k.named in_a) (was_in agent.0 b f.named may.here k.named in_b);
+      memory_last = λ clean. k.memory_last (clean_by s s' agent.0 x moves may.here back clean);
+    }
 
 -- kinds that no snoop serves
 is_evict : (kind : Kind) → snoop_of kind ≡ None → is_copy_back kind ≡ false → kind ≡ Evict
@@ -318,16 +316,16 @@ started_parts s agent home sends = record s { home = home; flits = sent s.flits 
 unserved_kept : (back : Bool) (last : List ℕ) (s : LineState) (agent : Agent) (request : Waiting)
     → MayStart last s agent request → snoop_of request.kind ≡ None → is_copy_back request.kind ≡ back
     → Kept last (started_parts s agent
-        (if back then record (taken_up s.home agent.0) { serving = AwaitingWriteData agent request.kind request.slot } else record (taken_up s.home agent.0) { filter = removed s.home.filter agent.0 })
-        (if back then Sends (messages.RspDown CompDBIDResp) else Evicted request.slot))
+    (if back then record (taken_up s.home agent.0) { serving = AwaitingWriteData agent request.kind request.slot } else record (taken_up s.home agent.0) { filter = removed s.home.filter agent.0 })
+    (if back then Sends (messages.RspDown CompDBIDResp) else Evicted request.slot))
 unserved_kept true last s agent request may unserved is = writing_kept last s agent request may
 unserved_kept false last s agent request may unserved is = evicting_kept last s agent request may (is_evict request.kind unserved is)
 
 served_kept : (asked : Bool) (last : List ℕ) (s : LineState) (agent : Agent) (request : Waiting) (snoop : Snoop)
     → MayStart last s agent request → snoop_of request.kind ≡ Some snoop → has_any (asks snoop s.home.filter agent.0) ≡ asked
     → Kept last (started_parts s agent
-        (if asked then record (taken_up s.home agent.0) { serving = Snooping agent request.kind request.slot; awaited = asks snoop s.home.filter agent.0 } else completed (taken_up s.home agent.0) snoop agent request.slot)
-        (if asked then Snoops snoop (asks snoop s.home.filter agent.0) else Sends (completion_of s.home snoop agent s.home.memory)))
+    (if asked then record (taken_up s.home agent.0) { serving = Snooping agent request.kind request.slot; awaited = asks snoop s.home.filter agent.0 } else completed (taken_up s.home agent.0) snoop agent request.slot)
+    (if asked then Snoops snoop (asks snoop s.home.filter agent.0) else Sends (completion_of s.home snoop agent s.home.memory)))
 served_kept true last s agent request snoop may is asked =
     snooping_kept last s agent request snoop (asks snoop s.home.filter agent.0) may is (asks_fit snoop s.home.filter agent.0 may.here may.kept.named)
 served_kept false last s agent request snoop may is asked = completing_kept last s agent request snoop may is asked
