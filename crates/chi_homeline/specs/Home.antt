@@ -4,7 +4,9 @@ use Rattle.std.specs.Prelude.{◌≡◌, ℕ, List, Bool, true, false, ◌&&◌,
 use Rattle.std.specs.List.{slice_index_or}
 use Rattle.chi_flit.specs.declared.numbers.Agent.{Agent}
 use Rattle.chi_flit.specs.declared.numbers.Slot.{Slot}
+use Rattle.chi_flit.specs.declared.state.State.{State}
 use Rattle.chi_flit.specs.declared.kind.Kind.{Kind}
+use Rattle.chi_flit.specs.declared.kind.Kind.TheVariants.{ReadNotSharedDirty, ReadShared, ReadUnique, CleanUnique, Evict, WriteBackFull, WriteCleanFull, WriteEvictFull}
 use Rattle.chi_flit.specs.declared.snoop.Snoop.{Snoop}
 use Rattle.chi_flit.specs.declared.snoop.Snoop.TheVariants.{SnpNotSharedDirty, SnpShared, SnpUnique, SnpCleanInvalid}
 use Rattle.chi_flit.specs.declared.message.RspDown.TheVariants.{CompUC, CompDBIDResp}
@@ -14,7 +16,8 @@ use Rattle.chi_flit.specs.declared.refusal.Refusal.{Refusal}
 use Rattle.chi_flit.specs.declared.refusal.Refusal.TheVariants.{LineBusy, NotWaiting}
 use Rattle.chi_flit.specs.Kind.{snoop_of, is_copy_back}
 use Rattle.chi_flit.specs.Message.{no_words}
-use Rattle.chi_filter.specs.Filter.{FilterState, added, empty_filter, has_any, nobody, only_named, others_than, owner_set, removed, shared}
+use Rattle.chi_flit.specs.State.{is_dirty, is_valid}
+use Rattle.chi_filter.specs.Filter.{FilterState, added, empty_filter, has_any, nobody, only_named, others_than, owner_set, owner_without, removed, shared}
 use Rattle.chi_homeline.specs.declared.serving.Waiting.{Waiting}
 use Rattle.chi_homeline.specs.declared.serving.Serving.{Serving}
 use Rattle.chi_homeline.specs.declared.serving.Serving.TheVariants.{Idle, Snooping, AwaitingCompAck, AwaitingWriteData}
@@ -146,3 +149,36 @@ served_slot (AwaitingWriteData agent kind slot) = Some slot
 -- RecvAck: the line is idle
 abbrev pub acknowledged : Home → Home
 acknowledged home = record home { serving = Idle }
+
+-- the home once an agent's answer to its snoop is in: the memory and the filter are these
+abbrev pub answered : Home → ℕ → List ℕ → FilterState → Home
+answered home n memory filter = record home { memory = memory; filter = filter; awaited = others_than n home.awaited }
+
+-- the filter after an answer that leaves a copy, and no responsibility: shared
+abbrev pub left_shared : FilterState → ℕ → FilterState
+left_shared f n = record f { unique = false; owner = owner_without f.owner n }
+
+-- the filter after SnpRespData_SD: shared, and its sender is the owner
+abbrev pub left_owner : FilterState → Agent → FilterState
+left_owner f agent = record f { unique = false; owner = Some agent }
+
+-- whether write data in the form of a state leaves its sender without a copy: after a WriteCleanFull where
+-- it had none
+abbrev pub leaves : Kind → State → Bool
+leaves ReadNotSharedDirty form = not (is_valid form)
+leaves ReadShared form = not (is_valid form)
+leaves ReadUnique form = not (is_valid form)
+leaves CleanUnique form = not (is_valid form)
+leaves Evict form = not (is_valid form)
+leaves WriteBackFull form = true
+leaves WriteCleanFull form = not (is_valid form)
+leaves WriteEvictFull form = true
+
+-- the filter after write data: its sender is no owner any more
+abbrev pub written_filter : Bool → FilterState → ℕ → FilterState
+written_filter true f n = removed f n
+written_filter false f n = record f { owner = owner_without f.owner n }
+
+-- RecvWrData of a request of the kind: dirty data becomes the memory, and the line is idle
+abbrev pub written : Home → ℕ → Kind → State → List ℕ → Home
+written home n kind form words = record home { memory = if is_dirty form then words else home.memory; filter = written_filter (leaves kind form) home.filter n; serving = Idle }

@@ -1,17 +1,20 @@
 -- One requester's side of one line, and the requester's part of each action
 -- (docs/PROTOCOL.md, "One line" and "The actions").
-use Rattle.std.specs.Prelude.{◌≡◌, ℕ, List, Bool, true, false, Option, Some, None, Result, Ok, Err, is_some, if◌then◌else◌, not}
+use Rattle.std.specs.Prelude.{◌≡◌, ℕ, List, Bool, true, false, ◌||◌, Option, Some, None, Result, Ok, Err, is_some, slice_set, if◌then◌else◌, not}
 use Rattle.chi_flit.specs.declared.numbers.Slot.{Slot}
 use Rattle.chi_flit.specs.declared.state.State.{State}
 use Rattle.chi_flit.specs.declared.state.State.TheVariants.{I, SC, UC, UD, SD}
 use Rattle.chi_flit.specs.declared.kind.Kind.{Kind}
 use Rattle.chi_flit.specs.declared.kind.Kind.TheVariants.{ReadNotSharedDirty, ReadShared, ReadUnique, CleanUnique, Evict, WriteBackFull, WriteCleanFull, WriteEvictFull}
+use Rattle.chi_flit.specs.declared.snoop.Snoop.{Snoop}
 use Rattle.chi_flit.specs.declared.message.CompData.{CompData}
 use Rattle.chi_flit.specs.declared.message.Msg.{Msg}
 use Rattle.chi_flit.specs.declared.message.Msg.TheVariants as messages
 use Rattle.chi_flit.specs.declared.refusal.Refusal.{Refusal}
 use Rattle.chi_flit.specs.declared.refusal.Refusal.TheVariants as refusals
-use Rattle.chi_flit.specs.Kind.{is_needed}
+use Rattle.chi_flit.specs.State.{is_unique, is_valid}
+use Rattle.chi_flit.specs.Kind.{is_copy_back, is_needed}
+use Rattle.chi_flit.specs.Snoop.{answer_of}
 use Rattle.chi_flit.specs.Message.{no_words}
 use Rattle.chi_rnline.specs.declared.pending.Pending.{Pending}
 use Rattle.chi_rnline.specs.declared.pending.Phase.{Phase}
@@ -53,3 +56,118 @@ issued rn kind slot = record rn { state = state_after_issue kind rn.state; pendi
 -- RecvData: the copy is the message's state and data, and nothing is pending
 abbrev pub received : Rn → CompData → Rn
 received rn sent = record rn { state = if sent.unique then UC else SC; words = sent.words; pending = None }
+
+-- Load: 2 where there is no copy
+abbrev pub load_refusal : Rn → Option Refusal
+load_refusal rn = if is_valid rn.state then None else Some refusals.WrongState
+
+-- Store: 3 where a request is pending, then 2 where the copy isn't unique
+abbrev pub store_refusal : Rn → Option Refusal
+store_refusal rn = if is_some rn.pending then Some refusals.Pending else (if is_unique rn.state then None else Some refusals.WrongState)
+
+-- Store: the word has the value, and the copy is UD
+abbrev pub stored : Rn → ℕ → ℕ → Rn
+stored rn word value = record rn { state = UD; words = slice_set rn.words word value }
+
+-- the states of a clean copy, which may be dropped
+abbrev pub is_clean_copy : State → Bool
+is_clean_copy I = false
+is_clean_copy SC = true
+is_clean_copy UC = true
+is_clean_copy UD = false
+is_clean_copy SD = false
+
+-- Drop: 3 where a request is pending, then 2 where the copy isn't clean
+abbrev pub drop_refusal : Rn → Option Refusal
+drop_refusal rn = if is_some rn.pending then Some refusals.Pending else (if is_clean_copy rn.state then None else Some refusals.WrongState)
+
+-- Drop: no copy
+abbrev pub dropped : Rn → Rn
+dropped rn = record rn { state = I }
+
+-- a request in a phase
+abbrev pub in_phase : Phase → Option Pending → Option Pending
+in_phase phase None = None
+in_phase phase (Some request) = Some (record request { phase = phase })
+
+-- RecvRetry: the request is in phase Retried
+abbrev pub retry_received : Rn → Rn
+retry_received rn = record rn { pending = in_phase Retried rn.pending }
+
+-- whether a retried request may still be sent: a copy-back only from its needed state
+abbrev pub may_resend : Kind → State → Bool
+may_resend kind state = not (is_copy_back kind) || is_needed kind state
+
+-- Resend: 4 where no request is in phase Retried, then 2 where it may not be sent
+abbrev pub resend_refusal_of : State → Kind → Phase → Option Refusal
+resend_refusal_of state kind Sent = Some refusals.NothingPending
+resend_refusal_of state kind Retried = if may_resend kind state then None else Some refusals.WrongState
+
+abbrev pub resend_refusal_in : State → Option Pending → Option Refusal
+resend_refusal_in state None = Some refusals.NothingPending
+resend_refusal_in state (Some request) = resend_refusal_of state request.kind request.phase
+
+abbrev pub resend_refusal : Rn → Option Refusal
+resend_refusal rn = resend_refusal_in rn.state rn.pending
+
+-- Resend: the request is in phase Sent again
+abbrev pub resent : Rn → Rn
+resent rn = record rn { pending = in_phase Sent rn.pending }
+
+-- Cancel: 4 where no request is in phase Retried, then 2 where it may still be sent
+abbrev pub cancel_refusal_of : State → Kind → Phase → Option Refusal
+cancel_refusal_of state kind Sent = Some refusals.NothingPending
+cancel_refusal_of state kind Retried = if may_resend kind state then Some refusals.WrongState else None
+
+abbrev pub cancel_refusal_in : State → Option Pending → Option Refusal
+cancel_refusal_in state None = Some refusals.NothingPending
+cancel_refusal_in state (Some request) = cancel_refusal_of state request.kind request.phase
+
+abbrev pub cancel_refusal : Rn → Option Refusal
+cancel_refusal rn = cancel_refusal_in rn.state rn.pending
+
+-- Cancel: nothing is pending
+abbrev pub cancelled : Rn → Rn
+cancelled rn = record rn { pending = None }
+
+-- RecvSnp: the copy's state is the answer's
+abbrev pub snoop_received : Rn → Snoop → Rn
+snoop_received rn snoop = record rn { state = (answer_of rn.state snoop rn.words).0 }
+
+-- the copy's state after Comp_UC: a copy that was lost stays so
+abbrev pub state_after_comp : State → State
+state_after_comp I = I
+state_after_comp SC = UC
+state_after_comp UC = UC
+state_after_comp UD = UD
+state_after_comp SD = UD
+
+-- RecvComp of Comp_UC: the copy is unique, and nothing is pending
+abbrev pub comp_received : Rn → Rn
+comp_received rn = record rn { state = state_after_comp rn.state; pending = None }
+
+-- RecvComp of Comp_I: nothing is pending
+abbrev pub evict_received : Rn → Rn
+evict_received rn = record rn { pending = None }
+
+-- the copy's state after its write data was sent: a WriteCleanFull keeps a copy, clean
+abbrev pub state_after_clean : State → State
+state_after_clean I = I
+state_after_clean SC = SC
+state_after_clean UC = UC
+state_after_clean UD = UC
+state_after_clean SD = SC
+
+abbrev pub state_after_write : Kind → State → State
+state_after_write ReadNotSharedDirty state = I
+state_after_write ReadShared state = I
+state_after_write ReadUnique state = I
+state_after_write CleanUnique state = I
+state_after_write Evict state = I
+state_after_write WriteBackFull state = I
+state_after_write WriteCleanFull state = state_after_clean state
+state_after_write WriteEvictFull state = I
+
+-- RecvDbid of a request of the kind: nothing is pending
+abbrev pub dbid_received : Rn → Kind → Rn
+dbid_received rn kind = record rn { state = state_after_write kind rn.state; pending = None }

@@ -1,6 +1,5 @@
 -- Every action that isn't refused keeps what a line keeps.
 use Rattle.std.proofs.Common.{◌≡◌, ℕ, ◌<◌, List, Bool, true, false, Option, Some, None, is_some, arith, refl, if◌then◌else◌}
-use Rattle.chi_flit.specs.declared.numbers.Agent.{Agent}
 use Rattle.chi_flit.specs.declared.kind.Kind.{Kind}
 use Rattle.chi_flit.specs.declared.action.Action.{Action}
 use Rattle.chi_flit.specs.declared.action.Action.TheVariants.{Issue, Admit, Start, RecvData, RecvAck}
@@ -8,13 +7,12 @@ use Rattle.chi_flit.specs.declared.refusal.Refusal.TheVariants as refusals
 use Rattle.chi_flit.specs.Action.{agent_of}
 use Rattle.chi_flit.specs.Kind.{is_needed}
 use Rattle.chi_rnline.specs.Rn.{Rn, issue_refusal}
-use Rattle.chi_homeline.specs.declared.serving.Waiting.{Waiting}
 use Rattle.chi_homeline.specs.Home.{Home, is_idle, start_refusal, waiting_of}
 use Rattle.chi_slice.specs.LineState.{LineState, rn_of, cells_of}
 use Rattle.chi_slice.specs.Kept.{Kept}
 use Rattle.chi_slice.specs.Step.{after, where_some, line_refusal, line_uses, no_flit_unless, is_ack, admitted_line, received_line, started_line}
-use Rattle.chi_slice.proofs.Starts.{kept_started}
 use Rattle.chi_slice.proofs.Keeps.{kept_issued, kept_admitted, kept_received, kept_acknowledged}
+use Rattle.chi_slice.proofs.Starts.{kept_started}
 
 -- an Issue that isn't refused: its slot is idle, nothing is pending, the copy is in the needed state
 pub record IssueAllowed (used : Bool) (rn : Rn) (kind : Kind) : Type 0 where
@@ -60,7 +58,7 @@ kept_after used last s (Admit agent line) low allowed free k =
     kept_where_some last s (cells_of s agent.0).req (admitted_line s agent.0) k (λ request here. kept_admitted last s agent.0 request low here k)
 kept_after used last s (Start agent line) low allowed free k =
     kept_where_some last s (waiting_of s.home agent.0) (started_line s agent) k
-    (λ request here. kept_started s last agent request low here (start_allowed s.home agent.0 allowed).idle k)
+      (λ request here. kept_started s last agent request low here (start_allowed s.home agent.0 allowed).idle k)
 kept_after used last s (RecvData agent line) low allowed free k =
     kept_where_some last s (cells_of s agent.0).dat_down (received_line s agent.0) k (λ message here. kept_received last s agent.0 message low here k)
 kept_after used last s (RecvAck agent line) low allowed free k =
