@@ -58,7 +58,7 @@ kept_after used last s (Admit agent line) low allowed free k =
     kept_where_some last s (cells_of s agent.0).req (admitted_line s agent.0) k (λ request here. kept_admitted last s agent.0 request low here k)
 kept_after used last s (Start agent line) low allowed free k =
     kept_where_some last s (waiting_of s.home agent.0) (started_line s agent) k
-      (λ request here. kept_started s last agent request low here (start_allowed s.home agent.0 allowed).idle k)
+    (λ request here. kept_started s last agent request low here (start_allowed s.home agent.0 allowed).idle k)
 kept_after used last s (RecvData agent line) low allowed free k =
     kept_where_some last s (cells_of s agent.0).dat_down (received_line s agent.0) k (λ message here. kept_received last s agent.0 message low here k)
 kept_after used last s (RecvAck agent line) low allowed free k =

@@ -71,7 +71,7 @@ flag_ends false b ends = refl
 removed_clear : (last : List ℕ) (s : LineState) (n : ℕ) → AwaitsAnswer s n → Kept last s → (removed s.home.filter n).unique ≡ false
 removed_clear last s n may k = flag_ends s.home.filter.unique (has_any (others_than n s.home.filter.named))
     (λ flag. nobody_in (others_than n s.home.filter.named) (length-set s.home.filter.named n false ∙ k.named)
-      (λ m at. none_other n m s.home.filter.named may.here k.named (alone_named last s n may k flag m at)))
+    (λ m at. none_other n m s.home.filter.named may.here k.named (alone_named last s n may k flag m at)))
 
 -- beside an awaited agent of a shared read nobody else is the owner
 owner_is : (owner : Option Agent) (n m : ℕ) → m ≢ n → owned_by owner n ≡ true → owned_by owner m ≡ false
@@ -85,7 +85,7 @@ lonely last s n may k shared m at other = go (owned_by s.home.filter.owner n) re
     go : (b : Bool) → owned_by s.home.filter.owner n ≡ b → owned_by s.home.filter.owner m ≡ false
     go true here = owner_is s.home.filter.owner n m other here
     go false here = (k.lanes m at).flag_no_owner
-      (flagged_unowned may.snooping.agent may.snooping.kind may.snooping.slot s.home.filter.unique s.home.filter.owner last n (lane s n) shared may.awaited here
+        (flagged_unowned may.snooping.agent may.snooping.kind may.snooping.slot s.home.filter.unique s.home.filter.owner last n (lane s n) shared may.awaited here
         (snooped_lanes last s may.snooping k n may.here))
 
 -- the filter after an answer of n
@@ -118,9 +118,9 @@ kept_answered last s n memory after c may fits own clean_memory k =
     let slot = may.snooping.slot in
     let moves = answered_moves last s n memory after c may.here fits k in
     let lanes : (m : ℕ) → m < 8 → LaneKept (Snooping agent kind slot) false after.owner last m (lane (answered_line s n memory after c) m) =
-          lanes_by s _ (Snooping agent kind slot) false after.owner last n _ moves own
-            (λ m at other. answer_other agent kind slot s.home.filter.unique s.home.filter.owner after.owner last m (lane s m)
-              (λ flag. alone_named last s n may k flag m at other) (fits.owner_stays m at other) (snooped_lanes last s may.snooping k m at)) in
+    lanes_by s _ (Snooping agent kind slot) false after.owner last n _ moves own
+    (λ m at other. answer_other agent kind slot s.home.filter.unique s.home.filter.owner after.owner last m (lane s m)
+    (λ flag. alone_named last s n may k flag m at other) (fits.owner_stays m at other) (snooped_lanes last s may.snooping k m at)) in
     record {
       requesters = k.requesters;
       flits = length-set s.flits n c ∙ k.flits;
@@ -129,9 +129,10 @@ kept_answered last s n memory after c may fits own clean_memory k =
       waiting = k.waiting;
       in_range = k.in_range;
       lanes = λ m at. subst (λ v. LaneKept v after.unique after.owner last m (lane (answered_line s n memory after c) m)) (sym may.snooping.serving_is)
-        (subst (λ u. LaneKept (Snooping agent kind slot) u after.owner last m (lane (answered_line s n memory after c) m)) (sym fits.clear) (lanes m at));
+          (subst (λ u. LaneKept (Snooping agent kind slot) u after.owner last m (lane (answered_line s n memory after c) m)) (sym fits.clear) (lanes m at));
       flag_means_one = λ flag. absurd (no_two after.unique fits.clear flag);
-      memory_last = clean_memory }
+      memory_last = clean_memory;
+    }
 
 -- what a request that is snooped for needs to complete, once nobody is awaited
 record MayFinish (last : List ℕ) (s : LineState) (sent : List ℕ) : Type 0 where
@@ -147,9 +148,14 @@ finished_done last s sent may k none None is = k
 finished_done last s sent may k none (Some snoop) is =
     let all_in : (m : ℕ) → m < 8 → is_in s.home.awaited m ≡ false = λ m at. none_in s.home.awaited m k.awaited at none in
     kept_completed last s may.snooping.agent may.snooping.kind snoop may.snooping.slot sent
-      (record { here = subst IsServedInRange may.snooping.serving_is k.in_range;
-                serves = may.snooping.serving_is; snoop_is = is; all_in = all_in;
-                sent_is = may.sent_is all_in; flag_clear = λ shared. may.clear }) k
+    (record {
+      here = subst IsServedInRange may.snooping.serving_is k.in_range;
+      serves = may.snooping.serving_is;
+      snoop_is = is;
+      all_in = all_in;
+      sent_is = may.sent_is all_in;
+      flag_clear = λ shared. may.clear;
+    }) k
 
 finished_if : (last : List ℕ) (s : LineState) (sent : List ℕ) (may : MayFinish last s sent) → Kept last s
     → (b : Bool) → has_any s.home.awaited ≡ b
@@ -188,17 +194,20 @@ quiet_line last s is k clear done reads unowned m at = ⊎_elim own other (cases
   where
     lanes : (m : ℕ) → m < 8 → LaneKept (Snooping is.agent is.kind is.slot) false s.home.filter.owner last m (lane s m)
     lanes m at = subst (λ u. LaneKept (Snooping is.agent is.kind is.slot) u s.home.filter.owner last m (lane s m)) clear (snooped_lanes last s is k m at)
+
     served : is.agent.0 < 8
     served = subst IsServedInRange is.serving_is k.in_range
+
     own : m ≡ is.agent.0 → IsCleanLane (lane s m)
     own here = subst (λ j. IsCleanLane (lane s j)) (sym here)
-      (quiet_own is.agent is.kind is.slot false s.home.filter.owner last is.agent.0 (lane s is.agent.0) (done is.agent.0 served)
+        (quiet_own is.agent is.kind is.slot false s.home.filter.owner last is.agent.0 (lane s is.agent.0) (done is.agent.0 served)
         (read_from_none false s.home.filter.owner last is.agent is.kind is.slot (lane s is.agent.0) (same is.agent.0) reads (lanes is.agent.0 served)) (lanes is.agent.0 served))
+
     other : m ≢ is.agent.0 → IsCleanLane (lane s m)
     other away = ⊎_elim
-      (λ (all : invalidates (snoop_of is.kind) ≡ true). quiet_asked is.agent is.kind is.slot false s.home.filter.owner last m (lane s m) (done m at) (apart is.agent.0 m away) all (lanes m at))
-      (λ (shared : shares (snoop_of is.kind) ≡ true). quiet_shared is.agent is.kind is.slot s.home.filter.owner last m (lane s m) (done m at) (unowned shared m at) (lanes m at))
-      (read_snoop is.kind reads)
+        (λ (all : invalidates (snoop_of is.kind) ≡ true). quiet_asked is.agent is.kind is.slot false s.home.filter.owner last m (lane s m) (done m at) (apart is.agent.0 m away) all (lanes m at))
+        (λ (shared : shares (snoop_of is.kind) ≡ true). quiet_shared is.agent is.kind is.slot s.home.filter.owner last m (lane s m) (done m at) (unowned shared m at) (lanes m at))
+        (read_snoop is.kind reads)
 
 -- nobody owns the line once n, the only agent asked, answered a shared read
 nobody_owns : (last : List ℕ) (s : LineState) (n : ℕ) (may : AwaitsAnswer s n) → Kept last s → shares (snoop_of may.snooping.kind) ≡ true
@@ -214,14 +223,16 @@ removed_left last s n may k = record {
   eight = length-set s.home.filter.named n false ∙ k.named;
   puts = record { at = refl; others = λ m other. left_in n m s.home.filter.named other };
   clear = removed_clear last s n may k;
-  owner_stays = λ m at other. owned_elsewhere s.home.filter.owner n m other }
+  owner_stays = λ m at other. owned_elsewhere s.home.filter.owner n m other;
+}
 
 shared_left : (last : List ℕ) (s : LineState) (n : ℕ) → Kept last s → FilterLeft s.home.filter (left_shared s.home.filter n) n
 shared_left last s n k = record {
   eight = k.named;
   puts = record { at = refl; others = λ m other. refl };
   clear = refl;
-  owner_stays = λ m at other. owned_elsewhere s.home.filter.owner n m other }
+  owner_stays = λ m at other. owned_elsewhere s.home.filter.owner n m other;
+}
 
 owner_left : (last : List ℕ) (s : LineState) (agent : Agent) (may : AwaitsAnswer s agent.0) → Kept last s → shares (snoop_of may.snooping.kind) ≡ true
     → FilterLeft s.home.filter (left_owner s.home.filter agent) agent.0
@@ -229,7 +240,8 @@ owner_left last s agent may k shared = record {
   eight = k.named;
   puts = record { at = refl; others = λ m other. refl };
   clear = refl;
-  owner_stays = λ m at other. apart agent.0 m other ∙ sym (lonely last s agent.0 may k shared m at other) }
+  owner_stays = λ m at other. apart agent.0 m other ∙ sym (lonely last s agent.0 may k shared m at other);
+}
 
 -- an answer without data: memory is what a read is sent
 finished_memory : (last : List ℕ) (s : LineState) (n : ℕ) (after : FilterState) (c : Cells) (may : AwaitsAnswer s n)
@@ -237,9 +249,12 @@ finished_memory : (last : List ℕ) (s : LineState) (n : ℕ) (after : FilterSta
     → Kept last (answered_line s n s.home.memory after c) → Kept last (finished (answered_line s n s.home.memory after c) s.home.memory)
 finished_memory last s n after c may fits owner k answered =
     kept_finished last (answered_line s n s.home.memory after c) s.home.memory
-      (record { snooping = may.snooping; clear = fits.clear;
-                sent_is = λ done reads. answered.memory_last (quiet_line last (answered_line s n s.home.memory after c) may.snooping answered fits.clear done reads
-                  (λ shared m at. ap (λ o. owned_by o m) owner ∙ nobody_owns last s n may k shared m at)) }) answered
+    (record {
+      snooping = may.snooping;
+      clear = fits.clear;
+      sent_is = λ done reads. answered.memory_last (quiet_line last (answered_line s n s.home.memory after c) may.snooping answered fits.clear done reads
+          (λ shared m at. ap (λ o. owned_by o m) owner ∙ nobody_owns last s n may k shared m at));
+    }) answered
 
 -- an answer with data, which is what was last stored
 finished_data : (last : List ℕ) (s : LineState) (n : ℕ) (memory : List ℕ) (after : FilterState) (c : Cells) (may : AwaitsAnswer s n) (words : List ℕ)
@@ -247,7 +262,7 @@ finished_data : (last : List ℕ) (s : LineState) (n : ℕ) (memory : List ℕ) 
     → Kept last (answered_line s n memory after c) → Kept last (finished (answered_line s n memory after c) words)
 finished_data last s n memory after c may words fits is answered =
     kept_finished last (answered_line s n memory after c) words
-      (record { snooping = may.snooping; clear = fits.clear; sent_is = λ done reads. is }) answered
+    (record { snooping = may.snooping; clear = fits.clear; sent_is = λ done reads. is }) answered
 
 -- whose answer is in flight is awaited, by a line that snoops
 response_awaited : (serving : Serving) (unique : Bool) (owner : Option Agent) (last : List ℕ) (n : ℕ) (x : Lane)
@@ -260,7 +275,10 @@ sent_awaited serving unique owner last n x here k = search (arith, k.one_answer)
 
 awaits_answer : (last : List ℕ) (s : LineState) (n : ℕ) → n < 8 → is_in s.home.awaited n ≡ true → Kept last s → AwaitsAnswer s n
 awaits_answer last s n low awaited k = record {
-  here = low; snooping = is_snooping s.home.serving ((k.lanes n low).awaited_snooped awaited); awaited = awaited }
+  here = low;
+  snooping = is_snooping s.home.serving ((k.lanes n low).awaited_snooped awaited);
+  awaited = awaited;
+}
 
 awaits_response : (last : List ℕ) (s : LineState) (n : ℕ) → n < 8 → is_answer (cells_of s n).rsp_up ≡ true → Kept last s → AwaitsAnswer s n
 awaits_response last s n low here k = awaits_answer last s n low
@@ -278,7 +296,7 @@ memory_stays : (last : List ℕ) (s : LineState) (n : ℕ) (after : FilterState)
     → IsClean (answered_line s n s.home.memory after (record (cells_of s n) { rsp_up = None })) → s.home.memory ≡ last
 memory_stays last s n after low fits k clean =
     k.memory_last (clean_by s _ n _ (answered_moves last s n s.home.memory after (record (cells_of s n) { rsp_up = None }) low fits k) low
-      (λ c. record { copy = c.copy; on_its_way = c.on_its_way }) clean)
+    (λ c. record { copy = c.copy; on_its_way = c.on_its_way }) clean)
 
 -- SnpResp_I
 none_answered_by : (last : List ℕ) (s : LineState) (n : ℕ) → (cells_of s n).rsp_up ≡ Some SnpRespI → AwaitsAnswer s n
@@ -289,10 +307,10 @@ none_answered_by last s n here may k =
     let c = record (cells_of s n) { rsp_up = None } in
     let fits = removed_left last s n may k in
     finished_memory last s n f' c may fits refl k
-      (kept_answered last s n s.home.memory f' c may fits
-        (subst (λ b. LaneKept (Snooping is.agent is.kind is.slot) false f'.owner last n (record (lane s n) { named = b; awaited = false; flits = c })) (sym (left_out n s.home.filter.named may.here k.named))
-          (none_answered_lane is.agent is.kind is.slot s.home.filter.unique s.home.filter.owner f'.owner last n (lane s n) here (unowned_here s.home.filter.owner n) (snooped_lanes last s is k n may.here)))
-        (memory_stays last s n f' may.here fits k) k)
+    (kept_answered last s n s.home.memory f' c may fits
+    (subst (λ b. LaneKept (Snooping is.agent is.kind is.slot) false f'.owner last n (record (lane s n) { named = b; awaited = false; flits = c })) (sym (left_out n s.home.filter.named may.here k.named))
+    (none_answered_lane is.agent is.kind is.slot s.home.filter.unique s.home.filter.owner f'.owner last n (lane s n) here (unowned_here s.home.filter.owner n) (snooped_lanes last s is k n may.here)))
+    (memory_stays last s n f' may.here fits k) k)
 
 pub kept_none_answered : (last : List ℕ) (s : LineState) (n : ℕ) → n < 8
     → (cells_of s n).rsp_up ≡ Some SnpRespI → Kept last s → Kept last (none_answered s n)
@@ -307,10 +325,10 @@ shared_answered_by last s n here may k =
     let c = record (cells_of s n) { rsp_up = None } in
     let fits = shared_left last s n k in
     finished_memory last s n f' c may fits refl k
-      (kept_answered last s n s.home.memory f' c may fits
-        (shared_answered_lane is.agent is.kind is.slot s.home.filter.unique s.home.filter.owner f'.owner last n (lane s n) here (unowned_here s.home.filter.owner n)
-          (shares_only (snoop_of is.kind)) (snooped_lanes last s is k n may.here))
-        (memory_stays last s n f' may.here fits k) k)
+    (kept_answered last s n s.home.memory f' c may fits
+    (shared_answered_lane is.agent is.kind is.slot s.home.filter.unique s.home.filter.owner f'.owner last n (lane s n) here (unowned_here s.home.filter.owner n)
+    (shares_only (snoop_of is.kind)) (snooped_lanes last s is k n may.here))
+    (memory_stays last s n f' may.here fits k) k)
 
 pub kept_shared_answered : (last : List ℕ) (s : LineState) (n : ℕ) → n < 8
     → (cells_of s n).rsp_up ≡ Some SnpRespSC → Kept last s → Kept last (shared_answered s n)
@@ -326,10 +344,10 @@ none_sent_by last s n words here may k =
     let fits = removed_left last s n may k in
     let sent : words ≡ last = ((k.lanes n may.here).invalid_data words here).1 in
     finished_data last s n words f' c may words fits sent
-      (kept_answered last s n words f' c may fits
-        (subst (λ b. LaneKept (Snooping is.agent is.kind is.slot) false f'.owner last n (record (lane s n) { named = b; awaited = false; flits = c })) (sym (left_out n s.home.filter.named may.here k.named))
-          (none_sent_lane is.agent is.kind is.slot s.home.filter.unique s.home.filter.owner f'.owner last n (lane s n) words here (unowned_here s.home.filter.owner n) (snooped_lanes last s is k n may.here)))
-        (λ clean. sent) k)
+    (kept_answered last s n words f' c may fits
+    (subst (λ b. LaneKept (Snooping is.agent is.kind is.slot) false f'.owner last n (record (lane s n) { named = b; awaited = false; flits = c })) (sym (left_out n s.home.filter.named may.here k.named))
+    (none_sent_lane is.agent is.kind is.slot s.home.filter.unique s.home.filter.owner f'.owner last n (lane s n) words here (unowned_here s.home.filter.owner n) (snooped_lanes last s is k n may.here)))
+    (λ clean. sent) k)
 
 pub kept_none_sent : (last : List ℕ) (s : LineState) (n : ℕ) (words : List ℕ) → n < 8
     → (cells_of s n).dat_up ≡ Some (SnpRespDataIPD words) → Kept last s → Kept last (none_sent s n words)
@@ -345,10 +363,10 @@ shared_sent_by last s n words here may k =
     let fits = shared_left last s n k in
     let sent : words ≡ last = ((k.lanes n may.here).clean_data words here).3 in
     finished_data last s n words f' c may words fits sent
-      (kept_answered last s n words f' c may fits
-        (shared_sent_lane is.agent is.kind is.slot s.home.filter.unique s.home.filter.owner f'.owner last n (lane s n) words here (unowned_here s.home.filter.owner n)
-          (shares_only (snoop_of is.kind)) (snooped_lanes last s is k n may.here))
-        (λ clean. sent) k)
+    (kept_answered last s n words f' c may fits
+    (shared_sent_lane is.agent is.kind is.slot s.home.filter.unique s.home.filter.owner f'.owner last n (lane s n) words here (unowned_here s.home.filter.owner n)
+    (shares_only (snoop_of is.kind)) (snooped_lanes last s is k n may.here))
+    (λ clean. sent) k)
 
 pub kept_shared_sent : (last : List ℕ) (s : LineState) (n : ℕ) (words : List ℕ) → n < 8
     → (cells_of s n).dat_up ≡ Some (SnpRespDataSCPD words) → Kept last s → Kept last (shared_sent s n words)
@@ -367,10 +385,10 @@ owner_sent_by last s agent words here may k =
     let told = (k.lanes agent.0 may.here).dirty_data words here in
     let fits = owner_left last s agent may k (shared_snoop s is (ap shares told.1)) in
     finished_data last s agent.0 s.home.memory f' c may words fits told.2
-      (kept_answered last s agent.0 s.home.memory f' c may fits
-        (owner_sent_lane is.agent is.kind is.slot s.home.filter.unique s.home.filter.owner f'.owner last agent.0 (lane s agent.0) words here (same agent.0)
-          (shares_only (snoop_of is.kind)) (snooped_lanes last s is k agent.0 may.here))
-        (λ clean. absurd (dirty_copy (rn_of s agent.0).state told.0 (clean agent.0 may.here).copy)) k)
+    (kept_answered last s agent.0 s.home.memory f' c may fits
+    (owner_sent_lane is.agent is.kind is.slot s.home.filter.unique s.home.filter.owner f'.owner last agent.0 (lane s agent.0) words here (same agent.0)
+    (shares_only (snoop_of is.kind)) (snooped_lanes last s is k agent.0 may.here))
+    (λ clean. absurd (dirty_copy (rn_of s agent.0).state told.0 (clean agent.0 may.here).copy)) k)
 
 pub kept_owner_sent : (last : List ℕ) (s : LineState) (agent : Agent) (words : List ℕ) → agent.0 < 8
     → (cells_of s agent.0).dat_up ≡ Some (SnpRespDataSD words) → Kept last s → Kept last (owner_sent s agent words)

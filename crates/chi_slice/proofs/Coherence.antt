@@ -38,17 +38,18 @@ owner_cases false c unique P both first second flagged = flagged (first refl)
 pub coherent : (last : List ℕ) (s : LineState) → Kept last s → Coherent last s
 coherent last s k =
     let flag_of : (n : ℕ) → n < 8 → (rn_of s n).state ≡ SD → owned_by s.home.filter.owner n ≡ false → s.home.filter.unique ≡ true =
-          λ n low dirty other. shared_dirty_flagged s.home.serving s.home.filter.unique s.home.filter.owner last n (lane s n) dirty other (k.lanes n low) in
+    λ n low dirty other. shared_dirty_flagged s.home.serving s.home.filter.unique s.home.filter.owner last n (lane s n) dirty other (k.lanes n low) in
     let named_by : (n : ℕ) → n < 8 → (rn_of s n).state ≡ SD → is_named s.home.filter n ≡ true =
-          λ n low dirty. (k.lanes n low).holder_named (ap is_valid dirty) in
+    λ n low dirty. (k.lanes n low).holder_named (ap is_valid dirty) in
     record {
       unique_holder = λ n m low at apart unique. none_unless (rn_of s m).state (λ valid.
-        apart (k.flag_means_one ((k.lanes n low).unique_flagged unique) m n at low
+          apart (k.flag_means_one ((k.lanes n low).unique_flagged unique) m n at low
           ((k.lanes m at).holder_named valid) ((k.lanes n low).holder_named (unique_valid (rn_of s n).state unique))));
       named = λ n low valid. (k.lanes n low).holder_named valid;
       valid_data = λ n low valid. (k.lanes n low).holder_last valid;
       memory = k.memory_last;
       one_owner = λ n m low at here there.
-        owner_cases (owned_by s.home.filter.owner n) (owned_by s.home.filter.owner m) s.home.filter.unique (n ≡ m)
+          owner_cases (owned_by s.home.filter.owner n) (owned_by s.home.filter.owner m) s.home.filter.unique (n ≡ m)
           (one_owned s.home.filter.owner n m) (flag_of n low here) (flag_of m at there)
-          (λ flagged. k.flag_means_one flagged n m low at (named_by n low here) (named_by m at there)) }
+          (λ flagged. k.flag_means_one flagged n m low at (named_by n low here) (named_by m at there));
+    }

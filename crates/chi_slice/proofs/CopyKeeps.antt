@@ -78,24 +78,25 @@ snooped_by last s n snoop low here snooping row k =
     let rn = rn_of s n in
     let answer = answer_of rn.state snoop rn.words in
     let before : LaneKept (Snooping snooping.agent snooping.kind snooping.slot) unique owner last n (lane s n) =
-          subst (λ v. LaneKept v unique owner last n (lane s n)) snooping.serving_is (k.lanes n low) in
+    subst (λ v. LaneKept v unique owner last n (lane s n)) snooping.serving_is (k.lanes n low) in
     let no_rsp : (cells_of s n).rsp_up ≡ None = snoop_no_response snooping.agent snooping.kind snooping.slot unique owner last n (lane s n) snoop here before in
     let no_dat : (cells_of s n).dat_up ≡ None = snoop_no_data snooping.agent snooping.kind snooping.slot unique owner last n (lane s n) snoop here before in
     let cells : with_message (record (cells_of s n) { snp = None }) answer.1 ≡ record (cells_of s n) { snp = None; rsp_up = rsp_of answer.1; dat_up = dat_of answer.1 } =
-          with_up (record (cells_of s n) { snp = None }) answer.1 row.1 no_rsp no_dat in
+    with_up (record (cells_of s n) { snp = None }) answer.1 row.1 no_rsp no_dat in
     kept_by last s n (snoop_received rn snoop) (with_message (record (cells_of s n) { snp = None }) answer.1) low k
-      (subst (λ v. LaneKept v unique owner last n (record (lane s n) { rn = snoop_received rn snoop; flits = with_message (record (cells_of s n) { snp = None }) answer.1 })) (sym snooping.serving_is)
-        (subst (λ c. LaneKept (Snooping snooping.agent snooping.kind snooping.slot) unique owner last n (record (lane s n) { rn = snoop_received rn snoop; flits = c })) (sym cells)
-          (snoop_lane snooping.agent snooping.kind snooping.slot unique owner last n (lane s n) snoop answer.0 (rsp_of answer.1) (dat_of answer.1) here row.0 before)))
-      (λ clean. record {
-        copy = row.0.stays_dirty clean.copy (subst (λ (c : Cells). passes_dirty c.dat_up ≡ false) cells clean.on_its_way);
-        on_its_way = ap passes_dirty no_dat })
+    (subst (λ v. LaneKept v unique owner last n (record (lane s n) { rn = snoop_received rn snoop; flits = with_message (record (cells_of s n) { snp = None }) answer.1 })) (sym snooping.serving_is)
+    (subst (λ c. LaneKept (Snooping snooping.agent snooping.kind snooping.slot) unique owner last n (record (lane s n) { rn = snoop_received rn snoop; flits = c })) (sym cells)
+    (snoop_lane snooping.agent snooping.kind snooping.slot unique owner last n (lane s n) snoop answer.0 (rsp_of answer.1) (dat_of answer.1) here row.0 before)))
+    (λ clean. record {
+      copy = row.0.stays_dirty clean.copy (subst (λ (c : Cells). passes_dirty c.dat_up ≡ false) cells clean.on_its_way);
+      on_its_way = ap passes_dirty no_dat;
+    })
 
 pub kept_snooped : (last : List ℕ) (s : LineState) (n : ℕ) (snoop : Snoop) → n < 8
     → (cells_of s n).snp ≡ Some snoop → Kept last s → Kept last (snooped_line s n snoop)
 kept_snooped last s n snoop low here k =
     snooped_by last s n snoop low here (is_snooping s.home.serving (ap is_some ((k.lanes n low).snoop_fits snoop here)))
-      (answer_row (rn_of s n).state snoop (rn_of s n).words) k
+    (answer_row (rn_of s n).state snoop (rn_of s n).words) k
 
 -- RecvComp of Comp_UC
 comp_acked : (serving : Serving) (unique : Bool) (owner : Option Agent) (last : List ℕ) (n : ℕ) (x : Lane)
@@ -111,16 +112,16 @@ comp_awaited last s n low here awaits k =
     let unique = s.home.filter.unique in
     let owner = s.home.filter.owner in
     kept_by last s n _ _ low k
-      (subst (λ v. LaneKept v unique owner last n (record (lane s n) { rn = comp_received (rn_of s n); flits = record (cells_of s n) { rsp_down = None; rsp_up = Some CompAck } })) (sym awaits.serving_is)
-        (comp_received_lane awaits.agent awaits.slot unique owner last n (lane s n) (state_after_comp (rn_of s n).state) here (comp_is (rn_of s n).state)
-          (subst (λ v. LaneKept v unique owner last n (lane s n)) awaits.serving_is (k.lanes n low))))
-      (λ clean. record { copy = comp_stays_dirty (rn_of s n).state clean.copy; on_its_way = clean.on_its_way })
+    (subst (λ v. LaneKept v unique owner last n (record (lane s n) { rn = comp_received (rn_of s n); flits = record (cells_of s n) { rsp_down = None; rsp_up = Some CompAck } })) (sym awaits.serving_is)
+    (comp_received_lane awaits.agent awaits.slot unique owner last n (lane s n) (state_after_comp (rn_of s n).state) here (comp_is (rn_of s n).state)
+    (subst (λ v. LaneKept v unique owner last n (lane s n)) awaits.serving_is (k.lanes n low))))
+    (λ clean. record { copy = comp_stays_dirty (rn_of s n).state clean.copy; on_its_way = clean.on_its_way })
 
 pub kept_comp_received : (last : List ℕ) (s : LineState) (n : ℕ) → n < 8
     → (cells_of s n).rsp_down ≡ Some CompUC → Kept last s → Kept last (comp_received_line s n)
 kept_comp_received last s n low here k =
     comp_awaited last s n low here
-      (awaits_ack s.home.serving n (comp_acked s.home.serving s.home.filter.unique s.home.filter.owner last n (lane s n) here (k.lanes n low))) k
+    (awaits_ack s.home.serving n (comp_acked s.home.serving s.home.filter.unique s.home.filter.owner last n (lane s n) here (k.lanes n low))) k
 
 -- RecvDbid
 dbid_written : (serving : Serving) (unique : Bool) (owner : Option Agent) (last : List ℕ) (n : ℕ) (x : Lane)
@@ -140,21 +141,22 @@ dbid_awaited last s n low here awaits k =
     let owner = s.home.filter.owner in
     let rn = rn_of s n in
     let before : LaneKept (AwaitingWriteData awaits.agent awaits.kind awaits.slot) unique owner last n (lane s n) =
-          subst (λ v. LaneKept v unique owner last n (lane s n)) awaits.serving_is (k.lanes n low) in
+    subst (λ v. LaneKept v unique owner last n (lane s n)) awaits.serving_is (k.lanes n low) in
     let sent : write_data_of rn.state rn.words ≡ CopyBackWrData rn.state (words_sent rn.state rn.words) = write_data_is rn.state rn.words in
     kept_by last s n (dbid_received rn awaits.kind) (record (cells_of s n) { rsp_down = None; dat_up = Some (write_data_of rn.state rn.words) }) low k
-      (subst (λ v. LaneKept v unique owner last n (record (lane s n) { rn = dbid_received rn awaits.kind; flits = record (cells_of s n) { rsp_down = None; dat_up = Some (write_data_of rn.state rn.words) } })) (sym awaits.serving_is)
-        (subst (λ (d : DatUp). LaneKept (AwaitingWriteData awaits.agent awaits.kind awaits.slot) unique owner last n (record (lane s n) { rn = dbid_received rn awaits.kind; flits = record (cells_of s n) { rsp_down = None; dat_up = Some d } })) (sym sent)
-          (dbid_received_lane awaits.agent awaits.kind awaits.slot unique owner last n (lane s n) (state_after_write awaits.kind rn.state) rn.state (words_sent rn.state rn.words) here (write_is awaits.kind rn.state rn.words) before)))
-      (λ clean. record {
-        copy = subst (λ (d : DatUp). passes_dirty (Some d) ≡ false) sent clean.on_its_way;
-        on_its_way = ap passes_dirty (dbid_no_data awaits.agent awaits.kind awaits.slot unique owner last n (lane s n) here before) })
+    (subst (λ v. LaneKept v unique owner last n (record (lane s n) { rn = dbid_received rn awaits.kind; flits = record (cells_of s n) { rsp_down = None; dat_up = Some (write_data_of rn.state rn.words) } })) (sym awaits.serving_is)
+    (subst (λ (d : DatUp). LaneKept (AwaitingWriteData awaits.agent awaits.kind awaits.slot) unique owner last n (record (lane s n) { rn = dbid_received rn awaits.kind; flits = record (cells_of s n) { rsp_down = None; dat_up = Some d } })) (sym sent)
+    (dbid_received_lane awaits.agent awaits.kind awaits.slot unique owner last n (lane s n) (state_after_write awaits.kind rn.state) rn.state (words_sent rn.state rn.words) here (write_is awaits.kind rn.state rn.words) before)))
+    (λ clean. record {
+      copy = subst (λ (d : DatUp). passes_dirty (Some d) ≡ false) sent clean.on_its_way;
+      on_its_way = ap passes_dirty (dbid_no_data awaits.agent awaits.kind awaits.slot unique owner last n (lane s n) here before);
+    })
 
 pub kept_dbid_received : (last : List ℕ) (s : LineState) (n : ℕ) (kind : Kind) → n < 8
     → (cells_of s n).rsp_down ≡ Some CompDBIDResp → kind_of (rn_of s n).pending ≡ Some kind → Kept last s → Kept last (dbid_received_line s n kind)
 kept_dbid_received last s n kind low here pending k =
     let awaits : AwaitsWrite s.home.serving n = awaits_write s.home.serving n (dbid_written s.home.serving s.home.filter.unique s.home.filter.owner last n (lane s n) here (k.lanes n low)) in
     subst (λ v. Kept last (dbid_received_line s n v))
-      (sym (dbid_kind_is awaits.agent awaits.kind kind awaits.slot s.home.filter.unique s.home.filter.owner last n (lane s n) here pending
-        (subst (λ v. LaneKept v s.home.filter.unique s.home.filter.owner last n (lane s n)) awaits.serving_is (k.lanes n low))))
-      (dbid_awaited last s n low here awaits k)
+    (sym (dbid_kind_is awaits.agent awaits.kind kind awaits.slot s.home.filter.unique s.home.filter.owner last n (lane s n) here pending
+    (subst (λ v. LaneKept v s.home.filter.unique s.home.filter.owner last n (lane s n)) awaits.serving_is (k.lanes n low))))
+    (dbid_awaited last s n low here awaits k)

@@ -31,4 +31,5 @@ opening_kept = record {
   in_range = tt;
   lanes = λ n low. subst (LaneKept Idle false None no_words n) (sym (opening_lanes n low)) (opening_lane_kept n);
   flag_means_one = λ flag. absurd cc;
-  memory_last = λ clean. refl }
+  memory_last = λ clean. refl;
+}

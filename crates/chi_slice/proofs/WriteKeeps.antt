@@ -63,11 +63,12 @@ removed_after f n valid low eight gone = record {
   named_stays = λ is. absurd (not_both valid gone is);
   unique_stays = λ is. absurd (not_both valid gone is);
   flag_stays = λ m at apart flag named. and_both f.unique (has_any (others_than n f.named)) flag
-    (has_in (others_than n f.named) m (length-set f.named n false ∙ eight) at (left_in n m f.named apart ∙ named));
+      (has_in (others_than n f.named) m (length-set f.named n false ∙ eight) at (left_in n m f.named apart ∙ named));
   flag_back = λ flag. and_first f.unique (has_any (others_than n f.named)) flag;
   named_back = λ named. was_in n n f.named low eight named;
   unowned = unowned_here f.owner n;
-  owner_stays = λ m apart. owned_elsewhere f.owner n m apart }
+  owner_stays = λ m apart. owned_elsewhere f.owner n m apart;
+}
 
 pub unowned_after : (f : FilterState) (n : ℕ) (valid : Bool) → length f.named ≡ 8 → FilterAfter f (record f { owner = owner_without f.owner n }) n valid
 unowned_after f n valid eight = record {
@@ -79,7 +80,8 @@ unowned_after f n valid eight = record {
   flag_back = λ flag. flag;
   named_back = λ named. named;
   unowned = unowned_here f.owner n;
-  owner_stays = λ m apart. owned_elsewhere f.owner n m apart }
+  owner_stays = λ m apart. owned_elsewhere f.owner n m apart;
+}
 
 -- the line once write data is taken, for any memory and filter
 abbrev taken_line : LineState → ℕ → List ℕ → FilterState → LineState
@@ -92,9 +94,9 @@ one_named last s n after valid fits k flag a b low at here there = k.flag_means_
   where
     was : (m : ℕ) → is_named after m ≡ true → is_named s.home.filter m ≡ true
     was m named = ⊎_elim
-      (λ (same : m ≡ n). subst (λ k. is_named s.home.filter k ≡ true) (sym same) (fits.named_back (subst (λ k. is_named after k ≡ true) same named)))
-      (λ (apart : m ≢ n). sym (fits.puts.others m apart) ∙ named)
-      (cases_eq m n)
+        (λ (same : m ≡ n). subst (λ k. is_named s.home.filter k ≡ true) (sym same) (fits.named_back (subst (λ k. is_named after k ≡ true) same named)))
+        (λ (apart : m ≢ n). sym (fits.puts.others m apart) ∙ named)
+        (cases_eq m n)
 
 taken_moves : (last : List ℕ) (s : LineState) (n : ℕ) (memory : List ℕ) (after : FilterState) (valid : Bool) → n < 8
     → FilterAfter s.home.filter after n valid → Kept last s
@@ -113,7 +115,7 @@ taken_kept last s n form words memory after low here awaits fits clean_memory k 
     let unique = s.home.filter.unique in
     let owner = s.home.filter.owner in
     let before : (m : ℕ) → m < 8 → LaneKept (AwaitingWriteData awaits.agent awaits.kind awaits.slot) unique owner last m (lane s m) =
-          λ m at. subst (λ v. LaneKept v unique owner last m (lane s m)) awaits.serving_is (k.lanes m at) in
+    λ m at. subst (λ v. LaneKept v unique owner last m (lane s m)) awaits.serving_is (k.lanes m at) in
     let moves = taken_moves last s n memory after (is_valid (rn_of s n).state) low fits k in
     record {
       requesters = k.requesters;
@@ -123,12 +125,13 @@ taken_kept last s n form words memory after low here awaits fits clean_memory k 
       waiting = k.waiting;
       in_range = tt;
       lanes = lanes_by s _ Idle after.unique after.owner last n _ moves
-        (write_lane awaits.agent awaits.kind awaits.slot unique after.unique owner after.owner last n (lane s n) form words (is_named after n) here
+          (write_lane awaits.agent awaits.kind awaits.slot unique after.unique owner after.owner last n (lane s n) form words (is_named after n) here
           fits.named_stays fits.unique_stays fits.unowned (before n low))
-        (λ m at apart. write_other awaits.agent awaits.kind awaits.slot unique after.unique owner after.owner last m (lane s m)
+          (λ m at apart. write_other awaits.agent awaits.kind awaits.slot unique after.unique owner after.owner last m (lane s m)
           (not_served awaits.agent.0 n m awaits.agent_is apart) (λ flag named. fits.flag_stays m at apart flag named) fits.flag_back (fits.owner_stays m apart) (before m at));
       flag_means_one = one_named last s n after (is_valid (rn_of s n).state) fits k;
-      memory_last = clean_memory }
+      memory_last = clean_memory;
+    }
 
 -- who leaves the filter has no copy
 not_valid_none : (form : State) → not (is_valid form) ≡ true → form ≡ I
@@ -168,7 +171,7 @@ memory_written last s n form words after true low here dirty fits k clean =
     (k.lanes n low).write_last form words here dirty (not_unique_dirty (rn_of s n).state (clean n low).copy)
 memory_written last s n form words after false low here dirty fits k clean =
     k.memory_last (clean_by s _ n _ (taken_moves last s n s.home.memory after (is_valid (rn_of s n).state) low fits k) low
-      (λ c. record { copy = c.copy; on_its_way = ap passes_dirty here ∙ dirty }) clean)
+    (λ c. record { copy = c.copy; on_its_way = ap passes_dirty here ∙ dirty }) clean)
 
 written_as : (b : Bool) (last : List ℕ) (s : LineState) (n : ℕ) (form : State) (words : List ℕ) → n < 8
     → (cells_of s n).dat_up ≡ Some (CopyBackWrData form words) → (awaits : AwaitsWrite s.home.serving n)
@@ -189,8 +192,8 @@ written_kept : (last : List ℕ) (s : LineState) (n : ℕ) (form : State) (words
     → (cells_of s n).dat_up ≡ Some (CopyBackWrData form words) → (awaits : AwaitsWrite s.home.serving n) → Kept last s → Kept last (written_line s n awaits.kind form words)
 written_kept last s n form words low here awaits k =
     written_as (leaves awaits.kind form) last s n form words low here awaits
-      (λ gone. leaver_gone awaits.agent awaits.kind awaits.slot s.home.filter.unique s.home.filter.owner last n (lane s n) form words here gone
-        (subst (λ v. LaneKept v s.home.filter.unique s.home.filter.owner last n (lane s n)) awaits.serving_is (k.lanes n low))) k
+    (λ gone. leaver_gone awaits.agent awaits.kind awaits.slot s.home.filter.unique s.home.filter.owner last n (lane s n) form words here gone
+    (subst (λ v. LaneKept v s.home.filter.unique s.home.filter.owner last n (lane s n)) awaits.serving_is (k.lanes n low))) k
 
 same_kind : (a b : Kind) (served : Option Kind) → served ≡ Some a → served ≡ Some b → a ≡ b
 same_kind a b served is_a is_b = cc
@@ -202,4 +205,4 @@ pub kept_written : (last : List ℕ) (s : LineState) (n : ℕ) (kind : Kind) (fo
 kept_written last s n kind form words low here served k =
     let awaits : AwaitsWrite s.home.serving n = awaits_write s.home.serving n (write_awaited s.home.serving s.home.filter.unique s.home.filter.owner last n (lane s n) form words here (k.lanes n low)) in
     subst (λ v. Kept last (written_line s n v form words)) (same_kind awaits.kind kind (served_kind s.home.serving) (ap served_kind awaits.serving_is) served)
-      (written_kept last s n form words low here awaits k)
+    (written_kept last s n form words low here awaits k)

@@ -105,21 +105,25 @@ pub quiet_own : (agent : Agent) (kind : Kind) (slot : Slot) (unique : Bool) (own
     → x.awaited ≡ false → x.rn.state ≡ I
     → LaneKept (Snooping agent kind slot) unique owner last n x → IsCleanLane x
 quiet_own agent kind slot unique owner last n x done none k = record {
-    copy = ap is_dirty none; on_its_way = nothing_on_its_way agent kind slot unique owner last n x done k }
+  copy = ap is_dirty none;
+  on_its_way = nothing_on_its_way agent kind slot unique owner last n x done k;
+}
 
 pub quiet_asked : (agent : Agent) (kind : Kind) (slot : Slot) (unique : Bool) (owner : Option Agent) (last : List ℕ) (n : ℕ) (x : Lane)
     → x.awaited ≡ false → eqb agent.0 n ≡ false → invalidates (snoop_of kind) ≡ true
     → LaneKept (Snooping agent kind slot) unique owner last n x → IsCleanLane x
 quiet_asked agent kind slot unique owner last n x done apart all k = record {
-    copy = unnamed_clean (Snooping agent kind slot) unique owner last n x (all_asked agent kind slot unique owner last n x done apart all k) k;
-    on_its_way = nothing_on_its_way agent kind slot unique owner last n x done k }
+  copy = unnamed_clean (Snooping agent kind slot) unique owner last n x (all_asked agent kind slot unique owner last n x done apart all k) k;
+  on_its_way = nothing_on_its_way agent kind slot unique owner last n x done k;
+}
 
 pub quiet_shared : (agent : Agent) (kind : Kind) (slot : Slot) (owner : Option Agent) (last : List ℕ) (n : ℕ) (x : Lane)
     → x.awaited ≡ false → owned_by owner n ≡ false
     → LaneKept (Snooping agent kind slot) false owner last n x → IsCleanLane x
 quiet_shared agent kind slot owner last n x done unowned k = record {
-    copy = unowned_clean agent kind slot owner last n x done unowned k;
-    on_its_way = nothing_on_its_way agent kind slot false owner last n x done k }
+  copy = unowned_clean agent kind slot owner last n x done unowned k;
+  on_its_way = nothing_on_its_way agent kind slot false owner last n x done k;
+}
 
 -- whose answers are awaited, and in flight
 pub rsp_awaited : (agent : Agent) (kind : Kind) (slot : Slot) (unique : Bool) (owner : Option Agent) (last : List ℕ) (n : ℕ) (x : Lane)

@@ -103,6 +103,10 @@ acted s action = with_line s (row_of_line s (line_of action).0) (after (line s (
 abbrev pub view_refusal : SliceState → ℕ → Option Refusal
 view_refusal s l = if is_line_in_range s l then None else Some OutOfRange
 
+-- why an agent's flits at a line can't be looked at
+abbrev pub flits_refusal : SliceState → ℕ → ℕ → Option Refusal
+flits_refusal s n l = if nat_lt n s.config.agents && is_line_in_range s l then None else Some OutOfRange
+
 -- all lines of a slice but one are as before
 abbrev pub OtherLinesStay : SliceState → SliceState → ℕ → Type 0
 OtherLinesStay old new l = (other : ℕ) → is_line_in_range old other ≡ true → other ≢ l → line new other ≡ line old other

@@ -7,11 +7,12 @@ ghost use Rattle.chi_rnline.specs.Rn.{no_line};
 ghost use Rattle.chi_homeline.specs.Home.{idle_home};
 ghost use Rattle.chi_slice.specs.Config.{Sizes, are_in_limits};
 ghost use Rattle.chi_slice.specs.Step.{effect_of};
+ghost use Rattle.chi_slice.specs.LineState.{cells_of};
 ghost use Rattle.chi_slice.specs.LineStep.{LineStep};
 ghost use Rattle.chi_flit.specs.Message.{no_words};
 ghost use Rattle.chi_slice.specs.Coherent.{Coherent};
 ghost use Rattle.chi_slice.specs.View.{shown};
-ghost use Rattle.chi_slice.specs.Slice.{acted, is_in_range, is_line_in_range, is_slot_in_range, is_slot_used, line, line as line_of_slice, completes, opening_slice, OtherLinesStay, SliceKept, refused, row_count, row_of_line, uses_below, view_refusal};
+ghost use Rattle.chi_slice.specs.Slice.{acted, flits_refusal, is_in_range, is_line_in_range, is_slot_in_range, is_slot_used, line, line as line_of_slice, completes, opening_slice, OtherLinesStay, SliceKept, refused, row_count, row_of_line, uses_below, view_refusal};
 
 use crate::act::{acknowledged_slot, act_on, evicted_slot, line_uses};
 use crate::config::Config;
@@ -19,7 +20,7 @@ use crate::view::{LineView, view_of};
 use chi_flit::{Action, Agent, Effect, Line, NO_DATA, NoMemory, Refusal, Slot};
 use chi_homeline::HomeLine;
 use chi_rnline::RnLine;
-use chi_wires::Wires;
+use chi_wires::{Cells, Wires};
 use std::alloc::Allocator;
 use std::marker::Model;
 
@@ -220,6 +221,21 @@ impl<A: Allocator> Slice<A> {
             self.wires.row(Line(row)),
             NO_DATA,
         ))
+    }
+
+    /// What is in flight between an agent and the home for a line.
+    ///
+    /// Refused 10 (OutOfRange) exactly where the agent or the line is outside the node, or the line is in
+    /// another slice.
+    pub fn flits(&self, agent: Agent, line: Line) -> Result<Cells, Refusal>
+        ensures cells { IfOk result (λ cells. cells ≡ cells_of (line_of_slice self.now line.0) agent.0) }
+        ensures refusal { refusal_of result ≡ flits_refusal self.now agent.0 line.0 }
+    {
+        if agent.0 >= self.config.agents() || !self.is_line_in_range(line) {
+            return Err(Refusal::OutOfRange);
+        }
+        let row = line.0 / self.config.slices();
+        Ok(self.wires.cells(agent, Line(row)))
     }
 
     /// The size of the node.
