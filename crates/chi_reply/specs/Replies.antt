@@ -1,0 +1,112 @@
+-- The text of each answer of a replay, without the line feed that ends its line
+-- (docs/PROTOCOL.md, "Replay files" and "Messages").
+use Rattle.std.specs.Prelude.{ℕ, List, [], ◌∷◌, ◌++◌, Bool, true, false, Option, Some, None, is_some, map, take, codes}
+use Rattle.std.specs.List.{filter, flat_map, range_with_len}
+use Rattle.std.specs.Fmt.{decimal}
+use Rattle.chi_flit.specs.declared.credit.Profile.{Profile}
+use Rattle.chi_flit.specs.declared.credit.Profile.TheVariants.{Two, Four}
+use Rattle.chi_flit.specs.declared.message.Channel.{Channel}
+use Rattle.chi_flit.specs.declared.message.Channel.TheVariants as channels
+use Rattle.chi_flit.specs.declared.message.Msg.{Msg}
+use Rattle.chi_flit.specs.Message.{message_text}
+use Rattle.chi_flit.specs.Refusal.{refusal_number, refusal_text}
+use Rattle.chi_flit.specs.State.{state_text}
+use Rattle.chi_filter.specs.Filter.{is_in}
+use Rattle.chi_homeline.specs.declared.serving.Serving.{Serving}
+use Rattle.chi_homeline.specs.declared.serving.Serving.TheVariants.{Idle, Snooping, AwaitingCompAck, AwaitingWriteData}
+use Rattle.chi_wires.specs.declared.cells.Cells.{Cells}
+use Rattle.chi_wires.specs.Cell.{cell_of}
+use Rattle.chi_slice.specs.declared.view.CopyView.{CopyView}
+use Rattle.chi_slice.specs.declared.view.LineView.{LineView}
+use Rattle.chi_reply.specs.declared.replies.Reply.{Reply}
+use Rattle.chi_reply.specs.declared.replies.Reply.TheVariants.{Done, Value, Admitted, NoEntry, Completed, Refused}
+use Rattle.chi_reply.specs.declared.totals.Totals.{Totals}
+
+abbrev pub reply_text : Reply → List ℕ
+reply_text Done = codes "ok"
+reply_text (Value value) = codes "ok value " ++ decimal value
+reply_text (Admitted entry) = codes "ok admitted " ++ decimal entry.0
+reply_text NoEntry = codes "ok none"
+reply_text (Completed slot) = codes "ok completed " ++ (decimal slot.0 ++ codes " freed")
+reply_text (Refused refusal) = codes "refused " ++ (decimal (refusal_number refusal) ++ (codes " " ++ refusal_text refusal))
+
+-- the texts of a list with commas between them, and `-` where it is empty
+abbrev pub joined : {A : Type 0} → (A → List ℕ) → List A → List ℕ
+joined text [] = codes "-"
+joined text (first ∷ others) = text first ++ flat_map (λ next. codes "," ++ text next) others
+
+-- the texts of a list with a space before each
+abbrev pub spaced : {A : Type 0} → (A → List ℕ) → List A → List ℕ
+spaced text all = flat_map (λ next. codes " " ++ text next) all
+
+-- the numbers that are in a set of eight marks, in rising order
+abbrev pub members : List Bool → List ℕ
+members set = filter (λ n. is_in set n) (range_with_len 0 8)
+
+abbrev pub agents_text : List Bool → List ℕ
+agents_text set = joined decimal (members set)
+
+abbrev pub copy_text : CopyView → List ℕ
+copy_text copy = state_text copy.state
+
+abbrev pub yes_no : Bool → List ℕ
+yes_no true = codes "yes"
+yes_no false = codes "no"
+
+-- the request that is served, by its agent
+abbrev pub serving_text : Serving → List ℕ
+serving_text Idle = codes "none"
+serving_text (Snooping agent kind slot) = codes "snooping " ++ decimal agent.0
+serving_text (AwaitingCompAck agent slot) = codes "compack " ++ decimal agent.0
+serving_text (AwaitingWriteData agent kind slot) = codes "wrdata " ++ decimal agent.0
+
+-- `show` of a line, with the copies of so many agents
+abbrev pub shown_text : ℕ → LineView → List ℕ
+shown_text agents view =
+    codes "ok copies " ++ (joined copy_text (take agents view.copies)
+    ++ (codes " named " ++ (agents_text view.named
+    ++ (codes " unique " ++ (yes_no view.unique
+    ++ (codes " serving " ++ (serving_text view.serving
+    ++ (codes " waiting " ++ (agents_text (map is_some view.waiting)
+    ++ (codes " memory" ++ spaced decimal view.memory))))))))))
+
+-- the order in which `flits` shows the channels
+abbrev pub shown_channels : List Channel
+shown_channels = channels.Req ∷ channels.Snp ∷ channels.RspDown ∷ channels.DatDown ∷ channels.RspUp ∷ channels.DatUp ∷ []
+
+abbrev pub message_list : Option Msg → List Msg
+message_list None = []
+message_list (Some message) = message ∷ []
+
+-- what is in flight, in that order
+abbrev pub messages_in : Cells → List Msg
+messages_in cells = flat_map (λ channel. message_list (cell_of cells channel)) shown_channels
+
+abbrev pub has_none : List Msg → Bool
+has_none [] = true
+has_none (message ∷ messages) = false
+
+abbrev pub messages_text : List Msg → List ℕ
+messages_text [] = codes " none"
+messages_text (message ∷ messages) = spaced message_text (message ∷ messages)
+
+-- `flits` of an agent and a line
+abbrev pub flits_text : Cells → List ℕ
+flits_text cells = codes "ok" ++ messages_text (messages_in cells)
+
+-- how many credit types a profile has
+abbrev pub type_count : Profile → ℕ
+type_count Two = 2
+type_count Four = 4
+
+-- the numbers by type, of the types that there are
+abbrev pub counts_text : Profile → List ℕ → List ℕ
+counts_text profile counts = spaced decimal (take (type_count profile) counts)
+
+-- `totals`
+abbrev pub totals_text : Totals → List ℕ
+totals_text totals =
+    codes "ok free" ++ (counts_text totals.profile totals.free
+    ++ (codes " hand" ++ (counts_text totals.profile totals.hand
+    ++ (codes " promised" ++ (counts_text totals.profile totals.promised
+    ++ (codes " owed" ++ counts_text totals.profile totals.owed))))))

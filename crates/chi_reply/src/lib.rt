@@ -1,0 +1,15 @@
+//! The text of each answer that a replay prints, without the line feed that ends it.
+//!
+//! Source: `docs/PROTOCOL.md`, "Replay files".
+#![tactic(auto)]
+
+mod flights;
+mod lists;
+mod replies;
+mod shown;
+mod totals;
+
+pub use flights::InFlight;
+pub use replies::Reply;
+pub use shown::Shown;
+pub use totals::Totals;
