@@ -5,7 +5,7 @@ use Rattle.chi_flit.specs.Action.{agent_of, line_of}
 use Rattle.chi_slice.specs.Config.{Sizes, are_entries, are_in_limits, is_between, is_slice_count}
 use Rattle.chi_slice.specs.Slice.{SliceState, SliceKept, is_in_range, is_line_in_range, is_slot_in_range, row_count, row_of_line}
 
-both : (a b : Bool) → (a && b) ≡ true → (a ≡ true) × (b ≡ true)
+pub both : (a b : Bool) → (a && b) ≡ true → (a ≡ true) × (b ≡ true)
 both true b h = (refl, h)
 both false b h = absurd (cc (h))
 
@@ -16,7 +16,7 @@ either false b h = inr h
 is_low : (a b : ℕ) → nat_lt a b ≡ true → a < b
 is_low a b h = grind (arith, h)
 
-at_most : (a b : ℕ) → nat_le a b ≡ true → a ≤ b
+pub at_most : (a b : ℕ) → nat_le a b ≡ true → a ≤ b
 at_most a b h = grind (arith, h)
 
 is_equal : (a b : ℕ) → (a == b) ≡ true → a ≡ b

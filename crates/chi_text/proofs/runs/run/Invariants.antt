@@ -1,0 +1,7 @@
+-- What was written leads on with the commands that are left.
+use Rattle.std.proofs.Common.{drop, string_bytes}
+use Rattle.chi_text.proofs.Leads.{LeadsOn}
+use Rattle.chi_text.proofs.runs.run.Given as goal
+
+abbrev pub invariant-loop-command : goal.invariant-loop-command
+invariant-loop-command g l = LeadsOn l.config l.commands (string_bytes l.text) l.session.machine l.session.board (drop l.command-index l.commands)

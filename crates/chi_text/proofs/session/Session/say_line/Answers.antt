@@ -1,0 +1,26 @@
+-- Where the line is in range, the answer has all its parts.
+use Rattle.std.proofs.Common.{◌≡◌, ℕ, [], ◌∷◌, ◌++◌, ap, sym, ◌∙◌, string_bytes}
+use Rattle.chi_flit.specs.Message.{no_words}
+use Rattle.chi_slice.specs.declared.view.LineView.{LineView}
+use Rattle.chi_slice.specs.Config.{Sizes}
+use Rattle.chi_slice.specs.Slice.{line, view_refusal}
+use Rattle.chi_slice.specs.View.{shown}
+use Rattle.chi_reply.specs.Replies.{shown_text}
+use Rattle.chi_text.specs.Turns.{Ends, Machine}
+use Rattle.chi_text.proofs.Turned.{allowed_says, ends_says, on_ok, refused_says}
+use Rattle.chi_text.proofs.session.Session.say_line.Goals as goal
+
+pub returns-in_ok-writeln-in-Ok : goal.returns-in_ok-writeln-in-Ok
+returns-in_ok-writeln-in-Ok g c =
+    let m : Machine = record { slice = c.self.inside.slice; entries = c.self.inside.entries } in
+    let agents : c.agents-agents.result ≡ m.slice.config.agents = c.agents-agents.ensures.value ∙ ap (λ (k : Sizes). k.agents) c.config.ensures in
+    rw (← c.self.view_is)
+    (allowed_says (view_refusal m.slice c.args.line.0) m m c.self.inside.tracker c.self.inside.tracker (Ends (shown_text m.slice.config.agents (shown (line m.slice c.args.line.0) no_words)) m) (string_bytes c.args.text.now) _ (sym c.in-Ok.ensures.refusal)
+    (ends_says m c.self.inside.tracker (shown_text m.slice.config.agents (shown (line m.slice c.args.line.0) no_words)) (string_bytes c.args.text.now) _
+    (c.in_ok-writeln-in-Ok.ensures.bytes ∙ (ap (λ n. string_bytes c.args.text.now ++ (shown_text n c.in-Ok.view ++ (10 ∷ []))) agents ∙ ap (λ (v : LineView). string_bytes c.args.text.now ++ (shown_text m.slice.config.agents v ++ (10 ∷ []))) c.in-Ok.ensures.shown))))
+
+pub returns-in-Err : goal.returns-in-Err
+returns-in-Err g c =
+    let m : Machine = record { slice = c.self.inside.slice; entries = c.self.inside.entries } in
+    rw (← c.self.view_is)
+    (on_ok c.say.result c.say.ensures (refused_says (view_refusal m.slice c.args.line.0) c.in-Err.refusal m c.self.inside.tracker (Ends (shown_text m.slice.config.agents (shown (line m.slice c.args.line.0) no_words)) m) (string_bytes c.args.text.now) _ (sym c.in-Err.ensures.refusal)))

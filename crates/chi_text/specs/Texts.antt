@@ -1,0 +1,60 @@
+-- The text of a list of commands, under the tracker's answers, and which answers are allowed
+-- (docs/PROTOCOL.md, "Replay files").
+use Rattle.std.specs.Prelude.{◌≡◌, ℕ, List, [], ◌∷◌, ◌++◌, Option, Some, None}
+use Rattle.chi_script.specs.declared.commands.Command.{Command}
+use Rattle.chi_slice.specs.Config.{Sizes}
+use Rattle.chi_tracker.specs.Board.{Board, IsFull, IsLowestFree, all_free, claimed, freed, holder_of}
+use Rattle.chi_text.specs.Turns.{Answer, Call, Claim, Claimed, Free, Freed, Glance, Glanced, Turn, Asks, Ends, Machine, opening, turn}
+
+-- the line that a turn says, the state that it leaves, and the answers that it leaves over
+pub record Made : Type 0 where
+  pub said : List ℕ
+  pub state : Machine
+  pub left : List Answer
+
+-- a turn under the next answers; a turn that lacks an answer says nothing more
+abbrev pub made : Turn → List Answer → Made
+made (Ends said m) answers = record { said = said; state = m; left = answers }
+made (Asks call next) [] = made (next Freed) []
+made (Asks call next) (answer ∷ answers) = made (next answer) answers
+
+-- a line for each command
+abbrev pub text : Machine → List Command → List Answer → List ℕ
+text m [] answers = []
+text m (command ∷ rest) answers = (made (turn m command) answers).said ++ (10 ∷ text (made (turn m command) answers).state rest (made (turn m command) answers).left)
+
+-- what the tracker may answer to a call, and what is held then: the clause of each call
+abbrev pub Permits : Board → Call → Answer → Board → Type 0
+Permits old (Claim agent ty) (Claimed None) new = IsFull old ty × (new ≡ old)
+Permits old (Claim agent ty) (Claimed (Some entry)) new = IsLowestFree old ty entry.0 × (new ≡ claimed old agent entry.0)
+Permits old (Claim agent ty) Freed new = ⊥
+Permits old (Claim agent ty) (Glanced free held) new = ⊥
+Permits old (Free agent entry) (Claimed claim) new = ⊥
+Permits old (Free agent entry) Freed new = (holder_of old entry.0 ≡ Some agent) × (new ≡ freed old entry.0)
+Permits old (Free agent entry) (Glanced free held) new = ⊥
+Permits old Glance (Claimed claim) new = ⊥
+Permits old Glance Freed new = ⊥
+Permits old Glance (Glanced free held) new = new ≡ old
+
+-- a turn, played with just these answers
+abbrev pub Plays : Turn → Board → List Answer → List ℕ → Machine → Board → Type 0
+Plays (Ends said' m) old [] said state new = (said ≡ said') × (state ≡ m) × (new ≡ old)
+Plays (Ends said' m) old (answer ∷ answers) said state new = ⊥
+Plays (Asks call next) old [] said state new = ⊥
+Plays (Asks call next) old (answer ∷ answers) said state new = (mid : Board) × Permits old call answer mid × Plays (next answer) mid answers said state new
+
+-- a turn was played, and its line, with its end, was put behind the bytes
+abbrev pub Says : Turn → Board → Machine → Board → List ℕ → List ℕ → Type 0
+Says played old state new before after = (answers : List Answer) × (said : List ℕ) × Plays played old answers said state new × (after ≡ before ++ (said ++ (10 ∷ [])))
+
+-- the answers that a list of commands may get
+abbrev pub Allowed : Machine → Board → List Command → List Answer → Type 0
+Allowed m board [] answers = answers ≡ []
+Allowed m board (command ∷ rest) answers = (mine later : List Answer) × (said : List ℕ) × (state : Machine) × (new : Board)
+    × (answers ≡ mine ++ later) × Plays (turn m command) board mine said state new × Allowed state new rest later
+
+-- bytes that are the text of the commands on a new node, under some allowed answers
+pub record IsText (config : Sizes) (all : List Command) (bytes : List ℕ) : Type 0 where
+  pub answers : List Answer
+  pub allowed : Allowed (opening config) (all_free config.entries) all answers
+  pub same : bytes ≡ text (opening config) all answers

@@ -1,0 +1,103 @@
+-- What each command of a replay file asks of the tracker, answers and leaves: the table of the commands
+-- (docs/PROTOCOL.md, "Replay files").
+use Rattle.std.specs.Prelude.{◌≡◌, ℕ, List, [], ◌∷◌, Bool, true, false, Option, Some, None, slice_set, replicate, nat_lt, ◌&&◌, if◌then◌else◌}
+use Rattle.std.specs.List.{slice_index_or}
+use Rattle.chi_flit.specs.declared.numbers.Agent.{Agent}
+use Rattle.chi_flit.specs.declared.numbers.Entry.{Entry}
+use Rattle.chi_flit.specs.declared.numbers.Line.{Line}
+use Rattle.chi_flit.specs.declared.numbers.Slot.{Slot}
+use Rattle.chi_flit.specs.declared.credit.CreditType.{CreditType}
+use Rattle.chi_flit.specs.declared.action.Action.{Action}
+use Rattle.chi_flit.specs.declared.action.Action.TheVariants.{Admit}
+use Rattle.chi_flit.specs.declared.action.Effect.{Effect}
+use Rattle.chi_flit.specs.declared.action.Effect.TheVariants as effects
+use Rattle.chi_flit.specs.declared.message.Request.{Request}
+use Rattle.chi_flit.specs.declared.refusal.Refusal.{Refusal}
+use Rattle.chi_flit.specs.Action.{agent_of, line_of}
+use Rattle.chi_flit.specs.Credit.{credit_type_of}
+use Rattle.chi_flit.specs.Message.{no_words}
+use Rattle.chi_script.specs.declared.commands.Command.{Command}
+use Rattle.chi_script.specs.declared.commands.Command.TheVariants as commands
+use Rattle.chi_slice.specs.Config.{Sizes}
+use Rattle.chi_slice.specs.LineState.{cells_of}
+use Rattle.chi_slice.specs.Step.{effect_of}
+use Rattle.chi_slice.specs.Slice.{SliceState, acted, flits_refusal, line, opening_slice, refused, view_refusal}
+use Rattle.chi_slice.specs.View.{shown}
+use Rattle.chi_text.specs.Slots.{entry_of, no_entries, with_entry}
+use Rattle.chi_reply.specs.Replies.{flits_text, reply_text, shown_text, totals_text}
+use Rattle.chi_reply.specs.declared.replies.Reply.TheVariants as replies
+
+-- the slice, and for each agent and slot the entry that the slot's request holds
+pub record Machine : Type 0 where
+  pub slice : SliceState
+  pub entries : List (List (Option Entry))
+
+-- a new node
+abbrev pub opening : Sizes → Machine
+opening config = record { slice = opening_slice config 0; entries = no_entries }
+
+-- what a command asks of the tracker
+pub data Call : Type 0 where
+  Claim : Agent → CreditType → Call
+  Free : Agent → Entry → Call
+  Glance : Call
+
+-- what the tracker answers: an entry or none; that it is freed; the free and the held entries by type
+pub data Answer : Type 0 where
+  Claimed : Option Entry → Answer
+  Freed : Answer
+  Glanced : (free held : List ℕ) → Answer
+
+-- a command's turn: it ends with a line and a state, or asks, and goes on with the answer
+pub data Turn : Type 0 where
+  Ends : (said : List ℕ) → Machine → Turn
+  Asks : Call → (Answer → Turn) → Turn
+
+-- refused, or what comes else
+abbrev pub or_refused : Option Refusal → Machine → Turn → Turn
+or_refused None m else_turn = else_turn
+or_refused (Some refusal) m else_turn = Ends (reply_text (replies.Refused refusal)) m
+
+-- the turn's end where a request is complete: its slot's entry is freed
+abbrev pub released : Option Entry → Machine → Agent → Slot → Turn
+released None m agent slot = Ends (reply_text (replies.Completed slot)) m
+released (Some entry) m agent slot = Asks (Free agent entry) (λ answer. Ends (reply_text (replies.Completed slot)) (record m { entries = with_entry m.entries agent.0 slot.0 None }))
+
+-- the turn's end after an action that was done
+abbrev pub done : Effect → Machine → Agent → Turn
+done effects.Nothing m agent = Ends (reply_text replies.Done) m
+done (effects.Value word) m agent = Ends (reply_text (replies.Value word)) m
+done (effects.Completed slot) m agent = released (entry_of m.entries agent.0 slot.0) m agent slot
+
+abbrev pub with_action : Machine → Action → Machine
+with_action m action = record m { slice = acted m.slice action }
+
+-- an action that is no part of an arrival
+abbrev pub act : Machine → Action → Turn
+act m action = or_refused (refused m.slice action) m (done (effect_of (line m.slice (line_of action).0) action) (with_action m action) (agent_of action))
+
+-- an arrival, by what the claim answers: without an entry the request stays in flight
+abbrev pub arrived : Machine → Agent → Line → Request → Answer → Turn
+arrived m agent l request (Claimed (Some entry)) = Ends (reply_text (replies.Admitted entry)) (record { slice = acted m.slice (Admit agent l); entries = with_entry m.entries agent.0 request.slot.0 (Some entry) })
+arrived m agent l request (Claimed None) = Ends (reply_text replies.NoEntry) m
+arrived m agent l request Freed = Ends (reply_text replies.NoEntry) m
+arrived m agent l request (Glanced free held) = Ends (reply_text replies.NoEntry) m
+
+-- the claim for the request that arrives
+abbrev pub arriving : Machine → Agent → Line → Option Request → Turn
+arriving m agent l None = Ends (reply_text replies.NoEntry) m
+arriving m agent l (Some request) = Asks (Claim agent (credit_type_of m.slice.config.profile request.kind)) (arrived m agent l request)
+
+-- the numbers of entries
+abbrev pub glanced : Machine → Answer → Turn
+glanced m (Claimed entry) = Ends (reply_text replies.NoEntry) m
+glanced m Freed = Ends (reply_text replies.NoEntry) m
+glanced m (Glanced free held) = Ends (totals_text (record { free = free; hand = held; promised = 0 ∷ 0 ∷ 0 ∷ 0 ∷ []; owed = 0 ∷ 0 ∷ 0 ∷ 0 ∷ []; profile = m.slice.config.profile })) m
+
+-- the table of the commands
+abbrev pub turn : Machine → Command → Turn
+turn m commands.Totals = Asks Glance (glanced m)
+turn m (commands.Show l) = or_refused (view_refusal m.slice l.0) m (Ends (shown_text m.slice.config.agents (shown (line m.slice l.0) no_words)) m)
+turn m (commands.Flits agent l) = or_refused (flits_refusal m.slice agent.0 l.0) m (Ends (flits_text (cells_of (line m.slice l.0) agent.0)) m)
+turn m (commands.Arrive agent l) = or_refused (refused m.slice (Admit agent l)) m (arriving m agent l (cells_of (line m.slice l.0) agent.0).req)
+turn m (commands.Act action) = act m action

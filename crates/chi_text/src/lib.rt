@@ -1,0 +1,9 @@
+//! Replays: the commands of a file, played one after the other, and the text of their answers.
+#![tactic(auto)]
+
+mod runs;
+mod session;
+mod slots;
+
+pub use runs::run;
+pub use session::Session;
