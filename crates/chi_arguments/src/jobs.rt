@@ -32,9 +32,7 @@ const FILE: &str = "FILE";
 
 /// The command lines of the program.
 fn command_line<'a>(alloc: Global) -> Result<Command<'a>, AllocError> {
-    let file = Arg::new(alloc, FILE)
-        .required(true)
-        .action(ArgAction::Set);
+    let file = Arg::new(alloc, FILE).required(true).action(ArgAction::Set);
     let replay = Command::new(alloc, REPLAY).arg(file)?;
     Command::new(alloc, "chihome")
         .subcommand_required(true)

@@ -6,27 +6,42 @@ fn a_replay_has_its_path(rt: HostRuntime) {
     assert_eq!(rt; arguments(rt.alloc(), &words), Ok(Job::Replay("a.chi")));
 }
 
+/// What the words ask for, if not a replay.
+fn fault_of<'a>(rt: &HostRuntime, words: &'a [&'a str]) -> Option<ArgFault> {
+    match arguments(rt.alloc(), words) {
+        Ok(_) => None,
+        Err(fault) => Some(fault),
+    }
+}
+
 #[test]
 fn other_words_are_bad(rt: HostRuntime) {
-    let lines: [&[&str]; 14] = [
-        &[],
-        &["chihome"],
-        &["chihome", "replay"],
-        &["chihome", "replay", "a.chi", "b.chi"],
-        &["chihome", "replays", "a.chi"],
-        &["chihome", "a.chi"],
-        &["chihome", "replay", "--seed", "1", "a.chi"],
-        &["chihome", "replay", "-x"],
-        &["chihome", "--file", "a.chi"],
-        &["chihome", "help"],
-        &["chihome", "--help"],
-        &["chihome", "replay", "--help"],
-        &["chihome", "replay", "-h"],
-        &["chihome", "--version"],
-    ];
-    for words in lines {
-        assert_eq!(rt; arguments(rt.alloc(), words), Err(ArgFault::Bad), "{words:?}");
-    }
+    let bad = Some(ArgFault::Bad);
+    assert_eq!(rt; fault_of(&rt, &[]), bad);
+    assert_eq!(rt; fault_of(&rt, &["chihome"]), bad);
+    assert_eq!(rt; fault_of(&rt, &["chihome", "replay"]), bad);
+    assert_eq!(rt; fault_of(&rt, &["chihome", "replay", "a", "b"]), bad);
+    assert_eq!(rt; fault_of(&rt, &["chihome", "replays", "a"]), bad);
+    assert_eq!(rt; fault_of(&rt, &["chihome", "a"]), bad);
+    assert_eq!(rt;
+        fault_of(&rt, &["chihome", "replay", "--seed", "1", "a"]),
+        bad
+    );
+    assert_eq!(rt; fault_of(&rt, &["chihome", "replay", "-x"]), bad);
+    assert_eq!(rt; fault_of(&rt, &["chihome", "--file", "a"]), bad);
+    assert_eq!(rt; fault_of(&rt, &["chihome", "storm", "a"]), bad);
+}
+
+#[test]
+fn asking_for_help_is_bad(rt: HostRuntime) {
+    let bad = Some(ArgFault::Bad);
+    assert_eq!(rt; fault_of(&rt, &["chihome", "help"]), bad);
+    assert_eq!(rt; fault_of(&rt, &["chihome", "help", "replay"]), bad);
+    assert_eq!(rt; fault_of(&rt, &["chihome", "--help"]), bad);
+    assert_eq!(rt; fault_of(&rt, &["chihome", "-h"]), bad);
+    assert_eq!(rt; fault_of(&rt, &["chihome", "replay", "--help"]), bad);
+    assert_eq!(rt; fault_of(&rt, &["chihome", "replay", "-h", "a"]), bad);
+    assert_eq!(rt; fault_of(&rt, &["chihome", "--version"]), bad);
 }
 
 #[test]
