@@ -1,7 +1,8 @@
 //! Why a command line isn't followed.
 
 ghost use Rattle.std.specs.Prelude.{◌≡◌, Some};
-ghost use Rattle.chi_arguments.specs.Faults.{status_of, fault_text};
+ghost use Rattle.chi_arguments.specs.Faults.{status_of, fault_text, fault_at};
+ghost use Rattle.clap.specs.Values.{kind_of};
 ghost use Rattle.chi_arguments.specs.declared.faults.ArgFault.TheVariants.{NoMemory};
 
 use clap::Error;
@@ -52,6 +53,8 @@ impl From<AllocError> for ArgFault {
 }
 
 impl From<Error> for ArgFault {
+    ghost from_gives = { λ error fault. fault ≡ fault_at (kind_of error) };
+
     fn from(error: Error) -> ArgFault {
         match error.kind() {
             ErrorKind::OutOfMemory => ArgFault::NoMemory,

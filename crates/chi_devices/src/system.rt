@@ -8,7 +8,8 @@ use std::fs;
 use std::io::{ErrorKind, Read, Write};
 use std::rt::Files;
 
-/// Reads from a file, or from another reader of the system. Nothing is known of its bytes.
+/// Reads from a file, or from another reader. Its bytes are known where the reader's are, and so a
+/// file's are not.
 #[derive(Drop)]
 pub struct FileInput<F> {
     file: F,
@@ -33,7 +34,7 @@ impl<F: Read> FileInput<F> {
 }
 
 impl<F: Read> Input for FileInput<F> {
-    ghost left = { λ _. None };
+    ghost left = { λ input. F.remaining input.file };
 
     ghost failures = { λ input. input.failures };
 
