@@ -131,5 +131,6 @@ fn words_are_read_alone(rt: HostRuntime) {
     assert!(rt; read_header(&header).is_some());
     numbers_are_decimal();
     commands_are_lines();
+    headers_are_lines();
     front_is_enough();
 }
