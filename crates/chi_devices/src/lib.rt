@@ -13,3 +13,6 @@ pub use devices::{Failed, Input, Output};
 pub use memory::{MemoryInput, MemoryOutput};
 pub use reading::read_all;
 pub use system::{FileInput, StandardOutput};
+
+#[cfg(test)]
+mod tests;

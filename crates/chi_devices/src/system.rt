@@ -1,6 +1,8 @@
 //! The program's own devices: a file that is read, and standard output.
 
-ghost use Rattle.std.specs.Prelude.{◌≡◌, None, IfOk};
+ghost use Rattle.std.specs.Prelude.{◌≡◌, IfOk, OnOk, OnErr};
+ghost use Rattle.std.specs.Io.KnownBytes.{Appends};
+ghost use Rattle.chi_devices.specs.Devices.{AppendsFront};
 
 use crate::devices::{Failed, Input, Output};
 use chi_script::Fault;
@@ -8,7 +10,8 @@ use std::fs;
 use std::io::{ErrorKind, Read, Write};
 use std::rt::Files;
 
-/// Reads from a file, or from another reader of the system. Nothing is known of its bytes.
+/// Reads from a file, or from another reader. Its bytes are known where the reader's are, and so a
+/// file's are not.
 #[derive(Drop)]
 pub struct FileInput<F> {
     file: F,
@@ -33,7 +36,7 @@ impl<F: Read> FileInput<F> {
 }
 
 impl<F: Read> Input for FileInput<F> {
-    ghost left = { λ _. None };
+    ghost left = { λ input. F.remaining input.file };
 
     ghost failures = { λ input. input.failures };
 
@@ -48,7 +51,8 @@ impl<F: Read> Input for FileInput<F> {
     }
 }
 
-/// Writes to standard output, or to another writer of the system. Nothing is known of its bytes.
+/// Writes to standard output, or to another writer. Its bytes are known where the writer's are, and so
+/// standard output's are not.
 #[derive(Drop)]
 pub struct StandardOutput<W> {
     stream: W,
@@ -69,16 +73,38 @@ impl<W: Write> StandardOutput<W> {
 }
 
 impl<W: Write> Output for StandardOutput<W> {
-    ghost written = { λ _. None };
+    ghost written = { λ output. W.contents output.stream };
 
     ghost failures = { λ output. output.failures };
 
     fn write_all(&mut self, bytes: &[u8]) -> Result<(), Failed> {
-        let done = self.stream.write_all(bytes).is_ok() && self.stream.flush().is_ok();
-        if !done {
+        let done = write_whole(&mut self.stream, bytes);
+        if done.is_err() {
             self.failures += 1;
-            return Err(Failed);
         }
-        Ok(())
+        done
     }
+}
+
+/// Writes all of the bytes and flushes. Where that fails, a front of them was written.
+fn write_whole<W: Write>(stream: &mut W, bytes: &[u8]) -> Result<(), Failed>
+    ensures ok { OnOk result (Appends (W.contents stream.old) (W.contents stream.new) bytes.now) }
+    ensures err { OnErr result (AppendsFront (W.contents stream.old) (W.contents stream.new) bytes.now) }
+{
+    let mut done = 0;
+    'writes: for _ in 0..u64::MAX {
+        if done >= bytes.len() {
+            break;
+        }
+        match stream.write(&bytes[done..]) {
+            Ok(0) => return Err(Failed),
+            Ok(count) => done += count,
+            Err(error) if error.kind() == ErrorKind::Interrupted => {}
+            Err(_) => return Err(Failed),
+        }
+    }
+    if done < bytes.len() || stream.flush().is_err() {
+        return Err(Failed);
+    }
+    Ok(())
 }

@@ -6,3 +6,4 @@ pub mod FileLemmas
 pub mod NumberLemmas
 pub mod CommandLemmas
 pub mod SpaceLemmas
+pub mod HeaderLemmas

@@ -1,12 +1,16 @@
 -- How numbers, commands and headers are written (docs/PROTOCOL.md, "Replay files"): apart from how they
 -- are read.
-use Rattle.std.specs.Prelude.{◌≡◌, ℕ, ◌^◌, ◌<◌, min, List, [], ◌∷◌, codes}
+use Rattle.std.specs.Prelude.{◌≡◌, ℕ, ◌^◌, ◌<◌, min, List, [], ◌∷◌, codes, slice_index}
 use Rattle.std.specs.List.{join_with_byte}
 use Rattle.std.specs.Fmt.{decimal}
 use Rattle.chi_flit.specs.Kind.{kind_text}
 use Rattle.chi_flit.specs.declared.kind.Kind.{Kind}
 use Rattle.chi_flit.specs.declared.kind.Kind.TheVariants.{ReadNotSharedDirty, ReadShared, ReadUnique, CleanUnique, Evict, WriteBackFull, WriteCleanFull, WriteEvictFull}
 use Rattle.chi_flit.specs.declared.action.Action.TheVariants.{Issue, Admit, Start, RecvData, RecvAck}
+use Rattle.chi_flit.specs.declared.credit.Profile.{Profile}
+use Rattle.chi_flit.specs.declared.credit.Profile.TheVariants.{Two, Four}
+use Rattle.chi_script.specs.declared.headers.Header.{Header}
+use Rattle.chi_script.specs.Headers.{IsKept}
 use Rattle.chi_script.specs.declared.commands.Command.{Command}
 use Rattle.chi_script.specs.declared.commands.Command.TheVariants.{Totals, Show, Flits, Arrive, Act}
 
@@ -56,3 +60,16 @@ Spells (Act (Admit n l)) words = ⊥
 -- the words with one space between two of them
 abbrev pub IsLine : Command → List ℕ → Type 0
 IsLine command line = (words : List (List ℕ)) × Spells command words × (line ≡ join_with_byte 32 words)
+
+-- the words of the credit types and the journal, by profile
+abbrev pub type_words : Profile → List ℕ → ℕ → List (List ℕ)
+type_words Two entries journal = decimal (slice_index entries 0) ∷ decimal (slice_index entries 1) ∷ decimal journal ∷ []
+type_words Four entries journal = decimal (slice_index entries 0) ∷ decimal (slice_index entries 1) ∷ decimal (slice_index entries 2) ∷ decimal (slice_index entries 3) ∷ decimal journal ∷ []
+
+-- the words of a header
+abbrev pub header_words : Header → List (List ℕ)
+header_words header = codes "node" ∷ decimal header.agents ∷ decimal header.lines ∷ decimal header.slices ∷ type_words header.profile header.entries header.journal
+
+-- a header that is kept, and its one line
+abbrev pub IsHeaderLine : Header → List ℕ → Type 0
+IsHeaderLine header line = IsKept header × (line ≡ join_with_byte 32 (header_words header))

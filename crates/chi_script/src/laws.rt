@@ -3,9 +3,11 @@
 ghost use Rattle.std.specs.Prelude.{◌≡◌, ℕ, List, Some, take};
 ghost use Rattle.chi_script.specs.declared.commands.Command.{Command};
 ghost use Rattle.chi_script.specs.Words.{words_of, number_of};
+ghost use Rattle.chi_script.specs.declared.headers.Header.{Header};
+ghost use Rattle.chi_script.specs.Headers.{header_of};
 ghost use Rattle.chi_script.specs.Commands.{command_of};
 ghost use Rattle.chi_script.specs.Files.{file_of};
-ghost use Rattle.chi_script.specs.Spelling.{IsNumber, IsLine};
+ghost use Rattle.chi_script.specs.Spelling.{IsNumber, IsLine, IsHeaderLine};
 
 /// A word is read as a number exactly where it is that number in decimal, below 2 ^ 64.
 /// Source: `docs/PROTOCOL.md`, "Replay files".
@@ -20,6 +22,13 @@ pub fn commands_are_lines()
     ensures read { (line : List ℕ) (command : Command) → command_of (words_of line) ≡ Some command → IsLine command line }
     ensures again { (line : List ℕ) (command : Command) → IsLine command line → command_of (words_of line) ≡ Some command }
 {}
+
+/// A line that is read as a header is the one spelling of it, and the header is within the limits.
+/// Source: `docs/PROTOCOL.md`, "Replay files" and "Limits".
+pub fn headers_are_lines()
+    ensures { (line : List ℕ) (header : Header) → header_of (words_of line) ≡ Some header → IsHeaderLine header line }
+{
+}
 
 /// One byte more than a file may have is enough of it: the rest changes nothing.
 /// Source: `docs/PROTOCOL.md`, "Replay files".

@@ -1,0 +1,46 @@
+//! What the program is asked to do.
+
+use crate::faults::ArgFault;
+use clap::{Arg, ArgAction, ArgMatches, Command};
+use std::alloc::{AllocError, Global};
+
+/// What the program is asked to do.
+#[derive(Clone, Copy, Debug, PartialEq, Eq)]
+pub enum Job<'a> {
+    /// `replay FILE`: runs the commands of the file at this path.
+    Replay(&'a str),
+}
+
+/// What the words of a command line ask for; the first word is the program's own name.
+///
+/// `Bad` where they are no command line of the program, and where they ask for help; `NoMemory` where
+/// memory runs out.
+/// Source: `docs/PROTOCOL.md`, "The program".
+pub fn arguments<'a>(alloc: Global, words: &'a [&'a str]) -> Result<Job<'a>, ArgFault> {
+    let matches = command_line(alloc)?.try_get_matches_from(words)?;
+    match matches.subcommand() {
+        Some((REPLAY, replay)) => read_replay(replay),
+        _ => Err(ArgFault::Bad),
+    }
+}
+
+/// The subcommand that replays a file.
+const REPLAY: &str = "replay";
+
+/// The argument that is a file's path.
+const FILE: &str = "FILE";
+
+/// The command lines of the program.
+fn command_line<'a>(alloc: Global) -> Result<Command<'a>, AllocError> {
+    let file = Arg::new(alloc, FILE).required(true).action(ArgAction::Set);
+    let replay = Command::new(alloc, REPLAY).arg(file)?;
+    Command::new(alloc, "chihome")
+        .subcommand_required(true)
+        .subcommand(replay)
+}
+
+/// The job of `replay FILE`.
+fn read_replay<'a>(matches: &ArgMatches<'a>) -> Result<Job<'a>, ArgFault> {
+    let path = matches.get_str(FILE).ok_or(ArgFault::Bad)?;
+    Ok(Job::Replay(path))
+}

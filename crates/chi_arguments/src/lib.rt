@@ -1,0 +1,13 @@
+//! The program's command line: what it is asked to do.
+//!
+//! Source: `docs/PROTOCOL.md`, "The program".
+#![tactic(auto)]
+
+mod faults;
+mod jobs;
+
+pub use faults::ArgFault;
+pub use jobs::{Job, arguments};
+
+#[cfg(test)]
+mod tests;
