@@ -10,7 +10,8 @@ use chi_homeline::{Serving, Waiting};
 use chi_slice::LineView;
 use std::fmt;
 
-/// A line, of which so many agents are shown. It prints as the answer of `show`, without the line feed.
+/// A line, with the copies of so many agents, at most all eight. It prints as the answer of `show`,
+/// without the line feed.
 /// Source: `docs/PROTOCOL.md`, "Replay files".
 #[derive(Drop)]
 pub struct Shown<'a> {
