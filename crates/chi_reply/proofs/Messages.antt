@@ -1,12 +1,12 @@
 -- The messages of a list of channels, one channel more, and none.
-use Rattle.std.proofs.Common.{◌≡◌, ℕ, ◌+◌, ◌<◌, Bool, true, false, Option, Some, None, List, [], ◌∷◌, ◌++◌, length, get_or, take, codes, ap, sym, ◌∙◌, refl, ◌&&◌}
+use Rattle.std.proofs.Common.{◌≡◌, ℕ, ◌+◌, ◌<◌, Option, List, [], ◌∷◌, ◌++◌, length, get_or, take, codes, ap, sym, ◌∙◌}
 use Rattle.std.specs.List.{flat_map}
 use Rattle.std.proofs.lemmas.List.{take_more, append-nil}
 use Rattle.std.proofs.lemmas.Grind.{flat_map-append}
 use Rattle.chi_flit.specs.declared.message.Channel.{Channel}
 use Rattle.chi_flit.specs.declared.message.Msg.{Msg}
 use Rattle.chi_flit.specs.Message.{message_text}
-use Rattle.chi_reply.specs.Replies.{has_none, message_list, spaced}
+use Rattle.chi_reply.specs.Replies.{message_list, spaced}
 
 -- the texts of the messages of one channel more
 pub spaced_more : (cell : Channel → Option Msg) (all : List Channel) (n : ℕ) (d : Channel) → n < length all →

@@ -22,6 +22,7 @@ use Rattle.chi_reply.specs.declared.replies.Reply.{Reply}
 use Rattle.chi_reply.specs.declared.replies.Reply.TheVariants.{Done, Value, Admitted, NoEntry, Completed, Refused}
 use Rattle.chi_reply.specs.declared.totals.Totals.{Totals}
 
+-- what a command that does something answers
 abbrev pub reply_text : Reply → List ℕ
 reply_text Done = codes "ok"
 reply_text (Value value) = codes "ok value " ++ decimal value
@@ -46,6 +47,7 @@ members set = filter (λ n. is_in set n) (range_with_len 0 8)
 abbrev pub agents_text : List Bool → List ℕ
 agents_text set = joined decimal (members set)
 
+-- a copy is shown by its state alone
 abbrev pub copy_text : CopyView → List ℕ
 copy_text copy = state_text copy.state
 
@@ -74,6 +76,7 @@ shown_text agents view =
 abbrev pub shown_channels : List Channel
 shown_channels = channels.Req ∷ channels.Snp ∷ channels.RspDown ∷ channels.DatDown ∷ channels.RspUp ∷ channels.DatUp ∷ []
 
+-- a message that may be there, as a list
 abbrev pub message_list : Option Msg → List Msg
 message_list None = []
 message_list (Some message) = message ∷ []
@@ -86,6 +89,7 @@ abbrev pub has_none : List Msg → Bool
 has_none [] = true
 has_none (message ∷ messages) = false
 
+-- each after a space, and ` none` where there is none
 abbrev pub messages_text : List Msg → List ℕ
 messages_text [] = codes " none"
 messages_text (message ∷ messages) = spaced message_text (message ∷ messages)

@@ -3,8 +3,10 @@
 //! Source: `docs/PROTOCOL.md`, "Replay files".
 #![tactic(auto)]
 
+mod agents;
+mod copies;
 mod flights;
-mod lists;
+mod numbers;
 mod replies;
 mod shown;
 mod totals;

@@ -42,3 +42,52 @@ impl fmt::Display for Reply {
         }
     }
 }
+
+#[cfg(test)]
+mod tests {
+    use super::*;
+    use std::test::Fail;
+
+    #[test]
+    fn prints_what_was_done(rt: HostRuntime) -> Result<(), Fail> {
+        assert_eq!(rt; Reply::Done.to_string(rt.alloc())?.as_str(), "ok");
+        assert_eq!(rt;
+            Reply::Value(5).to_string(rt.alloc())?.as_str(),
+            "ok value 5"
+        );
+        let greatest = Reply::Value(u64::MAX);
+        assert_eq!(rt;
+            greatest.to_string(rt.alloc())?.as_str(),
+            "ok value 18446744073709551615"
+        );
+        let admitted = Reply::Admitted(Entry(64));
+        assert_eq!(rt; admitted.to_string(rt.alloc())?.as_str(), "ok admitted 64");
+        assert_eq!(rt; Reply::NoEntry.to_string(rt.alloc())?.as_str(), "ok none");
+        let completed = Reply::Completed(Slot(1));
+        assert_eq!(rt;
+            completed.to_string(rt.alloc())?.as_str(),
+            "ok completed 1 freed"
+        );
+        Ok(())
+    }
+
+    #[test]
+    fn prints_why_it_was_refused(rt: HostRuntime) -> Result<(), Fail> {
+        let state = Reply::Refused(Refusal::WrongState);
+        assert_eq!(rt;
+            state.to_string(rt.alloc())?.as_str(),
+            "refused 2 WrongState"
+        );
+        let range = Reply::Refused(Refusal::OutOfRange);
+        assert_eq!(rt;
+            range.to_string(rt.alloc())?.as_str(),
+            "refused 10 OutOfRange"
+        );
+        let credit = Reply::Refused(Refusal::NoCredit);
+        assert_eq!(rt;
+            credit.to_string(rt.alloc())?.as_str(),
+            "refused 12 NoCredit"
+        );
+        Ok(())
+    }
+}

@@ -1,9 +1,9 @@
 //! The answer of `totals`.
 
-ghost use Rattle.std.specs.Prelude.{◌≡◌, Some, take};
+ghost use Rattle.std.specs.Prelude.{◌≡◌, Some};
 ghost use Rattle.chi_reply.specs.Replies.{totals_text, type_count};
 
-use crate::lists::Counts;
+use crate::numbers::Counts;
 use chi_flit::Profile;
 use std::fmt;
 
@@ -40,5 +40,43 @@ fn type_count(profile: Profile) -> usize
     match profile {
         Profile::Two => 2,
         Profile::Four => 4,
+    }
+}
+
+#[cfg(test)]
+mod tests {
+    use super::*;
+    use std::test::Fail;
+
+    #[test]
+    fn prints_two_types(rt: HostRuntime) -> Result<(), Fail> {
+        let totals = Totals {
+            free: [0, 1, 0, 0],
+            hand: [2, 1, 0, 0],
+            promised: [1, 0, 0, 0],
+            owed: [6, 0, 0, 0],
+            profile: Profile::Two,
+        };
+        assert_eq!(rt;
+            totals.to_string(rt.alloc())?.as_str(),
+            "ok free 0 1 hand 2 1 promised 1 0 owed 6 0"
+        );
+        Ok(())
+    }
+
+    #[test]
+    fn prints_four_types(rt: HostRuntime) -> Result<(), Fail> {
+        let totals = Totals {
+            free: [62, 0, 2, 1],
+            hand: [1, 1, 0, 0],
+            promised: [0, 0, 0, 0],
+            owed: [0, 0, 0, 0],
+            profile: Profile::Four,
+        };
+        assert_eq!(rt;
+            totals.to_string(rt.alloc())?.as_str(),
+            "ok free 62 0 2 1 hand 1 1 0 0 promised 0 0 0 0 owed 0 0 0 0"
+        );
+        Ok(())
     }
 }

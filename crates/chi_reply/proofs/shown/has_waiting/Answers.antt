@@ -1,5 +1,5 @@
 -- Place by place: each call of the closure gave the mark of its request.
-use Rattle.std.proofs.Common.{rules, arith, ◌≡◌, ◌<◌, Some, None, false, is_some, map, length, get_or, sym, ◌∙◌, subst}
+use Rattle.std.proofs.Common.{rules, ◌≡◌, ◌<◌, None, false, is_some, get_or, sym, ◌∙◌, subst}
 use Rattle.std.proofs.lemmas.List.{ext_get_or, length-map, get_or-map}
 use Rattle.chi_reply.proofs.shown.has_waiting.Goals as goal
 

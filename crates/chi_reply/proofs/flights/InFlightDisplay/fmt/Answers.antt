@@ -1,8 +1,7 @@
-use Rattle.std.proofs.Common.{rules, arith}
+use Rattle.std.proofs.Common.{rules}
 use Rattle.std.proofs.Output.{has_written_append, has_written_of_eq}
 use Rattle.chi_flit.specs.declared.message.Channel.TheVariants as channels
 use Rattle.chi_wires.specs.Cell.{cell_of}
-use Rattle.chi_reply.specs.Replies.{shown_channels}
 use Rattle.chi_reply.proofs.Messages.{spaced_more}
 use Rattle.chi_reply.proofs.flights.InFlightDisplay.fmt.Goals as goal
 
@@ -10,5 +9,5 @@ use Rattle.chi_reply.proofs.flights.InFlightDisplay.fmt.Goals as goal
 pub loop-channel-preserved : goal.loop-channel-preserved
 loop-channel-preserved g c plain =
     let cell = cell_of c.args.self.now.0.now in
-    let more = spaced_more cell shown_channels c.loop-channel.channel-index channels.Req (omega (arith, c.loop-channel-test.true)) in
-    has_written_of_eq _ _ _ _ _ more (has_written_append _ _ _ _ _ _ (c.loop-channel.invariant plain) (search rules))
+    has_written_of_eq _ _ _ _ _ (spaced_more cell _ c.loop-channel.channel-index channels.Req c.loop-channel-test.true)
+    (has_written_append _ _ _ _ _ _ (c.loop-channel.invariant plain) (search rules))

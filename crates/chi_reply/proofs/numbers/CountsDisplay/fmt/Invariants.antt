@@ -1,7 +1,7 @@
 use Rattle.std.proofs.Common.{take}
 use Rattle.std.specs.Fmt.{HasWritten, IsPlainFormatter, decimal}
 use Rattle.chi_reply.specs.Replies.{spaced}
-use Rattle.chi_reply.proofs.lists.CountsDisplay.fmt.Given as goal
+use Rattle.chi_reply.proofs.numbers.CountsDisplay.fmt.Given as goal
 
 abbrev pub invariant-loop-count : goal.invariant-loop-count
 invariant-loop-count g l =

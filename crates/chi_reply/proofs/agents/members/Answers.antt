@@ -1,8 +1,8 @@
-use Rattle.std.proofs.Common.{arith, true, false, subst, ap, sym, ◌∙◌, ◌≡◌, ◌++◌, [], ◌∷◌, List, ℕ}
+use Rattle.std.proofs.Common.{arith, true, false, ap, sym, ◌∙◌, ◌≡◌, ◌++◌, [], ◌∷◌}
 use Rattle.chi_filter.specs.Filter.{is_in}
 use Rattle.chi_reply.proofs.Members.{with_member, without_member}
-use Rattle.chi_reply.proofs.lists.members.Goals as goal
-use Rattle.chi_reply.proofs.lists.members.Goals.{then-marks-from, else-marks-from}
+use Rattle.chi_reply.proofs.agents.members.Goals as goal
+use Rattle.chi_reply.proofs.agents.members.Goals.{then-marks-from, else-marks-from}
 
 pub loop-agent-preserved : goal.loop-agent-preserved
 loop-agent-preserved c =

@@ -2,7 +2,7 @@ use Rattle.std.proofs.Common.{◌++◌, take}
 use Rattle.std.specs.Prelude.{codes}
 use Rattle.std.specs.List.{flat_map}
 use Rattle.std.specs.Fmt.{HasWritten, IsPlainFormatter, decimal}
-use Rattle.chi_reply.proofs.lists.AgentsDisplay.fmt.Given as goal
+use Rattle.chi_reply.proofs.agents.AgentsDisplay.fmt.Given as goal
 
 abbrev pub invariant-loop-agent : goal.invariant-loop-agent
 invariant-loop-agent g l =

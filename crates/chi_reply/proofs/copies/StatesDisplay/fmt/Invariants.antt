@@ -3,7 +3,7 @@ use Rattle.std.specs.Prelude.{codes}
 use Rattle.std.specs.List.{flat_map}
 use Rattle.std.specs.Fmt.{HasWritten, IsPlainFormatter}
 use Rattle.chi_reply.specs.Replies.{copy_text}
-use Rattle.chi_reply.proofs.lists.StatesDisplay.fmt.Given as goal
+use Rattle.chi_reply.proofs.copies.StatesDisplay.fmt.Given as goal
 
 abbrev pub invariant-loop-copy : goal.invariant-loop-copy
 invariant-loop-copy g l =
