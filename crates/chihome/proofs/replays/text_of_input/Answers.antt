@@ -1,0 +1,13 @@
+-- What was read is enough of the input's file.
+use Rattle.std.proofs.Common.{string_bytes, IfOk, IfErr, subst, List, ℕ}
+use Rattle.chi_script.specs.Faults.{Fails}
+use Rattle.chi_script.specs.Files.{file_of}
+use Rattle.chihome.specs.Replays.{IsTextOf}
+use Rattle.chihome.proofs.Enough.{fault_of_known, text_of_known}
+use Rattle.chihome.proofs.replays.text_of_input.Goals as goal
+
+pub returns-clause-ok : goal.returns-clause-ok
+returns-clause-ok g c = text_of_known (g.I.Input.left c.args.input.now) c.in_ok-bytes.bytes.items string_bytes c.text_of.result c.in_ok-bytes.ensures.front (rw (← c.deref.ensures.value) c.text_of.ensures.ok)
+
+pub returns-clause-err : goal.returns-clause-err
+returns-clause-err g c = fault_of_known (g.I.Input.left c.args.input.now) _ _ c.in_ok-bytes.bytes.items c.text_of.result c.in_ok-bytes.ensures.front (rw (← c.deref.ensures.value) c.text_of.ensures.err)

@@ -1,0 +1,44 @@
+-- What a replay writes, and what its faults say (docs/PROTOCOL.md, "Replay files" and "The program").
+use Rattle.std.specs.Prelude.{◌≡◌, ℕ, ◌+◌, List, Option, Some, None, Result, Ok, Err, IfSome, ◌⊎◌}
+use Rattle.std.specs.Io.KnownBytes.{Appends}
+use Rattle.chi_slice.specs.Config.{Sizes}
+use Rattle.chi_script.specs.declared.headers.Header.{Header}
+use Rattle.chi_script.specs.declared.commands.Command.{Command}
+use Rattle.chi_script.specs.declared.faults.Fault.{Fault}
+use Rattle.chi_script.specs.declared.faults.Fault.TheVariants.{NoMemory, BadHeader, BadCommand, MissingNewline, TooLarge, Read, Write}
+use Rattle.chi_script.specs.Files.{file_of}
+use Rattle.chi_devices.specs.Devices.{AppendsFront}
+use Rattle.chi_text.specs.Texts.{IsText}
+
+-- the sizes that a header gives
+abbrev pub node_sizes : Header → Sizes
+node_sizes header = record { agents = header.agents; lines = header.lines; slices = header.slices; entries = header.entries; journal = header.journal; profile = header.profile }
+
+-- a good file, and the text of its commands under answers that the tracker may give
+pub record IsTextOf (file bytes : List ℕ) : Type 0 where
+  pub header : Header
+  pub commands : List Command
+  pub good : file_of file ≡ Ok (header, commands)
+  pub text : IsText (node_sizes header) commands bytes
+
+-- one such text was written, no more
+abbrev pub WritesText : List ℕ → Option (List ℕ) → Option (List ℕ) → Type 0
+WritesText file old new = (text : List ℕ) × IsTextOf file text × Appends old new text
+
+-- a beginning of one such text was written
+abbrev pub WritesBeginning : List ℕ → Option (List ℕ) → Option (List ℕ) → Type 0
+WritesBeginning file old new = (text : List ℕ) × IsTextOf file text × AppendsFront old new text
+
+-- why there is no text: the input failed, and counted it; memory ran out; or the file's first fault
+abbrev pub NoText : Option (List ℕ) → ℕ → ℕ → Fault → Type 0
+NoText file before after Read = after ≡ before + 1
+NoText file before after NoMemory = Unit {0}
+NoText file before after Write = ⊥
+NoText file before after BadHeader = IfSome file (λ bytes. file_of bytes ≡ Err BadHeader)
+NoText file before after (BadCommand line) = IfSome file (λ bytes. file_of bytes ≡ Err (BadCommand line))
+NoText file before after (MissingNewline line) = IfSome file (λ bytes. file_of bytes ≡ Err (MissingNewline line))
+NoText file before after TooLarge = IfSome file (λ bytes. file_of bytes ≡ Err TooLarge)
+
+-- the answer is this fault, unless reading failed or memory ran out first
+abbrev pub Refuses : {A : Type 0} → Fault → Result A Fault → Type 0
+Refuses fault result = (result ≡ Err fault) ⊎ ((result ≡ Err Read) ⊎ (result ≡ Err NoMemory))

@@ -1,0 +1,11 @@
+//! `chihome replay FILE` runs the commands of a file on one thread, and prints an answer for each.
+#![tactic(auto)]
+
+mod program;
+mod replays;
+
+use std::process::ExitCode;
+
+fn main(rt: HostRuntime) -> ExitCode {
+    ExitCode::from(program::serve(&rt))
+}

@@ -1,0 +1,85 @@
+//! From the bytes of a file to the text that is printed.
+
+ghost use Rattle.std.specs.Prelude.{◌≡◌, ◌≢◌, ◌+◌, ◌^◌, ◌<◌, IfOk, IfErr, IfSome, OnOk, IsErrOf, string_bytes, true};
+ghost use Rattle.std.specs.Io.KnownBytes.{Keeps};
+ghost use Rattle.chi_script.specs.Headers.{is_in_limits, is_served};
+ghost use Rattle.chi_script.specs.Faults.{Fails};
+ghost use Rattle.chi_script.specs.Files.{file_of};
+ghost use Rattle.chi_script.specs.declared.faults.Fault.{Fault};
+ghost use Rattle.chihome.specs.Replays.{IsTextOf, NoText, Refuses, WritesBeginning, WritesText, node_sizes};
+
+use chi_devices::{Failed, Input, Output, read_all};
+use chi_script::{Fault, Header, read_file};
+use chi_slice::Config;
+use chi_text::run;
+use std::alloc::Allocator;
+
+/// The sizes of a header, which are in the limits.
+fn config_of(header: &Header) -> Config
+    requires limits { is_in_limits header.now ≡ true }
+    requires served { is_served header.now ≡ true }
+    ensures { result ≡ node_sizes header.now }
+{
+    let [t0, t1, _, _] = header.entries;
+    match Config::new(
+        header.agents,
+        header.lines,
+        header.slices,
+        t0,
+        t1,
+        header.journal,
+    ) {
+        Some(config) => config,
+        None => unreachable!(),
+    }
+}
+
+/// The text of the commands of a file, whose bytes these are; else its first fault, or want of memory.
+fn text_of<A: Allocator + Copy>(alloc: A, bytes: &[u8]) -> Result<String<A>, Fault>
+    ensures ok { IfOk result (λ text. IsTextOf bytes.now (string_bytes text)) }
+    ensures err { IfErr result (λ fault. Fails fault (file_of bytes.now)) }
+{
+    let script = read_file(alloc, bytes)?;
+    let config = config_of(&script.header);
+    match run(alloc, &config, &script.commands) {
+        Ok(text) => Ok(text),
+        Err(_) => Err(Fault::NoMemory),
+    }
+}
+
+/// The same of an input's bytes; `Read` where reading them failed.
+fn text_of_input<A: Allocator + Copy, I: Input>(alloc: A, input: &mut I) -> Result<String<A>, Fault>
+    requires { I.failures input.old + 1 < 2 ^ 64 }
+    ensures ok { IfOk result (λ text. IfSome (I.left input.old) (λ file. IsTextOf file (string_bytes text))) }
+    ensures err { IfErr result (NoText (I.left input.old) (I.failures input.old) (I.failures input.new)) }
+{
+    let bytes = read_all(alloc, input)?;
+    text_of(alloc, &bytes)
+}
+
+/// Runs the commands of the file that the input has, on one thread, and writes the answer of each.
+///
+/// At `Ok` the input was a good file, and the text of its commands, under answers that the tracker may
+/// give, was written, no more. Where the file is faulty nothing is written, and the fault is that of its
+/// first faulty line, or `TooLarge`, unless `Read` or `NoMemory` came first. `Read` and `Write` come only
+/// where that device counted a failure. After `Write` a beginning of such a text was written; after any
+/// other fault nothing was.
+/// Source: `docs/PROTOCOL.md`, "Replay files" and "The program".
+pub fn replay<A: Allocator + Copy, I: Input, O: Output>(
+    alloc: A,
+    input: &mut I,
+    output: &mut O,
+) -> Result<(), Fault>
+    requires reads { I.failures input.old + 1 < 2 ^ 64 }
+    requires writes { O.failures output.old + 1 < 2 ^ 64 }
+    ensures ok { OnOk result (IfSome (I.left input.old) (λ file. WritesText file (O.written output.old) (O.written output.new))) }
+    ensures write { IsErrOf result Fault.Write → (O.failures output.new ≡ O.failures output.old + 1) × IfSome (I.left input.old) (λ file. WritesBeginning file (O.written output.old) (O.written output.new)) }
+    ensures err { IfErr result (λ fault. fault ≢ Fault.Write → NoText (I.left input.old) (I.failures input.old) (I.failures input.new) fault × Keeps (O.written output.old) (O.written output.new)) }
+    ensures faulty { IfSome (I.left input.old) (λ file. (fault : Fault) → file_of file ≡ Err fault → Refuses fault result × Keeps (O.written output.old) (O.written output.new)) }
+{
+    let text = text_of_input(alloc, input)?;
+    match output.write_all(text.as_bytes()) {
+        Ok(()) => Ok(()),
+        Err(Failed) => Err(Fault::Write),
+    }
+}
