@@ -27,8 +27,7 @@ pub fn commands_are_lines()
 /// Source: `docs/PROTOCOL.md`, "Replay files" and "Limits".
 pub fn headers_are_lines()
     ensures { (line : List ℕ) (header : Header) → header_of (words_of line) ≡ Some header → IsHeaderLine header line }
-{
-}
+{}
 
 /// One byte more than a file may have is enough of it: the rest changes nothing.
 /// Source: `docs/PROTOCOL.md`, "Replay files".

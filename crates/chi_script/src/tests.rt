@@ -1,5 +1,4 @@
 use super::*;
-
 use chi_flit::{Action, Agent, Kind, Line, Profile, Slot};
 use std::alloc::AllocError;
 
@@ -13,7 +12,8 @@ fn fault_of(rt: &HostRuntime, bytes: &[u8]) -> Option<Fault> {
 
 #[test]
 fn a_good_file_is_its_header_and_its_commands(rt: HostRuntime) -> Result<(), Fault> {
-    let file = b"node 1 64 1 32 32 65536\nissue 0 3 ReadNotSharedDirty 7\narrive 0 3\nstart 0 3\ndata 0 3\nack 0 3\nflits 256 300\nshow 255\ntotals\n";
+    let file =
+        b"node 1 64 1 32 32 65536\nissue 0 3 ReadNotSharedDirty 7\narrive 0 3\nstart 0 3\ndata 0 3\nack 0 3\nflits 256 300\nshow 255\ntotals\n";
     let script = read_file(rt.alloc(), file)?;
     let header = Header {
         agents: 1,
@@ -71,12 +71,24 @@ fn the_first_fault_is_told(rt: HostRuntime) {
         (b"node 1 1 1 1 1 1 1 4\n", Fault::BadHeader),
         (b"node 1 1 1 1 1 4\n\n", Fault::BadCommand(2)),
         (b"node 1 1 1 1 1 4\nshow 00\n", Fault::BadCommand(2)),
-        (b"node 1 1 1 1 1 4\nshow 18446744073709551616\n", Fault::BadCommand(2)),
+        (
+            b"node 1 1 1 1 1 4\nshow 18446744073709551616\n",
+            Fault::BadCommand(2),
+        ),
         (b"node 1 1 1 1 1 4\nshow  0\n", Fault::BadCommand(2)),
         (b"node 1 1 1 1 1 4\nshow\n", Fault::BadCommand(2)),
-        (b"node 1 1 1 1 1 4\nissue 0 0 Read 0\n", Fault::BadCommand(2)),
-        (b"node 1 1 1 1 1 2\nissue 0 0 Read", Fault::MissingNewline(2)),
-        (b"node 1 1 1 1 1 2\ntotals\ntotals", Fault::MissingNewline(3)),
+        (
+            b"node 1 1 1 1 1 4\nissue 0 0 Read 0\n",
+            Fault::BadCommand(2),
+        ),
+        (
+            b"node 1 1 1 1 1 2\nissue 0 0 Read",
+            Fault::MissingNewline(2),
+        ),
+        (
+            b"node 1 1 1 1 1 2\ntotals\ntotals",
+            Fault::MissingNewline(3),
+        ),
         (b"node 1 1 1 1 1 2\ntotal\ntotals", Fault::BadCommand(2)),
         (b"node 1 1 1 1 1 2\ntotals \nTotals\n", Fault::BadCommand(2)),
     ];
@@ -89,7 +101,10 @@ fn the_first_fault_is_told(rt: HostRuntime) {
 fn the_largest_number_is_read(rt: HostRuntime) {
     let file = b"node 1 1 1 1 1 1\nshow 18446744073709551615\n";
     assert_eq!(rt; fault_of(&rt, file), None);
-    assert_eq!(rt; number(b"18446744073709551615"), Some(18_446_744_073_709_551_615));
+    assert_eq!(rt;
+        number(b"18446744073709551615"),
+        Some(18_446_744_073_709_551_615)
+    );
     assert_eq!(rt; small(b"254"), Some(254));
     assert_eq!(rt; small(b"-1"), None);
 }
@@ -110,7 +125,11 @@ fn a_fault_is_a_line_and_a_status(rt: HostRuntime) -> Result<(), AllocError> {
         (Fault::NoMemory, 3, "chihome: out of memory"),
         (Fault::BadHeader, 1, "chihome: line 1: bad header"),
         (Fault::BadCommand(2), 1, "chihome: line 2: bad command"),
-        (Fault::MissingNewline(30), 1, "chihome: line 30: missing newline"),
+        (
+            Fault::MissingNewline(30),
+            1,
+            "chihome: line 30: missing newline",
+        ),
         (Fault::TooLarge, 1, "chihome: file too large"),
         (Fault::Read, 1, "chihome: cannot read"),
         (Fault::Write, 1, "chihome: cannot write"),
@@ -126,7 +145,10 @@ fn a_fault_is_a_line_and_a_status(rt: HostRuntime) -> Result<(), AllocError> {
 #[test]
 fn words_are_read_alone(rt: HostRuntime) {
     let command: [&[u8]; 2] = [b"show", b"1"];
-    assert_eq!(rt; read_command(&command), Some(Command::Show { line: Line(1) }));
+    assert_eq!(rt;
+        read_command(&command),
+        Some(Command::Show { line: Line(1) })
+    );
     let header: [&[u8]; 7] = [b"node", b"1", b"1", b"1", b"1", b"1", b"1"];
     assert!(rt; read_header(&header).is_some());
     numbers_are_decimal();
