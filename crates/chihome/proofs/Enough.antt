@@ -1,38 +1,24 @@
 -- One byte more than a file may have is enough of it.
 use Rattle.std.proofs.Common.{◌≡◌, ℕ, ◌≤◌, ◌<◌, List, [], Bool, true, false, nat_lt, Option, Some, None, Result, Ok, Err, IfOk, IfErr, IfSome, if◌then◌else◌, refl, sym, ◌∙◌, ap, subst, take, length, arith, ⊎_elim}
-use Rattle.std.proofs.lemmas.Bool.{cases_lt}
-use Rattle.std.proofs.lemmas.List.{length-take, take_all}
 use Rattle.chi_script.specs.declared.headers.Header.{Header}
 use Rattle.chi_script.specs.declared.commands.Command.{Command}
 use Rattle.chi_script.specs.declared.faults.Fault.{Fault}
 use Rattle.chi_script.specs.declared.faults.Fault.TheVariants.{NoMemory, BadHeader, BadCommand, MissingNewline, TooLarge, Read, Write}
 use Rattle.chi_script.specs.Faults.{Fails}
-use Rattle.chi_script.specs.Files.{file_of, lines_of, script_of}
+use Rattle.chi_script.specs.Files.{file_of}
+use Rattle.chi_script.proofs.FileLemmas.{front_enough}
 use Rattle.chihome.specs.Replays.{IsTextOf, NoText}
-
-too_large : (file : List ℕ) → 1048576 < length file → file_of file ≡ Err TooLarge
-unfolding file_of
-too_large file h = ap (λ (b : Bool). if b then Err TooLarge else script_of (lines_of file)) (large (length file) h)
-  where
-    large : (n : ℕ) → 1048576 < n → nat_lt 1048576 n ≡ true
-    large n h = grind (arith, h)
-
-pub enough : (file : List ℕ) → file_of (take 1048577 file) ≡ file_of file
-enough file = ⊎_elim
-    (λ (h : length file < 1048577). ap file_of (take_all 1048577 file (omega (arith, h))))
-    (λ (h : 1048577 ≤ length file). too_large (take 1048577 file) (omega (arith, h, length-take 1048577 file)) ∙ sym (too_large file (omega (arith, h))))
-    (cases_lt (length file) 1048577)
 
 -- the text of what was read is that of the input's file
 pub text_of_known : {T : Type 0} (left : Option (List ℕ)) (bytes : List ℕ) (bytes_of : T → List ℕ) (result : Result T Fault) → IfSome left (λ file. bytes ≡ take 1048577 file)
     → IfOk result (λ text. IsTextOf bytes (bytes_of text)) → IfOk result (λ text. IfSome left (λ file. IsTextOf file (bytes_of text)))
 text_of_known None bytes bytes_of (Ok text) front ok = tt
-text_of_known (Some file) bytes bytes_of (Ok text) front ok = record { header = ok.header; commands = ok.commands; good = sym (enough file) ∙ (sym (ap file_of front) ∙ ok.good); text = ok.text }
+text_of_known (Some file) bytes bytes_of (Ok text) front ok = record { header = ok.header; commands = ok.commands; good = sym (front_enough file) ∙ (sym (ap file_of front) ∙ ok.good); text = ok.text }
 text_of_known left bytes bytes_of (Err fault) front ok = ok
 
 known : (left : Option (List ℕ)) (bytes : List ℕ) (fault : Fault) → IfSome left (λ file. bytes ≡ take 1048577 file) → file_of bytes ≡ Err fault → IfSome left (λ file. file_of file ≡ Err fault)
 known None bytes fault front h = tt
-known (Some file) bytes fault front h = sym (enough file) ∙ (sym (ap file_of front) ∙ h)
+known (Some file) bytes fault front h = sym (front_enough file) ∙ (sym (ap file_of front) ∙ h)
 
 -- and so is its fault
 no_text : (left : Option (List ℕ)) (before after : ℕ) (bytes : List ℕ) (fault : Fault) → IfSome left (λ file. bytes ≡ take 1048577 file) → Fails fault (file_of bytes) → NoText left before after fault
