@@ -1,6 +1,6 @@
 -- The snoop filter: a set of named agents, the flag of a lone holder, and the owner
 -- (Arm IHI 0050 B, 4.1; docs/PROTOCOL.md, "The filter"). A set of agents is a list of eight marks.
-use Rattle.std.specs.Prelude.{ℕ, List, Bool, true, false, ◌&&◌, ◌==◌, Option, Some, None, slice_set, replicate, if◌then◌else◌}
+use Rattle.std.specs.Prelude.{◌≡◌, ℕ, ◌<◌, List, Bool, true, false, ◌&&◌, ◌==◌, Option, Some, None, slice_set, replicate, if◌then◌else◌}
 use Rattle.std.specs.List.{list_any, slice_index_or}
 use Rattle.chi_flit.specs.declared.numbers.Agent.{Agent}
 
@@ -64,3 +64,12 @@ only_named n = record { named = only_set n; unique = true; owner = None }
 -- the flag cleared
 abbrev pub shared : FilterState → FilterState
 shared f = record f { unique = false }
+
+-- what every filter keeps: the flag is set only where exactly one agent is named, and an owner is named
+pub record IsFilter (f : FilterState) : Type 0 where
+  -- where the flag is set, somebody is named
+  pub flag_names_one : f.unique ≡ true → has_any f.named ≡ true
+  -- and nobody else
+  pub flag_names_no_other : f.unique ≡ true → (n m : ℕ) → n < 8 → m < 8 → is_named f n ≡ true → is_named f m ≡ true → n ≡ m
+  -- the owner is one of the named
+  pub owner_named : (n : ℕ) → owned_by f.owner n ≡ true → is_named f n ≡ true

@@ -1,7 +1,7 @@
 //! The agents that may hold one line.
 
 ghost use Rattle.std.specs.Prelude.{◌≡◌, ◌<◌};
-ghost use Rattle.chi_filter.specs.Filter.{FilterState, added, empty_filter, has_any, only_named, others_than, owner_set, owner_without, removed, shared};
+ghost use Rattle.chi_filter.specs.Filter.{FilterState, IsFilter, added, empty_filter, has_any, only_named, others_than, owner_set, owner_without, removed, shared};
 
 use chi_flit::Agent;
 use std::marker::Model;
@@ -50,11 +50,13 @@ pub struct Filter {
 }
 
 impl Model for Filter {
-    ghost use Rattle.chi_filter.specs.Filter.{FilterState};
+    ghost use Rattle.chi_filter.specs.Filter.{FilterState, IsFilter};
 
     ghost Value = { FilterState };
 
     ghost view = { λ filter. record { named = filter.named; unique = filter.unique; owner = filter.owner } };
+
+    ghost invariant = { λ filter. IsFilter (record { named = filter.named; unique = filter.unique; owner = filter.owner }) };
 }
 
 impl Filter {
@@ -93,8 +95,9 @@ impl Filter {
         requires { agent.0 < 8 }
         ensures { self.new ≡ only_named agent.0 }
     {
-        self.named = [false; 8];
-        self.named[agent.0 as usize] = true;
+        let mut named = [false; 8];
+        named[agent.0 as usize] = true;
+        self.named = named;
         self.unique = true;
         self.owner = None;
     }
@@ -128,7 +131,8 @@ impl Filter {
 
     /// Everybody named, a mark for each agent number.
     pub fn named(&self) -> [bool; 8]
-        ensures { result ≡ self.now.named }
+        ensures value { result ≡ self.now.named }
+        ensures kept { IsFilter self.now }
     {
         self.named
     }

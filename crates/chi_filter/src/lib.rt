@@ -2,5 +2,7 @@
 #![tactic(auto)]
 
 mod filter;
+#[cfg(test)]
+mod tests;
 
 pub use filter::{Filter, has_any};

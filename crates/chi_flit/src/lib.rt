@@ -12,6 +12,8 @@ mod numbers;
 mod refusal;
 mod snoop;
 mod state;
+#[cfg(test)]
+mod tests;
 
 pub use action::{Action, Effect};
 pub use credit::{CreditType, Profile, credit_type};

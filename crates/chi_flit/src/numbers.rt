@@ -35,8 +35,8 @@ impl fmt::Display for Agent {
     ghost output = { λ agent. Some (decimal agent.0) };
 
     fn fmt<W: fmt::Write>(&self, f: &mut fmt::Formatter<W>) -> fmt::Result {
-        let number = self.0;
-        write!(f, "{number}")
+        let agent = self.0;
+        write!(f, "{agent}")
     }
 }
 
@@ -44,8 +44,8 @@ impl fmt::Display for Line {
     ghost output = { λ line. Some (decimal line.0) };
 
     fn fmt<W: fmt::Write>(&self, f: &mut fmt::Formatter<W>) -> fmt::Result {
-        let number = self.0;
-        write!(f, "{number}")
+        let line = self.0;
+        write!(f, "{line}")
     }
 }
 
@@ -53,8 +53,8 @@ impl fmt::Display for Slot {
     ghost output = { λ slot. Some (decimal slot.0) };
 
     fn fmt<W: fmt::Write>(&self, f: &mut fmt::Formatter<W>) -> fmt::Result {
-        let number = self.0;
-        write!(f, "{number}")
+        let slot = self.0;
+        write!(f, "{slot}")
     }
 }
 
@@ -62,8 +62,8 @@ impl fmt::Display for Entry {
     ghost output = { λ entry. Some (decimal entry.0) };
 
     fn fmt<W: fmt::Write>(&self, f: &mut fmt::Formatter<W>) -> fmt::Result {
-        let number = self.0;
-        write!(f, "{number}")
+        let entry = self.0;
+        write!(f, "{entry}")
     }
 }
 
@@ -71,7 +71,7 @@ impl fmt::Display for WordNo {
     ghost output = { λ word. Some (decimal word.0) };
 
     fn fmt<W: fmt::Write>(&self, f: &mut fmt::Formatter<W>) -> fmt::Result {
-        let number = self.0;
-        write!(f, "{number}")
+        let word = self.0;
+        write!(f, "{word}")
     }
 }

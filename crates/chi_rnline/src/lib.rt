@@ -5,6 +5,8 @@
 
 mod pending;
 mod rn_line;
+#[cfg(test)]
+mod tests;
 
 pub use pending::{Pending, Phase};
 pub use rn_line::RnLine;

@@ -1,6 +1,6 @@
 //! One requester's copy and pending request of one line.
 
-ghost use Rattle.std.specs.Prelude.{◌≡◌, OnErr, IfOk, Some, None, true, false, is_some};
+ghost use Rattle.std.specs.Prelude.{◌≡◌, OnErr, IfOk, Some, None, true, false, is_some, ⊤};
 ghost use Rattle.chi_rnline.specs.Rn.{Rn, no_line, issued, issue_refusal, received, request_message};
 ghost use Rattle.chi_flit.specs.Refusal.{refusal_of};
 ghost use Rattle.chi_flit.specs.declared.message.Msg.TheVariants as messages;
@@ -30,6 +30,10 @@ impl Model for RnLine {
 }
 
 impl Clone for RnLine {
+    ghost is_clone = { λ line copy. copy ≡ line };
+
+    ghost is_infallible = { λ _. ⊤ };
+
     fn clone(&self) -> Result<Self, AllocError> {
         Ok(*self)
     }

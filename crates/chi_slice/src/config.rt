@@ -1,6 +1,6 @@
 //! The sizes of a node.
 
-ghost use Rattle.std.specs.Prelude.{◌≡◌, ◌+◌, ◌&&◌, nat_le, true};
+ghost use Rattle.std.specs.Prelude.{◌≡◌, ◌+◌, ◌&&◌, nat_le, true, ⊤};
 ghost use Rattle.chi_slice.specs.Config.{Sizes, are_in_limits, config_if, is_between, is_slice_count, two_types};
 
 use chi_flit::Profile;
@@ -33,6 +33,10 @@ impl Model for Config {
 }
 
 impl Clone for Config {
+    ghost is_clone = { λ config copy. copy ≡ config };
+
+    ghost is_infallible = { λ _. ⊤ };
+
     fn clone(&self) -> Result<Self, AllocError> {
         Ok(*self)
     }

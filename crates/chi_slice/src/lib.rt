@@ -4,6 +4,8 @@
 mod act;
 mod config;
 mod slice;
+#[cfg(test)]
+mod tests;
 mod view;
 
 pub use chi_flit::{Action, Effect};
