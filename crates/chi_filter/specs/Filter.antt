@@ -65,6 +65,14 @@ only_named n = record { named = only_set n; unique = true; owner = None }
 abbrev pub shared : FilterState → FilterState
 shared f = record f { unique = false }
 
+-- the agent the owner, in place of any other
+abbrev pub owner_made : FilterState → Agent → FilterState
+owner_made f agent = record f { owner = Some agent }
+
+-- the agent no owner any more
+abbrev pub owner_ended : FilterState → ℕ → FilterState
+owner_ended f n = record f { owner = owner_without f.owner n }
+
 -- what every filter keeps: the flag is set only where exactly one agent is named, and an owner is named
 pub record IsFilter (f : FilterState) : Type 0 where
   -- where the flag is set, somebody is named

@@ -1,7 +1,7 @@
 //! The agents that may hold one line.
 
-ghost use Rattle.std.specs.Prelude.{◌≡◌, ◌<◌};
-ghost use Rattle.chi_filter.specs.Filter.{FilterState, IsFilter, added, empty_filter, has_any, only_named, others_than, owner_set, owner_without, removed, shared};
+ghost use Rattle.std.specs.Prelude.{◌≡◌, ◌<◌, true};
+ghost use Rattle.chi_filter.specs.Filter.{FilterState, IsFilter, added, empty_filter, has_any, is_named, only_named, others_than, owner_ended, owner_made, owner_set, owner_without, removed, shared};
 
 use chi_flit::Agent;
 use std::marker::Model;
@@ -149,5 +149,23 @@ impl Filter {
         ensures { result ≡ self.now.owner }
     {
         self.owner
+    }
+
+    /// Makes the agent, which is named, the owner in place of any other; who is named and the flag stay.
+    /// Source: `docs/PROTOCOL.md`, "Answers of snooped agents".
+    pub fn make_owner(&mut self, agent: Agent)
+        requires agent { agent.0 < 8 }
+        requires named { is_named self.old agent.0 ≡ true }
+        ensures { self.new ≡ owner_made self.old agent }
+    {
+        self.owner = Some(agent);
+    }
+
+    /// Ends the agent as the owner; another owner, who is named and the flag stay.
+    pub fn end_owner(&mut self, agent: Agent)
+        requires { agent.0 < 8 }
+        ensures { self.new ≡ owner_ended self.old agent.0 }
+    {
+        self.owner = owner_without(self.owner, agent);
     }
 }

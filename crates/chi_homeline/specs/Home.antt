@@ -1,6 +1,6 @@
 -- One line at the home, and the home's part of each action (docs/PROTOCOL.md, "One line", "Start",
 -- "Completion" and "The actions").
-use Rattle.std.specs.Prelude.{◌≡◌, ℕ, List, Bool, true, false, ◌&&◌, ◌==◌, not, Option, Some, None, is_some, slice_set, replicate, if◌then◌else◌}
+use Rattle.std.specs.Prelude.{◌<◌, ℕ, List, Bool, true, false, ◌&&◌, ◌==◌, not, Option, Some, None, is_some, slice_set, replicate, if◌then◌else◌}
 use Rattle.std.specs.List.{slice_index_or}
 use Rattle.chi_flit.specs.declared.numbers.Agent.{Agent}
 use Rattle.chi_flit.specs.declared.numbers.Slot.{Slot}
@@ -23,6 +23,9 @@ use Rattle.chi_homeline.specs.declared.serving.Serving.{Serving}
 use Rattle.chi_homeline.specs.declared.serving.Serving.TheVariants.{Idle, Snooping, AwaitingCompAck, AwaitingWriteData}
 use Rattle.chi_homeline.specs.declared.serving.Started.{Started}
 use Rattle.chi_homeline.specs.declared.serving.Started.TheVariants.{Sends, Evicted, Snoops}
+use Rattle.chi_homeline.specs.declared.serving.SnoopAnswer.{SnoopAnswer}
+use Rattle.chi_homeline.specs.declared.serving.SnoopAnswer.TheVariants as answers
+use Rattle.chi_homeline.specs.declared.serving.Completion.{Completion}
 
 -- what the home keeps of a line: while it snoops, awaited are the agents whose answer isn't in
 pub record Home : Type 0 where
@@ -139,12 +142,33 @@ acks_for (Snooping agent kind slot) n = false
 acks_for (AwaitingCompAck agent slot) n = agent.0 == n
 acks_for (AwaitingWriteData agent kind slot) n = false
 
+-- whether the agent's write data is awaited
+abbrev pub writes_for : Serving → ℕ → Bool
+writes_for Idle n = false
+writes_for (Snooping agent kind slot) n = false
+writes_for (AwaitingCompAck agent slot) n = false
+writes_for (AwaitingWriteData agent kind slot) n = agent.0 == n
+
+-- the served agent is one of the eight
+abbrev pub IsServedInRange : Serving → Type 0
+IsServedInRange Idle = Unit {0}
+IsServedInRange (Snooping agent kind slot) = agent.0 < 8
+IsServedInRange (AwaitingCompAck agent slot) = agent.0 < 8
+IsServedInRange (AwaitingWriteData agent kind slot) = agent.0 < 8
+
 -- the slot of the request that is served
 abbrev pub served_slot : Serving → Option Slot
 served_slot Idle = None
 served_slot (Snooping agent kind slot) = Some slot
 served_slot (AwaitingCompAck agent slot) = Some slot
 served_slot (AwaitingWriteData agent kind slot) = Some slot
+
+-- the kind of the request that is served, until it completes
+abbrev pub served_kind : Serving → Option Kind
+served_kind Idle = None
+served_kind (Snooping agent kind slot) = Some kind
+served_kind (AwaitingCompAck agent slot) = None
+served_kind (AwaitingWriteData agent kind slot) = Some kind
 
 -- RecvAck: the line is idle
 abbrev pub acknowledged : Home → Home
@@ -161,6 +185,69 @@ left_shared f n = record f { unique = false; owner = owner_without f.owner n }
 -- the filter after SnpRespData_SD: shared, and its sender is the owner
 abbrev pub left_owner : FilterState → Agent → FilterState
 left_owner f agent = record f { unique = false; owner = Some agent }
+
+-- the memory after an answer: the data of a _PD form
+abbrev pub memory_after : SnoopAnswer → List ℕ → List ℕ
+memory_after answers.I memory = memory
+memory_after answers.SC memory = memory
+memory_after (answers.IPD words) memory = words
+memory_after (answers.SCPD words) memory = words
+memory_after (answers.SD words) memory = memory
+
+-- the filter after an answer
+abbrev pub filter_after : SnoopAnswer → FilterState → Agent → FilterState
+filter_after answers.I f agent = removed f agent.0
+filter_after answers.SC f agent = left_shared f agent.0
+filter_after (answers.IPD words) f agent = removed f agent.0
+filter_after (answers.SCPD words) f agent = left_shared f agent.0
+filter_after (answers.SD words) f agent = left_owner f agent
+
+-- the data that a completion sends after an answer: the answer's own, else the memory
+abbrev pub data_to_send : SnoopAnswer → List ℕ → List ℕ
+data_to_send answers.I memory = memory
+data_to_send answers.SC memory = memory
+data_to_send (answers.IPD words) memory = words
+data_to_send (answers.SCPD words) memory = words
+data_to_send (answers.SD words) memory = words
+
+-- the home once an answer is in
+abbrev pub answer_taken : Home → Agent → SnoopAnswer → Home
+answer_taken home agent answer = answered home agent.0 (memory_after answer home.memory) (filter_after answer home.filter agent)
+
+-- the completion of the request that is served, by the snoop that serves it
+abbrev pub completed_by : Home → Option Snoop → Agent → Slot → Home
+completed_by home None agent slot = home
+completed_by home (Some snoop) agent slot = completed home snoop agent slot
+
+abbrev pub completion_by : Home → Option Snoop → Agent → List ℕ → Option Completion
+completion_by home None agent sent = None
+completion_by home (Some snoop) agent sent = Some (record { agent = agent; message = completion_of home snoop agent sent })
+
+-- a request that is snooped for completes when no answer is awaited any more
+abbrev pub finished_as : Serving → Home → Home
+finished_as Idle home = home
+finished_as (Snooping agent kind slot) home = if has_any home.awaited then home else completed_by home (snoop_of kind) agent slot
+finished_as (AwaitingCompAck agent slot) home = home
+finished_as (AwaitingWriteData agent kind slot) home = home
+
+abbrev pub finished_home : Home → Home
+finished_home home = finished_as home.serving home
+
+abbrev pub finished_sends_as : Serving → Home → List ℕ → Option Completion
+finished_sends_as Idle home sent = None
+finished_sends_as (Snooping agent kind slot) home sent = if has_any home.awaited then None else completion_by home (snoop_of kind) agent sent
+finished_sends_as (AwaitingCompAck agent slot) home sent = None
+finished_sends_as (AwaitingWriteData agent kind slot) home sent = None
+
+abbrev pub finished_sends : Home → List ℕ → Option Completion
+finished_sends home sent = finished_sends_as home.serving home sent
+
+-- RecvSnpResp: the answer is in, and the request completes where it was the last one
+abbrev pub snoop_answered : Home → Agent → SnoopAnswer → Home
+snoop_answered home agent answer = finished_home (answer_taken home agent answer)
+
+abbrev pub snoop_answered_sends : Home → Agent → SnoopAnswer → Option Completion
+snoop_answered_sends home agent answer = finished_sends (answer_taken home agent answer) (data_to_send answer home.memory)
 
 -- whether write data in the form of a state leaves its sender without a copy: after a WriteCleanFull where
 -- it had none

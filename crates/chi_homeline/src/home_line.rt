@@ -3,12 +3,14 @@
 ghost use Rattle.std.specs.Prelude.{◌≡◌, ◌<◌, IfOk, OnErr, Some, true};
 ghost use Rattle.chi_flit.specs.Kind.{snoop_of};
 ghost use Rattle.chi_flit.specs.Refusal.{refusal_of};
-ghost use Rattle.chi_homeline.specs.Home.{Home, acknowledged, acks_for, admitted, asks, completed, completes_unique, completion_message, completion_of, idle_home, served, served_sends, served_slot, start_refusal, started, started_as, started_sends, waiting_of};
+ghost use Rattle.chi_filter.specs.Filter.{is_named};
+ghost use Rattle.chi_homeline.specs.Home.{Home, acknowledged, acks_for, admitted, answer_taken, asks, completed, completes_unique, completion_message, completion_of, data_to_send, finished_home, finished_sends, idle_home, leaves, served, served_kind, served_sends, served_slot, snoop_answered, snoop_answered_sends, start_refusal, started, started_as, started_sends, waiting_of, writes_for, written};
+ghost use Rattle.chi_flit.specs.declared.kind.Kind.{Kind};
 ghost use Rattle.chi_homeline.specs.declared.serving.Waiting.{Waiting};
 
-use crate::serving::{Serving, Started, Waiting};
+use crate::serving::{Completion, Serving, SnoopAnswer, Started, Waiting};
 use chi_filter::{Filter, has_any};
-use chi_flit::{Agent, CompData, Data, Kind, Msg, NO_DATA, Refusal, RspDown, Slot, Snoop};
+use chi_flit::{Agent, CompData, Data, Kind, Msg, NO_DATA, Refusal, RspDown, Slot, Snoop, State};
 use std::marker::Model;
 
 /// What the home keeps of one line. Contracts see it as a `Home`. Each agent's number is below 8.
@@ -22,11 +24,13 @@ pub struct HomeLine {
 }
 
 impl Model for HomeLine {
-    ghost use Rattle.chi_homeline.specs.Home.{Home};
+    ghost use Rattle.chi_homeline.specs.Home.{Home, IsServedInRange};
 
     ghost Value = { Home };
 
     ghost view = { λ home. record { memory = home.memory; filter = home.filter; serving = home.serving; awaited = home.awaited; waiting = home.waiting } };
+
+    ghost invariant = { λ home. IsServedInRange home.serving };
 }
 
 impl HomeLine {
@@ -190,6 +194,122 @@ impl HomeLine {
         ensures { result ≡ waiting_of self.now agent.0 }
     {
         self.waiting[agent.0 as usize]
+    }
+
+    /// Takes the agent's answer to its snoop, which is awaited no more. Data of a `_PD` form becomes the
+    /// memory; an agent that is left without a copy is named no more; the flag ends where a copy is left;
+    /// and the agent is the owner after `SD`, and no owner after any other answer. Answers the completion
+    /// that is to be sent, where this was the last answer.
+    /// Source: `docs/PROTOCOL.md`, "Answers of snooped agents".
+    pub fn snp_resp(&mut self, agent: Agent, answer: SnoopAnswer) -> Option<Completion>
+        requires agent { agent.0 < 8 }
+        requires named { is_named self.old.filter agent.0 ≡ true }
+        ensures sends { result ≡ snoop_answered_sends self.old agent answer }
+        ensures after { self.new ≡ snoop_answered self.old agent answer }
+    {
+        let sent = data_to_send(answer, self.memory);
+        self.take_answer(agent, answer);
+        self.finish(sent)
+    }
+
+    /// Takes the agent's answer, and doesn't look whether it was the last one.
+    fn take_answer(&mut self, agent: Agent, answer: SnoopAnswer)
+        requires agent { agent.0 < 8 }
+        requires named { is_named self.old.filter agent.0 ≡ true }
+        ensures { self.new ≡ answer_taken self.old agent answer }
+    {
+        self.awaited[usize::from(agent.0)] = false;
+        match answer {
+            SnoopAnswer::I => self.filter.remove(agent),
+            SnoopAnswer::SC => {
+                self.filter.share();
+                self.filter.end_owner(agent);
+            }
+            SnoopAnswer::IPD(words) => {
+                self.memory = words;
+                self.filter.remove(agent);
+            }
+            SnoopAnswer::SCPD(words) => {
+                self.memory = words;
+                self.filter.share();
+                self.filter.end_owner(agent);
+            }
+            SnoopAnswer::SD(_) => {
+                self.filter.share();
+                self.filter.make_owner(agent);
+            }
+        }
+    }
+
+    /// Completes the request that is snooped for, where no answer is awaited any more. Answers the
+    /// completion.
+    fn finish(&mut self, sent: Data) -> Option<Completion>
+        ensures sends { result ≡ finished_sends self.old sent }
+        ensures after { self.new ≡ finished_home self.old }
+    {
+        let Serving::Snooping { agent, kind, slot } = self.serving else {
+            return None;
+        };
+        if has_any(&self.awaited) {
+            return None;
+        }
+        let snoop = kind.snoop()?;
+        let message = self.complete(agent, snoop, slot, sent);
+        Some(Completion { agent, message })
+    }
+
+    /// Takes the agent's write data, which is awaited: dirty data becomes the memory, the agent is no
+    /// owner and, where no copy is left to it, named no more, and the line is idle. Answers the slot of
+    /// the request that is complete.
+    /// Source: `docs/PROTOCOL.md`, "Write data".
+    pub fn wr_data(&mut self, agent: Agent, form: State, words: Data) -> Slot
+        requires agent { agent.0 < 8 }
+        requires awaited { writes_for self.old.serving agent.0 ≡ true }
+        ensures slot { served_slot self.old.serving ≡ Some result }
+        ensures after { (kind : Kind) → served_kind self.old.serving ≡ Some kind → self.new ≡ written self.old agent.0 kind form words }
+    {
+        match self.serving {
+            Serving::AwaitingWriteData { kind, slot, .. } => {
+                if form.is_dirty() {
+                    self.memory = words;
+                }
+                if leaves(kind, form) {
+                    self.filter.remove(agent);
+                } else {
+                    self.filter.end_owner(agent);
+                }
+                self.serving = Serving::Idle;
+                slot
+            }
+            Serving::Idle | Serving::Snooping { .. } | Serving::AwaitingCompAck { .. } => {
+                unreachable!()
+            }
+        }
+    }
+}
+
+/// The data of a completion that an answer brings, beside the memory before it.
+fn data_to_send(answer: SnoopAnswer, memory: Data) -> Data
+    ensures { result ≡ data_to_send answer memory }
+{
+    match answer {
+        SnoopAnswer::I | SnoopAnswer::SC => memory,
+        SnoopAnswer::IPD(words) | SnoopAnswer::SCPD(words) | SnoopAnswer::SD(words) => words,
+    }
+}
+
+/// Whether write data of the form leaves its sender without a copy.
+fn leaves(kind: Kind, form: State) -> bool
+    ensures { result ≡ leaves kind form }
+{
+    match kind {
+        Kind::WriteBackFull | Kind::WriteEvictFull => true,
+        Kind::ReadNotSharedDirty
+        | Kind::ReadShared
+        | Kind::ReadUnique
+        | Kind::CleanUnique
+        | Kind::Evict
+        | Kind::WriteCleanFull => !form.is_valid(),
     }
 }
 

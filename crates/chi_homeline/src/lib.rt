@@ -7,4 +7,4 @@ mod home_line;
 mod serving;
 
 pub use home_line::HomeLine;
-pub use serving::{Serving, Started, Waiting};
+pub use serving::{Completion, Serving, SnoopAnswer, Started, Waiting};

@@ -1,6 +1,6 @@
 //! Requests at the home: those that wait, and the one that is served.
 
-use chi_flit::{Agent, Kind, Msg, Slot, Snoop};
+use chi_flit::{Agent, Data, Kind, Msg, Slot, Snoop};
 
 /// A request that was let in and not started yet.
 #[derive(Clone, Copy, Debug, PartialEq, Eq)]
@@ -42,4 +42,27 @@ pub enum Started {
     Evicted(Slot),
     /// The snoop to each agent that has a mark.
     Snoops { snoop: Snoop, agents: [bool; 8] },
+}
+
+/// An agent's answer to its snoop, by what it says of the agent's copy (`docs/PROTOCOL.md`, "Answers of
+/// snooped agents").
+#[derive(Clone, Copy, Debug, PartialEq, Eq)]
+pub enum SnoopAnswer {
+    /// `SnpResp_I`: no copy is left.
+    I,
+    /// `SnpResp_SC`: a clean copy is left.
+    SC,
+    /// `SnpRespData_I_PD`: no copy is left, and this is the line's value.
+    IPD(Data),
+    /// `SnpRespData_SC_PD`: a clean copy is left, and this is the line's value.
+    SCPD(Data),
+    /// `SnpRespData_SD`: this is the line's value, and the agent stays responsible for it.
+    SD(Data),
+}
+
+/// The completion of a request: its agent, and the message that is to be sent to it.
+#[derive(Clone, Copy, Debug, PartialEq, Eq)]
+pub struct Completion {
+    pub agent: Agent,
+    pub message: Msg,
 }

@@ -1,6 +1,7 @@
 -- One requester's side of one line, and the requester's part of each action
 -- (docs/PROTOCOL.md, "One line" and "The actions").
-use Rattle.std.specs.Prelude.{◌≡◌, ℕ, List, Bool, true, false, ◌||◌, Option, Some, None, Result, Ok, Err, is_some, slice_set, if◌then◌else◌, not}
+use Rattle.std.specs.Prelude.{ℕ, List, Bool, true, false, ◌||◌, Option, Some, None, is_some, slice_set, if◌then◌else◌, not}
+use Rattle.std.specs.List.{slice_index_or}
 use Rattle.chi_flit.specs.declared.numbers.Slot.{Slot}
 use Rattle.chi_flit.specs.declared.state.State.{State}
 use Rattle.chi_flit.specs.declared.state.State.TheVariants.{I, SC, UC, UD, SD}
@@ -60,6 +61,10 @@ received rn sent = record rn { state = if sent.unique then UC else SC; words = s
 -- Load: 2 where there is no copy
 abbrev pub load_refusal : Rn → Option Refusal
 load_refusal rn = if is_valid rn.state then None else Some refusals.WrongState
+
+-- Load: the value of the copy's word
+abbrev pub word_of : Rn → ℕ → ℕ
+word_of rn word = slice_index_or rn.words word 0
 
 -- Store: 3 where a request is pending, then 2 where the copy isn't unique
 abbrev pub store_refusal : Rn → Option Refusal
@@ -171,3 +176,8 @@ state_after_write WriteEvictFull state = I
 -- RecvDbid of a request of the kind: nothing is pending
 abbrev pub dbid_received : Rn → Kind → Rn
 dbid_received rn kind = record rn { state = state_after_write kind rn.state; pending = None }
+
+-- RecvDbid of the request that is pending
+abbrev pub dbid_taken : Rn → Option Pending → Rn
+dbid_taken rn None = rn
+dbid_taken rn (Some request) = dbid_received rn request.kind

@@ -1,13 +1,19 @@
 //! One requester's copy and pending request of one line.
 
-ghost use Rattle.std.specs.Prelude.{◌≡◌, OnErr, IfOk, Some, None, true, false, is_some, ⊤};
-ghost use Rattle.chi_rnline.specs.Rn.{Rn, no_line, issued, issue_refusal, received, request_message};
+ghost use Rattle.std.specs.Prelude.{◌≡◌, ◌<◌, OnErr, IfOk, Some, None, true, false, is_some, ⊤};
+ghost use Rattle.chi_rnline.specs.Rn.{Rn, cancel_refusal, cancelled, comp_received, dbid_taken, drop_refusal, dropped, evict_received, is_clean_copy, issue_refusal, issued, load_refusal, may_resend, no_line, received, request_message, resend_refusal, resent, retry_received, snoop_received, state_after_clean, state_after_comp, state_after_write, store_refusal, stored, word_of};
+ghost use Rattle.chi_rnline.specs.declared.pending.Pending.{Pending};
+ghost use Rattle.chi_flit.specs.Message.{write_data_of};
 ghost use Rattle.chi_flit.specs.Refusal.{refusal_of};
+ghost use Rattle.chi_flit.specs.Snoop.{answer_of};
 ghost use Rattle.chi_flit.specs.declared.message.Msg.TheVariants as messages;
 ghost use Rattle.chi_flit.specs.declared.message.RspUp.TheVariants.{CompAck};
 
 use crate::pending::{Pending, Phase};
-use chi_flit::{CompData, Data, Kind, Msg, NO_DATA, Refusal, Request, RspUp, Slot, State};
+use chi_flit::{
+    CompData, Data, Kind, Msg, NO_DATA, Refusal, Request, RspUp, Slot, Snoop, State, WordNo,
+    answer, write_data,
+};
 use std::alloc::AllocError;
 use std::marker::Model;
 
@@ -119,5 +125,249 @@ impl RnLine {
         ensures { result ≡ self.now.pending }
     {
         self.pending
+    }
+
+    /// Loads the word of the copy.
+    ///
+    /// Refused 2 (WrongState) where there is no copy.
+    /// Source: `docs/PROTOCOL.md`, "The actions", Load.
+    pub fn load(&self, word: WordNo) -> Result<u64, Refusal>
+        requires { word.0 < 8 }
+        ensures refusal { refusal_of result ≡ load_refusal self.now }
+        ensures value { IfOk result (λ value. value ≡ word_of self.now word.0) }
+    {
+        if !self.state.is_valid() {
+            return Err(Refusal::WrongState);
+        }
+        Ok(self.words[usize::from(word.0)])
+    }
+
+    /// The refusal that `store` would answer.
+    pub fn why_no_store(&self) -> Option<Refusal>
+        ensures { result ≡ store_refusal self.now }
+    {
+        if self.pending.is_some() {
+            return Some(Refusal::Pending);
+        }
+        if !self.state.is_unique() {
+            return Some(Refusal::WrongState);
+        }
+        None
+    }
+
+    /// Stores the value: the word of the copy has it, and the copy is `UD`.
+    ///
+    /// Refused 3 (Pending) where a request is pending, then 2 (WrongState) where the copy isn't `UC` or
+    /// `UD`; nothing changes then.
+    /// Source: `docs/PROTOCOL.md`, "The actions", Store.
+    pub fn store(&mut self, word: WordNo, value: u64) -> Result<(), Refusal>
+        requires { word.0 < 8 }
+        ensures refusal { refusal_of result ≡ store_refusal self.old }
+        ensures ok { IfOk result (λ _. self.new ≡ stored self.old word.0 value) }
+        ensures err { OnErr result (self.new ≡ self.old) }
+    {
+        if let Some(refusal) = self.why_no_store() {
+            return Err(refusal);
+        }
+        self.words[usize::from(word.0)] = value;
+        self.state = State::UD;
+        Ok(())
+    }
+
+    /// Gives up the copy without a message: its state is `I`.
+    ///
+    /// Refused 3 (Pending) where a request is pending, then 2 (WrongState) where the copy isn't `SC` or
+    /// `UC`; nothing changes then.
+    /// Source: `docs/PROTOCOL.md`, "The actions", Drop.
+    pub fn drop_clean(&mut self) -> Result<(), Refusal>
+        ensures refusal { refusal_of result ≡ drop_refusal self.old }
+        ensures ok { IfOk result (λ _. self.new ≡ dropped self.old) }
+        ensures err { OnErr result (self.new ≡ self.old) }
+    {
+        if self.pending.is_some() {
+            return Err(Refusal::Pending);
+        }
+        if !is_clean_copy(self.state) {
+            return Err(Refusal::WrongState);
+        }
+        self.state = State::I;
+        Ok(())
+    }
+
+    /// Answers a snoop: the copy is in the answer's state, and its data and the pending request stay.
+    /// Source: `docs/PROTOCOL.md`, "Answers to snoops".
+    pub fn snooped(&mut self, snoop: Snoop) -> Msg
+        ensures message { result ≡ (answer_of self.old.state snoop self.old.words).1 }
+        ensures after { self.new ≡ snoop_received self.old snoop }
+    {
+        let (state, message) = answer(self.state, snoop, self.words);
+        self.state = state;
+        message
+    }
+
+    /// Takes a RetryAck: the pending request is in phase Retried.
+    /// Source: `docs/PROTOCOL.md`, "The actions", RecvRetry.
+    pub fn retried(&mut self)
+        ensures { self.new ≡ retry_received self.old }
+    {
+        if let Some(request) = self.pending {
+            self.pending = Some(Pending {
+                kind: request.kind,
+                slot: request.slot,
+                phase: Phase::Retried,
+            });
+        }
+    }
+
+    /// Sends a retried request again, with a credit: it is in phase Sent. Answers the request that is to
+    /// be put, without AllowRetry.
+    ///
+    /// Refused 4 (NothingPending) where no request is in phase Retried, then 2 (WrongState) where it is a
+    /// copy-back and the copy isn't in its needed state; nothing changes then.
+    /// Source: `docs/PROTOCOL.md`, "The actions", Resend.
+    pub fn resend(&mut self) -> Result<Msg, Refusal>
+        ensures refusal { refusal_of result ≡ resend_refusal self.old }
+        ensures message { IfOk result (λ message. (request : Pending) → self.old.pending ≡ Some request → message ≡ request_message request.kind request.slot false) }
+        ensures ok { IfOk result (λ _. self.new ≡ resent self.old) }
+        ensures err { OnErr result (self.new ≡ self.old) }
+    {
+        let Some(
+            Pending {
+                kind,
+                slot,
+                phase: Phase::Retried,
+            },
+        ) = self.pending
+        else {
+            return Err(Refusal::NothingPending);
+        };
+        if !may_resend(kind, self.state) {
+            return Err(Refusal::WrongState);
+        }
+        self.pending = Some(Pending {
+            kind,
+            slot,
+            phase: Phase::Sent,
+        });
+        Ok(Msg::Req(Request {
+            kind,
+            slot,
+            allow_retry: false,
+        }))
+    }
+
+    /// Cancels a retried copy-back whose copy has left the needed state: nothing is pending.
+    ///
+    /// Refused 4 (NothingPending) where no request is in phase Retried, then 2 (WrongState) where it may
+    /// still be sent; nothing changes then.
+    /// Source: `docs/PROTOCOL.md`, "The actions", Cancel.
+    pub fn cancel(&mut self) -> Result<(), Refusal>
+        ensures refusal { refusal_of result ≡ cancel_refusal self.old }
+        ensures ok { IfOk result (λ _. self.new ≡ cancelled self.old) }
+        ensures err { OnErr result (self.new ≡ self.old) }
+    {
+        let Some(
+            Pending {
+                kind,
+                phase: Phase::Retried,
+                ..
+            },
+        ) = self.pending
+        else {
+            return Err(Refusal::NothingPending);
+        };
+        if may_resend(kind, self.state) {
+            return Err(Refusal::WrongState);
+        }
+        self.pending = None;
+        Ok(())
+    }
+
+    /// Takes Comp_UC: a copy that is left is unique, a lost one stays lost, and nothing is pending.
+    /// Answers the CompAck that is to be put.
+    /// Source: `docs/PROTOCOL.md`, "The actions", RecvComp.
+    pub fn comp(&mut self) -> Msg
+        ensures message { result ≡ messages.RspUp CompAck }
+        ensures after { self.new ≡ comp_received self.old }
+    {
+        self.state = state_after_comp(self.state);
+        self.pending = None;
+        Msg::RspUp(RspUp::CompAck)
+    }
+
+    /// Takes Comp_I, which ends an Evict: nothing is pending, and nothing is to be put.
+    /// Source: `docs/PROTOCOL.md`, "The actions", RecvComp.
+    pub fn evicted(&mut self)
+        ensures { self.new ≡ evict_received self.old }
+    {
+        self.pending = None;
+    }
+
+    /// Takes CompDBIDResp. Answers the write data that is to be put: that of the copy as it stands. The
+    /// copy is what the pending request leaves of it, and nothing is pending; where nothing was, the copy
+    /// stays.
+    /// Source: `docs/PROTOCOL.md`, "Write data".
+    pub fn dbid(&mut self) -> Msg
+        ensures message { result ≡ messages.DatUp (write_data_of self.old.state self.old.words) }
+        ensures after { self.new ≡ dbid_taken self.old self.old.pending }
+    {
+        let message = Msg::DatUp(write_data(self.state, self.words));
+        if let Some(request) = self.pending {
+            self.state = state_after_write(request.kind, self.state);
+            self.pending = None;
+        }
+        message
+    }
+}
+
+/// Whether a copy is clean, so that it may be dropped.
+fn is_clean_copy(state: State) -> bool
+    ensures { result ≡ is_clean_copy state }
+{
+    matches!(state, State::SC | State::UC)
+}
+
+/// Whether a retried request may still be sent: a copy-back only from its needed state.
+fn may_resend(kind: Kind, state: State) -> bool
+    ensures { result ≡ may_resend kind state }
+{
+    !kind.is_copy_back() || kind.needs(state)
+}
+
+/// The copy's state after Comp_UC.
+fn state_after_comp(state: State) -> State
+    ensures { result ≡ state_after_comp state }
+{
+    match state {
+        State::I => State::I,
+        State::SC | State::UC => State::UC,
+        State::UD | State::SD => State::UD,
+    }
+}
+
+/// The copy's state after write data of a request of the kind was sent.
+fn state_after_write(kind: Kind, state: State) -> State
+    ensures { result ≡ state_after_write kind state }
+{
+    match kind {
+        Kind::WriteCleanFull => state_after_clean(state),
+        Kind::ReadNotSharedDirty
+        | Kind::ReadShared
+        | Kind::ReadUnique
+        | Kind::CleanUnique
+        | Kind::Evict
+        | Kind::WriteBackFull
+        | Kind::WriteEvictFull => State::I,
+    }
+}
+
+/// The copy's state after a WriteCleanFull: clean.
+fn state_after_clean(state: State) -> State
+    ensures { result ≡ state_after_clean state }
+{
+    match state {
+        State::I => State::I,
+        State::SC | State::SD => State::SC,
+        State::UC | State::UD => State::UC,
     }
 }

@@ -31,6 +31,7 @@ use Rattle.chi_homeline.specs.declared.serving.Waiting.{Waiting}
 use Rattle.chi_homeline.specs.declared.serving.Serving.{Serving}
 use Rattle.chi_homeline.specs.declared.serving.Serving.TheVariants.{Idle, Snooping, AwaitingCompAck, AwaitingWriteData}
 use Rattle.chi_homeline.specs.Home.{Home, acks_for, served_slot, waiting_of}
+pub use Rattle.chi_homeline.specs.Home.{IsServedInRange, served_kind, writes_for}
 use Rattle.chi_slice.specs.LineState.{LineState, rn_of, cells_of}
 use Rattle.chi_slice.specs.Step.{is_ack, pending_slot}
 
@@ -96,18 +97,6 @@ snoops_for (Snooping agent kind slot) n = agent.0 == n
 snoops_for (AwaitingCompAck agent slot) n = false
 snoops_for (AwaitingWriteData agent kind slot) n = false
 
-abbrev pub writes_for : Serving → ℕ → Bool
-writes_for Idle n = false
-writes_for (Snooping agent kind slot) n = false
-writes_for (AwaitingCompAck agent slot) n = false
-writes_for (AwaitingWriteData agent kind slot) n = agent.0 == n
-
-abbrev pub served_kind : Serving → Option Kind
-served_kind Idle = None
-served_kind (Snooping agent kind slot) = Some kind
-served_kind (AwaitingCompAck agent slot) = None
-served_kind (AwaitingWriteData agent kind slot) = Some kind
-
 -- the snoop whose answers are awaited
 abbrev pub snoop_out : Serving → Option Snoop
 snoop_out Idle = None
@@ -128,12 +117,6 @@ invalidates (Some SnpShared) = false
 invalidates (Some SnpNotSharedDirty) = false
 invalidates (Some SnpUnique) = true
 invalidates (Some SnpCleanInvalid) = true
-
-abbrev pub IsServedInRange : Serving → Type 0
-IsServedInRange Idle = Unit {0}
-IsServedInRange (Snooping agent kind slot) = agent.0 < 8
-IsServedInRange (AwaitingCompAck agent slot) = agent.0 < 8
-IsServedInRange (AwaitingWriteData agent kind slot) = agent.0 < 8
 
 -- of cells
 abbrev pub is_dbid : Option RspDown → Bool

@@ -1,0 +1,5 @@
+pub mod Record
+pub mod LastValues
+pub mod Totals
+pub mod Journal
+pub mod Tracked

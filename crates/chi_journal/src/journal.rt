@@ -1,0 +1,220 @@
+//! A journal of loads and stores with a limit.
+
+ghost use Rattle.std.specs.Prelude.{◌≡◌, ◌<◌, ◌↔◌, length, IfOk, OnErr, IsTrue};
+ghost use Rattle.chi_flit.specs.Refusal.{refusal_of};
+ghost use Rattle.chi_journal.specs.Record.{record_agent, record_line, record_word};
+ghost use Rattle.chi_journal.specs.Journal.{IsLegal, Log, append_refusal, appended, is_full, last_value, last_words, loads_of, opening_log, part_of, stores_of};
+
+use crate::last_values::LastValues;
+use crate::record::Record;
+use crate::totals::Totals;
+use chi_flit::{Agent, Data, Line, NoMemory, Refusal, WordNo};
+use std::alloc::Allocator;
+use std::marker::Model;
+
+/// The loads and stores that were answered, in their order, up to a limit. Contracts see it as a `Log`:
+/// the records, the limit, and the number of lines. Each question takes the same time, however many
+/// records there are.
+#[derive(Drop)]
+pub struct Journal<A: Allocator> {
+    records: Vec<Record, A>,
+    limit: u32,
+    last: LastValues<A>,
+    totals: Totals,
+}
+
+impl<A: Allocator> Model for Journal<A> {
+    ghost use Rattle.std.specs.Prelude.{length};
+    ghost use Rattle.std.specs.Vec.{vec_capacity};
+    ghost use Rattle.chi_journal.specs.Journal.{Log};
+    ghost use Rattle.chi_journal.specs.Tracked.{IsTracked};
+
+    ghost Value = { Log };
+
+    ghost view = { λ journal. record { entries = journal.records.items; limit = journal.limit; lines = length journal.last } };
+
+    ghost invariant = { λ journal. IsTracked journal.records.items journal.limit (vec_capacity journal.records) journal.last journal.totals };
+}
+
+impl<A: Allocator + Copy> Journal<A> {
+    /// An empty journal for so many lines, with room for `limit` records: all memory that it ever needs
+    /// is found here. Refused where it runs out.
+    pub fn with_limit(alloc: A, lines: u8, limit: u32) -> Result<Journal<A>, NoMemory>
+        ensures { IfOk result (λ journal. journal ≡ opening_log lines limit) }
+    {
+        let records = Vec::with_capacity(alloc, limit as usize)?;
+        let last = LastValues::new(alloc, lines)?;
+        Ok(Journal {
+            records,
+            limit,
+            last,
+            totals: Totals::new(),
+        })
+    }
+}
+
+impl<A: Allocator> Journal<A> {
+    /// Appends a record. It takes no memory.
+    ///
+    /// Refused 1 (JournalFull) where the journal holds exactly its limit; nothing changes then.
+    /// Source: `docs/PROTOCOL.md`, "Refusals".
+    pub fn append(&mut self, entry: Record) -> Result<(), Refusal>
+        requires agent { (record_agent entry).0 < 8 }
+        requires line { (record_line entry).0 < self.old.lines }
+        requires word { (record_word entry).0 < 8 }
+        ensures refusal { refusal_of result ≡ append_refusal self.old }
+        ensures ok { IfOk result (λ _. self.new ≡ appended self.old entry) }
+        ensures err { OnErr result (self.new ≡ self.old) }
+    {
+        if self.is_full() {
+            return Err(Refusal::JournalFull);
+        }
+        let last = self.last.value(entry.line(), entry.word());
+        self.totals.count(entry, last);
+        self.last.follow(entry);
+        self.records.push_reserved(entry);
+        Ok(())
+    }
+
+    /// Whether the journal holds exactly its limit.
+    pub fn is_full(&self) -> bool
+        ensures { result ≡ is_full self.now }
+    {
+        self.records.len() == self.limit as usize
+    }
+
+    /// The value of the last store to a word, or 0 where there is none.
+    pub fn last(&self, line: Line, word: WordNo) -> u64
+        requires line { line.0 < self.now.lines }
+        requires word { word.0 < 8 }
+        ensures { result ≡ last_value self.now.entries line.0 word.0 }
+    {
+        self.last.value(line, word)
+    }
+
+    /// The values of the last stores to the words of a line.
+    pub fn last_words(&self, line: Line) -> Data
+        requires { line.0 < self.now.lines }
+        ensures { result ≡ last_words self.now.entries line.0 }
+    {
+        self.last.words(line)
+    }
+
+    /// How many loads there are.
+    pub fn loads(&self) -> u32
+        ensures { result ≡ loads_of self.now.entries }
+    {
+        self.totals.loads
+    }
+
+    /// How many stores there are.
+    pub fn stores(&self) -> u32
+        ensures { result ≡ stores_of self.now.entries }
+    {
+        self.totals.stores
+    }
+
+    /// How many records of the agent there are.
+    pub fn part_len(&self, agent: Agent) -> u32
+        requires { agent.0 < 8 }
+        ensures { result ≡ length (part_of self.now.entries agent.0) }
+    {
+        self.totals.parts[usize::from(agent.0)]
+    }
+
+    /// Whether each load had the value that was stored last before it.
+    pub fn legal(&self) -> bool
+        ensures { IsTrue result ↔ IsLegal self.now.entries }
+    {
+        self.totals.legal
+    }
+
+    /// How many records there are.
+    pub fn len(&self) -> usize
+        ensures { result ≡ length self.now.entries }
+    {
+        self.records.len()
+    }
+
+    /// How many records there may be.
+    pub fn limit(&self) -> u32
+        ensures { result ≡ self.now.limit }
+    {
+        self.limit
+    }
+
+    /// The number of lines whose last values are kept.
+    pub fn lines(&self) -> usize
+        ensures { result ≡ self.now.lines }
+    {
+        self.last.lines()
+    }
+
+    /// The records, in their order.
+    pub fn records(&self) -> &[Record]
+        ensures { result.now ≡ self.now.entries }
+    {
+        &self.records
+    }
+}
+
+#[cfg(test)]
+mod tests {
+    use super::*;
+    use linked_list_allocator::LocalHeap;
+
+    const LOAD: Record = Record::Load {
+        agent: Agent(2),
+        line: Line(1),
+        word: WordNo(7),
+        value: 0,
+    };
+
+    const STORE: Record = Record::Store {
+        agent: Agent(5),
+        line: Line(1),
+        word: WordNo(7),
+        value: 9,
+    };
+
+    #[test]
+    fn takes_records_up_to_the_limit(rt: HostRuntime) {
+        let mut journal = Journal::with_limit(rt.alloc(), 2, 2).expect(&rt, "memory for 2 records");
+        assert_eq!(rt; journal.limit(), 2);
+        assert_eq!(rt; journal.lines(), 2);
+        assert_eq!(rt; journal.append(LOAD), Ok(()));
+        assert_eq!(rt; journal.append(STORE), Ok(()));
+        assert_eq!(rt; journal.append(LOAD), Err(Refusal::JournalFull));
+        assert_eq!(rt; journal.len(), 2);
+        assert_eq!(rt; journal.records(), [LOAD, STORE].as_slice());
+        assert_eq!(rt; journal.loads(), 1);
+        assert_eq!(rt; journal.stores(), 1);
+        assert_eq!(rt; journal.part_len(Agent(2)), 1);
+        assert_eq!(rt; journal.last(Line(1), WordNo(7)), 9);
+        assert_eq!(rt; journal.last_words(Line(0)), [0; 8]);
+        assert!(rt; journal.legal());
+    }
+
+    #[test]
+    fn tells_a_load_of_an_older_value(rt: HostRuntime) {
+        let mut journal = Journal::with_limit(rt.alloc(), 2, 2).expect(&rt, "memory for 2 records");
+        assert_eq!(rt; journal.append(STORE), Ok(()));
+        assert!(rt; journal.legal());
+        assert_eq!(rt; journal.append(LOAD), Ok(()));
+        assert!(rt; !journal.legal());
+    }
+
+    #[test]
+    fn answers_no_memory_where_a_growth_is_refused(rt: HostRuntime) {
+        let small = LocalHeap::new(rt.alloc(), 256).expect(&rt, "memory for a small heap");
+        assert_eq!(rt;
+            Journal::with_limit(&small, 1, 64).map(|journal| journal.limit()),
+            Err(NoMemory)
+        );
+        let large = LocalHeap::new(rt.alloc(), 16384).expect(&rt, "memory for a large heap");
+        assert_eq!(rt;
+            Journal::with_limit(&large, 1, 64).map(|journal| journal.limit()),
+            Ok(64)
+        );
+    }
+}
