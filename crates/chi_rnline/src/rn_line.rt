@@ -146,13 +146,11 @@ impl RnLine {
     pub fn why_no_store(&self) -> Option<Refusal>
         ensures { result ≡ store_refusal self.now }
     {
-        if self.pending.is_some() {
-            return Some(Refusal::Pending);
+        match (self.pending, self.state.is_unique()) {
+            (Some(_), _) => Some(Refusal::Pending),
+            (None, false) => Some(Refusal::WrongState),
+            (None, true) => None,
         }
-        if !self.state.is_unique() {
-            return Some(Refusal::WrongState);
-        }
-        None
     }
 
     /// Stores the value: the word of the copy has it, and the copy is `UD`.
@@ -184,14 +182,14 @@ impl RnLine {
         ensures ok { IfOk result (λ _. self.new ≡ dropped self.old) }
         ensures err { OnErr result (self.new ≡ self.old) }
     {
-        if self.pending.is_some() {
-            return Err(Refusal::Pending);
+        match (self.pending, is_clean_copy(self.state)) {
+            (Some(_), _) => Err(Refusal::Pending),
+            (None, false) => Err(Refusal::WrongState),
+            (None, true) => {
+                self.state = State::I;
+                Ok(())
+            }
         }
-        if !is_clean_copy(self.state) {
-            return Err(Refusal::WrongState);
-        }
-        self.state = State::I;
-        Ok(())
     }
 
     /// Answers a snoop: the copy is in the answer's state, and its data and the pending request stay.
