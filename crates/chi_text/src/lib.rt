@@ -4,6 +4,8 @@
 mod runs;
 mod session;
 mod slots;
+#[cfg(test)]
+mod tests;
 
 pub use runs::run;
 pub use session::Session;

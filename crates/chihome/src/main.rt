@@ -3,6 +3,8 @@
 
 mod program;
 mod replays;
+#[cfg(test)]
+mod tests;
 
 use std::process::ExitCode;
 

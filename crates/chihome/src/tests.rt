@@ -1,0 +1,196 @@
+use crate::program::Stop;
+use crate::replays::replay;
+use bumpalo::Bump;
+use chi_arguments::{ArgFault, arguments};
+use chi_devices::{FileInput, MemoryInput, MemoryOutput};
+use chi_script::Fault;
+use linked_list_allocator::LocalHeap;
+use std::alloc::{AllocError, Allocator};
+use std::process::Abort;
+use std::{fs, io};
+
+const FIRST_PATH: &[u8] =
+    b"node 1 1 1 1 1 4\nissue 0 0 ReadNotSharedDirty 0\narrive 0 0\nstart 0 0\nflits 0 0\ndata 0 0\nflits 0 0\ntotals\nack 0 0\ntotals\nissue 0 0 ReadNotSharedDirty 0\nshow 0\n";
+
+const FIRST_PATH_TEXT: &[u8] =
+    b"ok\nok admitted 0\nok\nok CompData_UC\nok\nok CompAck\nok free 0 1 hand 1 0 promised 0 0 owed 0 0\nok completed 0 freed\nok free 1 1 hand 0 0 promised 0 0 owed 0 0\nrefused 2 WrongState\nok copies UC named 0 unique yes serving none waiting - memory 0 0 0 0 0 0 0 0\n";
+
+const TWO_COMMANDS: &[u8] = b"node 1 1 1 1 1 4\ntotals\nflits 0 0\n";
+
+const TWO_COMMANDS_TEXT: &[u8] = b"ok free 1 1 hand 0 0 promised 0 0 owed 0 0\nok none\n";
+
+#[test]
+fn the_first_path_is_answered(rt: HostRuntime) {
+    let mut input = MemoryInput::new(FIRST_PATH, 10);
+    let mut output = MemoryOutput::new(rt.alloc(), 1_000);
+    assert_eq!(rt; replay(rt.alloc(), &mut input, &mut output), Ok(()));
+    assert!(rt; output.bytes() == FIRST_PATH_TEXT);
+}
+
+/// The replay of this file must end with this line and status 1, and write nothing.
+fn tells(rt: &(impl Abort + AllocGlobal), file: &[u8], line: &str) -> Result<(), AllocError> {
+    let mut input = MemoryInput::new(file, 10);
+    let mut output = MemoryOutput::new(rt.alloc(), 1_000);
+    match replay(rt.alloc(), &mut input, &mut output) {
+        Ok(()) => assert!(rt; false, "{line}"),
+        Err(fault) => {
+            let stop = Stop::Replay(fault);
+            let text = format!(in rt.alloc(); "{stop}")?;
+            assert_eq!(rt; text.as_str(), line);
+            assert_eq!(rt; stop.status(), 1, "{line}");
+        }
+    }
+    assert!(rt; output.bytes().is_empty(), "{line}");
+    Ok(())
+}
+
+#[test]
+fn a_faulty_file_is_told_and_nothing_written(rt: HostRuntime) -> Result<(), AllocError> {
+    let files: [(&[u8], &str); 10] = [
+        (b"", "chihome: line 1: bad header"),
+        (b"node 1 1 1 1 1 4", "chihome: line 1: missing newline"),
+        (b"node 1 1 1 1 1 4\r\n", "chihome: line 1: bad header"),
+        (b"node 9 64 8 32 32 65536\n", "chihome: line 1: bad header"),
+        (
+            b"node 1 1 1 1 1 4\nload 0 0\n",
+            "chihome: line 2: bad command",
+        ),
+        (
+            b"node 1 1 1 1 1 4\nload 00 0 0\n",
+            "chihome: line 2: bad command",
+        ),
+        (
+            b"node 1 1 1 1 1 4\nload  0 0 0\n",
+            "chihome: line 2: bad command",
+        ),
+        (b"node 1 1 1 1 1 4\n\n", "chihome: line 2: bad command"),
+        (
+            b"node 1 1 1 1 1 4\nload 18446744073709551616 0 0\n",
+            "chihome: line 2: bad command",
+        ),
+        (
+            b"node 1 1 1 1 1 2\nissue 0 0 Read",
+            "chihome: line 2: missing newline",
+        ),
+    ];
+    for (file, line) in files {
+        tells(&rt, file, line)?;
+    }
+    Ok(())
+}
+
+#[test]
+fn an_output_that_fails_holds_a_beginning_of_the_text(rt: HostRuntime) {
+    for room in 0..51 {
+        let mut input = MemoryInput::new(TWO_COMMANDS, 10);
+        let mut output = MemoryOutput::new(rt.alloc(), room);
+        let fault = replay(rt.alloc(), &mut input, &mut output).err();
+        assert_eq!(rt; fault, Some(Fault::Write), "{room}");
+        assert!(rt; output.bytes().len() <= room, "{room}");
+        assert!(rt; TWO_COMMANDS_TEXT.starts_with(output.bytes()), "{room}");
+    }
+    let mut input = MemoryInput::new(TWO_COMMANDS, 10);
+    let mut output = MemoryOutput::new(rt.alloc(), 51);
+    assert_eq!(rt; replay(rt.alloc(), &mut input, &mut output), Ok(()));
+    assert!(rt; output.bytes() == TWO_COMMANDS_TEXT);
+}
+
+#[test]
+fn an_input_that_fails_writes_nothing(rt: HostRuntime) {
+    for good_reads in 0..2 {
+        let mut input = MemoryInput::new(TWO_COMMANDS, good_reads);
+        let mut output = MemoryOutput::new(rt.alloc(), 1_000);
+        let fault = replay(rt.alloc(), &mut input, &mut output).err();
+        assert_eq!(rt; fault, Some(Fault::Read));
+        assert!(rt; output.bytes().is_empty());
+    }
+    let mut input = MemoryInput::new(TWO_COMMANDS, 2);
+    let mut output = MemoryOutput::new(rt.alloc(), 1_000);
+    assert_eq!(rt; replay(rt.alloc(), &mut input, &mut output), Ok(()));
+}
+
+#[test]
+fn a_file_is_replayed_and_a_missing_one_is_not(rt: HostRuntime) -> io::Result<()> {
+    fs::write(&rt, "two.chi", "node 1 1 1 1 1 4\ntotals\nflits 0 0\n")?;
+    match FileInput::open(&rt, "two.chi") {
+        Ok(mut input) => {
+            let mut output = MemoryOutput::new(rt.alloc(), 1_000);
+            assert_eq!(rt; replay(rt.alloc(), &mut input, &mut output), Ok(()));
+            assert!(rt; output.bytes() == TWO_COMMANDS_TEXT);
+        }
+        Err(fault) => assert_eq!(rt; fault, Fault::NoMemory, "it is there"),
+    }
+    fs::remove_file(&rt, "two.chi")?;
+    assert_eq!(rt; FileInput::open(&rt, "none.chi").err(), Some(Fault::Read));
+    Ok(())
+}
+
+#[test]
+fn a_stop_is_a_line_and_a_status(rt: HostRuntime) -> Result<(), AllocError> {
+    let bad = arguments(rt.alloc(), &["chihome", "replay"]).err();
+    assert_eq!(rt; bad, Some(ArgFault::Bad));
+    let stops = [
+        (Stop::from(ArgFault::Bad), 4, "chihome: bad arguments"),
+        (Stop::from(ArgFault::NoMemory), 3, "chihome: out of memory"),
+        (Stop::from(Fault::NoMemory), 3, "chihome: out of memory"),
+        (Stop::from(Fault::Read), 1, "chihome: cannot read"),
+        (Stop::from(Fault::Write), 1, "chihome: cannot write"),
+        (Stop::from(Fault::TooLarge), 1, "chihome: file too large"),
+    ];
+    for (stop, status, line) in stops {
+        let text = format!(in rt.alloc(); "{stop}")?;
+        assert_eq!(rt; text.as_str(), line);
+        assert_eq!(rt; stop.status(), status, "{line}");
+    }
+    Ok(())
+}
+
+/// Whether the first path was answered with this allocator; otherwise memory ran out, and nothing was
+/// written.
+fn is_answered<A: Allocator + Copy>(rt: &(impl Abort + AllocGlobal), alloc: A) -> bool {
+    let mut input = MemoryInput::new(FIRST_PATH, 10);
+    let mut output = MemoryOutput::new(rt.alloc(), 1_000);
+    match replay(alloc, &mut input, &mut output) {
+        Ok(()) => {
+            assert!(rt; output.bytes() == FIRST_PATH_TEXT);
+            true
+        }
+        Err(fault) => {
+            assert_eq!(rt; fault, Fault::NoMemory);
+            assert_eq!(rt; fault.status(), 3);
+            assert!(rt; output.bytes().is_empty());
+            false
+        }
+    }
+}
+
+#[test]
+fn a_heap_of_any_size_answers_or_says_so(rt: HostRuntime) -> Result<(), AllocError> {
+    let mut with_least = true;
+    let mut with_most = false;
+    for step in 0..400 {
+        let heap = LocalHeap::new(rt.alloc(), 64 + 32 * step)?;
+        with_most = is_answered(&rt, &heap);
+        with_least = with_least && with_most;
+    }
+    assert!(rt; with_most);
+    assert!(rt; !with_least);
+    Ok(())
+}
+
+#[test]
+fn a_budget_of_any_size_answers_or_says_so(rt: HostRuntime) -> Result<(), AllocError> {
+    let filling = [0u8; 16_000];
+    let mut with_some = false;
+    let mut with_least = true;
+    for taken in 0..16_000 {
+        let bump = Bump::new(rt.alloc());
+        bump.set_allocation_limit(Some(16_320));
+        bump.try_alloc_slice_copy(&filling[..taken])?;
+        with_least = is_answered(&rt, &bump);
+        with_some = with_some || with_least;
+    }
+    assert!(rt; with_some);
+    assert!(rt; !with_least);
+    Ok(())
+}
