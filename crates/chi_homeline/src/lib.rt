@@ -5,6 +5,8 @@
 
 mod home_line;
 mod serving;
+#[cfg(test)]
+mod tests;
 
 pub use home_line::HomeLine;
 pub use serving::{Completion, Serving, SnoopAnswer, Started, Waiting};
