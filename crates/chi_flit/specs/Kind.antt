@@ -1,5 +1,5 @@
 -- The table of kinds, a line a cell: the state that each needs at its issue, the snoop that serves it,
--- which are copy-backs (Arm IHI 0050 B, 4.2; docs/PROTOCOL.md, "Kinds of request").
+-- which are copy-backs (Arm IHI 0050 B, chapter 4; docs/PROTOCOL.md, "Kinds of request").
 use Rattle.std.specs.Prelude.{ℕ, List, Bool, true, false, Option, Some, None, codes}
 use Rattle.chi_flit.specs.declared.state.State.{State}
 use Rattle.chi_flit.specs.declared.state.State.TheVariants.{I, SC, UC, UD, SD}

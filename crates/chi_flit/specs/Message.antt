@@ -1,5 +1,5 @@
 -- Messages: the channel and the text of each, and the forms of write data
--- (Arm IHI 0050 B, 1.5 and 4.2; docs/PROTOCOL.md, "Messages" and "Write data").
+-- (Arm IHI 0050 B, chapters 2 and 4; docs/PROTOCOL.md, "Messages" and "Write data").
 use Rattle.std.specs.Prelude.{ℕ, List, ◌++◌, Bool, true, false, codes, replicate}
 use Rattle.std.specs.Fmt.{decimal}
 use Rattle.chi_flit.specs.declared.state.State.{State}

@@ -1,5 +1,5 @@
 -- Answers to snoops, a line a cell: the next state and the message, by state and snoop
--- (Arm IHI 0050 B, 4.7; docs/PROTOCOL.md, "Answers to snoops").
+-- (Arm IHI 0050 B, chapter 4; docs/PROTOCOL.md, "Answers to snoops").
 use Rattle.std.specs.Prelude.{ℕ, List, codes}
 use Rattle.chi_flit.specs.declared.state.State.{State}
 use Rattle.chi_flit.specs.declared.state.State.TheVariants.{I, SC, UC, UD, SD}

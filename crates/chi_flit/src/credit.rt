@@ -7,7 +7,7 @@ use crate::kind::Kind;
 use std::fmt;
 
 /// A type of protocol credit: each tracker entry belongs to one, and a retried request waits for a
-/// credit of its own (Arm IHI 0050 B, 2.9).
+/// credit of its own (Arm IHI 0050 B, chapter 2).
 #[derive(Clone, Copy, Debug, PartialEq, Eq)]
 pub enum CreditType {
     T0,

@@ -7,7 +7,7 @@ use crate::snoop::Snoop;
 use crate::state::State;
 use std::fmt;
 
-/// A kind of request that a fully coherent requester issues (Arm IHI 0050 B, 4.2).
+/// A kind of request that a fully coherent requester issues (Arm IHI 0050 B, chapter 4).
 #[derive(Clone, Copy, Debug, PartialEq, Eq)]
 pub enum Kind {
     /// A read that never leaves its requester in `SD`.

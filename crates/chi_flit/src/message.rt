@@ -11,7 +11,7 @@ use crate::state::State;
 use std::fmt;
 
 /// A channel between requesters and home, with responses and data split by direction
-/// (Arm IHI 0050 B, 1.5).
+/// (Arm IHI 0050 B, chapter 2).
 #[derive(Clone, Copy, Debug, PartialEq, Eq)]
 pub enum Channel {
     /// Requests, to the home.

@@ -8,7 +8,7 @@ use crate::numbers::Data;
 use crate::state::State;
 use std::fmt;
 
-/// A snoop that the home sends to a requester (Arm IHI 0050 B, 4.3).
+/// A snoop that the home sends to a requester (Arm IHI 0050 B, chapter 4).
 #[derive(Clone, Copy, Debug, PartialEq, Eq)]
 pub enum Snoop {
     /// Leaves any shared copy, dirty ones too.

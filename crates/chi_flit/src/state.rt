@@ -5,7 +5,7 @@ ghost use Rattle.chi_flit.specs.State.{state_text, is_valid, is_unique, is_dirty
 
 use std::fmt;
 
-/// The state of one requester's copy of a line (Arm IHI 0050 B, 4.1).
+/// The state of one requester's copy of a line (Arm IHI 0050 B, chapter 4).
 #[derive(Clone, Copy, Debug, PartialEq, Eq)]
 pub enum State {
     /// Invalid: no copy.

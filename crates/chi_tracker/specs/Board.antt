@@ -1,4 +1,4 @@
--- Who holds each entry of the home's tracker (Arm IHI 0050 B, 2.9; docs/PROTOCOL.md, "Words of the tracker").
+-- Who holds each entry of the home's tracker (Arm IHI 0050 B, chapter 2; docs/PROTOCOL.md, "Words of the tracker").
 use Rattle.std.specs.Prelude.{◌≡◌, ◌≢◌, ℕ, ◌+◌, ◌<◌, ◌≤◌, List, Option, Some, None, get_or, take, drop, length, replicate, slice_index, slice_set, is_some, is_none}
 use Rattle.std.specs.List.{count_by}
 use Rattle.chi_flit.specs.declared.numbers.Agent.{Agent}

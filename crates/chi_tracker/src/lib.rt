@@ -1,6 +1,6 @@
 //! The home's tracker: its entries by credit type, and who holds each.
 //!
-//! Source: Arm IHI 0050 B, 2.9.
+//! Source: Arm IHI 0050 B, chapter 2.
 #![tactic(auto)]
 
 mod tracker;

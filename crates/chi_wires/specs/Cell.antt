@@ -1,4 +1,4 @@
--- The six cells of one agent at one line (Arm IHI 0050 B, 1.5; docs/PROTOCOL.md, "Messages").
+-- The six cells of one agent at one line (Arm IHI 0050 B, chapter 2; docs/PROTOCOL.md, "Messages").
 use Rattle.std.specs.Prelude.{Option, Some, None}
 use Rattle.chi_flit.specs.declared.message.Channel.{Channel}
 use Rattle.chi_flit.specs.declared.message.Channel.TheVariants as channels
