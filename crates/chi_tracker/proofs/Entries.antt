@@ -1,0 +1,49 @@
+-- Entries and places by type, and how their counts move when one changes.
+use Rattle.std.proofs.Common.{◌≡◌, ◌≢◌, ℕ, zero, suc, ◌+◌, ◌-◌, ◌*◌, ◌/◌, ◌%◌, ◌<◌, ◌≤◌, slice_index, refl, sym, ap, ◌∙◌, subst, arith}
+use mathlib.Core.Logic.{dite}
+use native.Mathlib.Decide.{ℕ_discrete, dec_le}
+use Rattle.std.specs.Int.{bit_at}
+use Rattle.chi_tracker.specs.declared.shape.Shape.{Shape}
+use Rattle.chi_tracker.specs.Sums.{below}
+use Rattle.chi_tracker.specs.Shape.{size, low, IsOf, count_of, owed_in}
+use Rattle.chi_tracker.proofs.Adding.{below_same, below_le, below_moved}
+
+pub low_up : (s : Shape) (u t : ℕ) → u < t → low s u + size s u ≤ low s t
+low_up s u zero l = absurd (omega arith)
+low_up s u (suc t) l = dite (ℕ_discrete u t)
+    (λ e. let a : low s u ≡ low s t = ap (low s) e in let b : size s u ≡ size s t = ap (size s) e in omega arith)
+    (λ d. let h = low_up s u t (omega arith) in omega arith)
+
+pub in_range : (s : Shape) (t : ℕ) → t < 4 → low s 4 ≤ 256 → low s t + size s t ≤ 256
+in_range s t l h = omega (arith, low_up s t 4 l)
+
+pub one_type : (s : Shape) (t u e : ℕ) → IsOf s t e → IsOf s u e → t ≡ u
+one_type s t u e a b = dite (dec_le t u)
+    (λ le. dite (ℕ_discrete t u) (λ q. q) (λ d. absurd (omega (arith, low_up s t u (omega arith), a.1, b.0))))
+    (λ gt. absurd (omega (arith, low_up s u t (omega arith), b.1, a.0)))
+
+-- f and g differ at e alone, which is of type t
+pub count_moved : (s : Shape) (t e : ℕ) (f g : ℕ → ℕ) → t < 4 → low s 4 ≤ 256 → IsOf s t e → ((i : ℕ) → i < 256 → i ≢ e → g i ≡ f i)
+    → count_of s t g + f e ≡ count_of s t f + g e
+count_moved s t e f g lt le is apart =
+    let m : ℕ = e - low s t in let at : low s t + m ≡ e = omega (arith, is.0) in
+    let h = below_moved (λ i. f (low s t + i)) (λ i. g (low s t + i)) (size s t) m (omega (arith, is.0, is.1)) (λ i l d. apart (low s t + i) (omega (arith, in_range s t lt le)) (λ q. d (omega arith))) in
+    let a : f (low s t + m) ≡ f e = ap f at in let b : g (low s t + m) ≡ g e = ap g at in omega arith
+
+-- f and g differ at e alone, which is of another type
+pub count_kept : (s : Shape) (t u e : ℕ) (f g : ℕ → ℕ) → t < 4 → low s 4 ≤ 256 → IsOf s u e → t ≢ u → ((i : ℕ) → i < 256 → i ≢ e → g i ≡ f i) → count_of s t g ≡ count_of s t f
+count_kept s t u e f g lt le is d apart = below_same (λ i. f (low s t + i)) (λ i. g (low s t + i)) (size s t)
+    (λ i l. apart (low s t + i) (omega (arith, in_range s t lt le)) (λ q. d (one_type s t u e (omega arith, omega arith) is)))
+
+pub count_same : (s : Shape) (t : ℕ) (f g : ℕ → ℕ) → t < 4 → low s 4 ≤ 256 → ((i : ℕ) → i < 256 → g i ≡ f i) → count_of s t g ≡ count_of s t f
+count_same s t f g lt le same = below_same (λ i. f (low s t + i)) (λ i. g (low s t + i)) (size s t) (λ i l. same (low s t + i) (omega (arith, in_range s t lt le)))
+
+-- two words that differ at place k alone
+pub owed_moved : (k x y : ℕ) → k < 32 → ((i : ℕ) → i < 64 → i ≢ k → bit_at y i ≡ bit_at x i) → owed_in (k / 8) y + bit_at x k ≡ owed_in (k / 8) x + bit_at y k
+owed_moved k x y l apart =
+    let at : 8 * (k / 8) + k % 8 ≡ k = omega arith in
+    let h = below_moved (λ i. bit_at x (8 * (k / 8) + i)) (λ i. bit_at y (8 * (k / 8) + i)) 8 (k % 8) (omega arith) (λ i li d. apart (8 * (k / 8) + i) (omega arith) (λ q. d (omega arith))) in
+    let a : bit_at x (8 * (k / 8) + k % 8) ≡ bit_at x k = ap (bit_at x) at in let b : bit_at y (8 * (k / 8) + k % 8) ≡ bit_at y k = ap (bit_at y) at in omega arith
+
+pub owed_kept : (t k x y : ℕ) → t < 4 → k < 32 → t ≢ k / 8 → ((i : ℕ) → i < 64 → i ≢ k → bit_at y i ≡ bit_at x i) → owed_in t y ≡ owed_in t x
+owed_kept t k x y lt lk d apart = below_same (λ i. bit_at x (8 * t + i)) (λ i. bit_at y (8 * t + i)) 8 (λ i l. apart (8 * t + i) (omega arith) (λ q. d (omega arith)))

@@ -1,0 +1,6 @@
+mod Adding
+mod Marks
+mod Entries
+mod Moving
+mod Written
+mod Fitting

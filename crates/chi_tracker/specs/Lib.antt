@@ -1,0 +1,6 @@
+pub mod Sums
+pub mod Shape
+pub mod Words
+pub mod Views
+pub mod Rule
+pub mod Steps

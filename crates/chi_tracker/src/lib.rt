@@ -1,0 +1,11 @@
+//! The tracker of entries and protocol credits that all slices share without a lock: words that change
+//! in single atomic steps, and a port for each requester that does these steps.
+//!
+//! Source: Arm IHI 0050 Issue B, 2.9, and `docs/PROTOCOL.md`, "Words of the tracker" and "Steps of the
+//! tracker".
+#![tactic(auto)]
+
+mod law;
+mod plays;
+mod shape;
+mod view;
