@@ -6,7 +6,7 @@ use Rattle.std.specs.Int.{bit_at}
 use Rattle.chi_tracker.specs.declared.shape.Shape.{Shape}
 use Rattle.chi_tracker.specs.Sums.{below}
 use Rattle.chi_tracker.specs.Shape.{size, low, IsOf, count_of, owed_in}
-use Rattle.chi_tracker.proofs.Adding.{below_same, below_le, below_moved}
+use Rattle.chi_tracker.proofs.Adding.{below_same, below_moved, below_term}
 
 pub low_up : (s : Shape) (u t : ℕ) → u < t → low s u + size s u ≤ low s t
 low_up s u zero l = absurd (omega arith)
@@ -37,6 +37,11 @@ count_kept s t u e f g lt le is d apart = below_same (λ i. f (low s t + i)) (λ
 
 pub count_same : (s : Shape) (t : ℕ) (f g : ℕ → ℕ) → t < 4 → low s 4 ≤ 256 → ((i : ℕ) → i < 256 → g i ≡ f i) → count_of s t g ≡ count_of s t f
 count_same s t f g lt le same = below_same (λ i. f (low s t + i)) (λ i. g (low s t + i)) (size s t) (λ i l. same (low s t + i) (omega (arith, in_range s t lt le)))
+
+pub count_term : (s : Shape) (t e : ℕ) (f : ℕ → ℕ) → IsOf s t e → f e ≤ count_of s t f
+count_term s t e f is =
+    let h = below_term (λ i. f (low s t + i)) (size s t) (e - low s t) (omega (arith, is.0, is.1)) in
+    let a : f (low s t + (e - low s t)) ≡ f e = ap f (omega (arith, is.0)) in omega arith
 
 -- two words that differ at place k alone
 pub owed_moved : (k x y : ℕ) → k < 32 → ((i : ℕ) → i < 64 → i ≢ k → bit_at y i ≡ bit_at x i) → owed_in (k / 8) y + bit_at x k ≡ owed_in (k / 8) x + bit_at y k

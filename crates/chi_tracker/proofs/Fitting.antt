@@ -14,8 +14,8 @@ use Rattle.chi_tracker.specs.Views.{PortView, Duty, has, freed}
 use Rattle.chi_tracker.specs.Rule.{weigh, of_port, duty_is, note_is, IsSound, Fits}
 use Rattle.chi_tracker.specs.Steps.{one, claims, frees, notes, first_clear, owes, kind_noted, sweeps, settles, duty_to, promises, hand_without, views_word, spends, returns_credit}
 use Rattle.chi_tracker.proofs.Adding.{weigh-set, weigh-term, below_same, below_term, below_moved, raised_here, raised_else}
-use Rattle.chi_tracker.proofs.Entries.{count_moved, count_kept, count_same, owed_moved, owed_kept, in_range}
-use Rattle.chi_tracker.proofs.Marks.{with_here, with_else, dropped_here, dropped_else, taken_here, taken_le, put_there}
+use Rattle.chi_tracker.proofs.Entries.{count_moved, count_kept, count_same, count_term, owed_moved, owed_kept, in_range}
+use Rattle.chi_tracker.proofs.BitLaws.{with_here, with_else, dropped_here, dropped_else, taken_here, taken_le, put_there}
 use Rattle.chi_tracker.proofs.Moving.{of_mine, of_other, of_same, sound_of, only_mine, Goes, goes}
 
 pick_same : (i e a b : ℕ) → i ≡ e → cond (eqb i e) a b ≡ a
@@ -128,6 +128,13 @@ module _ (s : Shape) (c c' : ℕ → ℕ) (p : ℕ → ℕ → ℕ) (o : ℕ →
     pub not_held : has e x ≡ 0
     not_held =
       let a = weigh-term (has e) vs id x at in let g = fits.place e l in let h = fits.bits e l in let t = below_term (λ n. p n e) s.agents x.who who_in in let w = was_promised in omega arith
+
+    -- so a credit of the type was due
+    pub spend_due : slice_index x.spent t + slice_index x.returned t < slice_index x.retries t
+    spend_due =
+      let h = fits.ledger x.who t who_in lt in let e1 = fits.one_port x.who who_in in let w = was_promised in
+      let a = only_mine x.who (λ z. slice_index z.retries t) vs id x at refl e1 in let b = only_mine x.who (λ z. slice_index z.spent t) vs id x at refl e1 in let d = only_mine x.who (λ z. slice_index z.returned t) vs id x at refl e1 in
+      let g = count_term s t e (p x.who) is in omega arith
 
     sum_less : below (λ n. p' n e) s.agents + 1 ≡ below (λ n. p n e) s.agents
     sum_less = let a = below_moved (λ n. p n e) (λ n. p' n e) s.agents x.who who_in (λ n ln d. other n e ln d l) in let w = was_promised in omega arith

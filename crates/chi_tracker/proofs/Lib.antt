@@ -1,6 +1,8 @@
 mod Adding
-mod Marks
+mod BitLaws
 mod Entries
 mod Moving
 mod Written
+mod Places
 mod Fitting
+mod Allowed

@@ -10,7 +10,7 @@ use mathlib.Core.Option.{Option}
 use Rattle.chi_tracker.specs.Shape.{low}
 use Rattle.chi_tracker.specs.Words.{c_of, p_of, o_of}
 use Rattle.chi_tracker.specs.Rule.{Fits, TrackerRule}
-use Rattle.chi_tracker.proofs.Marks.{same_place}
+use Rattle.chi_tracker.proofs.BitLaws.{same_place}
 use Rattle.chi_tracker.proofs.Moving.{carry}
 
 -- the bits of another word stay

@@ -6,6 +6,8 @@
 #![tactic(auto)]
 
 mod law;
+mod marks;
 mod plays;
 mod shape;
+mod steps;
 mod view;
