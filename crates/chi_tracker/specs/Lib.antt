@@ -4,3 +4,4 @@ pub mod Words
 pub mod Views
 pub mod Rule
 pub mod Steps
+pub mod Calls

@@ -8,6 +8,12 @@
 mod law;
 mod marks;
 mod plays;
+mod port;
+mod scan;
 mod shape;
 mod steps;
+mod tracker;
 mod view;
+
+pub use port::Port;
+pub use tracker::Tracker;

@@ -1,0 +1,64 @@
+-- What contracts see of a tracker and of a port, and what each call does to the port's view
+-- (docs/PROTOCOL.md, "Steps of the tracker").
+use Rattle.std.specs.Prelude.{◌≡◌, ℕ, zero, suc, ◌+◌, ◌*◌, ◌<◌, ◌≤◌, List, [], ◌∷◌, Option, Some, None, length, slice_index}
+use Rattle.atomic_table.specs.Table.{Me}
+use Rattle.atomic_table.specs.Seated.{TableId}
+use Rattle.atomic_table.specs.declared.shared.Seat.{Seat}
+use Rattle.chi_tracker.specs.declared.shape.Shape.{Shape}
+use Rattle.chi_tracker.specs.declared.view.SeatView.{SeatView}
+use Rattle.chi_tracker.specs.Sums.{raised, with_bit, dropped, set_at}
+use Rattle.chi_tracker.specs.Shape.{low, size, IsOf, IsShape}
+use Rattle.chi_tracker.specs.Views.{PortView, has, new_port}
+use Rattle.chi_tracker.specs.Steps.{solo, port_of, no_shape}
+
+-- a tracker: which table its words are, its entries by type and its requesters
+pub record Home : Type 0 where
+  pub table : TableId
+  pub shape : Shape
+
+-- a port: which tracker's it is, and its view
+pub record Owner : Type 0 where
+  pub table : TableId
+  pub port : PortView
+
+-- a port of no tracker
+abbrev pub nowhere : TableId
+nowhere = record { words = 0; slots = 0; views_name = 0; atom = 0; block = 0; offset = 0; slot_names = [] }
+
+abbrev pub no_owner : Owner
+no_owner = record { table = nowhere; port = new_port no_shape 0 }
+
+abbrev pub owner_of : Option (Seat ℕ SeatView) → Owner
+owner_of None = no_owner
+owner_of (Some seat) = record { table = seat.table_id; port = port_of seat.me }
+
+-- what a port keeps between two calls: its seat stands for it alone, the seen credits and the credits
+-- due are those of its view, at most 8 of a type are due, and no duty and no note is open
+pub record IsHeld (me : Me ℕ SeatView) (number : ℕ) (shape : Shape) (seen due : List ℕ) : Type 0 where
+  pub alone : me ≡ solo (port_of me)
+  pub who : (port_of me).who ≡ number
+  pub near : number < shape.agents
+  pub shape_is : (port_of me).shape ≡ shape
+  pub shaped : IsShape shape
+  pub seen_is : (port_of me).seen ≡ seen
+  pub due_is : (t : ℕ) → t < 4 → slice_index due t + (slice_index (port_of me).spent t + slice_index (port_of me).returned t) ≡ slice_index (port_of me).retries t
+  pub few : (t : ℕ) → t < 4 → slice_index due t ≤ 8
+  pub no_duty : (port_of me).duty ≡ None
+  pub no_note : (port_of me).noted ≡ None
+
+abbrev pub IsKept : Option (Seat ℕ SeatView) → ℕ → Shape → List ℕ → List ℕ → Type 0
+IsKept None number shape seen due = Unit {0}
+IsKept (Some seat) number shape seen due = IsHeld seat.me number shape seen due
+
+-- the first n entries of type t, as a set
+abbrev pub first_entries : Shape → ℕ → ℕ → ℕ
+first_entries s t zero = 0
+first_entries s t (suc n) = with_bit (first_entries s t n) (low s t + n)
+
+-- a scan of type t was opened, and has found the first n entries of the type claimed
+abbrev pub scanned : ℕ → ℕ → PortView → PortView
+scanned t n p = record p { found = first_entries p.shape t n; scans = p.scans + 1; scan_kind = t }
+
+-- the entry e came to hand
+abbrev pub into_hand : ℕ → PortView → PortView
+into_hand e p = record p { hand = with_bit p.hand e }

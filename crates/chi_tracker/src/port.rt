@@ -1,0 +1,87 @@
+//! A requester's port to the tracker.
+
+ghost use Rattle.std.specs.Prelude.{◌≡◌, ◌<◌, ◌-◌, IfSome, IfNone};
+ghost use Rattle.chi_flit.specs.Credit.{credit_number};
+ghost use Rattle.chi_tracker.specs.Shape.{low, size, IsOf};
+ghost use Rattle.chi_tracker.specs.Views.{has};
+ghost use Rattle.chi_tracker.specs.Steps.{frees};
+ghost use Rattle.chi_tracker.specs.Calls.{scanned, into_hand};
+
+use crate::law::Chair;
+use crate::scan::scan;
+use crate::shape::Shape;
+use crate::steps::free_step;
+use crate::tracker::Tracker;
+use chi_flit::{CreditType, Entry};
+use std::alloc::Allocator;
+use std::marker::Model;
+
+/// A requester's port to the tracker. A port that `Tracker::new` didn't give (`Port::default`) is of no
+/// tracker, and no call takes it.
+///
+/// Each call takes the tracker by reference; it takes no memory, no lock and waits for nobody.
+#[derive(Drop)]
+pub struct Port {
+    chair: Option<Chair>,
+    number: usize,
+    shape: Shape,
+    seen: [u64; 4],
+    due: [usize; 4],
+}
+
+impl Model for Port {
+    ghost use Rattle.chi_tracker.specs.Calls.{Owner, owner_of, IsKept};
+
+    ghost Value = { Owner };
+
+    ghost view = { λ p. owner_of p.chair };
+
+    ghost invariant = { λ p. IsKept p.chair p.number p.shape p.seen p.due };
+}
+
+impl Port {
+    /// Tries the entries of the type from the lowest, in one scan, until one is free: it comes to hand.
+    /// None only where each entry of the type was found claimed by a step of this call.
+    ///
+    /// Condition: the type has entries.
+    /// Source: `docs/PROTOCOL.md`, "Steps of the tracker".
+    #[tactic(auto, using(crate::proofs::BitLaws::with_here, crate::proofs::Entries::of_credit))]
+    pub fn claim<A: Allocator>(&mut self, tracker: &Tracker<A>, ty: CreditType) -> Option<Entry>
+        requires table { self.old.table ≡ tracker.now.table }
+        requires entries { 0 < size self.old.port.shape (credit_number ty) }
+        ensures table { self.new.table ≡ self.old.table }
+        ensures some { IfSome result (λ e. IsOf self.old.port.shape (credit_number ty) e.0 × (has e.0 self.old.port ≡ 0) × (self.new.port ≡ into_hand e.0 (scanned (credit_number ty) (e.0 - low self.old.port.shape (credit_number ty)) self.old.port))) }
+        ensures none { IfNone result (self.new.port ≡ scanned (credit_number ty) (size self.old.port.shape (credit_number ty)) self.old.port) }
+        ensures mine { IfSome result (λ e. has e.0 self.new.port ≡ 1) }
+        ensures entry { IfSome result (λ e. e.0 < low self.new.port.shape 4) }
+    {
+        let board = tracker.board();
+        let Some(mut chair) = self.chair.take() else {
+            unreachable!();
+        };
+        let (first, count) = (self.shape.first(ty), self.shape.count(ty));
+        let found = scan(board, &mut chair, ty.number() as usize, first, count);
+        self.chair = Some(chair);
+        match found {
+            Some(entry) => Some(Entry(entry as u8)),
+            None => None,
+        }
+    }
+
+    /// Frees an entry in hand.
+    ///
+    /// Condition: the entry is in hand.
+    pub fn free<A: Allocator>(&mut self, tracker: &Tracker<A>, entry: Entry)
+        requires table { self.old.table ≡ tracker.now.table }
+        requires entry { has entry.0 self.old.port ≡ 1 }
+        ensures table { self.new.table ≡ self.old.table }
+        ensures port { self.new.port ≡ frees entry.0 self.old.port }
+    {
+        let board = tracker.board();
+        let Some(mut chair) = self.chair.take() else {
+            unreachable!();
+        };
+        free_step(board, &mut chair, usize::from(entry.0));
+        self.chair = Some(chair);
+    }
+}
