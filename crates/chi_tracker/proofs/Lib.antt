@@ -6,3 +6,5 @@ mod Written
 mod Places
 mod Fitting
 mod Allowed
+mod Opening
+mod Dealing

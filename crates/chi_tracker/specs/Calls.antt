@@ -62,3 +62,16 @@ scanned t n p = record p { found = first_entries p.shape t n; scans = p.scans + 
 -- the entry e came to hand
 abbrev pub into_hand : ℕ → PortView → PortView
 into_hand e p = record p { hand = with_bit p.hand e }
+
+-- a seat's ports without the first
+abbrev pub rest_ports : List PortView → List PortView
+rest_ports [] = []
+rest_ports (p ∷ ps) = ps
+
+-- ports of one tracker
+abbrev pub owners : TableId → List PortView → List Owner
+owners table [] = []
+owners table (p ∷ ps) = record { table = table; port = p } ∷ owners table ps
+
+abbrev pub shape_of : List ℕ → ℕ → Shape
+shape_of entries agents = record { sizes = entries; agents = agents }

@@ -2,10 +2,10 @@
 
 ghost use Rattle.std.specs.Prelude.{◌≡◌, ◌<◌, ◌-◌, IfSome, IfNone};
 ghost use Rattle.chi_flit.specs.Credit.{credit_number};
-ghost use Rattle.chi_tracker.specs.Shape.{low, size, IsOf};
-ghost use Rattle.chi_tracker.specs.Views.{has};
-ghost use Rattle.chi_tracker.specs.Steps.{frees};
-ghost use Rattle.chi_tracker.specs.Calls.{scanned, into_hand};
+ghost use Rattle.chi_tracker.specs.Shape.{low, size, IsOf, IsShape};
+ghost use Rattle.chi_tracker.specs.Views.{has, new_port};
+ghost use Rattle.chi_tracker.specs.Steps.{solo, frees};
+ghost use Rattle.chi_tracker.specs.Calls.{no_owner, scanned, into_hand};
 
 use crate::law::Chair;
 use crate::scan::scan;
@@ -39,7 +39,39 @@ impl Model for Port {
     ghost invariant = { λ p. IsKept p.chair p.number p.shape p.seen p.due };
 }
 
+impl Default for Port {
+    ghost is_default = { λ p. p ≡ no_owner };
+
+    fn default() -> Port {
+        Port {
+            chair: None,
+            number: 0,
+            shape: Shape {
+                sizes: [0; 4],
+                agents: 0,
+            },
+            seen: [0; 4],
+            due: [0; 4],
+        }
+    }
+}
+
 impl Port {
+    // The port of requester `number`, which has done nothing yet.
+    pub(crate) fn seated(chair: Chair, number: usize, shape: Shape) -> Port
+        requires view { chair.me ≡ solo (new_port shape number) }
+        requires shape { IsShape shape × (number < shape.agents) }
+        ensures { result ≡ record { table = chair.table_id; port = new_port shape number } }
+    {
+        Port {
+            chair: Some(chair),
+            number,
+            shape,
+            seen: [0; 4],
+            due: [0; 4],
+        }
+    }
+
     /// Tries the entries of the type from the lowest, in one scan, until one is free: it comes to hand.
     /// None only where each entry of the type was found claimed by a step of this call.
     ///

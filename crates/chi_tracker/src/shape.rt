@@ -13,6 +13,16 @@ impl Shape {
     ghost use Rattle.std.specs.Prelude.{◌≡◌};
     ghost use Rattle.chi_flit.specs.Credit.{credit_number};
     ghost use Rattle.chi_tracker.specs.Shape.{low, size, IsShape};
+    ghost use Rattle.chi_tracker.specs.Calls.{shape_of};
+
+    pub(crate) fn of(entries: [u16; 4], agents: usize) -> Shape
+        ensures { result ≡ shape_of entries agents }
+    {
+        Shape {
+            sizes: entries.map(usize::from),
+            agents,
+        }
+    }
 
     /// The lowest entry of the type.
     pub(crate) fn first(&self, ty: CreditType) -> usize

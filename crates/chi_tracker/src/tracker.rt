@@ -1,11 +1,19 @@
 //! The tracker's words, which all ports share.
 
-ghost use Rattle.std.specs.Prelude.{◌≡◌};
+ghost use Rattle.std.specs.Prelude.{◌≡◌, ◌<◌, ◌≤◌, [], IfOk};
+ghost use Rattle.chi_tracker.specs.Shape.{low};
+ghost use Rattle.chi_tracker.specs.Views.{new_ports};
+ghost use Rattle.chi_tracker.specs.Rule.{all_new};
+ghost use Rattle.chi_tracker.specs.Calls.{owners, shape_of};
 
-use crate::law::{Board, Law};
+use crate::law::{Board, Chair, Law};
+use crate::plays::Deal;
+use crate::port::Port;
 use crate::shape::Shape;
 use crate::view::SeatView;
+use arrayvec::ArrayVec;
 use atomic_table::Table;
+use chi_flit::NoMemory;
 use std::alloc::Allocator;
 use std::marker::Model;
 
@@ -30,6 +38,42 @@ impl<A: Allocator> Model for Tracker<A> {
 }
 
 impl<A: Allocator> Tracker<A> {
+    /// A tracker with so many entries of each credit type, numbered by rising type, all of them free,
+    /// and a port for each requester, in rising order. NoMemory where there is none for the words.
+    ///
+    /// Conditions: 1 to 8 requesters, and at most 256 entries; a type may have none.
+    /// Source: `docs/PROTOCOL.md`, "Words of the tracker".
+    pub fn new(
+        alloc: A,
+        entries: [u16; 4],
+        agents: u8,
+    ) -> Result<(Tracker<A>, ArrayVec<Port, 8>), NoMemory>
+        requires agents { (0 < agents) × (agents ≤ 8) }
+        requires entries { low (shape_of entries agents) 4 ≤ 256 }
+        ensures shape { IfOk result (λ made. made.0.shape ≡ shape_of entries agents) }
+        ensures ports { IfOk result (λ made. made.1.items ≡ owners made.0.table (new_ports (shape_of entries agents) 0 agents)) }
+    {
+        let shape = Shape::of(entries, usize::from(agents));
+        let (table, chair) = Table::of_words(alloc, &[0; 44], &shape)?;
+        let tracker = Tracker { table, shape };
+        let ports = tracker.deal(chair);
+        Ok((tracker, ports))
+    }
+
+    // Gives each port of the seat, which has all, a seat of its own.
+    fn deal(&self, mut chair: Chair) -> ArrayVec<Port, 8>
+        requires { (chair.table_id ≡ self.now.table) × (chair.me ≡ (all_new self.now.shape, [])) }
+        ensures { result.items ≡ owners self.now.table (new_ports self.now.shape 0 self.now.shape.agents) }
+    {
+        let (board, shape) = (&self.table.shared, self.shape);
+        let mut ports = ArrayVec::new();
+        for number in 0..shape.agents {
+            let own = board.split_seat::<Deal>(&mut chair);
+            ports.push(Port::seated(own, number, shape));
+        }
+        ports
+    }
+
     // The words as ports share them.
     pub(crate) fn board(&self) -> &Board
         ensures { (result.now.table_id ≡ self.now.table) × (result.now.table_id.words ≡ 44) }
