@@ -8,3 +8,4 @@ mod Fitting
 mod Allowed
 mod Opening
 mod Dealing
+mod Keeping

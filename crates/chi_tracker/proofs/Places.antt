@@ -30,3 +30,28 @@ found-clear start word (suc n) l = dite (ℕ_discrete (bit_at word start) 0)
 pub clear_place : (t word : ℕ) → owed_in t word < 8 → (bit_at word (first_clear (8 * t) word) ≡ 0) × (first_clear (8 * t) word < 8 * t + 8) × (8 * t ≤ first_clear (8 * t) word)
 unfolding first_clear
 clear_place t word l = found-clear (8 * t) word 8 l
+
+-- the place found is the lowest that is clear
+clear_at : (start word n k : ℕ) → start ≤ k → k < start + n → ((i : ℕ) → start ≤ i → i < k → bit_at word i ≡ 1) → bit_at word k ≡ 0 → clear_from start word n ≡ k
+unfolding clear_from
+clear_at start word zero k le lt set clear = absurd (omega arith)
+clear_at start word (suc n) k le lt set clear = dite (ℕ_discrete k start)
+    (λ e. ap (λ (b : Bool). cond b start (clear_from (start + 1) word n)) (eq-eqb (bit_at word start) 0 (ap (bit_at word) (sym e) ∙ clear)) ∙ sym e)
+    (λ d. ap (λ (b : Bool). cond b start (clear_from (start + 1) word n)) (ne_eqb (bit_at word start) 0 (λ q. let h = set start (omega arith) (omega arith) in omega arith))
+      ∙ clear_at (start + 1) word n k (omega arith) (omega arith) (λ i l u. set i (omega arith) u) clear)
+
+pub clear_is : (t word k : ℕ) → 8 * t ≤ k → k < 8 * t + 8 → ((i : ℕ) → 8 * t ≤ i → i < k → bit_at word i ≡ 1) → bit_at word k ≡ 0 → k ≡ first_clear (8 * t) word
+unfolding first_clear
+clear_is t word k le lt set clear = sym (clear_at (8 * t) word 8 k le lt set clear)
+
+-- the lowest clear place is within the type
+clear_low : (start word n : ℕ) → start ≤ clear_from start word n
+unfolding clear_from
+clear_low start word zero = omega arith
+clear_low start word (suc n) = dite (ℕ_discrete (bit_at word start) 0)
+    (λ e. let is : clear_from start word (suc n) ≡ start = ap (λ (b : Bool). cond b start (clear_from (start + 1) word n)) (eq-eqb (bit_at word start) 0 e) in omega arith)
+    (λ d. let is : clear_from start word (suc n) ≡ clear_from (start + 1) word n = ap (λ (b : Bool). cond b start (clear_from (start + 1) word n)) (ne_eqb (bit_at word start) 0 d) in omega (arith, clear_low (start + 1) word n))
+
+pub clear_above : (t word : ℕ) → 8 * t ≤ first_clear (8 * t) word
+unfolding first_clear
+clear_above t word = clear_low (8 * t) word 8

@@ -6,7 +6,7 @@ use Rattle.atomic_table.specs.Seated.{TableId}
 use Rattle.atomic_table.specs.declared.shared.Seat.{Seat}
 use Rattle.chi_tracker.specs.declared.shape.Shape.{Shape}
 use Rattle.chi_tracker.specs.declared.view.SeatView.{SeatView}
-use Rattle.chi_tracker.specs.Sums.{raised, with_bit, dropped, set_at}
+use Rattle.chi_tracker.specs.Sums.{below, raised, with_bit, dropped, set_at}
 use Rattle.chi_tracker.specs.Shape.{low, size, IsOf, IsShape}
 use Rattle.chi_tracker.specs.Views.{PortView, has, new_port}
 use Rattle.chi_tracker.specs.Steps.{solo, port_of, no_shape}
@@ -47,7 +47,7 @@ pub record IsHeld (me : Me ℕ SeatView) (number : ℕ) (shape : Shape) (seen du
   pub no_note : (port_of me).noted ≡ None
 
 abbrev pub IsKept : Option (Seat ℕ SeatView) → ℕ → Shape → List ℕ → List ℕ → Type 0
-IsKept None number shape seen due = Unit {0}
+IsKept None number shape seen due = (shape ≡ no_shape) × (seen ≡ 0 ∷ 0 ∷ 0 ∷ 0 ∷ []) × (due ≡ 0 ∷ 0 ∷ 0 ∷ 0 ∷ [])
 IsKept (Some seat) number shape seen due = IsHeld seat.me number shape seen due
 
 -- the first n entries of type t, as a set
@@ -75,3 +75,23 @@ owners table (p ∷ ps) = record { table = table; port = p } ∷ owners table ps
 
 abbrev pub shape_of : List ℕ → ℕ → Shape
 shape_of entries agents = record { sizes = entries; agents = agents }
+
+-- one more credit of type t is owed
+abbrev pub owed_one : ℕ → PortView → PortView
+owed_one t p = record p { retries = raised p.retries t }
+
+-- one see step was done on each of the four words, which leaves these seen credits
+abbrev pub saw_all : List ℕ → PortView → PortView
+saw_all seen p = record p { seen = seen; sees = raised (raised (raised (raised p.sees 0) 1) 2) 3 }
+
+-- how many entries from `start` on, n of them, are in a set
+abbrev pub set_count : List ℕ → ℕ → ℕ → ℕ
+set_count words start n = below (λ i. set_at words (start + i)) n
+
+-- how many seen credits of type t a port has
+abbrev pub seen_of : PortView → ℕ → ℕ
+seen_of p t = set_count p.seen (low p.shape t) (size p.shape t)
+
+-- the lowest seen credit of type t
+abbrev pub IsLowestSeen : PortView → ℕ → ℕ → Type 0
+IsLowestSeen p t e = IsOf p.shape t e × (set_at p.seen e ≡ 1) × ((i : ℕ) → low p.shape t ≤ i → i < e → set_at p.seen i ≡ 0)

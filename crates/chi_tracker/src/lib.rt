@@ -10,6 +10,7 @@ mod marks;
 mod plays;
 mod port;
 mod scan;
+mod sets;
 mod shape;
 mod steps;
 mod tracker;

@@ -1,16 +1,19 @@
 //! A requester's port to the tracker.
 
-ghost use Rattle.std.specs.Prelude.{◌≡◌, ◌<◌, ◌-◌, IfSome, IfNone};
+ghost use Rattle.std.specs.Prelude.{◌≡◌, ℕ, ◌+◌, ◌<◌, ◌≤◌, ◌-◌, IfSome, IfNone, slice_index};
 ghost use Rattle.chi_flit.specs.Credit.{credit_number};
+ghost use Rattle.chi_tracker.specs.Sums.{set_at};
 ghost use Rattle.chi_tracker.specs.Shape.{low, size, IsOf, IsShape};
 ghost use Rattle.chi_tracker.specs.Views.{has, new_port};
-ghost use Rattle.chi_tracker.specs.Steps.{solo, frees};
-ghost use Rattle.chi_tracker.specs.Calls.{no_owner, scanned, into_hand};
+ghost use Rattle.chi_tracker.specs.Steps.{solo, frees, spends};
+ghost use Rattle.chi_tracker.specs.Calls.{no_owner, scanned, into_hand, owed_one, saw_all, seen_of, IsLowestSeen};
 
 use crate::law::Chair;
+use crate::marks::others;
 use crate::scan::scan;
 use crate::shape::Shape;
-use crate::steps::free_step;
+use crate::sets::{counts, first_clear, lowest};
+use crate::steps::{free_step, look_step, owe_step, see_step, spend_step};
 use crate::tracker::Tracker;
 use chi_flit::{CreditType, Entry};
 use std::alloc::Allocator;
@@ -26,7 +29,7 @@ pub struct Port {
     number: usize,
     shape: Shape,
     seen: [u64; 4],
-    due: [usize; 4],
+    due: [u32; 4],
 }
 
 impl Model for Port {
@@ -115,5 +118,90 @@ impl Port {
         };
         free_step(board, &mut chair, usize::from(entry.0));
         self.chair = Some(chair);
+    }
+
+    /// Owes the requester one more credit of the type: it looks at its own word of owed credits and sets
+    /// the lowest clear place there.
+    ///
+    /// Conditions: the type has entries, and fewer than 8 credits of the type are due.
+    pub fn owe<A: Allocator>(&mut self, tracker: &Tracker<A>, ty: CreditType)
+        requires table { self.old.table ≡ tracker.now.table }
+        requires entries { 0 < size self.old.port.shape (credit_number ty) }
+        requires few { slice_index self.old.port.retries (credit_number ty) < 8 + (slice_index self.old.port.spent (credit_number ty) + slice_index self.old.port.returned (credit_number ty)) }
+        ensures table { self.new.table ≡ self.old.table }
+        ensures port { self.new.port ≡ owed_one (credit_number ty) self.old.port }
+    {
+        let board = tracker.board();
+        let Some(mut chair) = self.chair.take() else {
+            unreachable!();
+        };
+        let kind = ty.number() as usize;
+        let word = look_step(board, &mut chair, self.number, kind);
+        owe_step(board, &mut chair, self.number, first_clear(word, kind));
+        self.due[kind] += 1;
+        self.chair = Some(chair);
+    }
+
+    /// Looks at what is promised to the port, one step on each of its four words, and answers the seen
+    /// credits by type.
+    pub fn see<A: Allocator>(&mut self, tracker: &Tracker<A>) -> [u32; 4]
+        requires table { self.old.table ≡ tracker.now.table }
+        ensures table { self.new.table ≡ self.old.table }
+        ensures port { self.new.port ≡ saw_all self.new.port.seen self.old.port }
+        ensures more { (e : ℕ) → e < 256 → set_at self.old.port.seen e ≤ set_at self.new.port.seen e }
+        ensures counts { (t : ℕ) → t < 4 → slice_index result t ≡ seen_of self.new.port t }
+    {
+        let board = tracker.board();
+        let Some(mut chair) = self.chair.take() else {
+            unreachable!();
+        };
+        self.seen[0] = see_step(board, &mut chair, self.number, 0);
+        self.seen[1] = see_step(board, &mut chair, self.number, 1);
+        self.seen[2] = see_step(board, &mut chair, self.number, 2);
+        self.seen[3] = see_step(board, &mut chair, self.number, 3);
+        self.chair = Some(chair);
+        counts(self.seen, self.shape)
+    }
+
+    /// The seen credits by type, as the port has them. It does no step.
+    pub fn seen(&self) -> [u32; 4]
+        ensures { (t : ℕ) → t < 4 → slice_index result t ≡ seen_of self.now.port t }
+    {
+        counts(self.seen, self.shape)
+    }
+
+    /// The credits due by type: retries less spent and returned credits, 0 to 8. It does no step.
+    pub fn due(&self) -> [u32; 4]
+        ensures few { (t : ℕ) → t < 4 → slice_index result t ≤ 8 }
+        ensures is { (t : ℕ) → t < 4 → slice_index result t + (slice_index self.now.port.spent t + slice_index self.now.port.returned t) ≡ slice_index self.now.port.retries t }
+    {
+        self.due
+    }
+
+    /// Spends the lowest seen credit of the type: its entry comes to hand.
+    ///
+    /// Condition: a seen credit of the type.
+    #[tactic(auto, using(crate::proofs::BitLaws::with_here, crate::proofs::Entries::of_credit))]
+    pub fn spend<A: Allocator>(&mut self, tracker: &Tracker<A>, ty: CreditType) -> Entry
+        requires table { self.old.table ≡ tracker.now.table }
+        requires credit { 0 < seen_of self.old.port (credit_number ty) }
+        ensures table { self.new.table ≡ self.old.table }
+        ensures lowest { IsLowestSeen self.old.port (credit_number ty) result.0 }
+        ensures held { has result.0 self.old.port ≡ 0 }
+        ensures port { self.new.port ≡ spends (credit_number ty) result.0 self.old.port }
+        ensures mine { has result.0 self.new.port ≡ 1 }
+        ensures entry { result.0 < low self.new.port.shape 4 }
+    {
+        let board = tracker.board();
+        let Some(mut chair) = self.chair.take() else {
+            unreachable!();
+        };
+        let kind = ty.number() as usize;
+        let entry = lowest(self.seen, self.shape.first(ty), self.shape.count(ty));
+        spend_step(board, &mut chair, self.number, kind, entry);
+        self.seen[entry / 64] &= others(entry % 64);
+        self.due[kind] -= 1;
+        self.chair = Some(chair);
+        Entry(entry as u8)
     }
 }
