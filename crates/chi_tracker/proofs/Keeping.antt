@@ -10,9 +10,11 @@ use Rattle.chi_tracker.specs.Sums.{raised, set_at, take_out}
 use Rattle.chi_tracker.specs.Shape.{low, size, IsOf}
 use Rattle.chi_tracker.specs.Views.{PortView, has}
 use Rattle.chi_tracker.specs.Steps.{solo, port_of, notes, first_clear, owes, spends, returns_credit}
-use Rattle.chi_tracker.specs.Calls.{Owner, owner_of, IsHeld, IsKept, owed_one, IsLowestSeen}
+use Rattle.chi_tracker.specs.Calls.{Owner, owner_of, IsHeld, IsKept, owed_one, IsLowestSeen, Ended}
 use Rattle.chi_tracker.proofs.Adding.{raised_here, raised_else}
 use Rattle.chi_tracker.proofs.Places.{clear_above}
+use Rattle.chi_tracker.proofs.Sweeps.{ended_same, ended_duty, ended_note}
+use Rattle.chi_tracker.specs.declared.released.Released.{Released}
 
 pub held_of : (o : Option (Seat ℕ SeatView)) (seat : Seat ℕ SeatView) (n : ℕ) (s : Shape) (seen due : List ℕ) → o ≡ Some seat → IsKept o n s seen due → IsHeld seat.me n s seen due
 held_of o seat n s seen due e kept = subst (λ (z : Option (Seat ℕ SeatView)). IsKept z n s seen due) e kept
@@ -92,3 +94,10 @@ pub lowest_seen : (m : Me ℕ SeatView) (n : ℕ) (s : Shape) (seen due : List �
 lowest_seen m n s seen due t e held is set lowest =
     let P : Shape → List ℕ → Type 0 = λ sh sn. IsOf sh t e × (set_at sn e ≡ 1) × ((i : ℕ) → low sh t ≤ i → i < e → set_at sn i ≡ 0) in
     subst (λ (sh : Shape). P sh (port_of m).seen) (sym held.shape_is) (subst (P s) (sym held.seen_is) (is, set, lowest))
+
+-- after the end of a release
+pub ended_held : (m m' : Me ℕ SeatView) (n : ℕ) (s : Shape) (seen due : List ℕ) (t e : ℕ) (r : Released) → IsHeld m n s seen due → m' ≡ solo (port_of m') → Ended (port_of m) t e r (port_of m') → IsHeld m' n s seen due
+ended_held m m' n s seen due t e r held alone ended =
+    let same = ended_same (port_of m) t e r (port_of m') ended in
+    held_after m m' (port_of m') n s seen seen due due held alone same.0 same.1 (same.2 ∙ held.seen_is) (ended_duty (port_of m) t e r (port_of m') ended) (ended_note (port_of m) t e r (port_of m') ended ∙ held.no_note)
+      (λ u lu. let h = held.due_is u lu in let a = ap (λ z. slice_index z u) same.3 in let b = ap (λ z. slice_index z u) same.4 in let d = ap (λ z. slice_index z u) same.5 in omega arith) held.few

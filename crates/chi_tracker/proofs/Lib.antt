@@ -9,3 +9,4 @@ mod Allowed
 mod Opening
 mod Dealing
 mod Keeping
+pub mod Sweeps

@@ -1,6 +1,6 @@
 -- What contracts see of a tracker and of a port, and what each call does to the port's view
 -- (docs/PROTOCOL.md, "Steps of the tracker").
-use Rattle.std.specs.Prelude.{◌≡◌, ℕ, zero, suc, ◌+◌, ◌*◌, ◌<◌, ◌≤◌, List, [], ◌∷◌, Option, Some, None, length, slice_index}
+use Rattle.std.specs.Prelude.{◌≡◌, ◌⊎◌, ℕ, zero, suc, ◌+◌, ◌-◌, ◌*◌, ◌<◌, ◌≤◌, List, [], ◌∷◌, Option, Some, None, length, slice_index}
 use Rattle.atomic_table.specs.Table.{Me}
 use Rattle.atomic_table.specs.Seated.{TableId}
 use Rattle.atomic_table.specs.declared.shared.Seat.{Seat}
@@ -8,7 +8,9 @@ use Rattle.chi_tracker.specs.declared.shape.Shape.{Shape}
 use Rattle.chi_tracker.specs.declared.view.SeatView.{SeatView}
 use Rattle.chi_tracker.specs.Sums.{below, raised, with_bit, dropped, set_at}
 use Rattle.chi_tracker.specs.Shape.{low, size, IsOf, IsShape}
-use Rattle.chi_tracker.specs.Views.{PortView, has, new_port}
+use Rattle.chi_tracker.specs.Views.{PortView, Sweep, has, new_port, freed, promised}
+use Rattle.chi_tracker.specs.declared.released.Released.{Released}
+use Rattle.chi_tracker.specs.declared.released.Released.TheVariants.{Granted, Freed}
 use Rattle.chi_tracker.specs.Steps.{solo, port_of, no_shape}
 
 -- a tracker: which table its words are, its entries by type and its requesters
@@ -95,3 +97,39 @@ seen_of p t = set_count p.seen (low p.shape t) (size p.shape t)
 -- the lowest seen credit of type t
 abbrev pub IsLowestSeen : PortView → ℕ → ℕ → Type 0
 IsLowestSeen p t e = IsOf p.shape t e × (set_at p.seen e ≡ 1) × ((i : ℕ) → low p.shape t ≤ i → i < e → set_at p.seen i ≡ 0)
+
+-- a sweep of type t was opened, has looked at the first m requesters, and has no bit left
+abbrev pub swept_by : ℕ → ℕ → PortView → PortView
+swept_by t zero p = p
+swept_by t (suc m) p = record p { sweep = record { opened = p.sweep.opened + 1; kind = t; at = m; left = 0 } }
+
+-- a sweep of type t was opened, has looked at all requesters, and has no bit left
+abbrev pub swept_all : ℕ → PortView → PortView
+swept_all t p = record p { sweep = record { opened = p.sweep.opened + 1; kind = t; at = p.shape.agents - 1; left = 0 } }
+
+-- the port's sweeps went on to s
+abbrev pub with_sweep : Sweep → PortView → PortView
+with_sweep s p = record p { sweep = s }
+
+-- entry e left the hand: it was promised to m, or freed; no duty is left
+abbrev pub granted_to : ℕ → ℕ → PortView → PortView
+granted_to m e p = record p { hand = dropped p.hand e; duty = None; ended = promised e m }
+
+abbrev pub freed_entry : ℕ → PortView → PortView
+freed_entry e p = record p { hand = dropped p.hand e; duty = None; ended = freed e }
+
+-- How the release of entry e of type t ends: granted to a requester, after a settle of its place; or
+-- freed, after a sweep of the type that has looked at every requester and has no bit left.
+abbrev pub Ended : PortView → ℕ → ℕ → Released → PortView → Type 0
+Ended p t e (Granted m) q = (m.0 < p.shape.agents) × ((s : Sweep) × (q ≡ granted_to m.0 e (with_sweep s p)))
+Ended p t e Freed q = q ≡ freed_entry e (swept_all t p)
+
+-- How a tend of type t ends: an entry was claimed in a scan and ended as in a release; or no requester
+-- showed a bit of the type; or each entry of the type was found claimed.
+abbrev pub Tended : PortView → ℕ → Option Released → PortView → Type 0
+Tended p t (Some released) q = (s : Sweep) × (e : ℕ) × IsOf p.shape t e × (has e p ≡ 0) × Ended (into_hand e (scanned t (e - low p.shape t) (with_sweep s p))) t e released q
+Tended p t None q = (q ≡ swept_all t p) ⊎ ((s : Sweep) × (q ≡ scanned t (size p.shape t) (with_sweep s p)))
+
+-- what a port knows of itself and of its credits is the same
+abbrev pub HasSameCredits : PortView → PortView → Type 0
+HasSameCredits p q = (q.who ≡ p.who) × (q.shape ≡ p.shape) × (q.seen ≡ p.seen) × (q.retries ≡ p.retries) × (q.spent ≡ p.spent) × (q.returned ≡ p.returned)

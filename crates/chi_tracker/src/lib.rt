@@ -9,12 +9,15 @@ mod law;
 mod marks;
 mod plays;
 mod port;
+mod released;
 mod scan;
 mod sets;
 mod shape;
 mod steps;
+mod sweep;
 mod tracker;
 mod view;
 
 pub use port::Port;
+pub use released::Released;
 pub use tracker::Tracker;

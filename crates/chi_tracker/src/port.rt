@@ -2,18 +2,20 @@
 
 ghost use Rattle.std.specs.Prelude.{◌≡◌, ℕ, ◌+◌, ◌<◌, ◌≤◌, ◌-◌, IfSome, IfNone, slice_index};
 ghost use Rattle.chi_flit.specs.Credit.{credit_number};
-ghost use Rattle.chi_tracker.specs.Sums.{set_at};
+ghost use Rattle.chi_tracker.specs.Sums.{set_at, dropped};
 ghost use Rattle.chi_tracker.specs.Shape.{low, size, IsOf, IsShape};
 ghost use Rattle.chi_tracker.specs.Views.{has, new_port};
-ghost use Rattle.chi_tracker.specs.Steps.{solo, frees, spends};
-ghost use Rattle.chi_tracker.specs.Calls.{no_owner, scanned, into_hand, owed_one, saw_all, seen_of, IsLowestSeen};
+ghost use Rattle.chi_tracker.specs.Steps.{solo, frees, spends, returns_credit};
+ghost use Rattle.chi_tracker.specs.Calls.{no_owner, scanned, into_hand, owed_one, saw_all, seen_of, IsLowestSeen, Ended, Tended, HasSameCredits};
 
 use crate::law::Chair;
 use crate::marks::others;
+use crate::released::Released;
 use crate::scan::scan;
 use crate::shape::Shape;
 use crate::sets::{counts, first_clear, lowest};
-use crate::steps::{free_step, look_step, owe_step, see_step, spend_step};
+use crate::steps::{free_step, look_step, owe_step, return_step, see_step, spend_step};
+use crate::sweep::{release_entry, tend_type};
 use crate::tracker::Tracker;
 use chi_flit::{CreditType, Entry};
 use std::alloc::Allocator;
@@ -203,5 +205,79 @@ impl Port {
         self.due[kind] -= 1;
         self.chair = Some(chair);
         Entry(entry as u8)
+    }
+
+    /// Releases an entry in hand: it looks at the requesters in rising order and promises the entry to the
+    /// first of which it can settle an owed credit of the entry's type; where there is none, the entry is
+    /// freed.
+    ///
+    /// Condition: the entry is in hand.
+    pub fn release<A: Allocator>(&mut self, tracker: &Tracker<A>, entry: Entry) -> Released
+        requires table { self.old.table ≡ tracker.now.table }
+        requires entry { (entry.0 < low self.old.port.shape 4) × (has entry.0 self.old.port ≡ 1) }
+        ensures table { self.new.table ≡ self.old.table }
+        ensures port { (t : ℕ) × (t < 4) × IsOf self.old.port.shape t entry.0 × Ended self.old.port t entry.0 result self.new.port }
+        ensures credits { HasSameCredits self.old.port self.new.port }
+        ensures hand { self.new.port.hand ≡ dropped self.old.port.hand entry.0 }
+    {
+        let board = tracker.board();
+        let Some(mut chair) = self.chair.take() else {
+            unreachable!();
+        };
+        let entry = usize::from(entry.0);
+        let kind = self.shape.kind_of(entry);
+        let released = release_entry(board, &mut chair, kind, self.shape.agents, entry);
+        self.chair = Some(chair);
+        released
+    }
+
+    /// Gives back the lowest seen credit of the type, which counts as returned and not as spent, and
+    /// releases its entry.
+    ///
+    /// Condition: a seen credit of the type.
+    #[tactic(auto, using(crate::proofs::BitLaws::with_here))]
+    pub fn give_back<A: Allocator>(&mut self, tracker: &Tracker<A>, ty: CreditType) -> Released
+        requires table { self.old.table ≡ tracker.now.table }
+        requires credit { 0 < seen_of self.old.port (credit_number ty) }
+        ensures table { self.new.table ≡ self.old.table }
+        ensures port { (e : ℕ) × IsLowestSeen self.old.port (credit_number ty) e × (has e self.old.port ≡ 0) × Ended (returns_credit (credit_number ty) e self.old.port) (credit_number ty) e result self.new.port }
+        ensures hand { (i : ℕ) → has i self.new.port ≡ has i self.old.port }
+    {
+        let board = tracker.board();
+        let Some(mut chair) = self.chair.take() else {
+            unreachable!();
+        };
+        let kind = ty.number() as usize;
+        let entry = lowest(self.seen, self.shape.first(ty), self.shape.count(ty));
+        return_step(board, &mut chair, self.number, kind, entry);
+        self.seen[entry / 64] &= others(entry % 64);
+        self.due[kind] -= 1;
+        let released = release_entry(board, &mut chair, kind, self.shape.agents, entry);
+        self.chair = Some(chair);
+        released
+    }
+
+    /// Where a requester shows an owed credit of the type, claims an entry of the type and releases it.
+    /// None where no credit of the type was seen owed, or each entry of the type was found claimed.
+    ///
+    /// Condition: the type has entries.
+    #[tactic(auto, using(crate::proofs::Sweeps::tended_hand))]
+    pub fn tend<A: Allocator>(&mut self, tracker: &Tracker<A>, ty: CreditType) -> Option<Released>
+        requires table { self.old.table ≡ tracker.now.table }
+        requires entries { 0 < size self.old.port.shape (credit_number ty) }
+        ensures table { self.new.table ≡ self.old.table }
+        ensures port { Tended self.old.port (credit_number ty) result self.new.port }
+        ensures credits { HasSameCredits self.old.port self.new.port }
+        ensures hand { (i : ℕ) → has i self.new.port ≡ has i self.old.port }
+    {
+        let board = tracker.board();
+        let Some(mut chair) = self.chair.take() else {
+            unreachable!();
+        };
+        let (kind, agents) = (ty.number() as usize, self.shape.agents);
+        let (first, count) = (self.shape.first(ty), self.shape.count(ty));
+        let released = tend_type(board, &mut chair, kind, agents, first, count);
+        self.chair = Some(chair);
+        released
     }
 }

@@ -10,9 +10,9 @@ pub struct Shape {
 }
 
 impl Shape {
-    ghost use Rattle.std.specs.Prelude.{◌≡◌};
+    ghost use Rattle.std.specs.Prelude.{◌≡◌, ◌<◌};
     ghost use Rattle.chi_flit.specs.Credit.{credit_number};
-    ghost use Rattle.chi_tracker.specs.Shape.{low, size, IsShape};
+    ghost use Rattle.chi_tracker.specs.Shape.{low, size, IsOf, IsShape};
     ghost use Rattle.chi_tracker.specs.Calls.{shape_of};
 
     pub(crate) fn of(entries: [u16; 4], agents: usize) -> Shape
@@ -44,5 +44,22 @@ impl Shape {
         ensures { result ≡ size self.now (credit_number ty) }
     {
         self.sizes[ty.number() as usize]
+    }
+
+    /// The number of the entry's type.
+    pub(crate) fn kind_of(&self, entry: usize) -> usize
+        requires { IsShape self.now × (entry < low self.now 4) }
+        ensures { (result < 4) × IsOf self.now result entry }
+    {
+        let [zero, one, two, _three] = self.sizes;
+        if entry < zero {
+            0
+        } else if entry < zero + one {
+            1
+        } else if entry < zero + one + two {
+            2
+        } else {
+            3
+        }
     }
 }
