@@ -5,6 +5,8 @@ use mathlib.Core.Logic.{dite}
 use native.Mathlib.Decide.{ℕ_discrete}
 use lib.ListN.{get_elem?}
 use Rattle.chi_tracker.specs.declared.view.SeatView.{SeatView}
+use Rattle.chi_tracker.specs.declared.shape.Shape.{Shape}
+use Rattle.chi_tracker.specs.Shape.{low, size, count_of}
 use Rattle.chi_tracker.specs.Sums.{below, total, raised}
 use Rattle.chi_tracker.specs.Views.{PortView}
 use Rattle.chi_tracker.specs.Rule.{weigh, of_port}
@@ -73,3 +75,15 @@ raised_else (n ∷ ns) zero zero d = absurd (d refl)
 raised_else (n ∷ ns) zero (suc u) d = refl
 raised_else (n ∷ ns) (suc t) zero d = refl
 raised_else (n ∷ ns) (suc t) (suc u) d = raised_else ns t u (λ e. d (ap suc e))
+
+-- four numbers in a row, one for each type
+pub four_are : (f : ℕ → ℕ) (a b c d : ℕ) → a ≡ f 0 → b ≡ f 1 → c ≡ f 2 → d ≡ f 3 → (t : ℕ) → t < 4 → slice_index (a ∷ b ∷ c ∷ d ∷ []) t ≡ f t
+four_are f a b c d ea eb ec ed zero l = ea
+four_are f a b c d ea eb ec ed (suc zero) l = eb
+four_are f a b c d ea eb ec ed (suc (suc zero)) l = ec
+four_are f a b c d ea eb ec ed (suc (suc (suc zero))) l = ed
+four_are f a b c d ea eb ec ed (suc (suc (suc (suc n)))) l = absurd (omega arith)
+
+-- the counts over a type's entries, by where they start and how many they are
+pub part_is : (f : ℕ → ℕ) (s : Shape) (t start n : ℕ) → start ≡ low s t → n ≡ size s t → below (λ i. f (start + i)) n ≡ count_of s t f
+part_is f s t start n a b = ap (λ z. below (λ i. f (z + i)) n) a ∙ ap (below (λ i. f (low s t + i))) b

@@ -10,3 +10,5 @@ mod Opening
 mod Dealing
 mod Keeping
 pub mod Sweeps
+mod Exactly
+pub mod Balance

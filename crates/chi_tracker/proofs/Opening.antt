@@ -7,7 +7,7 @@ use native.Mathlib.Decide.{ℕ_discrete}
 use lib.ListN.{get_elem?}
 use Rattle.std.specs.Int.{bit_at}
 use Rattle.std.proofs.lemmas.Nat.Bits.{bit_at-zero}
-use Rattle.atomic_table.specs.Table.{State, opening, Splits, Joins, Enters}
+use Rattle.atomic_table.specs.Table.{State, Me, opening, Splits, Joins, Enters}
 use Rattle.chi_tracker.specs.declared.shape.Shape.{Shape}
 use Rattle.chi_tracker.specs.declared.view.SeatView.{SeatView}
 use Rattle.chi_tracker.specs.Sums.{below, total, set_at}
@@ -20,7 +20,7 @@ use Rattle.chi_tracker.specs.Calls.{rest_ports}
 use Rattle.chi_tracker.proofs.Adding.{total-set, total-append, below_same, below_zero}
 use Rattle.chi_tracker.proofs.Moving.{of_mine, of_other}
 
-zeros : (n i : ℕ) → slice_index (replicate n 0) i ≡ 0
+pub zeros : (n i : ℕ) → slice_index (replicate n 0) i ≡ 0
 zeros zero i = refl
 zeros (suc n) zero = refl
 zeros (suc n) (suc i) = zeros n i
@@ -86,7 +86,7 @@ module _ (s : Shape) where
   opens shaped = record { words = refl; agents = shaped.3; entries = shaped.1; fits = first_fits }
 
 -- seats whose ports weigh alike fit alike
-regroup : (s : Shape) (c : ℕ → ℕ) (p : ℕ → ℕ → ℕ) (o : ℕ → ℕ) (vs vs' : List SeatView) → ((f : PortView → ℕ) → weigh f vs' ≡ weigh f vs) → AllSeatsSound s vs' → Fits s c p o vs → Fits s c p o vs'
+pub regroup : (s : Shape) (c : ℕ → ℕ) (p : ℕ → ℕ → ℕ) (o : ℕ → ℕ) (vs vs' : List SeatView) → ((f : PortView → ℕ) → weigh f vs' ≡ weigh f vs) → AllSeatsSound s vs' → Fits s c p o vs → Fits s c p o vs'
 regroup s c p o vs vs' same sound fits = record {
   bits = fits.bits;
   place = λ e l. omega (arith, fits.place e l, same (has e));
@@ -97,7 +97,7 @@ regroup s c p o vs vs' same sound fits = record {
   ports = omega (arith, fits.ports, same (λ _. 1));
   sound = sound }
 
-seats-at : (s : Shape) (vs : List SeatView) (id : ℕ) (v : SeatView) → AllSeatsSound s vs → get_elem? vs id ≡ some v → AllSound s v.ports
+pub seats-at : (s : Shape) (vs : List SeatView) (id : ℕ) (v : SeatView) → AllSeatsSound s vs → get_elem? vs id ≡ some v → AllSound s v.ports
 seats-at s [] id v all at = absurd (some-ne-none v (sym at))
 seats-at s (w ∷ vs) zero v all at = subst (λ (u : SeatView). AllSound s u.ports) (some-injective w v at) all.0
 seats-at s (w ∷ vs) (suc id) v all at = seats-at s vs id v all.1 at
@@ -151,9 +151,12 @@ joins key id v other w st rule at ne at' =
     other_sound s (u ∷ us) (suc i) (suc k) b w all ne at = other_sound s us i k b w all.1 (λ q. ne (ap suc q)) at
 
 -- a new seat, of no port
-pub enters : (key : Shape) (slots : ℕ) (told : ℕ → SeatView → Type 0) → ((n : ℕ) → told n (record { ports = [] })) → Enters (TrackerRule key) slots 0 told
-enters key slots told h st rule len l =
+abbrev pub no_ports : Me ℕ SeatView
+no_ports = (record { ports = [] }, [])
+
+pub enters : (key : Shape) (slots : ℕ) → Enters (TrackerRule key) slots 0 (λ n w. (w, []) ≡ no_ports)
+enters key slots st rule len l =
     let w : SeatView = record { ports = [] } in
     (w, record { words = rule.words; agents = rule.agents; entries = rule.entries;
       fits = regroup key (c_of st.words) (p_of st.words) (o_of st.words) st.views (st.views ++ w ∷ [])
-        (λ f. omega (arith, total-append (λ (u : SeatView). total f u.ports) st.views (w ∷ []))) (seats-push key st.views w rule.fits.sound tt) rule.fits }, h (slice_index st.words 0))
+        (λ f. omega (arith, total-append (λ (u : SeatView). total f u.ports) st.views (w ∷ []))) (seats-push key st.views w rule.fits.sound tt) rule.fits }, refl)

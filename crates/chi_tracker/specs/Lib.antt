@@ -5,3 +5,5 @@ pub mod Views
 pub mod Rule
 pub mod Steps
 pub mod Calls
+pub mod Laws
+pub mod Totals

@@ -5,6 +5,7 @@
 //! tracker".
 #![tactic(auto)]
 
+mod closing;
 mod law;
 mod marks;
 mod plays;
@@ -15,9 +16,13 @@ mod sets;
 mod shape;
 mod steps;
 mod sweep;
+mod tally;
+mod totals;
 mod tracker;
 mod view;
 
+pub use law::Law;
 pub use port::Port;
 pub use released::Released;
+pub use totals::{Counts, Credits, Totals};
 pub use tracker::Tracker;

@@ -1,6 +1,6 @@
 //! A requester's port to the tracker.
 
-ghost use Rattle.std.specs.Prelude.{◌≡◌, ℕ, ◌+◌, ◌<◌, ◌≤◌, ◌-◌, IfSome, IfNone, slice_index};
+ghost use Rattle.std.specs.Prelude.{◌≡◌, None, ℕ, ◌+◌, ◌<◌, ◌≤◌, ◌-◌, IfSome, IfNone, slice_index};
 ghost use Rattle.chi_flit.specs.Credit.{credit_number};
 ghost use Rattle.chi_tracker.specs.Sums.{set_at, dropped};
 ghost use Rattle.chi_tracker.specs.Shape.{low, size, IsOf, IsShape};
@@ -32,6 +32,13 @@ pub struct Port {
     shape: Shape,
     seen: [u64; 4],
     due: [u32; 4],
+}
+
+/// A port's seat, as it is given back at the end.
+pub(crate) struct Seated {
+    pub(crate) chair: Chair,
+    pub(crate) number: usize,
+    pub(crate) due: [u32; 4],
 }
 
 impl Model for Port {
@@ -75,6 +82,27 @@ impl Port {
             seen: [0; 4],
             due: [0; 4],
         }
+    }
+
+    // The port's seat, with its number and the credits due.
+    pub(crate) fn into_seated(self) -> Seated
+        requires { 0 < self.table.words }
+        ensures chair { (result.chair.table_id ≡ self.table) × (result.chair.me ≡ solo self.port) }
+        ensures number { (result.number ≡ self.port.who) × (self.port.duty ≡ None) }
+        ensures due { (t : ℕ) → t < 4 → slice_index result.due t + (slice_index self.port.spent t + slice_index self.port.returned t) ≡ slice_index self.port.retries t }
+        ensures few { (t : ℕ) → t < 4 → slice_index result.due t ≤ 8 }
+    {
+        let Port {
+            chair,
+            number,
+            shape: _,
+            seen: _,
+            due,
+        } = self;
+        let Some(chair) = chair else {
+            unreachable!();
+        };
+        Seated { chair, number, due }
     }
 
     /// Tries the entries of the type from the lowest, in one scan, until one is free: it comes to hand.

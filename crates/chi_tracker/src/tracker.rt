@@ -1,15 +1,19 @@
 //! The tracker's words, which all ports share.
 
-ghost use Rattle.std.specs.Prelude.{◌≡◌, ◌<◌, ◌≤◌, [], IfOk};
+ghost use Rattle.std.specs.Prelude.{◌≡◌, ◌<◌, ◌≤◌, [], All, IfOk, length};
 ghost use Rattle.chi_tracker.specs.Shape.{low};
 ghost use Rattle.chi_tracker.specs.Views.{new_ports};
 ghost use Rattle.chi_tracker.specs.Rule.{all_new};
 ghost use Rattle.chi_tracker.specs.Calls.{owners, shape_of};
+ghost use Rattle.chi_tracker.specs.Totals.{views_of, IsClosed, IsBalanced};
 
+use crate::closing::{Gathered, credits, gather, read};
 use crate::law::{Board, Chair, Law};
 use crate::plays::Deal;
 use crate::port::Port;
 use crate::shape::Shape;
+use crate::tally::counts;
+use crate::totals::{Counts, Totals};
 use crate::view::SeatView;
 use arrayvec::ArrayVec;
 use atomic_table::Table;
@@ -79,5 +83,37 @@ impl<A: Allocator> Tracker<A> {
         ensures { (result.now.table_id ≡ self.now.table) × (result.now.table_id.words ≡ 44) }
     {
         &self.table.shared
+    }
+
+    /// Ends the tracker: it joins the seats of all ports, so that all views are known, and answers what the
+    /// words hold then, by type and by requester. No duty is open, and for each requester and type what is
+    /// due is what is owed and what is promised.
+    ///
+    /// Condition: the ports are all that `new` gave, in any order.
+    pub fn close(self, ports: ArrayVec<Port, 8>) -> Totals
+        requires all { length ports.items ≡ self.shape.agents }
+        requires table { All (λ p. p.table ≡ self.table) ports.items }
+        ensures closed { IsClosed self.shape (views_of ports.items) result.counts result.requesters.items }
+        ensures balanced { IsBalanced self.shape.agents result.requesters.items }
+    {
+        let Tracker { table, shape } = self;
+        let Gathered { chair, dues } = gather(&table.shared, ports);
+        let closed = table.close_with(chair);
+        let words = read(&closed);
+        closed.free();
+        let counts = counts(words, shape);
+        let requesters = credits(words, shape, dues);
+        Totals { counts, requesters }
+    }
+
+    /// Loads the words one after the other and counts what they held. Beside ports that do steps it
+    /// promises only to return.
+    pub fn glance(&self) -> Counts {
+        let board = self.board();
+        let mut words = [0; 44];
+        for i in 0..44 {
+            words[i] = board.peek(i);
+        }
+        counts(words, self.shape)
     }
 }
