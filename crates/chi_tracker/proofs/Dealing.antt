@@ -35,3 +35,7 @@ dealt_left s n a m m' l is cut = cut ∙ ap (λ (z : Me ℕ SeatView). (record {
 pub dealt_more : (z z' : TableId) (s : Shape) (n : ℕ) (os os' : List Owner) (o : Owner) → os ≡ owners z (new_ports s 0 n) → os' ≡ os ++ o ∷ [] → o ≡ record { table = z'; port = new_port s n } → z' ≡ z
     → os' ≡ owners z (new_ports s 0 (n + 1))
 dealt_more z z' s n os os' o before push is same = push ∙ ap (λ xs. xs ++ o ∷ []) before ∙ ap (λ x. owners z (new_ports s 0 n) ++ x ∷ []) (is ∙ ap (λ t. record { table = t; port = new_port s n }) same) ∙ sym (owners_more z s n)
+
+-- a seat that keeps the ports from n on has the port n first
+pub first_left : (s : Shape) (n a : ℕ) (m : Me ℕ SeatView) → n < a → m ≡ (record { ports = new_ports s n (a - n) }, []) → m.0.ports ≡ new_port s n ∷ new_ports s (n + 1) (a - (n + 1))
+first_left s n a m l is = ap (λ (z : Me ℕ SeatView). z.0.ports) is ∙ ports_next s n a l

@@ -7,11 +7,13 @@ use Rattle.atomic_table.specs.declared.shared.Seat.{Seat}
 use Rattle.chi_tracker.specs.declared.shape.Shape.{Shape}
 use Rattle.chi_tracker.specs.declared.view.SeatView.{SeatView}
 use Rattle.chi_tracker.specs.Sums.{raised, set_at, take_out}
-use Rattle.chi_tracker.specs.Shape.{low, size, IsOf}
+use Rattle.chi_tracker.specs.Shape.{low, size, IsOf, count_of}
 use Rattle.chi_tracker.specs.Views.{PortView, has}
 use Rattle.chi_tracker.specs.Steps.{solo, port_of, notes, first_clear, owes, spends, returns_credit}
-use Rattle.chi_tracker.specs.Calls.{Owner, owner_of, IsHeld, IsKept, owed_one, IsLowestSeen, Ended}
+use Rattle.chi_tracker.specs.Calls.{Owner, owner_of, IsHeld, IsKept, owed_one, seen_of, IsLowestSeen, Ended, HasOneLess}
 use Rattle.chi_tracker.proofs.Adding.{raised_here, raised_else}
+use Rattle.chi_tracker.proofs.BitLaws.{taken_here, taken_else}
+use Rattle.chi_tracker.proofs.Entries.{in_range, count_moved, count_kept}
 use Rattle.chi_tracker.proofs.Places.{clear_above}
 use Rattle.chi_tracker.proofs.Sweeps.{ended_same, ended_duty, ended_note}
 use Rattle.chi_tracker.specs.declared.released.Released.{Released}
@@ -101,3 +103,20 @@ ended_held m m' n s seen due t e r held alone ended =
     let same = ended_same (port_of m) t e r (port_of m') ended in
     held_after m m' (port_of m') n s seen seen due due held alone same.0 same.1 (same.2 ∙ held.seen_is) (ended_duty (port_of m) t e r (port_of m') ended) (ended_note (port_of m) t e r (port_of m') ended ∙ held.no_note)
       (λ u lu. let h = held.due_is u lu in let a = ap (λ z. slice_index z u) same.3 in let b = ap (λ z. slice_index z u) same.4 in let d = ap (λ z. slice_index z u) same.5 in omega arith) held.few
+
+-- a seen credit of type t taken out is one less of the type
+pub one_less : (p q : PortView) (t e : ℕ) → t < 4 → low p.shape 4 ≤ 256 → length p.seen ≡ 4 → IsOf p.shape t e → set_at p.seen e ≡ 1 → q.shape ≡ p.shape → q.seen ≡ take_out p.seen e → HasOneLess t p q
+one_less p q t e lt le len is set shape seen =
+    let inside : e < 256 = omega (arith, is.1, in_range p.shape t lt le) in
+    let apart : (i : ℕ) → i < 256 → i ≢ e → set_at (take_out p.seen e) i ≡ set_at p.seen i = λ i li d. taken_else p.seen e i d (omega arith) in
+    let now : (u : ℕ) → seen_of q u ≡ count_of p.shape u (set_at (take_out p.seen e)) = λ u. ap (λ s. count_of s u (set_at q.seen)) shape ∙ ap (λ xs. count_of p.shape u (set_at xs)) seen in
+    (omega (arith, now t, count_moved p.shape t e (set_at p.seen) (set_at (take_out p.seen e)) lt le is apart, taken_here p.seen e, set),
+     λ u lu d. now u ∙ count_kept p.shape u t e (set_at p.seen) (set_at (take_out p.seen e)) lu le is d apart)
+
+-- the same of a held port whose seat went from m to m'
+pub spent_less : (p : PortView) (m m' : Me ℕ SeatView) (n : ℕ) (s : Shape) (seen due : List ℕ) (t e : ℕ) → IsHeld m n s seen due → length seen ≡ 4 → p ≡ port_of m → t < 4 → IsOf p.shape t e → set_at p.seen e ≡ 1
+    → (port_of m').shape ≡ (port_of m).shape → (port_of m').seen ≡ take_out (port_of m).seen e → HasOneLess t p (port_of m')
+spent_less p m m' n s seen due t e held len at lt is set shape after =
+    let sh : p.shape ≡ s = ap (λ x. x.shape) at ∙ held.shape_is in
+    one_less p (port_of m') t e lt (subst (λ (z : Shape). low z 4 ≤ 256) (sym sh) held.shaped.1) (ap (λ x. length x.seen) at ∙ ap (λ xs. length xs) held.seen_is ∙ len) is set
+      (shape ∙ ap (λ x. x.shape) (sym at)) (after ∙ ap (λ x. take_out x.seen e) (sym at))

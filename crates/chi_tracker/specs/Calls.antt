@@ -1,6 +1,6 @@
 -- What contracts see of a tracker and of a port, and what each call does to the port's view
 -- (docs/PROTOCOL.md, "Steps of the tracker").
-use Rattle.std.specs.Prelude.{◌≡◌, ◌⊎◌, ℕ, zero, suc, ◌+◌, ◌-◌, ◌*◌, ◌<◌, ◌≤◌, List, [], ◌∷◌, Option, Some, None, length, slice_index}
+use Rattle.std.specs.Prelude.{◌≡◌, ◌≢◌, ◌⊎◌, ℕ, zero, suc, ◌+◌, ◌-◌, ◌*◌, ◌<◌, ◌≤◌, List, [], ◌∷◌, Option, Some, None, length, slice_index}
 use Rattle.atomic_table.specs.Table.{Me}
 use Rattle.atomic_table.specs.Seated.{TableId}
 use Rattle.atomic_table.specs.declared.shared.Seat.{Seat}
@@ -133,3 +133,7 @@ Tended p t None q = (q ≡ swept_all t p) ⊎ ((s : Sweep) × (q ≡ scanned t (
 -- what a port knows of itself and of its credits is the same
 abbrev pub HasSameCredits : PortView → PortView → Type 0
 HasSameCredits p q = (q.who ≡ p.who) × (q.shape ≡ p.shape) × (q.seen ≡ p.seen) × (q.retries ≡ p.retries) × (q.spent ≡ p.spent) × (q.returned ≡ p.returned)
+
+-- one seen credit less of type t, and as many of each other type
+abbrev pub HasOneLess : ℕ → PortView → PortView → Type 0
+HasOneLess t p q = (seen_of q t + 1 ≡ seen_of p t) × ((u : ℕ) → u < 4 → u ≢ t → seen_of q u ≡ seen_of p u)

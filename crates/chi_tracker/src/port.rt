@@ -6,7 +6,7 @@ ghost use Rattle.chi_tracker.specs.Sums.{set_at, dropped};
 ghost use Rattle.chi_tracker.specs.Shape.{low, size, IsOf, IsShape};
 ghost use Rattle.chi_tracker.specs.Views.{has, new_port};
 ghost use Rattle.chi_tracker.specs.Steps.{solo, frees, spends, returns_credit};
-ghost use Rattle.chi_tracker.specs.Calls.{no_owner, scanned, into_hand, owed_one, saw_all, seen_of, IsLowestSeen, Ended, Tended, HasSameCredits};
+ghost use Rattle.chi_tracker.specs.Calls.{no_owner, scanned, into_hand, owed_one, saw_all, seen_of, IsLowestSeen, Ended, Tended, HasSameCredits, HasOneLess};
 
 use crate::law::Chair;
 use crate::marks::others;
@@ -221,6 +221,7 @@ impl Port {
         ensures port { self.new.port ≡ spends (credit_number ty) result.0 self.old.port }
         ensures mine { has result.0 self.new.port ≡ 1 }
         ensures entry { result.0 < low self.new.port.shape 4 }
+        ensures fewer { HasOneLess (credit_number ty) self.old.port self.new.port }
     {
         let board = tracker.board();
         let Some(mut chair) = self.chair.take() else {
@@ -268,8 +269,9 @@ impl Port {
         requires table { self.old.table ≡ tracker.now.table }
         requires credit { 0 < seen_of self.old.port (credit_number ty) }
         ensures table { self.new.table ≡ self.old.table }
-        ensures port { (e : ℕ) × IsLowestSeen self.old.port (credit_number ty) e × (has e self.old.port ≡ 0) × Ended (returns_credit (credit_number ty) e self.old.port) (credit_number ty) e result self.new.port }
+        ensures port { (e : ℕ) × IsLowestSeen self.old.port (credit_number ty) e × (has e self.old.port ≡ 0) × Ended (returns_credit (credit_number ty) e self.old.port) (credit_number ty) e result self.new.port × HasSameCredits (returns_credit (credit_number ty) e self.old.port) self.new.port }
         ensures hand { (i : ℕ) → has i self.new.port ≡ has i self.old.port }
+        ensures fewer { HasOneLess (credit_number ty) self.old.port self.new.port }
     {
         let board = tracker.board();
         let Some(mut chair) = self.chair.take() else {

@@ -1,13 +1,13 @@
-use Rattle.std.proofs.Common.{◌≡◌, ◌+◌, ◌-◌, ◌∷◌, sym, ap, ◌∙◌, arith, length}
+use Rattle.std.proofs.Common.{◌+◌, ◌-◌, sym, ap, ◌∙◌, arith, length}
 use Rattle.chi_tracker.specs.Views.{new_port, new_ports}
-use Rattle.chi_tracker.proofs.Dealing.{ports_next, owners-length, dealt_left, dealt_more}
+use Rattle.chi_tracker.proofs.Dealing.{first_left, owners-length, dealt_left, dealt_more}
 use Rattle.chi_tracker.proofs.Opening.{deals}
 use Rattle.chi_tracker.proofs.tracker.Tracker.deal.Goals as goal
 
 pub split_seat-own-requires : goal.split_seat-own-requires
 split_seat-own-requires g c =
     let s = c.self.inside.shape in let n = c.loop-number.number in
-    let is : c.loop-number.chair.me.0.ports ≡ new_port s n ∷ new_ports s (n + 1) (s.agents - (n + 1)) = ap (λ z. z.0.ports) c.loop-number.invariant.left ∙ ports_next s n s.agents c.loop-number-test.true in
+    let is = first_left s n s.agents c.loop-number.chair.me c.loop-number-test.true c.loop-number.invariant.left in
     (c.loop-number.invariant.table ∙ sym (ap (λ h. h.table) c.self.view_is), omega arith,
       deals c.self.inside.table.shared.key c.loop-number.chair.id c.loop-number.chair.me.0 (new_port s n) (new_ports s (n + 1) (s.agents - (n + 1))) is)
 
