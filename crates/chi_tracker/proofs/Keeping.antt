@@ -9,12 +9,11 @@ use Rattle.chi_tracker.specs.declared.view.SeatView.{SeatView}
 use Rattle.chi_tracker.specs.Sums.{raised, set_at, take_out}
 use Rattle.chi_tracker.specs.Shape.{low, size, IsOf, count_of}
 use Rattle.chi_tracker.specs.Views.{PortView, has}
-use Rattle.chi_tracker.specs.Steps.{solo, port_of, notes, first_clear, owes, spends, returns_credit}
+use Rattle.chi_tracker.specs.Steps.{solo, port_of, spends, returns_credit}
 use Rattle.chi_tracker.specs.Calls.{Owner, owner_of, IsHeld, IsKept, owed_one, seen_of, IsLowestSeen, Ended, HasOneLess}
 use Rattle.chi_tracker.proofs.Adding.{raised_here, raised_else}
 use Rattle.chi_tracker.proofs.BitLaws.{taken_here, taken_else}
 use Rattle.chi_tracker.proofs.Entries.{in_range, count_moved, count_kept}
-use Rattle.chi_tracker.proofs.Places.{clear_above}
 use Rattle.chi_tracker.proofs.Sweeps.{ended_same, ended_duty, ended_note}
 use Rattle.chi_tracker.specs.declared.released.Released.{Released}
 
@@ -37,24 +36,18 @@ pub held_after : (m m' : Me ℕ SeatView) (y : PortView) (n : ℕ) (s : Shape) (
 held_after m m' y n s seen seen' due due' held is who shape seen_is duty noted due_is few = subst (λ (z : Me ℕ SeatView). IsHeld z n s seen' due') (sym is)
     (record { alone = refl; who = who ∙ held.who; near = held.near; shape_is = shape ∙ held.shape_is; shaped = held.shaped; seen_is = seen_is; due_is = due_is; few = few; no_duty = duty; no_note = noted })
 
--- after a look that noted a place of type t, and an owe
-module _ (m m1 m2 : Me ℕ SeatView) (n : ℕ) (s : Shape) (seen due : List ℕ) (t word : ℕ) (held : IsHeld m n s seen due) (lt : t < 4) (len : length due ≡ 4)
+-- after a credit of type t was owed
+module _ (m m' : Me ℕ SeatView) (n : ℕ) (s : Shape) (seen due : List ℕ) (t : ℕ) (held : IsHeld m n s seen due) (lt : t < 4) (len : length due ≡ 4)
     (few : slice_index (port_of m).retries t < 8 + (slice_index (port_of m).spent t + slice_index (port_of m).returned t))
-    (looked : m1 ≡ solo (notes t word (port_of m))) (owed : m2 ≡ solo (owes (port_of m1))) (near : first_clear (8 * t) word < 8 * t + 8) where
+    (owed : m' ≡ solo (record (port_of m) { noted = None; retries = raised (port_of m).retries t })) where
   abbrev x : PortView
   x = port_of m
 
-  kind_is : first_clear (8 * t) word / 8 ≡ t
-  kind_is = omega (arith, near, clear_above t word)
+  pub owed_view : port_of m' ≡ owed_one t x
+  owed_view = ap port_of owed ∙ ap (λ u. record x { noted = u; retries = raised x.retries t }) (sym held.no_note)
 
-  owed_is : m2 ≡ solo (record x { noted = None; retries = raised x.retries t })
-  owed_is = owed ∙ ap (λ z. solo (owes (port_of z))) looked ∙ ap (λ u. solo (record x { noted = None; retries = raised x.retries u })) kind_is
-
-  pub owed_view : port_of m2 ≡ owed_one t x
-  owed_view = ap port_of owed_is ∙ ap (λ u. record x { noted = u; retries = raised x.retries t }) (sym held.no_note)
-
-  pub owed_held : IsHeld m2 n s seen (slice_set due t (slice_index due t + 1))
-  owed_held = held_after m m2 (record x { noted = None; retries = raised x.retries t }) n s seen seen due (slice_set due t (slice_index due t + 1)) held owed_is refl refl held.seen_is held.no_duty refl
+  pub owed_held : IsHeld m' n s seen (slice_set due t (slice_index due t + 1))
+  owed_held = held_after m m' (record x { noted = None; retries = raised x.retries t }) n s seen seen due (slice_set due t (slice_index due t + 1)) held owed refl refl held.seen_is held.no_duty refl
       (λ u lu. dite (ℕ_discrete u t)
         (λ q. subst (λ (v : ℕ). slice_index (slice_set due t (slice_index due t + 1)) v + (slice_index x.spent v + slice_index x.returned v) ≡ slice_index (raised x.retries t) v) (sym q)
           (omega (arith, set_here due t (slice_index due t + 1) len lt, raised_here x.retries t, held.due_is t lt)))

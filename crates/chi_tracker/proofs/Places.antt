@@ -1,5 +1,5 @@
 -- The lowest clear place of a type in a word of owed credits.
-use Rattle.std.proofs.Common.{◌≡◌, ◌≢◌, ℕ, zero, suc, ◌+◌, ◌*◌, ◌<◌, ◌≤◌, Bool, cond, eqb, refl, sym, ap, ◌∙◌, subst, arith, eq-eqb, ne_eqb}
+use Rattle.std.proofs.Common.{◌≡◌, ◌≢◌, ℕ, zero, suc, ◌+◌, ◌*◌, ◌/◌, ◌<◌, ◌≤◌, Bool, cond, eqb, refl, sym, ap, ◌∙◌, subst, arith, eq-eqb, ne_eqb}
 use mathlib.Core.Logic.{dite}
 use native.Mathlib.Decide.{ℕ_discrete}
 use Rattle.std.specs.Int.{bit_at}
@@ -55,3 +55,7 @@ clear_low start word (suc n) = dite (ℕ_discrete (bit_at word start) 0)
 pub clear_above : (t word : ℕ) → 8 * t ≤ first_clear (8 * t) word
 unfolding first_clear
 clear_above t word = clear_low (8 * t) word 8
+
+-- the lowest clear place is one of the type
+pub place_kind : (t word : ℕ) → first_clear (8 * t) word < 8 * t + 8 → first_clear (8 * t) word / 8 ≡ t
+place_kind t word l = omega (arith, clear_above t word)

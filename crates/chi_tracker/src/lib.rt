@@ -8,6 +8,7 @@
 mod closing;
 mod law;
 mod marks;
+mod paying;
 mod plays;
 mod port;
 mod released;

@@ -13,8 +13,9 @@ use crate::marks::others;
 use crate::released::Released;
 use crate::scan::scan;
 use crate::shape::Shape;
-use crate::sets::{counts, first_clear, lowest};
-use crate::steps::{free_step, look_step, owe_step, return_step, see_step, spend_step};
+use crate::sets::{counts, lowest};
+use crate::paying::{owe_one, pay};
+use crate::steps::{free_step, see_step};
 use crate::sweep::{release_entry, tend_type};
 use crate::tracker::Tracker;
 use chi_flit::{CreditType, Entry};
@@ -166,8 +167,7 @@ impl Port {
             unreachable!();
         };
         let kind = ty.number() as usize;
-        let word = look_step(board, &mut chair, self.number, kind);
-        owe_step(board, &mut chair, self.number, first_clear(word, kind));
+        owe_one(board, &mut chair, self.number, kind);
         self.due[kind] += 1;
         self.chair = Some(chair);
     }
@@ -205,7 +205,8 @@ impl Port {
         ensures few { (t : ℕ) → t < 4 → slice_index result t ≤ 8 }
         ensures is { (t : ℕ) → t < 4 → slice_index result t + (slice_index self.now.port.spent t + slice_index self.now.port.returned t) ≡ slice_index self.now.port.retries t }
     {
-        self.due
+        let due = self.due;
+        due
     }
 
     /// Spends the lowest seen credit of the type: its entry comes to hand.
@@ -229,7 +230,7 @@ impl Port {
         };
         let kind = ty.number() as usize;
         let entry = lowest(self.seen, self.shape.first(ty), self.shape.count(ty));
-        spend_step(board, &mut chair, self.number, kind, entry);
+        pay(board, &mut chair, self.number, kind, entry, false);
         self.seen[entry / 64] &= others(entry % 64);
         self.due[kind] -= 1;
         self.chair = Some(chair);
@@ -279,7 +280,7 @@ impl Port {
         };
         let kind = ty.number() as usize;
         let entry = lowest(self.seen, self.shape.first(ty), self.shape.count(ty));
-        return_step(board, &mut chair, self.number, kind, entry);
+        pay(board, &mut chair, self.number, kind, entry, true);
         self.seen[entry / 64] &= others(entry % 64);
         self.due[kind] -= 1;
         let released = release_entry(board, &mut chair, kind, self.shape.agents, entry);

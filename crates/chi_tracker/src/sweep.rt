@@ -106,8 +106,8 @@ pub(crate) fn look_owed(board: &Board, chair: &mut Chair, ty: usize, agents: usi
     ensures view { MatchBool result ((s : Sweep) × (chair.new.me ≡ solo (with_sweep s (port_of chair.old.me)))) (chair.new.me ≡ solo (swept_all ty (port_of chair.old.me))) }
 {
     for agent in 0..agents {
-        let word = sweep_step(board, chair, ty, agent);
-        if byte(word, ty) != 0 {
+        let shown = sweep_step(board, chair, ty, agent);
+        if byte(shown, ty) != 0 {
             return true;
         }
     }

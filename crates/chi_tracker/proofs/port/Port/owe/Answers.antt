@@ -10,7 +10,7 @@ invariant_of-self g c =
     let held = held_of i.chair seat i.number i.shape i.seen i.due (sym c.take.ensures.value ∙ c.in-Some.is) c.self.invariant in
     let at = ap (λ w. w.port) (owner_is i.chair seat c.args.self.now (sym c.take.ensures.value ∙ c.in-Some.is) c.self.view_is) in
     let few = rw (sym c.number-kind.ensures) at (rw at at c.requires.few) in
-    owed_held seat.me c.look_step-word.new.chair.me c.owe_step.new.chair.me i.number i.shape i.seen i.due t c.look_step-word.result held (omega (arith, c.number-kind.ensures, credit_below c.args.ty)) (omega arith) few c.look_step-word.ensures.view c.owe_step.ensures.view c.look_step-word.ensures.few.1
+    owed_held seat.me c.owe_one.new.chair.me i.number i.shape i.seen i.due t held (omega (arith, c.number-kind.ensures, credit_below c.args.ty)) (omega arith) few c.owe_one.ensures.view
 
 pub returns-clause-port : goal.returns-clause-port
 returns-clause-port g c =
@@ -18,5 +18,5 @@ returns-clause-port g c =
     let held = held_of i.chair seat i.number i.shape i.seen i.due (sym c.take.ensures.value ∙ c.in-Some.is) c.self.invariant in
     let at = ap (λ w. w.port) (owner_is i.chair seat c.args.self.now (sym c.take.ensures.value ∙ c.in-Some.is) c.self.view_is) in
     let few = rw (sym c.number-kind.ensures) at (rw at at c.requires.few) in
-    owed_view seat.me c.look_step-word.new.chair.me c.owe_step.new.chair.me i.number i.shape i.seen i.due t c.look_step-word.result held (omega (arith, c.number-kind.ensures, credit_below c.args.ty)) (omega arith) few c.look_step-word.ensures.view c.owe_step.ensures.view c.look_step-word.ensures.few.1
+    owed_view seat.me c.owe_one.new.chair.me i.number i.shape i.seen i.due t held (omega (arith, c.number-kind.ensures, credit_below c.args.ty)) (omega arith) few c.owe_one.ensures.view
       ∙ ap (λ p. owed_one t p) (sym at) ∙ ap (λ u. owed_one u c.args.self.now.port) c.number-kind.ensures

@@ -11,7 +11,7 @@ pub invariant_of-self : goal.invariant_of-self
 invariant_of-self g c =
     let i = c.self.inside in let seat = c.in-Some.chair in let t = c.number-kind.result in
     let held = held_of i.chair seat i.number i.shape i.seen i.due (sym c.take.ensures.value ∙ c.in-Some.is) c.self.invariant in
-    rw c.others.ensures (spent_held seat.me c.spend_step.new.chair.me i.number i.shape i.seen i.due t c.lowest-entry.result held (omega (arith, c.number-kind.ensures, credit_below c.args.ty)) (omega arith) c.spend_step.ensures.due c.spend_step.ensures.view)
+    rw c.others.ensures (spent_held seat.me c.pay.new.chair.me i.number i.shape i.seen i.due t c.lowest-entry.result held (omega (arith, c.number-kind.ensures, credit_below c.args.ty)) (omega arith) c.pay.ensures.due c.pay.ensures.view)
 
 pub returns-clause-lowest : goal.returns-clause-lowest
 returns-clause-lowest g c =
@@ -28,5 +28,5 @@ returns-clause-fewer g c =
     let held = held_of i.chair seat i.number i.shape i.seen i.due (sym c.take.ensures.value ∙ c.in-Some.is) c.self.invariant in
     let at = ap (λ w. w.port) (owner_is i.chair seat c.args.self.now (sym c.take.ensures.value ∙ c.in-Some.is) c.self.view_is) in
     let found = returns-clause-lowest g c in
-    spent_less c.args.self.now.port seat.me c.spend_step.new.chair.me i.number i.shape i.seen i.due t e held (omega arith) at (credit_below c.args.ty) found.0 found.1
-      (ap (λ m. (port_of m).shape) c.spend_step.ensures.view) (ap (λ m. (port_of m).seen) c.spend_step.ensures.view)
+    spent_less c.args.self.now.port seat.me c.pay.new.chair.me i.number i.shape i.seen i.due t e held (omega arith) at (credit_below c.args.ty) found.0 found.1
+      (ap (λ m. (port_of m).shape) c.pay.ensures.view) (ap (λ m. (port_of m).seen) c.pay.ensures.view)
