@@ -1,5 +1,5 @@
 -- Lists of new ports, as they are dealt out one after the other.
-use Rattle.std.proofs.Common.{◌≡◌, ℕ, zero, suc, ◌+◌, ◌-◌, ◌<◌, ◌≤◌, List, [], ◌∷◌, ◌++◌, length, refl, sym, ap, ◌∙◌, arith}
+use Rattle.std.proofs.Common.{◌≡◌, ℕ, zero, suc, ◌+◌, ◌-◌, ◌<◌, ◌≤◌, List, [], ◌∷◌, ◌++◌, All, length, slice_index_or, subst, refl, sym, ap, ◌∙◌, arith}
 use Rattle.atomic_table.specs.Table.{Me}
 use Rattle.atomic_table.specs.Seated.{TableId}
 use Rattle.chi_tracker.specs.declared.view.SeatView.{SeatView}
@@ -39,3 +39,15 @@ dealt_more z z' s n os os' o before push is same = push ∙ ap (λ xs. xs ++ o �
 -- a seat that keeps the ports from n on has the port n first
 pub first_left : (s : Shape) (n a : ℕ) (m : Me ℕ SeatView) → n < a → m ≡ (record { ports = new_ports s n (a - n) }, []) → m.0.ports ≡ new_port s n ∷ new_ports s (n + 1) (a - (n + 1))
 first_left s n a m l is = ap (λ (z : Me ℕ SeatView). z.0.ports) is ∙ ports_next s n a l
+
+-- dealt ports are of the tracker and have its entries
+dealt-at : (z : TableId) (s : Shape) (k m i : ℕ) (d : Owner) → i < m → ((slice_index_or (owners z (new_ports s k m)) i d).table ≡ z) × ((slice_index_or (owners z (new_ports s k m)) i d).port.shape ≡ s)
+dealt-at z s k zero i d l = absurd (omega arith)
+dealt-at z s k (suc m) zero d l = (refl, refl)
+dealt-at z s k (suc m) (suc i) d l = dealt-at z s (k + 1) m i d (omega arith)
+
+pub dealt_own : (z : TableId) (s : Shape) (m : ℕ) (os : List Owner) → os ≡ owners z (new_ports s 0 m) → All (λ p. (p.table ≡ z) × (p.port.shape ≡ s)) os
+dealt_own z s m os is = subst (All (λ p. (p.table ≡ z) × (p.port.shape ≡ s))) (sym is) (λ k d l. dealt-at z s 0 m k d (omega (arith, owners-length z s 0 m)))
+
+pub dealt_all : (z : TableId) (s : Shape) (m : ℕ) (os : List Owner) → os ≡ owners z (new_ports s 0 m) → length os ≡ m
+dealt_all z s m os is = ap (λ xs. length xs) is ∙ owners-length z s 0 m

@@ -56,6 +56,8 @@ impl<A: Allocator> Tracker<A> {
         requires entries { low (shape_of entries agents) 4 ≤ 256 }
         ensures shape { IfOk result (λ made. made.0.shape ≡ shape_of entries agents) }
         ensures ports { IfOk result (λ made. made.1.items ≡ owners made.0.table (new_ports (shape_of entries agents) 0 agents)) }
+        ensures own { IfOk result (λ made. All (λ p. (p.table ≡ made.0.table) × (p.port.shape ≡ made.0.shape)) made.1.items) }
+        ensures all { IfOk result (λ made. length made.1.items ≡ agents) }
     {
         let shape = Shape::of(entries, usize::from(agents));
         let (table, chair) = Table::of_words(alloc, &[0; 44], &shape)?;
@@ -65,9 +67,12 @@ impl<A: Allocator> Tracker<A> {
     }
 
     // Gives each port of the seat, which has all, a seat of its own.
+    #[tactic(auto, using(crate::proofs::Dealing::dealt_own, crate::proofs::Dealing::dealt_all))]
     fn deal(&self, mut chair: Chair) -> ArrayVec<Port, 8>
         requires { (chair.table_id ≡ self.now.table) × (chair.me ≡ (all_new self.now.shape, [])) }
-        ensures { result.items ≡ owners self.now.table (new_ports self.now.shape 0 self.now.shape.agents) }
+        ensures ports { result.items ≡ owners self.now.table (new_ports self.now.shape 0 self.now.shape.agents) }
+        ensures own { All (λ p. (p.table ≡ self.now.table) × (p.port.shape ≡ self.now.shape)) result.items }
+        ensures all { length result.items ≡ self.now.shape.agents }
     {
         let (board, shape) = (&self.table.shared, self.shape);
         let mut ports = ArrayVec::new();
