@@ -16,7 +16,7 @@ use Rattle.chi_tracker.specs.Words.{c_of, p_of, o_of}
 use Rattle.chi_tracker.specs.Views.{PortView, Duty, has, new_port, new_ports}
 use Rattle.chi_tracker.specs.Rule.{weigh, of_port, duty_is, note_is, IsSound, AllSound, AllSeatsSound, Fits, TrackerRule, all_new}
 use Rattle.chi_tracker.specs.Steps.{one, first_port}
-use Rattle.chi_tracker.specs.Calls.{rest_ports}
+use Rattle.chi_tracker.specs.Calls.{rest_ports, set_count}
 use Rattle.chi_tracker.proofs.Adding.{total-set, total-append, below_same, below_zero}
 use Rattle.chi_tracker.proofs.Moving.{of_mine, of_other}
 
@@ -160,3 +160,7 @@ enters key slots st rule len l =
     (w, record { words = rule.words; agents = rule.agents; entries = rule.entries;
       fits = regroup key (c_of st.words) (p_of st.words) (o_of st.words) st.views (st.views ++ w ∷ [])
         (λ f. omega (arith, total-append (λ (u : SeatView). total f u.ports) st.views (w ∷ []))) (seats-push key st.views w rule.fits.sound tt) rule.fits }, refl)
+
+-- an empty set has no entry
+pub none_set : (words : List ℕ) (start n : ℕ) → words ≡ 0 ∷ 0 ∷ 0 ∷ 0 ∷ [] → set_count words start n ≡ 0
+none_set words start n is = ap (λ ws. set_count ws start n) is ∙ below_same (λ _. 0) (λ i. set_at (0 ∷ 0 ∷ 0 ∷ 0 ∷ []) (start + i)) n (λ i l. no_bits 4 ((start + i) / 64) ((start + i) % 64)) ∙ below_zero n

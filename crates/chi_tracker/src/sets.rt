@@ -45,6 +45,9 @@ pub(crate) fn counts(words: [u64; 4], shape: Shape) -> [u32; 4]
     requires { low shape 4 ≤ 256 }
     ensures { (t : ℕ) → t < 4 → slice_index result t ≡ set_count words (low shape t) (size shape t) }
 {
+    if words == [0; 4] {
+        return [0; 4];
+    }
     let [zero, one, two, three] = shape.sizes;
     [
         set_count(words, 0, zero),
