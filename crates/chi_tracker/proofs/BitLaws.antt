@@ -64,3 +64,7 @@ taken_else words e i d l = dite (ℕ_discrete (i / 64) (e / 64))
       let b : bit_at x (i % 64) ≡ bit_at old (i % 64) = but_else old (e % 64) (i % 64) (omega arith) (omega arith) (λ r. d (same_place i e q r)) in
       let c : bit_at old (i % 64) ≡ set_at words i = ap (λ (k : ℕ). bit_at (slice_index words k) (i % 64)) (sym q) in omega arith)
     (λ o. let h = ap (λ (w : ℕ). bit_at w (i % 64)) (get_or-set_other words (e / 64) (i / 64) (bit_and (slice_index words (e / 64)) (all_but (e % 64))) 0 o) in omega arith)
+
+-- the first numbers are in a set, and one more is put in
+pub with_more : (m m' e x : ℕ) → ((k : ℕ) → k < e → bit_at m k ≡ 1) → x ≡ e → m' ≡ with_bit m x → (k : ℕ) → k < e + 1 → bit_at m' k ≡ 1
+with_more m m' e x all is put k l = ap (λ z. bit_at z k) put ∙ dite (ℕ_discrete k x) (λ q. ap (bit_at (with_bit m x)) q ∙ with_here m x) (λ d. with_else m x k d ∙ all k (omega arith))

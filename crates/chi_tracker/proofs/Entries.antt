@@ -9,6 +9,9 @@ use Rattle.chi_flit.specs.Credit.{credit_number}
 use Rattle.chi_tracker.specs.declared.shape.Shape.{Shape}
 use Rattle.chi_tracker.specs.Sums.{below}
 use Rattle.chi_tracker.specs.Shape.{size, low, IsOf, count_of, owed_in}
+use Rattle.chi_tracker.specs.Views.{PortView}
+use Rattle.chi_tracker.specs.Calls.{first_entries, scanned}
+use Rattle.chi_tracker.proofs.BitLaws.{with_here, with_else}
 use Rattle.chi_tracker.proofs.Adding.{below_same, below_moved, below_term}
 
 pub low_up : (s : Shape) (u t : ℕ) → u < t → low s u + size s u ≤ low s t
@@ -65,3 +68,14 @@ owed_moved k x y l apart =
 
 pub owed_kept : (t k x y : ℕ) → t < 4 → k < 32 → t ≢ k / 8 → ((i : ℕ) → i < 64 → i ≢ k → bit_at y i ≡ bit_at x i) → owed_in t y ≡ owed_in t x
 owed_kept t k x y lt lk d apart = below_same (λ i. bit_at x (8 * t + i)) (λ i. bit_at y (8 * t + i)) 8 (λ i l. apart (8 * t + i) (omega arith) (λ q. d (omega arith)))
+
+-- each of the first entries of a type is in their set
+pub first_found : (s : Shape) (t n e : ℕ) → low s t ≤ e → e < low s t + n → bit_at (first_entries s t n) e ≡ 1
+first_found s t zero e le lt = absurd (omega arith)
+first_found s t (suc n) e le lt = dite (ℕ_discrete e (low s t + n))
+    (λ q. ap (bit_at (first_entries s t (suc n))) q ∙ with_here (first_entries s t n) (low s t + n))
+    (λ d. with_else (first_entries s t n) (low s t + n) e d ∙ first_found s t n e le (omega arith))
+
+-- after a scan that found each entry of a type claimed, each is in its found set
+pub scan_found : (p q : PortView) (t : ℕ) → q ≡ scanned t (size p.shape t) p → (e : ℕ) → IsOf p.shape t e → bit_at q.found e ≡ 1
+scan_found p q t is e of = ap (λ z. bit_at z.found e) is ∙ first_found p.shape t (size p.shape t) e of.0 of.1

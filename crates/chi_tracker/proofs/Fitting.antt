@@ -10,7 +10,7 @@ use Rattle.chi_tracker.specs.declared.shape.Shape.{Shape}
 use Rattle.chi_tracker.specs.declared.view.SeatView.{SeatView}
 use Rattle.chi_tracker.specs.Sums.{below, total, raised, with_bit, dropped, set_at, take_out}
 use Rattle.chi_tracker.specs.Shape.{low, IsOf, count_of, owed_in}
-use Rattle.chi_tracker.specs.Views.{PortView, Duty, has, freed}
+use Rattle.chi_tracker.specs.Views.{PortView, Duty, has}
 use Rattle.chi_tracker.specs.Rule.{weigh, of_port, duty_is, note_is, IsSound, Fits}
 use Rattle.chi_tracker.specs.Steps.{one, claims, frees, notes, first_clear, owes, kind_noted, sweeps, settles, duty_to, promises, hand_without, views_word, spends, returns_credit}
 use Rattle.chi_tracker.proofs.Adding.{weigh-set, weigh-term, below_same, below_term, below_moved, raised_here, raised_else}

@@ -8,7 +8,7 @@ use Rattle.chi_tracker.specs.declared.shape.Shape.{Shape}
 use Rattle.chi_tracker.specs.declared.view.SeatView.{SeatView}
 use Rattle.chi_tracker.specs.Sums.{below, raised, with_bit, dropped, set_at}
 use Rattle.chi_tracker.specs.Shape.{low, size, IsOf, IsShape}
-use Rattle.chi_tracker.specs.Views.{PortView, Sweep, has, new_port, freed, promised}
+use Rattle.chi_tracker.specs.Views.{PortView, Sweep, has, new_port, was_freed, was_promised}
 use Rattle.chi_tracker.specs.declared.released.Released.{Released}
 use Rattle.chi_tracker.specs.declared.released.Released.TheVariants.{Granted, Freed}
 use Rattle.chi_tracker.specs.Steps.{solo, port_of, no_shape}
@@ -113,10 +113,10 @@ with_sweep s p = record p { sweep = s }
 
 -- entry e left the hand: it was promised to m, or freed; no duty is left
 abbrev pub granted_to : ℕ → ℕ → PortView → PortView
-granted_to m e p = record p { hand = dropped p.hand e; duty = None; ended = promised e m }
+granted_to m e p = record p { hand = dropped p.hand e; duty = None; ended = was_promised e m }
 
 abbrev pub freed_entry : ℕ → PortView → PortView
-freed_entry e p = record p { hand = dropped p.hand e; duty = None; ended = freed e }
+freed_entry e p = record p { hand = dropped p.hand e; duty = None; ended = was_freed e }
 
 -- How the release of entry e of type t ends: granted to a requester, after a settle of its place; or
 -- freed, after a sweep of the type that has looked at every requester and has no bit left.

@@ -8,7 +8,7 @@ use Rattle.chi_tracker.specs.declared.shape.Shape.{Shape}
 use Rattle.chi_tracker.specs.declared.view.SeatView.{SeatView}
 use Rattle.chi_tracker.specs.Sums.{raised, with_bit, dropped, all_but, set_at, take_out}
 use Rattle.chi_tracker.specs.Shape.{low, IsOf, owed_in}
-use Rattle.chi_tracker.specs.Views.{Duty, End, nothing, freed, promised, Sweep, PortView, has, new_port}
+use Rattle.chi_tracker.specs.Views.{Duty, End, was_freed, was_promised, Sweep, PortView, has, new_port}
 
 -- what a step is for, where its operand can't say it: a credit type, an entry, a requester, and a place
 -- of a type as 8 * type + place
@@ -59,7 +59,7 @@ claims t e old p = record p {
 
 -- free e: e leaves the hand
 abbrev pub frees : ℕ → PortView → PortView
-frees e p = record p { hand = dropped p.hand e; ended = freed e }
+frees e p = record p { hand = dropped p.hand e; ended = was_freed e }
 
 -- the lowest clear place of eight, from a bit on
 unfoldable pub clear_from : ℕ → ℕ → ℕ → ℕ
@@ -120,7 +120,7 @@ hand_without (Some d) hand = dropped hand d.entry
 
 abbrev pub end_of : Option Duty → End → End
 end_of None ended = ended
-end_of (Some d) ended = promised d.entry d.to
+end_of (Some d) ended = was_promised d.entry d.to
 
 abbrev pub promises : PortView → PortView
 promises p = record p { hand = hand_without p.duty p.hand; duty = None; ended = end_of p.duty p.ended }

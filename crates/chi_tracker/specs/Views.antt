@@ -11,9 +11,9 @@ pub record Duty : Type 0 where
 
 -- where the last entry went that left the hand for good: freed, or promised to a requester
 pub data End : Type 0 where
-  nothing : End
-  freed : ℕ → End
-  promised : ℕ → ℕ → End
+  no_end : End
+  was_freed : ℕ → End
+  was_promised : ℕ → ℕ → End
 
 -- how many sweeps were opened, and of the present one its type, the requester looked at last and the
 -- places that are left there: bit i of `left` is place i
@@ -51,7 +51,7 @@ has e p = bit_at p.hand e
 
 -- a port that has done nothing yet
 abbrev pub new_port : Shape → ℕ → PortView
-new_port s n = record { who = n; shape = s; hand = 0; found = 0; seen = 0 ∷ 0 ∷ 0 ∷ 0 ∷ []; duty = None; noted = None; retries = []; spent = []; returned = []; scans = 0; scan_kind = 0; sees = []; ended = nothing; sweep = record { opened = 0; kind = 0; at = 0; left = 0 } }
+new_port s n = record { who = n; shape = s; hand = 0; found = 0; seen = 0 ∷ 0 ∷ 0 ∷ 0 ∷ []; duty = None; noted = None; retries = []; spent = []; returned = []; scans = 0; scan_kind = 0; sees = []; ended = no_end; sweep = record { opened = 0; kind = 0; at = 0; left = 0 } }
 
 -- the ports from n on, m of them
 abbrev pub new_ports : Shape → ℕ → ℕ → List PortView

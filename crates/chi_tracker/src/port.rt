@@ -2,6 +2,7 @@
 
 ghost use Rattle.std.specs.Prelude.{◌≡◌, None, ℕ, ◌+◌, ◌<◌, ◌≤◌, ◌-◌, IfSome, IfNone, slice_index};
 ghost use Rattle.chi_flit.specs.Credit.{credit_number};
+ghost use Rattle.std.specs.Int.{bit_at};
 ghost use Rattle.chi_tracker.specs.Sums.{set_at, dropped};
 ghost use Rattle.chi_tracker.specs.Shape.{low, size, IsOf, IsShape};
 ghost use Rattle.chi_tracker.specs.Views.{has, new_port};
@@ -111,13 +112,14 @@ impl Port {
     ///
     /// Condition: the type has entries.
     /// Source: `docs/PROTOCOL.md`, "Steps of the tracker".
-    #[tactic(auto, using(crate::proofs::BitLaws::with_here, crate::proofs::Entries::of_credit))]
+    #[tactic(auto, using(crate::proofs::BitLaws::with_here, crate::proofs::Entries::of_credit, crate::proofs::Entries::scan_found))]
     pub fn claim<A: Allocator>(&mut self, tracker: &Tracker<A>, ty: CreditType) -> Option<Entry>
         requires table { self.old.table ≡ tracker.now.table }
         requires entries { 0 < size self.old.port.shape (credit_number ty) }
         ensures table { self.new.table ≡ self.old.table }
         ensures some { IfSome result (λ e. IsOf self.old.port.shape (credit_number ty) e.0 × (has e.0 self.old.port ≡ 0) × (self.new.port ≡ into_hand e.0 (scanned (credit_number ty) (e.0 - low self.old.port.shape (credit_number ty)) self.old.port))) }
         ensures none { IfNone result (self.new.port ≡ scanned (credit_number ty) (size self.old.port.shape (credit_number ty)) self.old.port) }
+        ensures found { IfNone result ((e : ℕ) → IsOf self.old.port.shape (credit_number ty) e → bit_at self.new.port.found e ≡ 1) }
         ensures mine { IfSome result (λ e. has e.0 self.new.port ≡ 1) }
         ensures entry { IfSome result (λ e. e.0 < low self.new.port.shape 4) }
     {

@@ -1,7 +1,7 @@
-ghost use Rattle.std.specs.Prelude.{◌≡◌, ◌<◌, ◌≤◌, ◌+◌, All, IfOk, slice_index};
+ghost use Rattle.std.specs.Prelude.{◌≡◌, ℕ, ◌<◌, ◌≤◌, ◌+◌, All, IfOk, slice_index};
 ghost use Rattle.chi_flit.specs.Credit.{credit_number};
 ghost use Rattle.chi_tracker.specs.Shape.{low, size};
-ghost use Rattle.chi_tracker.specs.Views.{new_port};
+ghost use Rattle.chi_tracker.specs.Views.{has, new_port};
 ghost use Rattle.chi_tracker.specs.Calls.{shape_of};
 
 use crate::{Counts, Credits, Port, Released, Totals, Tracker};
@@ -140,6 +140,57 @@ fn a_credit_is_given_back(rt: HostRuntime) -> Result<(), Fail> {
     assert!(rt; zero.due() == [0; 4] && one.see(&tracker) == [0, 0, 1, 0]);
     assert!(rt; one.tend(&tracker, CreditType::T2).is_none() && one.seen() == [0, 0, 1, 0]);
     assert!(rt; one.give_back(&tracker, CreditType::T2) == Released::Freed);
+    Ok(())
+}
+
+/// The type of an entry, where each type has 64.
+fn type_of(entry: usize) -> CreditType {
+    match entry / 64 {
+        0 => CreditType::T0,
+        1 => CreditType::T1,
+        2 => CreditType::T2,
+        _ => CreditType::T3,
+    }
+}
+
+/// Claims all 256 entries, in rising order.
+#[tactic(auto, using(crate::proofs::Entries::credit_below))]
+fn fill(rt: &impl Abort, tracker: &Tracker<Global>, port: &mut Port)
+    requires table { port.old.table ≡ tracker.now.table }
+    requires entries { (t : ℕ) → t < 4 → 0 < size port.old.port.shape t }
+    ensures port { (port.new.table ≡ port.old.table) × (port.new.port.shape ≡ port.old.port.shape) }
+    ensures held { (k : ℕ) → k < 256 → has k port.new.port ≡ 1 }
+{
+    for entry in 0..256 {
+        let Some(claimed) = port.claim(tracker, type_of(entry)) else {
+            panic!(rt; "an entry is free");
+        };
+        assert!(rt; usize::from(claimed.0) == entry);
+    }
+}
+
+/// Frees all 256 entries.
+fn empty(tracker: &Tracker<Global>, port: &mut Port)
+    requires table { port.old.table ≡ tracker.now.table }
+    requires held { (k : ℕ) → k < 256 → has k port.old.port ≡ 1 }
+    ensures { (port.new.table ≡ port.old.table) × (port.new.port.shape ≡ port.old.port.shape) }
+{
+    for entry in 0..256usize {
+        port.free(tracker, Entry(entry as u8));
+    }
+}
+
+#[test]
+fn one_port_fills_and_empties_a_tracker(rt: HostRuntime) -> Result<(), Fail> {
+    let Ok((tracker, mut zero, one)) = two_ports(rt.alloc(), [64; 4]) else {
+        panic!(rt; "no memory");
+    };
+    fill(&rt, &tracker, &mut zero);
+    let full = tracker.glance();
+    assert!(rt; full.free == [0; 4] && full.hand == [64; 4]);
+    assert!(rt; zero.claim(&tracker, CreditType::T3).is_none());
+    empty(&tracker, &mut zero);
+    assert!(rt; close_two(tracker, zero, one).counts.free == [64; 4]);
     Ok(())
 }
 
