@@ -1,5 +1,5 @@
 mod Adding
-mod BitLaws
+pub mod BitLaws
 mod Entries
 mod Moving
 mod Written
