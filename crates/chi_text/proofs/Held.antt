@@ -1,5 +1,5 @@
 -- The entries of slots stay in the hands of their agents' ports, each of one slot.
-use Rattle.std.proofs.Common.{◌≡◌, ◌≢◌, ℕ, ◌+◌, ◌<◌, ◌≤◌, List, [], ◌∷◌, Bool, true, false, ◌&&◌, nat_lt, Option, Some, None, if◌then◌else◌, refl, sym, ◌∙◌, ap, subst, get_or, length, arith, ◌⊎◌, inl, inr, ⊎_elim, get_or-set_same, get_or-set_other}
+use Rattle.std.proofs.Common.{◌≡◌, ◌≢◌, ℕ, ◌<◌, ◌≤◌, List, [], Bool, true, false, Option, Some, None, if◌then◌else◌, refl, sym, ◌∙◌, ap, subst, get_or, length, arith, ◌⊎◌, inl, inr, ⊎_elim, get_or-set_same, get_or-set_other}
 use Rattle.std.proofs.lemmas.Bool.{cases_eq, cases_lt}
 use Rattle.std.proofs.lemmas.List.{get_or_past}
 use Rattle.std.proofs.lemmas.Nat.Bits.{bit_at-zero}
@@ -7,7 +7,6 @@ use Rattle.std.proofs.Math.ListN.{set, length-set}
 use Rattle.chi_flit.specs.declared.numbers.Entry.{Entry}
 use Rattle.chi_flit.specs.declared.credit.CreditType.{CreditType}
 use Rattle.chi_tracker.specs.declared.shape.Shape.{Shape}
-use Rattle.chi_tracker.specs.Sums.{dropped, with_bit}
 use Rattle.chi_tracker.specs.Views.{PortView, has}
 use Rattle.chi_tracker.specs.Steps.{frees}
 use Rattle.chi_tracker.specs.Calls.{shape_of}
@@ -16,9 +15,8 @@ use Rattle.chi_tracker.proofs.BitLaws.{dropped_else, with_else, with_here}
 use Rattle.chi_text.specs.Ports.{Claims}
 use Rattle.chi_slice.specs.Config.{Sizes, are_in_limits}
 use Rattle.chi_slice.specs.Slice.{SliceState}
-use Rattle.chi_text.specs.Turns.{Machine}
 use Rattle.chi_text.specs.Slots.{entries_after, entry_of, is_slot_of, ports_after, with_entry}
-use Rattle.chi_text.specs.Session.{SessionState, IsHeld}
+use Rattle.chi_text.specs.Session.{IsHeld}
 
 -- what stands in a list where one place was written
 written_or_old : {A : Type 0} (l : List A) (i j : ℕ) (a d : A) → ((j ≡ i) × (i < length l) × (get_or (set l i a) j d ≡ a)) ⊎ (get_or (set l i a) j d ≡ get_or l j d)
@@ -99,8 +97,8 @@ pub has_port : (ports : List PortView) (n entry : ℕ) → has entry (port_at po
 has_port ports n entry h = ⊎_elim
     (λ low. low)
     (λ past.
-      let none : has entry (port_at ports n) ≡ 0 = ap (has entry) (get_or_past ports n _ past) ∙ bit_at-zero entry in
-      absurd (omega (arith, h, none)))
+    let none : has entry (port_at ports n) ≡ 0 = ap (has entry) (get_or_past ports n _ past) ∙ bit_at-zero entry in
+    absurd (omega (arith, h, none)))
     (cases_lt n (length ports))
 
 -- one port changed, the others as before
@@ -174,30 +172,30 @@ pub kept_claimed : (slice slice' : SliceState) (entries : List (List (Option Ent
     → IsPortChange ports ports' n → Claims (port_at ports n) ty (Some entry) (port_at ports' n)
     → IsHeld (record { machine = record { slice = slice'; entries = with_entry entries n slot (Some entry) }; ports = ports' })
 kept_claimed slice slice' entries ports ports' n ty slot entry sizes k change claim = resized slice slice' (with_entry entries n slot (Some entry)) ports' sizes (record {
-      held = λ n' slot' found h. ⊎_elim
-          (λ w.
-            let same : entry ≡ found = some_same entry found (Some entry) refl (sym w.is ∙ h) in
-            ap (λ i. has found.0 (port_at ports' i)) w.same_agent ∙ (ap (λ (e : Entry). has e.0 (port_at ports' n)) (sym same) ∙ mine))
-          (λ old.
-            let was = k.held n' slot' found (sym old ∙ h) in
-            for_each ports ports' n n' (λ p. has found.0 p ≡ 1) change was (λ e.
-            let here : has found.0 (port_at ports n) ≡ 1 = ap (λ i. has found.0 (port_at ports i)) (sym e) ∙ was in
-            ap (has found.0) claim.2 ∙ (with_else (port_at ports n).hand entry.0 found.0 (claim_apart found.0 here) ∙ here)))
-          (after_write entries n slot n' slot' (Some entry));
-      apart = λ n' slot' other found same h g e. ⊎_elim
-          (λ w. ⊎_elim
-            (λ v. w.same_slot ∙ sym v.same_slot)
-            (λ old. absurd (claim_apart same.0 (at_n n' same.0 w.same_agent (k.held n' other same (sym old ∙ g))) (sym e ∙ sym (entry_is found (sym w.is ∙ h)))))
-            (after_write entries n slot n' other (Some entry)))
-          (λ old. ⊎_elim
-            (λ v. absurd (claim_apart found.0 (at_n n' found.0 v.same_agent (k.held n' slot' found (sym old ∙ h))) (e ∙ sym (entry_is same (sym v.is ∙ g)))))
-            (λ older. k.apart n' slot' other found same (sym old ∙ h) (sym older ∙ g) e)
-            (after_write entries n slot n' other (Some entry)))
-          (after_write entries n slot n' slot' (Some entry));
-      all = as_many ports ports' n change ∙ k.all;
-      shapes = all_shapes ports ports' n _ change (ap (λ (p : PortView). p.shape) claim.2) k.shapes;
-      limits = k.limits;
-    })
+  held = λ n' slot' found h. ⊎_elim
+      (λ w.
+      let same : entry ≡ found = some_same entry found (Some entry) refl (sym w.is ∙ h) in
+      ap (λ i. has found.0 (port_at ports' i)) w.same_agent ∙ (ap (λ (e : Entry). has e.0 (port_at ports' n)) (sym same) ∙ mine))
+      (λ old.
+      let was = k.held n' slot' found (sym old ∙ h) in
+      for_each ports ports' n n' (λ p. has found.0 p ≡ 1) change was (λ e.
+      let here : has found.0 (port_at ports n) ≡ 1 = ap (λ i. has found.0 (port_at ports i)) (sym e) ∙ was in
+      ap (has found.0) claim.2 ∙ (with_else (port_at ports n).hand entry.0 found.0 (claim_apart found.0 here) ∙ here)))
+      (after_write entries n slot n' slot' (Some entry));
+  apart = λ n' slot' other found same h g e. ⊎_elim
+      (λ w. ⊎_elim
+      (λ v. w.same_slot ∙ sym v.same_slot)
+      (λ old. absurd (claim_apart same.0 (at_n n' same.0 w.same_agent (k.held n' other same (sym old ∙ g))) (sym e ∙ sym (entry_is found (sym w.is ∙ h)))))
+      (after_write entries n slot n' other (Some entry)))
+      (λ old. ⊎_elim
+      (λ v. absurd (claim_apart found.0 (at_n n' found.0 v.same_agent (k.held n' slot' found (sym old ∙ h))) (e ∙ sym (entry_is same (sym v.is ∙ g)))))
+      (λ older. k.apart n' slot' other found same (sym old ∙ h) (sym older ∙ g) e)
+      (after_write entries n slot n' other (Some entry)))
+      (after_write entries n slot n' slot' (Some entry));
+  all = as_many ports ports' n change ∙ k.all;
+  shapes = all_shapes ports ports' n _ change (ap (λ (p : PortView). p.shape) claim.2) k.shapes;
+  limits = k.limits;
+})
   where
     mine : has entry.0 (port_at ports' n) ≡ 1
     mine = ap (has entry.0) claim.2 ∙ with_here (port_at ports n).hand entry.0
@@ -216,11 +214,11 @@ pub kept_unclaimed : (slice : SliceState) (entries : List (List (Option Entry)))
     → IsPortChange ports ports' n → Claims (port_at ports n) ty None (port_at ports' n)
     → IsHeld (record { machine = record { slice = slice; entries = entries }; ports = ports' })
 kept_unclaimed slice entries ports ports' n ty k change claim = record {
-      held = λ n' slot' found h.
-          let was = k.held n' slot' found h in
-          for_each ports ports' n n' (λ p. has found.0 p ≡ 1) change was (λ e. ap (has found.0) claim.0 ∙ (ap (λ i. has found.0 (port_at ports i)) (sym e) ∙ was));
-      apart = k.apart;
-      all = as_many ports ports' n change ∙ k.all;
-      shapes = all_shapes ports ports' n _ change (ap (λ (p : PortView). p.shape) claim.0) k.shapes;
-      limits = k.limits;
-    }
+  held = λ n' slot' found h.
+      let was = k.held n' slot' found h in
+      for_each ports ports' n n' (λ p. has found.0 p ≡ 1) change was (λ e. ap (has found.0) claim.0 ∙ (ap (λ i. has found.0 (port_at ports i)) (sym e) ∙ was));
+  apart = k.apart;
+  all = as_many ports ports' n change ∙ k.all;
+  shapes = all_shapes ports ports' n _ change (ap (λ (p : PortView). p.shape) claim.0) k.shapes;
+  limits = k.limits;
+}

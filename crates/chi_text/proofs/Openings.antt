@@ -1,11 +1,10 @@
 -- A new node: its sizes fit the slice and the tracker, no slot has an entry, and each requester has a port.
-use Rattle.std.proofs.Common.{◌≡◌, ℕ, zero, suc, ◌+◌, ◌<◌, ◌≤◌, List, [], ◌∷◌, Bool, true, false, ◌&&◌, ◌==◌, nat_le, nat_lt, Option, Some, None, if◌then◌else◌, refl, sym, ◌∙◌, ap, subst, get_or, length, replicate, arith, ◌⊎◌, inl, inr, ⊎_elim}
+use Rattle.std.proofs.Common.{◌≡◌, ℕ, zero, suc, ◌+◌, ◌<◌, ◌≤◌, List, [], ◌∷◌, Bool, true, false, ◌&&◌, ◌==◌, nat_le, nat_lt, Option, Some, None, if◌then◌else◌, refl, sym, ◌∙◌, ap, subst, get_or, length, replicate, arith, ⊎_elim}
 use Rattle.std.proofs.lemmas.Bool.{cases_lt}
 use Rattle.std.proofs.lemmas.List.{get_or-replicate, get_or_past}
 use Rattle.chi_flit.specs.declared.numbers.Agent.{Agent}
 use Rattle.chi_flit.specs.declared.numbers.Entry.{Entry}
 use Rattle.chi_flit.specs.declared.numbers.Line.{Line}
-use Rattle.chi_flit.specs.declared.refusal.Refusal.{Refusal}
 use Rattle.chi_flit.specs.declared.refusal.Refusal.TheVariants.{OutOfRange}
 use Rattle.chi_flit.specs.declared.credit.Profile.{Profile}
 use Rattle.chi_flit.specs.declared.credit.Profile.TheVariants.{Two, Four}
@@ -17,12 +16,12 @@ use Rattle.chi_flit.specs.declared.action.Action.TheVariants.{Admit}
 use Rattle.chi_flit.specs.Credit.{credit_number, credit_type_of}
 use Rattle.chi_tracker.specs.declared.shape.Shape.{Shape}
 use Rattle.chi_tracker.specs.Shape.{low, size}
-use Rattle.chi_tracker.specs.Views.{new_port, new_ports}
+use Rattle.chi_tracker.specs.Views.{new_ports}
 use Rattle.chi_tracker.specs.Calls.{shape_of}
 use Rattle.chi_tracker.specs.Laws.{port_at}
 use Rattle.chi_slice.specs.Config.{Sizes, are_entries, are_in_limits, is_between, is_slice_count}
 use Rattle.chi_slice.specs.Step.{line_refusal}
-use Rattle.chi_slice.specs.Slice.{SliceState, is_in_range, is_line_in_range, is_slot_used, line, refused}
+use Rattle.chi_slice.specs.Slice.{SliceState, is_in_range, is_slot_used, line, refused}
 use Rattle.chi_slice.proofs.Rows.{InLimits, both, in_limits, at_most}
 use Rattle.chi_text.specs.Slots.{entry_of, is_slot_of, no_entries}
 use Rattle.chi_text.specs.Texts.{opening_ports}

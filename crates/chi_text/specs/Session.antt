@@ -1,6 +1,6 @@
 -- A node that commands are played on: the state of the table of the commands, and the views of the
 -- requesters' ports to the tracker.
-use Rattle.std.specs.Prelude.{◌≡◌, ℕ, ◌<◌, List, Option, Some, None, length, true}
+use Rattle.std.specs.Prelude.{◌≡◌, ℕ, ◌<◌, List, Some, length, true}
 use Rattle.chi_flit.specs.declared.numbers.Entry.{Entry}
 use Rattle.chi_slice.specs.Config.{are_in_limits}
 use Rattle.chi_tracker.specs.Views.{PortView, has}

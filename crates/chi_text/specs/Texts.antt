@@ -1,6 +1,6 @@
 -- The text of a list of commands, under the tracker's answers, and which answers are allowed
 -- (docs/PROTOCOL.md, "Replay files").
-use Rattle.std.specs.Prelude.{◌≡◌, ℕ, List, [], ◌∷◌, ◌++◌, Option, Some, None, slice_get, slice_set}
+use Rattle.std.specs.Prelude.{◌≡◌, ℕ, List, [], ◌∷◌, ◌++◌, Some, slice_get, slice_set}
 use Rattle.chi_script.specs.declared.commands.Command.{Command}
 use Rattle.chi_slice.specs.Config.{Sizes}
 use Rattle.chi_tracker.specs.Views.{PortView, has, new_ports}

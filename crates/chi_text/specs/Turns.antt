@@ -1,7 +1,6 @@
 -- What each command of a replay file asks of the tracker, answers and leaves: the table of the commands
 -- (docs/PROTOCOL.md, "Replay files").
-use Rattle.std.specs.Prelude.{◌≡◌, ℕ, List, [], ◌∷◌, Bool, true, false, Option, Some, None, slice_set, replicate, nat_lt, ◌&&◌, if◌then◌else◌}
-use Rattle.std.specs.List.{slice_index_or}
+use Rattle.std.specs.Prelude.{ℕ, List, Option, Some, None}
 use Rattle.chi_flit.specs.declared.numbers.Agent.{Agent}
 use Rattle.chi_flit.specs.declared.numbers.Entry.{Entry}
 use Rattle.chi_flit.specs.declared.numbers.Line.{Line}

@@ -59,12 +59,7 @@ impl Entries {
 }
 
 /// Frees the entry of an agent's slot, if it has one.
-pub fn release<A: Allocator>(
-    ports: &mut Ports<A>,
-    entries: &mut Entries,
-    agent: Agent,
-    slot: Slot,
-)
+pub fn release<A: Allocator>(ports: &mut Ports<A>, entries: &mut Entries, agent: Agent, slot: Slot)
     requires port { (entry : Entry) → entry_of entries.old agent.0 slot.0 ≡ Some entry → agent.0 < length ports.old }
     requires entry { (entry : Entry) → entry_of entries.old agent.0 slot.0 ≡ Some entry → has entry.0 (port_at ports.old agent.0) ≡ 1 }
     ensures entries { entries.new ≡ entries_after (entry_of entries.old agent.0 slot.0) entries.old agent.0 slot.0 }

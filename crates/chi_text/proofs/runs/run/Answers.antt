@@ -1,5 +1,5 @@
 -- Each command's line leads on, and the last one leads to the whole text.
-use Rattle.std.proofs.Common.{◌≡◌, ℕ, ◌+◌, ◌∷◌, drop, get_or, string_bytes, subst, add-one, drop-cons}
+use Rattle.std.proofs.Common.{◌≡◌, ◌+◌, ◌∷◌, drop, get_or, string_bytes, subst, add-one, drop-cons}
 use Rattle.std.proofs.Math.ListN.{drop_of_length-le}
 use Rattle.chi_script.specs.declared.commands.Command.TheVariants.{Totals}
 use Rattle.chi_text.proofs.Leads.{LeadsOn, leads_further, leads_to}

@@ -1,8 +1,5 @@
 -- The claim is that of the agent's port, and the other ports stay.
-use Rattle.std.proofs.Common.{rules, ◌≡◌, ℕ, ◌<◌, List, length, get_or, ap, sym, ◌∙◌, arith}
-use Rattle.chi_tracker.specs.Calls.{Owner, no_owner}
-use Rattle.chi_tracker.specs.Shape.{size}
-use Rattle.chi_flit.specs.Credit.{credit_number}
+use Rattle.chi_tracker.specs.Calls.{no_owner}
 use Rattle.chi_text.proofs.PortLists.{claims_after, length_views, others_after, own_after, view_at, written_back}
 use Rattle.chi_text.proofs.ports.Ports.claim.Goals as goal
 

@@ -1,6 +1,5 @@
 -- The agent's port frees the entry, and the other ports stay.
-use Rattle.std.proofs.Common.{rules, ◌≡◌, ℕ, ◌<◌, List, length, get_or, ap, sym, ◌∙◌, arith}
-use Rattle.chi_tracker.specs.Calls.{Owner, no_owner}
+use Rattle.chi_tracker.specs.Calls.{no_owner}
 use Rattle.chi_text.proofs.PortLists.{frees_after, length_views, own_after, view_at, written_back}
 use Rattle.chi_text.proofs.ports.Ports.free.Goals as goal
 

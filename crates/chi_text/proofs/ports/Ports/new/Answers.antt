@@ -1,5 +1,5 @@
 -- The ports are new, and of the tracker.
-use Rattle.std.proofs.Common.{rules, ◌≡◌, ap, ◌∙◌}
+use Rattle.std.proofs.Common.{ap, ◌∙◌}
 use Rattle.chi_tracker.specs.Views.{new_ports}
 use Rattle.chi_tracker.specs.Calls.{shape_of}
 use Rattle.chi_tracker.specs.Totals.{views_of}

@@ -1,5 +1,5 @@
 -- A request that is complete gives its slot's entry back.
-use Rattle.std.proofs.Common.{◌≡◌, ap, sym, ◌∙◌}
+use Rattle.std.proofs.Common.{ap, sym, ◌∙◌}
 use Rattle.chi_flit.specs.Action.{agent_of}
 use Rattle.chi_slice.specs.Slice.{SliceState}
 use Rattle.chi_text.specs.Turns.{Machine}

@@ -1,5 +1,5 @@
 -- An arrival asks for an entry, and is admitted with the one that it is given.
-use Rattle.std.proofs.Common.{◌≡◌, None, Some, sym, subst, ap, ◌∙◌, ◌<◌, length}
+use Rattle.std.proofs.Common.{◌≡◌, None, Some, sym, subst, ap, ◌∙◌}
 use Rattle.chi_flit.specs.declared.credit.CreditType.{CreditType}
 use Rattle.chi_flit.specs.declared.credit.Profile.{Profile}
 use Rattle.chi_flit.specs.Credit.{credit_type_of}
@@ -24,6 +24,13 @@ claim-requires-clause-entries g c =
     let s : SessionState = record { machine = record { slice = c.self.inside.slice; entries = c.self.inside.entries }; ports = c.self.inside.ports } in
     let low = port_of_agent s c.args.agent c.args.line c.self.invariant (sym (rw (← c.self.view_is) at c.in-Ok.ensures.refusal)) in
     rw (c.credit_type-ty.ensures, c.profile.ensures, c.config.ensures) (entries_for s c.args.agent.0 c.in-Ok.request.kind c.self.invariant low)
+
+pub invariant_of-self : goal.invariant_of-self
+invariant_of-self g c =
+    let s : SessionState = record { machine = record { slice = c.self.inside.slice; entries = c.self.inside.entries }; ports = c.self.inside.ports } in
+    let low = port_of_agent s c.args.agent c.args.line c.self.invariant (sym (rw (← c.self.view_is) at c.in-Ok.ensures.refusal)) in
+    let change : IsPortChange c.self.inside.ports c.claim.new.self c.args.agent.0 = record { low = low; others = c.in_default.ensures.others } in
+    kept_unclaimed c.self.inside.slice c.self.inside.entries c.self.inside.ports c.claim.new.self c.args.agent.0 c.credit_type-ty.result c.self.invariant change c.in_default.ensures.claim
 
 pub returns-in_default : goal.returns-in_default
 returns-in_default g c =

@@ -1,5 +1,4 @@
 -- A node of these sizes has a first slice, few enough entries and requesters, and no slot has an entry.
-use Rattle.std.proofs.Common.{◌≡◌, sym, subst, ap, ◌∙◌}
 use Rattle.chi_slice.specs.Slice.{opening_slice}
 use Rattle.chi_text.proofs.Openings.{few_agents, few_entries, opening_held}
 use Rattle.chi_text.proofs.session.Session.new.Goals as goal

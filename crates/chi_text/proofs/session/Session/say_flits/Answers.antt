@@ -1,5 +1,5 @@
 -- Where the agent and the line are in range, the line has what is in flight.
-use Rattle.std.proofs.Common.{◌≡◌, [], ◌∷◌, ◌++◌, ap, sym, ◌∙◌, string_bytes}
+use Rattle.std.proofs.Common.{[], ◌∷◌, ◌++◌, ap, sym, ◌∙◌, string_bytes}
 use Rattle.chi_wires.specs.declared.cells.Cells.{Cells}
 use Rattle.chi_slice.specs.LineState.{cells_of}
 use Rattle.chi_slice.specs.Slice.{flits_refusal, line}

@@ -1,5 +1,5 @@
 -- Where the line is in range, the answer has all its parts.
-use Rattle.std.proofs.Common.{◌≡◌, ℕ, [], ◌∷◌, ◌++◌, ap, sym, ◌∙◌, string_bytes}
+use Rattle.std.proofs.Common.{◌≡◌, [], ◌∷◌, ◌++◌, ap, sym, ◌∙◌, string_bytes}
 use Rattle.chi_flit.specs.Message.{no_words}
 use Rattle.chi_slice.specs.declared.view.LineView.{LineView}
 use Rattle.chi_slice.specs.Config.{Sizes}

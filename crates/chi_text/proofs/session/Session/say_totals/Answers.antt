@@ -1,5 +1,5 @@
 -- The tracker is glanced at, and the line has what it showed.
-use Rattle.std.proofs.Common.{◌≡◌, ℕ, [], ◌∷◌, ◌++◌, ap, subst, ◌∙◌, string_bytes}
+use Rattle.std.proofs.Common.{◌≡◌, [], ◌∷◌, ◌++◌, ap, subst, ◌∙◌, string_bytes}
 use Rattle.chi_flit.specs.declared.credit.Profile.{Profile}
 use Rattle.chi_slice.specs.Config.{Sizes}
 use Rattle.chi_reply.specs.Replies.{totals_text}
