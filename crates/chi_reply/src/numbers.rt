@@ -8,7 +8,7 @@ use std::fmt;
 
 /// Numbers of entries or credits, a space before each.
 #[derive(Drop)]
-pub(crate) struct Counts<'a>(pub &'a [u16]);
+pub(crate) struct Counts<'a>(pub &'a [u32]);
 
 /// Words of a line, a space before each.
 #[derive(Drop)]

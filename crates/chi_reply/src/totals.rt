@@ -13,10 +13,10 @@ use std::fmt;
 /// Source: `docs/PROTOCOL.md`, "Replay files".
 #[derive(Clone, Copy, Debug, PartialEq, Eq)]
 pub struct Totals {
-    pub free: [u16; 4],
-    pub hand: [u16; 4],
-    pub promised: [u16; 4],
-    pub owed: [u16; 4],
+    pub free: [u32; 4],
+    pub hand: [u32; 4],
+    pub promised: [u32; 4],
+    pub owed: [u32; 4],
     pub profile: Profile,
 }
 

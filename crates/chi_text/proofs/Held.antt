@@ -1,18 +1,22 @@
--- The entries of slots stay held by their agents, each by one slot.
-use Rattle.std.proofs.Common.{◌≡◌, ◌≢◌, ℕ, ◌+◌, ◌<◌, ◌≤◌, List, [], ◌∷◌, Bool, true, false, ◌&&◌, nat_lt, Option, Some, None, if◌then◌else◌, refl, sym, ◌∙◌, ap, subst, get_or, length, arith, ◌⊎◌, inl, inr, ⊎_elim, get_or-set_same, get_or-set_other}
+-- The entries of slots stay in the hands of their agents' ports, each of one slot.
+use Rattle.std.proofs.Common.{◌≡◌, ◌≢◌, ℕ, ◌<◌, ◌≤◌, List, [], Bool, true, false, Option, Some, None, if◌then◌else◌, refl, sym, ◌∙◌, ap, subst, get_or, length, arith, ◌⊎◌, inl, inr, ⊎_elim, get_or-set_same, get_or-set_other}
 use Rattle.std.proofs.lemmas.Bool.{cases_eq, cases_lt}
 use Rattle.std.proofs.lemmas.List.{get_or_past}
+use Rattle.std.proofs.lemmas.Nat.Bits.{bit_at-zero}
 use Rattle.std.proofs.Math.ListN.{set, length-set}
-use Rattle.chi_flit.specs.declared.numbers.Agent.{Agent}
 use Rattle.chi_flit.specs.declared.numbers.Entry.{Entry}
 use Rattle.chi_flit.specs.declared.credit.CreditType.{CreditType}
-use Rattle.chi_flit.specs.declared.credit.CreditType.TheVariants.{T0, T1, T2, T3}
-use Rattle.chi_tracker.specs.Board.{Board, IsBoard, IsLowestFree, IsOf, claimed, first_of, freed, holder_of, size_of, total_of}
+use Rattle.chi_tracker.specs.declared.shape.Shape.{Shape}
+use Rattle.chi_tracker.specs.Views.{PortView, has}
+use Rattle.chi_tracker.specs.Steps.{frees}
+use Rattle.chi_tracker.specs.Calls.{shape_of}
+use Rattle.chi_tracker.specs.Laws.{port_at}
+use Rattle.chi_tracker.proofs.BitLaws.{dropped_else, with_else, with_here}
+use Rattle.chi_text.specs.Ports.{Claims}
+use Rattle.chi_slice.specs.Config.{Sizes, are_in_limits}
 use Rattle.chi_slice.specs.Slice.{SliceState}
-use Rattle.chi_text.specs.Turns.{Machine}
-use Rattle.chi_text.specs.Slots.{entry_of, is_slot_of, with_entry}
-use Rattle.chi_text.specs.Session.{SessionState, IsHeld}
-use Rattle.chi_text.specs.Slots.{board_after, entries_after}
+use Rattle.chi_text.specs.Slots.{entries_after, entry_of, is_slot_of, ports_after, with_entry}
+use Rattle.chi_text.specs.Session.{IsHeld}
 
 -- what stands in a list where one place was written
 written_or_old : {A : Type 0} (l : List A) (i j : ℕ) (a d : A) → ((j ≡ i) × (i < length l) × (get_or (set l i a) j d ≡ a)) ⊎ (get_or (set l i a) j d ≡ get_or l j d)
@@ -88,65 +92,133 @@ found_other entries n slot n' slot' entry found h g = ⊎_elim
     })
     (after_write entries n slot n' slot' None)
 
-agent_same : (n m : ℕ) (o : Option Agent) → o ≡ Some (record { 0 = n }) → o ≡ Some (record { 0 = m }) → n ≡ m
-agent_same n m o h g = let e : record { 0 = n } ≡ record { 0 = m } = some_same (record { 0 = n }) (record { 0 = m }) o h g in ap (λ (a : Agent). a.0) e
+-- an agent that has an entry in hand has a port
+pub has_port : (ports : List PortView) (n entry : ℕ) → has entry (port_at ports n) ≡ 1 → n < length ports
+has_port ports n entry h = ⊎_elim
+    (λ low. low)
+    (λ past.
+    let none : has entry (port_at ports n) ≡ 0 = ap (has entry) (get_or_past ports n _ past) ∙ bit_at-zero entry in
+    absurd (omega (arith, h, none)))
+    (cases_lt n (length ports))
+
+-- one port changed, the others as before
+pub record IsPortChange (ports ports' : List PortView) (n : ℕ) : Type 0 where
+  pub low : n < length ports
+  pub others : ports' ≡ set ports n (port_at ports' n)
+
+other_port : (ports ports' : List PortView) (n k : ℕ) → IsPortChange ports ports' n → k ≢ n → port_at ports' k ≡ port_at ports k
+other_port ports ports' n k change apart = ap (λ (ps : List PortView). port_at ps k) change.others ∙ get_or-set_other ports n k (port_at ports' n) _ apart
+
+as_many : (ports ports' : List PortView) (n : ℕ) → IsPortChange ports ports' n → length ports' ≡ length ports
+as_many ports ports' n change = ap length change.others ∙ length-set ports n (port_at ports' n)
+
+-- what is so of each port, before and after
+for_each : (ports ports' : List PortView) (n k : ℕ) (P : PortView → Type 0) → IsPortChange ports ports' n → P (port_at ports k) → (k ≡ n → P (port_at ports' n)) → P (port_at ports' k)
+for_each ports ports' n k P change was here = ⊎_elim
+    (λ (e : k ≡ n). subst (λ i. P (port_at ports' i)) (sym e) (here e))
+    (λ apart. subst P (sym (other_port ports ports' n k change apart)) was)
+    (cases_eq k n)
+
+-- all ports have the shape still
+all_shapes : (ports ports' : List PortView) (n : ℕ) (shape : Shape) → IsPortChange ports ports' n → (port_at ports' n).shape ≡ (port_at ports n).shape → ((k : ℕ) → k < length ports → (port_at ports k).shape ≡ shape)
+    → (k : ℕ) → k < length ports' → (port_at ports' k).shape ≡ shape
+all_shapes ports ports' n shape change same was k low = for_each ports ports' n k (λ p. p.shape ≡ shape) change (was k (subst (λ m. k < m) (as_many ports ports' n change) low)) (λ e. same ∙ was n change.low)
+
+-- the port that frees an entry
+freed_change : (ports : List PortView) (n entry : ℕ) → n < length ports → (port_at (set ports n (frees entry (port_at ports n))) n ≡ frees entry (port_at ports n)) × IsPortChange ports (set ports n (frees entry (port_at ports n))) n
+freed_change ports n entry low =
+    let here : port_at (set ports n (frees entry (port_at ports n))) n ≡ frees entry (port_at ports n) = get_or-set_same ports n (frees entry (port_at ports n)) _ low in
+    (here, record { low = low; others = ap (λ (p : PortView). set ports n p) (sym here) })
+
+-- a step of the slice keeps its sizes
+resized : (slice slice' : SliceState) (entries : List (List (Option Entry))) (ports : List PortView) → slice'.config ≡ slice.config → IsHeld (record { machine = record { slice = slice; entries = entries }; ports = ports })
+    → IsHeld (record { machine = record { slice = slice'; entries = entries }; ports = ports })
+resized slice slice' entries ports sizes k = record {
+  held = k.held;
+  apart = k.apart;
+  all = k.all ∙ ap (λ (s : Sizes). s.agents) (sym sizes);
+  shapes = λ n low. k.shapes n low ∙ ap (λ (s : Sizes). shape_of s.entries s.agents) (sym sizes);
+  limits = ap are_in_limits sizes ∙ k.limits;
+}
 
 -- the release of a slot's entry
-pub kept_released : (slice slice' : SliceState) (entries : List (List (Option Entry))) (board : Board) (n slot : ℕ) → IsHeld (record { machine = record { slice = slice; entries = entries }; board = board })
-    → IsHeld (record { machine = record { slice = slice'; entries = entries_after (entry_of entries n slot) entries n slot }; board = board_after (entry_of entries n slot) board })
-kept_released slice slice' entries board n slot k = go (entry_of entries n slot) refl
+pub kept_released : (slice slice' : SliceState) (entries : List (List (Option Entry))) (ports : List PortView) (n slot : ℕ) → slice'.config ≡ slice.config → IsHeld (record { machine = record { slice = slice; entries = entries }; ports = ports })
+    → IsHeld (record { machine = record { slice = slice'; entries = entries_after (entry_of entries n slot) entries n slot }; ports = ports_after (entry_of entries n slot) ports n })
+kept_released slice slice' entries ports n slot sizes k = resized slice slice' (entries_after (entry_of entries n slot) entries n slot) (ports_after (entry_of entries n slot) ports n) sizes (go (entry_of entries n slot) refl)
   where
-    go : (o : Option Entry) → entry_of entries n slot ≡ o → IsHeld (record { machine = record { slice = slice'; entries = entries_after o entries n slot }; board = board_after o board })
-    go None is = record { held = k.held; apart = k.apart; board = k.board }
-    go (Some entry) is = record {
-      held = λ n' slot' found h.
-          let other = found_other entries n slot n' slot' entry found is h in
-          let was = k.held n' slot' found other.was in
-          let elsewhere : found.0 ≢ entry.0 = λ e.
-          let agents : n' ≡ n = agent_same n' n (holder_of board entry.0) (ap (λ i. holder_of board i) (sym e) ∙ was) (k.held n slot entry is) in
-          other.apart agents (k.apart n slot' slot found entry (ap (λ a. entry_of entries a slot') (sym agents) ∙ other.was) is e) in
-          get_or-set_other board.holders entry.0 found.0 None None elsewhere ∙ was;
-      apart = λ n' slot' other found same h g e.
-          let one = found_other entries n slot n' slot' entry found is h in
-          let two = found_other entries n slot n' other entry same is g in
-          k.apart n' slot' other found same one.was two.was e;
-      board = record { places = length-set board.holders entry.0 None ∙ k.board.places; most = k.board.most };
-    }
-
--- an entry that a claim gives is no slot's
-claim_apart : (board : Board) (ty : CreditType) (entry found n : ℕ) → IsLowestFree board ty entry → holder_of board found ≡ Some (record { 0 = n }) → found ≢ entry
-claim_apart board ty entry found n lowest held = λ e. some_apart (record { 0 = n }) (sym lowest.free ∙ (ap (λ i. holder_of board i) (sym e) ∙ held))
-
--- and stands in the board
-in_board : (board : Board) (ty : CreditType) (entry : ℕ) → IsBoard board → IsLowestFree board ty entry → entry < length board.holders
-in_board board T0 entry k lowest = let a = lowest.of_type in omega (arith, a.1, k.places)
-in_board board T1 entry k lowest = let a = lowest.of_type in omega (arith, a.1, k.places)
-in_board board T2 entry k lowest = let a = lowest.of_type in omega (arith, a.1, k.places)
-in_board board T3 entry k lowest = let a = lowest.of_type in omega (arith, a.1, k.places)
+    go : (o : Option Entry) → entry_of entries n slot ≡ o → IsHeld (record { machine = record { slice = slice; entries = entries_after o entries n slot }; ports = ports_after o ports n })
+    go None is = record { held = k.held; apart = k.apart; all = k.all; shapes = k.shapes; limits = k.limits }
+    go (Some entry) is =
+        let freed = freed_change ports n entry.0 (has_port ports n entry.0 (k.held n slot entry is)) in
+        let after : List PortView = set ports n (frees entry.0 (port_at ports n)) in
+        record {
+          held = λ n' slot' found h.
+              let other = found_other entries n slot n' slot' entry found is h in
+              let was = k.held n' slot' found other.was in
+              for_each ports after n n' (λ p. has found.0 p ≡ 1) freed.1 was (λ e.
+              let elsewhere : found.0 ≢ entry.0 = λ same. other.apart e (k.apart n slot' slot found entry (ap (λ a. entry_of entries a slot') (sym e) ∙ other.was) is same) in
+              ap (has found.0) freed.0 ∙ (dropped_else (port_at ports n).hand entry.0 found.0 elsewhere ∙ (ap (λ i. has found.0 (port_at ports i)) (sym e) ∙ was)));
+          apart = λ n' slot' other found same h g e.
+              let one = found_other entries n slot n' slot' entry found is h in
+              let two = found_other entries n slot n' other entry same is g in
+              k.apart n' slot' other found same one.was two.was e;
+          all = as_many ports after n freed.1 ∙ k.all;
+          shapes = all_shapes ports after n _ freed.1 (ap (λ (p : PortView). p.shape) freed.0) k.shapes;
+          limits = k.limits;
+        }
 
 -- the claim of an entry for a slot
-pub kept_claimed : (slice slice' : SliceState) (entries : List (List (Option Entry))) (board : Board) (agent : Agent) (ty : CreditType) (slot : ℕ) (entry : Entry) → IsHeld (record { machine = record { slice = slice; entries = entries }; board = board })
-    → IsLowestFree board ty entry.0
-    → IsHeld (record { machine = record { slice = slice'; entries = with_entry entries agent.0 slot (Some entry) }; board = claimed board agent entry.0 })
-kept_claimed slice slice' entries board agent ty slot entry k lowest = record {
+pub kept_claimed : (slice slice' : SliceState) (entries : List (List (Option Entry))) (ports ports' : List PortView) (n : ℕ) (ty : CreditType) (slot : ℕ) (entry : Entry) → slice'.config ≡ slice.config → IsHeld (record { machine = record { slice = slice; entries = entries }; ports = ports })
+    → IsPortChange ports ports' n → Claims (port_at ports n) ty (Some entry) (port_at ports' n)
+    → IsHeld (record { machine = record { slice = slice'; entries = with_entry entries n slot (Some entry) }; ports = ports' })
+kept_claimed slice slice' entries ports ports' n ty slot entry sizes k change claim = resized slice slice' (with_entry entries n slot (Some entry)) ports' sizes (record {
   held = λ n' slot' found h. ⊎_elim
       (λ w.
       let same : entry ≡ found = some_same entry found (Some entry) refl (sym w.is ∙ h) in
-      let low : entry.0 < length board.holders = in_board board ty entry.0 k.board lowest in
-      ap (λ (e : Entry). get_or (set board.holders entry.0 (Some agent)) e.0 None) (sym same) ∙ (get_or-set_same board.holders entry.0 (Some agent) None low ∙ ap (λ (m : ℕ). Some (record { 0 = m })) (sym w.same_agent)))
+      ap (λ i. has found.0 (port_at ports' i)) w.same_agent ∙ (ap (λ (e : Entry). has e.0 (port_at ports' n)) (sym same) ∙ mine))
       (λ old.
       let was = k.held n' slot' found (sym old ∙ h) in
-      get_or-set_other board.holders entry.0 found.0 (Some agent) None (claim_apart board ty entry.0 found.0 n' lowest was) ∙ was)
-      (after_write entries agent.0 slot n' slot' (Some entry));
+      for_each ports ports' n n' (λ p. has found.0 p ≡ 1) change was (λ e.
+      let here : has found.0 (port_at ports n) ≡ 1 = ap (λ i. has found.0 (port_at ports i)) (sym e) ∙ was in
+      ap (has found.0) claim.2 ∙ (with_else (port_at ports n).hand entry.0 found.0 (claim_apart found.0 here) ∙ here)))
+      (after_write entries n slot n' slot' (Some entry));
   apart = λ n' slot' other found same h g e. ⊎_elim
       (λ w. ⊎_elim
       (λ v. w.same_slot ∙ sym v.same_slot)
-      (λ old. absurd (claim_apart board ty entry.0 same.0 n' lowest (k.held n' other same (sym old ∙ g)) (sym e ∙ ap (λ (x : Entry). x.0) (some_same found entry (Some entry) (sym w.is ∙ h) refl))))
-      (after_write entries agent.0 slot n' other (Some entry)))
+      (λ old. absurd (claim_apart same.0 (at_n n' same.0 w.same_agent (k.held n' other same (sym old ∙ g))) (sym e ∙ sym (entry_is found (sym w.is ∙ h)))))
+      (after_write entries n slot n' other (Some entry)))
       (λ old. ⊎_elim
-      (λ v. absurd (claim_apart board ty entry.0 found.0 n' lowest (k.held n' slot' found (sym old ∙ h)) (e ∙ ap (λ (x : Entry). x.0) (some_same same entry (Some entry) (sym v.is ∙ g) refl))))
+      (λ v. absurd (claim_apart found.0 (at_n n' found.0 v.same_agent (k.held n' slot' found (sym old ∙ h))) (e ∙ sym (entry_is same (sym v.is ∙ g)))))
       (λ older. k.apart n' slot' other found same (sym old ∙ h) (sym older ∙ g) e)
-      (after_write entries agent.0 slot n' other (Some entry)))
-      (after_write entries agent.0 slot n' slot' (Some entry));
-  board = record { places = length-set board.holders entry.0 (Some agent) ∙ k.board.places; most = k.board.most };
+      (after_write entries n slot n' other (Some entry)))
+      (after_write entries n slot n' slot' (Some entry));
+  all = as_many ports ports' n change ∙ k.all;
+  shapes = all_shapes ports ports' n _ change (ap (λ (p : PortView). p.shape) claim.2) k.shapes;
+  limits = k.limits;
+})
+  where
+    mine : has entry.0 (port_at ports' n) ≡ 1
+    mine = ap (has entry.0) claim.2 ∙ with_here (port_at ports n).hand entry.0
+
+    claim_apart : (found : ℕ) → has found (port_at ports n) ≡ 1 → found ≢ entry.0
+    claim_apart found here e = let free : has found (port_at ports n) ≡ 0 = ap (λ i. has i (port_at ports n)) e ∙ claim.1 in omega (arith, here, free)
+
+    at_n : (m found : ℕ) → m ≡ n → has found (port_at ports m) ≡ 1 → has found (port_at ports n) ≡ 1
+    at_n m found e h = ap (λ i. has found (port_at ports i)) (sym e) ∙ h
+
+    entry_is : (found : Entry) → Some entry ≡ Some found → entry.0 ≡ found.0
+    entry_is found h = ap (λ (x : Entry). x.0) (some_same entry found (Some entry) refl h)
+
+-- a claim that finds no entry
+pub kept_unclaimed : (slice : SliceState) (entries : List (List (Option Entry))) (ports ports' : List PortView) (n : ℕ) (ty : CreditType) → IsHeld (record { machine = record { slice = slice; entries = entries }; ports = ports })
+    → IsPortChange ports ports' n → Claims (port_at ports n) ty None (port_at ports' n)
+    → IsHeld (record { machine = record { slice = slice; entries = entries }; ports = ports' })
+kept_unclaimed slice entries ports ports' n ty k change claim = record {
+  held = λ n' slot' found h.
+      let was = k.held n' slot' found h in
+      for_each ports ports' n n' (λ p. has found.0 p ≡ 1) change was (λ e. ap (has found.0) claim.0 ∙ (ap (λ i. has found.0 (port_at ports i)) (sym e) ∙ was));
+  apart = k.apart;
+  all = as_many ports ports' n change ∙ k.all;
+  shapes = all_shapes ports ports' n _ change (ap (λ (p : PortView). p.shape) claim.0) k.shapes;
+  limits = k.limits;
 }

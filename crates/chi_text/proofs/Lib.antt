@@ -1,3 +1,4 @@
+pub mod PortLists
 pub mod Held
 pub mod Turned
 pub mod Openings

@@ -1,16 +1,31 @@
--- A new node: its sizes fit the slice and the tracker, and no slot has an entry.
-use Rattle.std.proofs.Common.{◌≡◌, ℕ, ◌+◌, ◌<◌, ◌≤◌, List, [], ◌∷◌, Bool, true, false, ◌&&◌, ◌==◌, nat_le, nat_lt, Option, Some, None, if◌then◌else◌, refl, sym, ◌∙◌, ap, subst, get_or, length, replicate, arith, ◌⊎◌, ⊎_elim}
+-- A new node: its sizes fit the slice and the tracker, no slot has an entry, and each requester has a port.
+use Rattle.std.proofs.Common.{◌≡◌, ℕ, zero, suc, ◌+◌, ◌<◌, ◌≤◌, List, [], ◌∷◌, Bool, true, false, ◌&&◌, ◌==◌, nat_le, nat_lt, Option, Some, None, if◌then◌else◌, refl, sym, ◌∙◌, ap, subst, get_or, length, replicate, arith, ⊎_elim}
 use Rattle.std.proofs.lemmas.Bool.{cases_lt}
-use Rattle.std.proofs.lemmas.List.{get_or-replicate, get_or_past, length-replicate}
+use Rattle.std.proofs.lemmas.List.{get_or-replicate, get_or_past}
+use Rattle.chi_flit.specs.declared.numbers.Agent.{Agent}
 use Rattle.chi_flit.specs.declared.numbers.Entry.{Entry}
+use Rattle.chi_flit.specs.declared.numbers.Line.{Line}
+use Rattle.chi_flit.specs.declared.refusal.Refusal.TheVariants.{OutOfRange}
 use Rattle.chi_flit.specs.declared.credit.Profile.{Profile}
 use Rattle.chi_flit.specs.declared.credit.Profile.TheVariants.{Two, Four}
-use Rattle.chi_tracker.specs.Board.{IsBoard, all_free, total_of}
+use Rattle.chi_flit.specs.declared.kind.Kind.{Kind}
+use Rattle.chi_flit.specs.declared.kind.Kind.TheVariants.{ReadNotSharedDirty, ReadShared, ReadUnique, CleanUnique, Evict, WriteBackFull, WriteCleanFull, WriteEvictFull}
+use Rattle.chi_flit.specs.declared.credit.CreditType.{CreditType}
+use Rattle.chi_flit.specs.declared.credit.CreditType.TheVariants.{T0, T1, T2, T3}
+use Rattle.chi_flit.specs.declared.action.Action.TheVariants.{Admit}
+use Rattle.chi_flit.specs.Credit.{credit_number, credit_type_of}
+use Rattle.chi_tracker.specs.declared.shape.Shape.{Shape}
+use Rattle.chi_tracker.specs.Shape.{low, size}
+use Rattle.chi_tracker.specs.Views.{new_ports}
+use Rattle.chi_tracker.specs.Calls.{shape_of}
+use Rattle.chi_tracker.specs.Laws.{port_at}
 use Rattle.chi_slice.specs.Config.{Sizes, are_entries, are_in_limits, is_between, is_slice_count}
-use Rattle.chi_slice.specs.Slice.{SliceState}
+use Rattle.chi_slice.specs.Step.{line_refusal}
+use Rattle.chi_slice.specs.Slice.{SliceState, is_in_range, is_slot_used, line, refused}
 use Rattle.chi_slice.proofs.Rows.{InLimits, both, in_limits, at_most}
 use Rattle.chi_text.specs.Slots.{entry_of, is_slot_of, no_entries}
-use Rattle.chi_text.specs.Session.{IsHeld}
+use Rattle.chi_text.specs.Texts.{opening_ports}
+use Rattle.chi_text.specs.Session.{SessionState, IsHeld}
 
 -- a node has a first slice
 pub has_slice : (config : Sizes) → are_in_limits config ≡ true → 0 < config.slices
@@ -19,37 +34,82 @@ has_slice config h = let l : InLimits config = in_limits config h in omega (arit
 entries_in : (config : Sizes) → are_in_limits config ≡ true → are_entries config.profile config.entries ≡ true
 entries_in config h = (both (is_between 1 65536 config.journal) (are_entries config.profile config.entries) (both (nat_le config.slices config.lines) _ (both (is_slice_count config.slices) _ (both (is_between 1 64 config.lines) _ (both (is_between 1 8 config.agents) _ h).1).1).1).1).1
 
-few_two : (t0 t1 t2 t3 : ℕ) → t0 + t1 ≤ 64 → (t2 == 0) ≡ true → (t3 == 0) ≡ true → total_of (t0 ∷ t1 ∷ t2 ∷ t3 ∷ []) ≤ 256
-few_two t0 t1 t2 t3 h g k = let a : t2 ≡ 0 = grind (arith, g) in let b : t3 ≡ 0 = grind (arith, k) in omega (arith, h, a, b)
+-- what the limits say of the entries: types of the profile have some, and there are few enough
+pub record AreSome (profile : Profile) (entries : List ℕ) : Type 0 where
+  pub few : (agents : ℕ) → low (shape_of entries agents) 4 ≤ 256
+  pub some : (agents : ℕ) (kind : Kind) → 0 < size (shape_of entries agents) (credit_number (credit_type_of profile kind))
 
-few_four : (t0 t1 t2 t3 : ℕ) → t0 + (t1 + (t2 + t3)) ≤ 256 → total_of (t0 ∷ t1 ∷ t2 ∷ t3 ∷ []) ≤ 256
-few_four t0 t1 t2 t3 h = omega (arith, h)
+few_two : (t0 t1 t2 t3 agents : ℕ) → t0 + t1 ≤ 64 → (t2 == 0) ≡ true → (t3 == 0) ≡ true → low (shape_of (t0 ∷ t1 ∷ t2 ∷ t3 ∷ []) agents) 4 ≤ 256
+few_two t0 t1 t2 t3 agents h g k = let a : t2 ≡ 0 = grind (arith, g) in let b : t3 ≡ 0 = grind (arith, k) in omega (arith, h, a, b)
 
-few : (profile : Profile) (entries : List ℕ) → are_entries profile entries ≡ true → total_of entries ≤ 256
-few Two [] h = absurd (cc (h))
-few Two (t0 ∷ []) h = absurd (cc (h))
-few Two (t0 ∷ (t1 ∷ [])) h = absurd (cc (h))
-few Two (t0 ∷ (t1 ∷ (t2 ∷ []))) h = absurd (cc (h))
-few Two (t0 ∷ (t1 ∷ (t2 ∷ (t3 ∷ (t4 ∷ more))))) h = absurd (cc (h))
-few Four [] h = absurd (cc (h))
-few Four (t0 ∷ []) h = absurd (cc (h))
-few Four (t0 ∷ (t1 ∷ [])) h = absurd (cc (h))
-few Four (t0 ∷ (t1 ∷ (t2 ∷ []))) h = absurd (cc (h))
-few Four (t0 ∷ (t1 ∷ (t2 ∷ (t3 ∷ (t4 ∷ more))))) h = absurd (cc (h))
-few Two (t0 ∷ t1 ∷ t2 ∷ t3 ∷ []) h =
-    let a = both (nat_le 1 t1) _ (both (nat_le 1 t0) _ h).1 in
+few_four : (t0 t1 t2 t3 agents : ℕ) → t0 + (t1 + (t2 + t3)) ≤ 256 → low (shape_of (t0 ∷ t1 ∷ t2 ∷ t3 ∷ []) agents) 4 ≤ 256
+few_four t0 t1 t2 t3 agents h = omega (arith, h)
+
+some_two : (t0 t1 t2 t3 agents : ℕ) (kind : Kind) → 0 < t0 → 0 < t1 → 0 < size (shape_of (t0 ∷ t1 ∷ t2 ∷ t3 ∷ []) agents) (credit_number (credit_type_of Two kind))
+some_two t0 t1 t2 t3 agents ReadNotSharedDirty h g = h
+some_two t0 t1 t2 t3 agents ReadShared h g = h
+some_two t0 t1 t2 t3 agents ReadUnique h g = h
+some_two t0 t1 t2 t3 agents CleanUnique h g = h
+some_two t0 t1 t2 t3 agents Evict h g = h
+some_two t0 t1 t2 t3 agents WriteBackFull h g = g
+some_two t0 t1 t2 t3 agents WriteCleanFull h g = g
+some_two t0 t1 t2 t3 agents WriteEvictFull h g = g
+
+some_four : (t0 t1 t2 t3 agents : ℕ) (ty : CreditType) → 0 < t0 → 0 < t1 → 0 < t2 → 0 < t3 → 0 < size (shape_of (t0 ∷ t1 ∷ t2 ∷ t3 ∷ []) agents) (credit_number ty)
+some_four t0 t1 t2 t3 agents T0 a b c d = a
+some_four t0 t1 t2 t3 agents T1 a b c d = b
+some_four t0 t1 t2 t3 agents T2 a b c d = c
+some_four t0 t1 t2 t3 agents T3 a b c d = d
+
+are_some : (profile : Profile) (entries : List ℕ) → are_entries profile entries ≡ true → AreSome profile entries
+are_some Two [] h = absurd (cc (h))
+are_some Two (t0 ∷ []) h = absurd (cc (h))
+are_some Two (t0 ∷ (t1 ∷ [])) h = absurd (cc (h))
+are_some Two (t0 ∷ (t1 ∷ (t2 ∷ []))) h = absurd (cc (h))
+are_some Two (t0 ∷ (t1 ∷ (t2 ∷ (t3 ∷ (t4 ∷ more))))) h = absurd (cc (h))
+are_some Four [] h = absurd (cc (h))
+are_some Four (t0 ∷ []) h = absurd (cc (h))
+are_some Four (t0 ∷ (t1 ∷ [])) h = absurd (cc (h))
+are_some Four (t0 ∷ (t1 ∷ (t2 ∷ []))) h = absurd (cc (h))
+are_some Four (t0 ∷ (t1 ∷ (t2 ∷ (t3 ∷ (t4 ∷ more))))) h = absurd (cc (h))
+are_some Two (t0 ∷ t1 ∷ t2 ∷ t3 ∷ []) h =
+    let z = both (nat_le 1 t0) _ h in
+    let a = both (nat_le 1 t1) _ z.1 in
     let b = both (nat_le (t0 + t1) 64) (t2 == 0 && t3 == 0) a.1 in
     let c = both (t2 == 0) (t3 == 0) b.1 in
-    few_two t0 t1 t2 t3 (at_most (t0 + t1) 64 b.0) c.0 c.1
-few Four (t0 ∷ t1 ∷ t2 ∷ t3 ∷ []) h =
-    let a = both (nat_le 1 t1) _ (both (nat_le 1 t0) _ h).1 in
+    record {
+      few = λ agents. few_two t0 t1 t2 t3 agents (at_most (t0 + t1) 64 b.0) c.0 c.1;
+      some = λ agents kind. some_two t0 t1 t2 t3 agents kind (at_most 1 t0 z.0) (at_most 1 t1 a.0);
+    }
+are_some Four (t0 ∷ t1 ∷ t2 ∷ t3 ∷ []) h =
+    let z = both (nat_le 1 t0) _ h in
+    let a = both (nat_le 1 t1) _ z.1 in
     let b = both (nat_le 1 t2) _ a.1 in
     let c = both (nat_le 1 t3) (nat_le (t0 + (t1 + (t2 + t3))) 256) b.1 in
-    few_four t0 t1 t2 t3 (at_most (t0 + (t1 + (t2 + t3))) 256 c.1)
+    record {
+      few = λ agents. few_four t0 t1 t2 t3 agents (at_most (t0 + (t1 + (t2 + t3))) 256 c.1);
+      some = λ agents kind. some_four t0 t1 t2 t3 agents (credit_type_of Four kind) (at_most 1 t0 z.0) (at_most 1 t1 a.0) (at_most 1 t2 b.0) (at_most 1 t3 c.0);
+    }
 
 -- at most 256 entries
-pub few_entries : (config : Sizes) → are_in_limits config ≡ true → total_of config.entries ≤ 256
-few_entries config h = few config.profile config.entries (entries_in config h)
+pub few_entries : (config : Sizes) → are_in_limits config ≡ true → low (shape_of config.entries config.agents) 4 ≤ 256
+few_entries config h = let s : AreSome config.profile config.entries = are_some config.profile config.entries (entries_in config h) in s.few config.agents
+
+-- 1 to 8 requesters
+pub few_agents : (config : Sizes) → are_in_limits config ≡ true → (0 < config.agents) × (config.agents ≤ 8)
+few_agents config h = let l : InLimits config = in_limits config h in (omega (arith, l.some_agent), l.agents)
+
+-- each request's type has entries
+pub has_entries : (config : Sizes) (kind : Kind) → are_in_limits config ≡ true → 0 < size (shape_of config.entries config.agents) (credit_number (credit_type_of config.profile kind))
+has_entries config kind h = let s : AreSome config.profile config.entries = are_some config.profile config.entries (entries_in config h) in s.some config.agents kind
+
+-- an agent whose request may be admitted is one of the node
+pub in_node : (s : SliceState) (agent : Agent) (l : Line) → refused s (Admit agent l) ≡ None → agent.0 < s.config.agents
+in_node s agent l h = go (is_in_range s (Admit agent l)) refl h
+  where
+    go : (b : Bool) → is_in_range s (Admit agent l) ≡ b → (if b then line_refusal (is_slot_used s (Admit agent l)) (line s l.0) (Admit agent l) else Some OutOfRange) ≡ None → agent.0 < s.config.agents
+    go true is g = let low = (both (nat_lt agent.0 s.config.agents) _ is).0 in grind (arith, low)
+    go false is g = absurd (cc (g))
 
 abbrev no_row : List (Option Entry)
 no_row = replicate 8 None
@@ -73,10 +133,29 @@ no_entry n slot = go (is_slot_of n slot)
 some_not_none : (entry : Entry) (o : Option Entry) → o ≡ None → o ≡ Some entry → ⊥
 some_not_none entry o h g = cc (h, g)
 
--- no slot has an entry
-pub opening_held : (slice : SliceState) (entries : List ℕ) → total_of entries ≤ 256 → IsHeld (record { machine = record { slice = slice; entries = no_entries }; board = all_free entries })
-opening_held slice entries most = record {
+-- new ports
+as_many : (shape : Shape) (n m : ℕ) → length (new_ports shape n m) ≡ m
+as_many shape n zero = refl
+as_many shape n (suc m) = ap suc (as_many shape (n + 1) m)
+
+of_shape : (shape : Shape) (n m i : ℕ) → i < m → (port_at (new_ports shape n m) i).shape ≡ shape
+of_shape shape n zero i low = absurd (omega (arith, low))
+of_shape shape n (suc m) zero low = refl
+of_shape shape n (suc m) (suc i) low = of_shape shape (n + 1) m i (omega (arith, low))
+
+-- no slot has an entry, and each requester has a port
+pub opening_held : (slice : SliceState) → are_in_limits slice.config ≡ true → IsHeld (record { machine = record { slice = slice; entries = no_entries }; ports = opening_ports slice.config })
+opening_held slice limits = record {
   held = λ n slot entry h. absurd (some_not_none entry (entry_of no_entries n slot) (no_entry n slot) h);
   apart = λ n slot other entry same h g e. absurd (some_not_none entry (entry_of no_entries n slot) (no_entry n slot) h);
-  board = record { places = length-replicate (total_of entries) None; most = most };
+  all = as_many (shape_of slice.config.entries slice.config.agents) 0 slice.config.agents;
+  shapes = λ n low. of_shape (shape_of slice.config.entries slice.config.agents) 0 slice.config.agents n (subst (λ m. n < m) (as_many (shape_of slice.config.entries slice.config.agents) 0 slice.config.agents) low);
+  limits = limits;
 }
+
+-- an agent whose request may be admitted has a port, to a tracker with entries of the request's type
+pub port_of_agent : (s : SessionState) (agent : Agent) (l : Line) → IsHeld s → refused s.machine.slice (Admit agent l) ≡ None → agent.0 < length s.ports
+port_of_agent s agent l k allowed = subst (λ m. agent.0 < m) (sym k.all) (in_node s.machine.slice agent l allowed)
+
+pub entries_for : (s : SessionState) (n : ℕ) (kind : Kind) → IsHeld s → n < length s.ports → 0 < size (port_at s.ports n).shape (credit_number (credit_type_of s.machine.slice.config.profile kind))
+entries_for s n kind k low = rw (k.shapes n low) (has_entries s.machine.slice.config kind k.limits)

@@ -1,4 +1,5 @@
 pub mod Slots
+pub mod Ports
 pub mod Turns
 pub mod Texts
 pub mod Session

@@ -1,17 +1,23 @@
--- A node that commands are played on: the state of the table of the commands, and the tracker.
-use Rattle.std.specs.Prelude.{◌≡◌, ℕ, List, Option, Some, None}
-use Rattle.chi_flit.specs.declared.numbers.Agent.{Agent}
+-- A node that commands are played on: the state of the table of the commands, and the views of the
+-- requesters' ports to the tracker.
+use Rattle.std.specs.Prelude.{◌≡◌, ℕ, ◌<◌, List, Some, length, true}
 use Rattle.chi_flit.specs.declared.numbers.Entry.{Entry}
-use Rattle.chi_tracker.specs.Board.{Board, IsBoard, holder_of}
+use Rattle.chi_slice.specs.Config.{are_in_limits}
+use Rattle.chi_tracker.specs.Views.{PortView, has}
+use Rattle.chi_tracker.specs.Calls.{shape_of}
+use Rattle.chi_tracker.specs.Laws.{port_at}
 use Rattle.chi_text.specs.Turns.{Machine}
 use Rattle.chi_text.specs.Slots.{entry_of}
 
 pub record SessionState : Type 0 where
   pub machine : Machine
-  pub board : Board
+  pub ports : List PortView
 
--- the entries of slots are held by the slots' agents, and different slots have different entries
+-- The entries of an agent's slots are in the hand of its port, and different slots have different
+-- entries; each requester of the node, whose sizes are in their limits, has a port to the node's entries.
 pub record IsHeld (s : SessionState) : Type 0 where
-  pub held : (n slot : ℕ) (entry : Entry) → entry_of s.machine.entries n slot ≡ Some entry → holder_of s.board entry.0 ≡ Some (record { 0 = n })
+  pub held : (n slot : ℕ) (entry : Entry) → entry_of s.machine.entries n slot ≡ Some entry → has entry.0 (port_at s.ports n) ≡ 1
   pub apart : (n slot other : ℕ) (entry same : Entry) → entry_of s.machine.entries n slot ≡ Some entry → entry_of s.machine.entries n other ≡ Some same → entry.0 ≡ same.0 → slot ≡ other
-  pub board : IsBoard s.board
+  pub all : length s.ports ≡ s.machine.slice.config.agents
+  pub shapes : (n : ℕ) → n < length s.ports → (port_at s.ports n).shape ≡ shape_of s.machine.slice.config.entries s.machine.slice.config.agents
+  pub limits : are_in_limits s.machine.slice.config ≡ true

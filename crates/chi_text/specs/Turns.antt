@@ -1,7 +1,6 @@
 -- What each command of a replay file asks of the tracker, answers and leaves: the table of the commands
 -- (docs/PROTOCOL.md, "Replay files").
-use Rattle.std.specs.Prelude.{◌≡◌, ℕ, List, [], ◌∷◌, Bool, true, false, Option, Some, None, slice_set, replicate, nat_lt, ◌&&◌, if◌then◌else◌}
-use Rattle.std.specs.List.{slice_index_or}
+use Rattle.std.specs.Prelude.{ℕ, List, Option, Some, None}
 use Rattle.chi_flit.specs.declared.numbers.Agent.{Agent}
 use Rattle.chi_flit.specs.declared.numbers.Entry.{Entry}
 use Rattle.chi_flit.specs.declared.numbers.Line.{Line}
@@ -42,11 +41,12 @@ pub data Call : Type 0 where
   Free : Agent → Entry → Call
   Glance : Call
 
--- what the tracker answers: an entry or none; that it is freed; the free and the held entries by type
+-- what the tracker answers: an entry or none; that it is freed; by type the entries that are free, in
+-- hand and promised, and the credits that are owed
 pub data Answer : Type 0 where
   Claimed : Option Entry → Answer
   Freed : Answer
-  Glanced : (free held : List ℕ) → Answer
+  Glanced : (free hand promised owed : List ℕ) → Answer
 
 -- a command's turn: it ends with a line and a state, or asks, and goes on with the answer
 pub data Turn : Type 0 where
@@ -81,7 +81,7 @@ abbrev pub arrived : Machine → Agent → Line → Request → Answer → Turn
 arrived m agent l request (Claimed (Some entry)) = Ends (reply_text (replies.Admitted entry)) (record { slice = acted m.slice (Admit agent l); entries = with_entry m.entries agent.0 request.slot.0 (Some entry) })
 arrived m agent l request (Claimed None) = Ends (reply_text replies.NoEntry) m
 arrived m agent l request Freed = Ends (reply_text replies.NoEntry) m
-arrived m agent l request (Glanced free held) = Ends (reply_text replies.NoEntry) m
+arrived m agent l request (Glanced free hand promised owed) = Ends (reply_text replies.NoEntry) m
 
 -- the claim for the request that arrives
 abbrev pub arriving : Machine → Agent → Line → Option Request → Turn
@@ -92,7 +92,7 @@ arriving m agent l (Some request) = Asks (Claim agent (credit_type_of m.slice.co
 abbrev pub glanced : Machine → Answer → Turn
 glanced m (Claimed entry) = Ends (reply_text replies.NoEntry) m
 glanced m Freed = Ends (reply_text replies.NoEntry) m
-glanced m (Glanced free held) = Ends (totals_text (record { free = free; hand = held; promised = 0 ∷ 0 ∷ 0 ∷ 0 ∷ []; owed = 0 ∷ 0 ∷ 0 ∷ 0 ∷ []; profile = m.slice.config.profile })) m
+glanced m (Glanced free hand promised owed) = Ends (totals_text (record { free = free; hand = hand; promised = promised; owed = owed; profile = m.slice.config.profile })) m
 
 -- the table of the commands
 abbrev pub turn : Machine → Command → Turn

@@ -1,6 +1,7 @@
 //! Replays: the commands of a file, played one after the other, and the text of their answers.
 #![tactic(auto)]
 
+mod ports;
 mod runs;
 mod session;
 mod slots;

@@ -6,17 +6,16 @@ ghost use Rattle.chi_flit.specs.Refusal.{refusal_of};
 ghost use Rattle.chi_flit.specs.declared.action.Action.TheVariants.{Admit};
 ghost use Rattle.chi_slice.specs.LineState.{cells_of};
 ghost use Rattle.chi_slice.specs.Slice.{line as line_of_slice, refused};
-ghost use Rattle.chi_tracker.specs.Board.{all_free};
 ghost use Rattle.chi_text.specs.Turns.{Answer, act, opening, turn};
-ghost use Rattle.chi_text.specs.Texts.{Plays, Says};
+ghost use Rattle.chi_text.specs.Texts.{Plays, Says, opening_ports};
 ghost use Rattle.chi_script.specs.declared.commands.Command.TheVariants as commands;
 
+use crate::ports::Ports;
 use crate::slots::{Entries, release};
 use chi_flit::{Action, Agent, Effect, Line, NoMemory, Refusal, Request, credit_type};
 use chi_reply::{InFlight, Reply, Shown, Totals};
 use chi_script::Command;
 use chi_slice::{Config, Slice};
-use chi_tracker::Tracker;
 use std::alloc::Allocator;
 use std::marker::Model;
 
@@ -32,7 +31,7 @@ fn say<B: Allocator>(reply: Reply, text: &mut String<B>) -> Result<(), NoMemory>
 #[derive(Drop)]
 pub struct Session<A: Allocator> {
     slice: Slice<A>,
-    tracker: Tracker<A>,
+    ports: Ports<A>,
     entries: Entries,
 }
 
@@ -41,24 +40,24 @@ impl<A: Allocator> Model for Session<A> {
 
     ghost Value = { SessionState };
 
-    ghost view = { λ s. record { machine = record { slice = s.slice; entries = s.entries }; board = s.tracker } };
+    ghost view = { λ s. record { machine = record { slice = s.slice; entries = s.entries }; ports = s.ports } };
 
-    ghost invariant = { λ s. IsHeld (record { machine = record { slice = s.slice; entries = s.entries }; board = s.tracker }) };
+    ghost invariant = { λ s. IsHeld (record { machine = record { slice = s.slice; entries = s.entries }; ports = s.ports }) };
 }
 
 impl<A: Allocator + Copy> Session<A> {
-    /// A node of that size in its opening state: its first slice, with all entries free. Refused where
-    /// memory runs out.
+    /// A node of that size in its opening state: its first slice, all entries free, and a port for each
+    /// requester. Refused where memory runs out.
     pub fn new(alloc: A, config: &Config) -> Result<Session<A>, NoMemory>
         ensures machine { IfOk result (λ session. session.machine ≡ opening config.now) }
-        ensures board { IfOk result (λ session. session.board ≡ all_free config.now.entries) }
+        ensures ports { IfOk result (λ session. session.ports ≡ opening_ports config.now) }
     {
         let entries = config.entries();
         let slice = Slice::new(alloc, config, 0)?;
-        let tracker = Tracker::new(alloc, entries)?;
+        let ports = Ports::new(alloc, entries, config.agents())?;
         Ok(Session {
             slice,
-            tracker,
+            ports,
             entries: Entries::new(),
         })
     }
@@ -74,7 +73,7 @@ impl<A: Allocator> Session<A> {
         command: Command,
         text: &mut String<B>,
     ) -> Result<(), NoMemory>
-        ensures { OnOk result (Says (turn self.old.machine command) self.old.board self.new.machine self.new.board (string_bytes text.old) (string_bytes text.new)) }
+        ensures { OnOk result (Says (turn self.old.machine command) self.old.ports self.new.machine self.new.ports (string_bytes text.old) (string_bytes text.new)) }
     {
         match command {
             Command::Totals => self.say_totals(text),
@@ -91,19 +90,19 @@ impl<A: Allocator> Session<A> {
         }
     }
 
-    /// The numbers of entries.
+    /// The numbers of entries and of owed credits.
     fn say_totals<B: Allocator>(&self, text: &mut String<B>) -> Result<(), NoMemory>
-        ensures { OnOk result (Says (turn self.now.machine commands.Totals) self.now.board self.now.machine self.now.board (string_bytes text.old) (string_bytes text.new)) }
+        ensures { OnOk result (Says (turn self.now.machine commands.Totals) self.now.ports self.now.machine self.now.ports (string_bytes text.old) (string_bytes text.new)) }
     {
-        let counts = self.tracker.totals();
-        let free = counts.free;
-        let hand = counts.held;
+        let counts = self.ports.glance();
+        let (free, hand) = (counts.free, counts.hand);
+        let (promised, owed) = (counts.promised, counts.owed);
         let profile = self.slice.config().profile();
         let totals = Totals {
             free,
             hand,
-            promised: [0; 4],
-            owed: [0; 4],
+            promised,
+            owed,
             profile,
         };
         writeln!(text, "{totals}")?;
@@ -112,7 +111,7 @@ impl<A: Allocator> Session<A> {
 
     /// All parts of a line.
     fn say_line<B: Allocator>(&self, line: Line, text: &mut String<B>) -> Result<(), NoMemory>
-        ensures { OnOk result (Says (turn self.now.machine (commands.Show line)) self.now.board self.now.machine self.now.board (string_bytes text.old) (string_bytes text.new)) }
+        ensures { OnOk result (Says (turn self.now.machine (commands.Show line)) self.now.ports self.now.machine self.now.ports (string_bytes text.old) (string_bytes text.new)) }
     {
         match self.slice.view(line) {
             Ok(view) => {
@@ -135,7 +134,7 @@ impl<A: Allocator> Session<A> {
         line: Line,
         text: &mut String<B>,
     ) -> Result<(), NoMemory>
-        ensures { OnOk result (Says (turn self.now.machine (commands.Flits agent line)) self.now.board self.now.machine self.now.board (string_bytes text.old) (string_bytes text.new)) }
+        ensures { OnOk result (Says (turn self.now.machine (commands.Flits agent line)) self.now.ports self.now.machine self.now.ports (string_bytes text.old) (string_bytes text.new)) }
     {
         match self.slice.flits(agent, line) {
             Ok(cells) => {
@@ -150,13 +149,13 @@ impl<A: Allocator> Session<A> {
     /// Does an action that is no part of an arrival. Where it completes a request, the slot's entry is
     /// freed.
     fn act(&mut self, action: Action) -> Reply
-        ensures { (answers : List Answer) × Plays (act self.old.machine action) self.old.board answers (reply_text result) self.new.machine self.new.board }
+        ensures { (answers : List Answer) × Plays (act self.old.machine action) self.old.ports answers (reply_text result) self.new.machine self.new.ports }
     {
         match self.slice.act(action) {
             Ok(Effect::Nothing) => Reply::Done,
             Ok(Effect::Value(word)) => Reply::Value(word),
             Ok(Effect::Completed(slot)) => {
-                release(&mut self.tracker, &mut self.entries, action.agent(), slot);
+                release(&mut self.ports, &mut self.entries, action.agent(), slot);
                 Reply::Completed(slot)
             }
             Err(refusal) => Reply::Refused(refusal),
@@ -166,14 +165,14 @@ impl<A: Allocator> Session<A> {
     /// Lets the agent's request that is in flight in, with the entry that is claimed for it. Where no
     /// entry is free the request stays in flight.
     fn arrive(&mut self, agent: Agent, line: Line) -> Reply
-        ensures { (answers : List Answer) × Plays (turn self.old.machine (commands.Arrive agent line)) self.old.board answers (reply_text result) self.new.machine self.new.board }
+        ensures { (answers : List Answer) × Plays (turn self.old.machine (commands.Arrive agent line)) self.old.ports answers (reply_text result) self.new.machine self.new.ports }
     {
         let request = match self.request(agent, line) {
             Ok(request) => request,
             Err(refusal) => return Reply::Refused(refusal),
         };
         let ty = credit_type(self.slice.config().profile(), request.kind);
-        let Some(entry) = self.tracker.claim(agent, ty) else {
+        let Some(entry) = self.ports.claim(agent, ty) else {
             return Reply::NoEntry;
         };
         match self.slice.act(Action::Admit { agent, line }) {

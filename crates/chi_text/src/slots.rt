@@ -1,12 +1,13 @@
 //! The entries that requests hold, by agent and slot.
 
-ghost use Rattle.std.specs.Prelude.{◌≡◌, Some};
+ghost use Rattle.std.specs.Prelude.{◌≡◌, ◌<◌, Some, length};
 ghost use Rattle.chi_flit.specs.declared.numbers.Entry.{Entry};
-ghost use Rattle.chi_tracker.specs.Board.{holder_of};
-ghost use Rattle.chi_text.specs.Slots.{board_after, entries_after, entry_of, no_entries, with_entry};
+ghost use Rattle.chi_tracker.specs.Views.{has};
+ghost use Rattle.chi_tracker.specs.Laws.{port_at};
+ghost use Rattle.chi_text.specs.Slots.{entries_after, entry_of, no_entries, ports_after, with_entry};
 
+use crate::ports::Ports;
 use chi_flit::{Agent, Entry, Slot};
-use chi_tracker::Tracker;
 use std::alloc::Allocator;
 use std::marker::Model;
 
@@ -58,18 +59,14 @@ impl Entries {
 }
 
 /// Frees the entry of an agent's slot, if it has one.
-pub fn release<A: Allocator>(
-    tracker: &mut Tracker<A>,
-    entries: &mut Entries,
-    agent: Agent,
-    slot: Slot,
-)
-    requires { (entry : Entry) → entry_of entries.old agent.0 slot.0 ≡ Some entry → holder_of tracker.old entry.0 ≡ Some agent }
+pub fn release<A: Allocator>(ports: &mut Ports<A>, entries: &mut Entries, agent: Agent, slot: Slot)
+    requires port { (entry : Entry) → entry_of entries.old agent.0 slot.0 ≡ Some entry → agent.0 < length ports.old }
+    requires entry { (entry : Entry) → entry_of entries.old agent.0 slot.0 ≡ Some entry → has entry.0 (port_at ports.old agent.0) ≡ 1 }
     ensures entries { entries.new ≡ entries_after (entry_of entries.old agent.0 slot.0) entries.old agent.0 slot.0 }
-    ensures board { tracker.new ≡ board_after (entry_of entries.old agent.0 slot.0) tracker.old }
+    ensures ports { ports.new ≡ ports_after (entry_of entries.old agent.0 slot.0) ports.old agent.0 }
 {
     if let Some(entry) = entries.get(agent, slot) {
-        tracker.free(agent, entry);
+        ports.free(agent, entry);
         entries.put(agent, slot, None);
     }
 }

@@ -1,1 +1,9 @@
-pub mod Board
+pub mod Sums
+pub mod Shape
+pub mod Words
+pub mod Views
+pub mod Rule
+pub mod Steps
+pub mod Calls
+pub mod Laws
+pub mod Totals

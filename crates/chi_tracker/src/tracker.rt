@@ -1,195 +1,124 @@
-//! The entries of the home's tracker.
+//! The tracker's words, which all ports share.
 
-ghost use Rattle.std.specs.Prelude.{◌≡◌, ◌≢◌, ℕ, ◌+◌, ◌<◌, ◌≤◌, ◌∷◌, [], Some, None, length, get_or, take, drop, slice_range, is_none, is_some, IfOk, IfSome, IfNone, OnSome};
-ghost use Rattle.std.specs.List.{count_by};
-ghost use Rattle.chi_flit.specs.declared.credit.CreditType.TheVariants as types;
-ghost use Rattle.chi_tracker.specs.Board.{Board, holder_of, size_of, first_of, total_of, all_free, IsLowestFree, IsFull, claimed, freed, free_of, held_of};
+ghost use Rattle.std.specs.Prelude.{◌≡◌, ◌<◌, ◌≤◌, [], All, IfOk, length};
+ghost use Rattle.chi_tracker.specs.Shape.{low};
+ghost use Rattle.chi_tracker.specs.Views.{new_ports};
+ghost use Rattle.chi_tracker.specs.Rule.{all_new};
+ghost use Rattle.chi_tracker.specs.Calls.{owners, shape_of};
+ghost use Rattle.chi_tracker.specs.Totals.{views_of, IsClosed, IsBalanced};
 
-use chi_flit::{Agent, CreditType, Entry, NoMemory};
+use crate::closing::{Gathered, credits, gather, read};
+use crate::law::{Board, Chair, Law};
+use crate::plays::Deal;
+use crate::port::Port;
+use crate::shape::Shape;
+use crate::tally::counts;
+use crate::totals::{Counts, Totals};
+use crate::view::SeatView;
+use arrayvec::ArrayVec;
+use atomic_table::Table;
+use chi_flit::NoMemory;
 use std::alloc::Allocator;
 use std::marker::Model;
 
-/// The entries of the home's tracker, numbered by rising credit type. Each is free, or held by one
-/// agent. Contracts see it as a `Board`.
+/// The entries and the credits of a home node, in words that ports change by single atomic steps.
+/// Contracts see which words they are, the entries by type and the number of requesters.
 #[derive(Drop)]
 pub struct Tracker<A: Allocator> {
-    holders: Vec<Option<Agent>, A>,
-    sizes: [u16; 4],
+    pub(crate) table: Table<u8, SeatView, Shape, Law, A>,
+    pub(crate) shape: Shape,
 }
 
 impl<A: Allocator> Model for Tracker<A> {
-    ghost use Rattle.chi_tracker.specs.Board.{Board, IsBoard};
+    ghost use Rattle.std.specs.Prelude.{◌≡◌};
+    ghost use Rattle.chi_tracker.specs.Calls.{Home};
+    ghost use Rattle.chi_tracker.specs.Shape.{IsShape};
 
-    ghost Value = { Board };
+    ghost Value = { Home };
 
-    ghost view = { λ tracker. record { holders = tracker.holders.items; sizes = tracker.sizes } };
+    ghost view = { λ t. record { table = t.table.shared.table_id; shape = t.shape } };
 
-    ghost invariant = { λ tracker. IsBoard (record { holders = tracker.holders.items; sizes = tracker.sizes }) };
-}
-
-/// How many entries of each credit type are free, and how many are held.
-#[derive(Clone, Copy, Debug, PartialEq, Eq)]
-pub struct Counts {
-    pub free: [u16; 4],
-    pub held: [u16; 4],
+    ghost invariant = { λ t. (t.table.shared.table_id.words ≡ 44) × (t.table.shared.table_id.slots ≡ 0) × (t.table.shared.key ≡ t.shape) × IsShape t.shape };
 }
 
 impl<A: Allocator> Tracker<A> {
-    /// A tracker with so many entries of each type, at most 256 in all; a type may have none. All are
-    /// free. Refused where memory runs out.
-    pub fn new(alloc: A, entries: [u16; 4]) -> Result<Tracker<A>, NoMemory>
-        requires { total_of entries ≤ 256 }
-        ensures { IfOk result (λ tracker. tracker ≡ all_free entries) }
+    /// A tracker with so many entries of each credit type, numbered by rising type, all of them free,
+    /// and a port for each requester, in rising order. NoMemory where there is none for the words.
+    ///
+    /// Conditions: 1 to 8 requesters, and at most 256 entries; a type may have none.
+    /// Source: `docs/PROTOCOL.md`, "Words of the tracker".
+    pub fn new(
+        alloc: A,
+        entries: [u16; 4],
+        agents: u8,
+    ) -> Result<(Tracker<A>, ArrayVec<Port, 8>), NoMemory>
+        requires agents { (0 < agents) × (agents ≤ 8) }
+        requires entries { low (shape_of entries agents) 4 ≤ 256 }
+        ensures shape { IfOk result (λ made. made.0.shape ≡ shape_of entries agents) }
+        ensures ports { IfOk result (λ made. made.1.items ≡ owners made.0.table (new_ports (shape_of entries agents) 0 agents)) }
+        ensures own { IfOk result (λ made. All (λ p. (p.table ≡ made.0.table) × (p.port.shape ≡ made.0.shape)) made.1.items) }
+        ensures all { IfOk result (λ made. length made.1.items ≡ agents) }
     {
-        let total = first_entry(entries, CreditType::T3) + usize::from(entries[3]);
-        let mut holders = Vec::with_capacity(alloc, total)?;
-        for _ in 0..total {
-            holders.push(None)?;
-        }
-        Ok(Tracker {
-            holders,
-            sizes: entries,
-        })
+        let shape = Shape::of(entries, usize::from(agents));
+        let (table, chair) = Table::of_words(alloc, &[0; 44], &shape)?;
+        let tracker = Tracker { table, shape };
+        let ports = tracker.deal(chair);
+        Ok((tracker, ports))
     }
 
-    /// Gives the agent the lowest free entry of the type, and answers it; all else stays. `None`
-    /// exactly where no entry of the type is free; nothing changes then.
-    pub fn claim(&mut self, agent: Agent, ty: CreditType) -> Option<Entry>
-        ensures lowest { IfSome result (λ entry. IsLowestFree self.old ty entry.0) }
-        ensures after { IfSome result (λ entry. self.new ≡ claimed self.old agent entry.0) }
-        ensures full { IfNone result (IsFull self.old ty) }
-        ensures none { IfNone result (self.new ≡ self.old) }
+    // Gives each port of the seat, which has all, a seat of its own.
+    #[tactic(auto, using(crate::proofs::Dealing::dealt_own, crate::proofs::Dealing::dealt_all))]
+    fn deal(&self, mut chair: Chair) -> ArrayVec<Port, 8>
+        requires { (chair.table_id ≡ self.now.table) × (chair.me ≡ (all_new self.now.shape, [])) }
+        ensures ports { result.items ≡ owners self.now.table (new_ports self.now.shape 0 self.now.shape.agents) }
+        ensures own { All (λ p. (p.table ≡ self.now.table) × (p.port.shape ≡ self.now.shape)) result.items }
+        ensures all { length result.items ≡ self.now.shape.agents }
     {
-        let first = first_entry(self.sizes, ty);
-        let end = first + usize::from(self.sizes[usize::from(ty.number())]);
-        let entry = first_free(self.holders.as_slice(), first, end)?;
-        self.holders[usize::from(entry)] = Some(agent);
-        Some(Entry(entry))
+        let (board, shape) = (&self.table.shared, self.shape);
+        let mut ports = ArrayVec::new();
+        for number in 0..shape.agents {
+            let own = board.split_seat::<Deal>(&mut chair);
+            ports.push(Port::seated(own, number, shape));
+        }
+        ports
     }
 
-    /// Frees an entry, which the agent must hold; all else stays.
-    pub fn free(&mut self, agent: Agent, entry: Entry)
-        requires { holder_of self.old entry.0 ≡ Some agent }
-        ensures { self.new ≡ freed self.old entry.0 }
+    // The words as ports share them.
+    pub(crate) fn board(&self) -> &Board
+        ensures { (result.now.table_id ≡ self.now.table) × (result.now.table_id.words ≡ 44) }
     {
-        self.holders[usize::from(entry.0)] = None;
+        &self.table.shared
     }
 
-    /// How many entries of each type are free, and how many are held.
-    pub fn totals(&self) -> Counts
-        ensures free { result.free ≡ free_of self.now types.T0 ∷ free_of self.now types.T1 ∷ free_of self.now types.T2 ∷ free_of self.now types.T3 ∷ [] }
-        ensures held { result.held ≡ held_of self.now types.T0 ∷ held_of self.now types.T1 ∷ held_of self.now types.T2 ∷ held_of self.now types.T3 ∷ [] }
+    /// Ends the tracker: it joins the seats of all ports, so that all views are known, and answers what the
+    /// words hold then, by type and by requester. No duty is open, and for each requester and type what is
+    /// due is what is owed and what is promised.
+    ///
+    /// Condition: the ports are all that `new` gave, in any order.
+    pub fn close(self, ports: ArrayVec<Port, 8>) -> Totals
+        requires all { length ports.items ≡ self.shape.agents }
+        requires table { All (λ p. p.table ≡ self.table) ports.items }
+        ensures closed { IsClosed self.shape (views_of ports.items) result.counts result.requesters.items }
+        ensures balanced { IsBalanced self.shape.agents result.requesters.items }
     {
-        let t0 = self.free_of(CreditType::T0);
-        let t1 = self.free_of(CreditType::T1);
-        let t2 = self.free_of(CreditType::T2);
-        let t3 = self.free_of(CreditType::T3);
-        let [s0, s1, s2, s3] = self.sizes;
-        Counts {
-            free: [t0, t1, t2, t3],
-            held: [s0 - t0, s1 - t1, s2 - t2, s3 - t3],
+        let Tracker { table, shape } = self;
+        let Gathered { chair, dues } = gather(&table.shared, ports);
+        let closed = table.close_with(chair);
+        let words = read(&closed);
+        closed.free();
+        let counts = counts(words, shape);
+        let requesters = credits(words, shape, dues);
+        Totals { counts, requesters }
+    }
+
+    /// Loads the words one after the other and counts what they held. Beside ports that do steps it
+    /// promises only to return.
+    pub fn glance(&self) -> Counts {
+        let board = self.board();
+        let mut words = [0; 44];
+        for i in 0..44 {
+            words[i] = board.peek(i);
         }
-    }
-
-    fn free_of(&self, ty: CreditType) -> u16
-        ensures free { result ≡ free_of self.now ty }
-        ensures held { result + held_of self.now ty ≡ size_of self.now.sizes ty }
-    {
-        let first = first_entry(self.sizes, ty);
-        let end = first + usize::from(self.sizes[usize::from(ty.number())]);
-        count_free(&self.holders[first..end])
-    }
-}
-
-/// The first entry of a type: lower types come before it.
-fn first_entry(sizes: [u16; 4], ty: CreditType) -> usize
-    ensures { result ≡ first_of sizes ty }
-{
-    let t0 = usize::from(sizes[0]);
-    let t1 = usize::from(sizes[1]);
-    let t2 = usize::from(sizes[2]);
-    match ty {
-        CreditType::T0 => 0,
-        CreditType::T1 => t0,
-        CreditType::T2 => t0 + t1,
-        CreditType::T3 => t0 + t1 + t2,
-    }
-}
-
-/// The lowest free entry from `first` to before `end`.
-fn first_free(holders: &[Option<Agent>], first: usize, end: usize) -> Option<u8>
-    requires within { end ≤ length holders.now }
-    requires most { length holders.now ≤ 256 }
-    ensures some { IfSome result (λ entry. (first ≤ entry) × (entry < end) × (get_or holders.now entry None ≡ None)) }
-    ensures lowest { IfSome result (λ entry. (other : ℕ) → first ≤ other → other < entry → get_or holders.now other None ≢ None) }
-    ensures none { IfNone result ((other : ℕ) → first ≤ other → other < end → get_or holders.now other None ≢ None) }
-{
-    for entry in first..end {
-        if holders[entry].is_none() {
-            return Some(entry as u8);
-        }
-    }
-    None
-}
-
-/// How many of these entries nobody holds.
-fn count_free(holders: &[Option<Agent>]) -> u16
-    requires { length holders.now ≤ 256 }
-    ensures free { result ≡ count_by is_none holders.now }
-    ensures held { result + count_by is_some holders.now ≡ length holders.now }
-{
-    let mut free = 0;
-    for holder in holders {
-        if holder.is_none() {
-            free += 1;
-        }
-    }
-    free
-}
-
-#[cfg(test)]
-mod tests {
-    use super::*;
-    use linked_list_allocator::LocalHeap;
-
-    #[test]
-    fn gives_the_lowest_free_entry_of_a_type(rt: HostRuntime) {
-        let mut tracker = Tracker::new(rt.alloc(), [2, 0, 253, 1]).expect(
-            &rt,
-            "memory for 256 entries",
-        );
-        assert_eq!(rt; tracker.claim(Agent(0), CreditType::T0), Some(Entry(0)));
-        assert_eq!(rt; tracker.claim(Agent(7), CreditType::T0), Some(Entry(1)));
-        assert_eq!(rt; tracker.claim(Agent(1), CreditType::T0), None);
-        assert_eq!(rt; tracker.claim(Agent(1), CreditType::T1), None);
-        assert_eq!(rt; tracker.claim(Agent(1), CreditType::T2), Some(Entry(2)));
-        assert_eq!(rt; tracker.claim(Agent(1), CreditType::T3), Some(Entry(255)));
-        let full = Counts {
-            free: [0, 0, 252, 0],
-            held: [2, 0, 1, 1],
-        };
-        assert_eq!(rt; tracker.totals(), full);
-    }
-
-    #[test]
-    fn gives_a_freed_entry_again(rt: HostRuntime) {
-        let mut tracker = Tracker::new(rt.alloc(), [1, 1, 0, 0]).expect(
-            &rt,
-            "memory for two entries",
-        );
-        let first = tracker.claim(Agent(3), CreditType::T1);
-        assert_eq!(rt; first, Some(Entry(1)));
-        if first == Some(Entry(1)) {
-            tracker.free(Agent(3), Entry(1));
-        }
-        assert_eq!(rt; tracker.claim(Agent(4), CreditType::T1), Some(Entry(1)));
-    }
-
-    #[test]
-    fn answers_no_memory_where_a_growth_is_refused(rt: HostRuntime) {
-        let small = LocalHeap::new(rt.alloc(), 64).expect(&rt, "memory for a small heap");
-        assert!(rt; Tracker::new(&small, [128, 128, 0, 0]).is_err());
-        let large = LocalHeap::new(rt.alloc(), 4096).expect(&rt, "memory for a large heap");
-        assert!(rt; Tracker::new(&large, [128, 128, 0, 0]).is_ok());
+        counts(words, self.shape)
     }
 }

@@ -4,4 +4,4 @@ use Rattle.chi_text.proofs.Leads.{LeadsOn}
 use Rattle.chi_text.proofs.runs.run.Given as goal
 
 abbrev pub invariant-loop-command : goal.invariant-loop-command
-invariant-loop-command g l = LeadsOn l.config l.commands (string_bytes l.text) l.session.machine l.session.board (drop l.command-index l.commands)
+invariant-loop-command g l = LeadsOn l.config l.commands (string_bytes l.text) l.session.machine l.session.ports (drop l.command-index l.commands)

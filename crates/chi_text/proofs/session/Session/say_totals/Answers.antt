@@ -1,5 +1,5 @@
 -- The tracker is glanced at, and the line has what it showed.
-use Rattle.std.proofs.Common.{◌≡◌, ℕ, [], ◌∷◌, ◌++◌, ap, subst, ◌∙◌, string_bytes}
+use Rattle.std.proofs.Common.{◌≡◌, [], ◌∷◌, ◌++◌, ap, subst, ◌∙◌, string_bytes}
 use Rattle.chi_flit.specs.declared.credit.Profile.{Profile}
 use Rattle.chi_slice.specs.Config.{Sizes}
 use Rattle.chi_reply.specs.Replies.{totals_text}
@@ -13,7 +13,8 @@ use Rattle.chi_text.proofs.session.Session.say_totals.Goals as goal
 pub returns : goal.returns
 returns g c =
     let m : Machine = record { slice = c.self.inside.slice; entries = c.self.inside.entries } in
+    let counts = c.glance-counts.result in
     let profile : c.profile-profile.result ≡ m.slice.config.profile = c.profile-profile.ensures ∙ ap (λ (k : Sizes). k.profile) c.config.ensures in
-    subst (λ (s : SessionState). Says (turn s.machine commands.Totals) s.board s.machine s.board (string_bytes c.args.text.now) (string_bytes c.writeln.new.self)) c.self.view_is
-    (glance_says m c.self.inside.tracker c.totals-counts.result.free c.totals-counts.result.held (string_bytes c.args.text.now) _
-    (c.in_ok-writeln.ensures.bytes ∙ ap (λ (p : Profile). string_bytes c.args.text.now ++ (totals_text (record { free = c.totals-counts.result.free; hand = c.totals-counts.result.held; promised = 0 ∷ 0 ∷ 0 ∷ 0 ∷ []; owed = 0 ∷ 0 ∷ 0 ∷ 0 ∷ []; profile = p }) ++ (10 ∷ []))) profile))
+    subst (λ (s : SessionState). Says (turn s.machine commands.Totals) s.ports s.machine s.ports (string_bytes c.args.text.now) (string_bytes c.writeln.new.self)) c.self.view_is
+    (glance_says m c.self.inside.ports counts.free counts.hand counts.promised counts.owed (string_bytes c.args.text.now) _
+    (c.in_ok-writeln.ensures.bytes ∙ ap (λ (p : Profile). string_bytes c.args.text.now ++ (totals_text (record { free = counts.free; hand = counts.hand; promised = counts.promised; owed = counts.owed; profile = p }) ++ (10 ∷ []))) profile))

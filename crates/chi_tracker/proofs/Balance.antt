@@ -1,0 +1,180 @@
+-- The end of a tracker: all ports in one seat, what was due added up, and the credits of each requester.
+use Rattle.std.proofs.Common.{◌≡◌, ◌≢◌, ℕ, zero, suc, ◌+◌, ◌*◌, ◌<◌, ◌≤◌, cond, eqb, List, [], ◌∷◌, ◌++◌, All, length, slice_index, slice_index_or, Option, Some, None, option_to_list, refl, sym, ap, ◌∙◌, subst, arith, append_assoc, length-append, append-nil, eq-eqb, ne_eqb}
+use mathlib.Core.Option.{some, some-injective, some-ne-none}
+use mathlib.Core.Logic.{dite}
+use native.Mathlib.Decide.{ℕ_discrete}
+use lib.ListN.{get_elem?, get_or-append}
+use lib.Seq.{get_or-append_seam, ext_get_or}
+use Rattle.atomic_table.specs.Table.{Me, State}
+use Rattle.atomic_table.specs.Seated.{TableId}
+use Rattle.atomic_table.specs.declared.shared.Seat.{Seat}
+use Rattle.chi_tracker.specs.declared.shape.Shape.{Shape}
+use Rattle.chi_tracker.specs.declared.view.SeatView.{SeatView}
+use Rattle.chi_tracker.specs.declared.totals.Counts.{Counts}
+use Rattle.chi_tracker.specs.declared.totals.Credits.{Credits}
+use Rattle.chi_tracker.specs.Sums.{below, total}
+use Rattle.chi_tracker.specs.Shape.{low, count_of, owed_in}
+use Rattle.chi_tracker.specs.Words.{c_of, p_of, o_of}
+use Rattle.chi_tracker.specs.Views.{PortView, has}
+use Rattle.chi_tracker.specs.Rule.{weigh, of_port, duty_is, AllSound, Fits, TrackerRule}
+use Rattle.chi_tracker.specs.Steps.{solo}
+use Rattle.chi_tracker.specs.Laws.{port_at, Place, Ledger, duties}
+use Rattle.chi_tracker.specs.Calls.{Owner}
+use Rattle.chi_tracker.specs.Totals.{views_of, sum_of, AreDue, AreCredits, credits_at, no_credits, IsClosed, IsCount, IsBalanced}
+use Rattle.chi_tracker.proofs.Adding.{total-append}
+use Rattle.chi_tracker.proofs.Moving.{of_mine, of_other}
+use Rattle.chi_tracker.proofs.Opening.{regroup, seats-at}
+use Rattle.chi_tracker.proofs.Exactly.{place_of, ledger_of}
+
+-- a read by get_elem? is a read by index
+pub read_at : (xs : List ℕ) (i x : ℕ) → get_elem? xs i ≡ some x → slice_index xs i ≡ x
+read_at [] i x e = absurd (some-ne-none x (sym e))
+read_at (y ∷ ys) zero x e = some-injective y x e
+read_at (y ∷ ys) (suc i) x e = read_at ys i x e
+
+views-append : (xs ys : List Owner) → views_of (xs ++ ys) ≡ views_of xs ++ views_of ys
+views-append [] ys = refl
+views-append (x ∷ xs) ys = ap (λ vs. x.port ∷ vs) (views-append xs ys)
+
+pub views-length : (xs : List Owner) → length (views_of xs) ≡ length xs
+views-length [] = refl
+views-length (x ∷ xs) = ap suc (views-length xs)
+
+-- the ports gathered so far: with those that are left they are all; no duty; what is due is added up
+abbrev OnPorts : List Owner → List Owner → List PortView → List ℕ → Type 0
+OnPorts all left ps dues = (views_of left ++ ps ≡ views_of all) × ((n t : ℕ) → duties n t ps ≡ 0) × AreDue dues ps × ((i : ℕ) → i < 32 → slice_index dues i ≤ 8 * length ps)
+
+-- the seat that gathers the ports: those that are left, then its own
+pub record IsGathering (z : TableId) (all left : List Owner) (seat : Seat ℕ SeatView) (dues : List ℕ) : Type 0 where
+  pub table : seat.table_id ≡ z
+  pub own : All (λ o. o.table ≡ z) left
+  pub ports : views_of left ++ seat.me.0.ports ≡ views_of all
+  pub idle : (n t : ℕ) → duties n t seat.me.0.ports ≡ 0
+  pub due : AreDue dues seat.me.0.ports
+  pub small : (i : ℕ) → i < 32 → slice_index dues i ≤ 8 * length seat.me.0.ports
+
+-- of a list of eight ports at most eight are gathered
+pub gathered_few : (z : TableId) (all left : List Owner) (seat : Seat ℕ SeatView) (dues : List ℕ) → length all ≤ 8 → IsGathering z all left seat dues → (i : ℕ) → i < 32 → slice_index dues i ≤ 1000
+gathered_few z all left seat dues few g i l =
+    let a = ap length g.ports in let b = views-length all in let d = length-append (views_of left) seat.me.0.ports in omega (arith, g.small i l, a, b, d)
+
+last_own : (z : TableId) (left : List Owner) (o : Owner) → All (λ o. o.table ≡ z) (left ++ o ∷ []) → o.table ≡ z
+last_own z left o all = ap (λ (x : Owner). x.table) (sym (get_or-append_seam left o [] o)) ∙ all (length left) o (omega (arith, length-append left (o ∷ [])))
+
+rest_own : (z : TableId) (left : List Owner) (o : Owner) → All (λ o. o.table ≡ z) (left ++ o ∷ []) → All (λ o. o.table ≡ z) left
+rest_own z left o all k d l = ap (λ (x : Owner). x.table) (sym (get_or-append left (o ∷ []) d k l)) ∙ all k d (omega (arith, length-append left (o ∷ [])))
+
+pub popped_own : (z : TableId) (all left left' : List Owner) (seat : Seat ℕ SeatView) (dues : List ℕ) (o : Owner) → IsGathering z all left seat dues → left ≡ left' ++ o ∷ [] → o.table ≡ z
+popped_own z all left left' seat dues o g is = last_own z left' o (subst (All (λ o. o.table ≡ z)) is g.own)
+
+pub gathering_first : (z : TableId) (all : List Owner) (seat : Seat ℕ SeatView) (dues : List ℕ) → seat.table_id ≡ z → All (λ o. o.table ≡ z) all → seat.me ≡ (record { ports = [] }, []) → ((i : ℕ) → i < 32 → slice_index dues i ≡ 0) → IsGathering z all all seat dues
+gathering_first z all seat dues table own me zeros =
+    let h : OnPorts all all [] dues = (append-nil (views_of all), (λ n t. refl), (λ n t ln lt. omega (arith, zeros (4 * n + t) (omega arith))), (λ i l. omega (arith, zeros i l))) in
+    let k = subst (λ (ps : List PortView). OnPorts all all ps dues) (sym (ap (λ (m : Me ℕ SeatView). m.0.ports) me)) h in
+    record { table = table; own = own; ports = k.0; idle = k.1; due = k.2; small = k.3 }
+
+pub gathering_more : (z : TableId) (all left left' : List Owner) (seat seat' : Seat ℕ SeatView) (own : Me ℕ SeatView) (dues dues' : List ℕ) (o : Owner) (number : ℕ) (due : List ℕ) → IsGathering z all left seat dues → left ≡ left' ++ o ∷ []
+    → seat'.table_id ≡ seat.table_id → own ≡ solo o.port → seat'.me ≡ (record { ports = own.0.ports ++ seat.me.0.ports }, seat.me.1) → number ≡ o.port.who → o.port.duty ≡ None
+    → ((t : ℕ) → t < 4 → slice_index due t + (slice_index o.port.spent t + slice_index o.port.returned t) ≡ slice_index o.port.retries t)
+    → ((n t : ℕ) → n < 8 → t < 4 → slice_index dues' (4 * n + t) ≡ slice_index dues (4 * n + t) + cond (eqb number n) (slice_index due t) 0) → ((i : ℕ) → i < 32 → slice_index dues' i ≤ slice_index dues i + 8)
+    → IsGathering z all left' seat' dues'
+gathering_more z all left left' seat seat' own dues dues' o number due g is table own_is joined num duty due_is sum small =
+    let p : PortView = o.port in let ps : List PortView = seat.me.0.ports in
+    let now : seat'.me.0.ports ≡ p ∷ ps = ap (λ (m : Me ℕ SeatView). m.0.ports) joined ∙ ap (λ (m : Me ℕ SeatView). m.0.ports ++ ps) own_is in
+    let h : OnPorts all left' (p ∷ ps) dues' =
+      (sym (append_assoc (views_of left') (p ∷ []) ps) ∙ ap (λ vs. vs ++ ps) (sym (views-append left' (o ∷ [])) ∙ ap views_of (sym is)) ∙ g.ports,
+       (λ n t. let a : duty_is n t p.duty ≡ 0 = ap (duty_is n t) duty in let b = g.idle n t in omega arith),
+       (λ n t ln lt. dite (ℕ_discrete p.who n)
+         (λ q. let a = of_mine n (λ x. slice_index x.spent t) p q in let b = of_mine n (λ x. slice_index x.returned t) p q in let d = of_mine n (λ x. slice_index x.retries t) p q in
+           let s = sum n t ln lt in let c : cond (eqb number n) (slice_index due t) 0 ≡ slice_index due t = ap (λ z. cond z (slice_index due t) 0) (eq-eqb number n (num ∙ q)) in let h = due_is t lt in let k = g.due n t ln lt in omega arith)
+         (λ f. let a = of_other n (λ x. slice_index x.spent t) p f in let b = of_other n (λ x. slice_index x.returned t) p f in let d = of_other n (λ x. slice_index x.retries t) p f in
+           let s = sum n t ln lt in let c : cond (eqb number n) (slice_index due t) 0 ≡ 0 = ap (λ z. cond z (slice_index due t) 0) (ne_eqb number n (λ q. f (sym num ∙ q))) in let k = g.due n t ln lt in omega arith)),
+       (λ i l. let h = g.small i l in let k = small i l in omega arith)) in
+    let k = subst (λ (qs : List PortView). OnPorts all left' qs dues') (sym now) h in
+    record { table = table ∙ g.table; own = rest_own z left' o (subst (All (λ o. o.table ≡ z)) is g.own); ports = k.0; idle = k.1; due = k.2; small = k.3 }
+
+-- who has all ports has all views
+none-else : (f : PortView → ℕ) (ps : List PortView) → total (λ _. 1) ps ≡ 0 → total f ps ≡ 0
+none-else f [] e = refl
+none-else f (p ∷ ps) e = absurd (omega arith)
+
+no-more : (f : PortView → ℕ) (vs : List SeatView) → weigh (λ _. 1) vs ≡ 0 → weigh f vs ≡ 0
+no-more f [] e = refl
+no-more f (v ∷ vs) e = omega (arith, none-else f v.ports (omega arith), no-more f vs (omega arith))
+
+pub whole : (f : PortView → ℕ) (vs : List SeatView) (id : ℕ) (v : SeatView) → get_elem? vs id ≡ some v → weigh (λ _. 1) vs ≡ total (λ _. 1) v.ports → weigh f vs ≡ total f v.ports
+whole f [] id v at e = absurd (some-ne-none v (sym at))
+whole f (w ∷ vs) zero v at e =
+    let same : w ≡ v = some-injective w v at in let a : total (λ _. 1) w.ports ≡ total (λ _. 1) v.ports = ap (λ (u : SeatView). total (λ _. 1) u.ports) same in let b : total f w.ports ≡ total f v.ports = ap (λ (u : SeatView). total f u.ports) same in
+    omega (arith, no-more f vs (omega arith))
+whole f (w ∷ vs) (suc id) v at e =
+    let h = term vs id v at in omega (arith, whole f vs id v at (omega arith), none-else f w.ports (omega arith))
+  where
+    term : (vs : List SeatView) (id : ℕ) (v : SeatView) → get_elem? vs id ≡ some v → total (λ _. 1) v.ports ≤ weigh (λ _. 1) vs
+    term [] id v at = absurd (some-ne-none v (sym at))
+    term (w ∷ vs) zero v at = let a : total (λ _. 1) w.ports ≡ total (λ _. 1) v.ports = ap (λ (u : SeatView). total (λ _. 1) u.ports) (some-injective w v at) in omega arith
+    term (w ∷ vs) (suc id) v at = omega (arith, term vs id v at)
+
+ones : (ps : List PortView) → total (λ _. 1) ps ≡ length ps
+ones [] = refl
+ones (p ∷ ps) = omega (arith, ones ps)
+
+-- the credits of one requester more
+pub credits_more : (s : Shape) (ws dues : List ℕ) (m : ℕ) (all all' : List Credits) (x : Credits) → AreCredits s ws dues m all → all' ≡ all ++ x ∷ []
+    → ((t : ℕ) → t < 4 → slice_index x.due t ≡ slice_index dues (4 * m + t)) → ((t : ℕ) → t < 4 → slice_index x.owed t ≡ owed_in t (o_of ws m)) → ((t : ℕ) → t < 4 → slice_index x.promised t ≡ count_of s t (p_of ws m))
+    → AreCredits s ws dues (m + 1) all'
+credits_more s ws dues m all all' x a is due owed promised =
+    let at : (n : ℕ) → n < m → credits_at (all ++ x ∷ []) n ≡ credits_at all n = λ n l. get_or-append all (x ∷ []) no_credits n (omega (arith, a.requesters)) in
+    let last : credits_at (all ++ x ∷ []) m ≡ x = ap (credits_at (all ++ x ∷ [])) (sym a.requesters) ∙ get_or-append_seam all x [] no_credits in
+    subst (AreCredits s ws dues (m + 1)) (sym is) (record {
+      requesters = omega (arith, length-append all (x ∷ []), a.requesters);
+      owed = λ n t ln lt. dite (ℕ_discrete n m)
+        (λ q. ap (λ k. slice_index (credits_at (all ++ x ∷ []) k).owed t) q ∙ ap (λ c. slice_index c.owed t) last ∙ owed t lt ∙ ap (λ k. owed_in t (o_of ws k)) (sym q))
+        (λ d. ap (λ c. slice_index c.owed t) (at n (omega arith)) ∙ a.owed n t (omega arith) lt);
+      promised = λ n t ln lt. dite (ℕ_discrete n m)
+        (λ q. ap (λ k. slice_index (credits_at (all ++ x ∷ []) k).promised t) q ∙ ap (λ c. slice_index c.promised t) last ∙ promised t lt ∙ ap (λ k. count_of s t (p_of ws k)) (sym q))
+        (λ d. ap (λ c. slice_index c.promised t) (at n (omega arith)) ∙ a.promised n t (omega arith) lt);
+      due = λ n t ln lt. dite (ℕ_discrete n m)
+        (λ q. ap (λ k. slice_index (credits_at (all ++ x ∷ []) k).due t) q ∙ ap (λ c. slice_index c.due t) last ∙ due t lt ∙ ap (λ k. slice_index dues (4 * k + t)) (sym q))
+        (λ d. ap (λ c. slice_index c.due t) (at n (omega arith)) ∙ a.due n t (omega arith) lt) })
+
+-- what the last state has, and the numbers read from it
+pub closes : (key : Shape) (st : State ℕ SeatView) (id : ℕ) (v : SeatView) (ports : List PortView) (dues : List ℕ) (counts : Counts) (credits : List Credits) → TrackerRule key st → get_elem? st.views id ≡ some v → v.ports ≡ ports → length ports ≡ key.agents
+    → ((n t : ℕ) → duties n t ports ≡ 0) → AreDue dues ports → IsCount key st.words counts → AreCredits key st.words dues key.agents credits → IsClosed key ports counts credits
+closes key st id v ports dues counts credits rule at is many idle due counted handed =
+    let all : (f : PortView → ℕ) → weigh f st.views ≡ total f ports = λ f. whole f st.views id v at (omega (arith, rule.fits.ports, ones v.ports, ap length is)) ∙ ap (total f) is in
+    let whole_seat : Fits key (c_of st.words) (p_of st.words) (o_of st.words) (record { ports = ports } ∷ []) = regroup key (c_of st.words) (p_of st.words) (o_of st.words) st.views (record { ports = ports } ∷ [])
+          (λ f. omega (arith, all f)) (subst (AllSound key) is (seats-at key st.views id v rule.fits.sound at), tt) rule.fits in record {
+  words = st.words;
+  place = λ e l. let le : e < 256 = omega (arith, l, rule.entries) in place_of key.agents (c_of st.words) (p_of st.words) ports e (rule.fits.bits e le) (rule.fits.place e le ∙ ap (λ z. z + below (λ n. p_of st.words n e) key.agents) (all (has e)));
+  ledger = λ n t ln lt. subst (λ (ps : List PortView). Ledger key (p_of st.words) (o_of st.words) ps n t) (append-nil ports)
+    (ledger_of key (c_of st.words) (p_of st.words) (o_of st.words) (record { ports = ports } ∷ []) whole_seat n t ln lt);
+  no_duty = idle;
+  counted = counted;
+  requesters = handed.requesters;
+  owed = handed.owed;
+  promised = handed.promised;
+  due = λ n t ln lt. let h = handed.due n t ln lt in let k = due n t (omega (arith, rule.agents)) lt in omega arith }
+
+-- what is due is what is owed and what is promised
+pub balances : (s : Shape) (ports : List PortView) (counts : Counts) (credits : List Credits) → s.agents ≤ 8 → IsClosed s ports counts credits → IsBalanced s.agents credits
+balances s ports counts credits l8 closed n t ln lt =
+    let led = closed.ledger n t ln lt in let i : ℕ = led.0 in
+    let h = closed.due n t ln lt in let d = closed.no_duty n t in let o = closed.owed n t ln lt in let q = closed.promised n t ln lt in
+    let mine : (f : PortView → ℕ) → sum_of n f ports ≡ f (port_at ports i) = λ f. sum-mine n f ports i led.1 led.2 led.3 in
+    let a = mine (λ x. slice_index x.retries t) in let b = mine (λ x. slice_index x.spent t) in let e = mine (λ x. slice_index x.returned t) in let g = led.4 in omega arith
+  where
+    sum-none : (n : ℕ) (f : PortView → ℕ) (ps : List PortView) → ((j : ℕ) → j < length ps → (port_at ps j).who ≢ n) → sum_of n f ps ≡ 0
+    sum-none n f [] h = refl
+    sum-none n f (p ∷ ps) h = omega (arith, of_other n f p (h 0 (omega arith)), sum-none n f ps (λ j l. h (suc j) (omega arith)))
+
+    sum-mine : (n : ℕ) (f : PortView → ℕ) (ps : List PortView) (i : ℕ) → i < length ps → (port_at ps i).who ≡ n → ((j : ℕ) → j < length ps → j ≢ i → (port_at ps j).who ≢ n) → sum_of n f ps ≡ f (port_at ps i)
+    sum-mine n f [] i l w h = absurd (omega arith)
+    sum-mine n f (p ∷ ps) zero l w h = omega (arith, of_mine n f p w, sum-none n f ps (λ j lj. h (suc j) (omega arith) (λ q. omega arith)))
+    sum-mine n f (p ∷ ps) (suc i) l w h = omega (arith, of_other n f p (h 0 (omega arith) (λ q. omega arith)), sum-mine n f ps i (omega arith) w (λ j lj d. h (suc j) (omega arith) (λ q. d (omega arith))))
+
+-- the same, of the words that were read and the shape that is kept beside the table
+pub closes_at : (key s : Shape) (st : State ℕ SeatView) (id : ℕ) (v : SeatView) (ws : List ℕ) (ports : List PortView) (dues : List ℕ) (counts : Counts) (credits : List Credits) → key ≡ s → TrackerRule key st → get_elem? st.views id ≡ some v → st.words ≡ ws → v.ports ≡ ports → length ports ≡ s.agents
+    → ((n t : ℕ) → duties n t ports ≡ 0) → AreDue dues ports → IsCount s ws counts → AreCredits s ws dues s.agents credits → IsClosed s ports counts credits
+closes_at key s st id v ws ports dues counts credits key_is rule at words_are is many idle due counted handed =
+    closes s st id v ports dues counts credits (subst (λ k. TrackerRule k st) key_is rule) at is many idle due (subst (λ w. IsCount s w counts) (sym words_are) counted) (subst (λ w. AreCredits s w dues s.agents credits) (sym words_are) handed)

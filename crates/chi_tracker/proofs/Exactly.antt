@@ -1,0 +1,102 @@
+-- From the rule's sums to Place and Ledger in their literal words.
+use Rattle.std.proofs.Common.{◌≡◌, ◌≢◌, ◌⊎◌, inl, inr, ℕ, zero, suc, ◌+◌, ◌<◌, ◌≤◌, List, [], ◌∷◌, ◌++◌, length, slice_index, slice_index_or, refl, sym, ap, ◌∙◌, subst, arith}
+use mathlib.Core.Logic.{dite}
+use native.Mathlib.Decide.{ℕ_discrete}
+use Rattle.std.proofs.lemmas.Nat.Bits.{bit_at-zero}
+use Rattle.atomic_table.specs.Table.{State}
+use Rattle.chi_tracker.specs.declared.shape.Shape.{Shape}
+use Rattle.chi_tracker.specs.declared.view.SeatView.{SeatView}
+use Rattle.chi_tracker.specs.Sums.{below, total}
+use Rattle.chi_tracker.specs.Shape.{low, count_of, owed_in}
+use Rattle.chi_tracker.specs.Words.{c_of, p_of, o_of}
+use Rattle.chi_tracker.specs.Views.{PortView, has, new_port}
+use Rattle.chi_tracker.specs.Rule.{weigh, of_port, duty_is, Fits, TrackerRule}
+use Rattle.chi_tracker.specs.Steps.{no_shape}
+use Rattle.chi_tracker.specs.Laws.{all_ports, port_at, InNoHand, InOneHand, PromisedToNone, PromisedToOne, Place, Places, duties, Ledger, Ledgers}
+use Rattle.chi_tracker.proofs.Adding.{total-append, below_term}
+use Rattle.chi_tracker.proofs.Moving.{of_mine, of_other}
+
+abbrev nobody : PortView
+nobody = new_port no_shape 0
+
+pub none_in : (f : PortView → ℕ) (ps : List PortView) → f nobody ≡ 0 → total f ps ≡ 0 → (i : ℕ) → f (port_at ps i) ≡ 0
+none_in f [] z e i = z
+none_in f (p ∷ ps) z e zero = omega arith
+none_in f (p ∷ ps) z e (suc i) = none_in f ps z (omega arith) i
+
+pub one_in : (f : PortView → ℕ) (ps : List PortView) → f nobody ≡ 0 → total f ps ≡ 1 → (i : ℕ) × (i < length ps) × (f (port_at ps i) ≡ 1) × ((j : ℕ) → j ≢ i → f (port_at ps j) ≡ 0)
+one_in f [] z e = absurd (omega arith)
+one_in f (p ∷ ps) z e = dite (ℕ_discrete (f p) 0)
+    (λ q. let r = one_in f ps z (omega arith) in (suc r.0, omega (arith, r.1), r.2, λ j d. later q r.0 r.3 j d))
+    (λ d. (0, omega arith, omega arith, λ j n. first (omega arith) j n))
+  where
+    later : f p ≡ 0 → (i : ℕ) → ((j : ℕ) → j ≢ i → f (port_at ps j) ≡ 0) → (j : ℕ) → j ≢ suc i → f (port_at (p ∷ ps) j) ≡ 0
+    later q i h zero d = q
+    later q i h (suc j) d = h j (λ r. d (ap suc r))
+
+    first : total f ps ≡ 0 → (j : ℕ) → j ≢ 0 → f (port_at (p ∷ ps) j) ≡ 0
+    first t zero n = absurd (n refl)
+    first t (suc j) n = none_in f ps z t j
+
+none_below : (f : ℕ → ℕ) (n : ℕ) → below f n ≡ 0 → (k : ℕ) → k < n → f k ≡ 0
+none_below f n e k l = omega (arith, below_term f n k l)
+
+one_below : (f : ℕ → ℕ) (n : ℕ) → below f n ≡ 1 → (k : ℕ) × (k < n) × (f k ≡ 1) × ((j : ℕ) → j < n → j ≢ k → f j ≡ 0)
+one_below f zero e = absurd (omega arith)
+one_below f (suc n) e = dite (ℕ_discrete (f n) 0)
+    (λ q. let r = one_below f n (omega arith) in (r.0, omega (arith, r.1), r.2, λ j l d. dite (ℕ_discrete j n) (λ s. ap f s ∙ q) (λ s. r.3 j (omega arith) d)))
+    (λ q. (n, omega arith, omega arith, λ j l d. none_below f n (omega arith) j (omega arith)))
+
+pub weigh_all : (f : PortView → ℕ) (vs : List SeatView) → weigh f vs ≡ total f (all_ports vs)
+weigh_all f [] = refl
+weigh_all f (v ∷ vs) = omega (arith, weigh_all f vs, total-append f v.ports (all_ports vs))
+
+pub place_of : (agents : ℕ) (c : ℕ → ℕ) (p : ℕ → ℕ → ℕ) (ports : List PortView) (e : ℕ) → c e ≤ 1 → c e ≡ total (has e) ports + below (λ n. p n e) agents → Place agents c p ports e
+place_of agents c p ports e bit is = dite (ℕ_discrete (c e) 0)
+    (λ q. inl (q, none_in (has e) ports (bit_at-zero e) (omega arith), none_below (λ n. p n e) agents (omega arith)))
+    (λ q. inr (dite (ℕ_discrete (total (has e) ports) 0)
+      (λ z. inr (omega arith, none_in (has e) ports (bit_at-zero e) z, one_below (λ n. p n e) agents (omega arith)))
+      (λ z. inl (omega arith, one_in (has e) ports (bit_at-zero e) (omega arith), none_below (λ n. p n e) agents (omega arith)))))
+
+pub places : (key : Shape) (st : State ℕ SeatView) → TrackerRule key st → Places key st
+places key st rule e l = let le : e < 256 = omega (arith, l, rule.entries) in
+    place_of key.agents (c_of st.words) (p_of st.words) (all_ports st.views) e (rule.fits.bits e le) (rule.fits.place e le ∙ ap (λ z. z + below (λ n. p_of st.words n e) key.agents) (weigh_all (has e) st.views))
+
+-- the port of a requester, and what a weight of it is
+none-mine : (n : ℕ) (ps : List PortView) → total (of_port n (λ _. 1)) ps ≡ 0 → ((j : ℕ) → j < length ps → (port_at ps j).who ≢ n) × ((f : PortView → ℕ) → total (of_port n f) ps ≡ 0)
+none-mine n [] e = (λ j l q. omega arith, λ f. refl)
+none-mine n (p ∷ ps) e = dite (ℕ_discrete p.who n)
+    (λ q. absurd (omega (arith, of_mine n (λ _. 1) p q)))
+    (λ d. let r = none-mine n ps (omega (arith, of_other n (λ _. 1) p d)) in (λ j l. apart d r.0 j l, λ f. omega (arith, of_other n f p d, r.1 f)))
+  where
+    apart : p.who ≢ n → ((j : ℕ) → j < length ps → (port_at ps j).who ≢ n) → (j : ℕ) → j < length (p ∷ ps) → (port_at (p ∷ ps) j).who ≢ n
+    apart d h zero l = d
+    apart d h (suc j) l = h j (omega arith)
+
+mine_in : (n : ℕ) (ps : List PortView) → total (of_port n (λ _. 1)) ps ≡ 1 → (i : ℕ) × (i < length ps) × ((port_at ps i).who ≡ n) × ((j : ℕ) → j < length ps → j ≢ i → (port_at ps j).who ≢ n) × ((f : PortView → ℕ) → total (of_port n f) ps ≡ f (port_at ps i))
+mine_in n [] e = absurd (omega arith)
+mine_in n (p ∷ ps) e = dite (ℕ_discrete p.who n)
+    (λ q. let r = none-mine n ps (omega (arith, of_mine n (λ _. 1) p q)) in (0, omega arith, q, λ j l d. others r.0 j l d, λ f. omega (arith, of_mine n f p q, r.1 f)))
+    (λ d. let r = mine_in n ps (omega (arith, of_other n (λ _. 1) p d)) in (suc r.0, omega (arith, r.1), r.2, λ j l x. beside d r.0 r.3 j l x, λ f. omega (arith, of_other n f p d, r.4 f)))
+  where
+    others : ((j : ℕ) → j < length ps → (port_at ps j).who ≢ n) → (j : ℕ) → j < length (p ∷ ps) → j ≢ 0 → (port_at (p ∷ ps) j).who ≢ n
+    others h zero l d = absurd (d refl)
+    others h (suc j) l d = h j (omega arith)
+
+    beside : p.who ≢ n → (i : ℕ) → ((j : ℕ) → j < length ps → j ≢ i → (port_at ps j).who ≢ n) → (j : ℕ) → j < length (p ∷ ps) → j ≢ suc i → (port_at (p ∷ ps) j).who ≢ n
+    beside d i h zero l x = d
+    beside d i h (suc j) l x = h j (omega arith) (λ q. x (ap suc q))
+
+pub ledger_of : (s : Shape) (c : ℕ → ℕ) (p : ℕ → ℕ → ℕ) (o : ℕ → ℕ) (vs : List SeatView) → Fits s c p o vs → (n t : ℕ) → n < s.agents → t < 4 → Ledger s p o (all_ports vs) n t
+ledger_of s c p o vs fits n t ln lt =
+    let ps : List PortView = all_ports vs in
+    let r = mine_in n ps (sym (weigh_all (of_port n (λ _. 1)) vs) ∙ fits.one_port n ln) in
+    let h = fits.ledger n t ln lt in
+    let a = weigh_all (of_port n (λ z. slice_index z.retries t)) vs in let a' = r.4 (λ z. slice_index z.retries t) in
+    let b = weigh_all (λ z. duty_is n t z.duty) vs in
+    let d = weigh_all (of_port n (λ z. slice_index z.spent t)) vs in let d' = r.4 (λ z. slice_index z.spent t) in
+    let e = weigh_all (of_port n (λ z. slice_index z.returned t)) vs in let e' = r.4 (λ z. slice_index z.returned t) in
+    (r.0, r.1, r.2, r.3, omega arith)
+
+pub ledgers : (key : Shape) (st : State ℕ SeatView) → TrackerRule key st → Ledgers key st
+ledgers key st rule = ledger_of key (c_of st.words) (p_of st.words) (o_of st.words) st.views rule.fits

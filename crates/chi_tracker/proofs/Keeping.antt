@@ -1,0 +1,115 @@
+-- What a port keeps between two calls, after each call.
+use Rattle.std.proofs.Common.{◌≡◌, ◌≢◌, ℕ, ◌+◌, ◌-◌, ◌*◌, ◌/◌, ◌%◌, ◌<◌, ◌≤◌, List, [], ◌∷◌, length, slice_index, slice_set, Option, Some, None, refl, sym, ap, ◌∙◌, subst, arith, get_or-set_other, get_or-set_same}
+use mathlib.Core.Logic.{dite}
+use native.Mathlib.Decide.{ℕ_discrete}
+use Rattle.atomic_table.specs.Table.{Me}
+use Rattle.atomic_table.specs.declared.shared.Seat.{Seat}
+use Rattle.chi_tracker.specs.declared.shape.Shape.{Shape}
+use Rattle.chi_tracker.specs.declared.view.SeatView.{SeatView}
+use Rattle.chi_tracker.specs.Sums.{raised, set_at, take_out}
+use Rattle.chi_tracker.specs.Shape.{low, size, IsOf, count_of}
+use Rattle.chi_tracker.specs.Views.{PortView, has}
+use Rattle.chi_tracker.specs.Steps.{solo, port_of, spends, returns_credit}
+use Rattle.chi_tracker.specs.Calls.{Owner, owner_of, IsHeld, IsKept, owed_one, seen_of, IsLowestSeen, Ended, HasOneLess}
+use Rattle.chi_tracker.proofs.Adding.{raised_here, raised_else}
+use Rattle.chi_tracker.proofs.BitLaws.{taken_here, taken_else}
+use Rattle.chi_tracker.proofs.Entries.{in_range, count_moved, count_kept}
+use Rattle.chi_tracker.proofs.Sweeps.{ended_same, ended_duty, ended_note}
+use Rattle.chi_tracker.specs.declared.released.Released.{Released}
+
+pub held_of : (o : Option (Seat ℕ SeatView)) (seat : Seat ℕ SeatView) (n : ℕ) (s : Shape) (seen due : List ℕ) → o ≡ Some seat → IsKept o n s seen due → IsHeld seat.me n s seen due
+held_of o seat n s seen due e kept = subst (λ (z : Option (Seat ℕ SeatView)). IsKept z n s seen due) e kept
+
+-- the view that callers see
+pub owner_is : (o : Option (Seat ℕ SeatView)) (seat : Seat ℕ SeatView) (w : Owner) → o ≡ Some seat → owner_of o ≡ w → w ≡ record { table = seat.table_id; port = port_of seat.me }
+owner_is o seat w e is = sym is ∙ ap owner_of e
+
+-- a count by type after a write of one
+set_here : (ns : List ℕ) (t v : ℕ) → length ns ≡ 4 → t < 4 → slice_index (slice_set ns t v) t ≡ v
+set_here ns t v len l = get_or-set_same ns t v 0 (omega arith)
+
+set_else : (ns : List ℕ) (t u v : ℕ) → u ≢ t → slice_index (slice_set ns t v) u ≡ slice_index ns u
+set_else ns t u v d = get_or-set_other ns t u v 0 d
+
+pub held_after : (m m' : Me ℕ SeatView) (y : PortView) (n : ℕ) (s : Shape) (seen seen' due due' : List ℕ) → IsHeld m n s seen due → m' ≡ solo y → y.who ≡ (port_of m).who → y.shape ≡ (port_of m).shape → y.seen ≡ seen' → y.duty ≡ None → y.noted ≡ None
+    → ((t : ℕ) → t < 4 → slice_index due' t + (slice_index y.spent t + slice_index y.returned t) ≡ slice_index y.retries t) → ((t : ℕ) → t < 4 → slice_index due' t ≤ 8) → IsHeld m' n s seen' due'
+held_after m m' y n s seen seen' due due' held is who shape seen_is duty noted due_is few = subst (λ (z : Me ℕ SeatView). IsHeld z n s seen' due') (sym is)
+    (record { alone = refl; who = who ∙ held.who; near = held.near; shape_is = shape ∙ held.shape_is; shaped = held.shaped; seen_is = seen_is; due_is = due_is; few = few; no_duty = duty; no_note = noted })
+
+-- after a credit of type t was owed
+module _ (m m' : Me ℕ SeatView) (n : ℕ) (s : Shape) (seen due : List ℕ) (t : ℕ) (held : IsHeld m n s seen due) (lt : t < 4) (len : length due ≡ 4)
+    (few : slice_index (port_of m).retries t < 8 + (slice_index (port_of m).spent t + slice_index (port_of m).returned t))
+    (owed : m' ≡ solo (record (port_of m) { noted = None; retries = raised (port_of m).retries t })) where
+  abbrev x : PortView
+  x = port_of m
+
+  pub owed_view : port_of m' ≡ owed_one t x
+  owed_view = ap port_of owed ∙ ap (λ u. record x { noted = u; retries = raised x.retries t }) (sym held.no_note)
+
+  pub owed_held : IsHeld m' n s seen (slice_set due t (slice_index due t + 1))
+  owed_held = held_after m m' (record x { noted = None; retries = raised x.retries t }) n s seen seen due (slice_set due t (slice_index due t + 1)) held owed refl refl held.seen_is held.no_duty refl
+      (λ u lu. dite (ℕ_discrete u t)
+        (λ q. subst (λ (v : ℕ). slice_index (slice_set due t (slice_index due t + 1)) v + (slice_index x.spent v + slice_index x.returned v) ≡ slice_index (raised x.retries t) v) (sym q)
+          (omega (arith, set_here due t (slice_index due t + 1) len lt, raised_here x.retries t, held.due_is t lt)))
+        (λ d. omega (arith, set_else due t u (slice_index due t + 1) d, raised_else x.retries t u d, held.due_is u lu)))
+      (λ u lu. dite (ℕ_discrete u t)
+        (λ q. subst (λ (v : ℕ). slice_index (slice_set due t (slice_index due t + 1)) v ≤ 8) (sym q) (omega (arith, set_here due t (slice_index due t + 1) len lt, held.due_is t lt)))
+        (λ d. omega (arith, set_else due t u (slice_index due t + 1) d, held.few u lu)))
+
+-- after a seen credit of type t was spent or returned
+module _ (m m1 : Me ℕ SeatView) (n : ℕ) (s : Shape) (seen due : List ℕ) (t e : ℕ) (held : IsHeld m n s seen due) (lt : t < 4) (len : length due ≡ 4)
+    (some_due : slice_index (port_of m).spent t + slice_index (port_of m).returned t < slice_index (port_of m).retries t) where
+  abbrev less : List ℕ
+  less = slice_set due t (slice_index due t - 1)
+
+  pub due_left : slice_index due t ≢ 0
+  due_left z = omega (arith, held.due_is t lt)
+
+  paid_due : (sp rt : List ℕ) → slice_index sp t + slice_index rt t ≡ slice_index (port_of m).spent t + slice_index (port_of m).returned t + 1
+      → ((u : ℕ) → u ≢ t → slice_index sp u + slice_index rt u ≡ slice_index (port_of m).spent u + slice_index (port_of m).returned u)
+      → (u : ℕ) → u < 4 → slice_index less u + (slice_index sp u + slice_index rt u) ≡ slice_index (port_of m).retries u
+  paid_due sp rt here other u lu = dite (ℕ_discrete u t)
+      (λ q. subst (λ (v : ℕ). slice_index less v + (slice_index sp v + slice_index rt v) ≡ slice_index (port_of m).retries v) (sym q) (omega (arith, set_here due t (slice_index due t - 1) len lt, here, held.due_is t lt)))
+      (λ d. omega (arith, set_else due t u (slice_index due t - 1) d, other u d, held.due_is u lu))
+
+  paid_few : (u : ℕ) → u < 4 → slice_index less u ≤ 8
+  paid_few u lu = dite (ℕ_discrete u t)
+      (λ q. subst (λ (v : ℕ). slice_index less v ≤ 8) (sym q) (omega (arith, set_here due t (slice_index due t - 1) len lt, held.few t lt)))
+      (λ d. omega (arith, set_else due t u (slice_index due t - 1) d, held.few u lu))
+
+  pub spent_held : m1 ≡ solo (spends t e (port_of m)) → IsHeld m1 n s (take_out seen e) less
+  spent_held is = held_after m m1 (spends t e (port_of m)) n s seen (take_out seen e) due less held is refl refl (ap (λ z. take_out z e) held.seen_is) held.no_duty held.no_note
+      (paid_due (raised (port_of m).spent t) (port_of m).returned (omega (arith, raised_here (port_of m).spent t)) (λ u d. omega (arith, raised_else (port_of m).spent t u d))) paid_few
+
+  pub returned_held : m1 ≡ solo (returns_credit t e (port_of m)) → IsHeld m1 n s (take_out seen e) less
+  returned_held is = held_after m m1 (returns_credit t e (port_of m)) n s seen (take_out seen e) due less held is refl refl (ap (λ z. take_out z e) held.seen_is) held.no_duty held.no_note
+      (paid_due (port_of m).spent (raised (port_of m).returned t) (omega (arith, raised_here (port_of m).returned t)) (λ u d. omega (arith, raised_else (port_of m).returned t u d))) paid_few
+
+pub lowest_seen : (m : Me ℕ SeatView) (n : ℕ) (s : Shape) (seen due : List ℕ) (t e : ℕ) → IsHeld m n s seen due → IsOf s t e → set_at seen e ≡ 1 → ((i : ℕ) → low s t ≤ i → i < e → set_at seen i ≡ 0) → IsLowestSeen (port_of m) t e
+lowest_seen m n s seen due t e held is set lowest =
+    let P : Shape → List ℕ → Type 0 = λ sh sn. IsOf sh t e × (set_at sn e ≡ 1) × ((i : ℕ) → low sh t ≤ i → i < e → set_at sn i ≡ 0) in
+    subst (λ (sh : Shape). P sh (port_of m).seen) (sym held.shape_is) (subst (P s) (sym held.seen_is) (is, set, lowest))
+
+-- after the end of a release
+pub ended_held : (m m' : Me ℕ SeatView) (n : ℕ) (s : Shape) (seen due : List ℕ) (t e : ℕ) (r : Released) → IsHeld m n s seen due → m' ≡ solo (port_of m') → Ended (port_of m) t e r (port_of m') → IsHeld m' n s seen due
+ended_held m m' n s seen due t e r held alone ended =
+    let same = ended_same (port_of m) t e r (port_of m') ended in
+    held_after m m' (port_of m') n s seen seen due due held alone same.0 same.1 (same.2 ∙ held.seen_is) (ended_duty (port_of m) t e r (port_of m') ended) (ended_note (port_of m) t e r (port_of m') ended ∙ held.no_note)
+      (λ u lu. let h = held.due_is u lu in let a = ap (λ z. slice_index z u) same.3 in let b = ap (λ z. slice_index z u) same.4 in let d = ap (λ z. slice_index z u) same.5 in omega arith) held.few
+
+-- a seen credit of type t taken out is one less of the type
+pub one_less : (p q : PortView) (t e : ℕ) → t < 4 → low p.shape 4 ≤ 256 → length p.seen ≡ 4 → IsOf p.shape t e → set_at p.seen e ≡ 1 → q.shape ≡ p.shape → q.seen ≡ take_out p.seen e → HasOneLess t p q
+one_less p q t e lt le len is set shape seen =
+    let inside : e < 256 = omega (arith, is.1, in_range p.shape t lt le) in
+    let apart : (i : ℕ) → i < 256 → i ≢ e → set_at (take_out p.seen e) i ≡ set_at p.seen i = λ i li d. taken_else p.seen e i d (omega arith) in
+    let now : (u : ℕ) → seen_of q u ≡ count_of p.shape u (set_at (take_out p.seen e)) = λ u. ap (λ s. count_of s u (set_at q.seen)) shape ∙ ap (λ xs. count_of p.shape u (set_at xs)) seen in
+    (omega (arith, now t, count_moved p.shape t e (set_at p.seen) (set_at (take_out p.seen e)) lt le is apart, taken_here p.seen e, set),
+     λ u lu d. now u ∙ count_kept p.shape u t e (set_at p.seen) (set_at (take_out p.seen e)) lu le is d apart)
+
+-- the same of a held port whose seat went from m to m'
+pub spent_less : (p : PortView) (m m' : Me ℕ SeatView) (n : ℕ) (s : Shape) (seen due : List ℕ) (t e : ℕ) → IsHeld m n s seen due → length seen ≡ 4 → p ≡ port_of m → t < 4 → IsOf p.shape t e → set_at p.seen e ≡ 1
+    → (port_of m').shape ≡ (port_of m).shape → (port_of m').seen ≡ take_out (port_of m).seen e → HasOneLess t p (port_of m')
+spent_less p m m' n s seen due t e held len at lt is set shape after =
+    let sh : p.shape ≡ s = ap (λ x. x.shape) at ∙ held.shape_is in
+    one_less p (port_of m') t e lt (subst (λ (z : Shape). low z 4 ≤ 256) (sym sh) held.shaped.1) (ap (λ x. length x.seen) at ∙ ap (λ xs. length xs) held.seen_is ∙ len) is set
+      (shape ∙ ap (λ x. x.shape) (sym at)) (after ∙ ap (λ x. take_out x.seen e) (sym at))

@@ -1,0 +1,14 @@
+mod Adding
+pub mod BitLaws
+mod Entries
+mod Moving
+mod Written
+mod Places
+mod Fitting
+mod Allowed
+mod Opening
+mod Dealing
+mod Keeping
+pub mod Sweeps
+mod Exactly
+pub mod Balance

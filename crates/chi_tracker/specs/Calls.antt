@@ -1,0 +1,139 @@
+-- What contracts see of a tracker and of a port, and what each call does to the port's view
+-- (docs/PROTOCOL.md, "Steps of the tracker").
+use Rattle.std.specs.Prelude.{◌≡◌, ◌≢◌, ◌⊎◌, ℕ, zero, suc, ◌+◌, ◌-◌, ◌*◌, ◌<◌, ◌≤◌, List, [], ◌∷◌, Option, Some, None, length, slice_index}
+use Rattle.atomic_table.specs.Table.{Me}
+use Rattle.atomic_table.specs.Seated.{TableId}
+use Rattle.atomic_table.specs.declared.shared.Seat.{Seat}
+use Rattle.chi_tracker.specs.declared.shape.Shape.{Shape}
+use Rattle.chi_tracker.specs.declared.view.SeatView.{SeatView}
+use Rattle.chi_tracker.specs.Sums.{below, raised, with_bit, dropped, set_at}
+use Rattle.chi_tracker.specs.Shape.{low, size, IsOf, IsShape}
+use Rattle.chi_tracker.specs.Views.{PortView, Sweep, has, new_port, was_freed, was_promised}
+use Rattle.chi_tracker.specs.declared.released.Released.{Released}
+use Rattle.chi_tracker.specs.declared.released.Released.TheVariants.{Granted, Freed}
+use Rattle.chi_tracker.specs.Steps.{solo, port_of, no_shape}
+
+-- a tracker: which table its words are, its entries by type and its requesters
+pub record Home : Type 0 where
+  pub table : TableId
+  pub shape : Shape
+
+-- a port: which tracker's it is, and its view
+pub record Owner : Type 0 where
+  pub table : TableId
+  pub port : PortView
+
+-- a port of no tracker
+abbrev pub nowhere : TableId
+nowhere = record { words = 0; slots = 0; views_name = 0; atom = 0; block = 0; offset = 0; slot_names = [] }
+
+abbrev pub no_owner : Owner
+no_owner = record { table = nowhere; port = new_port no_shape 0 }
+
+abbrev pub owner_of : Option (Seat ℕ SeatView) → Owner
+owner_of None = no_owner
+owner_of (Some seat) = record { table = seat.table_id; port = port_of seat.me }
+
+-- what a port keeps between two calls: its seat stands for it alone, the seen credits and the credits
+-- due are those of its view, at most 8 of a type are due, and no duty and no note is open
+pub record IsHeld (me : Me ℕ SeatView) (number : ℕ) (shape : Shape) (seen due : List ℕ) : Type 0 where
+  pub alone : me ≡ solo (port_of me)
+  pub who : (port_of me).who ≡ number
+  pub near : number < shape.agents
+  pub shape_is : (port_of me).shape ≡ shape
+  pub shaped : IsShape shape
+  pub seen_is : (port_of me).seen ≡ seen
+  pub due_is : (t : ℕ) → t < 4 → slice_index due t + (slice_index (port_of me).spent t + slice_index (port_of me).returned t) ≡ slice_index (port_of me).retries t
+  pub few : (t : ℕ) → t < 4 → slice_index due t ≤ 8
+  pub no_duty : (port_of me).duty ≡ None
+  pub no_note : (port_of me).noted ≡ None
+
+abbrev pub IsKept : Option (Seat ℕ SeatView) → ℕ → Shape → List ℕ → List ℕ → Type 0
+IsKept None number shape seen due = (shape ≡ no_shape) × (seen ≡ 0 ∷ 0 ∷ 0 ∷ 0 ∷ []) × (due ≡ 0 ∷ 0 ∷ 0 ∷ 0 ∷ [])
+IsKept (Some seat) number shape seen due = IsHeld seat.me number shape seen due
+
+-- the first n entries of type t, as a set
+abbrev pub first_entries : Shape → ℕ → ℕ → ℕ
+first_entries s t zero = 0
+first_entries s t (suc n) = with_bit (first_entries s t n) (low s t + n)
+
+-- a scan of type t was opened, and has found the first n entries of the type claimed
+abbrev pub scanned : ℕ → ℕ → PortView → PortView
+scanned t n p = record p { found = first_entries p.shape t n; scans = p.scans + 1; scan_kind = t }
+
+-- the entry e came to hand
+abbrev pub into_hand : ℕ → PortView → PortView
+into_hand e p = record p { hand = with_bit p.hand e }
+
+-- a seat's ports without the first
+abbrev pub rest_ports : List PortView → List PortView
+rest_ports [] = []
+rest_ports (p ∷ ps) = ps
+
+-- ports of one tracker
+abbrev pub owners : TableId → List PortView → List Owner
+owners table [] = []
+owners table (p ∷ ps) = record { table = table; port = p } ∷ owners table ps
+
+abbrev pub shape_of : List ℕ → ℕ → Shape
+shape_of entries agents = record { sizes = entries; agents = agents }
+
+-- one more credit of type t is owed
+abbrev pub owed_one : ℕ → PortView → PortView
+owed_one t p = record p { retries = raised p.retries t }
+
+-- one see step was done on each of the four words, which leaves these seen credits
+abbrev pub saw_all : List ℕ → PortView → PortView
+saw_all seen p = record p { seen = seen; sees = raised (raised (raised (raised p.sees 0) 1) 2) 3 }
+
+-- how many entries from `start` on, n of them, are in a set
+abbrev pub set_count : List ℕ → ℕ → ℕ → ℕ
+set_count words start n = below (λ i. set_at words (start + i)) n
+
+-- how many seen credits of type t a port has
+abbrev pub seen_of : PortView → ℕ → ℕ
+seen_of p t = set_count p.seen (low p.shape t) (size p.shape t)
+
+-- the lowest seen credit of type t
+abbrev pub IsLowestSeen : PortView → ℕ → ℕ → Type 0
+IsLowestSeen p t e = IsOf p.shape t e × (set_at p.seen e ≡ 1) × ((i : ℕ) → low p.shape t ≤ i → i < e → set_at p.seen i ≡ 0)
+
+-- a sweep of type t was opened, has looked at the first m requesters, and has no bit left
+abbrev pub swept_by : ℕ → ℕ → PortView → PortView
+swept_by t zero p = p
+swept_by t (suc m) p = record p { sweep = record { opened = p.sweep.opened + 1; kind = t; at = m; left = 0 } }
+
+-- a sweep of type t was opened, has looked at all requesters, and has no bit left
+abbrev pub swept_all : ℕ → PortView → PortView
+swept_all t p = record p { sweep = record { opened = p.sweep.opened + 1; kind = t; at = p.shape.agents - 1; left = 0 } }
+
+-- the port's sweeps went on to s
+abbrev pub with_sweep : Sweep → PortView → PortView
+with_sweep s p = record p { sweep = s }
+
+-- entry e left the hand: it was promised to m, or freed; no duty is left
+abbrev pub granted_to : ℕ → ℕ → PortView → PortView
+granted_to m e p = record p { hand = dropped p.hand e; duty = None; ended = was_promised e m }
+
+abbrev pub freed_entry : ℕ → PortView → PortView
+freed_entry e p = record p { hand = dropped p.hand e; duty = None; ended = was_freed e }
+
+-- How the release of entry e of type t ends: granted to a requester, after a settle of its place; or
+-- freed, after a sweep of the type that has looked at every requester and has no bit left.
+abbrev pub Ended : PortView → ℕ → ℕ → Released → PortView → Type 0
+Ended p t e (Granted m) q = (m.0 < p.shape.agents) × ((s : Sweep) × (q ≡ granted_to m.0 e (with_sweep s p)))
+Ended p t e Freed q = q ≡ freed_entry e (swept_all t p)
+
+-- How a tend of type t ends: an entry was claimed in a scan and ended as in a release; or no requester
+-- showed a bit of the type; or each entry of the type was found claimed.
+abbrev pub Tended : PortView → ℕ → Option Released → PortView → Type 0
+Tended p t (Some released) q = (s : Sweep) × (e : ℕ) × IsOf p.shape t e × (has e p ≡ 0) × Ended (into_hand e (scanned t (e - low p.shape t) (with_sweep s p))) t e released q
+Tended p t None q = (q ≡ swept_all t p) ⊎ ((s : Sweep) × (q ≡ scanned t (size p.shape t) (with_sweep s p)))
+
+-- what a port knows of itself and of its credits is the same
+abbrev pub HasSameCredits : PortView → PortView → Type 0
+HasSameCredits p q = (q.who ≡ p.who) × (q.shape ≡ p.shape) × (q.seen ≡ p.seen) × (q.retries ≡ p.retries) × (q.spent ≡ p.spent) × (q.returned ≡ p.returned)
+
+-- one seen credit less of type t, and as many of each other type
+abbrev pub HasOneLess : ℕ → PortView → PortView → Type 0
+HasOneLess t p q = (seen_of q t + 1 ≡ seen_of p t) × ((u : ℕ) → u < 4 → u ≢ t → seen_of q u ≡ seen_of p u)

@@ -1,0 +1,59 @@
+-- Place and Ledger in their literal words (docs/PROTOCOL.md, "Words of the tracker").
+use Rattle.std.specs.Prelude.{◌≡◌, ◌≢◌, ◌⊎◌, ℕ, ◌+◌, ◌<◌, List, [], ◌∷◌, ◌++◌, length, slice_index, slice_index_or}
+use Rattle.atomic_table.specs.Table.{State}
+use Rattle.chi_tracker.specs.declared.shape.Shape.{Shape}
+use Rattle.chi_tracker.specs.declared.view.SeatView.{SeatView}
+use Rattle.chi_tracker.specs.Sums.{below, total}
+use Rattle.chi_tracker.specs.Shape.{low, count_of, owed_in}
+use Rattle.chi_tracker.specs.Words.{c_of, p_of, o_of}
+use Rattle.chi_tracker.specs.Views.{PortView, has, new_port}
+use Rattle.chi_tracker.specs.Rule.{duty_is}
+use Rattle.chi_tracker.specs.Steps.{no_shape}
+
+-- the ports of all seats
+abbrev pub all_ports : List SeatView → List PortView
+all_ports [] = []
+all_ports (v ∷ vs) = v.ports ++ all_ports vs
+
+-- the port at a place of a list; past its end one with nothing
+abbrev pub port_at : List PortView → ℕ → PortView
+port_at ports i = slice_index_or ports i (new_port no_shape 0)
+
+-- no port has the entry in hand
+abbrev pub InNoHand : List PortView → ℕ → Type 0
+InNoHand ports e = (i : ℕ) → has e (port_at ports i) ≡ 0
+
+-- exactly one port has the entry in hand
+abbrev pub InOneHand : List PortView → ℕ → Type 0
+InOneHand ports e = (i : ℕ) × (i < length ports) × (has e (port_at ports i) ≡ 1) × ((j : ℕ) → j ≢ i → has e (port_at ports j) ≡ 0)
+
+-- the entry is promised to no requester
+abbrev pub PromisedToNone : ℕ → (ℕ → ℕ → ℕ) → ℕ → Type 0
+PromisedToNone agents p e = (n : ℕ) → n < agents → p n e ≡ 0
+
+-- the entry is promised to exactly one requester
+abbrev pub PromisedToOne : ℕ → (ℕ → ℕ → ℕ) → ℕ → Type 0
+PromisedToOne agents p e = (n : ℕ) × (n < agents) × (p n e ≡ 1) × ((k : ℕ) → k < agents → k ≢ n → p k e ≡ 0)
+
+-- an entry is free, its bit in C clear; or in the hand of exactly one port; or promised to exactly one
+-- requester, and in the last two its bit in C is set
+abbrev pub Place : ℕ → (ℕ → ℕ) → (ℕ → ℕ → ℕ) → List PortView → ℕ → Type 0
+Place agents c p ports e =
+    ((c e ≡ 0) × InNoHand ports e × PromisedToNone agents p e)
+    ⊎ (((c e ≡ 1) × InOneHand ports e × PromisedToNone agents p e)
+    ⊎ ((c e ≡ 1) × InNoHand ports e × PromisedToOne agents p e))
+
+abbrev pub Places : Shape → State ℕ SeatView → Type 0
+Places key st = (e : ℕ) → e < low key 4 → Place key.agents (c_of st.words) (p_of st.words) (all_ports st.views) e
+
+-- how many duties to n of type t the ports have
+abbrev pub duties : ℕ → ℕ → List PortView → ℕ
+duties n t ports = total (λ x. duty_is n t x.duty) ports
+
+-- requester n has exactly one port, and of it retries = owed + duties + promised + spent + returned
+abbrev pub Ledger : Shape → (ℕ → ℕ → ℕ) → (ℕ → ℕ) → List PortView → ℕ → ℕ → Type 0
+Ledger s p o ports n t = (i : ℕ) × (i < length ports) × ((port_at ports i).who ≡ n) × ((j : ℕ) → j < length ports → j ≢ i → (port_at ports j).who ≢ n)
+    × (slice_index (port_at ports i).retries t ≡ owed_in t (o n) + duties n t ports + count_of s t (p n) + slice_index (port_at ports i).spent t + slice_index (port_at ports i).returned t)
+
+abbrev pub Ledgers : Shape → State ℕ SeatView → Type 0
+Ledgers key st = (n t : ℕ) → n < key.agents → t < 4 → Ledger key (p_of st.words) (o_of st.words) (all_ports st.views) n t

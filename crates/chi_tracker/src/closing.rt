@@ -1,0 +1,112 @@
+//! The end of a tracker: the ports' seats are joined, and what they were due is added up.
+
+ghost use Rattle.std.specs.Prelude.{◌≡◌, ℕ, ◌+◌, ◌*◌, ◌<◌, ◌≤◌, [], All, length, slice_index, cond, ◌==◌};
+ghost use Rattle.std.specs.Slots.{slots_items, slots_len, IsFull};
+ghost use Rattle.chi_tracker.specs.Shape.{low, count_of, owed_in};
+ghost use Rattle.chi_tracker.specs.Words.{p_of, o_of};
+ghost use Rattle.chi_tracker.specs.Laws.{duties};
+ghost use Rattle.chi_tracker.specs.Totals.{views_of, AreDue, AreCredits};
+
+use crate::law::{Board, Chair};
+use crate::plays::{Enter, Gather};
+use crate::port::{Port, Seated};
+use crate::shape::Shape;
+use crate::tally::{Words, owed_to, promised_of};
+use crate::totals::Credits;
+use arrayvec::ArrayVec;
+use atomic_table::Closed;
+use std::alloc::Allocator;
+
+/// What is due by requester and type: place 4 * requester + type.
+pub(crate) type Dues = [u32; 32];
+
+/// A seat that stands for all ports, and what they were due.
+pub(crate) struct Gathered {
+    pub(crate) chair: Chair,
+    pub(crate) dues: Dues,
+}
+
+/// Adds what is due to a requester.
+fn add_due(mut dues: Dues, number: usize, due: [u32; 4]) -> Dues
+    requires number { number < 8 }
+    requires small { (i : ℕ) → i < 32 → slice_index dues i ≤ 1000 }
+    requires few { (t : ℕ) → t < 4 → slice_index due t ≤ 8 }
+    ensures sum { (n t : ℕ) → n < 8 → t < 4 → slice_index result (4 * n + t) ≡ slice_index dues (4 * n + t) + cond (number == n) (slice_index due t) 0 }
+    ensures small { (i : ℕ) → i < 32 → slice_index result i ≤ slice_index dues i + 8 }
+{
+    let at = 4 * number;
+    let sums = [
+        dues[at] + due[0],
+        dues[at + 1] + due[1],
+        dues[at + 2] + due[2],
+        dues[at + 3] + due[3],
+    ];
+    dues[at] = sums[0];
+    dues[at + 1] = sums[1];
+    dues[at + 2] = sums[2];
+    dues[at + 3] = sums[3];
+    dues
+}
+
+/// Joins the seats of all ports.
+pub(crate) fn gather(board: &Board, mut ports: ArrayVec<Port, 8>) -> Gathered
+    requires table { (board.now.table_id.words ≡ 44) × All (λ p. p.table ≡ board.now.table_id) ports.items }
+    requires few { length ports.items ≤ 8 }
+    ensures chair { (result.chair.table_id ≡ board.now.table_id) × (result.chair.me.0.ports ≡ views_of ports.items) }
+    ensures idle { (n t : ℕ) → duties n t (views_of ports.items) ≡ 0 }
+    ensures due { AreDue result.dues (views_of ports.items) }
+{
+    let (_, mut chair) = board.load_new_seat::<Enter>(0);
+    let mut dues = [0; 32];
+    while let Some(port) = ports.pop() {
+        let Seated {
+            chair: own,
+            number,
+            due,
+        } = port.into_seated();
+        let sums = add_due(dues, number, due);
+        dues = sums;
+        board.join_seat::<Gather>(&mut chair, own);
+    }
+    Gathered { chair, dues }
+}
+
+/// The words of a closed tracker.
+pub(crate) fn read<A: Allocator>(closed: &Closed<u8, A>) -> Words
+    requires { (slots_len closed.now.words ≡ 44) × IsFull closed.now.words }
+    ensures { result ≡ slots_items closed.now.words }
+{
+    let mut words = [0; 44];
+    for i in 0..44 {
+        words[i] = closed.word(i);
+    }
+    words
+}
+
+/// What is due to a requester, by type.
+fn due_of(dues: Dues, agent: usize) -> [u32; 4]
+    requires { agent < 8 }
+    ensures { (t : ℕ) → t < 4 → slice_index result t ≡ slice_index dues (4 * agent + t) }
+{
+    let at = 4 * agent;
+    [dues[at], dues[at + 1], dues[at + 2], dues[at + 3]]
+}
+
+/// The credits of each requester, in rising order.
+pub(crate) fn credits(words: Words, shape: Shape, dues: Dues) -> ArrayVec<Credits, 8>
+    requires { (shape.agents ≤ 8) × (low shape 4 ≤ 256) }
+    ensures { AreCredits shape words dues shape.agents result.items }
+{
+    let mut all = ArrayVec::new();
+    for agent in 0..shape.agents {
+        let due = due_of(dues, agent);
+        let owed = owed_to(words, agent);
+        let promised = promised_of(words, agent, shape);
+        all.push(Credits {
+            due,
+            owed,
+            promised,
+        });
+    }
+    all
+}

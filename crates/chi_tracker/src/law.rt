@@ -1,0 +1,42 @@
+//! The rule of the tracker's table.
+
+ghost use Rattle.chi_tracker.specs.Rule.{TrackerRule, all_new};
+
+use crate::shape::Shape;
+use crate::view::SeatView;
+use atomic_table::{Seat, Shared, TableRule};
+
+/// What holds between any two atomic steps.
+pub struct Law;
+
+impl TableRule<u8, SeatView, Shape> for Law {
+    ghost holds = { TrackerRule };
+
+    ghost first = { all_new };
+}
+
+impl Law {
+    ghost use Rattle.std.specs.Prelude.{ℕ};
+    ghost use Rattle.atomic_table.specs.Table.{State};
+    ghost use Rattle.chi_tracker.specs.declared.shape.Shape.{Shape};
+    ghost use Rattle.chi_tracker.specs.declared.view.SeatView.{SeatView};
+    ghost use Rattle.chi_tracker.specs.Laws.{Places, Ledgers};
+
+    /// Between any two atomic steps each entry is free, in the hand of exactly one port, or promised to
+    /// exactly one requester. Does nothing: its contract is the law.
+    pub fn place()
+        ensures { (key : Shape) (st : State ℕ SeatView) → TrackerRule key st → Places key st }
+    {}
+
+    /// Between any two atomic steps, for each requester and type the retries are the credits owed, under
+    /// duty, promised, spent and returned. Does nothing: its contract is the law.
+    pub fn ledger()
+        ensures { (key : Shape) (st : State ℕ SeatView) → TrackerRule key st → Ledgers key st }
+    {}
+}
+
+/// The words as ports share them.
+pub(crate) type Board = Shared<u8, SeatView, Shape, Law>;
+
+/// What a port steps with.
+pub(crate) type Chair = Seat<u8, SeatView>;

@@ -1,0 +1,316 @@
+//! A requester's port to the tracker.
+
+ghost use Rattle.std.specs.Prelude.{◌≡◌, None, ℕ, ◌+◌, ◌<◌, ◌≤◌, ◌-◌, IfSome, IfNone, slice_index};
+ghost use Rattle.chi_flit.specs.Credit.{credit_number};
+ghost use Rattle.std.specs.Int.{bit_at};
+ghost use Rattle.chi_tracker.specs.Sums.{set_at, dropped};
+ghost use Rattle.chi_tracker.specs.Shape.{low, size, IsOf, IsShape};
+ghost use Rattle.chi_tracker.specs.Views.{has, new_port};
+ghost use Rattle.chi_tracker.specs.Steps.{solo, frees, spends, returns_credit};
+ghost use Rattle.chi_tracker.specs.Calls.{no_owner, scanned, into_hand, owed_one, saw_all, seen_of, IsLowestSeen, Ended, Tended, HasSameCredits, HasOneLess};
+
+use crate::law::Chair;
+use crate::marks::others;
+use crate::released::Released;
+use crate::scan::scan;
+use crate::shape::Shape;
+use crate::sets::{counts, lowest};
+use crate::paying::{owe_one, pay};
+use crate::steps::{free_step, see_step};
+use crate::sweep::{release_entry, tend_type};
+use crate::tracker::Tracker;
+use chi_flit::{CreditType, Entry};
+use std::alloc::Allocator;
+use std::marker::Model;
+
+/// A requester's port to the tracker. A port that `Tracker::new` didn't give (`Port::default`) is of no
+/// tracker, and no call takes it.
+///
+/// Each call takes the tracker by reference; it takes no memory, no lock and waits for nobody.
+#[derive(Drop)]
+pub struct Port {
+    chair: Option<Chair>,
+    number: usize,
+    shape: Shape,
+    seen: [u64; 4],
+    due: [u32; 4],
+}
+
+/// A port's seat, as it is given back at the end.
+pub(crate) struct Seated {
+    pub(crate) chair: Chair,
+    pub(crate) number: usize,
+    pub(crate) due: [u32; 4],
+}
+
+impl Model for Port {
+    ghost use Rattle.chi_tracker.specs.Calls.{Owner, owner_of, IsKept};
+
+    ghost Value = { Owner };
+
+    ghost view = { λ p. owner_of p.chair };
+
+    ghost invariant = { λ p. IsKept p.chair p.number p.shape p.seen p.due };
+}
+
+impl Default for Port {
+    ghost is_default = { λ p. p ≡ no_owner };
+
+    fn default() -> Port {
+        Port {
+            chair: None,
+            number: 0,
+            shape: Shape {
+                sizes: [0; 4],
+                agents: 0,
+            },
+            seen: [0; 4],
+            due: [0; 4],
+        }
+    }
+}
+
+impl Port {
+    // The port of requester `number`, which has done nothing yet.
+    pub(crate) fn seated(chair: Chair, number: usize, shape: Shape) -> Port
+        requires view { chair.me ≡ solo (new_port shape number) }
+        requires shape { IsShape shape × (number < shape.agents) }
+        ensures { result ≡ record { table = chair.table_id; port = new_port shape number } }
+    {
+        Port {
+            chair: Some(chair),
+            number,
+            shape,
+            seen: [0; 4],
+            due: [0; 4],
+        }
+    }
+
+    // The port's seat, with its number and the credits due.
+    pub(crate) fn into_seated(self) -> Seated
+        requires { 0 < self.table.words }
+        ensures chair { (result.chair.table_id ≡ self.table) × (result.chair.me ≡ solo self.port) }
+        ensures number { (result.number ≡ self.port.who) × (self.port.duty ≡ None) }
+        ensures due { (t : ℕ) → t < 4 → slice_index result.due t + (slice_index self.port.spent t + slice_index self.port.returned t) ≡ slice_index self.port.retries t }
+        ensures few { (t : ℕ) → t < 4 → slice_index result.due t ≤ 8 }
+    {
+        let Port {
+            chair,
+            number,
+            shape: _,
+            seen: _,
+            due,
+        } = self;
+        let Some(chair) = chair else {
+            unreachable!();
+        };
+        Seated { chair, number, due }
+    }
+
+    /// Tries the entries of the type from the lowest, in one scan, until one is free: it comes to hand.
+    /// None only where each entry of the type was found claimed by a step of this call.
+    ///
+    /// Condition: the type has entries.
+    /// Source: `docs/PROTOCOL.md`, "Steps of the tracker".
+    #[tactic(auto, using(crate::proofs::BitLaws::with_here, crate::proofs::Entries::of_credit, crate::proofs::Entries::scan_found))]
+    pub fn claim<A: Allocator>(&mut self, tracker: &Tracker<A>, ty: CreditType) -> Option<Entry>
+        requires table { self.old.table ≡ tracker.now.table }
+        requires entries { 0 < size self.old.port.shape (credit_number ty) }
+        ensures table { self.new.table ≡ self.old.table }
+        ensures some { IfSome result (λ e. IsOf self.old.port.shape (credit_number ty) e.0 × (has e.0 self.old.port ≡ 0) × (self.new.port ≡ into_hand e.0 (scanned (credit_number ty) (e.0 - low self.old.port.shape (credit_number ty)) self.old.port))) }
+        ensures none { IfNone result (self.new.port ≡ scanned (credit_number ty) (size self.old.port.shape (credit_number ty)) self.old.port) }
+        ensures found { IfNone result ((e : ℕ) → IsOf self.old.port.shape (credit_number ty) e → bit_at self.new.port.found e ≡ 1) }
+        ensures mine { IfSome result (λ e. has e.0 self.new.port ≡ 1) }
+        ensures entry { IfSome result (λ e. e.0 < low self.new.port.shape 4) }
+    {
+        let board = tracker.board();
+        let Some(mut chair) = self.chair.take() else {
+            unreachable!();
+        };
+        let (first, count) = (self.shape.first(ty), self.shape.count(ty));
+        let found = scan(board, &mut chair, ty.number() as usize, first, count);
+        self.chair = Some(chair);
+        match found {
+            Some(entry) => Some(Entry(entry as u8)),
+            None => None,
+        }
+    }
+
+    /// Frees an entry in hand.
+    ///
+    /// Condition: the entry is in hand.
+    pub fn free<A: Allocator>(&mut self, tracker: &Tracker<A>, entry: Entry)
+        requires table { self.old.table ≡ tracker.now.table }
+        requires entry { has entry.0 self.old.port ≡ 1 }
+        ensures table { self.new.table ≡ self.old.table }
+        ensures port { self.new.port ≡ frees entry.0 self.old.port }
+    {
+        let board = tracker.board();
+        let Some(mut chair) = self.chair.take() else {
+            unreachable!();
+        };
+        free_step(board, &mut chair, usize::from(entry.0));
+        self.chair = Some(chair);
+    }
+
+    /// Owes the requester one more credit of the type: it looks at its own word of owed credits and sets
+    /// the lowest clear place there.
+    ///
+    /// Conditions: the type has entries, and fewer than 8 credits of the type are due.
+    pub fn owe<A: Allocator>(&mut self, tracker: &Tracker<A>, ty: CreditType)
+        requires table { self.old.table ≡ tracker.now.table }
+        requires entries { 0 < size self.old.port.shape (credit_number ty) }
+        requires few { slice_index self.old.port.retries (credit_number ty) < 8 + (slice_index self.old.port.spent (credit_number ty) + slice_index self.old.port.returned (credit_number ty)) }
+        ensures table { self.new.table ≡ self.old.table }
+        ensures port { self.new.port ≡ owed_one (credit_number ty) self.old.port }
+    {
+        let board = tracker.board();
+        let Some(mut chair) = self.chair.take() else {
+            unreachable!();
+        };
+        let kind = ty.number() as usize;
+        owe_one(board, &mut chair, self.number, kind);
+        self.due[kind] += 1;
+        self.chair = Some(chair);
+    }
+
+    /// Looks at what is promised to the port, one step on each of its four words, and answers the seen
+    /// credits by type.
+    pub fn see<A: Allocator>(&mut self, tracker: &Tracker<A>) -> [u32; 4]
+        requires table { self.old.table ≡ tracker.now.table }
+        ensures table { self.new.table ≡ self.old.table }
+        ensures port { self.new.port ≡ saw_all self.new.port.seen self.old.port }
+        ensures more { (e : ℕ) → e < 256 → set_at self.old.port.seen e ≤ set_at self.new.port.seen e }
+        ensures counts { (t : ℕ) → t < 4 → slice_index result t ≡ seen_of self.new.port t }
+    {
+        let board = tracker.board();
+        let Some(mut chair) = self.chair.take() else {
+            unreachable!();
+        };
+        self.seen[0] = see_step(board, &mut chair, self.number, 0);
+        self.seen[1] = see_step(board, &mut chair, self.number, 1);
+        self.seen[2] = see_step(board, &mut chair, self.number, 2);
+        self.seen[3] = see_step(board, &mut chair, self.number, 3);
+        self.chair = Some(chair);
+        counts(self.seen, self.shape)
+    }
+
+    /// The seen credits by type, as the port has them. It does no step.
+    pub fn seen(&self) -> [u32; 4]
+        ensures { (t : ℕ) → t < 4 → slice_index result t ≡ seen_of self.now.port t }
+    {
+        counts(self.seen, self.shape)
+    }
+
+    /// The credits due by type: retries less spent and returned credits, 0 to 8. It does no step.
+    pub fn due(&self) -> [u32; 4]
+        ensures few { (t : ℕ) → t < 4 → slice_index result t ≤ 8 }
+        ensures is { (t : ℕ) → t < 4 → slice_index result t + (slice_index self.now.port.spent t + slice_index self.now.port.returned t) ≡ slice_index self.now.port.retries t }
+    {
+        let due = self.due;
+        due
+    }
+
+    /// Spends the lowest seen credit of the type: its entry comes to hand.
+    ///
+    /// Condition: a seen credit of the type.
+    #[tactic(auto, using(crate::proofs::BitLaws::with_here, crate::proofs::Entries::of_credit))]
+    pub fn spend<A: Allocator>(&mut self, tracker: &Tracker<A>, ty: CreditType) -> Entry
+        requires table { self.old.table ≡ tracker.now.table }
+        requires credit { 0 < seen_of self.old.port (credit_number ty) }
+        ensures table { self.new.table ≡ self.old.table }
+        ensures lowest { IsLowestSeen self.old.port (credit_number ty) result.0 }
+        ensures held { has result.0 self.old.port ≡ 0 }
+        ensures port { self.new.port ≡ spends (credit_number ty) result.0 self.old.port }
+        ensures mine { has result.0 self.new.port ≡ 1 }
+        ensures entry { result.0 < low self.new.port.shape 4 }
+        ensures fewer { HasOneLess (credit_number ty) self.old.port self.new.port }
+    {
+        let board = tracker.board();
+        let Some(mut chair) = self.chair.take() else {
+            unreachable!();
+        };
+        let kind = ty.number() as usize;
+        let entry = lowest(self.seen, self.shape.first(ty), self.shape.count(ty));
+        pay(board, &mut chair, self.number, kind, entry, false);
+        self.seen[entry / 64] &= others(entry % 64);
+        self.due[kind] -= 1;
+        self.chair = Some(chair);
+        Entry(entry as u8)
+    }
+
+    /// Releases an entry in hand: it looks at the requesters in rising order and promises the entry to the
+    /// first of which it can settle an owed credit of the entry's type; where there is none, the entry is
+    /// freed.
+    ///
+    /// Condition: the entry is in hand.
+    pub fn release<A: Allocator>(&mut self, tracker: &Tracker<A>, entry: Entry) -> Released
+        requires table { self.old.table ≡ tracker.now.table }
+        requires entry { (entry.0 < low self.old.port.shape 4) × (has entry.0 self.old.port ≡ 1) }
+        ensures table { self.new.table ≡ self.old.table }
+        ensures port { (t : ℕ) × (t < 4) × IsOf self.old.port.shape t entry.0 × Ended self.old.port t entry.0 result self.new.port }
+        ensures credits { HasSameCredits self.old.port self.new.port }
+        ensures hand { self.new.port.hand ≡ dropped self.old.port.hand entry.0 }
+    {
+        let board = tracker.board();
+        let Some(mut chair) = self.chair.take() else {
+            unreachable!();
+        };
+        let entry = usize::from(entry.0);
+        let kind = self.shape.kind_of(entry);
+        let released = release_entry(board, &mut chair, kind, self.shape.agents, entry);
+        self.chair = Some(chair);
+        released
+    }
+
+    /// Gives back the lowest seen credit of the type, which counts as returned and not as spent, and
+    /// releases its entry.
+    ///
+    /// Condition: a seen credit of the type.
+    #[tactic(auto, using(crate::proofs::BitLaws::with_here))]
+    pub fn give_back<A: Allocator>(&mut self, tracker: &Tracker<A>, ty: CreditType) -> Released
+        requires table { self.old.table ≡ tracker.now.table }
+        requires credit { 0 < seen_of self.old.port (credit_number ty) }
+        ensures table { self.new.table ≡ self.old.table }
+        ensures port { (e : ℕ) × IsLowestSeen self.old.port (credit_number ty) e × (has e self.old.port ≡ 0) × Ended (returns_credit (credit_number ty) e self.old.port) (credit_number ty) e result self.new.port × HasSameCredits (returns_credit (credit_number ty) e self.old.port) self.new.port }
+        ensures hand { (i : ℕ) → has i self.new.port ≡ has i self.old.port }
+        ensures fewer { HasOneLess (credit_number ty) self.old.port self.new.port }
+    {
+        let board = tracker.board();
+        let Some(mut chair) = self.chair.take() else {
+            unreachable!();
+        };
+        let kind = ty.number() as usize;
+        let entry = lowest(self.seen, self.shape.first(ty), self.shape.count(ty));
+        pay(board, &mut chair, self.number, kind, entry, true);
+        self.seen[entry / 64] &= others(entry % 64);
+        self.due[kind] -= 1;
+        let released = release_entry(board, &mut chair, kind, self.shape.agents, entry);
+        self.chair = Some(chair);
+        released
+    }
+
+    /// Where a requester shows an owed credit of the type, claims an entry of the type and releases it.
+    /// None where no credit of the type was seen owed, or each entry of the type was found claimed.
+    ///
+    /// Condition: the type has entries.
+    #[tactic(auto, using(crate::proofs::Sweeps::tended_hand))]
+    pub fn tend<A: Allocator>(&mut self, tracker: &Tracker<A>, ty: CreditType) -> Option<Released>
+        requires table { self.old.table ≡ tracker.now.table }
+        requires entries { 0 < size self.old.port.shape (credit_number ty) }
+        ensures table { self.new.table ≡ self.old.table }
+        ensures port { Tended self.old.port (credit_number ty) result self.new.port }
+        ensures credits { HasSameCredits self.old.port self.new.port }
+        ensures hand { (i : ℕ) → has i self.new.port ≡ has i self.old.port }
+    {
+        let board = tracker.board();
+        let Some(mut chair) = self.chair.take() else {
+            unreachable!();
+        };
+        let (kind, agents) = (ty.number() as usize, self.shape.agents);
+        let (first, count) = (self.shape.first(ty), self.shape.count(ty));
+        let released = tend_type(board, &mut chair, kind, agents, first, count);
+        self.chair = Some(chair);
+        released
+    }
+}

@@ -1,0 +1,12 @@
+//! Where a released entry went.
+
+use chi_flit::Agent;
+
+/// Where a released entry went.
+#[derive(Clone, Copy, Debug, PartialEq, Eq)]
+pub enum Released {
+    /// It was promised to this requester, for a credit that was owed to it.
+    Granted(Agent),
+    /// No credit of its type was seen owed: it is free.
+    Freed,
+}

@@ -1,0 +1,73 @@
+//! Sets of entries as words of 64 bits, and the places in a word of owed credits.
+
+ghost use Rattle.std.specs.Prelude.{◌≡◌, ℕ, ◌+◌, ◌*◌, ◌<◌, ◌≤◌, slice_index};
+ghost use Rattle.std.specs.Int.{bit_at};
+ghost use Rattle.chi_tracker.specs.Sums.{set_at};
+ghost use Rattle.chi_tracker.specs.Shape.{low, size};
+ghost use Rattle.chi_tracker.specs.Calls.{set_count};
+ghost use Rattle.chi_tracker.specs.Steps.{first_clear};
+
+use crate::marks::is_set;
+use crate::shape::Shape;
+
+/// The lowest clear place of the type, as 8 times the type and the place.
+pub(crate) fn first_clear(word: u64, ty: usize) -> usize
+    requires kind { ty < 4 }
+    requires clear { (bit_at word (first_clear (8 * ty) word) ≡ 0) × (first_clear (8 * ty) word < 8 * ty + 8) }
+    ensures { result ≡ first_clear (8 * ty) word }
+{
+    for place in 8 * ty..8 * ty + 8 {
+        if !is_set(word, place) {
+            return place;
+        }
+    }
+    unreachable!()
+}
+
+/// How many of the `count` entries from `start` on are in the set.
+fn set_count(words: [u64; 4], start: usize, count: usize) -> u32
+    requires { start + count ≤ 256 }
+    ensures is { result ≡ set_count words start count }
+    ensures few { result ≤ count }
+{
+    let mut found = 0;
+    for i in 0..count {
+        let entry = start + i;
+        if is_set(words[entry / 64], entry % 64) {
+            found += 1;
+        }
+    }
+    found
+}
+
+/// How many entries of each type are in the set.
+pub(crate) fn counts(words: [u64; 4], shape: Shape) -> [u32; 4]
+    requires { low shape 4 ≤ 256 }
+    ensures { (t : ℕ) → t < 4 → slice_index result t ≡ set_count words (low shape t) (size shape t) }
+{
+    if words == [0; 4] {
+        return [0; 4];
+    }
+    let [zero, one, two, three] = shape.sizes;
+    [
+        set_count(words, 0, zero),
+        set_count(words, zero, one),
+        set_count(words, zero + one, two),
+        set_count(words, zero + one + two, three),
+    ]
+}
+
+/// The lowest of the `count` entries from `start` on that is in the set.
+pub(crate) fn lowest(words: [u64; 4], start: usize, count: usize) -> usize
+    requires { (start + count ≤ 256) × (0 < set_count words start count) }
+    ensures within { (start ≤ result) × (result < start + count) }
+    ensures set { set_at words result ≡ 1 }
+    ensures lowest { (i : ℕ) → start ≤ i → i < result → set_at words i ≡ 0 }
+{
+    for entry in start..start + count {
+        if is_set(words[entry / 64], entry % 64) {
+            return entry;
+        }
+    }
+    unreachable!()
+}

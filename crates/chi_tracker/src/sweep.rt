@@ -1,0 +1,140 @@
+//! The sweep of the requesters for an owed credit of a type.
+
+ghost use Rattle.std.specs.Prelude.{◌≡◌, ◌+◌, ◌<◌, ◌*◌, ◌≤◌, None, MatchBool, MatchOption};
+ghost use Rattle.chi_tracker.specs.Shape.{low, size, IsOf};
+ghost use Rattle.chi_tracker.specs.Views.{Sweep, has};
+ghost use Rattle.chi_tracker.specs.Steps.{solo, port_of, byte_of};
+ghost use Rattle.chi_tracker.specs.Calls.{with_sweep, swept_all, granted_to, freed_entry, Ended, Tended};
+
+use crate::law::{Board, Chair};
+use crate::marks::is_set;
+use crate::released::Released;
+use crate::scan::scan;
+use crate::steps::{free_step, promise_step, settle_step, sweep_step};
+use chi_flit::Agent;
+
+/// The places of the type in a word of owed credits.
+fn byte(word: u64, ty: usize) -> u64
+    requires { ty < 4 }
+    ensures { result ≡ byte_of ty word }
+{
+    (word >> (8 * ty)) % 256
+}
+
+/// Tries to settle the places of the type that a look at the requester showed, from place 0, for an entry
+/// in hand of the type. True where it was promised to the requester.
+fn settle_places(
+    board: &Board,
+    chair: &mut Chair,
+    ty: usize,
+    agent: usize,
+    word: u64,
+    entry: usize,
+) -> bool
+    requires table { (chair.old.table_id ≡ board.now.table_id) × (board.now.table_id.words ≡ 44) }
+    requires view { (chair.old.me ≡ solo (port_of chair.old.me)) × ((port_of chair.old.me).duty ≡ None) × (has entry (port_of chair.old.me) ≡ 1) }
+    requires sweep { (port_of chair.old.me).sweep ≡ record { opened = (port_of chair.old.me).sweep.opened; kind = ty; at = agent; left = byte_of ty word } }
+    requires range { (ty < 4) × (agent < (port_of chair.old.me).shape.agents) × (agent < 8) × (entry < 256) × IsOf (port_of chair.old.me).shape ty entry }
+    ensures table { chair.new.table_id ≡ chair.old.table_id }
+    ensures view { MatchBool result ((s : Sweep) × (chair.new.me ≡ solo (granted_to agent entry (with_sweep s (port_of chair.old.me))))) (chair.new.me ≡ solo (with_sweep (record (port_of chair.old.me).sweep { left = 0 }) (port_of chair.old.me))) }
+{
+    for place in 8 * ty..8 * ty + 8 {
+        if is_set(word, place) {
+            let old = settle_step(board, chair, agent, place, entry);
+            if is_set(old, place) {
+                promise_step(board, chair, agent, place, entry);
+                return true;
+            }
+        }
+    }
+    false
+}
+
+/// Releases an entry in hand of the type: it is promised to the first requester, in rising order, of
+/// which a place could be settled; where there is none it is freed. Answers the requester.
+fn settle_first(
+    board: &Board,
+    chair: &mut Chair,
+    ty: usize,
+    agents: usize,
+    entry: usize,
+) -> Option<usize>
+    requires table { (chair.old.table_id ≡ board.now.table_id) × (board.now.table_id.words ≡ 44) }
+    requires view { (chair.old.me ≡ solo (port_of chair.old.me)) × ((port_of chair.old.me).duty ≡ None) × (has entry (port_of chair.old.me) ≡ 1) }
+    requires range { (ty < 4) × (agents ≡ (port_of chair.old.me).shape.agents) × (0 < agents) × (agents ≤ 8) × (entry < 256) × IsOf (port_of chair.old.me).shape ty entry }
+    ensures table { chair.new.table_id ≡ chair.old.table_id }
+    ensures view { MatchOption result (chair.new.me ≡ solo (freed_entry entry (swept_all ty (port_of chair.old.me)))) (λ m. (m < agents) × ((s : Sweep) × (chair.new.me ≡ solo (granted_to m entry (with_sweep s (port_of chair.old.me)))))) }
+{
+    for agent in 0..agents {
+        let word = sweep_step(board, chair, ty, agent);
+        if settle_places(board, chair, ty, agent, word, entry) {
+            return Some(agent);
+        }
+    }
+    free_step(board, chair, entry);
+    None
+}
+
+/// Releases an entry in hand of the type, as `settle_first` does.
+pub(crate) fn release_entry(
+    board: &Board,
+    chair: &mut Chair,
+    ty: usize,
+    agents: usize,
+    entry: usize,
+) -> Released
+    requires table { (chair.old.table_id ≡ board.now.table_id) × (board.now.table_id.words ≡ 44) }
+    requires view { (chair.old.me ≡ solo (port_of chair.old.me)) × ((port_of chair.old.me).duty ≡ None) × (has entry (port_of chair.old.me) ≡ 1) }
+    requires range { (ty < 4) × (agents ≡ (port_of chair.old.me).shape.agents) × (0 < agents) × (agents ≤ 8) × (entry < 256) × IsOf (port_of chair.old.me).shape ty entry }
+    ensures table { chair.new.table_id ≡ chair.old.table_id }
+    ensures alone { chair.new.me ≡ solo (port_of chair.new.me) }
+    ensures view { Ended (port_of chair.old.me) ty entry result (port_of chair.new.me) }
+{
+    match settle_first(board, chair, ty, agents, entry) {
+        Some(agent) => Released::Granted(Agent(agent as u8)),
+        None => Released::Freed,
+    }
+}
+
+/// Looks at the requesters, in rising order, until one shows an owed credit of the type. True where one
+/// did.
+pub(crate) fn look_owed(board: &Board, chair: &mut Chair, ty: usize, agents: usize) -> bool
+    requires table { (chair.old.table_id ≡ board.now.table_id) × (board.now.table_id.words ≡ 44) }
+    requires view { chair.old.me ≡ solo (port_of chair.old.me) }
+    requires range { (ty < 4) × (agents ≡ (port_of chair.old.me).shape.agents) × (0 < agents) × (agents ≤ 8) }
+    ensures table { chair.new.table_id ≡ chair.old.table_id }
+    ensures view { MatchBool result ((s : Sweep) × (chair.new.me ≡ solo (with_sweep s (port_of chair.old.me)))) (chair.new.me ≡ solo (swept_all ty (port_of chair.old.me))) }
+{
+    for agent in 0..agents {
+        let shown = sweep_step(board, chair, ty, agent);
+        if byte(shown, ty) != 0 {
+            return true;
+        }
+    }
+    false
+}
+
+/// Where a requester shows an owed credit of the type, claims an entry of the type and releases it.
+#[tactic(auto, using(crate::proofs::BitLaws::with_here))]
+pub(crate) fn tend_type(
+    board: &Board,
+    chair: &mut Chair,
+    ty: usize,
+    agents: usize,
+    first: usize,
+    count: usize,
+) -> Option<Released>
+    requires table { (chair.old.table_id ≡ board.now.table_id) × (board.now.table_id.words ≡ 44) }
+    requires view { (chair.old.me ≡ solo (port_of chair.old.me)) × ((port_of chair.old.me).duty ≡ None) }
+    requires agents { (ty < 4) × (agents ≡ (port_of chair.old.me).shape.agents) × (0 < agents) × (agents ≤ 8) }
+    requires range { (first ≡ low (port_of chair.old.me).shape ty) × (count ≡ size (port_of chair.old.me).shape ty) × (0 < count) × (first + count ≤ 256) }
+    ensures table { chair.new.table_id ≡ chair.old.table_id }
+    ensures alone { chair.new.me ≡ solo (port_of chair.new.me) }
+    ensures view { Tended (port_of chair.old.me) ty result (port_of chair.new.me) }
+{
+    if !look_owed(board, chair, ty, agents) {
+        return None;
+    }
+    let entry = scan(board, chair, ty, first, count)?;
+    Some(release_entry(board, chair, ty, agents, entry))
+}

@@ -1,0 +1,18 @@
+//! What a seat at the table knows.
+
+ghost use Rattle.std.specs.Prelude.{List};
+ghost use Rattle.chi_tracker.specs.Views.{PortView};
+
+use std::marker::Model;
+
+/// The ports that a seat stands for: one, or all of those that were joined. It has no bytes, and no
+/// value of it is made.
+pub struct SeatView {
+    pub ghost ports: { List PortView },
+}
+
+impl Model for SeatView {
+    ghost use base.Fml.{ftrue};
+
+    ghost also_owns = { λ _. ftrue };
+}
