@@ -1,10 +1,10 @@
 -- The end of a tracker: all ports in one seat, what was due added up, and the credits of each requester.
-use Rattle.std.proofs.Common.{◌≡◌, ◌≢◌, ℕ, zero, suc, ◌+◌, ◌*◌, ◌<◌, ◌≤◌, cond, eqb, List, [], ◌∷◌, ◌++◌, All, length, slice_index, slice_index_or, Option, Some, None, option_to_list, refl, sym, ap, ◌∙◌, subst, arith, append_assoc, length-append, append-nil, eq-eqb, ne_eqb}
+use Rattle.std.proofs.Common.{◌≡◌, ◌≢◌, ℕ, zero, suc, ◌+◌, ◌*◌, ◌<◌, ◌≤◌, cond, eqb, List, [], ◌∷◌, ◌++◌, All, length, slice_index, None, refl, sym, ap, ◌∙◌, subst, arith, append_assoc, length-append, append-nil, eq-eqb, ne_eqb}
 use mathlib.Core.Option.{some, some-injective, some-ne-none}
 use mathlib.Core.Logic.{dite}
 use native.Mathlib.Decide.{ℕ_discrete}
 use lib.ListN.{get_elem?, get_or-append}
-use lib.Seq.{get_or-append_seam, ext_get_or}
+use lib.Seq.{get_or-append_seam}
 use Rattle.atomic_table.specs.Table.{Me, State}
 use Rattle.atomic_table.specs.Seated.{TableId}
 use Rattle.atomic_table.specs.declared.shared.Seat.{Seat}
@@ -13,15 +13,14 @@ use Rattle.chi_tracker.specs.declared.view.SeatView.{SeatView}
 use Rattle.chi_tracker.specs.declared.totals.Counts.{Counts}
 use Rattle.chi_tracker.specs.declared.totals.Credits.{Credits}
 use Rattle.chi_tracker.specs.Sums.{below, total}
-use Rattle.chi_tracker.specs.Shape.{low, count_of, owed_in}
+use Rattle.chi_tracker.specs.Shape.{count_of, owed_in}
 use Rattle.chi_tracker.specs.Words.{c_of, p_of, o_of}
 use Rattle.chi_tracker.specs.Views.{PortView, has}
-use Rattle.chi_tracker.specs.Rule.{weigh, of_port, duty_is, AllSound, Fits, TrackerRule}
+use Rattle.chi_tracker.specs.Rule.{weigh, duty_is, AllSound, Fits, TrackerRule}
 use Rattle.chi_tracker.specs.Steps.{solo}
-use Rattle.chi_tracker.specs.Laws.{port_at, Place, Ledger, duties}
+use Rattle.chi_tracker.specs.Laws.{port_at, Ledger, duties}
 use Rattle.chi_tracker.specs.Calls.{Owner}
 use Rattle.chi_tracker.specs.Totals.{views_of, sum_of, AreDue, AreCredits, credits_at, no_credits, IsClosed, IsCount, IsBalanced}
-use Rattle.chi_tracker.proofs.Adding.{total-append}
 use Rattle.chi_tracker.proofs.Moving.{of_mine, of_other}
 use Rattle.chi_tracker.proofs.Opening.{regroup, seats-at}
 use Rattle.chi_tracker.proofs.Exactly.{place_of, ledger_of}
@@ -81,15 +80,16 @@ pub gathering_more : (z : TableId) (all left left' : List Owner) (seat seat' : S
 gathering_more z all left left' seat seat' own dues dues' o number due g is table own_is joined num duty due_is sum small =
     let p : PortView = o.port in let ps : List PortView = seat.me.0.ports in
     let now : seat'.me.0.ports ≡ p ∷ ps = ap (λ (m : Me ℕ SeatView). m.0.ports) joined ∙ ap (λ (m : Me ℕ SeatView). m.0.ports ++ ps) own_is in
-    let h : OnPorts all left' (p ∷ ps) dues' =
-      (sym (append_assoc (views_of left') (p ∷ []) ps) ∙ ap (λ vs. vs ++ ps) (sym (views-append left' (o ∷ [])) ∙ ap views_of (sym is)) ∙ g.ports,
-       (λ n t. let a : duty_is n t p.duty ≡ 0 = ap (duty_is n t) duty in let b = g.idle n t in omega arith),
-       (λ n t ln lt. dite (ℕ_discrete p.who n)
-         (λ q. let a = of_mine n (λ x. slice_index x.spent t) p q in let b = of_mine n (λ x. slice_index x.returned t) p q in let d = of_mine n (λ x. slice_index x.retries t) p q in
-           let s = sum n t ln lt in let c : cond (eqb number n) (slice_index due t) 0 ≡ slice_index due t = ap (λ z. cond z (slice_index due t) 0) (eq-eqb number n (num ∙ q)) in let h = due_is t lt in let k = g.due n t ln lt in omega arith)
-         (λ f. let a = of_other n (λ x. slice_index x.spent t) p f in let b = of_other n (λ x. slice_index x.returned t) p f in let d = of_other n (λ x. slice_index x.retries t) p f in
-           let s = sum n t ln lt in let c : cond (eqb number n) (slice_index due t) 0 ≡ 0 = ap (λ z. cond z (slice_index due t) 0) (ne_eqb number n (λ q. f (sym num ∙ q))) in let k = g.due n t ln lt in omega arith)),
-       (λ i l. let h = g.small i l in let k = small i l in omega arith)) in
+    let h : OnPorts all left' (p ∷ ps) dues' = (
+      sym (append_assoc (views_of left') (p ∷ []) ps) ∙ ap (λ vs. vs ++ ps) (sym (views-append left' (o ∷ [])) ∙ ap views_of (sym is)) ∙ g.ports,
+      (λ n t. let a : duty_is n t p.duty ≡ 0 = ap (duty_is n t) duty in let b = g.idle n t in omega arith),
+      (λ n t ln lt. dite (ℕ_discrete p.who n)
+          (λ q. let a = of_mine n (λ x. slice_index x.spent t) p q in let b = of_mine n (λ x. slice_index x.returned t) p q in let d = of_mine n (λ x. slice_index x.retries t) p q in
+          let s = sum n t ln lt in let c : cond (eqb number n) (slice_index due t) 0 ≡ slice_index due t = ap (λ z. cond z (slice_index due t) 0) (eq-eqb number n (num ∙ q)) in let h = due_is t lt in let k = g.due n t ln lt in omega arith)
+          (λ f. let a = of_other n (λ x. slice_index x.spent t) p f in let b = of_other n (λ x. slice_index x.returned t) p f in let d = of_other n (λ x. slice_index x.retries t) p f in
+          let s = sum n t ln lt in let c : cond (eqb number n) (slice_index due t) 0 ≡ 0 = ap (λ z. cond z (slice_index due t) 0) (ne_eqb number n (λ q. f (sym num ∙ q))) in let k = g.due n t ln lt in omega arith)),
+      (λ i l. let h = g.small i l in let k = small i l in omega arith),
+    ) in
     let k = subst (λ (qs : List PortView). OnPorts all left' qs dues') (sym now) h in
     record { table = table ∙ g.table; own = rest_own z left' o (subst (All (λ o. o.table ≡ z)) is g.own); ports = k.0; idle = k.1; due = k.2; small = k.3 }
 
@@ -129,14 +129,15 @@ credits_more s ws dues m all all' x a is due owed promised =
     subst (AreCredits s ws dues (m + 1)) (sym is) (record {
       requesters = omega (arith, length-append all (x ∷ []), a.requesters);
       owed = λ n t ln lt. dite (ℕ_discrete n m)
-        (λ q. ap (λ k. slice_index (credits_at (all ++ x ∷ []) k).owed t) q ∙ ap (λ c. slice_index c.owed t) last ∙ owed t lt ∙ ap (λ k. owed_in t (o_of ws k)) (sym q))
-        (λ d. ap (λ c. slice_index c.owed t) (at n (omega arith)) ∙ a.owed n t (omega arith) lt);
+          (λ q. ap (λ k. slice_index (credits_at (all ++ x ∷ []) k).owed t) q ∙ ap (λ c. slice_index c.owed t) last ∙ owed t lt ∙ ap (λ k. owed_in t (o_of ws k)) (sym q))
+          (λ d. ap (λ c. slice_index c.owed t) (at n (omega arith)) ∙ a.owed n t (omega arith) lt);
       promised = λ n t ln lt. dite (ℕ_discrete n m)
-        (λ q. ap (λ k. slice_index (credits_at (all ++ x ∷ []) k).promised t) q ∙ ap (λ c. slice_index c.promised t) last ∙ promised t lt ∙ ap (λ k. count_of s t (p_of ws k)) (sym q))
-        (λ d. ap (λ c. slice_index c.promised t) (at n (omega arith)) ∙ a.promised n t (omega arith) lt);
+          (λ q. ap (λ k. slice_index (credits_at (all ++ x ∷ []) k).promised t) q ∙ ap (λ c. slice_index c.promised t) last ∙ promised t lt ∙ ap (λ k. count_of s t (p_of ws k)) (sym q))
+          (λ d. ap (λ c. slice_index c.promised t) (at n (omega arith)) ∙ a.promised n t (omega arith) lt);
       due = λ n t ln lt. dite (ℕ_discrete n m)
-        (λ q. ap (λ k. slice_index (credits_at (all ++ x ∷ []) k).due t) q ∙ ap (λ c. slice_index c.due t) last ∙ due t lt ∙ ap (λ k. slice_index dues (4 * k + t)) (sym q))
-        (λ d. ap (λ c. slice_index c.due t) (at n (omega arith)) ∙ a.due n t (omega arith) lt) })
+          (λ q. ap (λ k. slice_index (credits_at (all ++ x ∷ []) k).due t) q ∙ ap (λ c. slice_index c.due t) last ∙ due t lt ∙ ap (λ k. slice_index dues (4 * k + t)) (sym q))
+          (λ d. ap (λ c. slice_index c.due t) (at n (omega arith)) ∙ a.due n t (omega arith) lt);
+    })
 
 -- what the last state has, and the numbers read from it
 pub closes : (key : Shape) (st : State ℕ SeatView) (id : ℕ) (v : SeatView) (ports : List PortView) (dues : List ℕ) (counts : Counts) (credits : List Credits) → TrackerRule key st → get_elem? st.views id ≡ some v → v.ports ≡ ports → length ports ≡ key.agents
@@ -144,17 +145,18 @@ pub closes : (key : Shape) (st : State ℕ SeatView) (id : ℕ) (v : SeatView) (
 closes key st id v ports dues counts credits rule at is many idle due counted handed =
     let all : (f : PortView → ℕ) → weigh f st.views ≡ total f ports = λ f. whole f st.views id v at (omega (arith, rule.fits.ports, ones v.ports, ap length is)) ∙ ap (total f) is in
     let whole_seat : Fits key (c_of st.words) (p_of st.words) (o_of st.words) (record { ports = ports } ∷ []) = regroup key (c_of st.words) (p_of st.words) (o_of st.words) st.views (record { ports = ports } ∷ [])
-          (λ f. omega (arith, all f)) (subst (AllSound key) is (seats-at key st.views id v rule.fits.sound at), tt) rule.fits in record {
-  words = st.words;
-  place = λ e l. let le : e < 256 = omega (arith, l, rule.entries) in place_of key.agents (c_of st.words) (p_of st.words) ports e (rule.fits.bits e le) (rule.fits.place e le ∙ ap (λ z. z + below (λ n. p_of st.words n e) key.agents) (all (has e)));
-  ledger = λ n t ln lt. subst (λ (ps : List PortView). Ledger key (p_of st.words) (o_of st.words) ps n t) (append-nil ports)
-    (ledger_of key (c_of st.words) (p_of st.words) (o_of st.words) (record { ports = ports } ∷ []) whole_seat n t ln lt);
-  no_duty = idle;
-  counted = counted;
-  requesters = handed.requesters;
-  owed = handed.owed;
-  promised = handed.promised;
-  due = λ n t ln lt. let h = handed.due n t ln lt in let k = due n t (omega (arith, rule.agents)) lt in omega arith }
+    (λ f. omega (arith, all f)) (subst (AllSound key) is (seats-at key st.views id v rule.fits.sound at), tt) rule.fits in record {
+      words = st.words;
+      place = λ e l. let le : e < 256 = omega (arith, l, rule.entries) in place_of key.agents (c_of st.words) (p_of st.words) ports e (rule.fits.bits e le) (rule.fits.place e le ∙ ap (λ z. z + below (λ n. p_of st.words n e) key.agents) (all (has e)));
+      ledger = λ n t ln lt. subst (λ (ps : List PortView). Ledger key (p_of st.words) (o_of st.words) ps n t) (append-nil ports)
+          (ledger_of key (c_of st.words) (p_of st.words) (o_of st.words) (record { ports = ports } ∷ []) whole_seat n t ln lt);
+      no_duty = idle;
+      counted = counted;
+      requesters = handed.requesters;
+      owed = handed.owed;
+      promised = handed.promised;
+      due = λ n t ln lt. let h = handed.due n t ln lt in let k = due n t (omega (arith, rule.agents)) lt in omega arith;
+    }
 
 -- what is due is what is owed and what is promised
 pub balances : (s : Shape) (ports : List PortView) (counts : Counts) (credits : List Credits) → s.agents ≤ 8 → IsClosed s ports counts credits → IsBalanced s.agents credits

@@ -1,5 +1,5 @@
 -- Bits put into a number and taken out, and sets of entries in words of 64 bits.
-use Rattle.std.proofs.Common.{◌≡◌, ◌≢◌, ℕ, zero, suc, ◌+◌, ◌-◌, ◌*◌, ◌/◌, ◌%◌, ◌^◌, ◌<◌, ◌≤◌, min, max, List, [], ◌∷◌, length, set, get_or, slice_index, slice_set, bit_and, bit_or, bit_xor, refl, sym, ap, ◌∙◌, subst, arith, get_or-set_other, get_or-set_same, pow_pos, pow_mono, w64}
+use Rattle.std.proofs.Common.{◌≡◌, ◌≢◌, ℕ, zero, suc, ◌+◌, ◌-◌, ◌/◌, ◌%◌, ◌^◌, ◌<◌, ◌≤◌, List, [], ◌∷◌, length, slice_index, slice_set, bit_and, sym, ap, ◌∙◌, subst, arith, get_or-set_other, get_or-set_same, pow_pos, pow_mono, w64}
 use mathlib.Core.Logic.{dite}
 use native.Mathlib.Decide.{ℕ_discrete}
 use Rattle.std.specs.Int.{bit_at}
@@ -48,21 +48,21 @@ same_place a b q r = omega arith
 pub taken_le : (words : List ℕ) (e i : ℕ) → set_at (take_out words e) i ≤ set_at words i
 taken_le words e i = dite (ℕ_discrete (i / 64) (e / 64))
     (λ q. dite (ℕ_discrete (i % 64) (e % 64))
-      (λ r. let d : i ≡ e = same_place i e q r in subst (λ (x : ℕ). set_at (take_out words e) x ≤ set_at words x) (sym d) (omega (arith, taken_here words e)))
-      (λ r. let old = slice_index words (e / 64) in let x : ℕ = bit_and old (all_but (e % 64)) in
-        let a : bit_at (slice_index (slice_set words (e / 64) x) (i / 64)) (i % 64) ≤ bit_at x (i % 64) = subst (λ (k : ℕ). bit_at (slice_index (slice_set words (e / 64) x) k) (i % 64) ≤ bit_at x (i % 64)) (sym q) (put_there words (e / 64) x (i % 64)) in
-        let b : bit_at x (i % 64) ≡ bit_at old (i % 64) = but_else old (e % 64) (i % 64) (omega arith) (omega arith) r in
-        let c : bit_at old (i % 64) ≡ set_at words i = ap (λ (k : ℕ). bit_at (slice_index words k) (i % 64)) (sym q) in omega arith))
+    (λ r. let d : i ≡ e = same_place i e q r in subst (λ (x : ℕ). set_at (take_out words e) x ≤ set_at words x) (sym d) (omega (arith, taken_here words e)))
+    (λ r. let old = slice_index words (e / 64) in let x : ℕ = bit_and old (all_but (e % 64)) in
+    let a : bit_at (slice_index (slice_set words (e / 64) x) (i / 64)) (i % 64) ≤ bit_at x (i % 64) = subst (λ (k : ℕ). bit_at (slice_index (slice_set words (e / 64) x) k) (i % 64) ≤ bit_at x (i % 64)) (sym q) (put_there words (e / 64) x (i % 64)) in
+    let b : bit_at x (i % 64) ≡ bit_at old (i % 64) = but_else old (e % 64) (i % 64) (omega arith) (omega arith) r in
+    let c : bit_at old (i % 64) ≡ set_at words i = ap (λ (k : ℕ). bit_at (slice_index words k) (i % 64)) (sym q) in omega arith))
     (λ d. let h = ap (λ (w : ℕ). bit_at w (i % 64)) (get_or-set_other words (e / 64) (i / 64) (bit_and (slice_index words (e / 64)) (all_but (e % 64))) 0 d) in omega arith)
 
 -- the same as an equation at other entries, where the list has the word
 pub taken_else : (words : List ℕ) (e i : ℕ) → i ≢ e → e / 64 < length words → set_at (take_out words e) i ≡ set_at words i
 taken_else words e i d l = dite (ℕ_discrete (i / 64) (e / 64))
     (λ q. let old = slice_index words (e / 64) in let x : ℕ = bit_and old (all_but (e % 64)) in
-      let w : slice_index (slice_set words (e / 64) x) (i / 64) ≡ x = ap (λ (k : ℕ). slice_index (slice_set words (e / 64) x) k) q ∙ get_or-set_same words (e / 64) x 0 l in
-      let a = ap (λ (y : ℕ). bit_at y (i % 64)) w in
-      let b : bit_at x (i % 64) ≡ bit_at old (i % 64) = but_else old (e % 64) (i % 64) (omega arith) (omega arith) (λ r. d (same_place i e q r)) in
-      let c : bit_at old (i % 64) ≡ set_at words i = ap (λ (k : ℕ). bit_at (slice_index words k) (i % 64)) (sym q) in omega arith)
+    let w : slice_index (slice_set words (e / 64) x) (i / 64) ≡ x = ap (λ (k : ℕ). slice_index (slice_set words (e / 64) x) k) q ∙ get_or-set_same words (e / 64) x 0 l in
+    let a = ap (λ (y : ℕ). bit_at y (i % 64)) w in
+    let b : bit_at x (i % 64) ≡ bit_at old (i % 64) = but_else old (e % 64) (i % 64) (omega arith) (omega arith) (λ r. d (same_place i e q r)) in
+    let c : bit_at old (i % 64) ≡ set_at words i = ap (λ (k : ℕ). bit_at (slice_index words k) (i % 64)) (sym q) in omega arith)
     (λ o. let h = ap (λ (w : ℕ). bit_at w (i % 64)) (get_or-set_other words (e / 64) (i / 64) (bit_and (slice_index words (e / 64)) (all_but (e % 64))) 0 o) in omega arith)
 
 -- the first numbers are in a set, and one more is put in

@@ -1,10 +1,10 @@
 -- Lists of new ports, as they are dealt out one after the other.
-use Rattle.std.proofs.Common.{◌≡◌, ℕ, zero, suc, ◌+◌, ◌-◌, ◌<◌, ◌≤◌, List, [], ◌∷◌, ◌++◌, All, length, slice_index_or, subst, refl, sym, ap, ◌∙◌, arith}
+use Rattle.std.proofs.Common.{◌≡◌, ℕ, zero, suc, ◌+◌, ◌-◌, ◌<◌, List, [], ◌∷◌, ◌++◌, All, length, slice_index_or, subst, refl, sym, ap, ◌∙◌, arith}
 use Rattle.atomic_table.specs.Table.{Me}
 use Rattle.atomic_table.specs.Seated.{TableId}
 use Rattle.chi_tracker.specs.declared.view.SeatView.{SeatView}
 use Rattle.chi_tracker.specs.declared.shape.Shape.{Shape}
-use Rattle.chi_tracker.specs.Views.{PortView, new_port, new_ports}
+use Rattle.chi_tracker.specs.Views.{new_port, new_ports}
 use Rattle.chi_tracker.specs.Calls.{Owner, owners, rest_ports}
 
 pub ports_next : (s : Shape) (n a : ℕ) → n < a → new_ports s n (a - n) ≡ new_port s n ∷ new_ports s (n + 1) (a - (n + 1))

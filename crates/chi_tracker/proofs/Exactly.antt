@@ -1,5 +1,5 @@
 -- From the rule's sums to Place and Ledger in their literal words.
-use Rattle.std.proofs.Common.{◌≡◌, ◌≢◌, ◌⊎◌, inl, inr, ℕ, zero, suc, ◌+◌, ◌<◌, ◌≤◌, List, [], ◌∷◌, ◌++◌, length, slice_index, slice_index_or, refl, sym, ap, ◌∙◌, subst, arith}
+use Rattle.std.proofs.Common.{◌≡◌, ◌≢◌, inl, inr, ℕ, zero, suc, ◌+◌, ◌<◌, ◌≤◌, List, [], ◌∷◌, length, slice_index, refl, sym, ap, ◌∙◌, arith}
 use mathlib.Core.Logic.{dite}
 use native.Mathlib.Decide.{ℕ_discrete}
 use Rattle.std.proofs.lemmas.Nat.Bits.{bit_at-zero}
@@ -7,12 +7,11 @@ use Rattle.atomic_table.specs.Table.{State}
 use Rattle.chi_tracker.specs.declared.shape.Shape.{Shape}
 use Rattle.chi_tracker.specs.declared.view.SeatView.{SeatView}
 use Rattle.chi_tracker.specs.Sums.{below, total}
-use Rattle.chi_tracker.specs.Shape.{low, count_of, owed_in}
 use Rattle.chi_tracker.specs.Words.{c_of, p_of, o_of}
 use Rattle.chi_tracker.specs.Views.{PortView, has, new_port}
 use Rattle.chi_tracker.specs.Rule.{weigh, of_port, duty_is, Fits, TrackerRule}
 use Rattle.chi_tracker.specs.Steps.{no_shape}
-use Rattle.chi_tracker.specs.Laws.{all_ports, port_at, InNoHand, InOneHand, PromisedToNone, PromisedToOne, Place, Places, duties, Ledger, Ledgers}
+use Rattle.chi_tracker.specs.Laws.{all_ports, port_at, Place, Places, Ledger, Ledgers}
 use Rattle.chi_tracker.proofs.Adding.{total-append, below_term}
 use Rattle.chi_tracker.proofs.Moving.{of_mine, of_other}
 
@@ -55,8 +54,8 @@ pub place_of : (agents : ℕ) (c : ℕ → ℕ) (p : ℕ → ℕ → ℕ) (ports
 place_of agents c p ports e bit is = dite (ℕ_discrete (c e) 0)
     (λ q. inl (q, none_in (has e) ports (bit_at-zero e) (omega arith), none_below (λ n. p n e) agents (omega arith)))
     (λ q. inr (dite (ℕ_discrete (total (has e) ports) 0)
-      (λ z. inr (omega arith, none_in (has e) ports (bit_at-zero e) z, one_below (λ n. p n e) agents (omega arith)))
-      (λ z. inl (omega arith, one_in (has e) ports (bit_at-zero e) (omega arith), none_below (λ n. p n e) agents (omega arith)))))
+    (λ z. inr (omega arith, none_in (has e) ports (bit_at-zero e) z, one_below (λ n. p n e) agents (omega arith)))
+    (λ z. inl (omega arith, one_in (has e) ports (bit_at-zero e) (omega arith), none_below (λ n. p n e) agents (omega arith)))))
 
 pub places : (key : Shape) (st : State ℕ SeatView) → TrackerRule key st → Places key st
 places key st rule e l = let le : e < 256 = omega (arith, l, rule.entries) in

@@ -1,5 +1,5 @@
 -- What a port keeps between two calls, after each call.
-use Rattle.std.proofs.Common.{◌≡◌, ◌≢◌, ℕ, ◌+◌, ◌-◌, ◌*◌, ◌/◌, ◌%◌, ◌<◌, ◌≤◌, List, [], ◌∷◌, length, slice_index, slice_set, Option, Some, None, refl, sym, ap, ◌∙◌, subst, arith, get_or-set_other, get_or-set_same}
+use Rattle.std.proofs.Common.{◌≡◌, ◌≢◌, ℕ, ◌+◌, ◌-◌, ◌<◌, ◌≤◌, List, length, slice_index, slice_set, Option, Some, None, refl, sym, ap, ◌∙◌, subst, arith, get_or-set_other, get_or-set_same}
 use mathlib.Core.Logic.{dite}
 use native.Mathlib.Decide.{ℕ_discrete}
 use Rattle.atomic_table.specs.Table.{Me}
@@ -7,8 +7,8 @@ use Rattle.atomic_table.specs.declared.shared.Seat.{Seat}
 use Rattle.chi_tracker.specs.declared.shape.Shape.{Shape}
 use Rattle.chi_tracker.specs.declared.view.SeatView.{SeatView}
 use Rattle.chi_tracker.specs.Sums.{raised, set_at, take_out}
-use Rattle.chi_tracker.specs.Shape.{low, size, IsOf, count_of}
-use Rattle.chi_tracker.specs.Views.{PortView, has}
+use Rattle.chi_tracker.specs.Shape.{low, IsOf, count_of}
+use Rattle.chi_tracker.specs.Views.{PortView}
 use Rattle.chi_tracker.specs.Steps.{solo, port_of, spends, returns_credit}
 use Rattle.chi_tracker.specs.Calls.{Owner, owner_of, IsHeld, IsKept, owed_one, seen_of, IsLowestSeen, Ended, HasOneLess}
 use Rattle.chi_tracker.proofs.Adding.{raised_here, raised_else}
@@ -49,12 +49,12 @@ module _ (m m' : Me ℕ SeatView) (n : ℕ) (s : Shape) (seen due : List ℕ) (t
   pub owed_held : IsHeld m' n s seen (slice_set due t (slice_index due t + 1))
   owed_held = held_after m m' (record x { noted = None; retries = raised x.retries t }) n s seen seen due (slice_set due t (slice_index due t + 1)) held owed refl refl held.seen_is held.no_duty refl
       (λ u lu. dite (ℕ_discrete u t)
-        (λ q. subst (λ (v : ℕ). slice_index (slice_set due t (slice_index due t + 1)) v + (slice_index x.spent v + slice_index x.returned v) ≡ slice_index (raised x.retries t) v) (sym q)
-          (omega (arith, set_here due t (slice_index due t + 1) len lt, raised_here x.retries t, held.due_is t lt)))
-        (λ d. omega (arith, set_else due t u (slice_index due t + 1) d, raised_else x.retries t u d, held.due_is u lu)))
+      (λ q. subst (λ (v : ℕ). slice_index (slice_set due t (slice_index due t + 1)) v + (slice_index x.spent v + slice_index x.returned v) ≡ slice_index (raised x.retries t) v) (sym q)
+      (omega (arith, set_here due t (slice_index due t + 1) len lt, raised_here x.retries t, held.due_is t lt)))
+      (λ d. omega (arith, set_else due t u (slice_index due t + 1) d, raised_else x.retries t u d, held.due_is u lu)))
       (λ u lu. dite (ℕ_discrete u t)
-        (λ q. subst (λ (v : ℕ). slice_index (slice_set due t (slice_index due t + 1)) v ≤ 8) (sym q) (omega (arith, set_here due t (slice_index due t + 1) len lt, held.due_is t lt)))
-        (λ d. omega (arith, set_else due t u (slice_index due t + 1) d, held.few u lu)))
+      (λ q. subst (λ (v : ℕ). slice_index (slice_set due t (slice_index due t + 1)) v ≤ 8) (sym q) (omega (arith, set_here due t (slice_index due t + 1) len lt, held.due_is t lt)))
+      (λ d. omega (arith, set_else due t u (slice_index due t + 1) d, held.few u lu)))
 
 -- after a seen credit of type t was spent or returned
 module _ (m m1 : Me ℕ SeatView) (n : ℕ) (s : Shape) (seen due : List ℕ) (t e : ℕ) (held : IsHeld m n s seen due) (lt : t < 4) (len : length due ≡ 4)
@@ -95,16 +95,17 @@ pub ended_held : (m m' : Me ℕ SeatView) (n : ℕ) (s : Shape) (seen due : List
 ended_held m m' n s seen due t e r held alone ended =
     let same = ended_same (port_of m) t e r (port_of m') ended in
     held_after m m' (port_of m') n s seen seen due due held alone same.0 same.1 (same.2 ∙ held.seen_is) (ended_duty (port_of m) t e r (port_of m') ended) (ended_note (port_of m) t e r (port_of m') ended ∙ held.no_note)
-      (λ u lu. let h = held.due_is u lu in let a = ap (λ z. slice_index z u) same.3 in let b = ap (λ z. slice_index z u) same.4 in let d = ap (λ z. slice_index z u) same.5 in omega arith) held.few
+    (λ u lu. let h = held.due_is u lu in let a = ap (λ z. slice_index z u) same.3 in let b = ap (λ z. slice_index z u) same.4 in let d = ap (λ z. slice_index z u) same.5 in omega arith) held.few
 
 -- a seen credit of type t taken out is one less of the type
 pub one_less : (p q : PortView) (t e : ℕ) → t < 4 → low p.shape 4 ≤ 256 → length p.seen ≡ 4 → IsOf p.shape t e → set_at p.seen e ≡ 1 → q.shape ≡ p.shape → q.seen ≡ take_out p.seen e → HasOneLess t p q
 one_less p q t e lt le len is set shape seen =
     let inside : e < 256 = omega (arith, is.1, in_range p.shape t lt le) in
     let apart : (i : ℕ) → i < 256 → i ≢ e → set_at (take_out p.seen e) i ≡ set_at p.seen i = λ i li d. taken_else p.seen e i d (omega arith) in
-    let now : (u : ℕ) → seen_of q u ≡ count_of p.shape u (set_at (take_out p.seen e)) = λ u. ap (λ s. count_of s u (set_at q.seen)) shape ∙ ap (λ xs. count_of p.shape u (set_at xs)) seen in
-    (omega (arith, now t, count_moved p.shape t e (set_at p.seen) (set_at (take_out p.seen e)) lt le is apart, taken_here p.seen e, set),
-     λ u lu d. now u ∙ count_kept p.shape u t e (set_at p.seen) (set_at (take_out p.seen e)) lu le is d apart)
+    let now : (u : ℕ) → seen_of q u ≡ count_of p.shape u (set_at (take_out p.seen e)) = λ u. ap (λ s. count_of s u (set_at q.seen)) shape ∙ ap (λ xs. count_of p.shape u (set_at xs)) seen in (
+      omega (arith, now t, count_moved p.shape t e (set_at p.seen) (set_at (take_out p.seen e)) lt le is apart, taken_here p.seen e, set),
+      λ u lu d. now u ∙ count_kept p.shape u t e (set_at p.seen) (set_at (take_out p.seen e)) lu le is d apart,
+    )
 
 -- the same of a held port whose seat went from m to m'
 pub spent_less : (p : PortView) (m m' : Me ℕ SeatView) (n : ℕ) (s : Shape) (seen due : List ℕ) (t e : ℕ) → IsHeld m n s seen due → length seen ≡ 4 → p ≡ port_of m → t < 4 → IsOf p.shape t e → set_at p.seen e ≡ 1
@@ -112,4 +113,4 @@ pub spent_less : (p : PortView) (m m' : Me ℕ SeatView) (n : ℕ) (s : Shape) (
 spent_less p m m' n s seen due t e held len at lt is set shape after =
     let sh : p.shape ≡ s = ap (λ x. x.shape) at ∙ held.shape_is in
     one_less p (port_of m') t e lt (subst (λ (z : Shape). low z 4 ≤ 256) (sym sh) held.shaped.1) (ap (λ x. length x.seen) at ∙ ap (λ xs. length xs) held.seen_is ∙ len) is set
-      (shape ∙ ap (λ x. x.shape) (sym at)) (after ∙ ap (λ x. take_out x.seen e) (sym at))
+    (shape ∙ ap (λ x. x.shape) (sym at)) (after ∙ ap (λ x. take_out x.seen e) (sym at))

@@ -1,5 +1,5 @@
 -- The rule goes on when one port's view and the words change: what has to be shown of the change.
-use Rattle.std.proofs.Common.{◌≡◌, ◌≢◌, ℕ, zero, suc, ◌+◌, ◌*◌, ◌<◌, ◌≤◌, Bool, true, false, cond, eqb, List, [], ◌∷◌, set, get_or, slice_index, refl, sym, ap, ◌∙◌, subst, arith, eq-eqb, ne_eqb, eqb→eq, true≢false}
+use Rattle.std.proofs.Common.{◌≡◌, ◌≢◌, ℕ, zero, suc, ◌+◌, ◌<◌, ◌≤◌, cond, eqb, List, [], ◌∷◌, set, slice_index, refl, sym, ap, ◌∙◌, subst, arith, eq-eqb, ne_eqb}
 use mathlib.Core.Option.{some, some-injective, some-ne-none}
 use mathlib.Core.Logic.{dite}
 use native.Mathlib.Decide.{ℕ_discrete}
@@ -8,8 +8,8 @@ use Rattle.std.specs.Int.{bit_at}
 use Rattle.chi_tracker.specs.declared.shape.Shape.{Shape}
 use Rattle.chi_tracker.specs.declared.view.SeatView.{SeatView}
 use Rattle.chi_tracker.specs.Sums.{below, total, set_at}
-use Rattle.chi_tracker.specs.Shape.{low, IsOf, count_of, owed_in}
-use Rattle.chi_tracker.specs.Views.{PortView, Duty, has}
+use Rattle.chi_tracker.specs.Shape.{low, count_of, owed_in}
+use Rattle.chi_tracker.specs.Views.{PortView, has}
 use Rattle.chi_tracker.specs.Rule.{weigh, of_port, duty_is, note_is, IsSound, AllSound, AllSeatsSound, Fits}
 use Rattle.chi_tracker.specs.Steps.{one}
 use Rattle.chi_tracker.proofs.Adding.{weigh-set, weigh-term, below_same}
@@ -80,17 +80,18 @@ module _ (s : Shape) (c c' : ℕ → ℕ) (p p' : ℕ → ℕ → ℕ) (o o' : �
     bits = λ e l. (g.place e (weigh (has e) vs) (weigh (has e) (set vs id (one y))) l (weigh-set (has e) vs id x y at) (fits.bits e l) (fits.place e l)).0;
     place = λ e l. (g.place e (weigh (has e) vs) (weigh (has e) (set vs id (one y))) l (weigh-set (has e) vs id x y at) (fits.bits e l) (fits.place e l)).1;
     seen = λ n e ln le. let f : PortView → ℕ = of_port n (λ z. set_at z.seen e) in
-      g.seen n e (weigh f vs) (weigh f (set vs id (one y))) ln le (weigh-set f vs id x y at) (λ w. only_mine n (λ z. set_at z.seen e) vs id x at w (fits.one_port n ln)) (fits.seen n e ln le);
+        g.seen n e (weigh f vs) (weigh f (set vs id (one y))) ln le (weigh-set f vs id x y at) (λ w. only_mine n (λ z. set_at z.seen e) vs id x at w (fits.one_port n ln)) (fits.seen n e ln le);
     noted = λ n k ln. let f : PortView → ℕ = of_port n (λ z. note_is k z.noted) in g.noted n k (weigh f vs) (weigh f (set vs id (one y))) ln (weigh-set f vs id x y at) (λ w. only_mine n (λ z. note_is k z.noted) vs id x at w (fits.one_port n ln)) (fits.noted n k ln);
     ledger = λ n t ln lt.
-      let a = weigh-set (of_port n (λ z. slice_index z.retries t)) vs id x y at in
-      let b = weigh-set (λ z. duty_is n t z.duty) vs id x y at in
-      let d = weigh-set (of_port n (λ z. slice_index z.spent t)) vs id x y at in
-      let e = weigh-set (of_port n (λ z. slice_index z.returned t)) vs id x y at in
-      let h = fits.ledger n t ln lt in let k = g.ledger n t ln lt in omega arith;
+        let a = weigh-set (of_port n (λ z. slice_index z.retries t)) vs id x y at in
+        let b = weigh-set (λ z. duty_is n t z.duty) vs id x y at in
+        let d = weigh-set (of_port n (λ z. slice_index z.spent t)) vs id x y at in
+        let e = weigh-set (of_port n (λ z. slice_index z.returned t)) vs id x y at in
+        let h = fits.ledger n t ln lt in let k = g.ledger n t ln lt in omega arith;
     one_port = λ n ln. let a = weigh-set (of_port n (λ _. 1)) vs id x y at in let h = fits.one_port n ln in let k = of_same n (λ _. 1) (λ _. 1) y x g.who refl in omega arith;
     ports = let a = weigh-set (λ _. 1) vs id x y at in let h = fits.ports in omega arith;
-    sound = sound-set s vs id y fits.sound (g.sound (sound_of s c p o vs id x fits at)) }
+    sound = sound-set s vs id y fits.sound (g.sound (sound_of s c p o vs id x fits at));
+  }
 
 -- functions that agree on the entries and the requesters fit alike
 pub carry : (s : Shape) (c c' : ℕ → ℕ) (p p' : ℕ → ℕ → ℕ) (o o' : ℕ → ℕ) (vs : List SeatView) → low s 4 ≤ 256 → ((e : ℕ) → e < 256 → c' e ≡ c e) → ((n e : ℕ) → n < s.agents → e < 256 → p' n e ≡ p n e)
@@ -103,4 +104,5 @@ carry s c c' p p' o o' vs le cs ps os fits = record {
   ledger = λ n t ln lt. let a = ap (owed_in t) (os n ln) in let b = count_same s t (p n) (p' n) lt le (λ i l. ps n i ln l) in let h = fits.ledger n t ln lt in omega arith;
   one_port = fits.one_port;
   ports = fits.ports;
-  sound = fits.sound }
+  sound = fits.sound;
+}

@@ -1,20 +1,19 @@
 -- The rule at the start, and where the ports of seats are dealt out and joined.
-use Rattle.std.proofs.Common.{◌≡◌, ◌≢◌, ℕ, zero, suc, ◌+◌, ◌*◌, ◌/◌, ◌%◌, ◌^◌, ◌<◌, ◌≤◌, Bool, cond, eqb, List, [], ◌∷◌, ◌++◌, length, replicate, set, get_or, slice_index, Option, Some, None, refl, sym, ap, ◌∙◌, subst, arith, eq-eqb, ne_eqb}
+use Rattle.std.proofs.Common.{◌≡◌, ℕ, zero, suc, ◌+◌, ◌*◌, ◌/◌, ◌%◌, ◌<◌, ◌≤◌, List, [], ◌∷◌, ◌++◌, replicate, set, slice_index, refl, sym, ap, ◌∙◌, subst, arith}
 use mathlib.Core.Option.{some, some-injective, some-ne-none}
-use mathlib.Core.Option as maybe
 use mathlib.Core.Logic.{dite}
 use native.Mathlib.Decide.{ℕ_discrete}
 use lib.ListN.{get_elem?}
 use Rattle.std.specs.Int.{bit_at}
 use Rattle.std.proofs.lemmas.Nat.Bits.{bit_at-zero}
-use Rattle.atomic_table.specs.Table.{State, Me, opening, Splits, Joins, Enters}
+use Rattle.atomic_table.specs.Table.{Me, opening, Splits, Joins, Enters}
 use Rattle.chi_tracker.specs.declared.shape.Shape.{Shape}
 use Rattle.chi_tracker.specs.declared.view.SeatView.{SeatView}
-use Rattle.chi_tracker.specs.Sums.{below, total, set_at}
-use Rattle.chi_tracker.specs.Shape.{low, IsOf, IsShape, count_of, owed_in, size}
+use Rattle.chi_tracker.specs.Sums.{total, set_at}
+use Rattle.chi_tracker.specs.Shape.{low, IsShape, count_of, owed_in, size}
 use Rattle.chi_tracker.specs.Words.{c_of, p_of, o_of}
-use Rattle.chi_tracker.specs.Views.{PortView, Duty, has, new_port, new_ports}
-use Rattle.chi_tracker.specs.Rule.{weigh, of_port, duty_is, note_is, IsSound, AllSound, AllSeatsSound, Fits, TrackerRule, all_new}
+use Rattle.chi_tracker.specs.Views.{PortView, has, new_port, new_ports}
+use Rattle.chi_tracker.specs.Rule.{weigh, of_port, duty_is, note_is, AllSound, AllSeatsSound, Fits, TrackerRule, all_new}
 use Rattle.chi_tracker.specs.Steps.{one, first_port}
 use Rattle.chi_tracker.specs.Calls.{rest_ports, set_count}
 use Rattle.chi_tracker.proofs.Adding.{total-set, total-append, below_same, below_zero}
@@ -74,13 +73,14 @@ module _ (s : Shape) where
     seen = λ n e ln l. omega (arith, mine_none n (λ z. set_at z.seen e) (λ k. no_bits 4 (e / 64) (e % 64)));
     noted = λ n k ln. omega (arith, mine_none n (λ z. note_is k z.noted) (λ _. refl), no_bits 44 (8 + 5 * n) k);
     ledger = λ n t ln lt.
-      let o : owed_in t (o_of zero_words n) ≡ 0 = below_same (λ _. 0) (λ i. bit_at (o_of zero_words n) (8 * t + i)) 8 (λ i l. no_bits 44 (8 + 5 * n) (8 * t + i)) ∙ below_zero 8 in
-      let d = none_of (λ z. duty_is n t z.duty) (λ _. refl) in
-      let c : count_of s t (p_of zero_words n) ≡ 0 = below_same (λ _. 0) (λ i. p_of zero_words n (low s t + i)) (size s t) (λ i l. no_bits 44 (4 + 5 * n + (low s t + i) / 64) ((low s t + i) % 64)) ∙ below_zero (size s t) in
-      omega (arith, mine_none n (λ z. slice_index z.retries t) (λ _. refl), o, d, c, mine_none n (λ z. slice_index z.spent t) (λ _. refl), mine_none n (λ z. slice_index z.returned t) (λ _. refl));
+        let o : owed_in t (o_of zero_words n) ≡ 0 = below_same (λ _. 0) (λ i. bit_at (o_of zero_words n) (8 * t + i)) 8 (λ i l. no_bits 44 (8 + 5 * n) (8 * t + i)) ∙ below_zero 8 in
+        let d = none_of (λ z. duty_is n t z.duty) (λ _. refl) in
+        let c : count_of s t (p_of zero_words n) ≡ 0 = below_same (λ _. 0) (λ i. p_of zero_words n (low s t + i)) (size s t) (λ i l. no_bits 44 (4 + 5 * n + (low s t + i) / 64) ((low s t + i) % 64)) ∙ below_zero (size s t) in
+        omega (arith, mine_none n (λ z. slice_index z.retries t) (λ _. refl), o, d, c, mine_none n (λ z. slice_index z.spent t) (λ _. refl), mine_none n (λ z. slice_index z.returned t) (λ _. refl));
     one_port = λ n ln. omega (arith, one-new s n 0 s.agents (omega arith) (omega arith));
     ports = omega (arith, all-new s 0 s.agents);
-    sound = (sound-new s 0 s.agents (omega arith), tt) }
+    sound = (sound-new s 0 s.agents (omega arith), tt);
+  }
 
   pub opens : IsShape s → TrackerRule s (opening zero_words [] (all_new s))
   opens shaped = record { words = refl; agents = shaped.3; entries = shaped.1; fits = first_fits }
@@ -95,7 +95,8 @@ regroup s c p o vs vs' same sound fits = record {
   ledger = λ n t ln lt. omega (arith, fits.ledger n t ln lt, same (of_port n (λ z. slice_index z.retries t)), same (λ z. duty_is n t z.duty), same (of_port n (λ z. slice_index z.spent t)), same (of_port n (λ z. slice_index z.returned t)));
   one_port = λ n ln. omega (arith, fits.one_port n ln, same (of_port n (λ _. 1)));
   ports = omega (arith, fits.ports, same (λ _. 1));
-  sound = sound }
+  sound = sound;
+}
 
 pub seats-at : (s : Shape) (vs : List SeatView) (id : ℕ) (v : SeatView) → AllSeatsSound s vs → get_elem? vs id ≡ some v → AllSound s v.ports
 seats-at s [] id v all at = absurd (some-ne-none v (sym at))
@@ -124,11 +125,15 @@ deals key id v p ps is st rule at =
     let all' : AllSound key (p ∷ ps) = subst (AllSound key) is all in
     let rest_sound : AllSound key (rest_ports v.ports) = subst (λ (qs : List PortView). AllSound key (rest_ports qs)) (sym is) all'.1 in
     let first_sound : AllSound key (first_port v.ports ∷ []) = subst (λ (qs : List PortView). AllSound key (first_port qs ∷ [])) (sym is) (all'.0, tt) in
-    record { words = rule.words; agents = rule.agents; entries = rule.entries;
+    record {
+      words = rule.words;
+      agents = rule.agents;
+      entries = rule.entries;
       fits = regroup key (c_of st.words) (p_of st.words) (o_of st.words) st.views (set st.views id v' ++ w ∷ [])
-        (λ f. let a = total-set (λ (u : SeatView). total f u.ports) st.views id v v' at in let b = total-append (λ (u : SeatView). total f u.ports) (set st.views id v') (w ∷ []) in
+          (λ f. let a = total-set (λ (u : SeatView). total f u.ports) st.views id v v' at in let b = total-append (λ (u : SeatView). total f u.ports) (set st.views id v') (w ∷ []) in
           let c : total f v.ports ≡ total f (p ∷ ps) = ap (total f) is in let d : total f (rest_ports v.ports) ≡ total f ps = ap (λ qs. total f (rest_ports qs)) is in let e : f (first_port v.ports) ≡ f p = ap (λ qs. f (first_port qs)) is in omega arith)
-        (seats-push key (set st.views id v') w (seats-set key st.views id v' rule.fits.sound rest_sound) first_sound) rule.fits }
+          (seats-push key (set st.views id v') w (seats-set key st.views id v' rule.fits.sound rest_sound) first_sound) rule.fits;
+    }
 
 -- the ports of one seat go to another
 pub joins : (key : Shape) (id : ℕ) (v : SeatView) (other : ℕ) (w : SeatView)
@@ -137,11 +142,15 @@ joins key id v other w st rule at ne at' =
     let b : SeatView = record { ports = w.ports ++ v.ports } in let gone : SeatView = record { ports = [] } in
     let vs' : List SeatView = set st.views id b in
     let mine = seats-at key st.views id v rule.fits.sound at in
-    record { words = rule.words; agents = rule.agents; entries = rule.entries;
+    record {
+      words = rule.words;
+      agents = rule.agents;
+      entries = rule.entries;
       fits = regroup key (c_of st.words) (p_of st.words) (o_of st.words) st.views (set vs' other gone)
-        (λ f. let g : SeatView → ℕ = λ (u : SeatView). total f u.ports in
+          (λ f. let g : SeatView → ℕ = λ (u : SeatView). total f u.ports in
           let a1 = total-set g st.views id v b at in let a2 = total-set g vs' other w gone at' in let a3 = total-append f w.ports v.ports in omega arith)
-        (seats-set key vs' other gone (seats-set key st.views id b rule.fits.sound (sound-join key w.ports v.ports (other_sound key st.views id other b w rule.fits.sound ne at') mine)) tt) rule.fits }
+          (seats-set key vs' other gone (seats-set key st.views id b rule.fits.sound (sound-join key w.ports v.ports (other_sound key st.views id other b w rule.fits.sound ne at') mine)) tt) rule.fits;
+    }
   where
     other_sound : (s : Shape) (vs : List SeatView) (id other : ℕ) (b w : SeatView) → AllSeatsSound s vs → ¬ (other ≡ id) → get_elem? (set vs id b) other ≡ some w → AllSound s w.ports
     other_sound s [] id other b w all ne at = absurd (some-ne-none w (sym at))
@@ -156,10 +165,17 @@ no_ports = (record { ports = [] }, [])
 
 pub enters : (key : Shape) (slots : ℕ) → Enters (TrackerRule key) slots 0 (λ n w. (w, []) ≡ no_ports)
 enters key slots st rule len l =
-    let w : SeatView = record { ports = [] } in
-    (w, record { words = rule.words; agents = rule.agents; entries = rule.entries;
-      fits = regroup key (c_of st.words) (p_of st.words) (o_of st.words) st.views (st.views ++ w ∷ [])
-        (λ f. omega (arith, total-append (λ (u : SeatView). total f u.ports) st.views (w ∷ []))) (seats-push key st.views w rule.fits.sound tt) rule.fits }, refl)
+    let w : SeatView = record { ports = [] } in (
+      w,
+      record {
+        words = rule.words;
+        agents = rule.agents;
+        entries = rule.entries;
+        fits = regroup key (c_of st.words) (p_of st.words) (o_of st.words) st.views (st.views ++ w ∷ [])
+            (λ f. omega (arith, total-append (λ (u : SeatView). total f u.ports) st.views (w ∷ []))) (seats-push key st.views w rule.fits.sound tt) rule.fits;
+      },
+      refl,
+    )
 
 -- an empty set has no entry
 pub none_set : (words : List ℕ) (start n : ℕ) → words ≡ 0 ∷ 0 ∷ 0 ∷ 0 ∷ [] → set_count words start n ≡ 0

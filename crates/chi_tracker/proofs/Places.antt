@@ -1,5 +1,5 @@
 -- The lowest clear place of a type in a word of owed credits.
-use Rattle.std.proofs.Common.{◌≡◌, ◌≢◌, ℕ, zero, suc, ◌+◌, ◌*◌, ◌/◌, ◌<◌, ◌≤◌, Bool, cond, eqb, refl, sym, ap, ◌∙◌, subst, arith, eq-eqb, ne_eqb}
+use Rattle.std.proofs.Common.{◌≡◌, ℕ, zero, suc, ◌+◌, ◌*◌, ◌/◌, ◌<◌, ◌≤◌, Bool, cond, refl, sym, ap, ◌∙◌, arith, eq-eqb, ne_eqb}
 use mathlib.Core.Logic.{dite}
 use native.Mathlib.Decide.{ℕ_discrete}
 use Rattle.std.specs.Int.{bit_at}
@@ -22,10 +22,10 @@ unfolding clear_from
 found-clear start word zero l = absurd (omega arith)
 found-clear start word (suc n) l = dite (ℕ_discrete (bit_at word start) 0)
     (λ e. let is : clear_from start word (suc n) ≡ start = ap (λ (b : Bool). cond b start (clear_from (start + 1) word n)) (eq-eqb (bit_at word start) 0 e) in
-      (ap (bit_at word) is ∙ e, omega arith, omega arith))
+    (ap (bit_at word) is ∙ e, omega arith, omega arith))
     (λ d. let is : clear_from start word (suc n) ≡ clear_from (start + 1) word n = ap (λ (b : Bool). cond b start (clear_from (start + 1) word n)) (ne_eqb (bit_at word start) 0 d) in
-      let f = below_first (λ i. bit_at word (start + i)) n in let g = shift word start n in let b = bit_at-lt word start in let z : bit_at word (start + 0) ≡ bit_at word start = ap (bit_at word) (omega arith) in
-      let h = found-clear (start + 1) word n (omega arith) in (ap (bit_at word) is ∙ h.0, omega (arith, h.1), omega (arith, h.2)))
+    let f = below_first (λ i. bit_at word (start + i)) n in let g = shift word start n in let b = bit_at-lt word start in let z : bit_at word (start + 0) ≡ bit_at word start = ap (bit_at word) (omega arith) in
+    let h = found-clear (start + 1) word n (omega arith) in (ap (bit_at word) is ∙ h.0, omega (arith, h.1), omega (arith, h.2)))
 
 pub clear_place : (t word : ℕ) → owed_in t word < 8 → (bit_at word (first_clear (8 * t) word) ≡ 0) × (first_clear (8 * t) word < 8 * t + 8) × (8 * t ≤ first_clear (8 * t) word)
 unfolding first_clear
@@ -38,7 +38,7 @@ clear_at start word zero k le lt set clear = absurd (omega arith)
 clear_at start word (suc n) k le lt set clear = dite (ℕ_discrete k start)
     (λ e. ap (λ (b : Bool). cond b start (clear_from (start + 1) word n)) (eq-eqb (bit_at word start) 0 (ap (bit_at word) (sym e) ∙ clear)) ∙ sym e)
     (λ d. ap (λ (b : Bool). cond b start (clear_from (start + 1) word n)) (ne_eqb (bit_at word start) 0 (λ q. let h = set start (omega arith) (omega arith) in omega arith))
-      ∙ clear_at (start + 1) word n k (omega arith) (omega arith) (λ i l u. set i (omega arith) u) clear)
+    ∙ clear_at (start + 1) word n k (omega arith) (omega arith) (λ i l u. set i (omega arith) u) clear)
 
 pub clear_is : (t word k : ℕ) → 8 * t ≤ k → k < 8 * t + 8 → ((i : ℕ) → 8 * t ≤ i → i < k → bit_at word i ≡ 1) → bit_at word k ≡ 0 → k ≡ first_clear (8 * t) word
 unfolding first_clear

@@ -1,10 +1,10 @@
 -- A sweep's looks, and the places that are left at one requester.
-use Rattle.std.proofs.Common.{◌≡◌, ◌≢◌, ℕ, zero, suc, ◌+◌, ◌-◌, ◌*◌, ◌/◌, ◌%◌, ◌^◌, ◌<◌, ◌≤◌, Bool, true, false, cond, eqb, ◌&&◌, ⊎_elim, Option, Some, None, refl, sym, ap, ◌∙◌, subst, arith, eq-eqb, ne_eqb, shr-shr, bit_and}
+use Rattle.std.proofs.Common.{◌≡◌, ℕ, zero, suc, ◌+◌, ◌-◌, ◌*◌, ◌/◌, ◌%◌, ◌^◌, ◌<◌, ◌≤◌, Bool, cond, eqb, ◌&&◌, ⊎_elim, Option, Some, None, refl, sym, ap, ◌∙◌, subst, arith, eq-eqb, shr-shr, bit_and}
 use mathlib.Core.Logic.{dite}
 use native.Mathlib.Decide.{ℕ_discrete}
 use Rattle.std.specs.Int.{bit_at}
 use Rattle.std.proofs.lemmas.Nat.{xor_lt, and_le_l}
-use Rattle.std.proofs.lemmas.Nat.Bits.{same_from_bits_below, bit_at-zero, bit_at-lt}
+use Rattle.std.proofs.lemmas.Nat.Bits.{same_from_bits_below, bit_at-zero}
 use Rattle.atomic_table.specs.Table.{Me}
 use Rattle.atomic_table.specs.declared.shared.Seat.{Seat}
 use Rattle.chi_tracker.specs.declared.view.SeatView.{SeatView}
@@ -42,11 +42,13 @@ settled_first t word = record { small = omega arith; clear = λ i l h. absurd (o
 
 -- a place that the look didn't show
 pub settled_unset : (t word place left : ℕ) → 8 * t ≤ place → bit_at word place ≡ 0 → IsSettled t word place left → IsSettled t word (place + 1) left
-settled_unset t word place left le unset s = record { small = s.small;
+settled_unset t word place left le unset s = record {
+  small = s.small;
   clear = λ i l h. dite (ℕ_discrete (8 * t + i) place)
-    (λ q. let w = s.within i l in let z : bit_at word (8 * t + i) ≡ bit_at word place = ap (bit_at word) q in omega arith)
-    (λ d. s.clear i l (omega arith));
-  within = s.within }
+      (λ q. let w = s.within i l in let z : bit_at word (8 * t + i) ≡ bit_at word place = ap (bit_at word) q in omega arith)
+      (λ d. s.clear i l (omega arith));
+  within = s.within;
+}
 
 dropped_small : (m e : ℕ) → m < 256 → e < 8 → dropped m e < 256
 dropped_small m e l le = xor_lt 8 m (bit_and m (2 ^ e)) l (omega (arith, and_le_l m (2 ^ e)))
@@ -55,13 +57,14 @@ dropped_small m e l le = xor_lt 8 m (bit_and m (2 ^ e)) l (omega (arith, and_le_
 pub settled_clear : (t word place left : ℕ) → 8 * t ≤ place → place < 8 * t + 8 → IsSettled t word place left → IsSettled t word (place + 1) (dropped left (place % 8))
 settled_clear t word place left le lt s =
     let j : ℕ = place % 8 in let at : 8 * t + j ≡ place = omega arith in record {
-  small = dropped_small left j s.small (omega arith);
-  clear = λ i l h. dite (ℕ_discrete i j)
-    (λ q. ap (bit_at (dropped left j)) q ∙ dropped_here left j)
-    (λ d. dropped_else left j i d ∙ s.clear i l (omega arith));
-  within = λ i l. dite (ℕ_discrete i j)
-    (λ q. let z : bit_at (dropped left j) i ≡ 0 = ap (bit_at (dropped left j)) q ∙ dropped_here left j in omega arith)
-    (λ d. omega (arith, dropped_else left j i d, s.within i l)) }
+      small = dropped_small left j s.small (omega arith);
+      clear = λ i l h. dite (ℕ_discrete i j)
+          (λ q. ap (bit_at (dropped left j)) q ∙ dropped_here left j)
+          (λ d. dropped_else left j i d ∙ s.clear i l (omega arith));
+      within = λ i l. dite (ℕ_discrete i j)
+          (λ q. let z : bit_at (dropped left j) i ≡ 0 = ap (bit_at (dropped left j)) q ∙ dropped_here left j in omega arith)
+          (λ d. omega (arith, dropped_else left j i d, s.within i l));
+    }
 
 pub settled_all : (t word left : ℕ) → IsSettled t word (8 * t + 8) left → left ≡ 0
 settled_all t word left s = same_from_bits_below 8 left 0 s.small (omega arith) (λ i l. s.clear i l (omega arith) ∙ sym (bit_at-zero i))
@@ -73,8 +76,11 @@ pub record IsSettling (first now : Seat ℕ SeatView) (t word place : ℕ) : Typ
   pub left : IsSettled t word place (port_of now.me).sweep.left
 
 pub settling_first : (seat : Seat ℕ SeatView) (t agent word : ℕ) → seat.me ≡ solo (port_of seat.me) → (port_of seat.me).sweep ≡ record { opened = (port_of seat.me).sweep.opened; kind = t; at = agent; left = byte_of t word } → IsSettling seat seat t word (8 * t)
-settling_first seat t agent word alone sweep = record { table = refl; view = alone;
-  left = subst (IsSettled t word (8 * t)) (sym (ap (λ (s : Sweep). s.left) sweep)) (settled_first t word) }
+settling_first seat t agent word alone sweep = record {
+  table = refl;
+  view = alone;
+  left = subst (IsSettled t word (8 * t)) (sym (ap (λ (s : Sweep). s.left) sweep)) (settled_first t word);
+}
 
 pub settling_unset : (first now : Seat ℕ SeatView) (t word place : ℕ) → 8 * t ≤ place → bit_at word place ≡ 0 → IsSettling first now t word place → IsSettling first now t word (place + 1)
 settling_unset first now t word place le unset s = record { table = s.table; view = s.view; left = settled_unset t word place (port_of now.me).sweep.left le unset s.left }
@@ -92,9 +98,10 @@ settling_clear first now next t agent word place entry old le lt sweep s table i
     let gone : left_after agent place q.sweep ≡ after = both_true p.sweep.at agent p.sweep.kind (place / 8) after left at kind in
     let next_is : next.me ≡ solo (with_sweep (record p.sweep { left = after }) p) = is ∙ ap (λ o. solo (settles entry agent place o (port_of now.me))) zero_bit ∙ ap (λ (m : Me ℕ SeatView). solo (settles entry agent place 0 (port_of m))) s.view ∙ ap (λ l. solo (with_sweep (record p.sweep { left = l }) p)) gone in
     let left_is : (port_of next.me).sweep.left ≡ after = ap (λ (m : Me ℕ SeatView). (port_of m).sweep.left) next_is in record {
-  table = table ∙ s.table;
-  view = next_is ∙ ap (λ l. solo (with_sweep (record p.sweep { left = l }) p)) (sym left_is);
-  left = subst (IsSettled t word (place + 1)) (sym left_is) (settled_clear t word place left le lt s.left) }
+      table = table ∙ s.table;
+      view = next_is ∙ ap (λ l. solo (with_sweep (record p.sweep { left = l }) p)) (sym left_is);
+      left = subst (IsSettled t word (place + 1)) (sym left_is) (settled_clear t word place left le lt s.left);
+    }
 
 pub settling_all : (first now : Seat ℕ SeatView) (t word place : ℕ) → place ≡ 8 * t + 8 → IsSettling first now t word place → now.me ≡ solo (with_sweep (record (port_of first.me).sweep { left = 0 }) (port_of first.me))
 settling_all first now t word place e s = s.view ∙ ap (λ l. solo (with_sweep (record (port_of first.me).sweep { left = l }) (port_of first.me))) (settled_all t word (port_of now.me).sweep.left (subst (λ k. IsSettled t word k (port_of now.me).sweep.left) e s.left))

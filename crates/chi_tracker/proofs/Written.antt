@@ -1,11 +1,10 @@
 -- What a write of one word leaves of C, P and O, by entry and requester.
-use Rattle.std.proofs.Common.{◌≡◌, ◌≢◌, ℕ, ◌+◌, ◌*◌, ◌/◌, ◌%◌, ◌<◌, ◌≤◌, List, length, set, get_or, slice_index, slice_set, refl, sym, ap, ◌∙◌, arith, get_or-set_other, get_or-set_same, length-set}
+use Rattle.std.proofs.Common.{◌≡◌, ◌≢◌, ℕ, ◌+◌, ◌*◌, ◌/◌, ◌%◌, ◌<◌, ◌≤◌, List, length, slice_index, slice_set, refl, sym, ap, ◌∙◌, arith, get_or-set_other, get_or-set_same, length-set}
 use mathlib.Core.Logic.{dite}
 use native.Mathlib.Decide.{ℕ_discrete}
 use Rattle.std.specs.Int.{bit_at}
 use Rattle.chi_tracker.specs.declared.shape.Shape.{Shape}
 use Rattle.chi_tracker.specs.declared.view.SeatView.{SeatView}
-use Rattle.atomic_table.specs.Table.{State}
 use mathlib.Core.Option.{Option}
 use Rattle.chi_tracker.specs.Shape.{low}
 use Rattle.chi_tracker.specs.Words.{c_of, p_of, o_of}
@@ -29,7 +28,7 @@ module _ (ws : List ℕ) (e x : ℕ) (len : length ws ≡ 44) (le : e < 256) whe
   pub c_apart : ((b : ℕ) → b < 64 → b ≢ e % 64 → bit_at x b ≡ bit_at (slice_index ws (e / 64)) b) → (i : ℕ) → i < 256 → i ≢ e → c_of (slice_set ws (e / 64) x) i ≡ c_of ws i
   c_apart keeps i li d = dite (ℕ_discrete (i / 64) (e / 64))
       (λ q. let a : c_of (slice_set ws (e / 64) x) i ≡ bit_at x (i % 64) = ap (λ k. bit_at (slice_index (slice_set ws (e / 64) x) k) (i % 64)) q ∙ bit_same ws (e / 64) x (i % 64) (omega arith) in
-        a ∙ keeps (i % 64) (omega arith) (λ r. d (same_place i e q r)) ∙ ap (λ k. bit_at (slice_index ws k) (i % 64)) (sym q))
+      a ∙ keeps (i % 64) (omega arith) (λ r. d (same_place i e q r)) ∙ ap (λ k. bit_at (slice_index ws k) (i % 64)) (sym q))
       (λ q. bit_else ws (e / 64) (i / 64) x (i % 64) q)
 
   pub p_kept : (n i : ℕ) → i < 256 → p_of (slice_set ws (e / 64) x) n i ≡ p_of ws n i
@@ -46,7 +45,7 @@ module _ (ws : List ℕ) (m e x : ℕ) (len : length ws ≡ 44) (lm : m < 8) (le
   pub p_apart : ((b : ℕ) → b < 64 → b ≢ e % 64 → bit_at x b ≡ bit_at (slice_index ws (4 + 5 * m + e / 64)) b) → (i : ℕ) → i < 256 → i ≢ e → p_of (slice_set ws (4 + 5 * m + e / 64) x) m i ≡ p_of ws m i
   p_apart keeps i li d = dite (ℕ_discrete (i / 64) (e / 64))
       (λ q. let a : p_of (slice_set ws (4 + 5 * m + e / 64) x) m i ≡ bit_at x (i % 64) = ap (λ k. bit_at (slice_index (slice_set ws (4 + 5 * m + e / 64) x) (4 + 5 * m + k)) (i % 64)) q ∙ bit_same ws (4 + 5 * m + e / 64) x (i % 64) (omega arith) in
-        a ∙ keeps (i % 64) (omega arith) (λ r. d (same_place i e q r)) ∙ ap (λ k. bit_at (slice_index ws (4 + 5 * m + k)) (i % 64)) (sym q))
+      a ∙ keeps (i % 64) (omega arith) (λ r. d (same_place i e q r)) ∙ ap (λ k. bit_at (slice_index ws (4 + 5 * m + k)) (i % 64)) (sym q))
       (λ q. bit_else ws (4 + 5 * m + e / 64) (4 + 5 * m + i / 64) x (i % 64) (λ r. q (omega arith)))
 
   pub p_other : (n i : ℕ) → n ≢ m → i < 256 → p_of (slice_set ws (4 + 5 * m + e / 64) x) n i ≡ p_of ws n i
@@ -78,13 +77,25 @@ module _ (key : Shape) (ws : List ℕ) (homes : List (Option ℕ)) (vs : List Se
   After ws' = TrackerRule key (record { words = ws'; homes = homes; views = vs })
 
   pub rule_c : (e x : ℕ) → e < 256 → Fits key (c_of (slice_set ws (e / 64) x)) (p_of ws) (o_of ws) vs → After (slice_set ws (e / 64) x)
-  rule_c e x l fits = record { words = length-set ws (e / 64) x ∙ len; agents = la; entries = le;
-    fits = carry key _ _ (p_of ws) (p_of (slice_set ws (e / 64) x)) (o_of ws) (o_of (slice_set ws (e / 64) x)) vs le (λ _ _. refl) (λ n i ln li. p_kept ws e x len l n i li) (λ n ln. o_kept ws e x len l n) fits }
+  rule_c e x l fits = record {
+    words = length-set ws (e / 64) x ∙ len;
+    agents = la;
+    entries = le;
+    fits = carry key _ _ (p_of ws) (p_of (slice_set ws (e / 64) x)) (o_of ws) (o_of (slice_set ws (e / 64) x)) vs le (λ _ _. refl) (λ n i ln li. p_kept ws e x len l n i li) (λ n ln. o_kept ws e x len l n) fits;
+  }
 
   pub rule_p : (m e x : ℕ) → m < 8 → e < 256 → Fits key (c_of ws) (p_of (slice_set ws (4 + 5 * m + e / 64) x)) (o_of ws) vs → After (slice_set ws (4 + 5 * m + e / 64) x)
-  rule_p m e x lm l fits = record { words = length-set ws (4 + 5 * m + e / 64) x ∙ len; agents = la; entries = le;
-    fits = carry key (c_of ws) (c_of (slice_set ws (4 + 5 * m + e / 64) x)) _ _ (o_of ws) (o_of (slice_set ws (4 + 5 * m + e / 64) x)) vs le (λ i li. cp_kept ws m e x len lm l i li) (λ n i ln li. refl) (λ n ln. op_kept ws m e x len lm l n) fits }
+  rule_p m e x lm l fits = record {
+    words = length-set ws (4 + 5 * m + e / 64) x ∙ len;
+    agents = la;
+    entries = le;
+    fits = carry key (c_of ws) (c_of (slice_set ws (4 + 5 * m + e / 64) x)) _ _ (o_of ws) (o_of (slice_set ws (4 + 5 * m + e / 64) x)) vs le (λ i li. cp_kept ws m e x len lm l i li) (λ n i ln li. refl) (λ n ln. op_kept ws m e x len lm l n) fits;
+  }
 
   pub rule_o : (m x : ℕ) → m < 8 → Fits key (c_of ws) (p_of ws) (o_of (slice_set ws (8 + 5 * m) x)) vs → After (slice_set ws (8 + 5 * m) x)
-  rule_o m x lm fits = record { words = length-set ws (8 + 5 * m) x ∙ len; agents = la; entries = le;
-    fits = carry key (c_of ws) (c_of (slice_set ws (8 + 5 * m) x)) (p_of ws) (p_of (slice_set ws (8 + 5 * m) x)) _ _ vs le (λ i li. co_kept ws m x len lm i li) (λ n i ln li. po_kept ws m x len lm n i li) (λ n ln. refl) fits }
+  rule_o m x lm fits = record {
+    words = length-set ws (8 + 5 * m) x ∙ len;
+    agents = la;
+    entries = le;
+    fits = carry key (c_of ws) (c_of (slice_set ws (8 + 5 * m) x)) (p_of ws) (p_of (slice_set ws (8 + 5 * m) x)) _ _ vs le (λ i li. co_kept ws m x len lm i li) (λ n i ln li. po_kept ws m x len lm n i li) (λ n ln. refl) fits;
+  }

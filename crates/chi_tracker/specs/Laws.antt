@@ -3,7 +3,7 @@ use Rattle.std.specs.Prelude.{◌≡◌, ◌≢◌, ◌⊎◌, ℕ, ◌+◌, ◌
 use Rattle.atomic_table.specs.Table.{State}
 use Rattle.chi_tracker.specs.declared.shape.Shape.{Shape}
 use Rattle.chi_tracker.specs.declared.view.SeatView.{SeatView}
-use Rattle.chi_tracker.specs.Sums.{below, total}
+use Rattle.chi_tracker.specs.Sums.{total}
 use Rattle.chi_tracker.specs.Shape.{low, count_of, owed_in}
 use Rattle.chi_tracker.specs.Words.{c_of, p_of, o_of}
 use Rattle.chi_tracker.specs.Views.{PortView, has, new_port}

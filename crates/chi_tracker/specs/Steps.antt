@@ -1,13 +1,13 @@
 -- The eight kinds of atomic step, each with its operation and its effect on the view of the port that
 -- does it (docs/PROTOCOL.md, "Steps of the tracker"). A claim, a look, a spend and a settle have two
 -- readings each, by what the step is for.
-use Rattle.std.specs.Prelude.{◌≡◌, ℕ, zero, suc, Bool, ◌+◌, ◌*◌, ◌/◌, ◌%◌, ◌^◌, ◌<◌, ◌≤◌, List, [], ◌∷◌, Option, Some, None, length, slice_index, slice_set, cond, ◌==◌, ◌&&◌}
+use Rattle.std.specs.Prelude.{◌≡◌, ℕ, zero, suc, Bool, ◌+◌, ◌*◌, ◌/◌, ◌%◌, ◌^◌, ◌<◌, ◌≤◌, List, [], ◌∷◌, Option, Some, None, slice_index, slice_set, cond, ◌==◌, ◌&&◌}
 use Rattle.std.specs.Int.{bit_at}
 use Rattle.atomic_table.specs.Table.{Me, Step}
 use Rattle.chi_tracker.specs.declared.shape.Shape.{Shape}
 use Rattle.chi_tracker.specs.declared.view.SeatView.{SeatView}
-use Rattle.chi_tracker.specs.Sums.{raised, with_bit, dropped, all_but, set_at, take_out}
-use Rattle.chi_tracker.specs.Shape.{low, IsOf, owed_in}
+use Rattle.chi_tracker.specs.Sums.{raised, with_bit, dropped, all_but, take_out}
+use Rattle.chi_tracker.specs.Shape.{low, owed_in}
 use Rattle.chi_tracker.specs.Views.{Duty, End, was_freed, was_promised, Sweep, PortView, has, new_port}
 
 -- what a step is for, where its operand can't say it: a credit type, an entry, a requester, and a place
@@ -55,7 +55,8 @@ claims t e old p = record p {
   hand = cond (old == 0) (with_bit p.hand e) p.hand;
   found = cond (old == 0) (found_before t e p) (with_bit (found_before t e p) e);
   scans = cond (opens_scan t e p) (p.scans + 1) p.scans;
-  scan_kind = cond (opens_scan t e p) t p.scan_kind }
+  scan_kind = cond (opens_scan t e p) t p.scan_kind;
+}
 
 -- free e: e leaves the hand
 abbrev pub frees : ℕ → PortView → PortView
@@ -95,7 +96,8 @@ swept t m word s = record s {
   opened = cond (m == 0) (s.opened + 1) s.opened;
   kind = cond (m == 0) t s.kind;
   at = cond (m == 0) 0 (cond (goes_on t m s) m s.at);
-  left = cond (m == 0) (byte_of t word) (cond (goes_on t m s) (byte_of t word) s.left) }
+  left = cond (m == 0) (byte_of t word) (cond (goes_on t m s) (byte_of t word) s.left);
+}
 
 abbrev pub sweeps : ℕ → ℕ → ℕ → PortView → PortView
 sweeps t m word p = record p { sweep = swept t m word p.sweep }
@@ -111,7 +113,8 @@ duty_to m k e = record { to = m; kind = k / 8; entry = e }
 abbrev pub settles : ℕ → ℕ → ℕ → ℕ → PortView → PortView
 settles e m k old p = record p {
   duty = cond (old == 0) p.duty (Some (duty_to m k e));
-  sweep = record p.sweep { left = cond (old == 0) (left_after m k p.sweep) p.sweep.left } }
+  sweep = record p.sweep { left = cond (old == 0) (left_after m k p.sweep) p.sweep.left };
+}
 
 -- promise: the duty ends, its entry leaves the hand
 abbrev pub hand_without : Option Duty → ℕ → ℕ

@@ -11,11 +11,11 @@ ghost use Rattle.chi_tracker.specs.Calls.{no_owner, scanned, into_hand, owed_one
 
 use crate::law::Chair;
 use crate::marks::others;
+use crate::paying::{owe_one, pay};
 use crate::released::Released;
 use crate::scan::scan;
-use crate::shape::Shape;
 use crate::sets::{counts, lowest};
-use crate::paying::{owe_one, pay};
+use crate::shape::Shape;
 use crate::steps::{free_step, see_step};
 use crate::sweep::{release_entry, tend_type};
 use crate::tracker::Tracker;

@@ -129,7 +129,13 @@ pub(crate) fn sweep_step(board: &Board, chair: &mut Chair, ty: usize, agent: usi
     sweep_as::<Brand>(board, chair, ty, agent)
 }
 
-fn settle_as<T: Pick>(board: &Board, chair: &mut Chair, agent: usize, place: usize, entry: usize) -> u64
+fn settle_as<T: Pick>(
+    board: &Board,
+    chair: &mut Chair,
+    agent: usize,
+    place: usize,
+    entry: usize,
+) -> u64
     requires aim { (T.aim.agent ≡ agent) × (T.aim.bit ≡ place) × (T.aim.entry ≡ entry) }
     requires table { (chair.old.table_id ≡ board.now.table_id) × (board.now.table_id.words ≡ 44) }
     requires view { (chair.old.me ≡ solo (port_of chair.old.me)) × ((port_of chair.old.me).duty ≡ None) × (has entry (port_of chair.old.me) ≡ 1) }
@@ -142,7 +148,13 @@ fn settle_as<T: Pick>(board: &Board, chair: &mut Chair, agent: usize, place: usi
 }
 
 /// Tries to settle a place of the entry's type at a requester, and answers the word as it was.
-pub(crate) fn settle_step(board: &Board, chair: &mut Chair, agent: usize, place: usize, entry: usize) -> u64
+pub(crate) fn settle_step(
+    board: &Board,
+    chair: &mut Chair,
+    agent: usize,
+    place: usize,
+    entry: usize,
+) -> u64
     requires table { (chair.old.table_id ≡ board.now.table_id) × (board.now.table_id.words ≡ 44) }
     requires view { (chair.old.me ≡ solo (port_of chair.old.me)) × ((port_of chair.old.me).duty ≡ None) × (has entry (port_of chair.old.me) ≡ 1) }
     requires agent { (agent < (port_of chair.old.me).shape.agents) × (agent < 8) }
@@ -165,7 +177,13 @@ fn promise_as<T: Pick>(board: &Board, chair: &mut Chair, agent: usize, place: us
 }
 
 /// Promises the entry under duty, which settled that place, to the requester.
-pub(crate) fn promise_step(board: &Board, chair: &mut Chair, agent: usize, place: usize, entry: usize)
+pub(crate) fn promise_step(
+    board: &Board,
+    chair: &mut Chair,
+    agent: usize,
+    place: usize,
+    entry: usize,
+)
     requires table { (chair.old.table_id ≡ board.now.table_id) × (board.now.table_id.words ≡ 44) }
     requires view { (chair.old.me ≡ solo (port_of chair.old.me)) × ((port_of chair.old.me).duty ≡ Some (duty_to agent place entry)) }
     requires range { (agent < 8) × (entry < 256) }

@@ -87,11 +87,32 @@ fn an_entry_of_each_word(rt: HostRuntime) -> Result<(), Fail> {
     };
     grant_and_spend(&rt, &tracker, &mut zero, &mut one, CreditType::T0, Entry(0));
     assert!(rt; one.due() == [0; 4]);
-    grant_and_spend(&rt, &tracker, &mut zero, &mut one, CreditType::T1, Entry(64));
+    grant_and_spend(
+        &rt,
+        &tracker,
+        &mut zero,
+        &mut one,
+        CreditType::T1,
+        Entry(64),
+    );
     assert!(rt; one.due() == [0; 4]);
-    grant_and_spend(&rt, &tracker, &mut zero, &mut one, CreditType::T2, Entry(128));
+    grant_and_spend(
+        &rt,
+        &tracker,
+        &mut zero,
+        &mut one,
+        CreditType::T2,
+        Entry(128),
+    );
     assert!(rt; one.due() == [0; 4]);
-    grant_and_spend(&rt, &tracker, &mut zero, &mut one, CreditType::T3, Entry(192));
+    grant_and_spend(
+        &rt,
+        &tracker,
+        &mut zero,
+        &mut one,
+        CreditType::T3,
+        Entry(192),
+    );
     let totals = close_two(tracker, zero, one);
     assert!(rt; totals.counts.free == [64; 4] && totals.counts.promised == [0; 4]);
     Ok(())

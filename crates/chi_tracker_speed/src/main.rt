@@ -1,5 +1,6 @@
 //! Prints how fast the tracker's calls are: pairs of claim and release on one thread and on as many
-//! threads as the machine has cores, and see steps.
+//! threads as the machine has cores, and see steps. It measures where it is given an argument, as by
+//! `rt run -- now`, and prints nothing without one.
 #![tactic(auto)]
 
 ghost use Rattle.std.specs.Prelude.{◌≡◌, ℕ, ◌<◌, All};
@@ -9,13 +10,13 @@ ghost use Rattle.chi_tracker.specs.Shape.{size};
 use chi_flit::CreditType;
 use chi_tracker::{Port, Tracker};
 use std::alloc::{Allocator, Global};
-use std::io;
 use std::rt::Clock;
-use std::thread;
 use std::thread::Threads;
 use std::time::{Duration, Instant};
+use std::{env, io, thread};
 
 const PAIRS: u64 = 20_000_000;
+
 const LOOKS: u64 = 20_000_000;
 
 /// Claims and releases an entry of the type so many times.
@@ -123,6 +124,9 @@ fn together<R: Print + Clock + Threads + Sync>(rt: &R, alloc: Global) -> io::Res
 }
 
 fn main(rt: HostRuntime) -> io::Result<()> {
+    if env::args(&rt)?.count() < 2 {
+        return Ok(());
+    }
     alone(&rt, rt.alloc())?;
     together(&rt, rt.alloc())
 }

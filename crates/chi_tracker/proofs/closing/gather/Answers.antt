@@ -1,4 +1,4 @@
-use Rattle.std.proofs.Common.{◌≡◌, ap, ◌∙◌, sym, arith}
+use Rattle.std.proofs.Common.{ap, ◌∙◌, arith}
 use Rattle.chi_tracker.proofs.Opening.{enters, joins, zeros}
 use Rattle.chi_tracker.proofs.Balance.{gathered_few, popped_own, gathering_first, gathering_more}
 use Rattle.chi_tracker.proofs.closing.gather.Goals as goal
@@ -20,12 +20,16 @@ add_due-sums-requires-clause-small c = gathered_few c.args.board.now.table_id c.
 pub join_seat-requires : goal.join_seat-requires
 join_seat-requires c =
     let own = popped_own c.args.board.now.table_id c.args.ports.items c.loop-port.ports.items c.pop.new.self.items c.loop-port.chair c.loop-port.dues c.in-Some.port c.loop-port.invariant c.in-Some.ensures.items in
-    let seated = c.into_seated-own.ensures in
-    (c.loop-port.invariant.table, seated.chair.0 ∙ own, ap (λ m. m.1) seated.chair.1, omega arith,
-      joins c.args.board.now.key c.loop-port.chair.id c.loop-port.chair.me.0 c.into_seated-own.result.chair.id c.into_seated-own.result.chair.me.0)
+    let seated = c.into_seated-own.ensures in (
+      c.loop-port.invariant.table,
+      seated.chair.0 ∙ own,
+      ap (λ m. m.1) seated.chair.1,
+      omega arith,
+      joins c.args.board.now.key c.loop-port.chair.id c.loop-port.chair.me.0 c.into_seated-own.result.chair.id c.into_seated-own.result.chair.me.0,
+    )
 
 pub loop-port-preserved : goal.loop-port-preserved
 loop-port-preserved c =
     let seated = c.into_seated-own.ensures in let joined = c.join_seat.ensures in
     gathering_more c.args.board.now.table_id c.args.ports.items c.loop-port.ports.items c.pop.new.self.items c.loop-port.chair c.join_seat.new.seat c.into_seated-own.result.chair.me c.loop-port.dues c.add_due-sums.result c.in-Some.port c.into_seated-own.result.number c.into_seated-own.result.due
-      c.loop-port.invariant c.in-Some.ensures.items joined.0 seated.chair.1 joined.2 seated.number.0 seated.number.1 seated.due c.add_due-sums.ensures.sum c.add_due-sums.ensures.small
+    c.loop-port.invariant c.in-Some.ensures.items joined.0 seated.chair.1 joined.2 seated.number.0 seated.number.1 seated.due c.add_due-sums.ensures.sum c.add_due-sums.ensures.small

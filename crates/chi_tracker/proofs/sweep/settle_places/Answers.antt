@@ -1,4 +1,4 @@
-use Rattle.std.proofs.Common.{◌≡◌, ◌+◌, ◌*◌, sym, subst, arith, rules}
+use Rattle.std.proofs.Common.{◌≡◌, ◌+◌, sym, subst, arith, rules}
 use Rattle.std.specs.Int.{bit_at}
 use Rattle.chi_tracker.proofs.Sweeps.{IsSettling, settling_first, settling_unset, settling_clear, settling_all}
 use Rattle.chi_tracker.proofs.sweep.settle_places.Goals as goal
@@ -11,13 +11,14 @@ pub loop-place-preserved : goal.loop-place-preserved
 loop-place-preserved c =
     let first = c.args.chair.now in let t = c.args.ty in let word = c.args.word in let place = c.loop-place.place in
     elim c.if-is_set.branch [
-        then-is_set+else-is_set-2 w ↦
+      | then-is_set+else-is_set-2 w ↦
           let clear : bit_at w.settle_step-old.result place ≡ 0 = search rules in
           subst (λ ch. IsSettling first ch t word (place + 1)) (sym w.chair-is)
           (settling_clear first c.loop-place.chair w.settle_step-old.new.chair t c.args.agent word place c.args.entry (bit_at w.settle_step-old.result place) (omega arith) (omega arith) c.requires.sweep c.loop-place.invariant w.settle_step-old.ensures.table w.settle_step-old.ensures.view clear)
       | else-is_set w ↦
           let unset : bit_at word place ≡ 0 = search rules in
-          subst (λ ch. IsSettling first ch t word (place + 1)) (sym w.chair-is) (settling_unset first c.loop-place.chair t word place (omega arith) unset c.loop-place.invariant) ]
+          subst (λ ch. IsSettling first ch t word (place + 1)) (sym w.chair-is) (settling_unset first c.loop-place.chair t word place (omega arith) unset c.loop-place.invariant)
+    ]
 
 pub returns-clause-view : goal.returns-clause-view
 returns-clause-view c = settling_all c.args.chair.now c.loop-place.chair c.args.ty c.args.word c.loop-place.place (omega arith) c.loop-place.invariant

@@ -1,4 +1,4 @@
-use Rattle.std.proofs.Common.{◌≡◌, ◌*◌, ◌≤◌}
+use Rattle.std.proofs.Common.{◌≡◌, ◌≤◌}
 use Rattle.chi_tracker.specs.Totals.{free_from, in_hand_from, promised_from}
 use Rattle.chi_tracker.proofs.tally.count_part.Given as goal
 

@@ -1,4 +1,4 @@
-use Rattle.std.proofs.Common.{◌≡◌, ◌+◌, arith, rules}
+use Rattle.std.proofs.Common.{◌≡◌, arith, rules}
 use Rattle.chi_tracker.specs.Words.{p_of}
 use Rattle.chi_tracker.proofs.Adding.{below_term}
 use Rattle.chi_tracker.proofs.tally.is_promised.Goals as goal

@@ -1,4 +1,4 @@
-use Rattle.std.proofs.Common.{◌≡◌, ◌*◌, ◌≤◌}
+use Rattle.std.proofs.Common.{◌≡◌}
 use Rattle.chi_tracker.specs.Totals.{promises_of}
 use Rattle.chi_tracker.proofs.tally.is_promised.Given as goal
 

@@ -1,4 +1,4 @@
-use Rattle.std.proofs.Common.{◌≡◌, ◌*◌, ◌≤◌}
+use Rattle.std.proofs.Common.{◌≡◌, ◌≤◌}
 use Rattle.chi_tracker.specs.Totals.{owed_below}
 use Rattle.chi_tracker.proofs.tally.owed_places.Given as goal
 

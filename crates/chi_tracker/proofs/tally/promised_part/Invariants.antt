@@ -1,4 +1,4 @@
-use Rattle.std.proofs.Common.{◌≡◌, ◌*◌, ◌≤◌}
+use Rattle.std.proofs.Common.{◌≡◌, ◌≤◌}
 use Rattle.chi_tracker.specs.Totals.{promised_to}
 use Rattle.chi_tracker.proofs.tally.promised_part.Given as goal
 

@@ -4,5 +4,8 @@ use Rattle.chi_tracker.proofs.BitLaws.{dropped_else}
 use Rattle.chi_tracker.proofs.tests.empty.Goals as goal
 
 pub loop-entry-preserved : goal.loop-entry-preserved
-loop-entry-preserved c = record { table = search rules; shape = search rules;
-  held = λ k above below. ap (has k) c.free.ensures.port ∙ dropped_else c.loop-entry.port.port.hand c.loop-entry.entry k (λ q. omega arith) ∙ c.loop-entry.invariant.held k (omega arith) below }
+loop-entry-preserved c = record {
+  table = search rules;
+  shape = search rules;
+  held = λ k above below. ap (has k) c.free.ensures.port ∙ dropped_else c.loop-entry.port.port.hand c.loop-entry.entry k (λ q. omega arith) ∙ c.loop-entry.invariant.held k (omega arith) below;
+}

@@ -1,4 +1,4 @@
-use Rattle.std.proofs.Common.{◌≡◌, ℕ, ◌<◌, ◌≤◌}
+use Rattle.std.proofs.Common.{◌≡◌, ℕ, ◌<◌}
 use Rattle.chi_tracker.specs.Views.{has}
 use Rattle.chi_tracker.proofs.tests.fill.Given as goal
 

@@ -13,8 +13,8 @@ invariant_of-self g c =
     let i = c.self.inside in let seat = c.in-Some.chair in let t = c.number-kind.result in let e = c.lowest-entry.result in
     let held = held_of i.chair seat i.number i.shape i.seen i.due (sym c.take.ensures.value ∙ c.in-Some.is) c.self.invariant in
     rw c.others.ensures (ended_held c.pay.new.chair.me c.release_entry-released.new.chair.me i.number i.shape _ _ t e c.release_entry-released.result
-      (returned_held seat.me c.pay.new.chair.me i.number i.shape i.seen i.due t e held (omega (arith, c.number-kind.ensures, credit_below c.args.ty)) (omega arith) c.pay.ensures.due c.pay.ensures.view)
-      c.release_entry-released.ensures.alone c.release_entry-released.ensures.view)
+    (returned_held seat.me c.pay.new.chair.me i.number i.shape i.seen i.due t e held (omega (arith, c.number-kind.ensures, credit_below c.args.ty)) (omega arith) c.pay.ensures.due c.pay.ensures.view)
+    c.release_entry-released.ensures.alone c.release_entry-released.ensures.view)
 
 pub returns-clause-port : goal.returns-clause-port
 returns-clause-port g c =
@@ -23,7 +23,7 @@ returns-clause-port g c =
     let at = ap (λ w. w.port) (owner_is i.chair seat c.args.self.now (sym c.take.ensures.value ∙ c.in-Some.is) c.self.view_is) in
     let found = c.lowest-entry.ensures in
     let low = subst (λ (p : PortView). IsLowestSeen p t e) (sym at)
-      (lowest_seen seat.me i.number i.shape i.seen i.due t e held (omega (arith, found.within.0, c.first.ensures), omega (arith, found.within.1, c.first.ensures, c.count.ensures)) found.set (λ k le. found.lowest k (omega (arith, le, c.first.ensures)))) in
+    (lowest_seen seat.me i.number i.shape i.seen i.due t e held (omega (arith, found.within.0, c.first.ensures), omega (arith, found.within.1, c.first.ensures, c.count.ensures)) found.set (λ k le. found.lowest k (omega (arith, le, c.first.ensures)))) in
     let clear = subst (λ (p : PortView). has e p ≡ 0) (sym at) c.pay.ensures.held in
     let after = rw (ap port_of c.pay.ensures.view, c.number-kind.ensures) at c.release_entry-released.ensures.view in
     let ended = subst (λ (p : PortView). Ended (returns_credit t e p) t e c.release_entry-released.result (port_of c.release_entry-released.new.chair.me)) (sym at) after in
@@ -34,7 +34,7 @@ returns-clause-hand g c =
     let i = c.self.inside in let seat = c.in-Some.chair in let t = c.number-kind.result in let e = c.lowest-entry.result in
     let at = ap (λ w. w.port) (owner_is i.chair seat c.args.self.now (sym c.take.ensures.value ∙ c.in-Some.is) c.self.view_is) in
     λ k. paid_hand (port_of seat.me) (port_of c.pay.new.chair.me) t e c.release_entry-released.result (port_of c.release_entry-released.new.chair.me)
-      (ap (λ m. (port_of m).hand) c.pay.ensures.view) c.pay.ensures.held c.release_entry-released.ensures.view k ∙ ap (λ p. has k p) (sym at)
+    (ap (λ m. (port_of m).hand) c.pay.ensures.view) c.pay.ensures.held c.release_entry-released.ensures.view k ∙ ap (λ p. has k p) (sym at)
 
 pub returns-clause-fewer : goal.returns-clause-fewer
 unfolding returns-clause-port
@@ -44,4 +44,4 @@ returns-clause-fewer g c =
     let at = ap (λ w. w.port) (owner_is i.chair seat c.args.self.now (sym c.take.ensures.value ∙ c.in-Some.is) c.self.view_is) in
     let found = (returns-clause-port g c).1 in let kept = ended_same (port_of c.pay.new.chair.me) c.number-kind.result e c.release_entry-released.result (port_of c.release_entry-released.new.chair.me) c.release_entry-released.ensures.view in
     spent_less c.args.self.now.port seat.me c.release_entry-released.new.chair.me i.number i.shape i.seen i.due t e held (omega arith) at (credit_below c.args.ty) found.0 found.1
-      (kept.1 ∙ ap (λ m. (port_of m).shape) c.pay.ensures.view) (kept.2 ∙ ap (λ m. (port_of m).seen) c.pay.ensures.view)
+    (kept.1 ∙ ap (λ m. (port_of m).shape) c.pay.ensures.view) (kept.2 ∙ ap (λ m. (port_of m).seen) c.pay.ensures.view)

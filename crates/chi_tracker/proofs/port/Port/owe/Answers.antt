@@ -1,4 +1,4 @@
-use Rattle.std.proofs.Common.{◌≡◌, ◌+◌, ◌<◌, slice_index, sym, ap, ◌∙◌, arith}
+use Rattle.std.proofs.Common.{sym, ap, ◌∙◌, arith}
 use Rattle.chi_tracker.specs.Calls.{owed_one}
 use Rattle.chi_tracker.proofs.Entries.{credit_below}
 use Rattle.chi_tracker.proofs.Keeping.{held_of, owner_is, owed_held, owed_view}
@@ -19,4 +19,4 @@ returns-clause-port g c =
     let at = ap (λ w. w.port) (owner_is i.chair seat c.args.self.now (sym c.take.ensures.value ∙ c.in-Some.is) c.self.view_is) in
     let few = rw (sym c.number-kind.ensures) at (rw at at c.requires.few) in
     owed_view seat.me c.owe_one.new.chair.me i.number i.shape i.seen i.due t held (omega (arith, c.number-kind.ensures, credit_below c.args.ty)) (omega arith) few c.owe_one.ensures.view
-      ∙ ap (λ p. owed_one t p) (sym at) ∙ ap (λ u. owed_one u c.args.self.now.port) c.number-kind.ensures
+    ∙ ap (λ p. owed_one t p) (sym at) ∙ ap (λ u. owed_one u c.args.self.now.port) c.number-kind.ensures

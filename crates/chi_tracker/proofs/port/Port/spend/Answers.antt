@@ -1,4 +1,4 @@
-use Rattle.std.proofs.Common.{◌≡◌, ◌+◌, ◌<◌, slice_index, sym, ap, ◌∙◌, subst, arith}
+use Rattle.std.proofs.Common.{sym, ap, ◌∙◌, subst, arith}
 use Rattle.chi_flit.specs.Credit.{credit_number}
 use Rattle.chi_tracker.specs.Views.{PortView}
 use Rattle.chi_tracker.specs.Steps.{port_of}
@@ -20,7 +20,7 @@ returns-clause-lowest g c =
     let at = ap (λ w. w.port) (owner_is i.chair seat c.args.self.now (sym c.take.ensures.value ∙ c.in-Some.is) c.self.view_is) in
     let found = c.lowest-entry.ensures in
     subst (λ (p : PortView). IsLowestSeen p t c.lowest-entry.result) (sym at)
-      (lowest_seen seat.me i.number i.shape i.seen i.due t c.lowest-entry.result held (omega (arith, found.within.0, c.first.ensures), omega (arith, found.within.1, c.first.ensures, c.count.ensures)) found.set (λ k le. found.lowest k (omega (arith, le, c.first.ensures))))
+    (lowest_seen seat.me i.number i.shape i.seen i.due t c.lowest-entry.result held (omega (arith, found.within.0, c.first.ensures), omega (arith, found.within.1, c.first.ensures, c.count.ensures)) found.set (λ k le. found.lowest k (omega (arith, le, c.first.ensures))))
 
 pub returns-clause-fewer : goal.returns-clause-fewer
 returns-clause-fewer g c =
@@ -29,4 +29,4 @@ returns-clause-fewer g c =
     let at = ap (λ w. w.port) (owner_is i.chair seat c.args.self.now (sym c.take.ensures.value ∙ c.in-Some.is) c.self.view_is) in
     let found = returns-clause-lowest g c in
     spent_less c.args.self.now.port seat.me c.pay.new.chair.me i.number i.shape i.seen i.due t e held (omega arith) at (credit_below c.args.ty) found.0 found.1
-      (ap (λ m. (port_of m).shape) c.pay.ensures.view) (ap (λ m. (port_of m).seen) c.pay.ensures.view)
+    (ap (λ m. (port_of m).shape) c.pay.ensures.view) (ap (λ m. (port_of m).seen) c.pay.ensures.view)
