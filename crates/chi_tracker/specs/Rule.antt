@@ -44,6 +44,9 @@ AllSeatsSound s (v ∷ vs) = AllSound s v.ports × AllSeatsSound s vs
 -- The rule over the bits of C, P and O and the views of all seats.
 -- place: the bit of e in C is the number of hands that have e and of requesters it is promised to; being
 --   at most 1, each entry is free, in the hand of one port, or promised to one requester
+-- seen: what n's port has seen is promised to n
+-- noted: the place that n's port has noted is clear in O[n]
+-- one_port, ports: each requester has one port, and there are no others
 -- ledger: for each requester and type, retries are the credits owed, under duty, promised, spent and returned
 pub record Fits (s : Shape) (c : ℕ → ℕ) (p : ℕ → ℕ → ℕ) (o : ℕ → ℕ) (vs : List SeatView) : Type 0 where
   pub bits : (e : ℕ) → e < 256 → c e ≤ 1

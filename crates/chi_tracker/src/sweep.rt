@@ -1,9 +1,9 @@
 //! The sweep of the requesters for an owed credit of a type.
 
-ghost use Rattle.std.specs.Prelude.{◌≡◌, ◌+◌, ◌<◌, ◌*◌, ◌≤◌, None, MatchBool, MatchOption};
+ghost use Rattle.std.specs.Prelude.{◌≡◌, ◌+◌, ◌<◌, ◌*◌, ◌/◌, ◌≤◌, None, MatchBool, MatchOption};
 ghost use Rattle.chi_tracker.specs.Shape.{low, size, IsOf};
 ghost use Rattle.chi_tracker.specs.Views.{Sweep, has};
-ghost use Rattle.chi_tracker.specs.Steps.{solo, port_of, byte_of};
+ghost use Rattle.chi_tracker.specs.Steps.{solo, port_of, byte_of, settles, promises};
 ghost use Rattle.chi_tracker.specs.Calls.{with_sweep, swept_all, granted_to, freed_entry, Ended, Tended};
 
 use crate::law::{Board, Chair};
@@ -19,6 +19,24 @@ fn byte(word: u64, ty: usize) -> u64
     ensures { result ≡ byte_of ty word }
 {
     (word >> (8 * ty)) % 256
+}
+
+/// Tries to settle a place at a requester, and promises it the entry in hand where the place was still
+/// set. True where it did.
+fn settle_one(board: &Board, chair: &mut Chair, agent: usize, place: usize, entry: usize) -> bool
+    requires table { (chair.old.table_id ≡ board.now.table_id) × (board.now.table_id.words ≡ 44) }
+    requires view { (chair.old.me ≡ solo (port_of chair.old.me)) × ((port_of chair.old.me).duty ≡ None) × (has entry (port_of chair.old.me) ≡ 1) }
+    requires range { (agent < (port_of chair.old.me).shape.agents) × (agent < 8) × (entry < 256) }
+    requires place { (place < 32) × IsOf (port_of chair.old.me).shape (place / 8) entry }
+    ensures table { chair.new.table_id ≡ chair.old.table_id }
+    ensures view { MatchBool result (chair.new.me ≡ solo (promises (settles entry agent place 1 (port_of chair.old.me)))) (chair.new.me ≡ solo (settles entry agent place 0 (port_of chair.old.me))) }
+{
+    let old = settle_step(board, chair, agent, place, entry);
+    if !is_set(old, place) {
+        return false;
+    }
+    promise_step(board, chair, agent, place, entry);
+    true
 }
 
 /// Tries to settle the places of the type that a look at the requester showed, from place 0, for an entry
@@ -39,12 +57,8 @@ fn settle_places(
     ensures view { MatchBool result ((s : Sweep) × (chair.new.me ≡ solo (granted_to agent entry (with_sweep s (port_of chair.old.me))))) (chair.new.me ≡ solo (with_sweep (record (port_of chair.old.me).sweep { left = 0 }) (port_of chair.old.me))) }
 {
     for place in 8 * ty..8 * ty + 8 {
-        if is_set(word, place) {
-            let old = settle_step(board, chair, agent, place, entry);
-            if is_set(old, place) {
-                promise_step(board, chair, agent, place, entry);
-                return true;
-            }
+        if is_set(word, place) && settle_one(board, chair, agent, place, entry) {
+            return true;
         }
     }
     false
