@@ -4,4 +4,3 @@ pub mod Credit
 pub mod Snoop
 pub mod Message
 pub mod Refusal
-pub mod Action

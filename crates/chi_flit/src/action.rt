@@ -1,43 +1,57 @@
 //! The actions of the protocol.
 
-ghost use Rattle.std.specs.Prelude.{◌≡◌};
-ghost use Rattle.chi_flit.specs.Action.{agent_of, line_of};
-
 use crate::kind::Kind;
-use crate::numbers::{Agent, Line, Slot};
+use crate::numbers::{Agent, Line, Slot, WordNo};
 
 /// One action on one line: what a requester does, or what it or the home does with a message that has
 /// arrived.
 /// Source: `docs/PROTOCOL.md`, "The actions".
 #[derive(Clone, Copy, Debug, PartialEq, Eq)]
-pub enum Action {
+pub struct Action {
+    /// Who does it, or whose message it is about.
+    pub agent: Agent,
+    pub line: Line,
+    pub step: Step,
+}
+
+/// What an action does.
+/// Source: `docs/PROTOCOL.md`, "The actions".
+#[derive(Clone, Copy, Debug, PartialEq, Eq)]
+pub enum Step {
+    /// The requester reads a word of its copy.
+    Load(WordNo),
+    /// The requester writes a word of its copy.
+    Store(WordNo, u64),
+    /// The requester drops its clean copy, and tells nobody.
+    Drop,
     /// The requester issues a request, which takes one of its slots.
-    Issue {
-        agent: Agent,
-        line: Line,
-        kind: Kind,
-        slot: Slot,
-    },
+    Issue(Kind, Slot),
     /// The home lets a request in: it waits.
-    Admit {
-        agent: Agent,
-        line: Line,
-    },
+    Admit,
+    /// The home refuses a request that allows it: a credit is to be granted later.
+    Retry,
+    /// The requester takes the RetryAck of its request.
+    RecvRetry,
+    /// The requester sends its retried request again, with a credit.
+    Resend,
+    /// The requester gives its retried request up.
+    Cancel,
     /// The home begins to serve the agent's waiting request.
-    Start {
-        agent: Agent,
-        line: Line,
-    },
+    Start,
+    /// The requester takes a snoop, and answers it.
+    RecvSnp,
+    /// The home takes the agent's answer to a snoop.
+    RecvSnpResp,
     /// The requester takes the data of its read.
-    RecvData {
-        agent: Agent,
-        line: Line,
-    },
+    RecvData,
+    /// The requester takes the completion of a request that brings no data.
+    RecvComp,
     /// The home takes the requester's CompAck.
-    RecvAck {
-        agent: Agent,
-        line: Line,
-    },
+    RecvAck,
+    /// The requester takes the home's leave to send write data, and sends it.
+    RecvDbid,
+    /// The home takes the requester's write data.
+    RecvWrData,
 }
 
 /// What an action that was done gives.
@@ -48,32 +62,4 @@ pub enum Effect {
     Value(u64),
     /// The home is done with the request of this slot.
     Completed(Slot),
-}
-
-impl Action {
-    /// Who does the action, or whose message it is about.
-    pub fn agent(self) -> Agent
-        ensures { result ≡ agent_of self }
-    {
-        match self {
-            Action::Issue { agent, .. }
-            | Action::Admit { agent, .. }
-            | Action::Start { agent, .. }
-            | Action::RecvData { agent, .. }
-            | Action::RecvAck { agent, .. } => agent,
-        }
-    }
-
-    /// The line that the action is on.
-    pub fn line(self) -> Line
-        ensures { result ≡ line_of self }
-    {
-        match self {
-            Action::Issue { line, .. }
-            | Action::Admit { line, .. }
-            | Action::Start { line, .. }
-            | Action::RecvData { line, .. }
-            | Action::RecvAck { line, .. } => line,
-        }
-    }
 }

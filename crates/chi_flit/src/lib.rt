@@ -15,7 +15,7 @@ mod state;
 #[cfg(test)]
 mod tests;
 
-pub use action::{Action, Effect};
+pub use action::{Action, Effect, Step};
 pub use credit::{CreditType, Profile, credit_type};
 pub use kind::Kind;
 pub use message::{Channel, CompData, DatUp, Msg, Request, RspDown, RspUp, write_data};

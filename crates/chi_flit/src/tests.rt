@@ -317,26 +317,3 @@ fn refusals_have_their_number_and_name(rt: HostRuntime) -> Result<(), Fail> {
     assert_eq!(rt; Refusal::from(lack), Refusal::NoMemory);
     Ok(())
 }
-
-#[test]
-fn actions_tell_their_agent_and_line(rt: HostRuntime) {
-    let agent = Agent(3);
-    let line = Line(9);
-    let issue = Action::Issue {
-        agent,
-        line,
-        kind: Kind::ReadShared,
-        slot: Slot(1),
-    };
-    let actions = [
-        issue,
-        Action::Admit { agent, line },
-        Action::Start { agent, line },
-        Action::RecvData { agent, line },
-        Action::RecvAck { agent, line },
-    ];
-    for action in actions {
-        assert_eq!(rt; action.agent(), agent);
-        assert_eq!(rt; action.line(), line);
-    }
-}

@@ -63,6 +63,5 @@ two_only Four e = cc
 
 pub served_of : (header : Header) → is_served header ≡ true → IsServed header
 served_of header e =
-    let counts = both (header.agents == 1 && header.slices == 1) (is_profile_two header.profile) e in
-    let each = both (header.agents == 1) (header.slices == 1) counts.0 in
-    record { agents = eqb-true _ _ each.0; slices = eqb-true _ _ each.1; profile = two_only header.profile counts.1 }
+    let each = both (header.slices == 1) (is_profile_two header.profile) e in
+    record { slices = eqb-true _ _ each.0; profile = two_only header.profile each.1 }

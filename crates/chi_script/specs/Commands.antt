@@ -1,16 +1,18 @@
--- The commands of a replay file: a table for each count of arguments, a line for each command
+-- The commands of a replay file: a table for each count of words, a line for each command
 -- (docs/PROTOCOL.md, "Replay files").
 use Rattle.std.specs.Prelude.{ℕ, List, [], ◌∷◌, Option, Some, None, if◌then◌else◌, codes}
 use Rattle.chi_flit.specs.Kind.{kind_text}
 use Rattle.chi_flit.specs.declared.numbers.Agent.{Agent}
 use Rattle.chi_flit.specs.declared.numbers.Line.{Line}
 use Rattle.chi_flit.specs.declared.numbers.Slot.{Slot}
+use Rattle.chi_flit.specs.declared.numbers.WordNo.{WordNo}
 use Rattle.chi_flit.specs.declared.kind.Kind.{Kind}
-use Rattle.chi_flit.specs.declared.kind.Kind.TheVariants.{ReadNotSharedDirty}
-use Rattle.chi_flit.specs.declared.action.Action.TheVariants.{Issue, Start, RecvData, RecvAck}
+use Rattle.chi_flit.specs.declared.kind.Kind.TheVariants.{ReadNotSharedDirty, ReadShared, ReadUnique, CleanUnique, Evict, WriteBackFull, WriteCleanFull, WriteEvictFull}
+use Rattle.chi_flit.specs.declared.action.Step.{Step}
+use Rattle.chi_flit.specs.declared.action.Step.TheVariants.{Load, Store, Drop, Issue, Start, RecvSnp, RecvSnpResp, RecvData, RecvComp, RecvAck, RecvDbid, RecvWrData}
 use Rattle.chi_script.specs.declared.commands.Command.{Command}
 use Rattle.chi_script.specs.declared.commands.Command.TheVariants.{Totals, Show, Flits, Arrive, Act}
-use Rattle.chi_script.specs.Words.{◌>>=◌, is_text, small_of}
+use Rattle.chi_script.specs.Words.{◌>>=◌, is_text, number_of, small_of}
 
 abbrev pub agent_at : ℕ → Agent
 agent_at n = record { 0 = n }
@@ -21,9 +23,47 @@ line_at n = record { 0 = n }
 abbrev pub slot_at : ℕ → Slot
 slot_at n = record { 0 = n }
 
-abbrev pub kind_of : List ℕ → Option Kind
+abbrev pub word_at : ℕ → WordNo
+word_at n = record { 0 = n }
+
+-- one step of an agent on a line
+abbrev pub act_at : ℕ → ℕ → Step → Command
+act_at n l step = Act (record { agent = agent_at n; line = line_at l; step = step })
+
+unfoldable pub kind_of : List ℕ → Option Kind
 kind_of word =
-    if is_text word (kind_text ReadNotSharedDirty) then Some ReadNotSharedDirty else None
+    if is_text word (kind_text ReadNotSharedDirty) then Some ReadNotSharedDirty else (
+    if is_text word (kind_text ReadShared) then Some ReadShared else (
+    if is_text word (kind_text ReadUnique) then Some ReadUnique else (
+    if is_text word (kind_text CleanUnique) then Some CleanUnique else (
+    if is_text word (kind_text Evict) then Some Evict else (
+    if is_text word (kind_text WriteBackFull) then Some WriteBackFull else (
+    if is_text word (kind_text WriteCleanFull) then Some WriteCleanFull else (
+    if is_text word (kind_text WriteEvictFull) then Some WriteEvictFull else None)))))))
+
+-- the step of VERB N L
+unfoldable pub step_of : List ℕ → Option Step
+step_of verb =
+    if is_text verb (codes "drop") then Some Drop else (
+    if is_text verb (codes "start") then Some Start else (
+    if is_text verb (codes "snp") then Some RecvSnp else (
+    if is_text verb (codes "snpresp") then Some RecvSnpResp else (
+    if is_text verb (codes "data") then Some RecvData else (
+    if is_text verb (codes "comp") then Some RecvComp else (
+    if is_text verb (codes "ack") then Some RecvAck else (
+    if is_text verb (codes "dbid") then Some RecvDbid else (
+    if is_text verb (codes "wrdata") then Some RecvWrData else None))))))))
+
+-- the step of VERB N L and a word
+abbrev pub step_with_one : List ℕ → List ℕ → Option Step
+step_with_one verb third =
+    if is_text verb (codes "load") then (small_of third >>= λ w. Some (Load (word_at w))) else None
+
+-- the step of VERB N L and two words; a value is no small number
+abbrev pub step_with_two : List ℕ → List ℕ → List ℕ → Option Step
+step_with_two verb third fourth =
+    if is_text verb (codes "store") then (small_of third >>= λ w. number_of fourth >>= λ v. Some (Store (word_at w) v)) else (
+    if is_text verb (codes "issue") then (kind_of third >>= λ kind. small_of fourth >>= λ slot. Some (Issue kind (slot_at slot))) else None)
 
 -- VERB
 abbrev pub command_bare : List ℕ → Option Command
@@ -39,19 +79,13 @@ command_one verb l =
 abbrev pub command_two : List ℕ → ℕ → ℕ → Option Command
 command_two verb n l =
     if is_text verb (codes "arrive") then Some (Arrive (agent_at n) (line_at l)) else (
-    if is_text verb (codes "flits") then Some (Flits (agent_at n) (line_at l)) else (
-    if is_text verb (codes "start") then Some (Act (Start (agent_at n) (line_at l))) else (
-    if is_text verb (codes "data") then Some (Act (RecvData (agent_at n) (line_at l))) else (
-    if is_text verb (codes "ack") then Some (Act (RecvAck (agent_at n) (line_at l))) else None))))
-
--- VERB N L and two words
-abbrev pub command_four : List ℕ → ℕ → ℕ → List ℕ → List ℕ → Option Command
-command_four verb n l third fourth =
-    if is_text verb (codes "issue") then (kind_of third >>= λ kind. small_of fourth >>= λ slot. Some (Act (Issue (agent_at n) (line_at l) kind (slot_at slot)))) else None
+    if is_text verb (codes "flits") then Some (Flits (agent_at n) (line_at l)) else
+    (step_of verb >>= λ step. Some (act_at n l step)))
 
 abbrev pub command_of : List (List ℕ) → Option Command
 command_of (verb ∷ []) = command_bare verb
 command_of (verb ∷ a ∷ []) = small_of a >>= λ l. command_one verb l
 command_of (verb ∷ a ∷ b ∷ []) = small_of a >>= λ n. small_of b >>= λ l. command_two verb n l
-command_of (verb ∷ a ∷ b ∷ c ∷ d ∷ []) = small_of a >>= λ n. small_of b >>= λ l. command_four verb n l c d
+command_of (verb ∷ a ∷ b ∷ c ∷ []) = step_with_one verb c >>= λ step. small_of a >>= λ n. small_of b >>= λ l. Some (act_at n l step)
+command_of (verb ∷ a ∷ b ∷ c ∷ d ∷ []) = step_with_two verb c d >>= λ step. small_of a >>= λ n. small_of b >>= λ l. Some (act_at n l step)
 command_of _ = None

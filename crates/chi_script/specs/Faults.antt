@@ -1,5 +1,6 @@
--- Faults and their statuses (docs/PROTOCOL.md, "The program").
-use Rattle.std.specs.Prelude.{◌≡◌, ℕ, Result, Ok, Err}
+-- Faults, their statuses and their texts (docs/PROTOCOL.md, "The program").
+use Rattle.std.specs.Prelude.{◌≡◌, ℕ, List, ◌++◌, codes, Result, Ok, Err}
+use Rattle.std.specs.Fmt.{decimal}
 use Rattle.chi_script.specs.declared.faults.Fault.{Fault}
 use Rattle.chi_script.specs.declared.faults.Fault.TheVariants as faults
 
@@ -11,6 +12,16 @@ status_of (faults.MissingNewline line) = 1
 status_of faults.TooLarge = 1
 status_of faults.Read = 1
 status_of faults.Write = 1
+
+-- the line on standard error, without its line end
+abbrev pub fault_text : Fault → List ℕ
+fault_text faults.NoMemory = codes "chihome: out of memory"
+fault_text faults.BadHeader = codes "chihome: line 1: bad header"
+fault_text (faults.BadCommand line) = codes "chihome: line " ++ (decimal line ++ codes ": bad command")
+fault_text (faults.MissingNewline line) = codes "chihome: line " ++ (decimal line ++ codes ": missing newline")
+fault_text faults.TooLarge = codes "chihome: file too large"
+fault_text faults.Read = codes "chihome: cannot read"
+fault_text faults.Write = codes "chihome: cannot write"
 
 -- A fault that reading answers is the one that the grammar names, but for want of memory. It is none of
 -- a device.

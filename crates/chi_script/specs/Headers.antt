@@ -34,9 +34,9 @@ abbrev pub is_profile_two : Profile → Bool
 is_profile_two Two = true
 is_profile_two Four = false
 
--- what is served of the limits: one requester, one slice, two credit types
+-- what is served of the limits: one slice, two credit types
 abbrev pub is_served : Header → Bool
-is_served header = header.agents == 1 && header.slices == 1 && is_profile_two header.profile
+is_served header = header.slices == 1 && is_profile_two header.profile
 
 -- the credit types: T0 T1 K, or T0 T1 T2 T3 K; a type that the profile lacks has no entries
 abbrev pub types_of : List (List ℕ) → Option CreditTypes
@@ -92,6 +92,5 @@ pub record IsInLimits (header : Header) : Type 0 where
 
 -- and what is served of them
 pub record IsServed (header : Header) : Type 0 where
-  pub agents : header.agents ≡ 1
   pub slices : header.slices ≡ 1
   pub profile : header.profile ≡ Two

@@ -5,8 +5,8 @@ use Rattle.std.specs.List.{join_with_byte}
 use Rattle.std.specs.Fmt.{decimal}
 use Rattle.chi_flit.specs.Kind.{kind_text}
 use Rattle.chi_flit.specs.declared.kind.Kind.{Kind}
-use Rattle.chi_flit.specs.declared.kind.Kind.TheVariants.{ReadNotSharedDirty, ReadShared, ReadUnique, CleanUnique, Evict, WriteBackFull, WriteCleanFull, WriteEvictFull}
-use Rattle.chi_flit.specs.declared.action.Action.TheVariants.{Issue, Admit, Start, RecvData, RecvAck}
+use Rattle.chi_flit.specs.declared.action.Step.{Step}
+use Rattle.chi_flit.specs.declared.action.Step.TheVariants.{Load, Store, Drop, Issue, Admit, Retry, RecvRetry, Resend, Cancel, Start, RecvSnp, RecvSnpResp, RecvData, RecvComp, RecvAck, RecvDbid, RecvWrData}
 use Rattle.chi_flit.specs.declared.credit.Profile.{Profile}
 use Rattle.chi_flit.specs.declared.credit.Profile.TheVariants.{Two, Four}
 use Rattle.chi_script.specs.declared.headers.Header.{Header}
@@ -22,16 +22,9 @@ IsNumber n word = (n < 2 ^ 64) × (word ≡ decimal n)
 abbrev pub IsSmall : ℕ → List ℕ → Type 0
 IsSmall n word = (written : ℕ) × IsNumber written word × (n ≡ min written 255)
 
--- a kind of request that a command can name
+-- a kind of request, by its name
 abbrev pub IsKind : Kind → List ℕ → Type 0
-IsKind ReadNotSharedDirty word = word ≡ kind_text ReadNotSharedDirty
-IsKind ReadShared word = ⊥
-IsKind ReadUnique word = ⊥
-IsKind CleanUnique word = ⊥
-IsKind Evict word = ⊥
-IsKind WriteBackFull word = ⊥
-IsKind WriteCleanFull word = ⊥
-IsKind WriteEvictFull word = ⊥
+IsKind kind word = word ≡ kind_text kind
 
 -- VERB L
 abbrev pub WithOne : List ℕ → ℕ → List (List ℕ) → Type 0
@@ -41,9 +34,37 @@ WithOne verb l words = (line : List ℕ) × IsSmall l line × (words ≡ verb �
 abbrev pub WithTwo : List ℕ → ℕ → ℕ → List (List ℕ) → Type 0
 WithTwo verb n l words = (agent line : List ℕ) × IsSmall n agent × IsSmall l line × (words ≡ verb ∷ agent ∷ line ∷ [])
 
+-- VERB N L W
+abbrev pub WithWord : List ℕ → ℕ → ℕ → ℕ → List (List ℕ) → Type 0
+WithWord verb n l w words = (agent line word : List ℕ) × IsSmall n agent × IsSmall l line × IsSmall w word × (words ≡ verb ∷ agent ∷ line ∷ word ∷ [])
+
+-- VERB N L W V
+abbrev pub WithValue : List ℕ → ℕ → ℕ → ℕ → ℕ → List (List ℕ) → Type 0
+WithValue verb n l w v words = (agent line word value : List ℕ) × IsSmall n agent × IsSmall l line × IsSmall w word × IsNumber v value × (words ≡ verb ∷ agent ∷ line ∷ word ∷ value ∷ [])
+
 -- VERB N L KIND SLOT
 abbrev pub WithKind : List ℕ → ℕ → ℕ → Kind → ℕ → List (List ℕ) → Type 0
 WithKind verb n l kind s words = (agent line name slot : List ℕ) × IsSmall n agent × IsSmall l line × IsKind kind name × IsSmall s slot × (words ≡ verb ∷ agent ∷ line ∷ name ∷ slot ∷ [])
+
+-- the words of each step of an agent on a line; those that no file asks for have none
+abbrev pub SpellsStep : Step → ℕ → ℕ → List (List ℕ) → Type 0
+SpellsStep (Load w) n l words = WithWord (codes "load") n l w.0 words
+SpellsStep (Store w v) n l words = WithValue (codes "store") n l w.0 v words
+SpellsStep Drop n l words = WithTwo (codes "drop") n l words
+SpellsStep (Issue kind slot) n l words = WithKind (codes "issue") n l kind slot.0 words
+SpellsStep Admit n l words = ⊥
+SpellsStep Retry n l words = ⊥
+SpellsStep RecvRetry n l words = ⊥
+SpellsStep Resend n l words = ⊥
+SpellsStep Cancel n l words = ⊥
+SpellsStep Start n l words = WithTwo (codes "start") n l words
+SpellsStep RecvSnp n l words = WithTwo (codes "snp") n l words
+SpellsStep RecvSnpResp n l words = WithTwo (codes "snpresp") n l words
+SpellsStep RecvData n l words = WithTwo (codes "data") n l words
+SpellsStep RecvComp n l words = WithTwo (codes "comp") n l words
+SpellsStep RecvAck n l words = WithTwo (codes "ack") n l words
+SpellsStep RecvDbid n l words = WithTwo (codes "dbid") n l words
+SpellsStep RecvWrData n l words = WithTwo (codes "wrdata") n l words
 
 -- the words of each command
 abbrev pub Spells : Command → List (List ℕ) → Type 0
@@ -51,11 +72,7 @@ Spells Totals words = words ≡ codes "totals" ∷ []
 Spells (Show l) words = WithOne (codes "show") l.0 words
 Spells (Flits n l) words = WithTwo (codes "flits") n.0 l.0 words
 Spells (Arrive n l) words = WithTwo (codes "arrive") n.0 l.0 words
-Spells (Act (Issue n l kind slot)) words = WithKind (codes "issue") n.0 l.0 kind slot.0 words
-Spells (Act (Start n l)) words = WithTwo (codes "start") n.0 l.0 words
-Spells (Act (RecvData n l)) words = WithTwo (codes "data") n.0 l.0 words
-Spells (Act (RecvAck n l)) words = WithTwo (codes "ack") n.0 l.0 words
-Spells (Act (Admit n l)) words = ⊥
+Spells (Act action) words = SpellsStep action.step action.agent.0 action.line.0 words
 
 -- the words with one space between two of them
 abbrev pub IsLine : Command → List ℕ → Type 0

@@ -1,12 +1,12 @@
-//! The commands of a replay file: a table for each count of arguments, a line for each command.
+//! The commands of a replay file: a table for each count of words, a line for each command.
 
 ghost use Rattle.std.specs.Prelude.{◌≡◌};
 ghost use Rattle.chi_script.specs.Words.{texts_of};
-ghost use Rattle.chi_script.specs.Commands.{command_of, command_bare, command_one, command_two, command_four, kind_of};
+ghost use Rattle.chi_script.specs.Commands.{command_of, command_bare, command_one, command_two, act_at, step_of, step_with_one, step_with_two, kind_of};
 
-use crate::numbers::small;
+use crate::numbers::{number, small};
 use crate::words::is;
-use chi_flit::{Action, Agent, Kind, Line, Slot};
+use chi_flit::{Action, Agent, Kind, Line, Slot, Step, WordNo};
 
 /// One command of a replay file.
 /// Source: `docs/PROTOCOL.md`, "Replay files".
@@ -20,7 +20,9 @@ pub enum Command {
     Flits { agent: Agent, line: Line },
     /// `arrive N L`: the home takes the agent's request, and admits it or answers a retry.
     Arrive { agent: Agent, line: Line },
-    /// A command that is one action: `issue N L KIND SLOT`, `start N L`, `data N L` and `ack N L`.
+    /// A command that is one action: `load N L W`, `store N L W V`, `issue N L KIND SLOT`, and of the
+    /// form `VERB N L` those of `drop`, `start`, `snp`, `snpresp`, `data`, `comp`, `ack`, `dbid` and
+    /// `wrdata`.
     Act(Action),
 }
 
@@ -34,8 +36,13 @@ pub fn read_command(words: &[&[u8]]) -> Option<Command>
         [verb] => bare(verb),
         [verb, first] => with_one(verb, small(first)?),
         [verb, first, second] => with_two(verb, small(first)?, small(second)?),
+        [verb, first, second, third] => {
+            let step = step_with_one(verb, third)?;
+            Some(act(small(first)?, small(second)?, step))
+        }
         [verb, first, second, third, fourth] => {
-            with_four(verb, small(first)?, small(second)?, third, fourth)
+            let step = step_with_two(verb, third, fourth)?;
+            Some(act(small(first)?, small(second)?, step))
         }
         _ => None,
     }
@@ -74,43 +81,93 @@ fn with_two(verb: &[u8], first: u8, second: u8) -> Option<Command>
         Some(Command::Arrive { agent, line })
     } else if is(verb, "flits") {
         Some(Command::Flits { agent, line })
+    } else {
+        Some(act(first, second, step_of(verb)?))
+    }
+}
+
+/// The command that is this step of an agent on a line.
+fn act(first: u8, second: u8, step: Step) -> Command
+    ensures { result ≡ act_at first second step }
+{
+    let agent = Agent(first);
+    let line = Line(second);
+    Command::Act(Action { agent, line, step })
+}
+
+/// The step of `VERB N L`.
+#[tactic(auto, unfolding(crate::specs::Commands::step_of))]
+fn step_of(verb: &[u8]) -> Option<Step>
+    ensures { result ≡ step_of verb.now }
+{
+    if is(verb, "drop") {
+        Some(Step::Drop)
     } else if is(verb, "start") {
-        Some(Command::Act(Action::Start { agent, line }))
+        Some(Step::Start)
+    } else if is(verb, "snp") {
+        Some(Step::RecvSnp)
+    } else if is(verb, "snpresp") {
+        Some(Step::RecvSnpResp)
     } else if is(verb, "data") {
-        Some(Command::Act(Action::RecvData { agent, line }))
+        Some(Step::RecvData)
+    } else if is(verb, "comp") {
+        Some(Step::RecvComp)
     } else if is(verb, "ack") {
-        Some(Command::Act(Action::RecvAck { agent, line }))
+        Some(Step::RecvAck)
+    } else if is(verb, "dbid") {
+        Some(Step::RecvDbid)
+    } else if is(verb, "wrdata") {
+        Some(Step::RecvWrData)
     } else {
         None
     }
 }
 
-/// `VERB N L` and two words whose form the verb says.
-fn with_four(verb: &[u8], first: u8, second: u8, third: &[u8], fourth: &[u8]) -> Option<Command>
-    ensures { result ≡ command_four verb.now first second third.now fourth.now }
+/// The step of `VERB N L` and one word whose form the verb says.
+fn step_with_one(verb: &[u8], third: &[u8]) -> Option<Step>
+    ensures { result ≡ step_with_one verb.now third.now }
 {
-    let agent = Agent(first);
-    let line = Line(second);
-    if is(verb, "issue") {
-        let kind = read_kind(third)?;
-        let slot = Slot(small(fourth)?);
-        Some(Command::Act(Action::Issue {
-            agent,
-            line,
-            kind,
-            slot,
-        }))
+    if is(verb, "load") {
+        Some(Step::Load(WordNo(small(third)?)))
+    } else {
+        None
+    }
+}
+
+/// The step of `VERB N L` and two words whose form the verb says.
+fn step_with_two(verb: &[u8], third: &[u8], fourth: &[u8]) -> Option<Step>
+    ensures { result ≡ step_with_two verb.now third.now fourth.now }
+{
+    if is(verb, "store") {
+        Some(Step::Store(WordNo(small(third)?), number(fourth)?))
+    } else if is(verb, "issue") {
+        Some(Step::Issue(read_kind(third)?, Slot(small(fourth)?)))
     } else {
         None
     }
 }
 
 /// The kind of request that the word names.
+#[tactic(auto, unfolding(crate::specs::Commands::kind_of))]
 fn read_kind(word: &[u8]) -> Option<Kind>
     ensures { result ≡ kind_of word.now }
 {
     if is(word, "ReadNotSharedDirty") {
         Some(Kind::ReadNotSharedDirty)
+    } else if is(word, "ReadShared") {
+        Some(Kind::ReadShared)
+    } else if is(word, "ReadUnique") {
+        Some(Kind::ReadUnique)
+    } else if is(word, "CleanUnique") {
+        Some(Kind::CleanUnique)
+    } else if is(word, "Evict") {
+        Some(Kind::Evict)
+    } else if is(word, "WriteBackFull") {
+        Some(Kind::WriteBackFull)
+    } else if is(word, "WriteCleanFull") {
+        Some(Kind::WriteCleanFull)
+    } else if is(word, "WriteEvictFull") {
+        Some(Kind::WriteEvictFull)
     } else {
         None
     }

@@ -1,10 +1,11 @@
 //! Why a replay ends without its whole text.
 
-ghost use Rattle.std.specs.Prelude.{◌≡◌};
-ghost use Rattle.chi_script.specs.Faults.{status_of};
+ghost use Rattle.std.specs.Prelude.{◌≡◌, Some};
+ghost use Rattle.chi_script.specs.Faults.{fault_text, status_of};
 ghost use Rattle.chi_script.specs.declared.faults.Fault.TheVariants.{NoMemory};
 
 use std::alloc::{AllocError, AllocFailed};
+use std::fmt;
 use thiserror::Error;
 
 /// Why a replay ends without its whole text. The text is the line that the program writes to standard
@@ -13,25 +14,18 @@ use thiserror::Error;
 #[derive(Clone, Copy, Debug, PartialEq, Eq, Error)]
 pub enum Fault {
     /// Memory ran out.
-    #[error("chihome: out of memory")]
     NoMemory,
     /// The first line is no header within the limits.
-    #[error("chihome: line 1: bad header")]
     BadHeader,
     /// This line, counted from 1, is no command.
-    #[error("chihome: line {0}: bad command")]
     BadCommand(usize),
     /// This line, counted from 1, is the last and no line end follows it.
-    #[error("chihome: line {0}: missing newline")]
     MissingNewline(usize),
     /// The file has more than 1,048,576 bytes.
-    #[error("chihome: file too large")]
     TooLarge,
     /// The input failed.
-    #[error("chihome: cannot read")]
     Read,
     /// The output failed.
-    #[error("chihome: cannot write")]
     Write,
 }
 
@@ -49,6 +43,22 @@ impl Fault {
             | Fault::TooLarge
             | Fault::Read
             | Fault::Write => 1,
+        }
+    }
+}
+
+impl fmt::Display for Fault {
+    ghost output = { λ fault. Some (fault_text fault) };
+
+    fn fmt<W: fmt::Write>(&self, f: &mut fmt::Formatter<W>) -> fmt::Result {
+        match self {
+            Fault::NoMemory => write!(f, "chihome: out of memory"),
+            Fault::BadHeader => write!(f, "chihome: line 1: bad header"),
+            Fault::BadCommand(line) => write!(f, "chihome: line {line}: bad command"),
+            Fault::MissingNewline(line) => write!(f, "chihome: line {line}: missing newline"),
+            Fault::TooLarge => write!(f, "chihome: file too large"),
+            Fault::Read => write!(f, "chihome: cannot read"),
+            Fault::Write => write!(f, "chihome: cannot write"),
         }
     }
 }

@@ -143,11 +143,11 @@ impl Sizes {
             && is_from(1, 65_536, self.journal)
     }
 
-    /// Whether a system of these sizes is served: one requester, one slice and two credit types.
+    /// Whether a system of these sizes is served: one slice and two credit types.
     fn is_served(&self) -> bool
         ensures { result ≡ is_served (sized self.now) }
     {
-        self.agents == 1 && self.slices == 1 && matches!(self.profile, Profile::Two)
+        self.slices == 1 && matches!(self.profile, Profile::Two)
     }
 
     /// The header of these sizes, where they are within the limits and served.

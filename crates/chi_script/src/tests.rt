@@ -1,6 +1,9 @@
 use super::*;
-use chi_flit::{Action, Agent, Kind, Line, Profile, Slot};
+use chi_flit::{Action, Agent, Kind, Line, Profile, Slot, Step, WordNo};
 use std::alloc::AllocError;
+
+/// The header of six numbers that stands before the commands of most tests.
+const HEADER: &[u8] = b"node 2 4 1 1 1 4\n";
 
 /// What reading a file answers, without the commands.
 fn fault_of(rt: &HostRuntime, bytes: &[u8]) -> Option<Fault> {
@@ -10,13 +13,31 @@ fn fault_of(rt: &HostRuntime, bytes: &[u8]) -> Option<Fault> {
     }
 }
 
+/// What one line, which is given without its end, is as line 2 of a file.
+fn line_two(rt: &HostRuntime, line: &[u8]) -> Result<Option<Command>, Fault> {
+    let mut file = Vec::from_slice(rt.alloc(), HEADER)?;
+    file.extend_from_slice(line)?;
+    file.push(b'\n')?;
+    let script = read_file(rt.alloc(), &file)?;
+    Ok(script.commands.first().copied())
+}
+
+/// A command that is one step of agent 1 on line 3.
+fn act(step: Step) -> Command {
+    Command::Act(Action {
+        agent: Agent(1),
+        line: Line(3),
+        step,
+    })
+}
+
 #[test]
 fn a_good_file_is_its_header_and_its_commands(rt: HostRuntime) -> Result<(), Fault> {
     let file =
-        b"node 1 64 1 32 32 65536\nissue 0 3 ReadNotSharedDirty 7\narrive 0 3\nstart 0 3\ndata 0 3\nack 0 3\nflits 256 300\nshow 255\ntotals\n";
+        b"node 8 64 1 32 32 65536\nissue 1 3 ReadNotSharedDirty 7\narrive 1 3\nstart 1 3\ndata 1 3\nack 1 3\nflits 256 300\nshow 255\ntotals\n";
     let script = read_file(rt.alloc(), file)?;
     let header = Header {
-        agents: 1,
+        agents: 8,
         lines: 64,
         slices: 1,
         entries: [32, 32, 0, 0],
@@ -24,21 +45,15 @@ fn a_good_file_is_its_header_and_its_commands(rt: HostRuntime) -> Result<(), Fau
         profile: Profile::Two,
     };
     assert_eq!(rt; script.header, header);
-    let agent = Agent(0);
-    let line = Line(3);
-    let kind = Kind::ReadNotSharedDirty;
-    let slot = Slot(7);
     let commands = [
-        Command::Act(Action::Issue {
-            agent,
-            line,
-            kind,
-            slot,
-        }),
-        Command::Arrive { agent, line },
-        Command::Act(Action::Start { agent, line }),
-        Command::Act(Action::RecvData { agent, line }),
-        Command::Act(Action::RecvAck { agent, line }),
+        act(Step::Issue(Kind::ReadNotSharedDirty, Slot(7))),
+        Command::Arrive {
+            agent: Agent(1),
+            line: Line(3),
+        },
+        act(Step::Start),
+        act(Step::RecvData),
+        act(Step::RecvAck),
         Command::Flits {
             agent: Agent(255),
             line: Line(255),
@@ -51,8 +66,140 @@ fn a_good_file_is_its_header_and_its_commands(rt: HostRuntime) -> Result<(), Fau
 }
 
 #[test]
+fn each_action_is_a_line(rt: HostRuntime) -> Result<(), Fault> {
+    let lines: [(&[u8], Step); 15] = [
+        (b"load 1 3 0", Step::Load(WordNo(0))),
+        (b"load 1 3 256", Step::Load(WordNo(255))),
+        (b"store 1 3 0 0", Step::Store(WordNo(0), 0)),
+        (b"store 1 3 7 256", Step::Store(WordNo(7), 256)),
+        (
+            b"store 1 3 1000 18446744073709551615",
+            Step::Store(WordNo(255), 18_446_744_073_709_551_615),
+        ),
+        (b"drop 1 3", Step::Drop),
+        (b"issue 1 3 Evict 256", Step::Issue(Kind::Evict, Slot(255))),
+        (b"start 1 3", Step::Start),
+        (b"snp 1 3", Step::RecvSnp),
+        (b"snpresp 1 3", Step::RecvSnpResp),
+        (b"data 1 3", Step::RecvData),
+        (b"comp 1 3", Step::RecvComp),
+        (b"ack 1 3", Step::RecvAck),
+        (b"dbid 1 3", Step::RecvDbid),
+        (b"wrdata 1 3", Step::RecvWrData),
+    ];
+    for (line, step) in lines {
+        assert_eq!(rt; line_two(&rt, line)?, Some(act(step)), "{line:?}");
+    }
+    Ok(())
+}
+
+#[test]
+fn each_kind_is_named(rt: HostRuntime) -> Result<(), Fault> {
+    let lines: [(&[u8], Kind); 8] = [
+        (b"issue 1 3 ReadNotSharedDirty 0", Kind::ReadNotSharedDirty),
+        (b"issue 1 3 ReadShared 0", Kind::ReadShared),
+        (b"issue 1 3 ReadUnique 0", Kind::ReadUnique),
+        (b"issue 1 3 CleanUnique 0", Kind::CleanUnique),
+        (b"issue 1 3 Evict 0", Kind::Evict),
+        (b"issue 1 3 WriteBackFull 0", Kind::WriteBackFull),
+        (b"issue 1 3 WriteCleanFull 0", Kind::WriteCleanFull),
+        (b"issue 1 3 WriteEvictFull 0", Kind::WriteEvictFull),
+    ];
+    for (line, kind) in lines {
+        let issue = act(Step::Issue(kind, Slot(0)));
+        assert_eq!(rt; line_two(&rt, line)?, Some(issue), "{line:?}");
+    }
+    Ok(())
+}
+
+#[test]
+fn other_lines_are_no_commands(rt: HostRuntime) {
+    let lines: [&[u8]; 34] = [
+        b"load 0 0",
+        b"load 0 0 0 0",
+        b"load 0 0 00",
+        b"load 0 0 18446744073709551616",
+        b"load 00 0 0",
+        b"load 0 x 0",
+        b"store 0 0 0",
+        b"store 0 0 0 0 0",
+        b"store 0 0 0 01",
+        b"store 0 0 0 18446744073709551616",
+        b"store 0 0 0 -1",
+        b"store 0 0 07 1",
+        b"store 0 0 0 ",
+        b"drop 0",
+        b"drop 0 0 0",
+        b"drop 0 01",
+        b"snp 0",
+        b"snpresp 0 0 0",
+        b"comp 0",
+        b"dbid 0 0 0",
+        b"wrdata 0",
+        b"wrdata 0 0 0 0",
+        b"issue 0 0 Evict",
+        b"issue 0 0 Evict 0 0",
+        b"issue 0 0 Evict 00",
+        b"issue 0 0 evict 0",
+        b"issue 0 0 ReadOnce 0",
+        b"issue 0 0 WriteBack 0",
+        b"issue 0 0  0",
+        b"Drop 0 0",
+        b"snpdata 0 0",
+        b"comp  0 0",
+        b" load 0 0 0",
+        b"store 0 0 0 0 ",
+    ];
+    for line in lines {
+        assert_eq!(rt; line_two(&rt, line), Err(Fault::BadCommand(2)), "{line:?}");
+    }
+}
+
+#[test]
+fn credits_and_the_audit_are_no_commands_yet(rt: HostRuntime) {
+    let lines: [&[u8]; 7] = [
+        b"retryack 0 0",
+        b"resend 0 0",
+        b"cancel 0 0",
+        b"see 0",
+        b"giveback 0 0",
+        b"tend 0 0",
+        b"audit",
+    ];
+    for line in lines {
+        assert_eq!(rt; line_two(&rt, line), Err(Fault::BadCommand(2)), "{line:?}");
+    }
+}
+
+#[test]
+fn one_slice_and_up_to_eight_agents_are_served(rt: HostRuntime) {
+    let served: [&[u8]; 4] = [
+        b"node 1 1 1 1 1 4\n",
+        b"node 2 8 1 1 1 4\n",
+        b"node 7 64 1 32 32 65536\n",
+        b"node 8 1 1 1 1 1\n",
+    ];
+    for file in served {
+        assert_eq!(rt; fault_of(&rt, file), None, "{file:?}");
+    }
+    let others: [&[u8]; 8] = [
+        b"node 0 8 1 1 1 4\n",
+        b"node 9 8 1 1 1 4\n",
+        b"node 257 8 1 1 1 4\n",
+        b"node 2 8 2 1 1 4\n",
+        b"node 2 8 4 1 1 4\n",
+        b"node 2 8 8 1 1 4\n",
+        b"node 2 8 0 1 1 4\n",
+        b"node 2 8 1 1 1 1 1 4\n",
+    ];
+    for file in others {
+        assert_eq!(rt; fault_of(&rt, file), Some(Fault::BadHeader), "{file:?}");
+    }
+}
+
+#[test]
 fn the_first_fault_is_told(rt: HostRuntime) {
-    let files: [(&[u8], Fault); 26] = [
+    let files: [(&[u8], Fault); 25] = [
         (b"", Fault::BadHeader),
         (b"\n", Fault::BadHeader),
         (b"node 1 1 1 1 1 4", Fault::MissingNewline(1)),
@@ -66,7 +213,6 @@ fn the_first_fault_is_told(rt: HostRuntime) {
         (b"node 1 1 1 1 18446744073709551615 4\n", Fault::BadHeader),
         (b"node 1 1 1 1 1 0\n", Fault::BadHeader),
         (b"node 1 1 1 1 1 65537\n", Fault::BadHeader),
-        (b"node 2 1 1 1 1 4\n", Fault::BadHeader),
         (b"node 1 2 2 1 1 4\n", Fault::BadHeader),
         (b"node 1 1 1 1 1 1 1 4\n", Fault::BadHeader),
         (b"node 1 1 1 1 1 4\n\n", Fault::BadCommand(2)),

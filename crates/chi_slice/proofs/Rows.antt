@@ -1,9 +1,9 @@
 -- The row of a line that is in the slice.
 use Rattle.std.proofs.Common.{◌≡◌, ℕ, ◌+◌, ◌-◌, ◌*◌, ◌/◌, ◌%◌, ◌<◌, ◌≤◌, Bool, true, false, ◌&&◌, ◌||◌, ◌==◌, ◌≢◌, nat_le, nat_lt, refl, subst, sym, arith, rules, ◌⊎◌, inl, inr, ⊎_elim}
 use Rattle.chi_flit.specs.declared.action.Action.{Action}
-use Rattle.chi_flit.specs.Action.{agent_of, line_of}
 use Rattle.chi_slice.specs.Config.{Sizes, are_entries, are_in_limits, is_between, is_slice_count}
-use Rattle.chi_slice.specs.Slice.{SliceState, SliceKept, is_in_range, is_line_in_range, is_slot_in_range, row_count, row_of_line}
+use Rattle.chi_slice.specs.Slice.{SliceState, SliceKept, are_in_range, is_in_range, is_line_in_range, row_count, row_of_line}
+use Rattle.chi_slice.specs.Step.{is_step_in_range}
 
 pub both : (a b : Bool) → (a && b) ≡ true → (a ≡ true) × (b ≡ true)
 both true b h = (refl, h)
@@ -80,25 +80,35 @@ row_low l lines index n low = ⊎_elim
     (λ (e : n ≡ 8). subst (IsRowLow l lines index) (sym e) (by_eight l lines index low))))
 
 -- a line that is in the slice has a row
-pub row_in_slice : (s : SliceState) (l : ℕ) → SliceKept s → is_line_in_range s l ≡ true → row_of_line s l < row_count s.config s.index
-row_in_slice s l k h =
+pub row_in_range : (s : SliceState) (l : ℕ) → are_in_limits s.config ≡ true → s.index < s.config.slices → is_line_in_range s l ≡ true → row_of_line s l < row_count s.config s.index
+row_in_range s l config index h =
     let parts = both (nat_lt l s.config.lines) (l % s.config.slices == s.index) h in
-    let limits = in_limits s.config k.config in
-    row_low l s.config.lines s.index s.config.slices (is_low l s.config.lines parts.0) (counts s.config.slices limits.count) k.index (is_equal (l % s.config.slices) s.index parts.1)
+    let limits = in_limits s.config config in
+    row_low l s.config.lines s.index s.config.slices (is_low l s.config.lines parts.0) (counts s.config.slices limits.count) index (is_equal (l % s.config.slices) s.index parts.1)
+
+pub row_in_slice : (s : SliceState) (l : ℕ) → SliceKept s → is_line_in_range s l ≡ true → row_of_line s l < row_count s.config s.index
+row_in_slice s l k h = row_in_range s l k.config k.index h
 
 -- the numbers of an action that is in range
 pub record InRange (s : SliceState) (action : Action) : Type 0 where
-  pub agent : (agent_of action).0 < 8
-  pub row : row_of_line s (line_of action).0 < row_count s.config s.index
+  pub agent : action.agent.0 < 8
+  pub line : is_line_in_range s action.line.0 ≡ true
+  pub low : action.line.0 < s.config.lines
+  pub row : row_of_line s action.line.0 < row_count s.config s.index
+  pub step : is_step_in_range action.step ≡ true
 
 pub in_range : (s : SliceState) (action : Action) → SliceKept s → is_in_range s action ≡ true → InRange s action
 in_range s action k h =
-    let parts = both (nat_lt (agent_of action).0 s.config.agents) (is_line_in_range s (line_of action).0 && is_slot_in_range action) h in
-    let low = is_low (agent_of action).0 s.config.agents parts.0 in
+    let parts = both (nat_lt action.agent.0 s.config.agents) (is_line_in_range s action.line.0 && is_step_in_range action.step) h in
+    let low = is_low action.agent.0 s.config.agents parts.0 in
     let limits = in_limits s.config k.config in
+    let rest = both (is_line_in_range s action.line.0) (is_step_in_range action.step) parts.1 in
     record {
       agent = omega (arith, low, limits.agents);
-      row = row_in_slice s (line_of action).0 k (both (is_line_in_range s (line_of action).0) (is_slot_in_range action) parts.1).0;
+      line = rest.0;
+      low = is_low action.line.0 s.config.lines (both (nat_lt action.line.0 s.config.lines) (action.line.0 % s.config.slices == s.index) rest.0).0;
+      row = row_in_slice s action.line.0 k rest.0;
+      step = rest.1;
     }
 
 abbrev IsSame : ℕ → ℕ → ℕ → Type 0
@@ -119,5 +129,48 @@ rows_apart s l other k here there apart = λ (e : other / s.config.slices ≡ l 
     let limits = in_limits s.config k.config in
     apart (apart_by l other s.config.slices (counts s.config.slices limits.count) s.index (is_equal (l % s.config.slices) s.index a.1) (is_equal (other % s.config.slices) s.index b.1) e)
 
-pub line_in_range : (s : SliceState) (action : Action) → is_in_range s action ≡ true → is_line_in_range s (line_of action).0 ≡ true
-line_in_range s action h = (both (is_line_in_range s (line_of action).0) (is_slot_in_range action) (both (nat_lt (agent_of action).0 s.config.agents) (is_line_in_range s (line_of action).0 && is_slot_in_range action) h).1).0
+-- an agent of the node is one of eight
+pub agent_low : (s : SliceState) (n l : ℕ) → SliceKept s → are_in_range s n l ≡ true → n < 8
+agent_low s n l k h =
+    let limits = in_limits s.config k.config in
+    let low = is_low n s.config.agents (both (nat_lt n s.config.agents) (is_line_in_range s l) h).0 in
+    omega (arith, low, limits.agents)
+
+-- the line of a row
+record IsLineOf (row lines index n l : ℕ) : Type 0 where
+  low : l < lines
+  left : l % n ≡ index
+  row_is : l / n ≡ row
+
+line_of : (row lines index n : ℕ) → (n ≡ 1) ⊎ ((n ≡ 2) ⊎ ((n ≡ 4) ⊎ (n ≡ 8))) → index < n → n ≤ lines → row < (lines - 1 - index) / n + 1 → IsLineOf row lines index n (row * n + index)
+line_of row lines index n = ⊎_elim
+    (λ (e : n ≡ 1). subst (λ (k : ℕ). index < k → k ≤ lines → row < (lines - 1 - index) / k + 1 → IsLineOf row lines index k (row * k + index)) (sym e) (λ a b c. record { low = omega (arith, a, b, c); left = omega (arith, a, b, c); row_is = omega (arith, a, b, c) }))
+    (⊎_elim
+    (λ (e : n ≡ 2). subst (λ (k : ℕ). index < k → k ≤ lines → row < (lines - 1 - index) / k + 1 → IsLineOf row lines index k (row * k + index)) (sym e) (λ a b c. record { low = omega (arith, a, b, c); left = omega (arith, a, b, c); row_is = omega (arith, a, b, c) }))
+    (⊎_elim
+    (λ (e : n ≡ 4). subst (λ (k : ℕ). index < k → k ≤ lines → row < (lines - 1 - index) / k + 1 → IsLineOf row lines index k (row * k + index)) (sym e) (λ a b c. record { low = omega (arith, a, b, c); left = omega (arith, a, b, c); row_is = omega (arith, a, b, c) }))
+    (λ (e : n ≡ 8). subst (λ (k : ℕ). index < k → k ≤ lines → row < (lines - 1 - index) / k + 1 → IsLineOf row lines index k (row * k + index)) (sym e) (λ a b c. record { low = omega (arith, a, b, c); left = omega (arith, a, b, c); row_is = omega (arith, a, b, c) }))))
+
+lower : (a b : ℕ) → a < b → nat_lt a b ≡ true
+lower a b h = grind (arith, h)
+
+same_as : (a b : ℕ) → a ≡ b → (a == b) ≡ true
+same_as a b h = grind (arith, h)
+
+and_true : (a b : Bool) → a ≡ true → b ≡ true → (a && b) ≡ true
+and_true a b x y = rw (x, y) refl
+
+pub record RowLine (s : SliceState) (row : ℕ) : Type 0 where
+  pub line : ℕ
+  pub here : is_line_in_range s line ≡ true
+  pub row_is : row_of_line s line ≡ row
+
+pub row_line : (s : SliceState) (row : ℕ) → SliceKept s → row < row_count s.config s.index → RowLine s row
+row_line s row k low =
+    let limits = in_limits s.config k.config in
+    let found : IsLineOf row s.config.lines s.index s.config.slices (row * s.config.slices + s.index) = line_of row s.config.lines s.index s.config.slices (counts s.config.slices limits.count) k.index limits.slices low in
+    record {
+      line = row * s.config.slices + s.index;
+      here = and_true (nat_lt (row * s.config.slices + s.index) s.config.lines) ((row * s.config.slices + s.index) % s.config.slices == s.index) (lower (row * s.config.slices + s.index) s.config.lines found.low) (same_as ((row * s.config.slices + s.index) % s.config.slices) s.index found.left);
+      row_is = found.row_is;
+    }

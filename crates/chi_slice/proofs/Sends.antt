@@ -20,7 +20,7 @@ use Rattle.chi_homeline.specs.declared.serving.Waiting.{Waiting}
 use Rattle.chi_homeline.specs.declared.serving.Started.{Started}
 use Rattle.chi_homeline.specs.declared.serving.Started.TheVariants.{Sends, Evicted, Snoops}
 use Rattle.chi_slice.specs.Step.{evicted_if, started_effect, waiting_effect}
-use Rattle.chi_slice.specs.Slice.{completed_slot, slot_unless}
+use Rattle.chi_slice.specs.Step.{completed_slot, slot_unless}
 use Rattle.chi_homeline.specs.Home.{Home, asks, completes_unique, completion_message, completion_of, is_idle, served_sends, start_refusal, started_sends, started_sends_as, waiting_of}
 
 -- a request waits, and the line is idle
@@ -42,7 +42,7 @@ can_start home n h =
 
 -- a message to a requester finds its cell empty where both cells of responses to it are
 -- a completion
-completion_down : (snoop : Snoop) (unique : Bool) (sent : List ℕ) (cells : Cells) → cells.rsp_down ≡ None → cells.dat_down ≡ None → cell_of cells (channel_of (completion_message snoop unique sent)) ≡ None
+pub completion_down : (snoop : Snoop) (unique : Bool) (sent : List ℕ) (cells : Cells) → cells.rsp_down ≡ None → cells.dat_down ≡ None → cell_of cells (channel_of (completion_message snoop unique sent)) ≡ None
 completion_down SnpNotSharedDirty unique sent cells r d = search (rules, r, d)
 completion_down SnpShared unique sent cells r d = search (rules, r, d)
 completion_down SnpUnique unique sent cells r d = search (rules, r, d)
@@ -85,8 +85,8 @@ evicted_by None true home agent request h g = ap (λ (o : Option Snoop). complet
 evicted_by None false home agent request h g = ap (λ (o : Option Snoop). completed_slot (started_effect (started_sends_as request.kind o home agent request.slot))) h ∙ ap (λ (b : Bool). completed_slot (started_effect (if b then Sends (messages.RspDown CompDBIDResp) else Evicted request.slot))) g
 
 pub evicted_slot_is : (home : Home) (agent : Agent) (request : Waiting) → waiting_of home agent.0 ≡ Some request → is_idle home.serving ≡ true
-    → slot_unless (start_refusal home agent.0) (waiting_effect (record { requesters = []; home = home; flits = [] }) agent (waiting_of home agent.0)) ≡ evicted_if (snoop_of request.kind) (is_copy_back request.kind) request.slot
+    → slot_unless (start_refusal home agent.0) (waiting_effect home agent (waiting_of home agent.0)) ≡ evicted_if (snoop_of request.kind) (is_copy_back request.kind) request.slot
 evicted_slot_is home agent request w idle =
-    ap (λ (o : Option Waiting). slot_unless (if is_some o then (if is_idle home.serving then None else Some LineBusy) else Some NotWaiting) (waiting_effect (record { requesters = []; home = home; flits = [] }) agent o)) w
+    ap (λ (o : Option Waiting). slot_unless (if is_some o then (if is_idle home.serving then None else Some LineBusy) else Some NotWaiting) (waiting_effect home agent o)) w
     ∙ (ap (λ (b : Bool). slot_unless (if b then None else Some LineBusy) (started_effect (started_sends home agent request))) idle
     ∙ evicted_by (snoop_of request.kind) (is_copy_back request.kind) home agent request refl refl)

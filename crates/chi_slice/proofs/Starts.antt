@@ -29,7 +29,7 @@ use Rattle.chi_slice.specs.Kept.{IsClean, IsCleanLane, Kept, Lane, LaneKept, all
 use Rattle.chi_slice.proofs.Frame.{Moves, moves_by, puts_nothing, puts_set, nothing_waiting, lanes_by, clean_by, same_lane}
 use Rattle.chi_slice.proofs.Finds.{idle_awaits_nobody, idle_is}
 use Rattle.chi_slice.proofs.Asks.{AsksFit, asks_fit, apart, same, has_in, none_in, left_in, length-others, was_in}
-use Rattle.chi_slice.proofs.Snoops.{snooped_at, snooped_cells, length-with_snoops}
+use Rattle.chi_slice.proofs.SnoopRows.{snooped_at, snooped_cells, length-with_snoops}
 use Rattle.chi_slice.proofs.StartLanes.{snooping_own, snooping_other, snooping_asked, asking_own, asking_other, writing_own, writing_other, evicting_own, evicting_other, idle_clean, idle_owner, none_clean}
 use Rattle.chi_slice.proofs.CompleteLanes.{allows_read}
 use Rattle.chi_slice.proofs.Completes.{MayComplete, completed_line, kept_completed}

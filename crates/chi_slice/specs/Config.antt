@@ -15,6 +15,9 @@ pub record Sizes : Type 0 where
 abbrev pub two_types : ℕ → ℕ → ℕ → ℕ → ℕ → ℕ → Sizes
 two_types agents lines slices t0 t1 journal = record { agents = agents; lines = lines; slices = slices; entries = t0 ∷ t1 ∷ 0 ∷ 0 ∷ []; journal = journal; profile = Two }
 
+abbrev pub four_types : ℕ → ℕ → ℕ → List ℕ → ℕ → Sizes
+four_types agents lines slices entries journal = record { agents = agents; lines = lines; slices = slices; entries = entries; journal = journal; profile = Four }
+
 abbrev pub is_between : ℕ → ℕ → ℕ → Bool
 is_between low high n = nat_le low n && nat_le n high
 

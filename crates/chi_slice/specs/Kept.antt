@@ -34,6 +34,7 @@ use Rattle.chi_homeline.specs.Home.{Home, acks_for, served_slot, waiting_of}
 pub use Rattle.chi_homeline.specs.Home.{IsServedInRange, served_kind, writes_for}
 use Rattle.chi_slice.specs.LineState.{LineState, rn_of, cells_of}
 use Rattle.chi_slice.specs.Step.{is_ack, pending_slot}
+pub use Rattle.chi_slice.specs.Step.{is_dbid, is_write_data}
 
 -- 1 for true: clauses count how many of several things there are
 abbrev pub bit : Bool → ℕ
@@ -119,13 +120,6 @@ invalidates (Some SnpUnique) = true
 invalidates (Some SnpCleanInvalid) = true
 
 -- of cells
-abbrev pub is_dbid : Option RspDown → Bool
-is_dbid None = false
-is_dbid (Some (RetryAck ty)) = false
-is_dbid (Some CompUC) = false
-is_dbid (Some CompI) = false
-is_dbid (Some CompDBIDResp) = true
-
 abbrev pub is_comp_unique : Option RspDown → Bool
 is_comp_unique None = false
 is_comp_unique (Some (RetryAck ty)) = false
@@ -145,13 +139,6 @@ is_snoop_data (Some (SnpRespDataIPD words)) = true
 is_snoop_data (Some (SnpRespDataSCPD words)) = true
 is_snoop_data (Some (SnpRespDataSD words)) = true
 is_snoop_data (Some (CopyBackWrData form words)) = false
-
-abbrev pub is_write_data : Option DatUp → Bool
-is_write_data None = false
-is_write_data (Some (SnpRespDataIPD words)) = false
-is_write_data (Some (SnpRespDataSCPD words)) = false
-is_write_data (Some (SnpRespDataSD words)) = false
-is_write_data (Some (CopyBackWrData form words)) = true
 
 -- the forms that pass the responsibility for the data
 abbrev pub passes_dirty : Option DatUp → Bool

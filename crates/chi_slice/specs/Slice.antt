@@ -1,16 +1,17 @@
 -- A slice: the lines l with l mod slices = index, each kept as a row (docs/PROTOCOL.md, "One line" and
 -- "The actions").
-use Rattle.std.specs.Prelude.{◌≡◌, ◌≢◌, ℕ, zero, suc, ◌+◌, ◌-◌, ◌/◌, ◌%◌, ◌<◌, List, [], Bool, true, false, ◌&&◌, ◌||◌, ◌==◌, nat_lt, Option, Some, None, length, replicate, slice_set, if◌then◌else◌}
+use Rattle.std.specs.Prelude.{◌≡◌, ◌≢◌, ℕ, zero, suc, ◌+◌, ◌-◌, ◌/◌, ◌%◌, ◌<◌, List, [], ◌∷◌, Bool, true, false, ◌&&◌, ◌||◌, ◌==◌, nat_lt, Option, Some, None, length, replicate, slice_set, Result, IfOk, OnOk, OnErr, if◌then◌else◌}
 use Rattle.std.specs.List.{slice_index_or}
 use Rattle.chi_flit.specs.declared.numbers.Slot.{Slot}
 use Rattle.chi_flit.specs.declared.action.Action.{Action}
-use Rattle.chi_flit.specs.declared.action.Action.TheVariants.{Issue, Admit, Start, RecvData, RecvAck}
+use Rattle.chi_flit.specs.declared.action.Step.{Step}
+use Rattle.chi_flit.specs.declared.action.Step.TheVariants as steps
 use Rattle.chi_flit.specs.declared.action.Effect.{Effect}
-use Rattle.chi_flit.specs.declared.action.Effect.TheVariants.{Nothing, Value, Completed}
 use Rattle.chi_flit.specs.declared.refusal.Refusal.{Refusal}
+use Rattle.chi_flit.specs.Refusal.{refusal_of}
 use Rattle.chi_flit.specs.declared.refusal.Refusal.TheVariants.{OutOfRange}
-use Rattle.chi_flit.specs.Action.{agent_of, line_of}
-use Rattle.chi_flit.specs.Message.{no_words}
+use Rattle.chi_journal.specs.declared.record.Record.{Record}
+use Rattle.chi_journal.specs.Journal.{IsLegal, Log, appended, is_full, last_words, opening_log}
 use Rattle.chi_wires.specs.declared.cells.Cells.{Cells}
 use Rattle.chi_wires.specs.Cell.{no_flits}
 use Rattle.chi_wires.specs.Wires.{row_of}
@@ -18,7 +19,9 @@ use Rattle.chi_rnline.specs.Rn.{Rn, no_line}
 use Rattle.chi_homeline.specs.Home.{Home, idle_home}
 use Rattle.chi_slice.specs.Config.{Sizes, are_in_limits}
 use Rattle.chi_slice.specs.LineState.{LineState}
-use Rattle.chi_slice.specs.Step.{after, effect_of, line_refusal, line_uses}
+use Rattle.chi_slice.specs.declared.act.Conditions.{Conditions}
+use Rattle.chi_slice.specs.Step.{after, completed_slot, effect_of, is_step_in_range, line_uses, record_of, slot_unless}
+use Rattle.chi_slice.specs.Refused.{line_refusal}
 use Rattle.chi_slice.specs.Kept.{Kept}
 
 pub record SliceState : Type 0 where
@@ -27,6 +30,7 @@ pub record SliceState : Type 0 where
   pub requesters : List (List Rn)
   pub homes : List Home
   pub wires : List (List Cells)
+  pub journal : Log
 
 -- how many lines below the node's number are in a slice
 abbrev pub row_count : Sizes → ℕ → ℕ
@@ -40,6 +44,7 @@ opening_slice config index = record {
   requesters = replicate (row_count config index) (replicate 8 no_line);
   homes = replicate (row_count config index) idle_home;
   wires = replicate (row_count config index) (replicate 8 no_flits);
+  journal = opening_log config.lines config.journal;
 }
 
 -- the line in a row
@@ -63,73 +68,116 @@ uses_below (suc row) requesters homes n slot = uses_below row requesters homes n
 abbrev pub uses : SliceState → ℕ → Slot → Bool
 uses s n slot = uses_below (length s.homes) s.requesters s.homes n slot
 
--- whether the slot that an action names is one of the eight
-abbrev pub is_slot_in_range : Action → Bool
-is_slot_in_range (Issue agent line kind slot) = nat_lt slot.0 8
-is_slot_in_range (Admit agent line) = true
-is_slot_in_range (Start agent line) = true
-is_slot_in_range (RecvData agent line) = true
-is_slot_in_range (RecvAck agent line) = true
-
 -- whether a line is in the slice
 abbrev pub is_line_in_range : SliceState → ℕ → Bool
 is_line_in_range s l = nat_lt l s.config.lines && (l % s.config.slices == s.index)
 
 -- whether the numbers of an action are in their ranges, and its line in the slice
 abbrev pub is_in_range : SliceState → Action → Bool
-is_in_range s action = nat_lt (agent_of action).0 s.config.agents && (is_line_in_range s (line_of action).0 && is_slot_in_range action)
+is_in_range s action = nat_lt action.agent.0 s.config.agents && (is_line_in_range s action.line.0 && is_step_in_range action.step)
 
--- whether the slot that an action wants is in use
-abbrev pub is_slot_used : SliceState → Action → Bool
-is_slot_used s (Issue agent line kind slot) = uses s agent.0 slot
-is_slot_used s (Admit agent line) = false
-is_slot_used s (Start agent line) = false
-is_slot_used s (RecvData agent line) = false
-is_slot_used s (RecvAck agent line) = false
+-- whether the slot that a step wants is in use
+abbrev pub is_slot_used : SliceState → ℕ → Step → Bool
+is_slot_used s n (steps.Load word) = false
+is_slot_used s n (steps.Store word value) = false
+is_slot_used s n steps.Drop = false
+is_slot_used s n (steps.Issue kind slot) = uses s n slot
+is_slot_used s n steps.Admit = false
+is_slot_used s n steps.Retry = false
+is_slot_used s n steps.RecvRetry = false
+is_slot_used s n steps.Resend = false
+is_slot_used s n steps.Cancel = false
+is_slot_used s n steps.Start = false
+is_slot_used s n steps.RecvSnp = false
+is_slot_used s n steps.RecvSnpResp = false
+is_slot_used s n steps.RecvData = false
+is_slot_used s n steps.RecvComp = false
+is_slot_used s n steps.RecvAck = false
+is_slot_used s n steps.RecvDbid = false
+is_slot_used s n steps.RecvWrData = false
+
+abbrev pub conditions_of : SliceState → Action → Conditions
+conditions_of s action = record { slot_used = is_slot_used s action.agent.0 action.step; journal_full = is_full s.journal; profile = s.config.profile }
 
 -- why an action is refused: 10, then the numbers of its row in the table of the actions
 abbrev pub refused : SliceState → Action → Option Refusal
-refused s action = if is_in_range s action then line_refusal (is_slot_used s action) (line s (line_of action).0) action else Some OutOfRange
+refused s action = if is_in_range s action then line_refusal (conditions_of s action) (line s action.line.0) action else Some OutOfRange
 
 -- the slice with another line in a row
 abbrev pub with_line : SliceState → ℕ → LineState → SliceState
 with_line s row new = record s { requesters = slice_set s.requesters row new.requesters; homes = slice_set s.homes row new.home; wires = slice_set s.wires row new.flits }
 
--- what an action that is done leaves
+-- the journal with one more record, or none
+abbrev pub recorded : Log → Option Record → Log
+recorded log None = log
+recorded log (Some entry) = appended log entry
+
+-- what an action that is done leaves: its line by its step, and the journal with its record
 abbrev pub acted : SliceState → Action → SliceState
-acted s action = with_line s (row_of_line s (line_of action).0) (after (line s (line_of action).0) action)
+acted s action = record (with_line s (row_of_line s action.line.0) (after s.config.profile (line s action.line.0) action)) { journal = recorded s.journal (record_of (line s action.line.0) action) }
+
+-- an action that is tried: refused, it changes nothing
+abbrev pub tried_as : Option Refusal → SliceState → Action → SliceState
+tried_as None s action = acted s action
+tried_as (Some refusal) s action = s
+
+abbrev pub tried : SliceState → Action → SliceState
+tried s action = tried_as (refused s action) s action
+
+abbrev pub done_if : Option Refusal → ℕ
+done_if None = 1
+done_if (Some refusal) = 0
+
+-- a run of actions, each tried in turn, and how many of them are done
+abbrev pub run_after : SliceState → List Action → SliceState
+run_after s [] = s
+run_after s (action ∷ actions) = run_after (tried s action) actions
+
+abbrev pub run_done : SliceState → List Action → ℕ
+run_done s [] = 0
+run_done s (action ∷ actions) = done_if (refused s action) + run_done (tried s action) actions
 
 -- why a line can't be looked at
 abbrev pub view_refusal : SliceState → ℕ → Option Refusal
 view_refusal s l = if is_line_in_range s l then None else Some OutOfRange
 
+-- whether an agent is in the node, and a line in the slice
+abbrev pub are_in_range : SliceState → ℕ → ℕ → Bool
+are_in_range s n l = nat_lt n s.config.agents && is_line_in_range s l
+
 -- why an agent's flits at a line can't be looked at
 abbrev pub flits_refusal : SliceState → ℕ → ℕ → Option Refusal
-flits_refusal s n l = if nat_lt n s.config.agents && is_line_in_range s l then None else Some OutOfRange
+flits_refusal s n l = if are_in_range s n l then None else Some OutOfRange
 
 -- all lines of a slice but one are as before
 abbrev pub OtherLinesStay : SliceState → SliceState → ℕ → Type 0
 OtherLinesStay old new l = (other : ℕ) → is_line_in_range old other ≡ true → other ≢ l → line new other ≡ line old other
 
--- the slot of a request that an action completes, where it isn't refused
-abbrev pub completed_slot : Effect → Option Slot
-completed_slot Nothing = None
-completed_slot (Value word) = None
-completed_slot (Completed slot) = Some slot
-
-abbrev pub slot_unless : Option Refusal → Effect → Option Slot
-slot_unless None effect = completed_slot effect
-slot_unless (Some refusal) effect = None
-
 -- the slot of the request that an action would complete
 abbrev pub completes : SliceState → Action → Option Slot
-completes s action = slot_unless (refused s action) (effect_of (line s (line_of action).0) action)
+completes s action = slot_unless (refused s action) (effect_of (line s action.line.0) action)
 
--- what a slice keeps: the values last stored are 0, since nothing is stored yet
+-- the values last stored to the words of a line
+abbrev pub last_of : SliceState → ℕ → List ℕ
+last_of s l = last_words s.journal.entries l
+
+-- what a slice keeps: each of its lines keeps what a line keeps, with the values last stored to it by the
+-- journal, and each load in the journal had the value last stored before it
 pub record SliceKept (s : SliceState) : Type 0 where
   pub config : are_in_limits s.config ≡ true
   pub index : s.index < s.config.slices
   pub requesters : length s.requesters ≡ row_count s.config s.index
   pub homes : length s.homes ≡ row_count s.config s.index
   pub wires : length s.wires ≡ row_count s.config s.index
-  pub lines : (row : ℕ) → row < row_count s.config s.index → Kept no_words (line_at s row)
+  pub lines : (l : ℕ) → is_line_in_range s l ≡ true → Kept (last_of s l) (line s l)
+  pub journal_lines : s.journal.lines ≡ s.config.lines
+  pub journal_limit : s.journal.limit ≡ s.config.journal
+  pub legal : IsLegal s.journal.entries
+
+-- what an action that was tried gives and leaves, of a slice that keeps what it keeps
+pub record Performed (old : SliceState) (action : Action) (result : Result Effect Refusal) (new : SliceState) : Type 0 where
+  pub refusal : refusal_of result ≡ refused old action
+  pub effect : IfOk result (λ effect. effect ≡ effect_of (line old action.line.0) action)
+  pub after : OnOk result (new ≡ acted old action)
+  pub err : OnErr result (new ≡ old)
+  pub kept : SliceKept old

@@ -1,17 +1,21 @@
--- The actions on one line as functions: what each leaves, its effect, and why it is refused
--- (docs/PROTOCOL.md, "The actions" and "Start"). A case says what changes; all else stays.
-use Rattle.std.specs.Prelude.{ℕ, List, Bool, true, false, Option, Some, None, is_some, slice_set, ◌==◌, ◌||◌, if◌then◌else◌}
+-- The actions on one line as functions: what each leaves, and its effect (docs/PROTOCOL.md, "The actions",
+-- "Start" and "Answers of snooped agents"). A case says what changes; all else stays.
+use Rattle.std.specs.Prelude.{ℕ, List, Bool, true, false, Option, Some, None, is_some, slice_set, ◌==◌, ◌||◌, nat_lt, if◌then◌else◌}
 use Rattle.std.specs.List.{slice_index_or}
 use Rattle.chi_flit.specs.declared.numbers.Agent.{Agent}
 use Rattle.chi_flit.specs.declared.numbers.Line.{Line}
 use Rattle.chi_flit.specs.declared.numbers.Slot.{Slot}
 use Rattle.chi_flit.specs.declared.kind.Kind.{Kind}
 use Rattle.chi_flit.specs.declared.action.Action.{Action}
-use Rattle.chi_flit.specs.declared.action.Action.TheVariants.{Issue, Admit, Start, RecvData, RecvAck}
+use Rattle.chi_flit.specs.declared.action.Step.{Step}
+use Rattle.chi_flit.specs.declared.action.Step.TheVariants as steps
 use Rattle.chi_flit.specs.declared.action.Effect.{Effect}
-use Rattle.chi_flit.specs.declared.action.Effect.TheVariants.{Nothing, Completed}
+use Rattle.chi_flit.specs.declared.action.Effect.TheVariants.{Nothing, Value, Completed}
 use Rattle.chi_flit.specs.declared.message.Request.{Request}
-use Rattle.chi_flit.specs.declared.message.RspDown.TheVariants.{CompI, RetryAck}
+use Rattle.chi_flit.specs.declared.message.DatUp.{DatUp}
+use Rattle.chi_flit.specs.declared.message.DatUp.TheVariants.{SnpRespDataIPD, SnpRespDataSCPD, SnpRespDataSD, CopyBackWrData}
+use Rattle.chi_flit.specs.declared.message.RspDown.{RspDown}
+use Rattle.chi_flit.specs.declared.message.RspDown.TheVariants.{CompUC, CompI, CompDBIDResp, RetryAck}
 use Rattle.chi_flit.specs.declared.credit.Profile.{Profile}
 use Rattle.chi_flit.specs.declared.snoop.Snoop.{Snoop}
 use Rattle.chi_flit.specs.declared.state.State.{State}
@@ -25,18 +29,21 @@ use Rattle.chi_flit.specs.declared.message.RspUp.{RspUp}
 use Rattle.chi_flit.specs.declared.message.RspUp.TheVariants.{SnpRespI, SnpRespSC, CompAck}
 use Rattle.chi_flit.specs.declared.message.Msg.TheVariants as messages
 use Rattle.chi_flit.specs.declared.refusal.Refusal.{Refusal}
-use Rattle.chi_flit.specs.declared.refusal.Refusal.TheVariants as refusals
+use Rattle.chi_journal.specs.declared.record.Record.{Record}
+use Rattle.chi_journal.specs.declared.record.Record.TheVariants as records
 use Rattle.chi_wires.specs.declared.cells.Cells.{Cells}
 use Rattle.chi_wires.specs.Cell.{no_flits, with_message}
 use Rattle.chi_wires.specs.Wires.{row_of, with_snoops}
 use Rattle.chi_rnline.specs.declared.pending.Pending.{Pending}
-use Rattle.chi_rnline.specs.Rn.{Rn, cancelled, comp_received, dbid_received, dropped, evict_received, issued, issue_refusal, received, request_message, resent, retry_received, snoop_received, stored}
+use Rattle.chi_rnline.specs.Rn.{Rn, cancelled, comp_received, dbid_received, dropped, evict_received, issued, received, request_message, resent, retry_received, snoop_received, stored, word_of}
 use Rattle.chi_homeline.specs.declared.serving.Serving.{Serving}
 use Rattle.chi_homeline.specs.declared.serving.Serving.TheVariants.{Idle, Snooping, AwaitingCompAck, AwaitingWriteData}
 use Rattle.chi_homeline.specs.declared.serving.Waiting.{Waiting}
+use Rattle.chi_homeline.specs.declared.serving.SnoopAnswer.{SnoopAnswer}
+use Rattle.chi_homeline.specs.declared.serving.SnoopAnswer.TheVariants as answers
 use Rattle.chi_homeline.specs.declared.serving.Started.{Started}
 use Rattle.chi_homeline.specs.declared.serving.Started.TheVariants.{Sends, Evicted, Snoops}
-use Rattle.chi_homeline.specs.Home.{Home, acknowledged, admitted, answered, completed, completion_of, left_owner, left_shared, served_slot, start_refusal, started, started_sends, waiting_of, written}
+use Rattle.chi_homeline.specs.Home.{Home, acknowledged, admitted, answered, completed, completion_of, left_owner, left_shared, served_kind, served_slot, started, started_sends, waiting_of, written}
 use Rattle.chi_slice.specs.LineState.{LineState, rn_of, cells_of}
 
 -- Issue: the request is pending, and in flight with AllowRetry
@@ -153,13 +160,69 @@ abbrev pub where_some : {A : Type 0} → LineState → Option A → (A → LineS
 where_some s None step = s
 where_some s (Some taken) step = step taken
 
--- what an action that is done leaves
-abbrev pub after : LineState → Action → LineState
-after s (Issue agent line kind slot) = issued_line s agent.0 kind slot
-after s (Admit agent line) = where_some s (cells_of s agent.0).req (admitted_line s agent.0)
-after s (Start agent line) = where_some s (waiting_of s.home agent.0) (started_line s agent)
-after s (RecvData agent line) = where_some s (cells_of s agent.0).dat_down (received_line s agent.0)
-after s (RecvAck agent line) = acknowledged_line s agent.0
+-- the answer to a snoop that is in flight: a response, or else data
+abbrev pub response_answer : Option RspUp → Option SnoopAnswer → Option SnoopAnswer
+response_answer None other = other
+response_answer (Some SnpRespI) other = Some answers.I
+response_answer (Some SnpRespSC) other = Some answers.SC
+response_answer (Some CompAck) other = other
+
+abbrev pub data_answer : Option DatUp → Option SnoopAnswer
+data_answer None = None
+data_answer (Some (SnpRespDataIPD words)) = Some (answers.IPD words)
+data_answer (Some (SnpRespDataSCPD words)) = Some (answers.SCPD words)
+data_answer (Some (SnpRespDataSD words)) = Some (answers.SD words)
+data_answer (Some (CopyBackWrData form words)) = None
+
+abbrev pub answer_in : Cells → Option SnoopAnswer
+answer_in cells = response_answer cells.rsp_up (data_answer cells.dat_up)
+
+-- RecvSnpResp of each answer
+abbrev pub answered_by : LineState → Agent → SnoopAnswer → LineState
+answered_by s agent answers.I = none_answered s agent.0
+answered_by s agent answers.SC = shared_answered s agent.0
+answered_by s agent (answers.IPD words) = none_sent s agent.0 words
+answered_by s agent (answers.SCPD words) = shared_sent s agent.0 words
+answered_by s agent (answers.SD words) = owner_sent s agent words
+
+-- RecvComp of each completion
+abbrev pub completion_received : LineState → ℕ → Option RspDown → LineState
+completion_received s n None = s
+completion_received s n (Some (RetryAck ty)) = s
+completion_received s n (Some CompUC) = comp_received_line s n
+completion_received s n (Some CompI) = evict_received_line s n
+completion_received s n (Some CompDBIDResp) = s
+
+-- RecvWrData of the write data of a request of the kind
+abbrev pub data_written : LineState → ℕ → Kind → Option DatUp → LineState
+data_written s n kind None = s
+data_written s n kind (Some (SnpRespDataIPD words)) = s
+data_written s n kind (Some (SnpRespDataSCPD words)) = s
+data_written s n kind (Some (SnpRespDataSD words)) = s
+data_written s n kind (Some (CopyBackWrData form words)) = written_line s n kind form words
+
+-- what an action of an agent that is done leaves
+abbrev pub after_step : Profile → LineState → Agent → Step → LineState
+after_step profile s agent (steps.Load word) = s
+after_step profile s agent (steps.Store word value) = stored_line s agent.0 word.0 value
+after_step profile s agent steps.Drop = dropped_line s agent.0
+after_step profile s agent (steps.Issue kind slot) = issued_line s agent.0 kind slot
+after_step profile s agent steps.Admit = where_some s (cells_of s agent.0).req (admitted_line s agent.0)
+after_step profile s agent steps.Retry = where_some s (cells_of s agent.0).req (retried_line profile s agent.0)
+after_step profile s agent steps.RecvRetry = retry_received_line s agent.0
+after_step profile s agent steps.Resend = where_some s (rn_of s agent.0).pending (resent_line s agent.0)
+after_step profile s agent steps.Cancel = cancelled_line s agent.0
+after_step profile s agent steps.Start = where_some s (waiting_of s.home agent.0) (started_line s agent)
+after_step profile s agent steps.RecvSnp = where_some s (cells_of s agent.0).snp (snooped_line s agent.0)
+after_step profile s agent steps.RecvSnpResp = where_some s (answer_in (cells_of s agent.0)) (answered_by s agent)
+after_step profile s agent steps.RecvData = where_some s (cells_of s agent.0).dat_down (received_line s agent.0)
+after_step profile s agent steps.RecvComp = completion_received s agent.0 (cells_of s agent.0).rsp_down
+after_step profile s agent steps.RecvAck = acknowledged_line s agent.0
+after_step profile s agent steps.RecvDbid = where_some s (rn_of s agent.0).pending (λ request. dbid_received_line s agent.0 request.kind)
+after_step profile s agent steps.RecvWrData = where_some s (served_kind s.home.serving) (λ kind. data_written s agent.0 kind (cells_of s agent.0).dat_up)
+
+abbrev pub after : Profile → LineState → Action → LineState
+after profile s action = after_step profile s action.agent action.step
 
 -- the effect of a start: an Evict is complete with it
 abbrev pub started_effect : Started → Effect
@@ -167,9 +230,9 @@ started_effect (Sends message) = Nothing
 started_effect (Evicted slot) = Completed slot
 started_effect (Snoops snoop agents) = Nothing
 
-abbrev pub waiting_effect : LineState → Agent → Option Waiting → Effect
-waiting_effect s agent None = Nothing
-waiting_effect s agent (Some request) = started_effect (started_sends s.home agent request)
+abbrev pub waiting_effect : Home → Agent → Option Waiting → Effect
+waiting_effect home agent None = Nothing
+waiting_effect home agent (Some request) = started_effect (started_sends home agent request)
 
 abbrev pub completed_effect : Option Slot → Effect
 completed_effect None = Nothing
@@ -182,13 +245,29 @@ evicted_if (Some snoop) copy_back slot = None
 evicted_if None true slot = None
 evicted_if None false slot = Some slot
 
--- the effect of an action that is done
+-- the effect of an action that is done: a load gives the word's value, and the home is done with the
+-- request that is served at its CompAck or write data
+abbrev pub step_effect : LineState → Agent → Step → Effect
+step_effect s agent (steps.Load word) = Value (word_of (rn_of s agent.0) word.0)
+step_effect s agent (steps.Store word value) = Nothing
+step_effect s agent steps.Drop = Nothing
+step_effect s agent (steps.Issue kind slot) = Nothing
+step_effect s agent steps.Admit = Nothing
+step_effect s agent steps.Retry = Nothing
+step_effect s agent steps.RecvRetry = Nothing
+step_effect s agent steps.Resend = Nothing
+step_effect s agent steps.Cancel = Nothing
+step_effect s agent steps.Start = waiting_effect s.home agent (waiting_of s.home agent.0)
+step_effect s agent steps.RecvSnp = Nothing
+step_effect s agent steps.RecvSnpResp = Nothing
+step_effect s agent steps.RecvData = Nothing
+step_effect s agent steps.RecvComp = Nothing
+step_effect s agent steps.RecvAck = completed_effect (served_slot s.home.serving)
+step_effect s agent steps.RecvDbid = Nothing
+step_effect s agent steps.RecvWrData = completed_effect (served_slot s.home.serving)
+
 abbrev pub effect_of : LineState → Action → Effect
-effect_of s (Issue agent line kind slot) = Nothing
-effect_of s (Admit agent line) = Nothing
-effect_of s (Start agent line) = waiting_effect s agent (waiting_of s.home agent.0)
-effect_of s (RecvData agent line) = Nothing
-effect_of s (RecvAck agent line) = completed_effect (served_slot s.home.serving)
+effect_of s action = step_effect s action.agent action.step
 
 -- whether a slot is this one
 abbrev pub is_slot : Option Slot → Slot → Bool
@@ -225,14 +304,87 @@ is_ack (Some SnpRespI) = false
 is_ack (Some SnpRespSC) = false
 is_ack (Some CompAck) = true
 
-abbrev pub no_flit_unless : Bool → Option Refusal
-no_flit_unless there = if there then None else Some refusals.NoFlit
+-- whether a cell has a RetryAck
+abbrev pub is_retry : Option RspDown → Bool
+is_retry None = false
+is_retry (Some (RetryAck ty)) = true
+is_retry (Some CompUC) = false
+is_retry (Some CompI) = false
+is_retry (Some CompDBIDResp) = false
 
--- why an action on the line is refused, its numbers being in range; used says whether the slot that an
--- Issue names is in use
-abbrev pub line_refusal : Bool → LineState → Action → Option Refusal
-line_refusal used s (Issue agent line kind slot) = if used then Some refusals.Pending else issue_refusal (rn_of s agent.0) kind
-line_refusal used s (Admit agent line) = no_flit_unless (is_some (cells_of s agent.0).req)
-line_refusal used s (Start agent line) = start_refusal s.home agent.0
-line_refusal used s (RecvData agent line) = no_flit_unless (is_some (cells_of s agent.0).dat_down)
-line_refusal used s (RecvAck agent line) = no_flit_unless (is_ack (cells_of s agent.0).rsp_up)
+-- whether a cell has Comp_UC or Comp_I
+abbrev pub is_comp : Option RspDown → Bool
+is_comp None = false
+is_comp (Some (RetryAck ty)) = false
+is_comp (Some CompUC) = true
+is_comp (Some CompI) = true
+is_comp (Some CompDBIDResp) = false
+
+-- whether a cell has CompDBIDResp
+abbrev pub is_dbid : Option RspDown → Bool
+is_dbid None = false
+is_dbid (Some (RetryAck ty)) = false
+is_dbid (Some CompUC) = false
+is_dbid (Some CompI) = false
+is_dbid (Some CompDBIDResp) = true
+
+-- whether a cell has CopyBackWrData
+abbrev pub is_write_data : Option DatUp → Bool
+is_write_data None = false
+is_write_data (Some (SnpRespDataIPD words)) = false
+is_write_data (Some (SnpRespDataSCPD words)) = false
+is_write_data (Some (SnpRespDataSD words)) = false
+is_write_data (Some (CopyBackWrData form words)) = true
+
+-- the slot of a request that an action completes, where it isn't refused
+abbrev pub completed_slot : Effect → Option Slot
+completed_slot Nothing = None
+completed_slot (Value word) = None
+completed_slot (Completed slot) = Some slot
+
+abbrev pub slot_unless : Option Refusal → Effect → Option Slot
+slot_unless None effect = completed_slot effect
+slot_unless (Some refusal) effect = None
+
+-- whether the numbers of a step are in their ranges: a word, or a slot, is one of eight
+abbrev pub is_step_in_range : Step → Bool
+is_step_in_range (steps.Load word) = nat_lt word.0 8
+is_step_in_range (steps.Store word value) = nat_lt word.0 8
+is_step_in_range steps.Drop = true
+is_step_in_range (steps.Issue kind slot) = nat_lt slot.0 8
+is_step_in_range steps.Admit = true
+is_step_in_range steps.Retry = true
+is_step_in_range steps.RecvRetry = true
+is_step_in_range steps.Resend = true
+is_step_in_range steps.Cancel = true
+is_step_in_range steps.Start = true
+is_step_in_range steps.RecvSnp = true
+is_step_in_range steps.RecvSnpResp = true
+is_step_in_range steps.RecvData = true
+is_step_in_range steps.RecvComp = true
+is_step_in_range steps.RecvAck = true
+is_step_in_range steps.RecvDbid = true
+is_step_in_range steps.RecvWrData = true
+
+-- the record of a load or a store that is done
+abbrev pub step_record : LineState → Agent → Line → Step → Option Record
+step_record s agent line (steps.Load word) = Some (records.Load agent line word (word_of (rn_of s agent.0) word.0))
+step_record s agent line (steps.Store word value) = Some (records.Store agent line word value)
+step_record s agent line steps.Drop = None
+step_record s agent line (steps.Issue kind slot) = None
+step_record s agent line steps.Admit = None
+step_record s agent line steps.Retry = None
+step_record s agent line steps.RecvRetry = None
+step_record s agent line steps.Resend = None
+step_record s agent line steps.Cancel = None
+step_record s agent line steps.Start = None
+step_record s agent line steps.RecvSnp = None
+step_record s agent line steps.RecvSnpResp = None
+step_record s agent line steps.RecvData = None
+step_record s agent line steps.RecvComp = None
+step_record s agent line steps.RecvAck = None
+step_record s agent line steps.RecvDbid = None
+step_record s agent line steps.RecvWrData = None
+
+abbrev pub record_of : LineState → Action → Option Record
+record_of s action = step_record s action.agent action.line action.step

@@ -1,7 +1,8 @@
 //! The sizes of a node.
 
 ghost use Rattle.std.specs.Prelude.{◌≡◌, ◌+◌, ◌&&◌, nat_le, true, ⊤};
-ghost use Rattle.chi_slice.specs.Config.{Sizes, are_in_limits, config_if, is_between, is_slice_count, two_types};
+ghost use Rattle.chi_flit.specs.declared.credit.Profile.TheVariants.{Four};
+ghost use Rattle.chi_slice.specs.Config.{Sizes, are_entries, are_in_limits, config_if, four_types, is_between, is_slice_count, two_types};
 
 use chi_flit::Profile;
 use std::alloc::AllocError;
@@ -76,6 +77,15 @@ fn are_two_entries(t0: u16, t1: u16) -> bool
     1 <= t0 && 1 <= t1 && u32::from(t0) + u32::from(t1) <= 64
 }
 
+/// Whether there may be so many entries of four types.
+fn are_four_entries(entries: [u16; 4]) -> bool
+    ensures { result ≡ are_entries Four entries }
+{
+    let [t0, t1, t2, t3] = entries;
+    let sum = u32::from(t0) + (u32::from(t1) + (u32::from(t2) + u32::from(t3)));
+    1 <= t0 && 1 <= t1 && 1 <= t2 && 1 <= t3 && sum <= 256
+}
+
 impl Config {
     /// A node of two credit types, with `t0` and `t1` entries of them: `agents` requesters, `lines` lines
     /// in `slices` slices, and `journal` records a slice. `None` exactly where a number is outside its
@@ -93,6 +103,30 @@ impl Config {
             entries: [t0, t1, 0, 0],
             journal,
             profile: Profile::Two,
+        })
+    }
+
+    /// A node of four credit types, with so many entries of each: `agents` requesters, `lines` lines in
+    /// `slices` slices, and `journal` records a slice. `None` exactly where a number is outside its limits.
+    pub fn four(
+        agents: u8,
+        lines: u8,
+        slices: u8,
+        entries: [u16; 4],
+        journal: u32,
+    ) -> Option<Config>
+        ensures { result ≡ config_if (four_types agents lines slices entries journal) }
+    {
+        if !are_sizes(agents, lines, slices, journal) || !are_four_entries(entries) {
+            return None;
+        }
+        Some(Config {
+            agents,
+            lines,
+            slices,
+            entries,
+            journal,
+            profile: Profile::Four,
         })
     }
 

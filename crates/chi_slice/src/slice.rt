@@ -1,24 +1,32 @@
 //! A slice: some of the node's lines, and all that belongs to them.
 
-ghost use Rattle.std.specs.Prelude.{◌≡◌, ◌≢◌, ℕ, ◌<◌, [], true, length, replicate, IfOk, OnOk, OnErr};
-ghost use Rattle.chi_flit.specs.Action.{agent_of, line_of};
+ghost use Rattle.std.specs.Prelude.{◌≡◌, ◌≢◌, ℕ, ◌<◌, [], true, false, None, Some, length, replicate, IfOk, OnOk, OnErr};
 ghost use Rattle.chi_flit.specs.Refusal.{refusal_of};
 ghost use Rattle.chi_rnline.specs.Rn.{no_line};
 ghost use Rattle.chi_homeline.specs.Home.{idle_home};
 ghost use Rattle.chi_slice.specs.Config.{Sizes, are_in_limits};
-ghost use Rattle.chi_slice.specs.Step.{effect_of};
+ghost use Rattle.chi_journal.specs.Journal.{IsLegal};
+ghost use Rattle.chi_slice.specs.Step.{effect_of, is_step_in_range};
+ghost use Rattle.chi_slice.specs.declared.places.Place.{Place};
+ghost use Rattle.chi_slice.specs.Places.{at_line, is_slot_of, where_at};
 ghost use Rattle.chi_slice.specs.LineState.{cells_of};
 ghost use Rattle.chi_slice.specs.LineStep.{LineStep};
-ghost use Rattle.chi_flit.specs.Message.{no_words};
+ghost use Rattle.chi_slice.specs.Step.{record_of};
+ghost use Rattle.chi_slice.specs.Recorded.{CanAppend, record_by};
 ghost use Rattle.chi_slice.specs.Coherent.{Coherent};
 ghost use Rattle.chi_slice.specs.View.{shown};
-ghost use Rattle.chi_slice.specs.Slice.{acted, flits_refusal, is_in_range, is_line_in_range, is_slot_in_range, is_slot_used, line, line as line_of_slice, completes, opening_slice, OtherLinesStay, SliceKept, refused, row_count, row_of_line, uses_below, view_refusal};
+ghost use Rattle.chi_slice.specs.Slice.{acted, are_in_range, completes, conditions_of, flits_refusal, is_in_range, is_line_in_range, is_slot_used, last_of, line, line as line_of_slice, opening_slice, OtherLinesStay, Performed, SliceKept, recorded, refused, row_count, row_of_line, run_after, run_done, uses, view_refusal};
 
-use crate::act::{acknowledged_slot, act_on, evicted_slot, line_uses};
+use crate::act::Conditions;
 use crate::config::Config;
+use crate::ends::completed_at;
+use crate::places::{Place, Places};
+use crate::records::{follow, is_step_in_range};
+use crate::row::act_in_row;
 use crate::view::{LineView, view_of};
-use chi_flit::{Action, Agent, Effect, Line, NO_DATA, NoMemory, Refusal, Slot};
+use chi_flit::{Action, Agent, Effect, Line, NoMemory, Refusal, Slot, Step};
 use chi_homeline::HomeLine;
+use chi_journal::Journal;
 use chi_rnline::RnLine;
 use chi_wires::{Cells, Wires};
 use std::alloc::Allocator;
@@ -34,16 +42,19 @@ pub struct Slice<A: Allocator> {
     requesters: Vec<[RnLine; 8], A>,
     homes: Vec<HomeLine, A>,
     wires: Wires<A>,
+    journal: Journal<A>,
+    places: Places,
 }
 
 impl<A: Allocator> Model for Slice<A> {
     ghost use Rattle.chi_slice.specs.Slice.{SliceState, SliceKept};
+    ghost use Rattle.chi_slice.specs.Index.{Indexed};
 
     ghost Value = { SliceState };
 
-    ghost view = { λ s. record { config = s.config; index = s.index; requesters = s.requesters.items; homes = s.homes.items; wires = s.wires } };
+    ghost view = { λ s. record { config = s.config; index = s.index; requesters = s.requesters.items; homes = s.homes.items; wires = s.wires; journal = s.journal } };
 
-    ghost invariant = { λ s. SliceKept (record { config = s.config; index = s.index; requesters = s.requesters.items; homes = s.homes.items; wires = s.wires }) };
+    ghost invariant = { λ s. SliceKept (record { config = s.config; index = s.index; requesters = s.requesters.items; homes = s.homes.items; wires = s.wires; journal = s.journal }) × Indexed (record { config = s.config; index = s.index; requesters = s.requesters.items; homes = s.homes.items; wires = s.wires; journal = s.journal }) s.places };
 }
 
 /// The requesters' sides of so many lines, without copies.
@@ -78,19 +89,6 @@ fn row_count(config: &Config, index: u8) -> u8
     (config.lines() - 1 - index) / slices + 1
 }
 
-/// Whether an agent's slot is in use at any of the lines.
-fn uses(requesters: &[[RnLine; 8]], homes: &[HomeLine], agent: Agent, slot: Slot) -> bool
-    requires agent { agent.0 < 8 }
-    requires rows { length requesters.now ≡ length homes.now }
-    ensures { result ≡ uses_below (length homes.now) requesters.now homes.now agent.0 slot }
-{
-    let mut used = false;
-    for row in 0..homes.len() {
-        used = used || line_uses(&requesters[row], &homes[row], agent, slot);
-    }
-    used
-}
-
 impl<A: Allocator + Copy> Slice<A> {
     /// The slice of that index in a node of that size, in the opening state: memory 0, no copies, nothing
     /// in flight. All memory that the slice ever needs is found here; refused where it runs out.
@@ -102,12 +100,16 @@ impl<A: Allocator + Copy> Slice<A> {
         let requesters = opening_requesters(alloc, rows)?;
         let homes = opening_homes(alloc, rows)?;
         let wires = Wires::new(alloc, rows)?;
+        let (lines, limit) = (config.lines(), config.journal());
+        let journal = Journal::with_limit(alloc, lines, limit)?;
         Ok(Slice {
             config: *config,
             index,
             requesters,
             homes,
             wires,
+            journal,
+            places: Places::new(),
         })
     }
 }
@@ -117,9 +119,16 @@ impl<A: Allocator> Slice<A> {
     fn is_in_range(&self, action: Action) -> bool
         ensures { result ≡ is_in_range self.now action }
     {
-        action.agent().0 < self.config.agents()
-            && self.is_line_in_range(action.line())
-            && is_slot_in_range(action)
+        action.agent.0 < self.config.agents()
+            && self.is_line_in_range(action.line)
+            && is_step_in_range(action.step)
+    }
+
+    /// Whether the agent is in the node, and the line in this slice.
+    fn are_in_range(&self, agent: Agent, line: Line) -> bool
+        ensures { result ≡ are_in_range self.now agent.0 line.0 }
+    {
+        agent.0 < self.config.agents() && self.is_line_in_range(line)
     }
 
     /// Whether the line is in this slice.
@@ -129,59 +138,118 @@ impl<A: Allocator> Slice<A> {
         line.0 < self.config.lines() && line.0 % self.config.slices() == self.index
     }
 
-    /// Whether the slot that an action wants is in use.
-    fn is_slot_used(&self, action: Action) -> bool
-        requires { (agent_of action).0 < 8 }
-        ensures { result ≡ is_slot_used self.now action }
+    /// The row of a line.
+    fn row_of(&self, line: Line) -> u8
+        ensures row { result ≡ row_of_line self.now line.0 }
+        ensures kept { SliceKept self.now }
     {
-        match action {
-            Action::Issue { agent, slot, .. } => {
-                uses(&self.requesters, &self.homes, agent, slot)
-            }
-            Action::Admit { .. }
-            | Action::Start { .. }
-            | Action::RecvData { .. }
-            | Action::RecvAck { .. } => false,
+        line.0 / self.config.slices()
+    }
+
+    /// Whether the agent's slot is in use at any line of the slice.
+    fn uses(&self, agent: Agent, slot: Slot) -> bool
+        requires agent { agent.0 < 8 }
+        requires slot { slot.0 < 8 }
+        ensures { result ≡ uses self.now agent.0 slot }
+    {
+        self.places.get(agent, slot).is_some()
+    }
+
+    /// Whether the slot that a step of the agent wants is in use.
+    fn is_slot_used(&self, agent: Agent, step: Step) -> bool
+        requires agent { agent.0 < 8 }
+        requires step { is_step_in_range step ≡ true }
+        ensures { result ≡ is_slot_used self.now agent.0 step }
+    {
+        match step {
+            Step::Issue(_, slot) => self.uses(agent, slot),
+            Step::Load(_)
+            | Step::Store(_, _)
+            | Step::Drop
+            | Step::Admit
+            | Step::Retry
+            | Step::RecvRetry
+            | Step::Resend
+            | Step::Cancel
+            | Step::Start
+            | Step::RecvSnp
+            | Step::RecvSnpResp
+            | Step::RecvData
+            | Step::RecvComp
+            | Step::RecvAck
+            | Step::RecvDbid
+            | Step::RecvWrData => false,
         }
     }
 
-    /// Does one action: the line's parts are read out of its row, and put back into it.
+    /// What an action needs to know of the slice beside its line.
+    fn conditions(&self, action: Action) -> Conditions
+        requires agent { action.agent.0 < 8 }
+        requires step { is_step_in_range action.step ≡ true }
+        ensures { result ≡ conditions_of self.now action }
+    {
+        Conditions {
+            slot_used: self.is_slot_used(action.agent, action.step),
+            journal_full: self.journal.is_full(),
+            profile: self.config.profile(),
+        }
+    }
+
+    /// Does one action: the line's parts are read out of its row, and put back into it; the journal then
+    /// follows.
     fn perform(&mut self, action: Action) -> Result<Effect, Refusal>
-        ensures refusal { refusal_of result ≡ refused self.old action }
-        ensures effect { IfOk result (λ effect. effect ≡ effect_of (line self.old (line_of action).0) action) }
-        ensures after { OnOk result (self.new ≡ acted self.old action) }
-        ensures err { OnErr result (self.new ≡ self.old) }
-        ensures kept { SliceKept self.old }
+        ensures { Performed self.old action result self.new }
     {
         if !self.is_in_range(action) {
             return Err(Refusal::OutOfRange);
         }
-        let used = self.is_slot_used(action);
-        let row = action.line().0 / self.config.slices();
-        act_on(
-            &mut self.requesters[usize::from(row)],
-            &mut self.homes[usize::from(row)],
+        let conditions = self.conditions(action);
+        let row = self.row_of(action.line);
+        let place = usize::from(row);
+        let done = act_in_row(
+            &mut self.requesters[place],
+            &mut self.homes[place],
             &mut self.wires,
+            &mut self.places,
             Line(row),
-            used,
+            conditions,
             action,
-        )
+        );
+        follow(&mut self.journal, action, done);
+        done
     }
 
-    /// Does one action. It changes its own line alone, by the step of that action; it takes no memory.
+    /// Does one action. It changes its own line alone, by the step of that action, and puts the record of
+    /// a load or store into the journal; it takes no memory.
     ///
     /// Refused 10 (OutOfRange) for a number outside its range or a line of another slice, then in the
     /// order of the action's row; nothing changes then.
     /// Source: `docs/PROTOCOL.md`, "The actions".
     pub fn act(&mut self, action: Action) -> Result<Effect, Refusal>
         ensures refusal { refusal_of result ≡ refused self.old action }
-        ensures step { IfOk result (λ effect. LineStep (line self.old (line_of action).0) action effect (line self.new (line_of action).0)) }
-        ensures others { OnOk result (OtherLinesStay self.old self.new (line_of action).0) }
-        ensures effect { IfOk result (λ effect. effect ≡ effect_of (line self.old (line_of action).0) action) }
+        ensures step { IfOk result (λ effect. LineStep self.old.config.profile (line self.old action.line.0) action effect (record_of (line self.old action.line.0) action) (line self.new action.line.0)) }
+        ensures journal { OnOk result (self.new.journal ≡ recorded self.old.journal (record_of (line self.old action.line.0) action)) }
+        ensures others { OnOk result (OtherLinesStay self.old self.new action.line.0) }
+        ensures effect { IfOk result (λ effect. effect ≡ effect_of (line self.old action.line.0) action) }
         ensures after { OnOk result (self.new ≡ acted self.old action) }
         ensures err { OnErr result (self.new ≡ self.old) }
     {
         self.perform(action)
+    }
+
+    /// Tries the actions in their order; a refused one changes nothing. Answers how many were done.
+    /// Takes no memory.
+    pub fn run(&mut self, actions: &[Action]) -> usize
+        ensures done { result ≡ run_done self.old actions.now }
+        ensures after { self.new ≡ run_after self.old actions.now }
+    {
+        let mut done = 0;
+        for action in actions {
+            if self.act(*action).is_ok() {
+                done += 1;
+            }
+        }
+        done
     }
 
     /// The slot of the request that the action would complete; `None` where it would be refused, or
@@ -192,34 +260,29 @@ impl<A: Allocator> Slice<A> {
         if !self.is_in_range(action) {
             return None;
         }
-        let row = action.line().0 / self.config.slices();
-        let home = &self.homes[usize::from(row)];
-        match action {
-            Action::Start { agent, .. } => evicted_slot(home, agent),
-            Action::RecvAck { agent, .. } => {
-                acknowledged_slot(home, self.wires.cells(agent, Line(row)))
-            }
-            Action::Issue { .. } | Action::Admit { .. } | Action::RecvData { .. } => None,
-        }
+        let row = self.row_of(action.line);
+        let place = usize::from(row);
+        let cells = self.wires.cells(action.agent, Line(row));
+        completed_at(&self.homes[place], cells, action.agent, action.step)
     }
 
     /// All parts of a line, as plain data. The line is coherent. Takes no memory.
     ///
     /// Refused 10 (OutOfRange) exactly where the line is outside the node or in another slice.
     pub fn view(&self, line: Line) -> Result<LineView, Refusal>
-        ensures shown { IfOk result (λ view. view ≡ shown (line_of_slice self.now line.0) no_words) }
-        ensures coherent { OnOk result (Coherent no_words (line_of_slice self.now line.0)) }
+        ensures shown { IfOk result (λ view. view ≡ shown (line_of_slice self.now line.0) (last_of self.now line.0)) }
+        ensures coherent { OnOk result (Coherent (last_of self.now line.0) (line_of_slice self.now line.0)) }
         ensures refusal { refusal_of result ≡ view_refusal self.now line.0 }
     {
         if !self.is_line_in_range(line) {
             return Err(Refusal::OutOfRange);
         }
-        let row = line.0 / self.config.slices();
+        let row = self.row_of(line);
         Ok(view_of(
             &self.requesters[usize::from(row)],
             &self.homes[usize::from(row)],
             self.wires.row(Line(row)),
-            NO_DATA,
+            self.journal.last_words(line),
         ))
     }
 
@@ -231,11 +294,32 @@ impl<A: Allocator> Slice<A> {
         ensures cells { IfOk result (λ cells. cells ≡ cells_of (line_of_slice self.now line.0) agent.0) }
         ensures refusal { refusal_of result ≡ flits_refusal self.now agent.0 line.0 }
     {
-        if agent.0 >= self.config.agents() || !self.is_line_in_range(line) {
+        if !self.are_in_range(agent, line) {
             return Err(Refusal::OutOfRange);
         }
-        let row = line.0 / self.config.slices();
+        let row = self.row_of(line);
         Ok(self.wires.cells(agent, Line(row)))
+    }
+
+    /// The place of the request that uses an agent's slot: its line, which is in this slice, and where the
+    /// line shows it. `None` where no line of the slice shows anything of the slot, and for an agent or slot
+    /// outside the eight of each.
+    /// Source: `docs/PROTOCOL.md`, "Agreement".
+    pub fn place(&self, agent: Agent, slot: Slot) -> Option<Place>
+        ensures shows { agent.0 < 8 → slot.0 < 8 → (l : ℕ) → is_line_in_range self.now l ≡ true → where_at (line_of_slice self.now l) agent.0 slot ≡ at_line result l }
+        ensures line { agent.0 < 8 → slot.0 < 8 → (place : Place) → result ≡ Some place → is_line_in_range self.now place.line.0 ≡ true }
+        ensures outside { is_slot_of agent.0 slot ≡ false → result ≡ None }
+    {
+        self.places.get(agent, slot)
+    }
+
+    /// The loads and stores that were answered, in their order: each load had the value that was stored
+    /// last before it.
+    pub fn journal(&self) -> &Journal<A>
+        ensures journal { result.now ≡ self.now.journal }
+        ensures legal { IsLegal self.now.journal.entries }
+    {
+        &self.journal
     }
 
     /// The size of the node.
@@ -250,18 +334,5 @@ impl<A: Allocator> Slice<A> {
         ensures { result ≡ self.now.index }
     {
         self.index
-    }
-}
-
-/// Whether the slot that an action names is one of the eight.
-fn is_slot_in_range(action: Action) -> bool
-    ensures { result ≡ is_slot_in_range action }
-{
-    match action {
-        Action::Issue { slot, .. } => slot.0 < 8,
-        Action::Admit { .. }
-        | Action::Start { .. }
-        | Action::RecvData { .. }
-        | Action::RecvAck { .. } => true,
     }
 }

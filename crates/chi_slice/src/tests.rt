@@ -5,7 +5,7 @@ ghost use Rattle.std.specs.Prelude.{◌≡◌};
 use crate::*;
 use chi_flit::{
     Agent, CompData, Kind, Line, NO_DATA, NoMemory, Refusal, Request, RspDown, RspUp, Slot, Snoop,
-    State,
+    State, WordNo,
 };
 use chi_homeline::{Serving, Waiting};
 use chi_rnline::{Pending, Phase};
@@ -45,28 +45,35 @@ const NO_CELLS: Cells = Cells {
 };
 
 fn issue(agent: Agent, line: Line, kind: Kind, slot: Slot) -> Action {
-    Action::Issue {
+    Action {
         agent,
         line,
-        kind,
-        slot,
+        step: Step::Issue(kind, slot),
+    }
+}
+
+fn at(agent: Agent, step: Step) -> Action {
+    Action {
+        agent,
+        line: LINE,
+        step,
     }
 }
 
 fn admit(agent: Agent) -> Action {
-    Action::Admit { agent, line: LINE }
+    at(agent, Step::Admit)
 }
 
 fn start(agent: Agent) -> Action {
-    Action::Start { agent, line: LINE }
+    at(agent, Step::Start)
 }
 
 fn data(agent: Agent) -> Action {
-    Action::RecvData { agent, line: LINE }
+    at(agent, Step::RecvData)
 }
 
 fn ack(agent: Agent) -> Action {
-    Action::RecvAck { agent, line: LINE }
+    at(agent, Step::RecvAck)
 }
 
 /// A node of eight requesters, and 64 lines in four slices.
@@ -296,16 +303,32 @@ fn finds_all_its_memory_at_first(rt: HostRuntime) {
     let line = Line(1);
     let read = [
         issue(agent, line, Kind::ReadShared, SLOT),
-        Action::Admit { agent, line },
-        Action::Start { agent, line },
-        Action::RecvData { agent, line },
+        Action {
+            agent,
+            line,
+            step: Step::Admit,
+        },
+        Action {
+            agent,
+            line,
+            step: Step::Start,
+        },
+        Action {
+            agent,
+            line,
+            step: Step::RecvData,
+        },
     ];
     for action in read {
         assert_eq!(rt; slice.act(action), Ok(Effect::Nothing));
         assert!(rt; slice.view(line).is_ok());
         assert_eq!(rt; heap.used(), used);
     }
-    let done = Action::RecvAck { agent, line };
+    let done = Action {
+        agent,
+        line,
+        step: Step::RecvAck,
+    };
     assert_eq!(rt; slice.act(done), Ok(Effect::Completed(SLOT)));
     assert_eq!(rt; heap.used(), used);
 }
@@ -346,4 +369,125 @@ fn sizes_have_limits(rt: HostRuntime) {
         assert_eq!(rt; config.journal(), journal);
         assert_eq!(rt; config.profile(), chi_flit::Profile::Two);
     }
+}
+
+fn place(at: Where) -> Option<Place> {
+    Some(Place { line: LINE, at })
+}
+
+#[test]
+fn shows_where_a_request_is(rt: HostRuntime) {
+    let config = node(&rt);
+    let mut slice = Slice::new(rt.alloc(), &config, 1).expect(&rt, "memory for a slice");
+    assert_eq!(rt; slice.place(READER, SLOT), None);
+    let done = Effect::Completed(SLOT);
+    let table = [
+        (
+            Step::Issue(Kind::ReadShared, SLOT),
+            Effect::Nothing,
+            place(Where::Sent),
+        ),
+        (Step::Retry, Effect::Nothing, place(Where::Refused)),
+        (Step::RecvRetry, Effect::Nothing, place(Where::Retried)),
+        (Step::Resend, Effect::Nothing, place(Where::Riding)),
+        (Step::Admit, Effect::Nothing, place(Where::Admitted)),
+        (Step::Start, Effect::Nothing, place(Where::Admitted)),
+        (Step::RecvData, Effect::Nothing, place(Where::Answered)),
+        (Step::RecvAck, done, None),
+        (
+            Step::Issue(Kind::Evict, SLOT),
+            Effect::Nothing,
+            place(Where::Sent),
+        ),
+        (Step::Admit, Effect::Nothing, place(Where::Admitted)),
+        (Step::Start, done, place(Where::Closing)),
+        (Step::RecvComp, Effect::Nothing, None),
+    ];
+    for (step, effect, want) in table {
+        assert_eq!(rt; slice.act(at(READER, step)), Ok(effect));
+        assert_eq!(rt; slice.place(READER, SLOT), want);
+        // other slots, other agents, and what is no slot
+        assert_eq!(rt; slice.place(READER, Slot(4)), None);
+        assert_eq!(rt; slice.place(WRITER, SLOT), None);
+        assert_eq!(rt; slice.place(READER, Slot(8)), None);
+        assert_eq!(rt; slice.place(Agent(8), SLOT), None);
+    }
+}
+
+#[test]
+fn shows_a_copy_back_and_its_cancel(rt: HostRuntime) {
+    let config = node(&rt);
+    let mut slice = Slice::new(rt.alloc(), &config, 1).expect(&rt, "memory for a slice");
+    let read = issue(READER, LINE, Kind::ReadUnique, Slot(0));
+    let store = at(READER, Step::Store(WordNo(0), 1));
+    for action in [read, admit(READER), start(READER), data(READER)] {
+        assert_eq!(rt; slice.act(action), Ok(Effect::Nothing));
+    }
+    assert_eq!(rt; slice.act(ack(READER)), Ok(Effect::Completed(Slot(0))));
+    assert_eq!(rt; slice.act(store), Ok(Effect::Nothing));
+    let write = issue(READER, LINE, Kind::WriteBackFull, SLOT);
+    for action in [write, admit(READER), start(READER)] {
+        assert_eq!(rt; slice.act(action), Ok(Effect::Nothing));
+    }
+    assert_eq!(rt; slice.place(READER, SLOT), place(Where::Admitted));
+    assert_eq!(rt; slice.act(at(READER, Step::RecvDbid)), Ok(Effect::Nothing));
+    assert_eq!(rt; slice.place(READER, SLOT), place(Where::Answered));
+    assert_eq!(rt;
+        slice.act(at(READER, Step::RecvWrData)),
+        Ok(Effect::Completed(SLOT))
+    );
+    assert_eq!(rt; slice.place(READER, SLOT), None);
+
+    // a copy-back that was retried, and whose copy a snoop took meanwhile
+    for action in [read, admit(READER), start(READER), data(READER)] {
+        assert_eq!(rt; slice.act(action), Ok(Effect::Nothing));
+    }
+    assert_eq!(rt; slice.act(ack(READER)), Ok(Effect::Completed(Slot(0))));
+    let other = issue(WRITER, LINE, Kind::ReadUnique, SLOT);
+    let retried = [
+        store,
+        write,
+        at(READER, Step::Retry),
+        at(READER, Step::RecvRetry),
+    ];
+    for action in retried {
+        assert_eq!(rt; slice.act(action), Ok(Effect::Nothing));
+    }
+    let snooped = [
+        other,
+        admit(WRITER),
+        start(WRITER),
+        at(READER, Step::RecvSnp),
+    ];
+    for action in snooped {
+        assert_eq!(rt; slice.act(action), Ok(Effect::Nothing));
+        assert_eq!(rt; slice.place(READER, SLOT), place(Where::Retried));
+    }
+    let answer = at(READER, Step::RecvSnpResp);
+    assert_eq!(rt; slice.act(answer), Ok(Effect::Nothing));
+    assert_eq!(rt; slice.place(WRITER, SLOT), place(Where::Admitted));
+    assert_eq!(rt; slice.act(data(WRITER)), Ok(Effect::Nothing));
+    assert_eq!(rt; slice.place(WRITER, SLOT), place(Where::Answered));
+    assert_eq!(rt; slice.place(READER, SLOT), place(Where::Retried));
+    assert_eq!(rt; slice.act(at(READER, Step::Cancel)), Ok(Effect::Nothing));
+    assert_eq!(rt; slice.place(READER, SLOT), None);
+}
+
+#[test]
+fn a_refused_action_leaves_the_places(rt: HostRuntime) {
+    let config = node(&rt);
+    let mut slice = Slice::new(rt.alloc(), &config, 1).expect(&rt, "memory for a slice");
+    let read = issue(READER, LINE, Kind::ReadShared, SLOT);
+    assert_eq!(rt; slice.act(read), Ok(Effect::Nothing));
+    let same_slot = issue(READER, Line(9), Kind::ReadShared, SLOT);
+    assert_eq!(rt; slice.act(same_slot), Err(Refusal::Pending));
+    assert_eq!(rt; slice.place(READER, SLOT), place(Where::Sent));
+    let second = issue(READER, Line(9), Kind::ReadShared, Slot(4));
+    assert_eq!(rt; slice.act(second), Ok(Effect::Nothing));
+    let there = Place {
+        line: Line(9),
+        at: Where::Sent,
+    };
+    assert_eq!(rt; slice.place(READER, Slot(4)), Some(there));
+    assert_eq!(rt; slice.place(READER, SLOT), place(Where::Sent));
 }

@@ -12,7 +12,6 @@ use Rattle.chi_flit.specs.declared.kind.Kind.{Kind}
 use Rattle.chi_flit.specs.declared.kind.Kind.TheVariants.{ReadNotSharedDirty, ReadShared, ReadUnique, CleanUnique, Evict, WriteBackFull, WriteCleanFull, WriteEvictFull}
 use Rattle.chi_flit.specs.declared.credit.CreditType.{CreditType}
 use Rattle.chi_flit.specs.declared.credit.CreditType.TheVariants.{T0, T1, T2, T3}
-use Rattle.chi_flit.specs.declared.action.Action.TheVariants.{Admit}
 use Rattle.chi_flit.specs.Credit.{credit_number, credit_type_of}
 use Rattle.chi_tracker.specs.declared.shape.Shape.{Shape}
 use Rattle.chi_tracker.specs.Shape.{low, size}
@@ -20,9 +19,10 @@ use Rattle.chi_tracker.specs.Views.{new_ports}
 use Rattle.chi_tracker.specs.Calls.{shape_of}
 use Rattle.chi_tracker.specs.Laws.{port_at}
 use Rattle.chi_slice.specs.Config.{Sizes, are_entries, are_in_limits, is_between, is_slice_count}
-use Rattle.chi_slice.specs.Step.{line_refusal}
-use Rattle.chi_slice.specs.Slice.{SliceState, is_in_range, is_slot_used, line, refused}
+use Rattle.chi_slice.specs.Refused.{line_refusal}
+use Rattle.chi_slice.specs.Slice.{SliceState, conditions_of, is_in_range, line, refused}
 use Rattle.chi_slice.proofs.Rows.{InLimits, both, in_limits, at_most}
+use Rattle.chi_text.specs.Turns.{admission}
 use Rattle.chi_text.specs.Slots.{entry_of, is_slot_of, no_entries}
 use Rattle.chi_text.specs.Texts.{opening_ports}
 use Rattle.chi_text.specs.Session.{SessionState, IsHeld}
@@ -104,10 +104,10 @@ pub has_entries : (config : Sizes) (kind : Kind) → are_in_limits config ≡ tr
 has_entries config kind h = let s : AreSome config.profile config.entries = are_some config.profile config.entries (entries_in config h) in s.some config.agents kind
 
 -- an agent whose request may be admitted is one of the node
-pub in_node : (s : SliceState) (agent : Agent) (l : Line) → refused s (Admit agent l) ≡ None → agent.0 < s.config.agents
-in_node s agent l h = go (is_in_range s (Admit agent l)) refl h
+pub in_node : (s : SliceState) (agent : Agent) (l : Line) → refused s (admission agent l) ≡ None → agent.0 < s.config.agents
+in_node s agent l h = go (is_in_range s (admission agent l)) refl h
   where
-    go : (b : Bool) → is_in_range s (Admit agent l) ≡ b → (if b then line_refusal (is_slot_used s (Admit agent l)) (line s l.0) (Admit agent l) else Some OutOfRange) ≡ None → agent.0 < s.config.agents
+    go : (b : Bool) → is_in_range s (admission agent l) ≡ b → (if b then line_refusal (conditions_of s (admission agent l)) (line s l.0) (admission agent l) else Some OutOfRange) ≡ None → agent.0 < s.config.agents
     go true is g = let low = (both (nat_lt agent.0 s.config.agents) _ is).0 in grind (arith, low)
     go false is g = absurd (cc (g))
 
@@ -154,7 +154,7 @@ opening_held slice limits = record {
 }
 
 -- an agent whose request may be admitted has a port, to a tracker with entries of the request's type
-pub port_of_agent : (s : SessionState) (agent : Agent) (l : Line) → IsHeld s → refused s.machine.slice (Admit agent l) ≡ None → agent.0 < length s.ports
+pub port_of_agent : (s : SessionState) (agent : Agent) (l : Line) → IsHeld s → refused s.machine.slice (admission agent l) ≡ None → agent.0 < length s.ports
 port_of_agent s agent l k allowed = subst (λ m. agent.0 < m) (sym k.all) (in_node s.machine.slice agent l allowed)
 
 pub entries_for : (s : SessionState) (n : ℕ) (kind : Kind) → IsHeld s → n < length s.ports → 0 < size (port_at s.ports n).shape (credit_number (credit_type_of s.machine.slice.config.profile kind))

@@ -8,15 +8,13 @@ use Rattle.chi_flit.specs.declared.numbers.Line.{Line}
 use Rattle.chi_flit.specs.declared.numbers.Slot.{Slot}
 use Rattle.chi_flit.specs.declared.action.Action.{Action}
 use Rattle.chi_flit.specs.declared.action.Effect.{Effect}
-use Rattle.chi_flit.specs.declared.action.Effect.TheVariants.{Completed}
+use Rattle.chi_flit.specs.declared.action.Effect.TheVariants.{Completed, Nothing}
 use Rattle.chi_flit.specs.declared.refusal.Refusal.{Refusal}
-use Rattle.chi_flit.specs.Action.{agent_of, line_of}
 use Rattle.chi_tracker.specs.Views.{PortView, has}
 use Rattle.chi_tracker.specs.Steps.{frees}
 use Rattle.chi_tracker.specs.Laws.{port_at}
 use Rattle.chi_text.specs.Ports.{Claims}
 use Rattle.chi_text.proofs.Held.{IsPortChange}
-use Rattle.chi_flit.specs.declared.action.Action.TheVariants.{Admit}
 use Rattle.chi_flit.specs.declared.message.Request.{Request}
 use Rattle.chi_flit.specs.Credit.{credit_type_of}
 use Rattle.chi_script.specs.declared.commands.Command.TheVariants as commands
@@ -25,7 +23,7 @@ use Rattle.chi_slice.specs.Step.{effect_of}
 use Rattle.chi_slice.specs.Slice.{SliceState, acted, line, refused}
 use Rattle.chi_reply.specs.Replies.{reply_text, totals_text}
 use Rattle.chi_reply.specs.declared.replies.Reply.TheVariants as replies
-use Rattle.chi_text.specs.Turns.{Answer, Asks, Claim, Claimed, Ends, Freed, Glanced, Machine, Turn, arrived, arriving, turn, act, done, or_refused, released, with_action}
+use Rattle.chi_text.specs.Turns.{Answer, Asks, Claim, Claimed, Ends, Freed, Glanced, Machine, Turn, admission, arrived, arriving, turn, act, done, or_refused, released, with_action}
 use Rattle.chi_text.specs.Slots.{entries_after, entry_of, ports_after, with_entry}
 use Rattle.chi_text.specs.Texts.{Plays, Says}
 
@@ -36,27 +34,37 @@ released_plays (Some entry) m ports agent slot held =
     let h = held entry refl in
     (Freed ∷ [], (set ports agent.0 (frees entry.0 (port_at ports agent.0)), (port_at ports agent.0, slice_get-get_or ports agent.0 _ h.0, h.1, refl), (refl, refl, refl)))
 
--- an action that completes a request
-pub completed_plays : (m : Machine) (ports : List PortView) (action : Action) (slot : Slot) (slice' : SliceState) → refused m.slice action ≡ None → effect_of (line m.slice (line_of action).0) action ≡ Completed slot → slice' ≡ acted m.slice action
-    → ((entry : Entry) → entry_of m.entries (agent_of action).0 slot.0 ≡ Some entry → ((agent_of action).0 < length ports) × (has entry.0 (port_at ports (agent_of action).0) ≡ 1))
-    → (answers : List Answer) × Plays (act m action) ports answers (reply_text (replies.Completed slot)) (record { slice = slice'; entries = entries_after (entry_of m.entries (agent_of action).0 slot.0) m.entries (agent_of action).0 slot.0 }) (ports_after (entry_of m.entries (agent_of action).0 slot.0) ports (agent_of action).0)
-completed_plays m ports action slot slice' allowed effect is held =
-    let after : Machine = record { slice = slice'; entries = entries_after (entry_of m.entries (agent_of action).0 slot.0) m.entries (agent_of action).0 slot.0 } in
-    let turned : act m action ≡ released (entry_of m.entries (agent_of action).0 slot.0) (record m { slice = slice' }) (agent_of action) slot =
-    ap (λ (o : Option Refusal). or_refused o m (done (effect_of (line m.slice (line_of action).0) action) (with_action m action) (agent_of action))) allowed
-    ∙ (ap (λ (e : Effect). done e (with_action m action) (agent_of action)) effect
-    ∙ ap (λ (s : SliceState). released (entry_of m.entries (agent_of action).0 slot.0) (record m { slice = s }) (agent_of action) slot) (sym is)) in
-    subst (λ (t : Turn). (answers : List Answer) × Plays t ports answers (reply_text (replies.Completed slot)) after (ports_after (entry_of m.entries (agent_of action).0 slot.0) ports (agent_of action).0)) (sym turned)
-    (released_plays (entry_of m.entries (agent_of action).0 slot.0) (record m { slice = slice' }) ports (agent_of action) slot held)
+-- an action that has no more to say
+pub nothing_plays : (m : Machine) (ports : List PortView) (action : Action) (slice' : SliceState) → refused m.slice action ≡ None → effect_of (line m.slice action.line.0) action ≡ Nothing → slice' ≡ acted m.slice action
+    → (answers : List Answer) × Plays (act m action) ports answers (reply_text replies.Done) (record { slice = slice'; entries = m.entries }) ports
+nothing_plays m ports action slice' allowed effect is =
+    let turned : act m action ≡ Ends (reply_text replies.Done) (record { slice = slice'; entries = m.entries }) =
+    ap (λ (o : Option Refusal). or_refused o m (done (effect_of (line m.slice action.line.0) action) (with_action m action) action.agent)) allowed
+    ∙ (ap (λ (e : Effect). done e (with_action m action) action.agent) effect
+    ∙ ap (λ (s : SliceState). Ends (reply_text replies.Done) (record { slice = s; entries = m.entries })) (sym is)) in
+    subst (λ (t : Turn). (answers : List Answer) × Plays t ports answers (reply_text replies.Done) (record { slice = slice'; entries = m.entries }) ports) (sym turned) ([], (refl, refl, refl))
 
-arrive_asks : (m : Machine) (agent : Agent) (l : Line) (request : Request) → refused m.slice (Admit agent l) ≡ None → (cells_of (line m.slice l.0) agent.0).req ≡ Some request
+-- an action that completes a request
+pub completed_plays : (m : Machine) (ports : List PortView) (action : Action) (slot : Slot) (slice' : SliceState) → refused m.slice action ≡ None → effect_of (line m.slice action.line.0) action ≡ Completed slot → slice' ≡ acted m.slice action
+    → ((entry : Entry) → entry_of m.entries action.agent.0 slot.0 ≡ Some entry → (action.agent.0 < length ports) × (has entry.0 (port_at ports action.agent.0) ≡ 1))
+    → (answers : List Answer) × Plays (act m action) ports answers (reply_text (replies.Completed slot)) (record { slice = slice'; entries = entries_after (entry_of m.entries action.agent.0 slot.0) m.entries action.agent.0 slot.0 }) (ports_after (entry_of m.entries action.agent.0 slot.0) ports action.agent.0)
+completed_plays m ports action slot slice' allowed effect is held =
+    let after : Machine = record { slice = slice'; entries = entries_after (entry_of m.entries action.agent.0 slot.0) m.entries action.agent.0 slot.0 } in
+    let turned : act m action ≡ released (entry_of m.entries action.agent.0 slot.0) (record m { slice = slice' }) action.agent slot =
+    ap (λ (o : Option Refusal). or_refused o m (done (effect_of (line m.slice action.line.0) action) (with_action m action) action.agent)) allowed
+    ∙ (ap (λ (e : Effect). done e (with_action m action) action.agent) effect
+    ∙ ap (λ (s : SliceState). released (entry_of m.entries action.agent.0 slot.0) (record m { slice = s }) action.agent slot) (sym is)) in
+    subst (λ (t : Turn). (answers : List Answer) × Plays t ports answers (reply_text (replies.Completed slot)) after (ports_after (entry_of m.entries action.agent.0 slot.0) ports action.agent.0)) (sym turned)
+    (released_plays (entry_of m.entries action.agent.0 slot.0) (record m { slice = slice' }) ports action.agent slot held)
+
+arrive_asks : (m : Machine) (agent : Agent) (l : Line) (request : Request) → refused m.slice (admission agent l) ≡ None → (cells_of (line m.slice l.0) agent.0).req ≡ Some request
     → turn m (commands.Arrive agent l) ≡ Asks (Claim agent (credit_type_of m.slice.config.profile request.kind)) (arrived m agent l request)
 arrive_asks m agent l request allowed here =
     ap (λ (o : Option Refusal). or_refused o m (arriving m agent l (cells_of (line m.slice l.0) agent.0).req)) allowed
     ∙ ap (λ (o : Option Request). arriving m agent l o) here
 
 -- an arrival that finds no entry
-pub none_arrives : (m : Machine) (ports ports' : List PortView) (agent : Agent) (l : Line) (request : Request) → refused m.slice (Admit agent l) ≡ None → (cells_of (line m.slice l.0) agent.0).req ≡ Some request
+pub none_arrives : (m : Machine) (ports ports' : List PortView) (agent : Agent) (l : Line) (request : Request) → refused m.slice (admission agent l) ≡ None → (cells_of (line m.slice l.0) agent.0).req ≡ Some request
     → IsPortChange ports ports' agent.0 → Claims (port_at ports agent.0) (credit_type_of m.slice.config.profile request.kind) None (port_at ports' agent.0)
     → (answers : List Answer) × Plays (turn m (commands.Arrive agent l)) ports answers (reply_text replies.NoEntry) m ports'
 none_arrives m ports ports' agent l request allowed here change claim =
@@ -64,8 +72,8 @@ none_arrives m ports ports' agent l request allowed here change claim =
     (Claimed None ∷ [], (ports', (port_at ports agent.0, port_at ports' agent.0, slice_get-get_or ports agent.0 _ change.low, claim, change.others), (refl, refl, refl)))
 
 -- an arrival that is given an entry
-pub some_arrives : (m : Machine) (ports ports' : List PortView) (agent : Agent) (l : Line) (request : Request) (entry : Entry) (slice' : SliceState) → refused m.slice (Admit agent l) ≡ None → (cells_of (line m.slice l.0) agent.0).req ≡ Some request
-    → IsPortChange ports ports' agent.0 → Claims (port_at ports agent.0) (credit_type_of m.slice.config.profile request.kind) (Some entry) (port_at ports' agent.0) → slice' ≡ acted m.slice (Admit agent l)
+pub some_arrives : (m : Machine) (ports ports' : List PortView) (agent : Agent) (l : Line) (request : Request) (entry : Entry) (slice' : SliceState) → refused m.slice (admission agent l) ≡ None → (cells_of (line m.slice l.0) agent.0).req ≡ Some request
+    → IsPortChange ports ports' agent.0 → Claims (port_at ports agent.0) (credit_type_of m.slice.config.profile request.kind) (Some entry) (port_at ports' agent.0) → slice' ≡ acted m.slice (admission agent l)
     → (answers : List Answer) × Plays (turn m (commands.Arrive agent l)) ports answers (reply_text (replies.Admitted entry)) (record { slice = slice'; entries = with_entry m.entries agent.0 request.slot.0 (Some entry) }) ports'
 some_arrives m ports ports' agent l request entry slice' allowed here change claim is =
     subst (λ (t : Turn). (answers : List Answer) × Plays t ports answers (reply_text (replies.Admitted entry)) (record { slice = slice'; entries = with_entry m.entries agent.0 request.slot.0 (Some entry) }) ports') (sym (arrive_asks m agent l request allowed here))

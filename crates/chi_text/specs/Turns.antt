@@ -7,20 +7,18 @@ use Rattle.chi_flit.specs.declared.numbers.Line.{Line}
 use Rattle.chi_flit.specs.declared.numbers.Slot.{Slot}
 use Rattle.chi_flit.specs.declared.credit.CreditType.{CreditType}
 use Rattle.chi_flit.specs.declared.action.Action.{Action}
-use Rattle.chi_flit.specs.declared.action.Action.TheVariants.{Admit}
+use Rattle.chi_flit.specs.declared.action.Step.TheVariants as steps
 use Rattle.chi_flit.specs.declared.action.Effect.{Effect}
 use Rattle.chi_flit.specs.declared.action.Effect.TheVariants as effects
 use Rattle.chi_flit.specs.declared.message.Request.{Request}
 use Rattle.chi_flit.specs.declared.refusal.Refusal.{Refusal}
-use Rattle.chi_flit.specs.Action.{agent_of, line_of}
 use Rattle.chi_flit.specs.Credit.{credit_type_of}
-use Rattle.chi_flit.specs.Message.{no_words}
 use Rattle.chi_script.specs.declared.commands.Command.{Command}
 use Rattle.chi_script.specs.declared.commands.Command.TheVariants as commands
 use Rattle.chi_slice.specs.Config.{Sizes}
 use Rattle.chi_slice.specs.LineState.{cells_of}
 use Rattle.chi_slice.specs.Step.{effect_of}
-use Rattle.chi_slice.specs.Slice.{SliceState, acted, flits_refusal, line, opening_slice, refused, view_refusal}
+use Rattle.chi_slice.specs.Slice.{SliceState, acted, flits_refusal, last_of, line, opening_slice, refused, view_refusal}
 use Rattle.chi_slice.specs.View.{shown}
 use Rattle.chi_text.specs.Slots.{entry_of, no_entries, with_entry}
 use Rattle.chi_reply.specs.Replies.{flits_text, reply_text, shown_text, totals_text}
@@ -74,11 +72,15 @@ with_action m action = record m { slice = acted m.slice action }
 
 -- an action that is no part of an arrival
 abbrev pub act : Machine → Action → Turn
-act m action = or_refused (refused m.slice action) m (done (effect_of (line m.slice (line_of action).0) action) (with_action m action) (agent_of action))
+act m action = or_refused (refused m.slice action) m (done (effect_of (line m.slice action.line.0) action) (with_action m action) action.agent)
+
+-- the admission of an agent's request
+abbrev pub admission : Agent → Line → Action
+admission agent l = record { agent = agent; line = l; step = steps.Admit }
 
 -- an arrival, by what the claim answers: without an entry the request stays in flight
 abbrev pub arrived : Machine → Agent → Line → Request → Answer → Turn
-arrived m agent l request (Claimed (Some entry)) = Ends (reply_text (replies.Admitted entry)) (record { slice = acted m.slice (Admit agent l); entries = with_entry m.entries agent.0 request.slot.0 (Some entry) })
+arrived m agent l request (Claimed (Some entry)) = Ends (reply_text (replies.Admitted entry)) (record { slice = acted m.slice (admission agent l); entries = with_entry m.entries agent.0 request.slot.0 (Some entry) })
 arrived m agent l request (Claimed None) = Ends (reply_text replies.NoEntry) m
 arrived m agent l request Freed = Ends (reply_text replies.NoEntry) m
 arrived m agent l request (Glanced free hand promised owed) = Ends (reply_text replies.NoEntry) m
@@ -97,7 +99,7 @@ glanced m (Glanced free hand promised owed) = Ends (totals_text (record { free =
 -- the table of the commands
 abbrev pub turn : Machine → Command → Turn
 turn m commands.Totals = Asks Glance (glanced m)
-turn m (commands.Show l) = or_refused (view_refusal m.slice l.0) m (Ends (shown_text m.slice.config.agents (shown (line m.slice l.0) no_words)) m)
+turn m (commands.Show l) = or_refused (view_refusal m.slice l.0) m (Ends (shown_text m.slice.config.agents (shown (line m.slice l.0) (last_of m.slice l.0))) m)
 turn m (commands.Flits agent l) = or_refused (flits_refusal m.slice agent.0 l.0) m (Ends (flits_text (cells_of (line m.slice l.0) agent.0)) m)
-turn m (commands.Arrive agent l) = or_refused (refused m.slice (Admit agent l)) m (arriving m agent l (cells_of (line m.slice l.0) agent.0).req)
+turn m (commands.Arrive agent l) = or_refused (refused m.slice (admission agent l)) m (arriving m agent l (cells_of (line m.slice l.0) agent.0).req)
 turn m (commands.Act action) = act m action

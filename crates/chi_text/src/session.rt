@@ -3,16 +3,15 @@
 ghost use Rattle.std.specs.Prelude.{◌≡◌, List, [], ◌∷◌, ◌++◌, IfOk, OnOk, Some, string_bytes};
 ghost use Rattle.chi_reply.specs.Replies.{reply_text};
 ghost use Rattle.chi_flit.specs.Refusal.{refusal_of};
-ghost use Rattle.chi_flit.specs.declared.action.Action.TheVariants.{Admit};
 ghost use Rattle.chi_slice.specs.LineState.{cells_of};
 ghost use Rattle.chi_slice.specs.Slice.{line as line_of_slice, refused};
-ghost use Rattle.chi_text.specs.Turns.{Answer, act, opening, turn};
+ghost use Rattle.chi_text.specs.Turns.{Answer, act, admission, opening, turn};
 ghost use Rattle.chi_text.specs.Texts.{Plays, Says, opening_ports};
 ghost use Rattle.chi_script.specs.declared.commands.Command.TheVariants as commands;
 
 use crate::ports::Ports;
 use crate::slots::{Entries, release};
-use chi_flit::{Action, Agent, Effect, Line, NoMemory, Refusal, Request, credit_type};
+use chi_flit::{Action, Agent, Effect, Line, NoMemory, Refusal, Request, Step, credit_type};
 use chi_reply::{InFlight, Reply, Shown, Totals};
 use chi_script::Command;
 use chi_slice::{Config, Slice};
@@ -155,7 +154,7 @@ impl<A: Allocator> Session<A> {
             Ok(Effect::Nothing) => Reply::Done,
             Ok(Effect::Value(word)) => Reply::Value(word),
             Ok(Effect::Completed(slot)) => {
-                release(&mut self.ports, &mut self.entries, action.agent(), slot);
+                release(&mut self.ports, &mut self.entries, action.agent, slot);
                 Reply::Completed(slot)
             }
             Err(refusal) => Reply::Refused(refusal),
@@ -175,7 +174,8 @@ impl<A: Allocator> Session<A> {
         let Some(entry) = self.ports.claim(agent, ty) else {
             return Reply::NoEntry;
         };
-        match self.slice.act(Action::Admit { agent, line }) {
+        let step = Step::Admit;
+        match self.slice.act(Action { agent, line, step }) {
             Ok(_) => {
                 self.entries.put(agent, request.slot, Some(entry));
                 Reply::Admitted(entry)
@@ -186,7 +186,7 @@ impl<A: Allocator> Session<A> {
 
     /// The agent's request that is in flight: refused as its admission would be.
     fn request(&self, agent: Agent, line: Line) -> Result<Request, Refusal>
-        ensures refusal { refusal_of result ≡ refused self.now.machine.slice (Admit agent line) }
+        ensures refusal { refusal_of result ≡ refused self.now.machine.slice (admission agent line) }
         ensures request { IfOk result (λ request. (cells_of (line_of_slice self.now.machine.slice line.0) agent.0).req ≡ Some request) }
     {
         self.slice.flits(agent, line)?.req.ok_or(Refusal::NoFlit)

@@ -1,5 +1,5 @@
 use super::*;
-use chi_flit::{Agent, Line, NoMemory};
+use chi_flit::{Action, Agent, Kind, Line, NoMemory, Slot, Step, WordNo};
 use chi_script::Command;
 use chi_slice::Config;
 
@@ -26,6 +26,60 @@ fn commands_are_answered_line_by_line(rt: HostRuntime) -> Result<(), NoMemory> {
             session.answer(Command::Flits { agent, line }, &mut text)?;
             session.answer(Command::Show { line: Line(255) }, &mut text)?;
             assert_eq!(rt; text.as_str(), "ok none\nrefused 10 OutOfRange\n");
+        }
+    }
+    Ok(())
+}
+
+/// A step of an agent on line 0.
+fn act(agent: u8, step: Step) -> Command {
+    let (agent, line) = (Agent(agent), Line(0));
+    Command::Act(Action { agent, line, step })
+}
+
+/// An agent's read of line 0, up to its start.
+fn started_read(agent: u8) -> [Command; 3] {
+    let read = Step::Issue(Kind::ReadNotSharedDirty, Slot(0));
+    let (line, reader) = (Line(0), Agent(agent));
+    [
+        act(agent, read),
+        Command::Arrive {
+            agent: reader,
+            line,
+        },
+        act(agent, Step::Start),
+    ]
+}
+
+#[test]
+fn a_stored_word_is_loaded_by_another_agent(rt: HostRuntime) -> Result<(), NoMemory> {
+    match Config::new(2, 1, 1, 1, 1, 8) {
+        None => assert!(rt; false),
+        Some(config) => {
+            let [issue, arrive, start] = started_read(0);
+            let [second_issue, second_arrive, second_start] = started_read(1);
+            let commands = [
+                issue,
+                arrive,
+                start,
+                act(0, Step::RecvData),
+                act(0, Step::RecvAck),
+                act(0, Step::Store(WordNo(3), 7)),
+                second_issue,
+                second_arrive,
+                second_start,
+                act(0, Step::RecvSnp),
+                act(0, Step::RecvSnpResp),
+                act(1, Step::RecvData),
+                act(1, Step::Load(WordNo(3))),
+                act(1, Step::RecvAck),
+                Command::Show { line: Line(0) },
+            ];
+            let text = run(rt.alloc(), &config, &commands)?;
+            assert_eq!(rt;
+                text.as_str(),
+                "ok\nok admitted 0\nok\nok\nok completed 0 freed\nok\nok\nok admitted 0\nok\nok\nok\nok\nok value 7\nok completed 0 freed\nok copies SC,SC named 0,1 unique no serving none waiting - memory 0 0 0 7 0 0 0 0\n"
+            );
         }
     }
     Ok(())

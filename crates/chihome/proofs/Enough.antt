@@ -1,7 +1,5 @@
 -- One byte more than a file may have is enough of it.
-use Rattle.std.proofs.Common.{◌≡◌, ℕ, ◌≤◌, ◌<◌, List, [], Bool, true, false, nat_lt, Option, Some, None, Result, Ok, Err, IfOk, IfErr, IfSome, if◌then◌else◌, refl, sym, ◌∙◌, ap, subst, take, length, arith, ⊎_elim}
-use Rattle.chi_script.specs.declared.headers.Header.{Header}
-use Rattle.chi_script.specs.declared.commands.Command.{Command}
+use Rattle.std.proofs.Common.{◌≡◌, ℕ, List, Option, Some, None, Result, Ok, Err, IfOk, IfErr, IfSome, sym, ◌∙◌, ap, take}
 use Rattle.chi_script.specs.declared.faults.Fault.{Fault}
 use Rattle.chi_script.specs.declared.faults.Fault.TheVariants.{NoMemory, BadHeader, BadCommand, MissingNewline, TooLarge, Read, Write}
 use Rattle.chi_script.specs.Faults.{Fails}

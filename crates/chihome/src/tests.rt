@@ -15,6 +15,12 @@ const FIRST_PATH: &[u8] =
 const FIRST_PATH_TEXT: &[u8] =
     b"ok\nok admitted 0\nok\nok CompData_UC\nok\nok CompAck\nok free 0 1 hand 1 0 promised 0 0 owed 0 0\nok completed 0 freed\nok free 1 1 hand 0 0 promised 0 0 owed 0 0\nrefused 2 WrongState\nok copies UC named 0 unique yes serving none waiting - memory 0 0 0 0 0 0 0 0\n";
 
+const HANDED_ON: &[u8] =
+    b"node 2 1 1 1 1 8\nissue 0 0 ReadNotSharedDirty 0\narrive 0 0\nstart 0 0\ndata 0 0\nack 0 0\nstore 0 0 3 7\nissue 1 0 ReadNotSharedDirty 0\narrive 1 0\nstart 1 0\nsnp 0 0\nflits 0 0\nsnpresp 0 0\ndata 1 0\nload 1 0 3\nack 1 0\nshow 0\n";
+
+const HANDED_ON_TEXT: &[u8] =
+    b"ok\nok admitted 0\nok\nok\nok completed 0 freed\nok\nok\nok admitted 0\nok\nok\nok SnpRespData_SC_PD\nok\nok\nok value 7\nok completed 0 freed\nok copies SC,SC named 0,1 unique no serving none waiting - memory 0 0 0 7 0 0 0 0\n";
+
 const TWO_COMMANDS: &[u8] = b"node 1 1 1 1 1 4\ntotals\nflits 0 0\n";
 
 const TWO_COMMANDS_TEXT: &[u8] = b"ok free 1 1 hand 0 0 promised 0 0 owed 0 0\nok none\n";
@@ -25,6 +31,14 @@ fn the_first_path_is_answered(rt: HostRuntime) {
     let mut output = MemoryOutput::new(rt.alloc(), 1_000);
     assert_eq!(rt; replay(rt.alloc(), &mut input, &mut output), Ok(()));
     assert!(rt; output.bytes() == FIRST_PATH_TEXT);
+}
+
+#[test]
+fn dirty_data_is_handed_on_to_another_agent(rt: HostRuntime) {
+    let mut input = MemoryInput::new(HANDED_ON, 10);
+    let mut output = MemoryOutput::new(rt.alloc(), 1_000);
+    assert_eq!(rt; replay(rt.alloc(), &mut input, &mut output), Ok(()));
+    assert!(rt; output.bytes() == HANDED_ON_TEXT);
 }
 
 /// The replay of this file must end with this line and status 1, and write nothing.

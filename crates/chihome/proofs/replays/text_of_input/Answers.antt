@@ -1,8 +1,5 @@
 -- What was read is enough of the input's file.
-use Rattle.std.proofs.Common.{string_bytes, IfOk, IfErr, subst, List, ℕ}
-use Rattle.chi_script.specs.Faults.{Fails}
-use Rattle.chi_script.specs.Files.{file_of}
-use Rattle.chihome.specs.Replays.{IsTextOf}
+use Rattle.std.proofs.Common.{string_bytes}
 use Rattle.chihome.proofs.Enough.{fault_of_known, text_of_known}
 use Rattle.chihome.proofs.replays.text_of_input.Goals as goal
 

@@ -1,0 +1,9 @@
+-- So far each agent is quiet.
+use Rattle.std.proofs.Common.{◌≡◌, ◌↔◌, ℕ, ◌≢◌}
+use Rattle.std.specs.Prelude.{IsTrue}
+use Rattle.chi_audit.specs.Verdict.{IsQuietAgent, copy_of, flits_of}
+use Rattle.chi_audit.proofs.Below.{AllBelow}
+use Rattle.chi_audit.proofs.verdict.is_quiet.Given as goal
+
+abbrev pub invariant-loop-agent : goal.invariant-loop-agent
+invariant-loop-agent l = IsTrue l.quiet ↔ AllBelow (λ n. IsQuietAgent (copy_of l.view n) (flits_of l.view n)) l.agent

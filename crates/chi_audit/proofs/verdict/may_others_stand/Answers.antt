@@ -1,0 +1,14 @@
+-- One agent after the other is tested.
+use Rattle.std.proofs.Common.{◌≡◌, ◌≢◌, ℕ, refl, arith}
+use Rattle.chi_audit.specs.Verdict.{MayStandBeside, copy_of}
+use Rattle.chi_audit.proofs.Below.{all_below, next_below, none_below}
+use Rattle.chi_audit.proofs.verdict.may_others_stand.Goals as goal
+
+pub loop-other-init : goal.loop-other-init
+loop-other-init c = none_below (λ m. m ≢ c.args.agent → MayStandBeside (copy_of c.args.view.now c.args.agent).state (copy_of c.args.view.now m).state)
+
+pub loop-other-preserved : goal.loop-other-preserved
+loop-other-preserved c = next_below (λ m. m ≢ c.args.agent → MayStandBeside (copy_of c.args.view.now c.args.agent).state (copy_of c.args.view.now m).state) c.loop-other.other c.loop-other.may c.may_other_stand-may.result _ c.loop-other.invariant c.may_other_stand-may.ensures refl
+
+pub returns : goal.returns
+returns c = all_below (λ m. m ≢ c.args.agent → MayStandBeside (copy_of c.args.view.now c.args.agent).state (copy_of c.args.view.now m).state) c.loop-other.other c.loop-other.may (omega (arith, c.loop-other-test.false, c.loop-other.auto.other-end)) c.loop-other.invariant

@@ -1,0 +1,38 @@
+-- How a request arrives at the home, for its agent (docs/PROTOCOL.md, "A requester and its calls").
+use Rattle.std.specs.Prelude.{◌≡◌, ℕ, ◌-◌, ◌<◌, Bool, true, false}
+use Rattle.std.specs.Int.{bit_at}
+use Rattle.chi_flit.specs.Credit.{credit_number}
+use Rattle.chi_tracker.specs.Shape.{low, size, IsOf}
+use Rattle.chi_tracker.specs.Views.{has}
+use Rattle.chi_tracker.specs.Steps.{spends}
+use Rattle.chi_tracker.specs.Calls.{into_hand, owed_one, scanned, IsLowestSeen}
+use Rattle.chi_credit.specs.declared.slot.SlotState.TheVariants as states
+use Rattle.chi_credit.specs.Account.{moved, state_at, type_at}
+use Rattle.chi_node.specs.declared.answers.Arrived.{Arrived}
+use Rattle.chi_node.specs.declared.answers.Arrived.TheVariants.{Admitted, Retried}
+use Rattle.chi_node.specs.Requester.{RequesterState, with_both}
+
+-- how a request of slot s arrived: a first attempt is admitted with an entry that was claimed, or retried
+-- where each entry of its type was found claimed; a resent one is admitted with the entry of a credit
+abbrev pub ArrivesFirst : ℕ → Arrived → RequesterState → RequesterState → Type 0
+ArrivesFirst s (Admitted e) old new =
+    IsOf old.port.shape (type_at old.slots s) e.0 × (has e.0 old.port ≡ 0)
+    × (new ≡ with_both (into_hand e.0 (scanned (type_at old.slots s) (e.0 - low old.port.shape (type_at old.slots s)) old.port)) (moved old.slots s (states.Admitted e)) old)
+ArrivesFirst s (Retried ty) old new =
+    (credit_number ty ≡ type_at old.slots s) × ((e : ℕ) → IsOf old.port.shape (type_at old.slots s) e → bit_at new.port.found e ≡ 1)
+    × (new ≡ with_both (owed_one (type_at old.slots s) (scanned (type_at old.slots s) (size old.port.shape (type_at old.slots s)) old.port)) (moved old.slots s states.Refused) old)
+
+abbrev pub ArrivesResent : ℕ → Arrived → RequesterState → RequesterState → Type 0
+ArrivesResent s (Admitted e) old new =
+    IsLowestSeen old.port (type_at old.slots s) e.0 × (has e.0 old.port ≡ 0)
+    × (new ≡ with_both (spends (type_at old.slots s) e.0 old.port) (moved old.slots s (states.Admitted e)) old)
+ArrivesResent s (Retried ty) old new = ⊥
+
+-- when a request of slot s, with AllowRetry or without, can arrive
+abbrev pub CanArrive : Bool → ℕ → RequesterState → Type 0
+CanArrive true s r = (state_at r.slots s ≡ states.Sent) × (0 < size r.port.shape (type_at r.slots s))
+CanArrive false s r = state_at r.slots s ≡ states.Riding
+
+abbrev pub Arrives : Bool → ℕ → Arrived → RequesterState → RequesterState → Type 0
+Arrives true s arrived old new = ArrivesFirst s arrived old new
+Arrives false s arrived old new = ArrivesResent s arrived old new

@@ -1,0 +1,4 @@
+pub mod Requester
+pub mod Parts
+pub mod Followed
+pub mod Arrives

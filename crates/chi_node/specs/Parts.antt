@@ -1,0 +1,24 @@
+-- The parts of a node in its opening state (docs/PROTOCOL.md, "A requester and its calls").
+use Rattle.std.specs.Prelude.{ℕ, zero, suc, List, [], ◌∷◌, ◌++◌, Bool, nat_lt}
+use Rattle.atomic_table.specs.Seated.{TableId}
+use Rattle.chi_flit.specs.declared.credit.Profile.{Profile}
+use Rattle.chi_flit.specs.declared.credit.Profile.TheVariants.{Two, Four}
+use Rattle.chi_tracker.specs.declared.shape.Shape.{Shape}
+use Rattle.chi_slice.specs.Config.{Sizes}
+use Rattle.chi_slice.specs.Slice.{SliceState, opening_slice}
+use Rattle.chi_node.specs.Requester.{RequesterState, opening_requester}
+
+-- the first n slices
+abbrev pub opening_slices : Sizes → ℕ → List SliceState
+opening_slices config zero = []
+opening_slices config (suc n) = opening_slices config n ++ opening_slice config n ∷ []
+
+-- the first n requesters of a tracker
+abbrev pub opening_requesters : TableId → Shape → ℕ → List RequesterState
+opening_requesters table shape zero = []
+opening_requesters table shape (suc n) = opening_requesters table shape n ++ opening_requester table shape n ∷ []
+
+-- whether a profile has the credit type t
+abbrev pub is_of_profile : Profile → ℕ → Bool
+is_of_profile Two t = nat_lt t 2
+is_of_profile Four t = nat_lt t 4

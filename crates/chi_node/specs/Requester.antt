@@ -1,0 +1,77 @@
+-- A requester: its port and its account, and why its calls are refused (docs/PROTOCOL.md, "A requester and
+-- its calls").
+use Rattle.std.specs.Prelude.{◌≡◌, ℕ, ◌<◌, ◌≤◌, List, Bool, ◌&&◌, nat_lt, Option, Some, None, length, replicate, slice_index, slice_set, ◌+◌, if◌then◌else◌}
+use Rattle.atomic_table.specs.Seated.{TableId}
+use Rattle.chi_flit.specs.declared.refusal.Refusal.{Refusal}
+use Rattle.chi_flit.specs.declared.refusal.Refusal.TheVariants.{OutOfRange, NoCredit}
+use Rattle.chi_tracker.specs.declared.shape.Shape.{Shape}
+use Rattle.chi_tracker.specs.Shape.{low, size}
+use Rattle.chi_tracker.specs.Views.{PortView, has, new_port}
+use Rattle.chi_tracker.specs.Steps.{no_shape}
+use Rattle.chi_tracker.specs.Calls.{nowhere, seen_of}
+use Rattle.chi_credit.specs.declared.slot.SlotRecord.{SlotRecord}
+use Rattle.chi_credit.specs.Account.{all_idle, lowest_cancelled, riding_of, HasDue, HasEntries, IsWithinSeen}
+
+-- a requester: its number, which tracker's its port is, the port's view, its eight slots, and how many
+-- loads and stores each slice answered it
+pub record RequesterState : Type 0 where
+  pub number : ℕ
+  pub table : TableId
+  pub port : PortView
+  pub slots : List SlotRecord
+  pub counts : List ℕ
+
+-- what every requester keeps: the port is its own, of a tracker with so many entries of each type; the
+-- Riding slots are no more than the seen credits, the credits due are those of its slots, and the entries
+-- of its Admitted slots are those in the port's hand, each one of the tracker's
+pub record RequesterKept (entries : List ℕ) (r : RequesterState) : Type 0 where
+  pub near : r.number < 8
+  pub who : r.port.who ≡ r.number
+  pub sizes : r.port.shape.sizes ≡ entries
+  pub shaped : low r.port.shape 4 ≤ 256
+  pub slices : length r.counts ≡ 8
+  pub eight : length r.slots ≡ 8
+  pub within : IsWithinSeen r.slots r.port
+  pub due : HasDue r.slots r.port
+  pub hand : HasEntries r.slots r.port
+  pub inside : (e : ℕ) → low r.port.shape 4 ≤ e → has e r.port ≡ 0
+
+-- a requester that has done nothing yet
+abbrev pub opening_requester : TableId → Shape → ℕ → RequesterState
+opening_requester table shape n = record { number = n; table = table; port = new_port shape n; slots = all_idle; counts = replicate 8 0 }
+
+-- a requester of no tracker
+abbrev pub no_requester : RequesterState
+no_requester = opening_requester nowhere no_shape 0
+
+-- the port's view becomes another one, and all else stays
+abbrev pub with_port : PortView → RequesterState → RequesterState
+with_port port r = record r { port = port }
+
+-- the slots become others, and all else stays
+abbrev pub with_slots : List SlotRecord → RequesterState → RequesterState
+with_slots slots r = record r { slots = slots }
+
+-- both become others, and all else stays
+abbrev pub with_both : PortView → List SlotRecord → RequesterState → RequesterState
+with_both port slots r = record r { port = port; slots = slots }
+
+-- one more load or store was answered by the slice of that index
+abbrev pub with_count : ℕ → RequesterState → RequesterState
+with_count index r = record r { counts = slice_set r.counts index (slice_index r.counts index + 1) }
+
+-- whether the tracker has entries of type t
+abbrev pub has_type : RequesterState → ℕ → Bool
+has_type r t = nat_lt 0 (size r.port.shape t)
+
+-- whether a slot of type t is Cancelled, and a seen credit of the type is beyond those for Riding slots
+abbrev pub can_give_back : RequesterState → ℕ → Bool
+can_give_back r t = nat_lt (lowest_cancelled r.slots t) 8 && nat_lt (riding_of r.slots t) (seen_of r.port t)
+
+-- why a credit of type t can't be given back
+abbrev pub give_back_refusal : RequesterState → ℕ → Option Refusal
+give_back_refusal r t = if has_type r t then (if can_give_back r t then None else Some NoCredit) else Some OutOfRange
+
+-- why type t can't be tended
+abbrev pub tend_refusal : RequesterState → ℕ → Option Refusal
+tend_refusal r t = if has_type r t then None else Some OutOfRange

@@ -1,0 +1,102 @@
+//! What arrivals and completions do to a requester: these take entries to hand and release them.
+
+ghost use Rattle.std.specs.Prelude.{◌≡◌, ℕ, ◌<◌, ◌-◌, IfNone, IfSome, slice_set, true};
+ghost use Rattle.std.specs.Int.{bit_at};
+ghost use Rattle.chi_tracker.specs.Shape.{low, size, IsOf};
+ghost use Rattle.chi_tracker.specs.Views.{has};
+ghost use Rattle.chi_tracker.specs.Steps.{spends};
+ghost use Rattle.chi_tracker.specs.Calls.{into_hand, owed_one, scanned, Ended, HasSameCredits, IsLowestSeen};
+ghost use Rattle.chi_credit.specs.Slot.{after_finish, is_admitted};
+ghost use Rattle.chi_credit.specs.Account.{moved, slot_at, state_at, type_at};
+ghost use Rattle.chi_node.specs.Arrives.{Arrives, CanArrive};
+ghost use Rattle.chi_node.specs.Requester.{with_both};
+
+use crate::answers::Arrived;
+use crate::requester::Requester;
+use chi_credit::SlotState;
+use chi_flit::{Entry, Slot};
+use chi_tracker::{Released, Tracker};
+use std::alloc::Allocator;
+
+impl Requester {
+    /// A first attempt arrived: an entry of its type is claimed in one scan, and Sent becomes Admitted.
+    /// Where each entry of the type was found claimed, one more credit of the type is owed, and Sent
+    /// becomes Refused.
+    #[tactic(auto, using(crate::proofs::Keeps::still_eight, crate::proofs::Keeps::still_within, crate::proofs::Keeps::still_due, crate::proofs::Keeps::taken_entries, crate::proofs::Keeps::taken_inside, crate::proofs::Keeps::owed_due, crate::proofs::Keeps::few_due, crate::proofs::Keeps::still_entries))]
+    pub(crate) fn admit_first<A: Allocator>(
+        &mut self,
+        tracker: &Tracker<A>,
+        slot: Slot,
+    ) -> Option<Entry>
+        requires table { self.old.table ≡ tracker.now.table }
+        requires slot { slot.0 < 8 }
+        requires sent { state_at self.old.slots slot.0 ≡ SlotState.Sent }
+        requires entries { 0 < size self.old.port.shape (type_at self.old.slots slot.0) }
+        ensures claimed { IfSome result (λ e. IsOf self.old.port.shape (type_at self.old.slots slot.0) e.0 × (has e.0 self.old.port ≡ 0)) }
+        ensures some { IfSome result (λ e. self.new ≡ with_both (into_hand e.0 (scanned (type_at self.old.slots slot.0) (e.0 - low self.old.port.shape (type_at self.old.slots slot.0)) self.old.port)) (moved self.old.slots slot.0 (SlotState.Admitted e)) self.old) }
+        ensures found { IfNone result ((e : ℕ) → IsOf self.old.port.shape (type_at self.old.slots slot.0) e → bit_at self.new.port.found e ≡ 1) }
+        ensures none { IfNone result (self.new ≡ with_both (owed_one (type_at self.old.slots slot.0) (scanned (type_at self.old.slots slot.0) (size self.old.port.shape (type_at self.old.slots slot.0)) self.old.port)) (moved self.old.slots slot.0 SlotState.Refused) self.old) }
+    {
+        let ty = self.account.slot(slot).credit;
+        let claimed = self.port.claim(tracker, ty);
+        match claimed {
+            Some(entry) => self.account.admitted(slot, entry),
+            None => {
+                self.account.refused(slot);
+                self.port.owe(tracker, ty);
+            }
+        }
+        claimed
+    }
+
+    /// A resent request arrived: the lowest seen credit of its type is spent for it, and Riding becomes
+    /// Admitted. It is never refused.
+    #[tactic(auto, using(crate::proofs::Keeps::still_eight, crate::proofs::Keeps::taken_inside))]
+    pub(crate) fn admit_resent<A: Allocator>(&mut self, tracker: &Tracker<A>, slot: Slot) -> Entry
+        requires table { self.old.table ≡ tracker.now.table }
+        requires slot { slot.0 < 8 }
+        requires riding { state_at self.old.slots slot.0 ≡ SlotState.Riding }
+        ensures lowest { IsLowestSeen self.old.port (type_at self.old.slots slot.0) result.0 }
+        ensures held { has result.0 self.old.port ≡ 0 }
+        ensures after { self.new ≡ with_both (spends (type_at self.old.slots slot.0) result.0 self.old.port) (moved self.old.slots slot.0 (SlotState.Admitted result)) self.old }
+    {
+        self.account.arrive(slot, tracker, &mut self.port)
+    }
+
+    /// A request of the slot arrived, with AllowRetry or resent without it.
+    pub(crate) fn arrive<A: Allocator>(
+        &mut self,
+        tracker: &Tracker<A>,
+        slot: Slot,
+        allow_retry: bool,
+    ) -> Arrived
+        requires table { self.old.table ≡ tracker.now.table }
+        requires slot { slot.0 < 8 }
+        requires fits { CanArrive allow_retry slot.0 self.old }
+        ensures { Arrives allow_retry slot.0 result self.old self.new }
+    {
+        if !allow_retry {
+            return Arrived::Admitted(self.admit_resent(tracker, slot));
+        }
+        let ty = self.account.slot(slot).credit;
+        match self.admit_first(tracker, slot) {
+            Some(entry) => Arrived::Admitted(entry),
+            None => Arrived::Retried(ty),
+        }
+    }
+
+    /// The home completed the request: Admitted becomes Idle where the slot was answered, and Closing
+    /// where it wasn't; its entry is released.
+    #[tactic(auto, using(crate::proofs::Keeps::still_eight, crate::proofs::Keeps::still_within, crate::proofs::Keeps::still_due, crate::proofs::Keeps::left_entries, crate::proofs::Keeps::left_inside))]
+    pub(crate) fn complete<A: Allocator>(&mut self, tracker: &Tracker<A>, slot: Slot) -> Released
+        requires table { self.old.table ≡ tracker.now.table }
+        requires slot { slot.0 < 8 }
+        requires admitted { is_admitted (state_at self.old.slots slot.0) ≡ true }
+        ensures released { (e : Entry) × (state_at self.old.slots slot.0 ≡ SlotState.Admitted e) × ((t : ℕ) × (t < 4) × IsOf self.old.port.shape t e.0 × Ended self.old.port t e.0 result self.new.port) }
+        ensures credits { HasSameCredits self.old.port self.new.port }
+        ensures after { self.new ≡ with_both self.new.port (slice_set self.old.slots slot.0 (after_finish (slot_at self.old.slots slot.0))) self.old }
+    {
+        let entry = self.account.finished(slot);
+        self.port.release(tracker, entry)
+    }
+}

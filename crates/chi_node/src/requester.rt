@@ -1,0 +1,206 @@
+//! A requester, with its port and its account.
+
+ghost use Rattle.std.specs.Prelude.{◌≡◌, ◌≢◌, ℕ, ◌<◌, ◌≤◌, IfOk, OnErr, IfSome, IfNone, IsTrue, ◌↔◌, slice_index, slice_set};
+ghost use Rattle.chi_flit.specs.Credit.{credit_number};
+ghost use Rattle.chi_flit.specs.Refusal.{refusal_of};
+ghost use Rattle.chi_tracker.specs.Sums.{set_at};
+ghost use Rattle.chi_tracker.specs.Shape.{low};
+ghost use Rattle.chi_tracker.specs.Views.{has, new_port};
+ghost use Rattle.chi_tracker.specs.Steps.{returns_credit};
+ghost use Rattle.chi_tracker.specs.Calls.{saw_all, seen_of, Ended, HasSameCredits, IsLowestSeen, Tended};
+ghost use Rattle.chi_credit.specs.Slot.{idle_slot};
+ghost use Rattle.chi_credit.specs.Account.{lowest_cancelled, riding_of, slot_at, state_at, IsLowestIdle};
+ghost use Rattle.chi_node.specs.Requester.{can_give_back, give_back_refusal, has_type, no_requester, opening_requester, tend_refusal, with_port, RequesterKept};
+
+use chi_credit::{Account, SlotRecord, SlotState};
+use chi_flit::{Agent, CreditType, Refusal, Slot};
+use chi_tracker::{Port, Released, Tracker};
+use std::alloc::Allocator;
+use std::marker::Model;
+
+/// An agent with its port to the tracker, its account of the requests in its eight slots, and how many
+/// loads and stores each slice answered it. Contracts see it as a `RequesterState`.
+///
+/// The Riding slots of a type are never more than the port's seen credits of the type; the credits due of
+/// a type are as many as its slots that are Refused, Retried, Riding or Cancelled; the entries of the
+/// Admitted slots are different, and all that the port has in hand. No call takes memory or waits.
+/// Source: `docs/PROTOCOL.md`, "A requester and its calls".
+#[derive(Drop)]
+pub struct Requester {
+    pub(crate) number: Agent,
+    pub(crate) entries: [u16; 4],
+    pub(crate) port: Port,
+    pub(crate) account: Account,
+    pub(crate) counts: [u32; 8],
+}
+
+impl Model for Requester {
+    ghost use Rattle.chi_node.specs.Requester.{RequesterState, RequesterKept};
+
+    ghost Value = { RequesterState };
+
+    ghost view = { λ r. record { number = r.number.0; table = r.port.table; port = r.port.port; slots = r.account; counts = r.counts } };
+
+    ghost invariant = { λ r. RequesterKept r.entries (record { number = r.number.0; table = r.port.table; port = r.port.port; slots = r.account; counts = r.counts }) };
+}
+
+impl Default for Requester {
+    ghost is_default = { λ r. r ≡ no_requester };
+
+    fn default() -> Requester {
+        Requester {
+            number: Agent(0),
+            entries: [0; 4],
+            port: Port::default(),
+            account: Account::new(),
+            counts: [0; 8],
+        }
+    }
+}
+
+impl Requester {
+    // The requester of that port, to a tracker with so many entries of each type. It has done nothing yet.
+    pub(crate) fn new(number: Agent, entries: [u16; 4], port: Port) -> Requester
+        requires number { number.0 < 8 }
+        requires port { port.port ≡ new_port port.port.shape number.0 }
+        requires sizes { port.port.shape.sizes ≡ entries }
+        requires shape { low port.port.shape 4 ≤ 256 }
+        ensures { result ≡ opening_requester port.table port.port.shape number.0 }
+    {
+        Requester {
+            number,
+            entries,
+            port,
+            account: Account::new(),
+            counts: [0; 8],
+        }
+    }
+
+    /// The agent's number, below 8. Whoever asks for it knows what every requester keeps.
+    pub fn number(&self) -> Agent
+        ensures is { result.0 ≡ self.now.number }
+        ensures kept { RequesterKept self.now.port.shape.sizes self.now }
+    {
+        self.number
+    }
+
+    /// The slot, whose number is below 8.
+    pub fn slot(&self, slot: Slot) -> SlotRecord
+        requires { slot.0 < 8 }
+        ensures { result ≡ slot_at self.now.slots slot.0 }
+    {
+        self.account.slot(slot)
+    }
+
+    /// The lowest free slot.
+    pub fn lowest_idle(&self) -> Option<Slot>
+        ensures some { IfSome result (λ slot. IsLowestIdle self.now.slots slot.0) }
+        ensures none { IfNone result ((s : ℕ) → s < 8 → state_at self.now.slots s ≢ SlotState.Idle) }
+    {
+        self.account.lowest_idle()
+    }
+
+    /// The seen credits by type, as the port has them. It does no step.
+    pub fn seen(&self) -> [u32; 4]
+        ensures { (t : ℕ) → t < 4 → slice_index result t ≡ seen_of self.now.port t }
+    {
+        self.port.seen()
+    }
+
+    /// How many loads and stores the slice of that index, below 8, answered the requester.
+    pub fn count(&self, index: u8) -> u32
+        requires { index < 8 }
+        ensures { result ≡ slice_index self.now.counts index }
+    {
+        self.counts[usize::from(index)]
+    }
+
+    /// Whether a seen credit of the type is left beside those for the Riding slots.
+    pub fn can_resend(&self, ty: CreditType) -> bool
+        ensures { IsTrue result ↔ (riding_of self.now.slots (credit_number ty) < seen_of self.now.port (credit_number ty)) }
+    {
+        let seen = self.port.seen();
+        self.account.can_resend(ty, seen[usize::from(ty.number())])
+    }
+
+    /// Whether the tracker has entries of the type.
+    fn has_type(&self, ty: CreditType) -> bool
+        ensures { result ≡ has_type self.now (credit_number ty) }
+    {
+        0 < self.entries[usize::from(ty.number())]
+    }
+
+    /// Whether a slot of the type is Cancelled and a credit of the type can be given back for it.
+    fn can_give_back(&self, ty: CreditType) -> bool
+        ensures { result ≡ can_give_back self.now (credit_number ty) }
+    {
+        self.account.has_cancelled(ty) && self.can_resend(ty)
+    }
+
+    /// Looks at what is promised to the requester, one step on each of the four words, and answers the
+    /// seen credits by type. Nothing but the port changes.
+    ///
+    /// Condition: the tracker is the requester's.
+    #[tactic(auto, using(crate::proofs::Keeps::saw_within))]
+    pub fn see<A: Allocator>(&mut self, tracker: &Tracker<A>) -> [u32; 4]
+        requires { self.old.table ≡ tracker.now.table }
+        ensures port { self.new.port ≡ saw_all self.new.port.seen self.old.port }
+        ensures more { (e : ℕ) → e < 256 → set_at self.old.port.seen e ≤ set_at self.new.port.seen e }
+        ensures counts { (t : ℕ) → t < 4 → slice_index result t ≡ seen_of self.new.port t }
+        ensures others { self.new ≡ with_port self.new.port self.old }
+    {
+        self.port.see(tracker)
+    }
+
+    /// The lowest Cancelled slot of the type becomes Idle, and the port gives the lowest seen credit of the
+    /// type back.
+    ///
+    /// Refused 10 (OutOfRange) where the tracker has no entries of the type, and then 12 (NoCredit) where
+    /// no slot of the type is Cancelled, or no seen credit is beyond those for the Riding slots; nothing
+    /// changes then. Condition: the tracker is the requester's.
+    pub fn give_back<A: Allocator>(
+        &mut self,
+        tracker: &Tracker<A>,
+        ty: CreditType,
+    ) -> Result<Released, Refusal>
+        requires { self.old.table ≡ tracker.now.table }
+        ensures refusal { refusal_of result ≡ give_back_refusal self.old (credit_number ty) }
+        ensures cancelled { IfOk result (λ _. state_at self.old.slots (lowest_cancelled self.old.slots (credit_number ty)) ≡ SlotState.Cancelled) }
+        ensures returned { IfOk result (λ released. (e : ℕ) × IsLowestSeen self.old.port (credit_number ty) e × (has e self.old.port ≡ 0) × Ended (returns_credit (credit_number ty) e self.old.port) (credit_number ty) e released self.new.port × HasSameCredits (returns_credit (credit_number ty) e self.old.port) self.new.port) }
+        ensures err { OnErr result (self.new ≡ self.old) }
+        ensures others { IfOk result (λ _. self.new ≡ record self.old { port = self.new.port; slots = slice_set self.old.slots (lowest_cancelled self.old.slots (credit_number ty)) idle_slot }) }
+    {
+        if !self.has_type(ty) {
+            return Err(Refusal::OutOfRange);
+        }
+        if !self.can_give_back(ty) {
+            return Err(Refusal::NoCredit);
+        }
+        Ok(self.account.give_back(ty, tracker, &mut self.port))
+    }
+
+    /// Where a requester shows an owed credit of the type, an entry of the type is claimed and released.
+    /// `None` where no credit of the type was seen owed, or each entry of the type was found claimed.
+    /// Nothing but the port changes, and its credits and its hand stay.
+    ///
+    /// Refused 10 (OutOfRange) exactly where the tracker has no entries of the type; nothing changes then.
+    /// Condition: the tracker is the requester's.
+    pub fn tend<A: Allocator>(
+        &mut self,
+        tracker: &Tracker<A>,
+        ty: CreditType,
+    ) -> Result<Option<Released>, Refusal>
+        requires { self.old.table ≡ tracker.now.table }
+        ensures refusal { refusal_of result ≡ tend_refusal self.old (credit_number ty) }
+        ensures tended { IfOk result (λ released. Tended self.old.port (credit_number ty) released self.new.port) }
+        ensures credits { IfOk result (λ _. HasSameCredits self.old.port self.new.port) }
+        ensures hand { IfOk result (λ _. (e : ℕ) → has e self.new.port ≡ has e self.old.port) }
+        ensures err { OnErr result (self.new ≡ self.old) }
+        ensures others { IfOk result (λ _. self.new ≡ with_port self.new.port self.old) }
+    {
+        if !self.has_type(ty) {
+            return Err(Refusal::OutOfRange);
+        }
+        Ok(self.port.tend(tracker, ty))
+    }
+}

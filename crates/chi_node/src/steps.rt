@@ -1,0 +1,77 @@
+//! A requester's half of a step.
+
+ghost use Rattle.std.specs.Prelude.{◌≡◌, Some, is_some, IsTrue};
+ghost use Rattle.chi_node.specs.Followed.{followed, CanFinish, CanFollow, Finishes};
+
+use crate::requester::Requester;
+use chi_flit::{Effect, Line, Profile, Slot, Step, credit_type};
+use chi_tracker::{Released, Tracker};
+use std::alloc::Allocator;
+
+/// Where a step is done: the line, the index of its slice and the slice's profile, and the slot of the
+/// agent's request that was pending there.
+#[derive(Clone, Copy, Debug, PartialEq, Eq)]
+pub(crate) struct Place {
+    pub(crate) line: Line,
+    pub(crate) index: u8,
+    pub(crate) profile: Profile,
+    pub(crate) pending: Option<Slot>,
+}
+
+impl Requester {
+    /// The agent did a step that completes nothing: its account and its counts follow.
+    pub(crate) fn follow(&mut self, at: Place, step: Step)
+        requires { CanFollow at step self.old }
+        ensures { self.new ≡ followed at step self.old }
+    {
+        match step {
+            Step::Load(_) | Step::Store(_, _) => self.counted(at.index),
+            Step::Issue(kind, slot) => self.open(slot, at.line, credit_type(at.profile, kind)),
+            Step::RecvRetry => self.retry_seen(pending_slot(at)),
+            Step::Resend => self.resend(pending_slot(at)),
+            Step::Cancel => self.cancel(pending_slot(at)),
+            Step::RecvData | Step::RecvComp | Step::RecvDbid => self.answered(pending_slot(at)),
+            Step::Drop
+            | Step::Admit
+            | Step::Retry
+            | Step::Start
+            | Step::RecvSnp
+            | Step::RecvSnpResp
+            | Step::RecvAck
+            | Step::RecvWrData => {}
+        }
+    }
+
+    /// The agent did a step, with this effect: where it completed a request, the slot's entry is released.
+    /// Answers what the release did.
+    pub(crate) fn finish<A: Allocator>(
+        &mut self,
+        tracker: &Tracker<A>,
+        at: Place,
+        step: Step,
+        effect: Effect,
+    ) -> Option<Released>
+        requires table { self.old.table ≡ tracker.now.table }
+        requires fits { CanFinish at step effect self.old }
+        ensures { Finishes at step effect result self.old self.new }
+    {
+        match effect {
+            Effect::Nothing | Effect::Value(_) => {
+                self.follow(at, step);
+                None
+            }
+            Effect::Completed(slot) => Some(self.complete(tracker, slot)),
+        }
+    }
+}
+
+/// The slot of the request that is pending at the place.
+fn pending_slot(at: Place) -> Slot
+    requires { IsTrue (is_some at.pending) }
+    ensures { at.pending ≡ Some result }
+{
+    let Some(slot) = at.pending else {
+        unreachable!();
+    };
+    slot
+}

@@ -1,0 +1,108 @@
+//! How the journal follows what was done.
+
+ghost use Rattle.std.specs.Prelude.{◌≡◌};
+ghost use Rattle.chi_slice.specs.Recorded.{CanAppend, done_record, load_record, record_by};
+ghost use Rattle.chi_slice.specs.Slice.{recorded};
+ghost use Rattle.chi_slice.specs.Step.{is_step_in_range};
+
+use chi_flit::{Action, Agent, Effect, Line, Refusal, Step, WordNo};
+use chi_journal::{Journal, Record};
+use std::alloc::Allocator;
+
+/// Appends the record of an action that was tried, if there is one: that of a load or store that was
+/// done. There is room for it.
+pub fn follow<A: Allocator>(
+    journal: &mut Journal<A>,
+    action: Action,
+    tried: Result<Effect, Refusal>,
+)
+    requires { CanAppend journal.old (record_by action tried) }
+    ensures { journal.new ≡ recorded journal.old (record_by action tried) }
+{
+    let Some(entry) = record_by(action, tried) else {
+        return;
+    };
+    match journal.append(entry) {
+        Ok(()) => {}
+        Err(_) => unreachable!(),
+    }
+}
+
+/// The record of an action that was tried.
+fn record_by(action: Action, tried: Result<Effect, Refusal>) -> Option<Record>
+    ensures { result ≡ record_by action tried }
+{
+    match tried {
+        Ok(effect) => done_record(action.agent, action.line, action.step, effect),
+        Err(_) => None,
+    }
+}
+
+/// The record of a step that had the effect.
+fn done_record(agent: Agent, line: Line, step: Step, effect: Effect) -> Option<Record>
+    ensures { result ≡ done_record agent line step effect }
+{
+    match step {
+        Step::Load(word) => load_record(agent, line, word, effect),
+        Step::Store(word, value) => Some(Record::Store {
+            agent,
+            line,
+            word,
+            value,
+        }),
+        Step::Drop
+        | Step::Issue(_, _)
+        | Step::Admit
+        | Step::Retry
+        | Step::RecvRetry
+        | Step::Resend
+        | Step::Cancel
+        | Step::Start
+        | Step::RecvSnp
+        | Step::RecvSnpResp
+        | Step::RecvData
+        | Step::RecvComp
+        | Step::RecvAck
+        | Step::RecvDbid
+        | Step::RecvWrData => None,
+    }
+}
+
+/// The record of a load that had the effect.
+fn load_record(agent: Agent, line: Line, word: WordNo, effect: Effect) -> Option<Record>
+    ensures { result ≡ load_record agent line word effect }
+{
+    match effect {
+        Effect::Value(value) => Some(Record::Load {
+            agent,
+            line,
+            word,
+            value,
+        }),
+        Effect::Nothing | Effect::Completed(_) => None,
+    }
+}
+
+/// Whether the numbers of a step are in their ranges.
+pub fn is_step_in_range(step: Step) -> bool
+    ensures { result ≡ is_step_in_range step }
+{
+    match step {
+        Step::Load(word) | Step::Store(word, _) => word.0 < 8,
+        Step::Issue(_, slot) => slot.0 < 8,
+        Step::Drop
+        | Step::Admit
+        | Step::Retry
+        | Step::RecvRetry
+        | Step::Resend
+        | Step::Cancel
+        | Step::Start
+        | Step::RecvSnp
+        | Step::RecvSnpResp
+        | Step::RecvData
+        | Step::RecvComp
+        | Step::RecvAck
+        | Step::RecvDbid
+        | Step::RecvWrData => true,
+    }
+}

@@ -1,0 +1,20 @@
+//! Tests of a slice of `chi_slice` through its public calls alone, against the tables of
+//! `docs/PROTOCOL.md`.
+#![tactic(auto)]
+
+#[cfg(test)]
+mod memory;
+#[cfg(test)]
+mod moves;
+#[cfg(test)]
+mod refusals;
+#[cfg(test)]
+mod refused;
+#[cfg(test)]
+mod retries;
+#[cfg(test)]
+mod runs;
+#[cfg(test)]
+mod snoops;
+#[cfg(test)]
+mod write_data;

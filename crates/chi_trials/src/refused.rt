@@ -1,0 +1,127 @@
+//! Whatever is refused leaves the slice as it was, after every beginning of the worked runs.
+
+use crate::moves::{LINE, at, slice_of};
+use crate::runs::{Move, RUNS};
+use chi_flit::{Agent, Kind, Line, Slot, WordNo};
+use chi_slice::{Action, Slice, Step};
+use std::alloc::Global;
+use std::process::Abort;
+
+const KINDS: [Kind; 8] = [
+    Kind::ReadNotSharedDirty,
+    Kind::ReadShared,
+    Kind::ReadUnique,
+    Kind::CleanUnique,
+    Kind::Evict,
+    Kind::WriteBackFull,
+    Kind::WriteCleanFull,
+    Kind::WriteEvictFull,
+];
+
+/// The steps other than Issue, with words inside and outside their range.
+const STEPS: [Step; 18] = [
+    Step::Load(WordNo(0)),
+    Step::Load(WordNo(8)),
+    Step::Store(WordNo(0), 1),
+    Step::Store(WordNo(8), 1),
+    Step::Drop,
+    Step::Admit,
+    Step::Retry,
+    Step::RecvRetry,
+    Step::Resend,
+    Step::Cancel,
+    Step::Start,
+    Step::RecvSnp,
+    Step::RecvSnpResp,
+    Step::RecvData,
+    Step::RecvComp,
+    Step::RecvAck,
+    Step::RecvDbid,
+    Step::RecvWrData,
+];
+
+/// A node, and the moves that were tried on its slice.
+#[derive(Clone, Copy)]
+struct Begun<'a> {
+    agents: u8,
+    lines: u8,
+    moves: &'a [Move],
+}
+
+impl Begun<'_> {
+    /// A slice on which the moves were tried.
+    fn slice(&self, rt: &impl Abort, alloc: Global) -> Slice<Global> {
+        let mut slice = slice_of(rt, alloc, self.agents, self.lines, 8);
+        for (agent, step, _) in self.moves {
+            let _ = slice.act(at(*agent, *step));
+        }
+        slice
+    }
+}
+
+/// Tries an action on a slice of its own: where it is refused, all is as on the slice that was left alone.
+fn tries(
+    rt: &impl Abort,
+    alloc: Global,
+    begun: Begun<'_>,
+    left_alone: &Slice<Global>,
+    action: Action,
+) {
+    let mut slice = begun.slice(rt, alloc);
+    if slice.act(action).is_ok() {
+        return;
+    }
+    assert_eq!(rt; slice.view(LINE), left_alone.view(LINE), "{action:?}");
+    assert_eq!(rt; slice.view(Line(1)), left_alone.view(Line(1)), "{action:?}");
+    let records = slice.journal().records();
+    assert_eq!(rt; records, left_alone.journal().records(), "{action:?}");
+}
+
+/// Tries every step of an agent at a line, with slots inside and outside their range.
+fn tries_steps(
+    rt: &impl Abort,
+    alloc: Global,
+    begun: Begun<'_>,
+    left_alone: &Slice<Global>,
+    agent: Agent,
+    line: Line,
+) {
+    for step in STEPS {
+        let action = Action { agent, line, step };
+        tries(rt, alloc, begun, left_alone, action);
+    }
+    for kind in KINDS {
+        for slot in [0, 1, 8] {
+            let step = Step::Issue(kind, Slot(slot));
+            let action = Action { agent, line, step };
+            tries(rt, alloc, begun, left_alone, action);
+        }
+    }
+}
+
+#[test]
+fn what_is_refused_changes_nothing(rt: HostRuntime) {
+    for run in RUNS {
+        for length in 0..=run.moves.len() {
+            let moves = &run.moves[..length];
+            tries_all(&rt, rt.alloc(), run.agents, 1, moves);
+            tries_all(&rt, rt.alloc(), 3, 2, moves);
+        }
+    }
+}
+
+/// Tries every action after these moves in a node of that size, with agents and lines inside and outside
+/// their ranges.
+fn tries_all(rt: &impl Abort, alloc: Global, agents: u8, lines: u8, moves: &[Move]) {
+    let begun = Begun {
+        agents,
+        lines,
+        moves,
+    };
+    let left_alone = begun.slice(rt, alloc);
+    for agent in 0..3 {
+        for line in 0..2 {
+            tries_steps(rt, alloc, begun, &left_alone, Agent(agent), Line(line));
+        }
+    }
+}

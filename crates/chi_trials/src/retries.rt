@@ -1,0 +1,59 @@
+//! Retries: a resent request has to be let in, and RetryAck has the credit type of its kind.
+
+ghost use Rattle.std.specs.Prelude.{◌≡◌};
+
+use crate::moves::{at, brings, does, slice_of, view};
+use chi_flit::CreditType::{self, T0, T1, T2, T3};
+use chi_flit::{Kind, Refusal, RspDown, Slot, State};
+use chi_slice::{Config, Effect, Slice, Step};
+use std::process::Abort;
+
+#[test]
+fn a_resent_request_must_be_accepted(rt: HostRuntime) {
+    let mut slice = slice_of(&rt, rt.alloc(), 1, 1, 4);
+    for step in [
+        Step::Issue(Kind::ReadNotSharedDirty, Slot(0)),
+        Step::Retry,
+        Step::RecvRetry,
+        Step::Resend,
+    ] {
+        assert_eq!(rt; slice.act(at(0, step)), Ok(Effect::Nothing), "{step:?}");
+    }
+    assert_eq!(rt; slice.act(at(0, Step::Retry)), Err(Refusal::MustAccept));
+    assert_eq!(rt; slice.act(at(0, Step::Admit)), Ok(Effect::Nothing));
+}
+
+/// Each kind, a state in which it may be issued, and its credit type among two and among four.
+const TYPES: [(Kind, State, CreditType, CreditType); 8] = [
+    (Kind::ReadNotSharedDirty, State::I, T0, T0),
+    (Kind::ReadShared, State::I, T0, T0),
+    (Kind::ReadUnique, State::I, T0, T2),
+    (Kind::CleanUnique, State::SC, T0, T2),
+    (Kind::Evict, State::UC, T0, T3),
+    (Kind::WriteBackFull, State::UD, T1, T1),
+    (Kind::WriteCleanFull, State::SD, T1, T1),
+    (Kind::WriteEvictFull, State::UC, T1, T1),
+];
+
+/// A node of four credit types.
+fn node_of_four(rt: &impl Abort) -> Config
+    ensures { result.slices ≡ 1 }
+{
+    Config::four(2, 1, 1, [1, 1, 1, 1], 4).expect(rt, "sizes in their limits")
+}
+
+#[test]
+fn a_retry_names_the_credit_type_of_the_kind(rt: HostRuntime) {
+    for (kind, state, two, four) in TYPES {
+        let of_two = slice_of(&rt, rt.alloc(), 2, 1, 4);
+        let config = node_of_four(&rt);
+        let of_four = Slice::new(rt.alloc(), &config, 0).expect(&rt, "memory for a slice");
+        for (mut slice, ty) in [(of_two, two), (of_four, four)] {
+            brings(&rt, &mut slice, state);
+            does(&rt, &mut slice, 0, Step::Issue(kind, Slot(0)));
+            does(&rt, &mut slice, 0, Step::Retry);
+            let sent = view(&rt, &slice).flits[0].rsp_down;
+            assert_eq!(rt; sent, Some(RspDown::RetryAck(ty)), "{kind:?}");
+        }
+    }
+}

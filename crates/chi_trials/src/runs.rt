@@ -1,0 +1,186 @@
+//! Worked runs at line 0, each action with its answer.
+
+use crate::moves::{LINE, at, slice_of};
+use chi_flit::Kind::{ReadNotSharedDirty, ReadShared, ReadUnique, WriteBackFull, WriteCleanFull};
+use chi_flit::{Refusal, Slot, WordNo};
+use chi_slice::Effect::{Completed, Nothing, Value};
+use chi_slice::Step::{
+    self, Admit, Drop, Issue, Load, RecvAck, RecvData, RecvDbid, RecvSnp, RecvSnpResp, RecvWrData,
+    Start, Store,
+};
+use chi_slice::{Action, Effect};
+use std::alloc::{AllocError, Global};
+
+/// An agent's step at line 0, and what it is answered.
+pub type Move = (u8, Step, Result<Effect, Refusal>);
+
+/// A run of so many agents.
+#[derive(Clone, Copy)]
+pub struct Run {
+    pub agents: u8,
+    pub moves: &'static [Move],
+}
+
+const FREE: Result<Effect, Refusal> = Ok(Completed(Slot(0)));
+
+const DONE: Result<Effect, Refusal> = Ok(Nothing);
+
+/// A dirty copy is snooped by a ReadNotSharedDirty: memory and reader get its data.
+pub const DIRTY_DATA_HANDED_ON: [Move; 14] = [
+    (0, Issue(ReadNotSharedDirty, Slot(0)), DONE),
+    (0, Admit, DONE),
+    (0, Start, DONE),
+    (0, RecvData, DONE),
+    (0, RecvAck, FREE),
+    (0, Store(WordNo(3), 7), DONE),
+    (1, Issue(ReadNotSharedDirty, Slot(0)), DONE),
+    (1, Admit, DONE),
+    (1, Start, DONE),
+    (0, RecvSnp, DONE),
+    (0, RecvSnpResp, DONE),
+    (1, RecvData, DONE),
+    (1, Load(WordNo(3)), Ok(Value(7))),
+    (1, RecvAck, FREE),
+];
+
+/// A ReadUnique takes the line from under a waiting WriteBackFull, whose data then changes nothing.
+pub const SNOOP_CROSSES_WRITE_BACK: [Move; 20] = [
+    (0, Issue(ReadUnique, Slot(0)), DONE),
+    (0, Admit, DONE),
+    (0, Start, DONE),
+    (0, RecvData, DONE),
+    (0, RecvAck, FREE),
+    (0, Store(WordNo(0), 5), DONE),
+    (0, Issue(WriteBackFull, Slot(0)), DONE),
+    (0, Admit, DONE),
+    (1, Issue(ReadUnique, Slot(0)), DONE),
+    (1, Admit, DONE),
+    (1, Start, DONE),
+    (0, RecvSnp, DONE),
+    (0, RecvSnpResp, DONE),
+    (1, RecvData, DONE),
+    (1, RecvAck, FREE),
+    (1, Store(WordNo(0), 9), DONE),
+    (0, Start, DONE),
+    (0, RecvDbid, DONE),
+    (0, RecvWrData, FREE),
+    (1, Load(WordNo(0)), Ok(Value(9))),
+];
+
+/// A store after the write data of a WriteCleanFull was sent: memory gets the older value.
+pub const STORE_BEHIND_WRITE_CLEAN: [Move; 12] = [
+    (0, Issue(ReadUnique, Slot(0)), DONE),
+    (0, Admit, DONE),
+    (0, Start, DONE),
+    (0, RecvData, DONE),
+    (0, RecvAck, FREE),
+    (0, Store(WordNo(0), 5), DONE),
+    (0, Issue(WriteCleanFull, Slot(0)), DONE),
+    (0, Admit, DONE),
+    (0, Start, DONE),
+    (0, RecvDbid, DONE),
+    (0, Store(WordNo(0), 6), DONE),
+    (0, RecvWrData, FREE),
+];
+
+/// A ReadShared makes the dirty holder the owner, and a ReadNotSharedDirty ends it as owner.
+pub const SHARED_DIRTY_OWNER: [Move; 23] = [
+    (0, Issue(ReadUnique, Slot(0)), DONE),
+    (0, Admit, DONE),
+    (0, Start, DONE),
+    (0, RecvData, DONE),
+    (0, RecvAck, FREE),
+    (0, Store(WordNo(0), 5), DONE),
+    (1, Issue(ReadShared, Slot(0)), DONE),
+    (1, Admit, DONE),
+    (1, Start, DONE),
+    (0, RecvSnp, DONE),
+    (0, RecvSnpResp, DONE),
+    (1, RecvData, DONE),
+    (1, Load(WordNo(0)), Ok(Value(5))),
+    (1, RecvAck, FREE),
+    (0, Store(WordNo(0), 6), Err(Refusal::WrongState)),
+    (0, Drop, Err(Refusal::WrongState)),
+    (2, Issue(ReadNotSharedDirty, Slot(0)), DONE),
+    (2, Admit, DONE),
+    (2, Start, DONE),
+    (0, RecvSnp, DONE),
+    (0, RecvSnpResp, DONE),
+    (2, RecvData, DONE),
+    (2, RecvAck, FREE),
+];
+
+/// All of them.
+pub const RUNS: [Run; 4] = [
+    Run {
+        agents: 2,
+        moves: &DIRTY_DATA_HANDED_ON,
+    },
+    Run {
+        agents: 2,
+        moves: &SNOOP_CROSSES_WRITE_BACK,
+    },
+    Run {
+        agents: 1,
+        moves: &STORE_BEHIND_WRITE_CLEAN,
+    },
+    Run {
+        agents: 3,
+        moves: &SHARED_DIRTY_OWNER,
+    },
+];
+
+#[test]
+fn every_move_is_answered_as_it_says(rt: HostRuntime) {
+    for run in RUNS {
+        let mut slice = slice_of(&rt, rt.alloc(), run.agents, 1, 8);
+        for (agent, step, answer) in run.moves {
+            let done = slice.act(at(*agent, *step));
+            assert_eq!(rt; done, *answer, "agent {agent} does {step:?}");
+        }
+    }
+}
+
+/// The actions of a run, and then the same ones again, of which some are refused.
+fn twice(alloc: Global, run: Run) -> Result<Vec<Action>, AllocError> {
+    let mut actions = Vec::new(alloc);
+    for _ in 0..2 {
+        for (agent, step, _) in run.moves {
+            actions.push(at(*agent, *step))?;
+        }
+    }
+    Ok(actions)
+}
+
+#[test]
+fn a_run_leaves_what_its_actions_leave_in_turn(rt: HostRuntime) -> Result<(), AllocError> {
+    for run in RUNS {
+        let actions = twice(rt.alloc(), run)?;
+        let mut at_once = slice_of(&rt, rt.alloc(), run.agents, 1, 8);
+        let mut in_turn = slice_of(&rt, rt.alloc(), run.agents, 1, 8);
+        let mut answers = Vec::new(rt.alloc());
+        for action in &actions {
+            answers.push(in_turn.act(*action))?;
+        }
+        let done = answers.iter().filter(|answer| answer.is_ok()).count();
+        assert!(rt; done < actions.len());
+        assert_eq!(rt; at_once.run(&actions), done);
+        assert_eq!(rt; at_once.view(LINE), in_turn.view(LINE));
+        let records = at_once.journal().records();
+        assert_eq!(rt; records, in_turn.journal().records());
+        assert_eq!(rt; at_once.run(&[]), 0);
+        assert_eq!(rt; at_once.view(LINE), in_turn.view(LINE));
+    }
+    Ok(())
+}
+
+#[test]
+fn a_run_counts_what_was_done(rt: HostRuntime) -> Result<(), AllocError> {
+    for (run, wanted) in [(RUNS[0], 14), (RUNS[1], 20), (RUNS[2], 12), (RUNS[3], 21)] {
+        let actions = twice(rt.alloc(), run)?;
+        let mut slice = slice_of(&rt, rt.alloc(), run.agents, 1, 8);
+        assert!(rt; run.moves.len() <= actions.len());
+        assert_eq!(rt; slice.run(&actions[..run.moves.len()]), wanted);
+    }
+    Ok(())
+}

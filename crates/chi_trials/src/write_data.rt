@@ -1,0 +1,172 @@
+//! Every cell of `docs/PROTOCOL.md`, "Write data", that a run can reach, and what the home makes of it.
+//!
+//! While a copy-back is pending its copy can't be stored to, and a dirty one becomes clean only by a
+//! sharing snoop. So a WriteBackFull and a WriteCleanFull never find their copy in UC, nor does a
+//! WriteEvictFull find it in UD or SD.
+
+use crate::moves::{
+    LINE, STORED, answers, asks, at, brings, does, slice_of, takes_data, view, waits,
+};
+use chi_flit::Kind::{
+    self, ReadNotSharedDirty, ReadShared, ReadUnique, WriteBackFull, WriteCleanFull, WriteEvictFull,
+};
+use chi_flit::State::{self, I, SC, SD, UC, UD};
+use chi_flit::{DatUp, NO_DATA, Slot, WordNo};
+use chi_homeline::Serving;
+use chi_slice::{Effect, Slice, Step};
+use std::alloc::Global;
+use std::process::Abort;
+
+/// Agent 0's copy-back: its kind, the copy's state as it is issued, and agent 2's read that snoops the
+/// copy while it waits; the copy's state as the data is sent, and after that; who is named in the end, and
+/// whether the flag is set then.
+type CopyBack = (
+    Kind,
+    State,
+    Option<Kind>,
+    State,
+    State,
+    &'static [usize],
+    bool,
+);
+
+const COPY_BACKS: [CopyBack; 16] = [
+    (WriteBackFull, UD, None, UD, I, &[], false),
+    (WriteBackFull, SD, None, SD, I, &[1], false),
+    (WriteBackFull, UD, Some(ReadShared), SD, I, &[2], false),
+    (
+        WriteBackFull,
+        UD,
+        Some(ReadNotSharedDirty),
+        SC,
+        I,
+        &[2],
+        false,
+    ),
+    (
+        WriteBackFull,
+        SD,
+        Some(ReadNotSharedDirty),
+        SC,
+        I,
+        &[1, 2],
+        false,
+    ),
+    (WriteBackFull, UD, Some(ReadUnique), I, I, &[2], true),
+    (WriteEvictFull, UC, None, UC, I, &[], false),
+    (WriteEvictFull, UC, Some(ReadShared), SC, I, &[2], false),
+    (
+        WriteEvictFull,
+        UC,
+        Some(ReadNotSharedDirty),
+        SC,
+        I,
+        &[2],
+        false,
+    ),
+    (WriteEvictFull, UC, Some(ReadUnique), I, I, &[2], true),
+    (WriteCleanFull, UD, None, UD, UC, &[0], true),
+    (WriteCleanFull, SD, None, SD, SC, &[0, 1], false),
+    (WriteCleanFull, UD, Some(ReadShared), SD, SC, &[0, 2], false),
+    (
+        WriteCleanFull,
+        UD,
+        Some(ReadNotSharedDirty),
+        SC,
+        SC,
+        &[0, 2],
+        false,
+    ),
+    (
+        WriteCleanFull,
+        SD,
+        Some(ReadNotSharedDirty),
+        SC,
+        SC,
+        &[0, 1, 2],
+        false,
+    ),
+    (WriteCleanFull, UD, Some(ReadUnique), I, I, &[2], true),
+];
+
+/// Agent 0's copy is in the state; its words are `STORED`, and in UC the memory has them too.
+fn holds(rt: &impl Abort, slice: &mut Slice<Global>, held: State) {
+    if matches!(held, UC) {
+        brings(rt, slice, UD);
+        asks(rt, slice, 0, WriteCleanFull);
+        does(rt, slice, 0, Step::RecvDbid);
+        does(rt, slice, 0, Step::RecvWrData);
+    } else {
+        brings(rt, slice, held);
+    }
+}
+
+/// Agent 0's copy-back is asked for its data, and the read that crosses it is over.
+fn is_asked_for_data(
+    rt: &impl Abort,
+    slice: &mut Slice<Global>,
+    kind: Kind,
+    held: State,
+    crossed_by: Option<Kind>,
+) {
+    holds(rt, slice, held);
+    waits(rt, slice, 0, kind);
+    if let Some(read) = crossed_by {
+        asks(rt, slice, 2, read);
+        answers(rt, slice, 0);
+        takes_data(rt, slice, 2);
+    }
+    does(rt, slice, 0, Step::Start);
+}
+
+/// Agent 0 sends its write data by the table.
+fn sends(rt: &impl Abort, slice: &mut Slice<Global>, form: State, left: State) {
+    let mut want = view(rt, slice);
+    assert_eq!(rt; want.copies[0].state, form);
+    assert_eq!(rt; want.memory, if form.is_dirty() { NO_DATA } else { STORED });
+    let words = if matches!(form, I) { NO_DATA } else { STORED };
+    want.copies[0].state = left;
+    want.pending[0] = None;
+    want.flits[0].rsp_down = None;
+    want.flits[0].dat_up = Some(DatUp::CopyBackWrData(form, words));
+    does(rt, slice, 0, Step::RecvDbid);
+    assert_eq!(rt; view(rt, slice), want);
+}
+
+/// The home takes agent 0's write data: the dirty words are in memory then.
+fn takes(rt: &impl Abort, slice: &mut Slice<Global>, named: &[usize], unique: bool) {
+    let mut want = view(rt, slice);
+    want.flits[0].dat_up = None;
+    want.memory = STORED;
+    for agent in 0..8 {
+        want.named[agent] = named.contains(&agent);
+    }
+    want.unique = unique;
+    want.owner = None;
+    want.serving = Serving::Idle;
+    let done = slice.act(at(0, Step::RecvWrData));
+    assert_eq!(rt; done, Ok(Effect::Completed(Slot(0))));
+    assert_eq!(rt; view(rt, slice), want);
+}
+
+#[test]
+fn each_state_sends_its_form_of_write_data(rt: HostRuntime) {
+    for (kind, held, crossed_by, form, left, named, unique) in COPY_BACKS {
+        let mut slice = slice_of(&rt, rt.alloc(), 3, 1, 16);
+        is_asked_for_data(&rt, &mut slice, kind, held, crossed_by);
+        sends(&rt, &mut slice, form, left);
+        takes(&rt, &mut slice, named, unique);
+    }
+}
+
+#[test]
+fn a_store_behind_the_write_data_leaves_it_older(rt: HostRuntime) {
+    let mut slice = slice_of(&rt, rt.alloc(), 3, 1, 16);
+    is_asked_for_data(&rt, &mut slice, WriteCleanFull, UD, None);
+    does(&rt, &mut slice, 0, Step::RecvDbid);
+    does(&rt, &mut slice, 0, Step::Store(WordNo(3), 9));
+    takes(&rt, &mut slice, &[0], true);
+    assert_eq!(rt; view(&rt, &slice).copies[0].state, UD);
+    assert_eq!(rt; view(&rt, &slice).last, [0, 0, 0, 9, 0, 0, 0, 0]);
+    assert_eq!(rt; slice.view(LINE).map(|line| line.memory), Ok(STORED));
+}
