@@ -1,5 +1,5 @@
 -- What holds of all agents below a number, as a test of one after the other finds it.
-use Rattle.std.proofs.Common.{◌≡◌, ◌≢◌, ℕ, ◌+◌, ◌<◌, ◌==◌, Bool, true, false, ◌&&◌, ◌||◌, ◌↔◌, refl, sym, subst, arith, rules}
+use Rattle.std.proofs.Common.{◌≡◌, ℕ, ◌+◌, ◌<◌, ◌==◌, Bool, true, false, ◌&&◌, ◌↔◌, refl, sym, subst, arith}
 use Rattle.std.specs.Prelude.{IsTrue}
 
 abbrev pub AllBelow : (ℕ → Type 0) → ℕ → Type 0

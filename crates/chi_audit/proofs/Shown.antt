@@ -1,18 +1,16 @@
 -- The plain data of a line is coherent exactly where the line is.
-use Rattle.std.proofs.Common.{◌≡◌, ◌≢◌, ℕ, ◌<◌, ◌==◌, List, Bool, true, false, ◌↔◌, map, length, get_or, refl, sym, ◌∙◌, ap, subst, arith}
-use Rattle.std.proofs.lemmas.List.{length-map, get_or-map}
+use Rattle.std.proofs.Common.{◌≡◌, ◌≢◌, ℕ, ◌<◌, ◌==◌, List, Bool, true, false, ◌↔◌, length, refl, sym, ◌∙◌, ap, subst, arith}
+use Rattle.std.proofs.lemmas.List.{get_or-map}
 use Rattle.std.specs.Prelude.{IsTrue}
 use Rattle.chi_flit.specs.declared.state.State.{State}
-use Rattle.chi_flit.specs.declared.state.State.TheVariants.{I, SD}
 use Rattle.chi_flit.specs.State.{is_dirty, is_unique, is_valid}
 use Rattle.chi_rnline.specs.Rn.{no_line}
-use Rattle.chi_slice.specs.LineState.{LineState, rn_of}
-use Rattle.chi_slice.specs.Coherent.{Coherent}
-use Rattle.chi_slice.specs.Kept.{IsClean}
-use Rattle.chi_slice.specs.View.{copy_shown, shown}
-use Rattle.chi_slice.specs.declared.view.CopyView.{CopyView}
-use Rattle.chi_slice.specs.declared.view.LineView.{LineView}
-use Rattle.chi_audit.specs.Verdict.{IsAgentCoherent, IsCoherentView, IsQuiet, IsQuietAgent, MayStandBeside, copy_of, no_copy}
+use Rattle.chi_line.specs.LineState.{LineState, rn_of}
+use Rattle.chi_line.specs.Coherent.{Coherent}
+use Rattle.chi_line.specs.View.{copy_shown, shown}
+use Rattle.chi_line.specs.declared.view.CopyView.{CopyView}
+use Rattle.chi_line.specs.declared.view.LineView.{LineView}
+use Rattle.chi_audit.specs.Verdict.{IsCoherentView, copy_of, no_copy}
 
 at : (s : LineState) (last : List ℕ) (n : ℕ) → length s.requesters ≡ 8 → n < 8 → copy_of (shown s last) n ≡ copy_shown (rn_of s n)
 at s last n eight low = get_or-map copy_shown s.requesters n no_line no_copy (subst (λ (m : ℕ). n < m) (sym eight) low)

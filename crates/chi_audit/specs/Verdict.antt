@@ -1,14 +1,14 @@
 -- Coherence of a line's plain data (Arm IHI 0050 B, chapter 4; docs/PROTOCOL.md, "Coherence").
-use Rattle.std.specs.Prelude.{◌≡◌, ◌≢◌, ℕ, ◌<◌, List, [], true, false}
+use Rattle.std.specs.Prelude.{◌≡◌, ◌≢◌, ℕ, ◌<◌, [], true, false}
 use Rattle.std.specs.List.{slice_index_or}
 use Rattle.chi_flit.specs.declared.state.State.{State}
 use Rattle.chi_flit.specs.declared.state.State.TheVariants.{I, SD}
 use Rattle.chi_flit.specs.State.{is_dirty, is_unique, is_valid}
 use Rattle.chi_wires.specs.declared.cells.Cells.{Cells}
 use Rattle.chi_wires.specs.Cell.{no_flits}
-use Rattle.chi_slice.specs.declared.view.CopyView.{CopyView}
-use Rattle.chi_slice.specs.declared.view.LineView.{LineView}
-use Rattle.chi_slice.specs.Kept.{passes_dirty}
+use Rattle.chi_line.specs.declared.view.CopyView.{CopyView}
+use Rattle.chi_line.specs.declared.view.LineView.{LineView}
+use Rattle.chi_line.specs.Kept.{passes_dirty}
 
 abbrev pub no_copy : CopyView
 no_copy = record { state = I; words = [] }

@@ -1,8 +1,10 @@
-//! The verdict on a line: whether its plain data is coherent.
+//! The verdicts on a line and on a slice: whether they are coherent.
 #![tactic(auto)]
 
+mod slices;
 #[cfg(test)]
 mod tests;
 mod verdict;
 
+pub use slices::check_slice;
 pub use verdict::check;

@@ -1,6 +1,6 @@
 //! Verdicts on plain data, against `docs/PROTOCOL.md`, "Coherence".
 
-use crate::check;
+use crate::{check, check_slice};
 use chi_flit::{Action, Agent, DatUp, Kind, Line, NO_DATA, Slot, State, Step, WordNo};
 use chi_homeline::Serving;
 use chi_slice::{Config, CopyView, LineView, Slice};
@@ -114,5 +114,15 @@ fn passes_what_a_slice_shows(rt: HostRuntime) {
         assert!(rt; done.is_ok());
         let view = slice.view(line).expect(&rt, "a line of the slice");
         assert!(rt; check(&view));
+        assert!(rt; check_slice(&slice));
+    }
+}
+
+#[test]
+fn passes_a_slice_that_has_some_of_the_lines(rt: HostRuntime) {
+    let config = Config::new(1, 5, 2, 1, 1, 4).expect(&rt, "sizes in their limits");
+    for index in 0..2 {
+        let slice = Slice::new(rt.alloc(), &config, index).expect(&rt, "memory for a slice");
+        assert!(rt; check_slice(&slice));
     }
 }

@@ -1,14 +1,14 @@
 //! Whether the plain data of a line is coherent.
 
 ghost use Rattle.std.specs.Prelude.{◌≡◌, ◌≢◌, ◌↔◌, ℕ, List, ◌<◌, IsTrue, length, true};
-ghost use Rattle.chi_slice.specs.Coherent.{Coherent};
-ghost use Rattle.chi_slice.specs.Kept.{passes_dirty};
-ghost use Rattle.chi_slice.specs.LineState.{LineState};
-ghost use Rattle.chi_slice.specs.View.{shown};
+ghost use Rattle.chi_line.specs.Coherent.{Coherent};
+ghost use Rattle.chi_line.specs.Kept.{passes_dirty};
+ghost use Rattle.chi_line.specs.LineState.{LineState};
+ghost use Rattle.chi_line.specs.View.{shown};
 ghost use Rattle.chi_audit.specs.Verdict.{IsAgentCoherent, IsCoherentView, IsQuiet, IsQuietAgent, MayStandBeside, copy_of};
 
 use chi_flit::{DatUp, State};
-use chi_slice::{CopyView, LineView};
+use chi_line::{CopyView, LineView};
 use chi_wires::Cells;
 
 /// Whether the plain data of a line is coherent: a unique copy stands alone, each holder is named and has

@@ -111,13 +111,9 @@ fn resent_with_a_credit(rt: HostRuntime) -> Result<(), Fail> {
     let retried = record(SlotState::Retried, CreditType::T0, false);
     assert_eq!(rt; account.slot(Slot(3)), retried);
     assert_eq!(rt; account.can_resend(CreditType::T0, 0), false);
-
-    assert_eq!(rt;
-        zero.release(&tracker, Entry(0)),
-        Released::Granted(Agent(1))
-    );
-    let seen = one.see(&tracker);
-    assert_eq!(rt; seen, [1, 0, 0, 0]);
+    let released = zero.release(&tracker, Entry(0));
+    assert_eq!(rt; released, Released::Granted(Agent(1)));
+    assert_eq!(rt; one.see(&tracker), [1, 0, 0, 0]);
     assert_eq!(rt; account.can_resend(CreditType::T0, 1), true);
 
     account.resend(Slot(3));

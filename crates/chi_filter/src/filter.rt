@@ -3,6 +3,7 @@
 ghost use Rattle.std.specs.Prelude.{◌≡◌, ◌<◌, true};
 ghost use Rattle.chi_filter.specs.Filter.{FilterState, IsFilter, added, empty_filter, has_any, is_named, only_named, others_than, owner_ended, owner_made, owner_set, owner_without, removed, shared};
 
+use crate::sets::{only_set, others_than};
 use chi_flit::Agent;
 use std::marker::Model;
 
@@ -29,11 +30,7 @@ fn owner_set(owner: Option<Agent>) -> [bool; 8]
     ensures { result ≡ owner_set owner }
 {
     match owner {
-        Some(owner) if owner.0 < 8 => {
-            let mut owners = [false; 8];
-            owners[owner.0 as usize] = true;
-            owners
-        }
+        Some(owner) if owner.0 < 8 => only_set(owner),
         Some(_) | None => [false; 8],
     }
 }
@@ -85,7 +82,7 @@ impl Filter {
         requires { agent.0 < 8 }
         ensures { self.new ≡ removed self.old agent.0 }
     {
-        self.named[agent.0 as usize] = false;
+        self.named = others_than(self.named, agent);
         self.unique = self.unique && has_any(&self.named);
         self.owner = owner_without(self.owner, agent);
     }
@@ -95,9 +92,7 @@ impl Filter {
         requires { agent.0 < 8 }
         ensures { self.new ≡ only_named agent.0 }
     {
-        let mut named = [false; 8];
-        named[agent.0 as usize] = true;
-        self.named = named;
+        self.named = only_set(agent);
         self.unique = true;
         self.owner = None;
     }
@@ -114,9 +109,7 @@ impl Filter {
         requires { agent.0 < 8 }
         ensures { result ≡ others_than agent.0 self.now.named }
     {
-        let mut others = self.named;
-        others[agent.0 as usize] = false;
-        others
+        others_than(self.named, agent)
     }
 
     /// The owner, where it is another agent, as a mark for each agent number.
@@ -124,9 +117,7 @@ impl Filter {
         requires { agent.0 < 8 }
         ensures { result ≡ others_than agent.0 (owner_set self.now.owner) }
     {
-        let mut owners = owner_set(self.owner);
-        owners[agent.0 as usize] = false;
-        owners
+        others_than(owner_set(self.owner), agent)
     }
 
     /// Everybody named, a mark for each agent number.

@@ -2,6 +2,7 @@
 #![tactic(auto)]
 
 mod filter;
+mod sets;
 #[cfg(test)]
 mod tests;
 

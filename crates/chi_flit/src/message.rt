@@ -53,8 +53,8 @@ pub enum RspDown {
 /// The data of a read: `CompData_UC` where `unique`, else `CompData_SC`.
 #[derive(Clone, Copy, Debug, PartialEq, Eq)]
 pub struct CompData {
-    pub unique: bool,
     pub words: Data,
+    pub unique: bool,
 }
 
 /// A response without data to the home.

@@ -152,7 +152,7 @@ fn words_print_their_names(rt: HostRuntime) -> Result<(), Fail> {
 }
 
 #[test]
-fn messages_to_a_requester_print(rt: HostRuntime) -> Result<(), Fail> {
+fn snoops_and_data_to_a_requester_print(rt: HostRuntime) -> Result<(), Fail> {
     let shared = CompData {
         unique: false,
         words: WORDS,
@@ -174,6 +174,19 @@ fn messages_to_a_requester_print(rt: HostRuntime) -> Result<(), Fail> {
             "SnpCleanInvalid",
         ),
         (Msg::Snp(Snoop::SnpShared), Channel::Snp, "SnpShared"),
+        (Msg::DatDown(shared), Channel::DatDown, "CompData_SC"),
+        (Msg::DatDown(unique), Channel::DatDown, "CompData_UC"),
+    ];
+    for (message, channel, text) in table {
+        assert_eq!(rt; message.to_string(rt.alloc())?.as_str(), text);
+        assert_eq!(rt; message.channel(), channel, "{message}");
+    }
+    Ok(())
+}
+
+#[test]
+fn responses_to_a_requester_print(rt: HostRuntime) -> Result<(), Fail> {
+    let table = [
         (
             Msg::RspDown(RspDown::RetryAck(CreditType::T0)),
             Channel::RspDown,
@@ -201,8 +214,6 @@ fn messages_to_a_requester_print(rt: HostRuntime) -> Result<(), Fail> {
             Channel::RspDown,
             "CompDBIDResp",
         ),
-        (Msg::DatDown(shared), Channel::DatDown, "CompData_SC"),
-        (Msg::DatDown(unique), Channel::DatDown, "CompData_UC"),
     ];
     for (message, channel, text) in table {
         assert_eq!(rt; message.to_string(rt.alloc())?.as_str(), text);

@@ -56,6 +56,30 @@ impl HomeLine {
         self.waiting[agent.0 as usize] = Some(request);
     }
 
+    /// The agent's waiting request, where it may be started.
+    fn to_start(&self, agent: Agent) -> Result<Waiting, Refusal>
+        requires { agent.0 < 8 }
+        ensures refusal { refusal_of result ≡ start_refusal self.now agent.0 }
+        ensures request { IfOk result (λ request. waiting_of self.now agent.0 ≡ Some request) }
+    {
+        let Some(request) = self.waiting[agent.0 as usize] else {
+            return Err(Refusal::NotWaiting);
+        };
+        if !matches!(self.serving, Serving::Idle) {
+            return Err(Refusal::LineBusy);
+        }
+        Ok(request)
+    }
+
+    /// The refusal that `start` would answer.
+    /// Source: `docs/PROTOCOL.md`, "Start".
+    pub fn why_no_start(&self, agent: Agent) -> Option<Refusal>
+        requires { agent.0 < 8 }
+        ensures { result ≡ start_refusal self.now agent.0 }
+    {
+        self.to_start(agent).err()
+    }
+
     /// Begins to serve the agent's waiting request, which waits no more. Answers what is to be sent.
     ///
     /// Refused 6 (NotWaiting) where the agent doesn't wait, then 5 (LineBusy) where the line is served;
@@ -68,12 +92,7 @@ impl HomeLine {
         ensures ok { IfOk result (λ _. (request : Waiting) → waiting_of self.old agent.0 ≡ Some request → self.new ≡ started self.old agent request) }
         ensures err { OnErr result (self.new ≡ self.old) }
     {
-        let Some(request) = self.waiting[agent.0 as usize] else {
-            return Err(Refusal::NotWaiting);
-        };
-        if !matches!(self.serving, Serving::Idle) {
-            return Err(Refusal::LineBusy);
-        }
+        let request = self.to_start(agent)?;
         self.waiting[agent.0 as usize] = None;
         Ok(self.take_up(agent, request))
     }

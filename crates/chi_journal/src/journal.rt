@@ -1,6 +1,6 @@
 //! A journal of loads and stores with a limit.
 
-ghost use Rattle.std.specs.Prelude.{◌≡◌, ◌<◌, ◌↔◌, length, IfOk, OnErr, IsTrue};
+ghost use Rattle.std.specs.Prelude.{◌≡◌, ◌<◌, ◌≤◌, ◌↔◌, length, IfOk, OnErr, IsTrue};
 ghost use Rattle.chi_flit.specs.Refusal.{refusal_of};
 ghost use Rattle.chi_journal.specs.Record.{record_agent, record_line, record_word};
 ghost use Rattle.chi_journal.specs.Journal.{IsLegal, Log, append_refusal, appended, is_full, last_value, last_words, loads_of, opening_log, part_of, stores_of};
@@ -114,10 +114,11 @@ impl<A: Allocator> Journal<A> {
         self.totals.stores
     }
 
-    /// How many records of the agent there are.
+    /// How many records of the agent there are. All records are no more than the limit.
     pub fn part_len(&self, agent: Agent) -> u32
         requires { agent.0 < 8 }
-        ensures { result ≡ length (part_of self.now.entries agent.0) }
+        ensures is { result ≡ length (part_of self.now.entries agent.0) }
+        ensures within { length self.now.entries ≤ self.now.limit }
     {
         self.totals.parts[usize::from(agent.0)]
     }

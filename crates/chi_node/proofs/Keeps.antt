@@ -136,7 +136,7 @@ owed_due a b p q t grows retries spent returned keeps = record {
 }
 
 -- where one more slot can be due a credit, fewer than 8 credits are due
-credit_below : (ty : CreditType) → credit_number ty < 4
+pub credit_below : (ty : CreditType) → credit_number ty < 4
 credit_below T0 = omega arith
 credit_below T1 = omega arith
 credit_below T2 = omega arith

@@ -1,2 +1,10 @@
 pub mod Keeps
 pub mod Openings
+pub mod Told
+pub mod Records
+pub mod Agreement
+pub mod Stepping
+pub mod StepCalls
+pub mod CallArrivals
+pub mod Same
+pub mod OpeningAgrees

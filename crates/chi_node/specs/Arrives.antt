@@ -7,7 +7,7 @@ use Rattle.chi_tracker.specs.Views.{has}
 use Rattle.chi_tracker.specs.Steps.{spends}
 use Rattle.chi_tracker.specs.Calls.{into_hand, owed_one, scanned, IsLowestSeen}
 use Rattle.chi_credit.specs.declared.slot.SlotState.TheVariants as states
-use Rattle.chi_credit.specs.Account.{moved, state_at, type_at}
+use Rattle.chi_credit.specs.Account.{moved, slot_at, state_at, type_at}
 use Rattle.chi_node.specs.declared.answers.Arrived.{Arrived}
 use Rattle.chi_node.specs.declared.answers.Arrived.TheVariants.{Admitted, Retried}
 use Rattle.chi_node.specs.Requester.{RequesterState, with_both}
@@ -16,7 +16,7 @@ use Rattle.chi_node.specs.Requester.{RequesterState, with_both}
 -- where each entry of its type was found claimed; a resent one is admitted with the entry of a credit
 abbrev pub ArrivesFirst : ℕ → Arrived → RequesterState → RequesterState → Type 0
 ArrivesFirst s (Admitted e) old new =
-    IsOf old.port.shape (type_at old.slots s) e.0 × (has e.0 old.port ≡ 0)
+    ((slot_at old.slots s).answered ≡ false) × IsOf old.port.shape (type_at old.slots s) e.0 × (has e.0 old.port ≡ 0)
     × (new ≡ with_both (into_hand e.0 (scanned (type_at old.slots s) (e.0 - low old.port.shape (type_at old.slots s)) old.port)) (moved old.slots s (states.Admitted e)) old)
 ArrivesFirst s (Retried ty) old new =
     (credit_number ty ≡ type_at old.slots s) × ((e : ℕ) → IsOf old.port.shape (type_at old.slots s) e → bit_at new.port.found e ≡ 1)
@@ -24,7 +24,7 @@ ArrivesFirst s (Retried ty) old new =
 
 abbrev pub ArrivesResent : ℕ → Arrived → RequesterState → RequesterState → Type 0
 ArrivesResent s (Admitted e) old new =
-    IsLowestSeen old.port (type_at old.slots s) e.0 × (has e.0 old.port ≡ 0)
+    ((slot_at old.slots s).answered ≡ false) × IsLowestSeen old.port (type_at old.slots s) e.0 × (has e.0 old.port ≡ 0)
     × (new ≡ with_both (spends (type_at old.slots s) e.0 old.port) (moved old.slots s (states.Admitted e)) old)
 ArrivesResent s (Retried ty) old new = ⊥
 

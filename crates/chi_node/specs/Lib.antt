@@ -2,3 +2,5 @@ pub mod Requester
 pub mod Parts
 pub mod Followed
 pub mod Arrives
+pub mod Agree
+pub mod Calls

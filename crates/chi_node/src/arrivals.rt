@@ -1,6 +1,6 @@
 //! What arrivals and completions do to a requester: these take entries to hand and release them.
 
-ghost use Rattle.std.specs.Prelude.{◌≡◌, ℕ, ◌<◌, ◌-◌, IfNone, IfSome, slice_set, true};
+ghost use Rattle.std.specs.Prelude.{◌≡◌, ℕ, ◌<◌, ◌-◌, IfNone, IfSome, slice_set, false, true};
 ghost use Rattle.std.specs.Int.{bit_at};
 ghost use Rattle.chi_tracker.specs.Shape.{low, size, IsOf};
 ghost use Rattle.chi_tracker.specs.Views.{has};
@@ -32,6 +32,7 @@ impl Requester {
         requires slot { slot.0 < 8 }
         requires sent { state_at self.old.slots slot.0 ≡ SlotState.Sent }
         requires entries { 0 < size self.old.port.shape (type_at self.old.slots slot.0) }
+        ensures unanswered { IfSome result (λ _. (slot_at self.old.slots slot.0).answered ≡ false) }
         ensures claimed { IfSome result (λ e. IsOf self.old.port.shape (type_at self.old.slots slot.0) e.0 × (has e.0 self.old.port ≡ 0)) }
         ensures some { IfSome result (λ e. self.new ≡ with_both (into_hand e.0 (scanned (type_at self.old.slots slot.0) (e.0 - low self.old.port.shape (type_at self.old.slots slot.0)) self.old.port)) (moved self.old.slots slot.0 (SlotState.Admitted e)) self.old) }
         ensures found { IfNone result ((e : ℕ) → IsOf self.old.port.shape (type_at self.old.slots slot.0) e → bit_at self.new.port.found e ≡ 1) }
@@ -56,6 +57,7 @@ impl Requester {
         requires table { self.old.table ≡ tracker.now.table }
         requires slot { slot.0 < 8 }
         requires riding { state_at self.old.slots slot.0 ≡ SlotState.Riding }
+        ensures unanswered { (slot_at self.old.slots slot.0).answered ≡ false }
         ensures lowest { IsLowestSeen self.old.port (type_at self.old.slots slot.0) result.0 }
         ensures held { has result.0 self.old.port ≡ 0 }
         ensures after { self.new ≡ with_both (spends (type_at self.old.slots slot.0) result.0 self.old.port) (moved self.old.slots slot.0 (SlotState.Admitted result)) self.old }

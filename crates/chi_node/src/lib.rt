@@ -4,16 +4,22 @@
 //! Source: `docs/PROTOCOL.md`, "A requester and its calls".
 #![tactic(auto)]
 
+mod agree;
 mod answers;
 mod arrivals;
+mod calls;
 mod moves;
 mod opening;
 mod requester;
 mod steps;
 
+pub use agree::agrees;
 pub use answers::{Arrived, Stepped};
+pub use calls::{arrive_on, step_on};
 pub use opening::parts;
 pub use requester::Requester;
 
+#[cfg(test)]
+mod call_tests;
 #[cfg(test)]
 mod tests;

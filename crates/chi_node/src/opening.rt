@@ -3,7 +3,7 @@
 ghost use Rattle.std.specs.Prelude.{◌≡◌, ℕ, ◌<◌, nat_lt, IfOk};
 ghost use Rattle.chi_tracker.specs.Shape.{size};
 ghost use Rattle.chi_tracker.specs.Calls.{shape_of};
-ghost use Rattle.chi_node.specs.Parts.{is_of_profile, opening_requesters, opening_slices};
+ghost use Rattle.chi_node.specs.Parts.{AllAgree, is_of_profile, opening_requesters, opening_slices};
 
 use crate::requester::Requester;
 use arrayvec::ArrayVec;
@@ -33,6 +33,7 @@ fn requesters<A: Allocator>(
     ensures tracker { IfOk result (λ made. made.0.shape ≡ shape_of config.now.entries config.now.agents) }
     ensures types { IfOk result (λ made. (t : ℕ) → t < 4 → nat_lt 0 (size made.0.shape t) ≡ is_of_profile config.now.profile t) }
     ensures requesters { IfOk result (λ made. made.1.items ≡ opening_requesters made.0.table made.0.shape config.now.agents) }
+    ensures agree { IfOk result (λ made. AllAgree config.now made.0.table made.0.shape) }
 {
     let (entries, agents) = (config.entries(), config.agents());
     let (tracker, mut ports) = Tracker::new(alloc, entries, agents)?;
@@ -45,8 +46,9 @@ fn requesters<A: Allocator>(
 }
 
 /// The slices of a node of that size in rising order, each in its opening state; its tracker, with all
-/// entries free and entries of exactly the profile's types; and its requesters in rising order, each with its port, free slots and counts of 0. All
-/// memory that they ever need is found here; refused where it runs out.
+/// entries free and entries of exactly the profile's types; and its requesters in rising order, each with
+/// its port, free slots and counts of 0, which agree with all the slices. All memory that they ever need is
+/// found here; refused where it runs out.
 /// Source: `docs/PROTOCOL.md`, "A requester and its calls".
 pub fn parts<A: Allocator + Copy>(
     alloc: A,
@@ -56,6 +58,7 @@ pub fn parts<A: Allocator + Copy>(
     ensures tracker { IfOk result (λ made. made.1.shape ≡ shape_of config.now.entries config.now.agents) }
     ensures types { IfOk result (λ made. (t : ℕ) → t < 4 → nat_lt 0 (size made.1.shape t) ≡ is_of_profile config.now.profile t) }
     ensures requesters { IfOk result (λ made. made.2.items ≡ opening_requesters made.1.table made.1.shape config.now.agents) }
+    ensures agree { IfOk result (λ made. AllAgree config.now made.1.table made.1.shape) }
 {
     let slices = slices(alloc, config)?;
     let (tracker, requesters) = requesters(alloc, config)?;

@@ -16,11 +16,12 @@ use Rattle.chi_homeline.specs.declared.serving.Serving.{Serving}
 use Rattle.chi_homeline.specs.declared.serving.Serving.TheVariants.{Idle, Snooping, AwaitingCompAck, AwaitingWriteData}
 use Rattle.chi_wires.specs.declared.cells.Cells.{Cells}
 use Rattle.chi_wires.specs.Cell.{cell_of}
-use Rattle.chi_slice.specs.declared.view.CopyView.{CopyView}
-use Rattle.chi_slice.specs.declared.view.LineView.{LineView}
+use Rattle.chi_line.specs.declared.view.CopyView.{CopyView}
+use Rattle.chi_line.specs.declared.view.LineView.{LineView}
 use Rattle.chi_reply.specs.declared.replies.Reply.{Reply}
 use Rattle.chi_reply.specs.declared.replies.Reply.TheVariants.{Done, Value, Admitted, NoEntry, Completed, Refused}
 use Rattle.chi_reply.specs.declared.totals.Totals.{Totals}
+use Rattle.chi_reply.specs.declared.audits.Audit.{Audit}
 
 -- what a command that does something answers
 abbrev pub reply_text : Reply → List ℕ
@@ -114,3 +115,12 @@ totals_text totals =
     ++ (codes " hand" ++ (counts_text totals.profile totals.hand
     ++ (codes " promised" ++ (counts_text totals.profile totals.promised
     ++ (codes " owed" ++ counts_text totals.profile totals.owed))))))
+
+-- what an audit finds
+abbrev pub verdict_text : Bool → List ℕ
+verdict_text true = codes "coherent"
+verdict_text false = codes "broken"
+
+-- `audit`
+abbrev pub audit_text : Audit → List ℕ
+audit_text audit = codes "ok loads " ++ (decimal audit.loads ++ (codes " stores " ++ (decimal audit.stores ++ (codes " " ++ verdict_text audit.coherent))))

@@ -4,6 +4,7 @@
 #![tactic(auto)]
 
 mod agents;
+mod audits;
 mod copies;
 mod flights;
 mod numbers;
@@ -11,6 +12,7 @@ mod replies;
 mod shown;
 mod totals;
 
+pub use audits::Audit;
 pub use flights::InFlight;
 pub use replies::Reply;
 pub use shown::Shown;

@@ -7,7 +7,7 @@ use crate::agents::{Agents, members};
 use crate::copies::{States, first_copies};
 use crate::numbers::Words;
 use chi_homeline::{Serving, Waiting};
-use chi_slice::LineView;
+use chi_line::LineView;
 use std::fmt;
 
 /// A line, with the copies of so many agents, at most all eight. It prints as the answer of `show`,
@@ -74,7 +74,7 @@ fn has_waiting(requests: &[Option<Waiting>; 8]) -> [bool; 8]
 mod tests {
     use super::*;
     use chi_flit::{Agent, Kind, NO_DATA, Slot, State};
-    use chi_slice::CopyView;
+    use chi_line::CopyView;
     use chi_wires::Cells;
     use std::test::Fail;
 

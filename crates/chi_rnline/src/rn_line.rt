@@ -59,6 +59,20 @@ impl RnLine {
         }
     }
 
+    /// The refusal that `issue` would answer to a request of the kind.
+    /// Source: `docs/PROTOCOL.md`, "The actions", Issue.
+    pub fn why_no_issue(&self, kind: Kind) -> Option<Refusal>
+        ensures { result ≡ issue_refusal self.now kind }
+    {
+        if self.pending.is_some() {
+            return Some(Refusal::Pending);
+        }
+        if !kind.needs(self.state) {
+            return Some(Refusal::WrongState);
+        }
+        None
+    }
+
     /// Issues a request: it is pending, in phase Sent, and an Evict gives up the copy at once. Answers
     /// the request that is to be put, with AllowRetry.
     ///
@@ -71,11 +85,8 @@ impl RnLine {
         ensures ok { IfOk result (λ _. self.new ≡ issued self.old kind slot) }
         ensures err { OnErr result (self.new ≡ self.old) }
     {
-        if self.pending.is_some() {
-            return Err(Refusal::Pending);
-        }
-        if !kind.needs(self.state) {
-            return Err(Refusal::WrongState);
+        if let Some(refusal) = self.why_no_issue(kind) {
+            return Err(refusal);
         }
         self.pending = Some(Pending {
             kind,
@@ -127,6 +138,17 @@ impl RnLine {
         self.pending
     }
 
+    /// The refusal that `load` would answer.
+    /// Source: `docs/PROTOCOL.md`, "The actions", Load.
+    pub fn why_no_load(&self) -> Option<Refusal>
+        ensures { result ≡ load_refusal self.now }
+    {
+        if !self.state.is_valid() {
+            return Some(Refusal::WrongState);
+        }
+        None
+    }
+
     /// Loads the word of the copy.
     ///
     /// Refused 2 (WrongState) where there is no copy.
@@ -136,8 +158,8 @@ impl RnLine {
         ensures refusal { refusal_of result ≡ load_refusal self.now }
         ensures value { IfOk result (λ value. value ≡ word_of self.now word.0) }
     {
-        if !self.state.is_valid() {
-            return Err(Refusal::WrongState);
+        if let Some(refusal) = self.why_no_load() {
+            return Err(refusal);
         }
         Ok(self.words[usize::from(word.0)])
     }
@@ -172,6 +194,18 @@ impl RnLine {
         Ok(())
     }
 
+    /// The refusal that `drop_clean` would answer.
+    /// Source: `docs/PROTOCOL.md`, "The actions", Drop.
+    pub fn why_no_drop(&self) -> Option<Refusal>
+        ensures { result ≡ drop_refusal self.now }
+    {
+        match self.pending {
+            Some(_) => Some(Refusal::Pending),
+            None if is_clean_copy(self.state) => None,
+            None => Some(Refusal::WrongState),
+        }
+    }
+
     /// Gives up the copy without a message: its state is `I`.
     ///
     /// Refused 3 (Pending) where a request is pending, then 2 (WrongState) where the copy isn't `SC` or
@@ -182,14 +216,11 @@ impl RnLine {
         ensures ok { IfOk result (λ _. self.new ≡ dropped self.old) }
         ensures err { OnErr result (self.new ≡ self.old) }
     {
-        match (self.pending, is_clean_copy(self.state)) {
-            (Some(_), _) => Err(Refusal::Pending),
-            (None, false) => Err(Refusal::WrongState),
-            (None, true) => {
-                self.state = State::I;
-                Ok(())
-            }
+        if let Some(refusal) = self.why_no_drop() {
+            return Err(refusal);
         }
+        self.state = State::I;
+        Ok(())
     }
 
     /// Answers a snoop: the copy is in the answer's state, and its data and the pending request stay.
@@ -217,6 +248,33 @@ impl RnLine {
         }
     }
 
+    /// The request that may be sent again.
+    fn to_resend(&self) -> Result<Pending, Refusal>
+        ensures refusal { refusal_of result ≡ resend_refusal self.now }
+        ensures request { IfOk result (λ request. self.now.pending ≡ Some request) }
+    {
+        let Some(request) = self.pending else {
+            return Err(Refusal::NothingPending);
+        };
+        match request.phase {
+            Phase::Sent => Err(Refusal::NothingPending),
+            Phase::Retried => {
+                if !may_resend(request.kind, self.state) {
+                    return Err(Refusal::WrongState);
+                }
+                Ok(request)
+            }
+        }
+    }
+
+    /// The refusal that `resend` would answer.
+    /// Source: `docs/PROTOCOL.md`, "The actions", Resend.
+    pub fn why_no_resend(&self) -> Option<Refusal>
+        ensures { result ≡ resend_refusal self.now }
+    {
+        self.to_resend().err()
+    }
+
     /// Sends a retried request again, with a credit: it is in phase Sent. Answers the request that is to
     /// be put, without AllowRetry.
     ///
@@ -229,19 +287,7 @@ impl RnLine {
         ensures ok { IfOk result (λ _. self.new ≡ resent self.old) }
         ensures err { OnErr result (self.new ≡ self.old) }
     {
-        let Some(
-            Pending {
-                kind,
-                slot,
-                phase: Phase::Retried,
-            },
-        ) = self.pending
-        else {
-            return Err(Refusal::NothingPending);
-        };
-        if !may_resend(kind, self.state) {
-            return Err(Refusal::WrongState);
-        }
+        let Pending { kind, slot, .. } = self.to_resend()?;
         self.pending = Some(Pending {
             kind,
             slot,
@@ -254,6 +300,27 @@ impl RnLine {
         }))
     }
 
+    /// The refusal that `cancel` would answer.
+    /// Source: `docs/PROTOCOL.md`, "The actions", Cancel.
+    pub fn why_no_cancel(&self) -> Option<Refusal>
+        ensures { result ≡ cancel_refusal self.now }
+    {
+        let Some(
+            Pending {
+                kind,
+                phase: Phase::Retried,
+                ..
+            },
+        ) = self.pending
+        else {
+            return Some(Refusal::NothingPending);
+        };
+        if may_resend(kind, self.state) {
+            return Some(Refusal::WrongState);
+        }
+        None
+    }
+
     /// Cancels a retried copy-back whose copy has left the needed state: nothing is pending.
     ///
     /// Refused 4 (NothingPending) where no request is in phase Retried, then 2 (WrongState) where it may
@@ -264,18 +331,8 @@ impl RnLine {
         ensures ok { IfOk result (λ _. self.new ≡ cancelled self.old) }
         ensures err { OnErr result (self.new ≡ self.old) }
     {
-        let Some(
-            Pending {
-                kind,
-                phase: Phase::Retried,
-                ..
-            },
-        ) = self.pending
-        else {
-            return Err(Refusal::NothingPending);
-        };
-        if may_resend(kind, self.state) {
-            return Err(Refusal::WrongState);
+        if let Some(refusal) = self.why_no_cancel() {
+            return Err(refusal);
         }
         self.pending = None;
         Ok(())

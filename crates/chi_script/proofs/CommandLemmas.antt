@@ -9,7 +9,7 @@ use Rattle.chi_flit.specs.declared.kind.Kind.TheVariants.{ReadNotSharedDirty, Re
 use Rattle.chi_flit.specs.declared.action.Step.{Step}
 use Rattle.chi_flit.specs.declared.action.Step.TheVariants.{Load, Store, Drop, Issue, Admit, Retry, RecvRetry, Resend, Cancel, Start, RecvSnp, RecvSnpResp, RecvData, RecvComp, RecvAck, RecvDbid, RecvWrData}
 use Rattle.chi_script.specs.declared.commands.Command.{Command}
-use Rattle.chi_script.specs.declared.commands.Command.TheVariants.{Totals, Show, Flits, Arrive, Act}
+use Rattle.chi_script.specs.declared.commands.Command.TheVariants.{Totals, Audit, Show, Flits, Arrive, Act}
 use Rattle.chi_script.specs.Words.{◌>>=◌, is_text, words_of, number_of, small_of}
 use Rattle.chi_script.specs.Commands.{agent_at, line_at, slot_at, word_at, act_at, kind_of, step_of, step_with_one, step_with_two, command_bare, command_one, command_two, command_of}
 use Rattle.chi_script.specs.Spelling.{IsSmall, IsNumber, IsKind, WithOne, WithTwo, SpellsStep, Spells, IsLine}
@@ -44,7 +44,8 @@ kind_read word kind e =
 bare_read : (verb : List ℕ) (command : Command) → command_bare verb ≡ Some command → Spells command (verb ∷ [])
 bare_read verb command e =
     let P : Command → Type 0 = λ c. Spells c (verb ∷ []) in
-    pick P (is_text verb (codes "totals")) Totals None (λ is. ap (λ v. v ∷ []) (text_is verb _ is)) (none_left P) command e
+    pick P (is_text verb (codes "totals")) Totals _ (λ is. ap (λ v. v ∷ []) (text_is verb _ is)) (
+    pick P (is_text verb (codes "audit")) Audit None (λ is. ap (λ v. v ∷ []) (text_is verb _ is)) (none_left P)) command e
 
 one_read : (verb a : List ℕ) (l : ℕ) (command : Command) → IsSmall l a → command_one verb l ≡ Some command → Spells command (verb ∷ a ∷ [])
 one_read verb a l command is_l e =
@@ -176,6 +177,7 @@ step_again RecvWrData n l words is = two_again (codes "wrdata") n l words is
 
 pub command_again : (words : List (List ℕ)) (command : Command) → Spells command words → command_of words ≡ Some command
 command_again words Totals is = rw is refl
+command_again words Audit is = rw is refl
 command_again words (Show l) is = one_again (codes "show") l.0 words is
 command_again words (Flits n l) is = two_again (codes "flits") n.0 l.0 words is
 command_again words (Arrive n l) is = two_again (codes "arrive") n.0 l.0 words is
@@ -227,6 +229,7 @@ step_joined RecvWrData n l words is = two_joined (codes "wrdata") n l words refl
 
 joined : (words : List (List ℕ)) (command : Command) → Spells command words → words_of (join_with_byte 32 words) ≡ words
 joined words Totals is = rw is (joined_again (codes "totals") [] refl)
+joined words Audit is = rw is (joined_again (codes "audit") [] refl)
 joined words (Show l) is = one_joined (codes "show") l.0 words refl is
 joined words (Flits n l) is = two_joined (codes "flits") n.0 l.0 words refl is
 joined words (Arrive n l) is = two_joined (codes "arrive") n.0 l.0 words refl is

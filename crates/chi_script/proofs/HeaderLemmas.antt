@@ -1,5 +1,5 @@
 -- A header is read from its one spelling alone.
-use Rattle.std.proofs.Common.{◌≡◌, ℕ, ◌&&◌, Bool, true, false, cond, List, [], ◌∷◌, Option, Some, None, refl, sym, ap, subst, ◌∙◌, codes}
+use Rattle.std.proofs.Common.{◌≡◌, ℕ, Bool, true, false, cond, List, [], ◌∷◌, Option, Some, None, refl, sym, ap, subst, ◌∙◌, codes}
 use Rattle.std.specs.List.{join_with_byte}
 use Rattle.std.specs.Fmt.{decimal}
 use Rattle.std.proofs.lemmas.List.Splits.{join_with_byte-slice_split}
@@ -8,9 +8,9 @@ use Rattle.chi_flit.specs.declared.credit.Profile.TheVariants.{Two, Four}
 use Rattle.chi_script.specs.declared.headers.Header.{Header}
 use Rattle.chi_script.specs.declared.headers.CreditTypes.{CreditTypes}
 use Rattle.chi_script.specs.Words.{◌>>=◌, is_text, words_of, number_of}
-use Rattle.chi_script.specs.Headers.{types_of, sizes_of, kept, header_of, is_in_limits, is_served, IsKept}
+use Rattle.chi_script.specs.Headers.{types_of, sizes_of, kept, header_of, is_in_limits}
 use Rattle.chi_script.specs.Spelling.{type_words, header_words, IsHeaderLine}
-use Rattle.chi_script.proofs.NumberLemmas.{number_read, bound, both}
+use Rattle.chi_script.proofs.NumberLemmas.{number_read, bound}
 
 -- words that are equal one by one
 front : (a b : List ℕ) (x y : List (List ℕ)) → a ≡ b → x ≡ y → a ∷ x ≡ b ∷ y
@@ -63,15 +63,15 @@ let_through : {A : Type 0} (b : Bool) (found : Option A) (x : A) → cond b foun
 let_through true found x e = (refl, e)
 let_through false found x e = cc
 
-pub header_read : (words : List (List ℕ)) (header : Header) → header_of words ≡ Some header → IsKept header × (words ≡ header_words header)
+pub header_read : (words : List (List ℕ)) (header : Header) → header_of words ≡ Some header → (is_in_limits header ≡ true) × (words ≡ header_words header)
 header_read [] header e = cc
 header_read (verb ∷ numbers) header e =
     let node = let_through (is_text verb (codes "node")) (sizes_of numbers >>= kept) header e in
     let sizes = bound (sizes_of numbers) kept header node.1 in
-    let through = let_through (is_in_limits sizes.0 && is_served sizes.0) (Some sizes.0) header sizes.2 in
+    let through = let_through (is_in_limits sizes.0) (Some sizes.0) header sizes.2 in
     let passed = through.1 in
     let is : sizes.0 ≡ header = cc in
-    (subst IsKept is (both (is_in_limits sizes.0) (is_served sizes.0) through.0), front _ _ _ _ ((bytes_eq-Decides verb (codes "node")).0 node.0) (sizes_read numbers sizes.0 sizes.1 ∙ ap sizes_words is))
+    (subst (λ (h : Header). is_in_limits h ≡ true) is through.0, front _ _ _ _ ((bytes_eq-Decides verb (codes "node")).0 node.0) (sizes_read numbers sizes.0 sizes.1 ∙ ap sizes_words is))
 
 pub header_line : (line : List ℕ) (header : Header) → header_of (words_of line) ≡ Some header → IsHeaderLine header line
 header_line line header e =

@@ -1,10 +1,13 @@
 -- What the limits say of each number of a header, for whoever is given one.
-use Rattle.std.proofs.Common.{◌≡◌, ℕ, ◌+◌, ◌≤◌, Bool, true, false, ◌==◌, ◌&&◌, List, [], ◌∷◌, slice_index, sum, arith, eqb-true, refl}
+use Rattle.std.proofs.Common.{◌≡◌, ℕ, ◌+◌, ◌≤◌, Bool, true, false, ◌&&◌, List, [], ◌∷◌, slice_index, sum, length, arith, refl, ⊎_elim, get_or}
+use Rattle.std.proofs.lemmas.Bool.{cases_lt}
 use Rattle.std.proofs.lemmas.Bool.Decides.{nat_tests}
+use Rattle.std.proofs.lemmas.List.{get_or_past}
+use Rattle.std.proofs.lemmas.List.Sums.{get_or-le-sum_by}
 use Rattle.chi_flit.specs.declared.credit.Profile.{Profile}
 use Rattle.chi_flit.specs.declared.credit.Profile.TheVariants.{Two, Four}
 use Rattle.chi_script.specs.declared.headers.Header.{Header}
-use Rattle.chi_script.specs.Headers.{is_from, is_slice_count, are_entries, is_in_limits, is_served, is_profile_two, IsInLimits, IsServed}
+use Rattle.chi_script.specs.Headers.{is_from, is_slice_count, are_entries, is_in_limits, IsInLimits}
 
 from_to : (least most n : ℕ) → is_from least most n ≡ true → (least ≤ n) × (n ≤ most)
 from_to least most n e = (grind (arith, nat_tests), grind (arith, nat_tests))
@@ -57,11 +60,11 @@ limits_of header e =
       journal = from_to 1 65536 header.journal entries.1;
     }
 
-two_only : (profile : Profile) → is_profile_two profile ≡ true → profile ≡ Two
-two_only Two e = refl
-two_only Four e = cc
-
-pub served_of : (header : Header) → is_served header ≡ true → IsServed header
-served_of header e =
-    let each = both (header.slices == 1) (is_profile_two header.profile) e in
-    record { slices = eqb-true _ _ each.0; profile = two_only header.profile each.1 }
+-- each type has at most as many entries as all types together
+pub each_few : (header : Header) → is_in_limits header ≡ true → (i : ℕ) → get_or header.entries i 0 ≤ 256
+each_few header e i =
+    let l : IsInLimits header = limits_of header e in
+    ⊎_elim
+    (λ low. omega (arith, get_or-le-sum_by (λ (n : ℕ). n) header.entries i 0 low, l.total))
+    (λ past. let none = get_or_past header.entries i 0 past in omega (arith, none))
+    (cases_lt i (length header.entries))

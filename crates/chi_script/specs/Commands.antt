@@ -11,7 +11,7 @@ use Rattle.chi_flit.specs.declared.kind.Kind.TheVariants.{ReadNotSharedDirty, Re
 use Rattle.chi_flit.specs.declared.action.Step.{Step}
 use Rattle.chi_flit.specs.declared.action.Step.TheVariants.{Load, Store, Drop, Issue, Start, RecvSnp, RecvSnpResp, RecvData, RecvComp, RecvAck, RecvDbid, RecvWrData}
 use Rattle.chi_script.specs.declared.commands.Command.{Command}
-use Rattle.chi_script.specs.declared.commands.Command.TheVariants.{Totals, Show, Flits, Arrive, Act}
+use Rattle.chi_script.specs.declared.commands.Command.TheVariants.{Totals, Audit, Show, Flits, Arrive, Act}
 use Rattle.chi_script.specs.Words.{◌>>=◌, is_text, number_of, small_of}
 
 abbrev pub agent_at : ℕ → Agent
@@ -68,7 +68,8 @@ step_with_two verb third fourth =
 -- VERB
 abbrev pub command_bare : List ℕ → Option Command
 command_bare verb =
-    if is_text verb (codes "totals") then Some Totals else None
+    if is_text verb (codes "totals") then Some Totals else (
+    if is_text verb (codes "audit") then Some Audit else None)
 
 -- VERB L
 abbrev pub command_one : List ℕ → ℕ → Option Command

@@ -1,5 +1,5 @@
 -- The header of a replay file and its limits (docs/PROTOCOL.md, "Replay files" and "Limits").
-use Rattle.std.specs.Prelude.{◌≡◌, ℕ, sum, slice_index, ◌+◌, ◌≤◌, ◌==◌, ◌&&◌, ◌||◌, nat_le, Bool, true, false, List, [], ◌∷◌, Option, Some, None, if◌then◌else◌, codes}
+use Rattle.std.specs.Prelude.{ℕ, sum, slice_index, ◌+◌, ◌≤◌, ◌==◌, ◌&&◌, ◌||◌, nat_le, Bool, false, List, [], ◌∷◌, Option, Some, None, if◌then◌else◌, codes}
 use Rattle.chi_flit.specs.declared.credit.Profile.{Profile}
 use Rattle.chi_flit.specs.declared.credit.Profile.TheVariants.{Two, Four}
 use Rattle.chi_script.specs.declared.headers.Header.{Header}
@@ -30,14 +30,6 @@ is_in_limits header =
     are_entries header.profile header.entries &&
     is_from 1 65536 header.journal)))
 
-abbrev pub is_profile_two : Profile → Bool
-is_profile_two Two = true
-is_profile_two Four = false
-
--- what is served of the limits: one slice, two credit types
-abbrev pub is_served : Header → Bool
-is_served header = header.slices == 1 && is_profile_two header.profile
-
 -- the credit types: T0 T1 K, or T0 T1 T2 T3 K; a type that the profile lacks has no entries
 abbrev pub types_of : List (List ℕ) → Option CreditTypes
 types_of (t0 ∷ t1 ∷ k ∷ []) = do
@@ -64,13 +56,9 @@ sizes_of (a ∷ l ∷ s ∷ rest) = do
   Some (record { agents = agents; lines = lines; slices = slices; entries = types.entries; journal = types.journal; profile = types.profile })
 sizes_of _ = None
 
--- a header within the limits that is served
+-- a header within the limits
 abbrev pub kept : Header → Option Header
-kept header = if is_in_limits header && is_served header then Some header else None
-
--- what is known of every header that was read
-abbrev pub IsKept : Header → Type 0
-IsKept header = (is_in_limits header ≡ true) × (is_served header ≡ true)
+kept header = if is_in_limits header then Some header else None
 
 -- node and the sizes
 abbrev pub header_of : List (List ℕ) → Option Header
@@ -89,8 +77,3 @@ pub record IsInLimits (header : Header) : Type 0 where
   pub entries : (1 ≤ slice_index header.entries 0) × (1 ≤ slice_index header.entries 1)
   pub total : sum header.entries ≤ 256
   pub journal : (1 ≤ header.journal) × (header.journal ≤ 65536)
-
--- and what is served of them
-pub record IsServed (header : Header) : Type 0 where
-  pub slices : header.slices ≡ 1
-  pub profile : header.profile ≡ Two

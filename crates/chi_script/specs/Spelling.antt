@@ -1,6 +1,6 @@
 -- How numbers, commands and headers are written (docs/PROTOCOL.md, "Replay files"): apart from how they
 -- are read.
-use Rattle.std.specs.Prelude.{◌≡◌, ℕ, ◌^◌, ◌<◌, min, List, [], ◌∷◌, codes, slice_index}
+use Rattle.std.specs.Prelude.{◌≡◌, ℕ, ◌^◌, ◌<◌, min, List, [], ◌∷◌, codes, slice_index, true}
 use Rattle.std.specs.List.{join_with_byte}
 use Rattle.std.specs.Fmt.{decimal}
 use Rattle.chi_flit.specs.Kind.{kind_text}
@@ -10,9 +10,9 @@ use Rattle.chi_flit.specs.declared.action.Step.TheVariants.{Load, Store, Drop, I
 use Rattle.chi_flit.specs.declared.credit.Profile.{Profile}
 use Rattle.chi_flit.specs.declared.credit.Profile.TheVariants.{Two, Four}
 use Rattle.chi_script.specs.declared.headers.Header.{Header}
-use Rattle.chi_script.specs.Headers.{IsKept}
+use Rattle.chi_script.specs.Headers.{is_in_limits}
 use Rattle.chi_script.specs.declared.commands.Command.{Command}
-use Rattle.chi_script.specs.declared.commands.Command.TheVariants.{Totals, Show, Flits, Arrive, Act}
+use Rattle.chi_script.specs.declared.commands.Command.TheVariants.{Totals, Audit, Show, Flits, Arrive, Act}
 
 -- a number of 64 bits, in decimal
 abbrev pub IsNumber : ℕ → List ℕ → Type 0
@@ -69,6 +69,7 @@ SpellsStep RecvWrData n l words = WithTwo (codes "wrdata") n l words
 -- the words of each command
 abbrev pub Spells : Command → List (List ℕ) → Type 0
 Spells Totals words = words ≡ codes "totals" ∷ []
+Spells Audit words = words ≡ codes "audit" ∷ []
 Spells (Show l) words = WithOne (codes "show") l.0 words
 Spells (Flits n l) words = WithTwo (codes "flits") n.0 l.0 words
 Spells (Arrive n l) words = WithTwo (codes "arrive") n.0 l.0 words
@@ -87,6 +88,6 @@ type_words Four entries journal = decimal (slice_index entries 0) ∷ decimal (s
 abbrev pub header_words : Header → List (List ℕ)
 header_words header = codes "node" ∷ decimal header.agents ∷ decimal header.lines ∷ decimal header.slices ∷ type_words header.profile header.entries header.journal
 
--- a header that is kept, and its one line
+-- a header within the limits, and its one line
 abbrev pub IsHeaderLine : Header → List ℕ → Type 0
-IsHeaderLine header line = IsKept header × (line ≡ join_with_byte 32 (header_words header))
+IsHeaderLine header line = (is_in_limits header ≡ true) × (line ≡ join_with_byte 32 (header_words header))

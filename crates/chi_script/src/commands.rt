@@ -14,6 +14,8 @@ use chi_flit::{Action, Agent, Kind, Line, Slot, Step, WordNo};
 pub enum Command {
     /// `totals`: the tracker's words, at a glance.
     Totals,
+    /// `audit`: whether all lines and journals are coherent.
+    Audit,
     /// `show L`: the line's copies, filter, service and memory.
     Show { line: Line },
     /// `flits N L`: the messages in flight for one agent and line.
@@ -54,6 +56,8 @@ fn bare(verb: &[u8]) -> Option<Command>
 {
     if is(verb, "totals") {
         Some(Command::Totals)
+    } else if is(verb, "audit") {
+        Some(Command::Audit)
     } else {
         None
     }

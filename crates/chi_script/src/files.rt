@@ -2,7 +2,7 @@
 
 ghost use Rattle.std.specs.Prelude.{◌≡◌, ◌<◌, ◌+◌, ◌==◌, ◌≤◌, ◌∷◌, [], length, IfNone, IfSome, IfOk, true};
 ghost use Rattle.std.specs.List.{position};
-ghost use Rattle.chi_script.specs.Headers.{is_in_limits, is_served, IsKept};
+ghost use Rattle.chi_script.specs.Headers.{is_in_limits};
 ghost use Rattle.chi_script.specs.Faults.{Gives};
 ghost use Rattle.chi_script.specs.Files.{lines_of, header_at, command_at, commands_of, file_of};
 
@@ -22,7 +22,6 @@ pub struct Script<A: Allocator> {
     pub header: Header,
     pub commands: Vec<Command, A>,
     pub ghost in_limits: { is_in_limits header ≡ true },
-    pub ghost served: { is_served header ≡ true },
 }
 
 /// The header and the commands of a replay file, which is read whole.
@@ -73,7 +72,7 @@ fn read_commands<A: Allocator + Copy>(alloc: A, bytes: &[u8]) -> Result<Vec<Comm
 /// The header that a line is.
 fn header_in<A: Allocator>(alloc: A, line: &[u8]) -> Result<Header, Fault>
     ensures read { Gives (λ header. header) result (header_at line.now) }
-    ensures kept { IfOk result IsKept }
+    ensures kept { IfOk result (λ header. is_in_limits header ≡ true) }
 {
     let words = words_in(alloc, line)?;
     read_header(&words).ok_or(Fault::BadHeader)

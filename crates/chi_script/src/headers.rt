@@ -1,9 +1,9 @@
 //! The header of a replay file: the sizes of the system that its commands are for.
 
-ghost use Rattle.std.specs.Prelude.{◌≡◌, IfSome};
+ghost use Rattle.std.specs.Prelude.{◌≡◌, IfSome, true};
 ghost use Rattle.std.specs.Option.{option_map};
 ghost use Rattle.chi_script.specs.Words.{texts_of};
-ghost use Rattle.chi_script.specs.Headers.{header_of, sizes_of, types_of, is_from, is_slice_count, are_entries, is_in_limits, is_served, kept, IsKept, sized};
+ghost use Rattle.chi_script.specs.Headers.{header_of, sizes_of, types_of, is_from, is_slice_count, are_entries, is_in_limits, kept, sized};
 
 use crate::numbers::number;
 use crate::words::is;
@@ -49,12 +49,12 @@ struct CreditTypes {
 }
 
 /// The header that the words of a line are: `node A L S T0 T1 K`, or `node A L S T0 T1 T2 T3 K` for four
-/// credit types. `None` for other words, a wrong count of words, a faulty number, sizes outside the
-/// limits, and sizes that aren't served.
+/// credit types. `None` for other words, a wrong count of words, a faulty number, and sizes outside the
+/// limits.
 /// Source: `docs/PROTOCOL.md`, "Replay files" and "Limits".
 pub fn read_header(words: &[&[u8]]) -> Option<Header>
     ensures read { result ≡ header_of (texts_of words.now) }
-    ensures kept { IfSome result IsKept }
+    ensures kept { IfSome result (λ header. is_in_limits header ≡ true) }
 {
     match words {
         [verb, numbers @ ..] if is(verb, "node") => read_sizes(numbers)?.header(),
@@ -143,19 +143,12 @@ impl Sizes {
             && is_from(1, 65_536, self.journal)
     }
 
-    /// Whether a system of these sizes is served: one slice and two credit types.
-    fn is_served(&self) -> bool
-        ensures { result ≡ is_served (sized self.now) }
-    {
-        self.slices == 1 && matches!(self.profile, Profile::Two)
-    }
-
-    /// The header of these sizes, where they are within the limits and served.
+    /// The header of these sizes, where they are within the limits.
     fn header(&self) -> Option<Header>
         ensures read { result ≡ kept (sized self.now) }
-        ensures kept { IfSome result IsKept }
+        ensures kept { IfSome result (λ header. is_in_limits header ≡ true) }
     {
-        if !self.is_in_limits() || !self.is_served() {
+        if !self.is_in_limits() {
             return None;
         }
         let [t0, t1, t2, t3] = self.entries;

@@ -34,7 +34,7 @@ fn act(step: Step) -> Command {
 #[test]
 fn a_good_file_is_its_header_and_its_commands(rt: HostRuntime) -> Result<(), Fault> {
     let file =
-        b"node 8 64 1 32 32 65536\nissue 1 3 ReadNotSharedDirty 7\narrive 1 3\nstart 1 3\ndata 1 3\nack 1 3\nflits 256 300\nshow 255\ntotals\n";
+        b"node 8 64 1 32 32 65536\nissue 1 3 ReadNotSharedDirty 7\narrive 1 3\nstart 1 3\ndata 1 3\nack 1 3\nflits 256 300\nshow 255\ntotals\naudit\n";
     let script = read_file(rt.alloc(), file)?;
     let header = Header {
         agents: 8,
@@ -60,6 +60,7 @@ fn a_good_file_is_its_header_and_its_commands(rt: HostRuntime) -> Result<(), Fau
         },
         Command::Show { line: Line(255) },
         Command::Totals,
+        Command::Audit,
     ];
     assert_eq!(rt; script.commands.as_slice(), commands.as_slice());
     Ok(())
@@ -112,59 +113,62 @@ fn each_kind_is_named(rt: HostRuntime) -> Result<(), Fault> {
     Ok(())
 }
 
+const OTHER_LINES: [&[u8]; 37] = [
+    b"audit 0",
+    b"audits",
+    b"Audit",
+    b"load 0 0",
+    b"load 0 0 0 0",
+    b"load 0 0 00",
+    b"load 0 0 18446744073709551616",
+    b"load 00 0 0",
+    b"load 0 x 0",
+    b"store 0 0 0",
+    b"store 0 0 0 0 0",
+    b"store 0 0 0 01",
+    b"store 0 0 0 18446744073709551616",
+    b"store 0 0 0 -1",
+    b"store 0 0 07 1",
+    b"store 0 0 0 ",
+    b"drop 0",
+    b"drop 0 0 0",
+    b"drop 0 01",
+    b"snp 0",
+    b"snpresp 0 0 0",
+    b"comp 0",
+    b"dbid 0 0 0",
+    b"wrdata 0",
+    b"wrdata 0 0 0 0",
+    b"issue 0 0 Evict",
+    b"issue 0 0 Evict 0 0",
+    b"issue 0 0 Evict 00",
+    b"issue 0 0 evict 0",
+    b"issue 0 0 ReadOnce 0",
+    b"issue 0 0 WriteBack 0",
+    b"issue 0 0  0",
+    b"Drop 0 0",
+    b"snpdata 0 0",
+    b"comp  0 0",
+    b" load 0 0 0",
+    b"store 0 0 0 0 ",
+];
+
 #[test]
 fn other_lines_are_no_commands(rt: HostRuntime) {
-    let lines: [&[u8]; 34] = [
-        b"load 0 0",
-        b"load 0 0 0 0",
-        b"load 0 0 00",
-        b"load 0 0 18446744073709551616",
-        b"load 00 0 0",
-        b"load 0 x 0",
-        b"store 0 0 0",
-        b"store 0 0 0 0 0",
-        b"store 0 0 0 01",
-        b"store 0 0 0 18446744073709551616",
-        b"store 0 0 0 -1",
-        b"store 0 0 07 1",
-        b"store 0 0 0 ",
-        b"drop 0",
-        b"drop 0 0 0",
-        b"drop 0 01",
-        b"snp 0",
-        b"snpresp 0 0 0",
-        b"comp 0",
-        b"dbid 0 0 0",
-        b"wrdata 0",
-        b"wrdata 0 0 0 0",
-        b"issue 0 0 Evict",
-        b"issue 0 0 Evict 0 0",
-        b"issue 0 0 Evict 00",
-        b"issue 0 0 evict 0",
-        b"issue 0 0 ReadOnce 0",
-        b"issue 0 0 WriteBack 0",
-        b"issue 0 0  0",
-        b"Drop 0 0",
-        b"snpdata 0 0",
-        b"comp  0 0",
-        b" load 0 0 0",
-        b"store 0 0 0 0 ",
-    ];
-    for line in lines {
+    for line in OTHER_LINES {
         assert_eq!(rt; line_two(&rt, line), Err(Fault::BadCommand(2)), "{line:?}");
     }
 }
 
 #[test]
-fn credits_and_the_audit_are_no_commands_yet(rt: HostRuntime) {
-    let lines: [&[u8]; 7] = [
+fn retries_and_credits_are_no_commands_yet(rt: HostRuntime) {
+    let lines: [&[u8]; 6] = [
         b"retryack 0 0",
         b"resend 0 0",
         b"cancel 0 0",
         b"see 0",
         b"giveback 0 0",
         b"tend 0 0",
-        b"audit",
     ];
     for line in lines {
         assert_eq!(rt; line_two(&rt, line), Err(Fault::BadCommand(2)), "{line:?}");
@@ -172,73 +176,86 @@ fn credits_and_the_audit_are_no_commands_yet(rt: HostRuntime) {
 }
 
 #[test]
-fn one_slice_and_up_to_eight_agents_are_served(rt: HostRuntime) {
-    let served: [&[u8]; 4] = [
+fn headers_of_both_forms_are_read(rt: HostRuntime) {
+    let headers: [&[u8]; 10] = [
         b"node 1 1 1 1 1 4\n",
         b"node 2 8 1 1 1 4\n",
         b"node 7 64 1 32 32 65536\n",
         b"node 8 1 1 1 1 1\n",
-    ];
-    for file in served {
-        assert_eq!(rt; fault_of(&rt, file), None, "{file:?}");
-    }
-    let others: [&[u8]; 8] = [
-        b"node 0 8 1 1 1 4\n",
-        b"node 9 8 1 1 1 4\n",
-        b"node 257 8 1 1 1 4\n",
         b"node 2 8 2 1 1 4\n",
         b"node 2 8 4 1 1 4\n",
         b"node 2 8 8 1 1 4\n",
+        b"node 1 1 1 1 1 1 1 4\n",
+        b"node 8 64 8 64 64 64 64 65536\n",
+        b"node 2 8 2 253 1 1 1 4\n",
+    ];
+    for file in headers {
+        assert_eq!(rt; fault_of(&rt, file), None, "{file:?}");
+    }
+    let others: [&[u8]; 13] = [
+        b"node 0 8 1 1 1 4\n",
+        b"node 9 8 1 1 1 4\n",
+        b"node 257 8 1 1 1 4\n",
         b"node 2 8 0 1 1 4\n",
-        b"node 2 8 1 1 1 1 1 4\n",
+        b"node 2 8 3 1 1 4\n",
+        b"node 2 8 16 1 1 4\n",
+        b"node 2 7 8 1 1 4\n",
+        b"node 2 8 1 1 1 0 1 4\n",
+        b"node 2 8 1 1 1 1 0 4\n",
+        b"node 2 8 1 254 1 1 1 4\n",
+        b"node 2 8 1 1 1 1 1 0\n",
+        b"node 2 8 1 1 1 1 4\n",
+        b"node 2 8 1 1 1 1 1 1 4\n",
     ];
     for file in others {
         assert_eq!(rt; fault_of(&rt, file), Some(Fault::BadHeader), "{file:?}");
     }
 }
 
+/// Files, and the fault of each.
+const FAULTY_FILES: [(&[u8], Fault); 25] = [
+    (b"", Fault::BadHeader),
+    (b"\n", Fault::BadHeader),
+    (b"node 1 1 1 1 1 4", Fault::MissingNewline(1)),
+    (b"node 1 1 1 1 1 4\r\n", Fault::BadHeader),
+    (b"node 9 64 8 32 32 65536\ntotals\n", Fault::BadHeader),
+    (b"node 1 0 1 1 1 4\n", Fault::BadHeader),
+    (b"node 1 65 1 1 1 4\n", Fault::BadHeader),
+    (b"node 1 1 1 0 1 4\n", Fault::BadHeader),
+    (b"node 1 1 1 1 0 4\n", Fault::BadHeader),
+    (b"node 1 1 1 32 33 4\n", Fault::BadHeader),
+    (b"node 1 1 1 1 18446744073709551615 4\n", Fault::BadHeader),
+    (b"node 1 1 1 1 1 0\n", Fault::BadHeader),
+    (b"node 1 1 1 1 1 65537\n", Fault::BadHeader),
+    (b"node 1 1 2 1 1 4\n", Fault::BadHeader),
+    (b"node 1 1 1 1 1 1 0 4\n", Fault::BadHeader),
+    (b"node 1 1 1 1 1 4\n\n", Fault::BadCommand(2)),
+    (b"node 1 1 1 1 1 4\nshow 00\n", Fault::BadCommand(2)),
+    (
+        b"node 1 1 1 1 1 4\nshow 18446744073709551616\n",
+        Fault::BadCommand(2),
+    ),
+    (b"node 1 1 1 1 1 4\nshow  0\n", Fault::BadCommand(2)),
+    (b"node 1 1 1 1 1 4\nshow\n", Fault::BadCommand(2)),
+    (
+        b"node 1 1 1 1 1 4\nissue 0 0 Read 0\n",
+        Fault::BadCommand(2),
+    ),
+    (
+        b"node 1 1 1 1 1 2\nissue 0 0 Read",
+        Fault::MissingNewline(2),
+    ),
+    (
+        b"node 1 1 1 1 1 2\ntotals\ntotals",
+        Fault::MissingNewline(3),
+    ),
+    (b"node 1 1 1 1 1 2\ntotal\ntotals", Fault::BadCommand(2)),
+    (b"node 1 1 1 1 1 2\ntotals \nTotals\n", Fault::BadCommand(2)),
+];
+
 #[test]
 fn the_first_fault_is_told(rt: HostRuntime) {
-    let files: [(&[u8], Fault); 25] = [
-        (b"", Fault::BadHeader),
-        (b"\n", Fault::BadHeader),
-        (b"node 1 1 1 1 1 4", Fault::MissingNewline(1)),
-        (b"node 1 1 1 1 1 4\r\n", Fault::BadHeader),
-        (b"node 9 64 8 32 32 65536\ntotals\n", Fault::BadHeader),
-        (b"node 1 0 1 1 1 4\n", Fault::BadHeader),
-        (b"node 1 65 1 1 1 4\n", Fault::BadHeader),
-        (b"node 1 1 1 0 1 4\n", Fault::BadHeader),
-        (b"node 1 1 1 1 0 4\n", Fault::BadHeader),
-        (b"node 1 1 1 32 33 4\n", Fault::BadHeader),
-        (b"node 1 1 1 1 18446744073709551615 4\n", Fault::BadHeader),
-        (b"node 1 1 1 1 1 0\n", Fault::BadHeader),
-        (b"node 1 1 1 1 1 65537\n", Fault::BadHeader),
-        (b"node 1 2 2 1 1 4\n", Fault::BadHeader),
-        (b"node 1 1 1 1 1 1 1 4\n", Fault::BadHeader),
-        (b"node 1 1 1 1 1 4\n\n", Fault::BadCommand(2)),
-        (b"node 1 1 1 1 1 4\nshow 00\n", Fault::BadCommand(2)),
-        (
-            b"node 1 1 1 1 1 4\nshow 18446744073709551616\n",
-            Fault::BadCommand(2),
-        ),
-        (b"node 1 1 1 1 1 4\nshow  0\n", Fault::BadCommand(2)),
-        (b"node 1 1 1 1 1 4\nshow\n", Fault::BadCommand(2)),
-        (
-            b"node 1 1 1 1 1 4\nissue 0 0 Read 0\n",
-            Fault::BadCommand(2),
-        ),
-        (
-            b"node 1 1 1 1 1 2\nissue 0 0 Read",
-            Fault::MissingNewline(2),
-        ),
-        (
-            b"node 1 1 1 1 1 2\ntotals\ntotals",
-            Fault::MissingNewline(3),
-        ),
-        (b"node 1 1 1 1 1 2\ntotal\ntotals", Fault::BadCommand(2)),
-        (b"node 1 1 1 1 1 2\ntotals \nTotals\n", Fault::BadCommand(2)),
-    ];
-    for (file, fault) in files {
+    for (file, fault) in FAULTY_FILES {
         assert_eq!(rt; fault_of(&rt, file), Some(fault), "{file:?}");
     }
 }

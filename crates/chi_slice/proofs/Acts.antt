@@ -19,17 +19,17 @@ use Rattle.chi_wires.specs.declared.cells.Cells.{Cells}
 use Rattle.chi_wires.specs.Wires.{flits_at, row_of}
 use Rattle.chi_rnline.specs.Rn.{Rn, load_refusal, store_refusal, word_of}
 use Rattle.chi_homeline.specs.Home.{Home, idle_home}
-use Rattle.chi_slice.specs.declared.act.Conditions.{Conditions}
-use Rattle.chi_slice.specs.LineState.{LineState, cells_of, rn_of}
-use Rattle.chi_slice.specs.Step.{after, effect_of, is_step_in_range, line_of_parts, record_of, slot_unless, step_effect, step_record}
-use Rattle.chi_slice.specs.Refused.{completed_at, first_of, full_if, line_refusal, step_refusal}
+use Rattle.chi_line.specs.declared.act.Conditions.{Conditions}
+use Rattle.chi_line.specs.LineState.{LineState, cells_of, rn_of}
+use Rattle.chi_line.specs.Step.{after, effect_of, is_step_in_range, line_of_parts, record_of, slot_unless, step_effect, step_record}
+use Rattle.chi_line.specs.Refused.{completed_at, first_of, full_if, line_refusal, step_refusal}
 use Rattle.chi_slice.specs.Recorded.{CanAppend, done_record, record_by}
-use Rattle.chi_slice.specs.Kept.{Kept}
+use Rattle.chi_line.specs.Kept.{Kept}
 use Rattle.chi_slice.specs.Slice.{SliceState, SliceKept, OtherLinesStay, acted, completes, conditions_of, is_in_range, is_line_in_range, is_slot_used, last_of, line, line_at, Performed, recorded, refused, row_count, row_of_line, with_line}
-use Rattle.chi_slice.specs.LineStep.{LineStep}
-use Rattle.chi_slice.proofs.After.{kept_after, last_with, names_used_slot, neither}
+use Rattle.chi_line.specs.LineStep.{LineStep}
+use Rattle.chi_line.proofs.After.{kept_after, last_with, names_used_slot, neither}
 use Rattle.chi_slice.proofs.Rows.{InRange, in_range, rows_apart}
-use Rattle.chi_slice.proofs.Steps.{step_after}
+use Rattle.chi_line.proofs.Steps.{step_after}
 use Rattle.chi_slice.proofs.Slices.{FitsLine, kept_with_entry, line_at-with_line, line_at-with_other, same_line, with_entry}
 use Rattle.chi_slice.proofs.Uses.{unused_at}
 
@@ -42,7 +42,7 @@ parts_are s row copies home k low at_copies at_home =
     same_line _ _ _ _ _ _ (get_or_read _ _ _ r at_copies []) (get_or_read _ _ _ h at_home idle_home) refl
 
 -- a slot that is in use nowhere in the slice isn't in use at the line
-free_at : (s : SliceState) (row n : ℕ) (step : Step) → SliceKept s → row < row_count s.config s.index → is_slot_used s n step ≡ false → names_used_slot (line_at s row) n step ≡ false
+pub free_at : (s : SliceState) (row n : ℕ) (step : Step) → SliceKept s → row < row_count s.config s.index → is_slot_used s n step ≡ false → names_used_slot (line_at s row) n step ≡ false
 free_at s row n (steps.Load word) k low free = refl
 free_at s row n (steps.Store word value) k low free = refl
 free_at s row n steps.Drop k low free = refl

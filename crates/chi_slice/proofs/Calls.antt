@@ -7,11 +7,11 @@ use Rattle.chi_journal.specs.Journal.{Log}
 use Rattle.chi_wires.specs.declared.cells.Cells.{Cells}
 use Rattle.chi_rnline.specs.Rn.{Rn}
 use Rattle.chi_homeline.specs.Home.{Home}
-use Rattle.chi_slice.specs.declared.act.Conditions.{Conditions}
+use Rattle.chi_line.specs.declared.act.Conditions.{Conditions}
 use Rattle.chi_slice.specs.declared.places.Place.{Place}
-use Rattle.chi_slice.specs.LineState.{LineState}
+use Rattle.chi_line.specs.LineState.{LineState}
 use Rattle.chi_slice.specs.Recorded.{record_by}
-use Rattle.chi_slice.specs.Step.{line_of_parts}
+use Rattle.chi_line.specs.Step.{line_of_parts}
 use Rattle.chi_slice.specs.Slice.{SliceState, SliceKept, acted, conditions_of, is_in_range, line, recorded, row_of_line}
 use Rattle.chi_slice.specs.Index.{Indexed, followed_by}
 use Rattle.chi_slice.proofs.Acts.{ActsOn, Call, Called, LookedUp, acts_of, after_call, allowed, called, line_is, put_back, unchanged_call}

@@ -5,16 +5,11 @@ use Rattle.std.proofs.lemmas.Bool.{cases_eq}
 use Rattle.chi_flit.specs.declared.numbers.Line.{Line}
 use Rattle.chi_flit.specs.declared.numbers.Slot.{Slot}
 use Rattle.chi_slice.specs.declared.places.Place.{Place}
-use Rattle.chi_slice.specs.declared.seen.Seen.{Seen}
-use Rattle.chi_slice.specs.Places.{is_slot_of, where_in}
-use Rattle.chi_slice.specs.Index.{followed, looked_at, place_of, placed, with_place}
-use Rattle.chi_slice.specs.Step.{is_slot, pending_slot}
-
-abbrev slot_of : ℕ → Slot
-slot_of k = record { 0 = k }
-
-pub same_slot : (x y : Slot) → (x.0 == y.0) ≡ true → x ≡ y
-same_slot x y h = let e : x.0 ≡ y.0 = grind (arith, h) in ap (λ (k : ℕ). slot_of k) e
+use Rattle.chi_line.specs.declared.seen.Seen.{Seen}
+use Rattle.chi_slice.specs.Index.{is_slot_of, followed, looked_at, place_of, placed, with_place}
+use Rattle.chi_line.specs.Places.{where_in}
+use Rattle.chi_line.specs.Step.{is_slot, pending_slot}
+use Rattle.chi_line.proofs.EqualSlots.{same_slot}
 
 -- an index of eight agents with eight slots each
 pub record Wide (places : List (List (Option Place))) : Type 0 where

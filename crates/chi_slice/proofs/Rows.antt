@@ -3,7 +3,7 @@ use Rattle.std.proofs.Common.{◌≡◌, ℕ, ◌+◌, ◌-◌, ◌*◌, ◌/◌
 use Rattle.chi_flit.specs.declared.action.Action.{Action}
 use Rattle.chi_slice.specs.Config.{Sizes, are_entries, are_in_limits, is_between, is_slice_count}
 use Rattle.chi_slice.specs.Slice.{SliceState, SliceKept, are_in_range, is_in_range, is_line_in_range, row_count, row_of_line}
-use Rattle.chi_slice.specs.Step.{is_step_in_range}
+use Rattle.chi_line.specs.Step.{is_step_in_range}
 
 pub both : (a b : Bool) → (a && b) ≡ true → (a ≡ true) × (b ≡ true)
 both true b h = (refl, h)

@@ -8,16 +8,16 @@ use Rattle.chi_wires.specs.Cell.{no_flits}
 use Rattle.chi_rnline.specs.Rn.{Rn, no_line}
 use Rattle.chi_homeline.specs.Home.{Home, idle_home}
 use Rattle.chi_slice.specs.Config.{Sizes, are_in_limits}
-use Rattle.chi_slice.specs.LineState.{LineState, opening_line}
-use Rattle.chi_slice.specs.Kept.{Kept}
+use Rattle.chi_line.specs.LineState.{LineState, opening_line}
+use Rattle.chi_line.specs.Kept.{Kept}
 use Rattle.chi_journal.specs.declared.record.Record.{Record}
 use Rattle.chi_journal.specs.declared.record.Record.TheVariants.{Load, Store}
 use Rattle.chi_journal.specs.Record.{record_line}
 use Rattle.chi_journal.specs.Journal.{IsLegal, IsLegalAfter, Log, appended, last_words, opening_log, words_after}
 use Rattle.chi_journal.proofs.Append.{last_words_with, legal_with}
 use Rattle.chi_slice.specs.Slice.{SliceState, SliceKept, is_line_in_range, last_of, line, line_at, recorded, row_count, row_of_line, with_line}
-use Rattle.chi_slice.proofs.After.{last_with}
-use Rattle.chi_slice.proofs.Opening.{opening_kept}
+use Rattle.chi_line.proofs.After.{last_with}
+use Rattle.chi_line.proofs.Opening.{opening_kept}
 use Rattle.chi_slice.proofs.Rows.{row_in_range, rows_apart}
 
 abbrev pub made : List Rn → Home → List Cells → LineState

@@ -1,20 +1,31 @@
 -- The index of the slots in use that a slice keeps, and how it follows an action (docs/PROTOCOL.md,
 -- "Agreement").
-use Rattle.std.specs.Prelude.{◌≡◌, ℕ, ◌<◌, List, [], length, replicate, slice_set, true, Option, Some, None, if◌then◌else◌}
+use Rattle.std.specs.Prelude.{◌≡◌, ℕ, ◌<◌, ◌≤◌, List, [], length, replicate, slice_set, Bool, true, false, Option, Some, None, if◌then◌else◌, ◌&&◌, ◌==◌, nat_lt}
 use Rattle.std.specs.List.{slice_index_or}
 use Rattle.chi_flit.specs.declared.numbers.Line.{Line}
 use Rattle.chi_flit.specs.declared.numbers.Slot.{Slot}
 use Rattle.chi_flit.specs.declared.action.Action.{Action}
 use Rattle.chi_flit.specs.declared.action.Step.{Step}
 use Rattle.chi_flit.specs.declared.action.Step.TheVariants as steps
+use Rattle.chi_flit.specs.declared.credit.CreditType.{CreditType}
 use Rattle.chi_flit.specs.declared.credit.Profile.{Profile}
-use Rattle.chi_slice.specs.declared.places.Where.{Where}
+use Rattle.chi_line.specs.declared.seen.Where.{Where}
 use Rattle.chi_slice.specs.declared.places.Place.{Place}
-use Rattle.chi_slice.specs.declared.seen.Seen.{Seen}
-use Rattle.chi_slice.specs.LineState.{LineState}
-use Rattle.chi_slice.specs.Step.{after, pending_slot}
+use Rattle.chi_line.specs.declared.seen.Seen.{Seen}
+use Rattle.chi_line.specs.LineState.{LineState}
+use Rattle.chi_line.specs.Step.{after, line_uses, pending_slot, issued_slot}
 use Rattle.chi_slice.specs.Slice.{SliceState, is_line_in_range, line}
-use Rattle.chi_slice.specs.Places.{at_line, is_slot_of, seen_of, where_at, where_in}
+use Rattle.chi_line.specs.Types.{is_of_type}
+use Rattle.chi_line.specs.Places.{seen_of, where_at, where_in}
+
+-- whether there is such an agent and such a slot
+abbrev pub is_slot_of : ℕ → Slot → Bool
+is_slot_of n slot = nat_lt n 8 && nat_lt slot.0 8
+
+-- what a place says of a line: nothing where it is at another one
+abbrev pub at_line : Option Place → ℕ → Option Where
+at_line None l = None
+at_line (Some place) l = if place.line.0 == l then Some place.at else None
 
 -- the place of an agent's slot in an index
 abbrev pub place_of : List (List (Option Place)) → ℕ → Slot → Option Place
@@ -33,33 +44,23 @@ abbrev pub placed : Line → Option Where → Option Place
 placed line None = None
 placed line (Some at) = Some (record { line = line; at = at })
 
+-- whether an agent's slot has the credit type at its place
+abbrev pub typed_at : SliceState → CreditType → ℕ → Slot → Option Place → Bool
+typed_at s ty n slot None = true
+typed_at s ty n slot (Some place) = is_of_type s.config.profile ty (line s place.line.0) n slot
+
+-- no slot of a number above 7 is in use at any line
+pub record SlotsInRange (s : SliceState) : Type 0 where
+  pub unused : (n : ℕ) (slot : Slot) (l : ℕ) → n < 8 → 8 ≤ slot.0 → is_line_in_range s l ≡ true → line_uses (line s l) n slot ≡ false
+
 -- an index of a slice: of each agent's slot it has the line where it is in use, if there is one, and what
--- that line shows
+-- that line shows; other slots are in use nowhere
 pub record Indexed (s : SliceState) (places : List (List (Option Place))) : Type 0 where
   pub agents : length places ≡ 8
   pub slots : (n : ℕ) → n < 8 → length (slice_index_or places n []) ≡ 8
   pub shows : (n : ℕ) (slot : Slot) (l : ℕ) → n < 8 → slot.0 < 8 → is_line_in_range s l ≡ true → where_at (line s l) n slot ≡ at_line (place_of places n slot) l
+  pub numbers : SlotsInRange s
   pub in_range : (n : ℕ) (slot : Slot) (place : Place) → n < 8 → slot.0 < 8 → place_of places n slot ≡ Some place → is_line_in_range s place.line.0 ≡ true
-
--- the slot that a step names
-abbrev pub issued_slot : Step → Option Slot
-issued_slot (steps.Load word) = None
-issued_slot (steps.Store word value) = None
-issued_slot steps.Drop = None
-issued_slot (steps.Issue kind slot) = Some slot
-issued_slot steps.Admit = None
-issued_slot steps.Retry = None
-issued_slot steps.RecvRetry = None
-issued_slot steps.Resend = None
-issued_slot steps.Cancel = None
-issued_slot steps.Start = None
-issued_slot steps.RecvSnp = None
-issued_slot steps.RecvSnpResp = None
-issued_slot steps.RecvData = None
-issued_slot steps.RecvComp = None
-issued_slot steps.RecvAck = None
-issued_slot steps.RecvDbid = None
-issued_slot steps.RecvWrData = None
 
 -- an index where a slot, if there is one, has the place that its line shows now
 abbrev pub looked_at : List (List (Option Place)) → ℕ → Line → Seen → Option Slot → List (List (Option Place))

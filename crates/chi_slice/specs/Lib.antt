@@ -1,13 +1,5 @@
-pub mod LineState
-pub mod Step
-pub mod Refused
-pub mod Snooped
-pub mod Kept
-pub mod Coherent
 pub mod Config
 pub mod Recorded
 pub mod Slice
-pub mod LineStep
-pub mod View
-pub mod Places
 pub mod Index
+pub mod SliceMoves

@@ -18,11 +18,11 @@ use Rattle.chi_wires.specs.Wires.{row_of}
 use Rattle.chi_rnline.specs.Rn.{Rn, no_line}
 use Rattle.chi_homeline.specs.Home.{Home, idle_home}
 use Rattle.chi_slice.specs.Config.{Sizes, are_in_limits}
-use Rattle.chi_slice.specs.LineState.{LineState}
-use Rattle.chi_slice.specs.declared.act.Conditions.{Conditions}
-use Rattle.chi_slice.specs.Step.{after, completed_slot, effect_of, is_step_in_range, line_uses, record_of, slot_unless}
-use Rattle.chi_slice.specs.Refused.{line_refusal}
-use Rattle.chi_slice.specs.Kept.{Kept}
+use Rattle.chi_line.specs.LineState.{LineState}
+use Rattle.chi_line.specs.declared.act.Conditions.{Conditions}
+use Rattle.chi_line.specs.Step.{after, effect_of, is_step_in_range, line_uses, record_of, slot_unless}
+use Rattle.chi_line.specs.Refused.{line_refusal}
+use Rattle.chi_line.specs.Kept.{Kept}
 
 pub record SliceState : Type 0 where
   pub config : Sizes
@@ -102,6 +102,14 @@ conditions_of s action = record { slot_used = is_slot_used s action.agent.0 acti
 -- why an action is refused: 10, then the numbers of its row in the table of the actions
 abbrev pub refused : SliceState → Action → Option Refusal
 refused s action = if is_in_range s action then line_refusal (conditions_of s action) (line s action.line.0) action else Some OutOfRange
+
+-- the conditions, were the slot that an Issue names taken as well
+abbrev pub conditions_with : Bool → SliceState → Action → Conditions
+conditions_with taken s action = record { slot_used = is_slot_used s action.agent.0 action.step || taken; journal_full = is_full s.journal; profile = s.config.profile }
+
+-- why an action would be refused then
+abbrev pub refused_with : Bool → SliceState → Action → Option Refusal
+refused_with taken s action = if is_in_range s action then line_refusal (conditions_with taken s action) (line s action.line.0) action else Some OutOfRange
 
 -- the slice with another line in a row
 abbrev pub with_line : SliceState → ℕ → LineState → SliceState

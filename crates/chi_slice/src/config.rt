@@ -1,6 +1,6 @@
 //! The sizes of a node.
 
-ghost use Rattle.std.specs.Prelude.{◌≡◌, ◌+◌, ◌&&◌, nat_le, true, ⊤};
+ghost use Rattle.std.specs.Prelude.{◌≡◌, ◌+◌, ◌/◌, ◌%◌, ◌&&◌, nat_le, true, ⊤};
 ghost use Rattle.chi_flit.specs.declared.credit.Profile.TheVariants.{Four};
 ghost use Rattle.chi_slice.specs.Config.{Sizes, are_entries, are_in_limits, config_if, four_types, is_between, is_slice_count, two_types};
 
@@ -152,6 +152,30 @@ impl Config {
         ensures limits { are_in_limits self.now ≡ true }
     {
         self.slices
+    }
+
+    /// The slice that a line is in: `line mod slices`, with no division.
+    pub(crate) fn slice_of(&self, line: u8) -> u8
+        ensures { result ≡ line % self.now.slices }
+    {
+        match self.slices {
+            1 => 0,
+            2 => line % 2,
+            4 => line % 4,
+            _ => line % 8,
+        }
+    }
+
+    /// The row of a line in its slice: `line / slices`, with no division.
+    pub(crate) fn row_of(&self, line: u8) -> u8
+        ensures { result ≡ line / self.now.slices }
+    {
+        match self.slices {
+            1 => line,
+            2 => line / 2,
+            4 => line / 4,
+            _ => line / 8,
+        }
     }
 
     /// The number of tracker entries of each credit type.

@@ -1,25 +1,14 @@
-//! The protocol: a slice of the home's lines, the requesters' copies of them, and the flits in flight.
+//! The protocol: a slice of the home's lines, and the journal of what its copies answered.
 #![tactic(auto)]
 
-mod act;
-mod completions;
 mod config;
-mod copies;
-mod ends;
 mod places;
 mod records;
-mod requests;
 mod row;
-mod seen;
 mod slice;
-mod slots;
-mod snoops;
-#[cfg(test)]
-mod tests;
-mod view;
 
 pub use chi_flit::{Action, Effect, Step};
+pub use chi_line::{CopyView, LineView, Where};
 pub use config::Config;
-pub use places::{Place, Where};
+pub use places::Place;
 pub use slice::Slice;
-pub use view::{CopyView, LineView};

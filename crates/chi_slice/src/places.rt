@@ -2,31 +2,11 @@
 
 ghost use Rattle.std.specs.Prelude.{◌≡◌};
 ghost use Rattle.chi_slice.specs.Index.{followed, looked_at, no_places, place_of, placed, with_place};
-ghost use Rattle.chi_slice.specs.Step.{pending_slot};
+ghost use Rattle.chi_line.specs.Step.{pending_slot};
 
-use crate::seen::{Seen, where_in};
 use chi_flit::{Agent, Line, Slot};
+use chi_line::{Seen, Where, where_in};
 use std::marker::Model;
-
-/// Where a request is.
-/// Source: `docs/PROTOCOL.md`, "Agreement".
-#[derive(Clone, Copy, Debug, PartialEq, Eq)]
-pub enum Where {
-    /// In flight, with AllowRetry.
-    Sent,
-    /// The RetryAck to it is in flight.
-    Refused,
-    /// Pending in phase Retried.
-    Retried,
-    /// In flight, without AllowRetry.
-    Riding,
-    /// It waits or is served at the home, and is pending.
-    Admitted,
-    /// It is served at the home, and not pending any more.
-    Answered,
-    /// An Evict whose Comp_I is in flight.
-    Closing,
-}
 
 /// The line of a request, and where the request is.
 #[derive(Clone, Copy, Debug, PartialEq, Eq)]

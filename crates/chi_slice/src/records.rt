@@ -3,7 +3,7 @@
 ghost use Rattle.std.specs.Prelude.{◌≡◌};
 ghost use Rattle.chi_slice.specs.Recorded.{CanAppend, done_record, load_record, record_by};
 ghost use Rattle.chi_slice.specs.Slice.{recorded};
-ghost use Rattle.chi_slice.specs.Step.{is_step_in_range};
+ghost use Rattle.chi_line.specs.Step.{is_step_in_range};
 
 use chi_flit::{Action, Agent, Effect, Line, Refusal, Step, WordNo};
 use chi_journal::{Journal, Record};

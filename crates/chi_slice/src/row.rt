@@ -2,17 +2,15 @@
 
 ghost use Rattle.std.specs.Prelude.{◌≡◌, ℕ, List, ◌<◌, true, length, slice_set, IfOk, OnOk, OnErr};
 ghost use Rattle.chi_flit.specs.Refusal.{refusal_of};
-ghost use Rattle.chi_slice.specs.Kept.{Kept};
+ghost use Rattle.chi_line.specs.Kept.{Kept};
 ghost use Rattle.chi_slice.specs.Index.{followed_by};
-ghost use Rattle.chi_slice.specs.Refused.{line_refusal};
-ghost use Rattle.chi_slice.specs.Step.{after, effect_of, is_step_in_range, line_of_parts};
+ghost use Rattle.chi_line.specs.Refused.{line_refusal};
+ghost use Rattle.chi_line.specs.Step.{after, effect_of, is_step_in_range, line_of_parts};
 
-use crate::act::{Conditions, act_on};
 use crate::places::Places;
-use crate::seen::seen_of;
-use crate::slots::issued_slot;
 use chi_flit::{Action, Effect, Line, Refusal};
 use chi_homeline::HomeLine;
+use chi_line::{Conditions, act_on, issued_slot, seen_of};
 use chi_rnline::RnLine;
 use chi_wires::Wires;
 use std::alloc::Allocator;

@@ -6,27 +6,29 @@ ghost use Rattle.chi_rnline.specs.Rn.{no_line};
 ghost use Rattle.chi_homeline.specs.Home.{idle_home};
 ghost use Rattle.chi_slice.specs.Config.{Sizes, are_in_limits};
 ghost use Rattle.chi_journal.specs.Journal.{IsLegal};
-ghost use Rattle.chi_slice.specs.Step.{effect_of, is_step_in_range};
+ghost use Rattle.chi_line.specs.Step.{effect_of, is_step_in_range, pending_slot, record_of};
 ghost use Rattle.chi_slice.specs.declared.places.Place.{Place};
-ghost use Rattle.chi_slice.specs.Places.{at_line, is_slot_of, where_at};
-ghost use Rattle.chi_slice.specs.LineState.{cells_of};
-ghost use Rattle.chi_slice.specs.LineStep.{LineStep};
-ghost use Rattle.chi_slice.specs.Step.{record_of};
+ghost use Rattle.chi_slice.specs.Index.{at_line, is_slot_of, SlotsInRange, typed_at};
+ghost use Rattle.chi_line.specs.Places.{where_at};
+ghost use Rattle.chi_line.specs.LineState.{cells_of, rn_of};
+ghost use Rattle.chi_line.specs.Types.{pending_credit, is_of_type};
+ghost use Rattle.chi_line.specs.LineStep.{LineStep};
 ghost use Rattle.chi_slice.specs.Recorded.{CanAppend, record_by};
-ghost use Rattle.chi_slice.specs.Coherent.{Coherent};
-ghost use Rattle.chi_slice.specs.View.{shown};
-ghost use Rattle.chi_slice.specs.Slice.{acted, are_in_range, completes, conditions_of, flits_refusal, is_in_range, is_line_in_range, is_slot_used, last_of, line, line as line_of_slice, opening_slice, OtherLinesStay, Performed, SliceKept, recorded, refused, row_count, row_of_line, run_after, run_done, uses, view_refusal};
+ghost use Rattle.chi_line.specs.Coherent.{Coherent};
+ghost use Rattle.chi_line.specs.View.{shown};
+ghost use Rattle.chi_slice.specs.Slice.{acted, are_in_range, completes, conditions_of, conditions_with, flits_refusal, is_in_range, is_line_in_range, is_slot_used, last_of, line, line as line_of_slice, opening_slice, OtherLinesStay, Performed, SliceKept, recorded, refused, refused_with, row_count, row_of_line, run_after, run_done, uses, view_refusal};
 
-use crate::act::Conditions;
 use crate::config::Config;
-use crate::ends::completed_at;
 use crate::places::{Place, Places};
 use crate::records::{follow, is_step_in_range};
 use crate::row::act_in_row;
-use crate::view::{LineView, view_of};
-use chi_flit::{Action, Agent, Effect, Line, NoMemory, Refusal, Slot, Step};
+use chi_flit::{Action, Agent, CreditType, Effect, Line, NoMemory, Refusal, Slot, Step};
 use chi_homeline::HomeLine;
 use chi_journal::Journal;
+use chi_line::{
+    Conditions, LineView, TypedSlot, completed_at, is_of_type, pending_credit, pending_slot,
+    refusal_on, view_of,
+};
 use chi_rnline::RnLine;
 use chi_wires::{Cells, Wires};
 use std::alloc::Allocator;
@@ -120,22 +122,17 @@ impl<A: Allocator> Slice<A> {
         ensures { result ≡ is_in_range self.now action }
     {
         action.agent.0 < self.config.agents()
-            && self.is_line_in_range(action.line)
+            && self.has_line(action.line)
             && is_step_in_range(action.step)
     }
 
     /// Whether the agent is in the node, and the line in this slice.
     fn are_in_range(&self, agent: Agent, line: Line) -> bool
-        ensures { result ≡ are_in_range self.now agent.0 line.0 }
+        ensures range { result ≡ are_in_range self.now agent.0 line.0 }
+        ensures kept { SliceKept self.now }
+        ensures slots { SlotsInRange self.now }
     {
-        agent.0 < self.config.agents() && self.is_line_in_range(line)
-    }
-
-    /// Whether the line is in this slice.
-    fn is_line_in_range(&self, line: Line) -> bool
-        ensures { result ≡ is_line_in_range self.now line.0 }
-    {
-        line.0 < self.config.lines() && line.0 % self.config.slices() == self.index
+        agent.0 < self.config.agents() && self.has_line(line)
     }
 
     /// The row of a line.
@@ -143,7 +140,7 @@ impl<A: Allocator> Slice<A> {
         ensures row { result ≡ row_of_line self.now line.0 }
         ensures kept { SliceKept self.now }
     {
-        line.0 / self.config.slices()
+        self.config.row_of(line.0)
     }
 
     /// Whether the agent's slot is in use at any line of the slice.
@@ -252,6 +249,44 @@ impl<A: Allocator> Slice<A> {
         done
     }
 
+    /// What an action needs to know of the slice, were the slot of an Issue taken as well.
+    fn conditions_with(&self, action: Action, slot_taken: bool) -> Conditions
+        requires agent { action.agent.0 < 8 }
+        requires step { is_step_in_range action.step ≡ true }
+        ensures { result ≡ conditions_with slot_taken self.now action }
+    {
+        let found = self.conditions(action);
+        Conditions {
+            slot_used: found.slot_used || slot_taken,
+            journal_full: found.journal_full,
+            profile: found.profile,
+        }
+    }
+
+    /// Why `act` would refuse the action, were the slot of an Issue in use as well where it is
+    /// `slot_taken`; `None` where it would be done. Nothing is done.
+    /// Source: `docs/PROTOCOL.md`, "The actions".
+    pub fn refusal(&self, action: Action, slot_taken: bool) -> Option<Refusal>
+        ensures refusal { result ≡ refused_with slot_taken self.now action }
+        ensures untaken { slot_taken ≡ false → result ≡ refused self.now action }
+        ensures allowed { result ≡ None → refused self.now action ≡ None }
+    {
+        if !self.is_in_range(action) {
+            return Some(Refusal::OutOfRange);
+        }
+        let row = self.row_of(action.line);
+        let place = usize::from(row);
+        let conditions = self.conditions_with(action, slot_taken);
+        refusal_on(
+            &self.requesters[place],
+            &self.homes[place],
+            &self.wires,
+            Line(row),
+            conditions,
+            action,
+        )
+    }
+
     /// The slot of the request that the action would complete; `None` where it would be refused, or
     /// completes nothing.
     pub fn completes(&self, action: Action) -> Option<Slot>
@@ -274,7 +309,7 @@ impl<A: Allocator> Slice<A> {
         ensures coherent { OnOk result (Coherent (last_of self.now line.0) (line_of_slice self.now line.0)) }
         ensures refusal { refusal_of result ≡ view_refusal self.now line.0 }
     {
-        if !self.is_line_in_range(line) {
+        if !self.has_line(line) {
             return Err(Refusal::OutOfRange);
         }
         let row = self.row_of(line);
@@ -293,12 +328,41 @@ impl<A: Allocator> Slice<A> {
     pub fn flits(&self, agent: Agent, line: Line) -> Result<Cells, Refusal>
         ensures cells { IfOk result (λ cells. cells ≡ cells_of (line_of_slice self.now line.0) agent.0) }
         ensures refusal { refusal_of result ≡ flits_refusal self.now agent.0 line.0 }
+        ensures kept { SliceKept self.now }
+        ensures slots { SlotsInRange self.now }
     {
         if !self.are_in_range(agent, line) {
             return Err(Refusal::OutOfRange);
         }
         let row = self.row_of(line);
         Ok(self.wires.cells(agent, Line(row)))
+    }
+
+    /// Whether the line is one of this slice: a line `l` of the node is where `l mod slices` is its index.
+    /// Source: `docs/PROTOCOL.md`, "Limits".
+    pub fn has_line(&self, line: Line) -> bool
+        ensures { result ≡ is_line_in_range self.now line.0 }
+    {
+        line.0 < self.config.lines() && self.config.slice_of(line.0) == self.index
+    }
+
+    /// The slot of the agent's request to the line that is pending.
+    ///
+    /// Refused 10 (OutOfRange) exactly where the agent or the line is outside the node, or the line is in
+    /// another slice.
+    /// Source: `docs/PROTOCOL.md`, "One line".
+    pub fn pending(&self, agent: Agent, line: Line) -> Result<Option<Slot>, Refusal>
+        ensures pending { IfOk result (λ slot. slot ≡ pending_slot (rn_of (line_of_slice self.now line.0) agent.0).pending) }
+        ensures refusal { refusal_of result ≡ flits_refusal self.now agent.0 line.0 }
+        ensures kept { SliceKept self.now }
+        ensures slots { SlotsInRange self.now }
+    {
+        if !self.are_in_range(agent, line) {
+            return Err(Refusal::OutOfRange);
+        }
+        let row = self.row_of(line);
+        let copies = &self.requesters[usize::from(row)];
+        Ok(pending_slot(copies[usize::from(agent.0)].pending()))
     }
 
     /// The place of the request that uses an agent's slot: its line, which is in this slice, and where the
@@ -313,11 +377,58 @@ impl<A: Allocator> Slice<A> {
         self.places.get(agent, slot)
     }
 
+    /// Whether the slot, whose place is this, has its credit type there.
+    fn is_type_in(&self, place: Option<Place>, typed: TypedSlot) -> bool
+        requires agent { (there : Place) → place ≡ Some there → typed.agent.0 < 8 }
+        requires line { (there : Place) → place ≡ Some there → is_line_in_range self.now there.line.0 ≡ true }
+        ensures typed { result ≡ typed_at self.now typed.credit typed.agent.0 typed.slot place }
+        ensures kept { SliceKept self.now }
+    {
+        let profile = self.config.profile();
+        match place {
+            Some(place) => {
+                let row = self.row_of(place.line);
+                let at = usize::from(row);
+                is_of_type(
+                    &self.requesters[at],
+                    &self.homes[at],
+                    &self.wires,
+                    Line(row),
+                    profile,
+                    typed,
+                )
+            }
+            None => true,
+        }
+    }
+
+    /// Whether the slot of an agent has this credit type, wherever a line of the slice still keeps the kind
+    /// of its request. Only the line of its place is looked at. True for an agent or slot outside the eight
+    /// of each.
+    /// Source: `docs/PROTOCOL.md`, "Agreement".
+    pub fn has_credit(&self, agent: Agent, slot: Slot, credit: CreditType) -> bool
+        ensures all { agent.0 < 8 → slot.0 < 8 → result ≡ true → (l : ℕ) → is_line_in_range self.now l ≡ true → is_of_type self.now.config.profile credit (line_of_slice self.now l) agent.0 slot ≡ true }
+        ensures only { agent.0 < 8 → slot.0 < 8 → ((l : ℕ) → is_line_in_range self.now l ≡ true → is_of_type self.now.config.profile credit (line_of_slice self.now l) agent.0 slot ≡ true) → result ≡ true }
+        ensures outside { is_slot_of agent.0 slot ≡ false → result ≡ true }
+        ensures kept { SliceKept self.now }
+    {
+        let place = self.place(agent, slot);
+        self.is_type_in(
+            place,
+            TypedSlot {
+                agent,
+                slot,
+                credit,
+            },
+        )
+    }
+
     /// The loads and stores that were answered, in their order: each load had the value that was stored
-    /// last before it.
+    /// last before it. Whoever asks for them knows what every slice keeps.
     pub fn journal(&self) -> &Journal<A>
         ensures journal { result.now ≡ self.now.journal }
         ensures legal { IsLegal self.now.journal.entries }
+        ensures kept { SliceKept self.now }
     {
         &self.journal
     }
@@ -334,5 +445,23 @@ impl<A: Allocator> Slice<A> {
         ensures { result ≡ self.now.index }
     {
         self.index
+    }
+
+    /// The credit type of the agent's request to the line that is pending, by the node's profile.
+    ///
+    /// Refused 10 (OutOfRange) exactly where the agent or the line is outside the node, or the line is in
+    /// another slice.
+    /// Source: `docs/PROTOCOL.md`, "Kinds of request".
+    pub fn pending_credit(&self, agent: Agent, line: Line) -> Result<Option<CreditType>, Refusal>
+        ensures credit { IfOk result (λ credit. credit ≡ pending_credit self.now.config.profile (rn_of (line_of_slice self.now line.0) agent.0).pending) }
+        ensures refusal { refusal_of result ≡ flits_refusal self.now agent.0 line.0 }
+    {
+        if !self.are_in_range(agent, line) {
+            return Err(Refusal::OutOfRange);
+        }
+        let row = self.row_of(line);
+        let copies = &self.requesters[usize::from(row)];
+        let pending = copies[usize::from(agent.0)].pending();
+        Ok(pending_credit(self.config.profile(), pending))
     }
 }

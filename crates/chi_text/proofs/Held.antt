@@ -14,7 +14,7 @@ use Rattle.chi_tracker.specs.Laws.{port_at}
 use Rattle.chi_tracker.proofs.BitLaws.{dropped_else, with_else, with_here}
 use Rattle.chi_text.specs.Ports.{Claims}
 use Rattle.chi_slice.specs.Config.{Sizes, are_in_limits}
-use Rattle.chi_slice.specs.Slice.{SliceState}
+use Rattle.chi_text.specs.Home.{HomeState}
 use Rattle.chi_text.specs.Slots.{entries_after, entry_of, is_slot_of, ports_after, with_entry}
 use Rattle.chi_text.specs.Session.{IsHeld}
 
@@ -130,10 +130,10 @@ freed_change ports n entry low =
     let here : port_at (set ports n (frees entry (port_at ports n))) n ≡ frees entry (port_at ports n) = get_or-set_same ports n (frees entry (port_at ports n)) _ low in
     (here, record { low = low; others = ap (λ (p : PortView). set ports n p) (sym here) })
 
--- a step of the slice keeps its sizes
-resized : (slice slice' : SliceState) (entries : List (List (Option Entry))) (ports : List PortView) → slice'.config ≡ slice.config → IsHeld (record { machine = record { slice = slice; entries = entries }; ports = ports })
-    → IsHeld (record { machine = record { slice = slice'; entries = entries }; ports = ports })
-resized slice slice' entries ports sizes k = record {
+-- a step of a slice keeps the sizes of the node
+resized : (home home' : HomeState) (entries : List (List (Option Entry))) (ports : List PortView) → home'.config ≡ home.config → IsHeld (record { machine = record { home = home; entries = entries }; ports = ports })
+    → IsHeld (record { machine = record { home = home'; entries = entries }; ports = ports })
+resized home home' entries ports sizes k = record {
   held = k.held;
   apart = k.apart;
   all = k.all ∙ ap (λ (s : Sizes). s.agents) (sym sizes);
@@ -142,11 +142,11 @@ resized slice slice' entries ports sizes k = record {
 }
 
 -- the release of a slot's entry
-pub kept_released : (slice slice' : SliceState) (entries : List (List (Option Entry))) (ports : List PortView) (n slot : ℕ) → slice'.config ≡ slice.config → IsHeld (record { machine = record { slice = slice; entries = entries }; ports = ports })
-    → IsHeld (record { machine = record { slice = slice'; entries = entries_after (entry_of entries n slot) entries n slot }; ports = ports_after (entry_of entries n slot) ports n })
-kept_released slice slice' entries ports n slot sizes k = resized slice slice' (entries_after (entry_of entries n slot) entries n slot) (ports_after (entry_of entries n slot) ports n) sizes (go (entry_of entries n slot) refl)
+pub kept_released : (home home' : HomeState) (entries : List (List (Option Entry))) (ports : List PortView) (n slot : ℕ) → home'.config ≡ home.config → IsHeld (record { machine = record { home = home; entries = entries }; ports = ports })
+    → IsHeld (record { machine = record { home = home'; entries = entries_after (entry_of entries n slot) entries n slot }; ports = ports_after (entry_of entries n slot) ports n })
+kept_released home home' entries ports n slot sizes k = resized home home' (entries_after (entry_of entries n slot) entries n slot) (ports_after (entry_of entries n slot) ports n) sizes (go (entry_of entries n slot) refl)
   where
-    go : (o : Option Entry) → entry_of entries n slot ≡ o → IsHeld (record { machine = record { slice = slice; entries = entries_after o entries n slot }; ports = ports_after o ports n })
+    go : (o : Option Entry) → entry_of entries n slot ≡ o → IsHeld (record { machine = record { home = home; entries = entries_after o entries n slot }; ports = ports_after o ports n })
     go None is = record { held = k.held; apart = k.apart; all = k.all; shapes = k.shapes; limits = k.limits }
     go (Some entry) is =
         let freed = freed_change ports n entry.0 (has_port ports n entry.0 (k.held n slot entry is)) in
@@ -168,10 +168,10 @@ kept_released slice slice' entries ports n slot sizes k = resized slice slice' (
         }
 
 -- the claim of an entry for a slot
-pub kept_claimed : (slice slice' : SliceState) (entries : List (List (Option Entry))) (ports ports' : List PortView) (n : ℕ) (ty : CreditType) (slot : ℕ) (entry : Entry) → slice'.config ≡ slice.config → IsHeld (record { machine = record { slice = slice; entries = entries }; ports = ports })
+pub kept_claimed : (home home' : HomeState) (entries : List (List (Option Entry))) (ports ports' : List PortView) (n : ℕ) (ty : CreditType) (slot : ℕ) (entry : Entry) → home'.config ≡ home.config → IsHeld (record { machine = record { home = home; entries = entries }; ports = ports })
     → IsPortChange ports ports' n → Claims (port_at ports n) ty (Some entry) (port_at ports' n)
-    → IsHeld (record { machine = record { slice = slice'; entries = with_entry entries n slot (Some entry) }; ports = ports' })
-kept_claimed slice slice' entries ports ports' n ty slot entry sizes k change claim = resized slice slice' (with_entry entries n slot (Some entry)) ports' sizes (record {
+    → IsHeld (record { machine = record { home = home'; entries = with_entry entries n slot (Some entry) }; ports = ports' })
+kept_claimed home home' entries ports ports' n ty slot entry sizes k change claim = resized home home' (with_entry entries n slot (Some entry)) ports' sizes (record {
   held = λ n' slot' found h. ⊎_elim
       (λ w.
       let same : entry ≡ found = some_same entry found (Some entry) refl (sym w.is ∙ h) in
@@ -210,10 +210,10 @@ kept_claimed slice slice' entries ports ports' n ty slot entry sizes k change cl
     entry_is found h = ap (λ (x : Entry). x.0) (some_same entry found (Some entry) refl h)
 
 -- a claim that finds no entry
-pub kept_unclaimed : (slice : SliceState) (entries : List (List (Option Entry))) (ports ports' : List PortView) (n : ℕ) (ty : CreditType) → IsHeld (record { machine = record { slice = slice; entries = entries }; ports = ports })
+pub kept_unclaimed : (home : HomeState) (entries : List (List (Option Entry))) (ports ports' : List PortView) (n : ℕ) (ty : CreditType) → IsHeld (record { machine = record { home = home; entries = entries }; ports = ports })
     → IsPortChange ports ports' n → Claims (port_at ports n) ty None (port_at ports' n)
-    → IsHeld (record { machine = record { slice = slice; entries = entries }; ports = ports' })
-kept_unclaimed slice entries ports ports' n ty k change claim = record {
+    → IsHeld (record { machine = record { home = home; entries = entries }; ports = ports' })
+kept_unclaimed home entries ports ports' n ty k change claim = record {
   held = λ n' slot' found h.
       let was = k.held n' slot' found h in
       for_each ports ports' n n' (λ p. has found.0 p ≡ 1) change was (λ e. ap (has found.0) claim.0 ∙ (ap (λ i. has found.0 (port_at ports i)) (sym e) ∙ was));

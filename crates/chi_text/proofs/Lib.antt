@@ -1,3 +1,5 @@
+pub mod Homes
+pub mod Audited
 pub mod PortLists
 pub mod Held
 pub mod Turned

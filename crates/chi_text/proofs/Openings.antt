@@ -1,11 +1,8 @@
--- A new node: its sizes fit the slice and the tracker, no slot has an entry, and each requester has a port.
-use Rattle.std.proofs.Common.{◌≡◌, ℕ, zero, suc, ◌+◌, ◌<◌, ◌≤◌, List, [], ◌∷◌, Bool, true, false, ◌&&◌, ◌==◌, nat_le, nat_lt, Option, Some, None, if◌then◌else◌, refl, sym, ◌∙◌, ap, subst, get_or, length, replicate, arith, ⊎_elim}
+-- A new node: its sizes fit the tracker, no slot has an entry, and each requester has a port.
+use Rattle.std.proofs.Common.{◌≡◌, ℕ, zero, suc, ◌+◌, ◌<◌, ◌≤◌, List, [], ◌∷◌, Bool, true, false, ◌&&◌, ◌==◌, nat_le, Option, Some, None, if◌then◌else◌, refl, sym, ◌∙◌, ap, subst, get_or, length, replicate, arith, ⊎_elim}
 use Rattle.std.proofs.lemmas.Bool.{cases_lt}
 use Rattle.std.proofs.lemmas.List.{get_or-replicate, get_or_past}
-use Rattle.chi_flit.specs.declared.numbers.Agent.{Agent}
 use Rattle.chi_flit.specs.declared.numbers.Entry.{Entry}
-use Rattle.chi_flit.specs.declared.numbers.Line.{Line}
-use Rattle.chi_flit.specs.declared.refusal.Refusal.TheVariants.{OutOfRange}
 use Rattle.chi_flit.specs.declared.credit.Profile.{Profile}
 use Rattle.chi_flit.specs.declared.credit.Profile.TheVariants.{Two, Four}
 use Rattle.chi_flit.specs.declared.kind.Kind.{Kind}
@@ -19,17 +16,11 @@ use Rattle.chi_tracker.specs.Views.{new_ports}
 use Rattle.chi_tracker.specs.Calls.{shape_of}
 use Rattle.chi_tracker.specs.Laws.{port_at}
 use Rattle.chi_slice.specs.Config.{Sizes, are_entries, are_in_limits, is_between, is_slice_count}
-use Rattle.chi_slice.specs.Refused.{line_refusal}
-use Rattle.chi_slice.specs.Slice.{SliceState, conditions_of, is_in_range, line, refused}
 use Rattle.chi_slice.proofs.Rows.{InLimits, both, in_limits, at_most}
-use Rattle.chi_text.specs.Turns.{admission}
+use Rattle.chi_text.specs.Home.{HomeState}
 use Rattle.chi_text.specs.Slots.{entry_of, is_slot_of, no_entries}
 use Rattle.chi_text.specs.Texts.{opening_ports}
 use Rattle.chi_text.specs.Session.{SessionState, IsHeld}
-
--- a node has a first slice
-pub has_slice : (config : Sizes) → are_in_limits config ≡ true → 0 < config.slices
-has_slice config h = let l : InLimits config = in_limits config h in omega (arith, l.some_slice)
 
 entries_in : (config : Sizes) → are_in_limits config ≡ true → are_entries config.profile config.entries ≡ true
 entries_in config h = (both (is_between 1 65536 config.journal) (are_entries config.profile config.entries) (both (nat_le config.slices config.lines) _ (both (is_slice_count config.slices) _ (both (is_between 1 64 config.lines) _ (both (is_between 1 8 config.agents) _ h).1).1).1).1).1
@@ -103,14 +94,6 @@ few_agents config h = let l : InLimits config = in_limits config h in (omega (ar
 pub has_entries : (config : Sizes) (kind : Kind) → are_in_limits config ≡ true → 0 < size (shape_of config.entries config.agents) (credit_number (credit_type_of config.profile kind))
 has_entries config kind h = let s : AreSome config.profile config.entries = are_some config.profile config.entries (entries_in config h) in s.some config.agents kind
 
--- an agent whose request may be admitted is one of the node
-pub in_node : (s : SliceState) (agent : Agent) (l : Line) → refused s (admission agent l) ≡ None → agent.0 < s.config.agents
-in_node s agent l h = go (is_in_range s (admission agent l)) refl h
-  where
-    go : (b : Bool) → is_in_range s (admission agent l) ≡ b → (if b then line_refusal (conditions_of s (admission agent l)) (line s l.0) (admission agent l) else Some OutOfRange) ≡ None → agent.0 < s.config.agents
-    go true is g = let low = (both (nat_lt agent.0 s.config.agents) _ is).0 in grind (arith, low)
-    go false is g = absurd (cc (g))
-
 abbrev no_row : List (Option Entry)
 no_row = replicate 8 None
 
@@ -144,18 +127,18 @@ of_shape shape n (suc m) zero low = refl
 of_shape shape n (suc m) (suc i) low = of_shape shape (n + 1) m i (omega (arith, low))
 
 -- no slot has an entry, and each requester has a port
-pub opening_held : (slice : SliceState) → are_in_limits slice.config ≡ true → IsHeld (record { machine = record { slice = slice; entries = no_entries }; ports = opening_ports slice.config })
-opening_held slice limits = record {
+pub opening_held : (home : HomeState) → are_in_limits home.config ≡ true → IsHeld (record { machine = record { home = home; entries = no_entries }; ports = opening_ports home.config })
+opening_held home limits = record {
   held = λ n slot entry h. absurd (some_not_none entry (entry_of no_entries n slot) (no_entry n slot) h);
   apart = λ n slot other entry same h g e. absurd (some_not_none entry (entry_of no_entries n slot) (no_entry n slot) h);
-  all = as_many (shape_of slice.config.entries slice.config.agents) 0 slice.config.agents;
-  shapes = λ n low. of_shape (shape_of slice.config.entries slice.config.agents) 0 slice.config.agents n (subst (λ m. n < m) (as_many (shape_of slice.config.entries slice.config.agents) 0 slice.config.agents) low);
+  all = as_many (shape_of home.config.entries home.config.agents) 0 home.config.agents;
+  shapes = λ n low. of_shape (shape_of home.config.entries home.config.agents) 0 home.config.agents n (subst (λ m. n < m) (as_many (shape_of home.config.entries home.config.agents) 0 home.config.agents) low);
   limits = limits;
 }
 
--- an agent whose request may be admitted has a port, to a tracker with entries of the request's type
-pub port_of_agent : (s : SessionState) (agent : Agent) (l : Line) → IsHeld s → refused s.machine.slice (admission agent l) ≡ None → agent.0 < length s.ports
-port_of_agent s agent l k allowed = subst (λ m. agent.0 < m) (sym k.all) (in_node s.machine.slice agent l allowed)
+-- an agent of the node has a port, to a tracker with entries of each request's type
+pub port_of_agent : (s : SessionState) (agent : ℕ) → IsHeld s → agent < s.machine.home.config.agents → agent < length s.ports
+port_of_agent s agent k low = subst (λ m. agent < m) (sym k.all) low
 
-pub entries_for : (s : SessionState) (n : ℕ) (kind : Kind) → IsHeld s → n < length s.ports → 0 < size (port_at s.ports n).shape (credit_number (credit_type_of s.machine.slice.config.profile kind))
-entries_for s n kind k low = rw (k.shapes n low) (has_entries s.machine.slice.config kind k.limits)
+pub entries_for : (s : SessionState) (n : ℕ) (kind : Kind) → IsHeld s → n < length s.ports → 0 < size (port_at s.ports n).shape (credit_number (credit_type_of s.machine.home.config.profile kind))
+entries_for s n kind k low = rw (k.shapes n low) (has_entries s.machine.home.config kind k.limits)

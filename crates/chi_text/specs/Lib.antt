@@ -1,3 +1,4 @@
+pub mod Home
 pub mod Slots
 pub mod Ports
 pub mod Turns

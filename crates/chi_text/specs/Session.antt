@@ -18,6 +18,6 @@ pub record SessionState : Type 0 where
 pub record IsHeld (s : SessionState) : Type 0 where
   pub held : (n slot : ℕ) (entry : Entry) → entry_of s.machine.entries n slot ≡ Some entry → has entry.0 (port_at s.ports n) ≡ 1
   pub apart : (n slot other : ℕ) (entry same : Entry) → entry_of s.machine.entries n slot ≡ Some entry → entry_of s.machine.entries n other ≡ Some same → entry.0 ≡ same.0 → slot ≡ other
-  pub all : length s.ports ≡ s.machine.slice.config.agents
-  pub shapes : (n : ℕ) → n < length s.ports → (port_at s.ports n).shape ≡ shape_of s.machine.slice.config.entries s.machine.slice.config.agents
-  pub limits : are_in_limits s.machine.slice.config ≡ true
+  pub all : length s.ports ≡ s.machine.home.config.agents
+  pub shapes : (n : ℕ) → n < length s.ports → (port_at s.ports n).shape ≡ shape_of s.machine.home.config.entries s.machine.home.config.agents
+  pub limits : are_in_limits s.machine.home.config ≡ true

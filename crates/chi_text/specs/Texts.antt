@@ -1,13 +1,14 @@
 -- The text of a list of commands, under the tracker's answers, and which answers are allowed
 -- (docs/PROTOCOL.md, "Replay files").
-use Rattle.std.specs.Prelude.{◌≡◌, ℕ, List, [], ◌∷◌, ◌++◌, Some, slice_get, slice_set}
+use Rattle.std.specs.Prelude.{◌≡◌, ◌↔◌, ℕ, All, IsTrue, List, [], ◌∷◌, ◌++◌, Some, slice_get, slice_set}
 use Rattle.chi_script.specs.declared.commands.Command.{Command}
+use Rattle.chi_audit.specs.Slices.{IsCoherentSlice}
 use Rattle.chi_slice.specs.Config.{Sizes}
 use Rattle.chi_tracker.specs.Views.{PortView, has, new_ports}
 use Rattle.chi_tracker.specs.Steps.{frees}
 use Rattle.chi_tracker.specs.Calls.{shape_of}
 use Rattle.chi_text.specs.Ports.{Claims}
-use Rattle.chi_text.specs.Turns.{Answer, Call, Claim, Claimed, Free, Freed, Glance, Glanced, Turn, Asks, Ends, Machine, opening, turn}
+use Rattle.chi_text.specs.Turns.{Answer, Call, Claim, Claimed, Free, Freed, Glance, Glanced, Judge, Judged, Turn, Asks, Ends, Machine, opening, turn}
 
 -- the line that a turn says, the state that it leaves, and the answers that it leaves over
 pub record Made : Type 0 where
@@ -26,18 +27,26 @@ abbrev pub text : Machine → List Command → List Answer → List ℕ
 text m [] answers = []
 text m (command ∷ rest) answers = (made (turn m command) answers).said ++ (10 ∷ text (made (turn m command) answers).state rest (made (turn m command) answers).left)
 
--- what the tracker may answer to a call of an agent that has a port, and the views then: the agent's port
--- goes on by the clause of the call, and the other ports stay; a glance may show any numbers
+-- what may be answered to a call, and the views of the ports then. The tracker's answers: the port of the
+-- agent, which has one, goes on by the clause of the call, and the other ports stay; a glance may show any
+-- numbers. A verdict is that on the slices.
 abbrev pub Permits : List PortView → Call → Answer → List PortView → Type 0
 Permits old (Claim agent ty) (Claimed claim) new = (before after : PortView) × (slice_get old agent.0 ≡ Some before) × Claims before ty claim after × (new ≡ slice_set old agent.0 after)
 Permits old (Claim agent ty) Freed new = ⊥
 Permits old (Claim agent ty) (Glanced free hand promised owed) new = ⊥
+Permits old (Claim agent ty) (Judged coherent) new = ⊥
 Permits old (Free agent entry) (Claimed claim) new = ⊥
 Permits old (Free agent entry) Freed new = (before : PortView) × (slice_get old agent.0 ≡ Some before) × (has entry.0 before ≡ 1) × (new ≡ slice_set old agent.0 (frees entry.0 before))
 Permits old (Free agent entry) (Glanced free hand promised owed) new = ⊥
+Permits old (Free agent entry) (Judged coherent) new = ⊥
 Permits old Glance (Claimed claim) new = ⊥
 Permits old Glance Freed new = ⊥
 Permits old Glance (Glanced free hand promised owed) new = new ≡ old
+Permits old Glance (Judged coherent) new = ⊥
+Permits old (Judge slices) (Claimed claim) new = ⊥
+Permits old (Judge slices) Freed new = ⊥
+Permits old (Judge slices) (Glanced free hand promised owed) new = ⊥
+Permits old (Judge slices) (Judged coherent) new = (IsTrue coherent ↔ All IsCoherentSlice slices) × (new ≡ old)
 
 -- a turn, played with just these answers
 abbrev pub Plays : Turn → List PortView → List Answer → List ℕ → Machine → List PortView → Type 0

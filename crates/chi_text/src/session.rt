@@ -1,20 +1,21 @@
 //! A node that commands are played on.
 
-ghost use Rattle.std.specs.Prelude.{◌≡◌, List, [], ◌∷◌, ◌++◌, IfOk, OnOk, Some, string_bytes};
+ghost use Rattle.std.specs.Prelude.{◌≡◌, ◌<◌, List, [], ◌∷◌, ◌++◌, IfOk, OnOk, Some, string_bytes};
 ghost use Rattle.chi_reply.specs.Replies.{reply_text};
 ghost use Rattle.chi_flit.specs.Refusal.{refusal_of};
-ghost use Rattle.chi_slice.specs.LineState.{cells_of};
-ghost use Rattle.chi_slice.specs.Slice.{line as line_of_slice, refused};
+ghost use Rattle.chi_line.specs.LineState.{cells_of};
+ghost use Rattle.chi_text.specs.Home.{line as line_of_home, refused};
 ghost use Rattle.chi_text.specs.Turns.{Answer, act, admission, opening, turn};
 ghost use Rattle.chi_text.specs.Texts.{Plays, Says, opening_ports};
 ghost use Rattle.chi_script.specs.declared.commands.Command.TheVariants as commands;
 
+use crate::home::Home;
 use crate::ports::Ports;
 use crate::slots::{Entries, release};
 use chi_flit::{Action, Agent, Effect, Line, NoMemory, Refusal, Request, Step, credit_type};
 use chi_reply::{InFlight, Reply, Shown, Totals};
 use chi_script::Command;
-use chi_slice::{Config, Slice};
+use chi_slice::Config;
 use std::alloc::Allocator;
 use std::marker::Model;
 
@@ -29,7 +30,7 @@ fn say<B: Allocator>(reply: Reply, text: &mut String<B>) -> Result<(), NoMemory>
 /// A node on one thread, in its opening state at first. Contracts see it as a `SessionState`.
 #[derive(Drop)]
 pub struct Session<A: Allocator> {
-    slice: Slice<A>,
+    home: Home<A>,
     ports: Ports<A>,
     entries: Entries,
 }
@@ -39,23 +40,23 @@ impl<A: Allocator> Model for Session<A> {
 
     ghost Value = { SessionState };
 
-    ghost view = { λ s. record { machine = record { slice = s.slice; entries = s.entries }; ports = s.ports } };
+    ghost view = { λ s. record { machine = record { home = s.home; entries = s.entries }; ports = s.ports } };
 
-    ghost invariant = { λ s. IsHeld (record { machine = record { slice = s.slice; entries = s.entries }; ports = s.ports }) };
+    ghost invariant = { λ s. IsHeld (record { machine = record { home = s.home; entries = s.entries }; ports = s.ports }) };
 }
 
 impl<A: Allocator + Copy> Session<A> {
-    /// A node of that size in its opening state: its first slice, all entries free, and a port for each
+    /// A node of that size in its opening state: its slices, all entries free, and a port for each
     /// requester. Refused where memory runs out.
     pub fn new(alloc: A, config: &Config) -> Result<Session<A>, NoMemory>
         ensures machine { IfOk result (λ session. session.machine ≡ opening config.now) }
         ensures ports { IfOk result (λ session. session.ports ≡ opening_ports config.now) }
     {
         let entries = config.entries();
-        let slice = Slice::new(alloc, config, 0)?;
+        let home = Home::new(alloc, config)?;
         let ports = Ports::new(alloc, entries, config.agents())?;
         Ok(Session {
-            slice,
+            home,
             ports,
             entries: Entries::new(),
         })
@@ -76,6 +77,7 @@ impl<A: Allocator> Session<A> {
     {
         match command {
             Command::Totals => self.say_totals(text),
+            Command::Audit => self.say_audit(text),
             Command::Show { line } => self.say_line(line, text),
             Command::Flits { agent, line } => self.say_flits(agent, line, text),
             Command::Arrive { agent, line } => {
@@ -96,7 +98,7 @@ impl<A: Allocator> Session<A> {
         let counts = self.ports.glance();
         let (free, hand) = (counts.free, counts.hand);
         let (promised, owed) = (counts.promised, counts.owed);
-        let profile = self.slice.config().profile();
+        let profile = self.home.config().profile();
         let totals = Totals {
             free,
             hand,
@@ -108,13 +110,22 @@ impl<A: Allocator> Session<A> {
         Ok(())
     }
 
+    /// The loads and stores, and whether all is coherent.
+    fn say_audit<B: Allocator>(&self, text: &mut String<B>) -> Result<(), NoMemory>
+        ensures { OnOk result (Says (turn self.now.machine commands.Audit) self.now.ports self.now.machine self.now.ports (string_bytes text.old) (string_bytes text.new)) }
+    {
+        let audit = self.home.audit();
+        writeln!(text, "{audit}")?;
+        Ok(())
+    }
+
     /// All parts of a line.
     fn say_line<B: Allocator>(&self, line: Line, text: &mut String<B>) -> Result<(), NoMemory>
         ensures { OnOk result (Says (turn self.now.machine (commands.Show line)) self.now.ports self.now.machine self.now.ports (string_bytes text.old) (string_bytes text.new)) }
     {
-        match self.slice.view(line) {
+        match self.home.view(line) {
             Ok(view) => {
-                let agents = self.slice.config().agents();
+                let agents = self.home.config().agents();
                 let shown = Shown {
                     agents,
                     view: &view,
@@ -135,7 +146,7 @@ impl<A: Allocator> Session<A> {
     ) -> Result<(), NoMemory>
         ensures { OnOk result (Says (turn self.now.machine (commands.Flits agent line)) self.now.ports self.now.machine self.now.ports (string_bytes text.old) (string_bytes text.new)) }
     {
-        match self.slice.flits(agent, line) {
+        match self.home.flits(agent, line) {
             Ok(cells) => {
                 let flits = InFlight(&cells);
                 writeln!(text, "{flits}")?;
@@ -150,7 +161,7 @@ impl<A: Allocator> Session<A> {
     fn act(&mut self, action: Action) -> Reply
         ensures { (answers : List Answer) × Plays (act self.old.machine action) self.old.ports answers (reply_text result) self.new.machine self.new.ports }
     {
-        match self.slice.act(action) {
+        match self.home.act(action) {
             Ok(Effect::Nothing) => Reply::Done,
             Ok(Effect::Value(word)) => Reply::Value(word),
             Ok(Effect::Completed(slot)) => {
@@ -170,12 +181,12 @@ impl<A: Allocator> Session<A> {
             Ok(request) => request,
             Err(refusal) => return Reply::Refused(refusal),
         };
-        let ty = credit_type(self.slice.config().profile(), request.kind);
+        let ty = credit_type(self.home.config().profile(), request.kind);
         let Some(entry) = self.ports.claim(agent, ty) else {
             return Reply::NoEntry;
         };
         let step = Step::Admit;
-        match self.slice.act(Action { agent, line, step }) {
+        match self.home.act(Action { agent, line, step }) {
             Ok(_) => {
                 self.entries.put(agent, request.slot, Some(entry));
                 Reply::Admitted(entry)
@@ -186,9 +197,10 @@ impl<A: Allocator> Session<A> {
 
     /// The agent's request that is in flight: refused as its admission would be.
     fn request(&self, agent: Agent, line: Line) -> Result<Request, Refusal>
-        ensures refusal { refusal_of result ≡ refused self.now.machine.slice (admission agent line) }
-        ensures request { IfOk result (λ request. (cells_of (line_of_slice self.now.machine.slice line.0) agent.0).req ≡ Some request) }
+        ensures refusal { refusal_of result ≡ refused self.now.machine.home (admission agent line) }
+        ensures request { IfOk result (λ request. (cells_of (line_of_home self.now.machine.home line.0) agent.0).req ≡ Some request) }
+        ensures agent { OnOk result (agent.0 < self.now.machine.home.config.agents) }
     {
-        self.slice.flits(agent, line)?.req.ok_or(Refusal::NoFlit)
+        self.home.flits(agent, line)?.req.ok_or(Refusal::NoFlit)
     }
 }

@@ -11,6 +11,7 @@ fn commands_are_answered_line_by_line(rt: HostRuntime) -> Result<(), NoMemory> {
         None => assert!(rt; false),
         Some(config) => {
             let commands = [
+                Command::Audit,
                 Command::Totals,
                 Command::Flits { agent, line },
                 Command::Arrive { agent, line },
@@ -19,7 +20,7 @@ fn commands_are_answered_line_by_line(rt: HostRuntime) -> Result<(), NoMemory> {
             let text = run(rt.alloc(), &config, &commands)?;
             assert_eq!(rt;
                 text.as_str(),
-                "ok free 1 1 hand 0 0 promised 0 0 owed 0 0\nok none\nrefused 7 NoFlit\nrefused 10 OutOfRange\n"
+                "ok loads 0 stores 0 coherent\nok free 1 1 hand 0 0 promised 0 0 owed 0 0\nok none\nrefused 7 NoFlit\nrefused 10 OutOfRange\n"
             );
             let mut session = Session::new(rt.alloc(), &config)?;
             let mut text = String::new(rt.alloc());
@@ -74,11 +75,60 @@ fn a_stored_word_is_loaded_by_another_agent(rt: HostRuntime) -> Result<(), NoMem
                 act(1, Step::Load(WordNo(3))),
                 act(1, Step::RecvAck),
                 Command::Show { line: Line(0) },
+                Command::Audit,
             ];
             let text = run(rt.alloc(), &config, &commands)?;
             assert_eq!(rt;
                 text.as_str(),
-                "ok\nok admitted 0\nok\nok\nok completed 0 freed\nok\nok\nok admitted 0\nok\nok\nok\nok\nok value 7\nok completed 0 freed\nok copies SC,SC named 0,1 unique no serving none waiting - memory 0 0 0 7 0 0 0 0\n"
+                "ok\nok admitted 0\nok\nok\nok completed 0 freed\nok\nok\nok admitted 0\nok\nok\nok\nok\nok value 7\nok completed 0 freed\nok copies SC,SC named 0,1 unique no serving none waiting - memory 0 0 0 7 0 0 0 0\nok loads 1 stores 1 coherent\n"
+            );
+        }
+    }
+    Ok(())
+}
+
+/// A step of agent 0 on a line.
+fn act_on(line: u8, step: Step) -> Command {
+    let (agent, line) = (Agent(0), Line(line));
+    Command::Act(Action { agent, line, step })
+}
+
+#[test]
+fn each_line_is_in_its_slice_and_an_audit_counts_all(rt: HostRuntime) -> Result<(), NoMemory> {
+    match Config::four(1, 4, 2, [1, 2, 3, 4], 1) {
+        None => assert!(rt; false),
+        Some(config) => {
+            let agent = Agent(0);
+            let unique = Step::Issue(Kind::ReadUnique, Slot(0));
+            let commands = [
+                act_on(1, unique),
+                Command::Arrive {
+                    agent,
+                    line: Line(1),
+                },
+                Command::Totals,
+                act_on(1, Step::Start),
+                act_on(1, Step::RecvData),
+                act_on(1, Step::RecvAck),
+                act_on(1, Step::Store(WordNo(0), 9)),
+                act_on(1, Step::Load(WordNo(0))),
+                act_on(2, unique),
+                Command::Arrive {
+                    agent,
+                    line: Line(2),
+                },
+                act_on(2, Step::Start),
+                act_on(2, Step::RecvData),
+                act_on(2, Step::Load(WordNo(0))),
+                act_on(2, Step::Load(WordNo(0))),
+                Command::Audit,
+                Command::Show { line: Line(3) },
+                Command::Show { line: Line(4) },
+            ];
+            let text = run(rt.alloc(), &config, &commands)?;
+            assert_eq!(rt;
+                text.as_str(),
+                "ok\nok admitted 3\nok free 1 2 2 4 hand 0 0 1 0 promised 0 0 0 0 owed 0 0 0 0\nok\nok\nok completed 0 freed\nok\nrefused 1 JournalFull\nok\nok admitted 3\nok\nok\nok value 0\nrefused 1 JournalFull\nok loads 1 stores 1 coherent\nok copies I named - unique no serving none waiting - memory 0 0 0 0 0 0 0 0\nrefused 10 OutOfRange\n"
             );
         }
     }

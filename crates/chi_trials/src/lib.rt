@@ -3,9 +3,13 @@
 #![tactic(auto)]
 
 #[cfg(test)]
+mod four_slices;
+#[cfg(test)]
 mod memory;
 #[cfg(test)]
 mod moves;
+#[cfg(test)]
+mod readers;
 #[cfg(test)]
 mod refusals;
 #[cfg(test)]
@@ -14,6 +18,12 @@ mod refused;
 mod retries;
 #[cfg(test)]
 mod runs;
+#[cfg(test)]
+mod shown;
+#[cfg(test)]
+mod sizes;
+#[cfg(test)]
+mod slots;
 #[cfg(test)]
 mod snoops;
 #[cfg(test)]

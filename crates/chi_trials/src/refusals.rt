@@ -11,6 +11,8 @@ use std::process::Abort;
 fn refuses(rt: &impl Abort, slice: &mut Slice<Global>, action: Action, number: u8) {
     let (here, there) = (slice.view(LINE), slice.view(Line(1)));
     let length = slice.journal().len();
+    let told = slice.refusal(action, false).map(|refusal| refusal.number());
+    assert_eq!(rt; told, Some(number), "{action:?}");
     let refusal = slice.act(action).err().map(|refusal| refusal.number());
     assert_eq!(rt; refusal, Some(number), "{action:?}");
     assert_eq!(rt; slice.view(LINE), here);

@@ -1,7 +1,10 @@
 -- What a replay writes, and what its faults say (docs/PROTOCOL.md, "Replay files" and "The program").
-use Rattle.std.specs.Prelude.{◌≡◌, ℕ, ◌+◌, List, Option, Some, None, Result, Ok, Err, IfSome, ◌⊎◌}
+use Rattle.std.specs.Prelude.{◌≡◌, ℕ, ◌+◌, List, Option, Result, Ok, Err, IfSome, ◌⊎◌}
 use Rattle.std.specs.Io.KnownBytes.{Appends}
-use Rattle.chi_slice.specs.Config.{Sizes}
+use Rattle.std.specs.List.{slice_index_or}
+use Rattle.chi_flit.specs.declared.credit.Profile.{Profile}
+use Rattle.chi_flit.specs.declared.credit.Profile.TheVariants.{Two, Four}
+use Rattle.chi_slice.specs.Config.{Sizes, four_types, two_types}
 use Rattle.chi_script.specs.declared.headers.Header.{Header}
 use Rattle.chi_script.specs.declared.commands.Command.{Command}
 use Rattle.chi_script.specs.declared.faults.Fault.{Fault}
@@ -13,6 +16,14 @@ use Rattle.chi_text.specs.Texts.{IsText}
 -- the sizes that a header gives
 abbrev pub node_sizes : Header → Sizes
 node_sizes header = record { agents = header.agents; lines = header.lines; slices = header.slices; entries = header.entries; journal = header.journal; profile = header.profile }
+
+-- the same sizes, as a node of the profile is made
+abbrev pub sizes_for : Profile → Header → Sizes
+sizes_for Two header = two_types header.agents header.lines header.slices (slice_index_or header.entries 0 0) (slice_index_or header.entries 1 0) header.journal
+sizes_for Four header = four_types header.agents header.lines header.slices header.entries header.journal
+
+abbrev pub read_sizes : Header → Sizes
+read_sizes header = sizes_for header.profile header
 
 -- a good file, and the text of its commands under answers that the tracker may give
 pub record IsTextOf (file bytes : List ℕ) : Type 0 where

@@ -2,33 +2,38 @@
 
 ghost use Rattle.std.specs.Prelude.{◌≡◌, ◌≢◌, ◌+◌, ◌^◌, ◌<◌, IfOk, IfErr, IfSome, OnOk, IsErrOf, string_bytes, true};
 ghost use Rattle.std.specs.Io.KnownBytes.{Keeps};
-ghost use Rattle.chi_script.specs.Headers.{is_in_limits, is_served};
+ghost use Rattle.chi_script.specs.Headers.{is_in_limits};
+ghost use Rattle.chi_slice.specs.Config.{config_if};
 ghost use Rattle.chi_script.specs.Faults.{Fails};
 ghost use Rattle.chi_script.specs.Files.{file_of};
 ghost use Rattle.chi_script.specs.declared.faults.Fault.{Fault};
-ghost use Rattle.chihome.specs.Replays.{IsTextOf, NoText, Refuses, WritesBeginning, WritesText, node_sizes};
+ghost use Rattle.chihome.specs.Replays.{IsTextOf, NoText, Refuses, WritesBeginning, WritesText, node_sizes, read_sizes};
 
 use chi_devices::{Failed, Input, Output, read_all};
+use chi_flit::Profile;
 use chi_script::{Fault, Header, read_file};
 use chi_slice::Config;
 use chi_text::run;
 use std::alloc::Allocator;
 
+/// The sizes of a header, where a node may have them.
+fn sizes_in(header: &Header) -> Option<Config>
+    ensures { result ≡ config_if (read_sizes header.now) }
+{
+    let (agents, lines, slices) = (header.agents, header.lines, header.slices);
+    let [t0, t1, _, _] = header.entries;
+    match header.profile {
+        Profile::Two => Config::new(agents, lines, slices, t0, t1, header.journal),
+        Profile::Four => Config::four(agents, lines, slices, header.entries, header.journal),
+    }
+}
+
 /// The sizes of a header, which are in the limits.
 fn config_of(header: &Header) -> Config
-    requires limits { is_in_limits header.now ≡ true }
-    requires served { is_served header.now ≡ true }
+    requires { is_in_limits header.now ≡ true }
     ensures { result ≡ node_sizes header.now }
 {
-    let [t0, t1, _, _] = header.entries;
-    match Config::new(
-        header.agents,
-        header.lines,
-        header.slices,
-        t0,
-        t1,
-        header.journal,
-    ) {
+    match sizes_in(header) {
         Some(config) => config,
         None => unreachable!(),
     }

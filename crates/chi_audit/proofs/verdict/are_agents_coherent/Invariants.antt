@@ -1,5 +1,5 @@
 -- So far each agent is coherent.
-use Rattle.std.proofs.Common.{◌≡◌, ◌↔◌, ℕ, ◌≢◌}
+use Rattle.std.proofs.Common.{◌↔◌}
 use Rattle.std.specs.Prelude.{IsTrue}
 use Rattle.chi_audit.specs.Verdict.{IsAgentCoherent}
 use Rattle.chi_audit.proofs.Below.{AllBelow}

@@ -1,5 +1,5 @@
 -- One agent after the other is tested.
-use Rattle.std.proofs.Common.{◌≡◌, ◌≢◌, ℕ, refl, arith}
+use Rattle.std.proofs.Common.{refl, arith}
 use Rattle.chi_audit.specs.Verdict.{IsQuietAgent, copy_of, flits_of}
 use Rattle.chi_audit.proofs.Below.{all_below, next_below, none_below}
 use Rattle.chi_audit.proofs.verdict.is_quiet.Goals as goal

@@ -1,5 +1,5 @@
 -- So far each agent is quiet.
-use Rattle.std.proofs.Common.{◌≡◌, ◌↔◌, ℕ, ◌≢◌}
+use Rattle.std.proofs.Common.{◌↔◌}
 use Rattle.std.specs.Prelude.{IsTrue}
 use Rattle.chi_audit.specs.Verdict.{IsQuietAgent, copy_of, flits_of}
 use Rattle.chi_audit.proofs.Below.{AllBelow}

@@ -1,5 +1,5 @@
 -- So far each other agent may stand beside this one.
-use Rattle.std.proofs.Common.{◌≡◌, ◌↔◌, ℕ, ◌≢◌}
+use Rattle.std.proofs.Common.{◌↔◌, ◌≢◌}
 use Rattle.std.specs.Prelude.{IsTrue}
 use Rattle.chi_audit.specs.Verdict.{MayStandBeside, copy_of}
 use Rattle.chi_audit.proofs.Below.{AllBelow}

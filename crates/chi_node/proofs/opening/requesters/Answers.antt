@@ -4,6 +4,7 @@ use Rattle.chi_tracker.specs.declared.shape.Shape.{Shape}
 use Rattle.chi_tracker.specs.Views.{new_port}
 use Rattle.chi_tracker.specs.Calls.{Owner}
 use Rattle.chi_node.specs.Requester.{opening_requester}
+use Rattle.chi_node.proofs.OpeningAgrees.{all_agree}
 use Rattle.chi_node.proofs.Openings.{all_types, few_agents, few_entries, first_port, left_ports, length_requesters, more_requesters}
 use Rattle.chi_node.proofs.opening.requesters.Goals as goal
 
@@ -40,3 +41,6 @@ loop-number-preserved g c =
 
 pub returns-clause-types : goal.returns-clause-types
 returns-clause-types g c = all_types c.args.config.now c.in_ok-tracker.tracker.shape c.agents-agents.ensures.limits (rw (← c.entries-entries.ensures.value, ← c.agents-agents.ensures.value) c.in_ok-tracker.ensures.shape)
+
+pub returns-clause-agree : goal.returns-clause-agree
+returns-clause-agree g c = all_agree c.args.config.now c.in_ok-tracker.tracker.table c.in_ok-tracker.tracker.shape c.agents-agents.ensures.limits

@@ -1,0 +1,229 @@
+-- A completion keeps what the line keeps: at a start that has nobody to ask, and after the last answer.
+use Rattle.std.specs.Prelude.{◌≡◌, ◌≢◌, ℕ, ◌<◌, ◌≤◌, List, length, Bool, true, false, not, Some, None, get_or, slice_set}
+use Rattle.std.proofs.Common.{refl, sym, ◌∙◌, subst, ⊎_elim, arith}
+use Rattle.std.proofs.lemmas.List.{get_or-set_same, get_or-set_other, get_or-replicate, get_or_past, length-set}
+use Rattle.std.proofs.lemmas.Bool.{cases_lt, false≢true, true≢false, not-true}
+use Rattle.chi_flit.specs.declared.numbers.Agent.{Agent}
+use Rattle.chi_flit.specs.declared.numbers.Slot.{Slot}
+use Rattle.chi_flit.specs.declared.kind.Kind.{Kind}
+use Rattle.chi_flit.specs.declared.kind.Kind.TheVariants.{ReadNotSharedDirty, ReadShared, ReadUnique, CleanUnique, Evict, WriteBackFull, WriteCleanFull, WriteEvictFull}
+use Rattle.chi_flit.specs.declared.snoop.Snoop.{Snoop}
+use Rattle.chi_flit.specs.declared.snoop.Snoop.TheVariants.{SnpShared, SnpNotSharedDirty, SnpUnique, SnpCleanInvalid}
+use Rattle.chi_flit.specs.Kind.{snoop_of}
+use Rattle.chi_filter.specs.Filter.{FilterState, nobody, only_named, only_set, is_in, has_any, others_than, is_named}
+use Rattle.chi_wires.specs.declared.cells.Cells.{Cells}
+use Rattle.chi_wires.specs.Cell.{no_flits, with_message}
+use Rattle.chi_rnline.specs.Rn.{no_line}
+use Rattle.chi_homeline.specs.declared.serving.Serving.TheVariants.{Snooping, AwaitingCompAck}
+use Rattle.chi_homeline.specs.Home.{completed, completed_filter, completes_unique, completion_message, completion_of}
+use Rattle.chi_line.specs.LineState.{LineState, cells_of}
+use Rattle.chi_line.specs.Kept.{Kept, Lane, LaneKept, IsCleanLane, invalidates, is_read, lane}
+use Rattle.chi_line.proofs.Frame.{Puts, Moves, moves_by, puts_nothing, puts_set, nothing_waiting, lanes_by, clean_by}
+use Rattle.chi_line.proofs.Asks.{apart, same, are_same, in_only, none_in, left_in, length-others}
+use Rattle.chi_line.proofs.CompleteLanes.{read_completes, clean_completes, no_owner, alone_other, shared_other, none_left, read_from_none}
+
+-- the line after a completion, with the data that is sent
+abbrev pub completed_line : LineState → Snoop → Agent → Slot → List ℕ → LineState
+completed_line s snoop agent slot sent = record s { home = completed s.home snoop agent slot; flits = slice_set s.flits agent.0 (with_message (cells_of s agent.0) (completion_of s.home snoop agent sent)) }
+
+-- what a completion needs
+pub record MayComplete (last : List ℕ) (s : LineState) (agent : Agent) (kind : Kind) (snoop : Snoop) (slot : Slot) (sent : List ℕ) : Type 0 where
+  pub here : agent.0 < 8
+  pub serves : s.home.serving ≡ Snooping agent kind slot
+  pub snoop_is : snoop_of kind ≡ Some snoop
+  -- nobody's answer is awaited
+  pub all_in : (m : ℕ) → m < 8 → is_in s.home.awaited m ≡ false
+  pub sent_is : is_read kind ≡ true → sent ≡ last
+  -- where others stay named, none of them is flagged
+  pub flag_clear : completes_unique snoop s.home.filter agent.0 ≡ false → s.home.filter.unique ≡ false
+
+-- kinds by their snoops
+pub is_clean_unique : (kind : Kind) → snoop_of kind ≡ Some SnpCleanInvalid → kind ≡ CleanUnique
+is_clean_unique ReadNotSharedDirty is = cc
+is_clean_unique ReadShared is = cc
+is_clean_unique ReadUnique is = cc
+is_clean_unique CleanUnique is = refl
+is_clean_unique Evict is = cc
+is_clean_unique WriteBackFull is = cc
+is_clean_unique WriteCleanFull is = cc
+is_clean_unique WriteEvictFull is = cc
+
+abbrev pub serves_read : Snoop → Bool
+serves_read SnpShared = true
+serves_read SnpNotSharedDirty = true
+serves_read SnpUnique = true
+serves_read SnpCleanInvalid = false
+
+pub is_read_by : (kind : Kind) (snoop : Snoop) → snoop_of kind ≡ Some snoop → is_read kind ≡ serves_read snoop
+is_read_by ReadNotSharedDirty snoop is = cc
+is_read_by ReadShared snoop is = cc
+is_read_by ReadUnique snoop is = cc
+is_read_by CleanUnique snoop is = cc
+is_read_by Evict snoop is = cc
+is_read_by WriteBackFull snoop is = cc
+is_read_by WriteCleanFull snoop is = cc
+is_read_by WriteEvictFull snoop is = cc
+
+nowhere : (m : ℕ) → get_or nobody m false ≡ false
+nowhere m = ⊎_elim (λ (below : m < 8). get_or-replicate 8 m false false below) (λ (above : 8 ≤ m). get_or_past nobody m false above) (cases_lt m 8)
+
+none_else : (marks : List Bool) (n : ℕ) → length marks ≡ 8
+    → ((m : ℕ) → m < 8 → m ≢ n → is_in marks m ≡ false) → (m : ℕ) → m ≢ n → get_or marks m false ≡ false
+none_else marks n eight nobody_else m other = ⊎_elim (λ (below : m < 8). nobody_else m below other) (λ (above : 8 ≤ m). get_or_past marks m false (omega (arith, eight, above))) (cases_lt m 8)
+
+-- a set with nobody but agent n, in which n is put
+pub only_puts : (marks : List Bool) (n : ℕ) → n < 8 → length marks ≡ 8
+    → ((m : ℕ) → m < 8 → m ≢ n → is_in marks m ≡ false) → Puts false marks (only_set n) n true
+only_puts marks n low eight nobody_else = record {
+  at = get_or-set_same nobody n true false low;
+  others = λ m other. get_or-set_other nobody n m true false other ∙ (nowhere m ∙ sym (none_else marks n eight nobody_else m other));
+}
+
+-- a step after which the CompAck is awaited: n is named, its cells are c, and the filter is as given
+pub kept_awaiting : (last : List ℕ) (s : LineState) (agent : Agent) (slot : Slot) (filter : FilterState) (c : Cells)
+    → agent.0 < 8 → Kept last s → length filter.named ≡ 8
+    → Puts false s.home.filter.named filter.named agent.0 true
+    → LaneKept (AwaitingCompAck agent slot) filter.unique filter.owner last agent.0 (record (lane s agent.0) { named = true; flits = c })
+    → ((m : ℕ) → m < 8 → m ≢ agent.0 → LaneKept (AwaitingCompAck agent slot) filter.unique filter.owner last m (lane s m))
+    → (filter.unique ≡ true → (n m : ℕ) → n < 8 → m < 8 → is_named filter n ≡ true → is_named filter m ≡ true → n ≡ m)
+    → (cells_of s agent.0).dat_up ≡ c.dat_up
+    → Kept last (record s { home = record s.home { filter = filter; serving = AwaitingCompAck agent slot }; flits = slice_set s.flits agent.0 c })
+kept_awaiting last s agent slot filter c low k eight names own other one up =
+    let s' : LineState = record s { home = record s.home { filter = filter; serving = AwaitingCompAck agent slot }; flits = slice_set s.flits agent.0 c } in
+    let x : Lane = record (lane s agent.0) { named = true; flits = c } in
+    let moves : Moves s s' agent.0 x = moves_by s s' agent.0 x
+    (puts_nothing no_line s.requesters agent.0)
+    (puts_set no_flits s.flits agent.0 c (omega (arith, k.flits, low)))
+    names
+    (puts_nothing false s.home.awaited agent.0)
+    (puts_nothing nothing_waiting s.home.waiting agent.0) in
+    let back : IsCleanLane x → IsCleanLane (lane s agent.0) = λ (clean : IsCleanLane x). record { copy = clean.copy; on_its_way = cc } in
+    record {
+      requesters = k.requesters;
+      flits = length-set s.flits agent.0 c ∙ k.flits;
+      named = eight;
+      awaited = k.awaited;
+      waiting = k.waiting;
+      in_range = low;
+      lanes = lanes_by s s' (AwaitingCompAck agent slot) filter.unique filter.owner last agent.0 x moves own other;
+      flag_means_one = one;
+      memory_last = λ clean. k.memory_last (clean_by s s' agent.0 x moves low back clean);
+    }
+
+snooped_lanes : (last : List ℕ) (s : LineState) (agent : Agent) (kind : Kind) (snoop : Snoop) (slot : Slot) (sent : List ℕ)
+    → MayComplete last s agent kind snoop slot sent → Kept last s → (m : ℕ) → m < 8
+    → LaneKept (Snooping agent kind slot) s.home.filter.unique s.home.filter.owner last m (lane s m)
+snooped_lanes last s agent kind snoop slot sent may k m low =
+    subst (λ serving. LaneKept serving s.home.filter.unique s.home.filter.owner last m (lane s m)) may.serves (k.lanes m low)
+
+nobody_else : (f : FilterState) (n m : ℕ) → length f.named ≡ 8 → m < 8 → m ≢ n → not (has_any (others_than n f.named)) ≡ true → is_named f m ≡ false
+nobody_else f n m eight low other none =
+    sym (left_in n m f.named other) ∙ none_in (others_than n f.named) m (length-others n f.named eight) low (not-true (has_any (others_than n f.named)) none)
+
+-- where the completion leaves the line to its agent alone, nobody else is named
+abbrev IsAlone : FilterState → ℕ → Type 0
+IsAlone f n = (m : ℕ) → m < 8 → m ≢ n → is_named f m ≡ false
+
+alone_by : (snoop : Snoop) (f : FilterState) (n : ℕ) → length f.named ≡ 8
+    → (invalidates (Some snoop) ≡ true → IsAlone f n) → completes_unique snoop f n ≡ true → IsAlone f n
+alone_by SnpNotSharedDirty f n eight others is m low other = nobody_else f n m eight low other is
+alone_by SnpShared f n eight others is m low other = nobody_else f n m eight low other is
+alone_by SnpUnique f n eight others is m low other = others refl m low other
+alone_by SnpCleanInvalid f n eight others is m low other = others refl m low other
+
+alone : (last : List ℕ) (s : LineState) (agent : Agent) (kind : Kind) (snoop : Snoop) (slot : Slot) (sent : List ℕ)
+    → MayComplete last s agent kind snoop slot sent → Kept last s
+    → completes_unique snoop s.home.filter agent.0 ≡ true → IsAlone s.home.filter agent.0
+alone last s agent kind snoop slot sent may k is =
+    alone_by snoop s.home.filter agent.0 k.named
+    (λ (invalidating : invalidates (Some snoop) ≡ true) (m : ℕ) (low : m < 8) (other : m ≢ agent.0).
+    none_left s.home.filter.unique s.home.filter.owner last agent kind slot m (lane s m) (apart agent.0 m other)
+    (subst (λ v. invalidates v ≡ true) (sym may.snoop_is) invalidating) (may.all_in m low) (snooped_lanes last s agent kind snoop slot sent may k m low))
+    is
+
+-- the line where it is known whether its agent has it alone
+abbrev completed_as : Bool → LineState → Snoop → Agent → Slot → List ℕ → LineState
+completed_as unique s snoop agent slot sent = record s {
+  home = record s.home { filter = completed_filter unique s.home.filter agent.0; serving = AwaitingCompAck agent slot };
+  flits = slice_set s.flits agent.0 (with_message (cells_of s agent.0) (completion_message snoop unique sent));
+}
+
+-- the only one named
+only_one : (n a b : ℕ) → n < 8 → a < 8 → b < 8 → is_in (only_set n) a ≡ true → is_in (only_set n) b ≡ true → a ≡ b
+only_one n a b low below_a below_b in_a in_b = sym (are_same n a (in_only n a below_a in_a)) ∙ are_same n b (in_only n b below_b in_b)
+
+read_alone : (last : List ℕ) (s : LineState) (agent : Agent) (kind : Kind) (snoop : Snoop) (slot : Slot) (sent : List ℕ)
+    → MayComplete last s agent kind snoop slot sent → Kept last s → is_read kind ≡ true
+    → completes_unique snoop s.home.filter agent.0 ≡ true
+    → Kept last (record s {
+      home = record s.home { filter = only_named agent.0; serving = AwaitingCompAck agent slot };
+      flits = slice_set s.flits agent.0 (record (cells_of s agent.0) { dat_down = Some (record { unique = true; words = sent }) });
+    })
+read_alone last s agent kind snoop slot sent may k reads is =
+    let lanes : (m : ℕ) → m < 8 → LaneKept (Snooping agent kind slot) s.home.filter.unique s.home.filter.owner last m (lane s m) = snooped_lanes last s agent kind snoop slot sent may k in
+    let lonely : IsAlone s.home.filter agent.0 = alone last s agent kind snoop slot sent may k is in
+    let f = s.home.filter in
+    kept_awaiting last s agent slot (only_named agent.0) _ may.here k (length-set nobody agent.0 true)
+    (only_puts f.named agent.0 may.here k.named lonely)
+    (read_completes f.unique true f.owner None last agent kind slot sent (lane s agent.0) (same agent.0) reads (may.sent_is reads)
+    (read_from_none f.unique f.owner last agent kind slot (lane s agent.0) (same agent.0) reads (lanes agent.0 may.here)) refl (lanes agent.0 may.here))
+    (λ m low other. alone_other f.unique f.owner last agent kind slot m (lane s m) (apart agent.0 m other) (lonely m low other) (lanes m low))
+    (λ flag a b below_a below_b in_a in_b. only_one agent.0 a b may.here below_a below_b in_a in_b)
+    refl
+
+clean_alone : (last : List ℕ) (s : LineState) (agent : Agent) (slot : Slot) (sent : List ℕ)
+    → MayComplete last s agent CleanUnique SnpCleanInvalid slot sent → Kept last s
+    → Kept last (completed_as true s SnpCleanInvalid agent slot sent)
+clean_alone last s agent slot sent may k =
+    let lanes : (m : ℕ) → m < 8 → LaneKept (Snooping agent CleanUnique slot) s.home.filter.unique s.home.filter.owner last m (lane s m) = snooped_lanes last s agent CleanUnique SnpCleanInvalid slot sent may k in
+    let lonely : IsAlone s.home.filter agent.0 = alone last s agent CleanUnique SnpCleanInvalid slot sent may k refl in
+    let f = s.home.filter in
+    kept_awaiting last s agent slot (only_named agent.0) _ may.here k (length-set nobody agent.0 true)
+    (only_puts f.named agent.0 may.here k.named lonely)
+    (clean_completes f.unique f.owner last agent slot (lane s agent.0) (same agent.0) (lanes agent.0 may.here))
+    (λ m low other. alone_other f.unique f.owner last agent CleanUnique slot m (lane s m) (apart agent.0 m other) (lonely m low other) (lanes m low))
+    (λ flag a b below_a below_b in_a in_b. only_one agent.0 a b may.here below_a below_b in_a in_b)
+    refl
+
+read_shared : (last : List ℕ) (s : LineState) (agent : Agent) (kind : Kind) (snoop : Snoop) (slot : Slot) (sent : List ℕ)
+    → MayComplete last s agent kind snoop slot sent → Kept last s → is_read kind ≡ true
+    → completes_unique snoop s.home.filter agent.0 ≡ false
+    → Kept last (record s {
+      home = record s.home { filter = completed_filter false s.home.filter agent.0; serving = AwaitingCompAck agent slot };
+      flits = slice_set s.flits agent.0 (record (cells_of s agent.0) { dat_down = Some (record { unique = false; words = sent }) });
+    })
+read_shared last s agent kind snoop slot sent may k reads is =
+    let f = s.home.filter in
+    let lanes : (m : ℕ) → m < 8 → LaneKept (Snooping agent kind slot) s.home.filter.unique s.home.filter.owner last m (lane s m) = snooped_lanes last s agent kind snoop slot sent may k in
+    let clear_lanes : (m : ℕ) → m < 8 → LaneKept (Snooping agent kind slot) false s.home.filter.owner last m (lane s m) =
+    λ m low. subst (λ unique. LaneKept (Snooping agent kind slot) unique s.home.filter.owner last m (lane s m)) (may.flag_clear is) (lanes m low) in
+    let none = read_from_none f.unique f.owner last agent kind slot (lane s agent.0) (same agent.0) reads (lanes agent.0 may.here) in
+    kept_awaiting last s agent slot (completed_filter false f agent.0) _ may.here k (length-set f.named agent.0 true ∙ k.named)
+    (puts_set false f.named agent.0 true (omega (arith, k.named, may.here)))
+    (read_completes f.unique false f.owner f.owner last agent kind slot sent (lane s agent.0) (same agent.0) reads (may.sent_is reads)
+    none (no_owner f.unique f.owner last agent kind slot (lane s agent.0) (same agent.0) none (lanes agent.0 may.here)) (lanes agent.0 may.here))
+    (λ m low other. shared_other f.owner last agent kind slot m (lane s m) (apart agent.0 m other) (may.all_in m low) (clear_lanes m low))
+    (λ (flag : false ≡ true). absurd (false≢true flag))
+    refl
+
+reads_by : (kind : Kind) (snoop : Snoop) → snoop_of kind ≡ Some snoop → serves_read snoop ≡ true → is_read kind ≡ true
+reads_by kind snoop is serves = is_read_by kind snoop is ∙ serves
+
+completed_by : (unique : Bool) (snoop : Snoop) (last : List ℕ) (s : LineState) (agent : Agent) (kind : Kind) (slot : Slot) (sent : List ℕ)
+    → completes_unique snoop s.home.filter agent.0 ≡ unique
+    → MayComplete last s agent kind snoop slot sent → Kept last s → Kept last (completed_as unique s snoop agent slot sent)
+completed_by true SnpNotSharedDirty last s agent kind slot sent is may k = read_alone last s agent kind SnpNotSharedDirty slot sent may k (reads_by kind SnpNotSharedDirty may.snoop_is refl) is
+completed_by true SnpShared last s agent kind slot sent is may k = read_alone last s agent kind SnpShared slot sent may k (reads_by kind SnpShared may.snoop_is refl) is
+completed_by true SnpUnique last s agent kind slot sent is may k = read_alone last s agent kind SnpUnique slot sent may k (reads_by kind SnpUnique may.snoop_is refl) is
+completed_by true SnpCleanInvalid last s agent kind slot sent is may k =
+    clean_alone last s agent slot sent (subst (λ v. MayComplete last s agent v SnpCleanInvalid slot sent) (is_clean_unique kind may.snoop_is) may) k
+completed_by false SnpNotSharedDirty last s agent kind slot sent is may k = read_shared last s agent kind SnpNotSharedDirty slot sent may k (reads_by kind SnpNotSharedDirty may.snoop_is refl) is
+completed_by false SnpShared last s agent kind slot sent is may k = read_shared last s agent kind SnpShared slot sent may k (reads_by kind SnpShared may.snoop_is refl) is
+completed_by false SnpUnique last s agent kind slot sent is may k = absurd (true≢false is)
+completed_by false SnpCleanInvalid last s agent kind slot sent is may k = absurd (true≢false is)
+
+-- a completion keeps what a line keeps
+pub kept_completed : (last : List ℕ) (s : LineState) (agent : Agent) (kind : Kind) (snoop : Snoop) (slot : Slot) (sent : List ℕ)
+    → MayComplete last s agent kind snoop slot sent → Kept last s → Kept last (completed_line s snoop agent slot sent)
+kept_completed last s agent kind snoop slot sent may k =
+    completed_by (completes_unique snoop s.home.filter agent.0) snoop last s agent kind slot sent refl may k

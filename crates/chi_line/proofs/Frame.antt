@@ -1,0 +1,166 @@
+-- Steps that touch one agent's lane: what every line keeps needs to be shown of that lane alone.
+use Rattle.std.proofs.Common.{◌≡◌, ◌≢◌, ℕ, ◌<◌, List, Bool, false, Option, None, length, get_or, set, sym, subst, ap, refl, ◌∙◌, ⊎_elim, arith}
+use Rattle.std.proofs.lemmas.List.{get_or-set_same, get_or-set_other, length-set}
+use Rattle.std.proofs.lemmas.Bool.{cases_eq}
+use Rattle.chi_flit.specs.declared.numbers.Agent.{Agent}
+use Rattle.chi_wires.specs.declared.cells.Cells.{Cells}
+use Rattle.chi_wires.specs.Cell.{no_flits}
+use Rattle.chi_rnline.specs.Rn.{Rn, no_line}
+use Rattle.chi_homeline.specs.declared.serving.Waiting.{Waiting}
+use Rattle.chi_homeline.specs.declared.serving.Serving.{Serving}
+use Rattle.chi_homeline.specs.Home.{Home}
+use Rattle.chi_line.specs.LineState.{LineState}
+use Rattle.chi_line.specs.Kept.{Lane, LaneKept, IsCleanLane, IsClean, Kept, lane}
+
+-- a list whose entry n is a, and whose other entries stay
+pub record Puts {A : Type 0} (d : A) (l l' : List A) (n : ℕ) (a : A) : Type 0 where
+  pub at : get_or l' n d ≡ a
+  pub others : (m : ℕ) → m ≢ n → get_or l' m d ≡ get_or l m d
+
+pub puts_set : {A : Type 0} (d : A) (l : List A) (n : ℕ) (a : A) → n < length l → Puts d l (set l n a) n a
+puts_set d l n a low = record { at = get_or-set_same l n a d low; others = λ m other. get_or-set_other l n m a d other }
+
+pub puts_nothing : {A : Type 0} (d : A) (l : List A) (n : ℕ) → Puts d l l n (get_or l n d)
+puts_nothing d l n = record { at = refl; others = λ m other. refl }
+
+pub puts_same : {A : Type 0} (d : A) (l l' : List A) (n : ℕ) → l' ≡ l → Puts d l l' n (get_or l n d)
+puts_same d l l' n same = record { at = ap (λ k. get_or k n d) same; others = λ m other. ap (λ k. get_or k m d) same }
+
+abbrev pub nothing_waiting : Option Waiting
+nothing_waiting = None
+
+-- a step after which the lane of n is x, and all other lanes are as before
+pub record Moves (s s' : LineState) (n : ℕ) (x : Lane) : Type 0 where
+  pub at : lane s' n ≡ x
+  pub others : (m : ℕ) → m ≢ n → lane s' m ≡ lane s m
+
+abbrev pub lane_of : Rn → Cells → Bool → Bool → Option Waiting → Lane
+lane_of r f m a w = record { rn = r; flits = f; named = m; awaited = a; waiting = w }
+
+pub same_lane : (r r' : Rn) (f f' : Cells) (m m' a a' : Bool) (w w' : Option Waiting) → r ≡ r' → f ≡ f' → m ≡ m' → a ≡ a' → w ≡ w'
+    → lane_of r f m a w ≡ lane_of r' f' m' a' w'
+same_lane r r' f f' m m' a a' w w' is_r is_f is_m is_a is_w = cc
+
+pub moves_by : (s s' : LineState) (n : ℕ) (x : Lane)
+    → Puts no_line s.requesters s'.requesters n x.rn
+    → Puts no_flits s.flits s'.flits n x.flits
+    → Puts false s.home.filter.named s'.home.filter.named n x.named
+    → Puts false s.home.awaited s'.home.awaited n x.awaited
+    → Puts nothing_waiting s.home.waiting s'.home.waiting n x.waiting
+    → Moves s s' n x
+moves_by s s' n x r f m a w = record {
+  at = same_lane _ _ _ _ _ _ _ _ _ _ r.at f.at m.at a.at w.at;
+  others = λ k other. same_lane _ _ _ _ _ _ _ _ _ _ (r.others k other) (f.others k other) (m.others k other) (a.others k other) (w.others k other);
+}
+
+within : (n k : ℕ) → n < 8 → k ≡ 8 → n < k
+within n k low is = omega arith
+
+-- the record updates that steps make: the parts that they write at n, for a line whose lists are eight long
+pub moves_flits : (last : List ℕ) (s : LineState) (n : ℕ) (c : Cells) → n < 8 → Kept last s
+    → Moves s (record s { flits = set s.flits n c }) n (record (lane s n) { flits = c })
+moves_flits last s n c low k = moves_by s _ n _
+    (puts_nothing no_line s.requesters n)
+    (puts_set no_flits s.flits n c (within n _ low k.flits))
+    (puts_nothing false s.home.filter.named n)
+    (puts_nothing false s.home.awaited n)
+    (puts_nothing nothing_waiting s.home.waiting n)
+
+pub moves_requester : (last : List ℕ) (s : LineState) (n : ℕ) (r : Rn) (c : Cells) → n < 8 → Kept last s
+    → Moves s (record s { requesters = set s.requesters n r; flits = set s.flits n c }) n (record (lane s n) { rn = r; flits = c })
+moves_requester last s n r c low k = moves_by s _ n _
+    (puts_set no_line s.requesters n r (within n _ low k.requesters))
+    (puts_set no_flits s.flits n c (within n _ low k.flits))
+    (puts_nothing false s.home.filter.named n)
+    (puts_nothing false s.home.awaited n)
+    (puts_nothing nothing_waiting s.home.waiting n)
+
+-- also with any memory, flag, owner and serving, which aren't in a lane: home is any home with the same lists
+pub moves_home_flits : (last : List ℕ) (s : LineState) (n : ℕ) (c : Cells) (home : Home) → n < 8 → Kept last s
+    → home.filter.named ≡ s.home.filter.named → home.awaited ≡ s.home.awaited → home.waiting ≡ s.home.waiting
+    → Moves s (record s { home = home; flits = set s.flits n c }) n (record (lane s n) { flits = c })
+moves_home_flits last s n c home low k same_named same_awaited same_waiting = moves_by s _ n _
+    (puts_nothing no_line s.requesters n)
+    (puts_set no_flits s.flits n c (within n _ low k.flits))
+    (puts_same false s.home.filter.named _ n same_named)
+    (puts_same false s.home.awaited _ n same_awaited)
+    (puts_same nothing_waiting s.home.waiting _ n same_waiting)
+
+-- the lanes after a step, out of n's new lane and the old lanes of others beside what the home is now
+pub lanes_by : (s s' : LineState) (serving : Serving) (unique : Bool) (owner : Option Agent) (last : List ℕ) (n : ℕ) (x : Lane)
+    → Moves s s' n x
+    → LaneKept serving unique owner last n x
+    → ((m : ℕ) → m < 8 → m ≢ n → LaneKept serving unique owner last m (lane s m))
+    → (m : ℕ) → m < 8 → LaneKept serving unique owner last m (lane s' m)
+lanes_by s s' serving unique owner last n x moves own other m low =
+    ⊎_elim
+    (λ (same : m ≡ n). subst (λ k. LaneKept serving unique owner last k (lane s' k)) (sym same) (subst (LaneKept serving unique owner last n) (sym moves.at) own))
+    (λ (apart : m ≢ n). subst (LaneKept serving unique owner last m) (sym (moves.others m apart)) (other m low apart))
+    (cases_eq m n)
+
+pub clean_by : (s s' : LineState) (n : ℕ) (x : Lane) → Moves s s' n x → n < 8
+    → (IsCleanLane x → IsCleanLane (lane s n)) → IsClean s' → IsClean s
+clean_by s s' n x moves here back clean m low =
+    ⊎_elim
+    (λ (same : m ≡ n). subst (λ k. IsCleanLane (lane s k)) (sym same) (back (subst IsCleanLane moves.at (clean n here))))
+    (λ (apart : m ≢ n). subst IsCleanLane (moves.others m apart) (clean m low))
+    (cases_eq m n)
+
+-- a step that changes only a requester and its flits
+pub kept_by : (last : List ℕ) (s : LineState) (n : ℕ) (r : Rn) (c : Cells) → n < 8 → Kept last s
+    → LaneKept s.home.serving s.home.filter.unique s.home.filter.owner last n (record (lane s n) { rn = r; flits = c })
+    → (IsCleanLane (record (lane s n) { rn = r; flits = c }) → IsCleanLane (lane s n))
+    → Kept last (record s { requesters = set s.requesters n r; flits = set s.flits n c })
+kept_by last s n r c low k own back =
+    let moves = moves_requester last s n r c low k in
+    record {
+      requesters = length-set s.requesters n r ∙ k.requesters;
+      flits = length-set s.flits n c ∙ k.flits;
+      named = k.named;
+      awaited = k.awaited;
+      waiting = k.waiting;
+      in_range = k.in_range;
+      lanes = lanes_by s _ s.home.serving s.home.filter.unique s.home.filter.owner last n _ moves own (λ m at apart. k.lanes m at);
+      flag_means_one = k.flag_means_one;
+      memory_last = λ clean. k.memory_last (clean_by s _ n _ moves low back clean);
+    }
+
+-- a step that changes only a requester
+pub kept_by_requester : (last : List ℕ) (s : LineState) (n : ℕ) (r : Rn) → n < 8 → Kept last s
+    → LaneKept s.home.serving s.home.filter.unique s.home.filter.owner last n (record (lane s n) { rn = r })
+    → (IsCleanLane (record (lane s n) { rn = r }) → IsCleanLane (lane s n))
+    → Kept last (record s { requesters = set s.requesters n r })
+kept_by_requester last s n r low k own back =
+    let moves : Moves s (record s { requesters = set s.requesters n r }) n _ = moves_by s (record s { requesters = set s.requesters n r }) n (record (lane s n) { rn = r })
+    (puts_set no_line s.requesters n r (within n _ low k.requesters)) (puts_nothing no_flits s.flits n)
+    (puts_nothing false s.home.filter.named n) (puts_nothing false s.home.awaited n) (puts_nothing nothing_waiting s.home.waiting n) in
+    record {
+      requesters = length-set s.requesters n r ∙ k.requesters;
+      flits = k.flits;
+      named = k.named;
+      awaited = k.awaited;
+      waiting = k.waiting;
+      in_range = k.in_range;
+      lanes = lanes_by s _ s.home.serving s.home.filter.unique s.home.filter.owner last n _ moves own (λ m at apart. k.lanes m at);
+      flag_means_one = k.flag_means_one;
+      memory_last = λ clean. k.memory_last (clean_by s _ n _ moves low back clean);
+    }
+
+-- a step that changes only flits of one agent
+pub kept_by_flits : (last : List ℕ) (s : LineState) (n : ℕ) (c : Cells) → n < 8 → Kept last s
+    → LaneKept s.home.serving s.home.filter.unique s.home.filter.owner last n (record (lane s n) { flits = c })
+    → (IsCleanLane (record (lane s n) { flits = c }) → IsCleanLane (lane s n))
+    → Kept last (record s { flits = set s.flits n c })
+kept_by_flits last s n c low k own back =
+    let moves = moves_flits last s n c low k in
+    record {
+      requesters = k.requesters;
+      flits = length-set s.flits n c ∙ k.flits;
+      named = k.named;
+      awaited = k.awaited;
+      waiting = k.waiting;
+      in_range = k.in_range;
+      lanes = lanes_by s _ s.home.serving s.home.filter.unique s.home.filter.owner last n _ moves own (λ m at apart. k.lanes m at);
+      flag_means_one = k.flag_means_one;
+      memory_last = λ clean. k.memory_last (clean_by s _ n _ moves low back clean);
+    }

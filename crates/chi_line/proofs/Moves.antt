@@ -1,0 +1,587 @@
+-- Each step moves the request of one slot of its agent, or none, and leaves all others where they are.
+use Rattle.std.proofs.Common.{◌≡◌, ◌≢◌, ℕ, ◌<◌, List, Bool, true, false, ◌||◌, ◌==◌, Option, Some, None, is_some, length, get_or, set, refl, sym, ◌∙◌, ap, subst, if◌then◌else◌, arith, get_or-set_same}
+use Rattle.chi_flit.specs.declared.numbers.Agent.{Agent}
+use Rattle.chi_flit.specs.declared.numbers.Slot.{Slot}
+use Rattle.chi_flit.specs.declared.kind.Kind.{Kind}
+use Rattle.chi_flit.specs.declared.snoop.Snoop.{Snoop}
+use Rattle.chi_flit.specs.declared.message.Msg.TheVariants as messages
+use Rattle.chi_flit.specs.Snoop.{answer_of}
+use Rattle.chi_flit.specs.declared.action.Step.{Step}
+use Rattle.chi_flit.specs.declared.action.Step.TheVariants as steps
+use Rattle.chi_flit.specs.declared.credit.CreditType.{CreditType}
+use Rattle.chi_flit.specs.declared.credit.Profile.{Profile}
+use Rattle.chi_flit.specs.declared.message.CompData.{CompData}
+use Rattle.chi_flit.specs.declared.message.DatUp.{DatUp}
+use Rattle.chi_flit.specs.declared.message.DatUp.TheVariants.{SnpRespDataIPD, SnpRespDataSCPD, SnpRespDataSD, CopyBackWrData}
+use Rattle.chi_flit.specs.declared.message.Request.{Request}
+use Rattle.chi_flit.specs.declared.message.RspDown.{RspDown}
+use Rattle.chi_flit.specs.declared.message.RspDown.TheVariants.{RetryAck, CompUC, CompI, CompDBIDResp}
+use Rattle.chi_flit.specs.Kind.{snoop_of, is_copy_back}
+use Rattle.chi_flit.specs.Credit.{credit_type_of}
+use Rattle.chi_filter.specs.Filter.{has_any, removed}
+use Rattle.chi_wires.specs.declared.cells.Cells.{Cells}
+use Rattle.chi_wires.specs.Cell.{no_flits, with_message}
+use Rattle.chi_rnline.specs.Rn.{Rn, no_line}
+use Rattle.chi_rnline.specs.declared.pending.Pending.{Pending}
+use Rattle.chi_homeline.specs.declared.serving.Waiting.{Waiting}
+use Rattle.chi_homeline.specs.declared.serving.Serving.{Serving}
+use Rattle.chi_homeline.specs.declared.serving.Serving.TheVariants.{Idle, Snooping, AwaitingCompAck, AwaitingWriteData}
+use Rattle.chi_homeline.specs.declared.serving.SnoopAnswer.{SnoopAnswer}
+use Rattle.chi_homeline.specs.declared.serving.Started.{Started}
+use Rattle.chi_homeline.specs.declared.serving.Started.TheVariants.{Sends, Evicted, Snoops}
+use Rattle.chi_homeline.specs.Home.{Home, acks_for, asks, acknowledged, admitted, completed, completion_of, served_kind, served_slot, started_as, started_sends_as, taken_up, waiting_of, writes_for, written}
+use Rattle.chi_line.specs.declared.act.Conditions.{Conditions}
+use Rattle.chi_line.specs.declared.seen.Where.{Where}
+use Rattle.chi_line.specs.declared.seen.Where.TheVariants as places
+use Rattle.chi_line.specs.declared.seen.Seen.{Seen}
+use Rattle.chi_line.specs.LineState.{LineState, rn_of, cells_of}
+use Rattle.chi_line.specs.Kept.{Kept, LaneKept, is_comp_unique, is_retried, is_retried_phase, lane}
+use Rattle.chi_line.specs.Moves.{Moved, always_moves, completed_from, completed_to, flit_at, if_moved, issued_kind, moved_from, moved_slot, moved_to, requested_slot}
+use Rattle.chi_line.specs.Types.{is_of_type}
+use Rattle.chi_line.specs.Step.{issued_slot, acknowledged_line, admitted_line, after_step, answer_in, answered_by, cancelled_line, completed_effect, completed_slot, completion_received, data_written, dbid_received_line, dropped_line, is_ack, is_comp, is_dbid, is_retry, is_slot, is_write_data, issued_line, line_uses, pending_slot, received_line, resent_line, retried_line, retry_received_line, sent, slot_served_for, snooped_line, started_effect, started_line, stored_line, waiting_effect, waiting_slot, where_some, written_line}
+use Rattle.chi_line.specs.Places.{is_at_home, seen_of, where_in}
+use Rattle.chi_line.specs.Refused.{retry_refusal, step_refusal}
+use Rattle.chi_line.proofs.After.{IsRetried, IssueAllowed, cancel_allowed, dbid_there, flit_there, issue_allowed, names_used_slot, resend_allowed, retry_there}
+use Rattle.chi_line.proofs.Elsewhere.{SameCells, Stays, answer_up, answered_stays, sent_request, started_waits, stays_elsewhere, stays_where, write_awaited}
+use Rattle.chi_line.proofs.Facts.{acked_for_ack}
+use Rattle.chi_line.proofs.Finds.{idle_is}
+use Rattle.chi_line.proofs.EqualSlots.{same_slot}
+use Rattle.chi_line.proofs.SeenMoves.{SeenMoved, admit_seen, answered_seen, cancelled_seen, closed_seen, ended_seen, evicted_seen, issue_seen, none_moved, resent_seen, retried_seen, retry_seen, started_seen}
+use Rattle.chi_line.proofs.Sends.{CanStart, can_start}
+use Rattle.chi_line.proofs.Trails.{Trail, completed_trail, not_served, place_pending, requested_trail, responded_trail, retried_trail, waiting_trail}
+use Rattle.chi_line.proofs.Typed.{elsewhere_types, issued_types, own_types}
+use Rattle.chi_line.proofs.Untouched.{is_free}
+use Rattle.chi_line.proofs.Wheres.{acked_for, neither, waits_not, written_for}
+
+-- what a line shows of an agent whose parts are written
+abbrev shown : Option Pending → Option Request → Option RspDown → Option Waiting → Option Slot → Seen
+shown p q r w v = record { pending = p; request = q; response = r; waiting = w; served = v }
+
+same_shown : (p p' : Option Pending) (q q' : Option Request) (r r' : Option RspDown) (w w' : Option Waiting) (v v' : Option Slot) → p ≡ p' → q ≡ q' → r ≡ r' → w ≡ w' → v ≡ v' → shown p q r w v ≡ shown p' q' r' w' v'
+same_shown p p' q q' r r' w w' v v' ps qs rs ws vs = cc
+
+copy_seen : (s : LineState) (n : ℕ) (r : Rn) → n < length s.requesters → seen_of (record s { requesters = set s.requesters n r }) n ≡ record (seen_of s n) { pending = r.pending }
+copy_seen s n r low = ap (λ (x : Rn). record (seen_of s n) { pending = x.pending }) (get_or-set_same s.requesters n r no_line low)
+
+flits_seen : (s : LineState) (n : ℕ) (c : Cells) → n < length s.flits → seen_of (record s { flits = set s.flits n c }) n ≡ record (seen_of s n) { request = c.req; response = c.rsp_down }
+flits_seen s n c low = ap (λ (x : Cells). record (seen_of s n) { request = x.req; response = x.rsp_down }) (get_or-set_same s.flits n c no_flits low)
+
+both_seen : (s : LineState) (n : ℕ) (r : Rn) (c : Cells) → n < length s.requesters → n < length s.flits
+    → seen_of (record s { requesters = set s.requesters n r; flits = set s.flits n c }) n ≡ record (seen_of s n) { pending = r.pending; request = c.req; response = c.rsp_down }
+both_seen s n r c low flits =
+    ap (λ (x : Rn). record (seen_of (record s { flits = set s.flits n c }) n) { pending = x.pending }) (get_or-set_same s.requesters n r no_line low)
+    ∙ ap (λ (x : Cells). record (seen_of s n) { pending = r.pending; request = x.req; response = x.rsp_down }) (get_or-set_same s.flits n c no_flits flits)
+
+home_seen : (s : LineState) (n : ℕ) (home : Home) (c : Cells) (w : Option Waiting) (v : Option Slot) → n < length s.flits → waiting_of home n ≡ w → slot_served_for home.serving n ≡ v
+    → seen_of (record s { home = home; flits = set s.flits n c }) n ≡ record (seen_of s n) { request = c.req; response = c.rsp_down; waiting = w; served = v }
+home_seen s n home c w v low waits serves =
+    same_shown _ _ _ _ _ _ _ _ _ _ refl (ap (λ (x : Cells). x.req) (get_or-set_same s.flits n c no_flits low)) (ap (λ (x : Cells). x.rsp_down) (get_or-set_same s.flits n c no_flits low)) waits serves
+
+-- what an agent's step finds of its line
+record Here (last : List ℕ) (s : LineState) (n : ℕ) : Type 0 where
+  low : n < 8
+  requesters : n < length s.requesters
+  flits : n < length s.flits
+  waiting : n < length s.home.waiting
+  line : Kept last s
+  lane_kept : LaneKept s.home.serving s.home.filter.unique s.home.filter.owner last n (lane s n)
+
+here_of : (last : List ℕ) (s : LineState) (n : ℕ) → n < 8 → Kept last s → Here last s n
+here_of last s n low k = record {
+  low = low;
+  requesters = omega (arith, low, k.requesters);
+  flits = omega (arith, low, k.flits);
+  waiting = omega (arith, low, k.waiting);
+  line = k;
+  lane_kept = k.lanes n low;
+}
+
+none_is : {A : Type 0} (o : Option A) → is_some o ≡ false → o ≡ None
+none_is None h = refl
+none_is (Some a) h = absurd (cc (h))
+
+false_or : (a b : Bool) → a ≡ false → b ≡ false → a || b ≡ false
+false_or a b x y = rw (x, y) refl
+
+or_true : (a b : Bool) → b ≡ true → a || b ≡ true
+or_true true b h = refl
+or_true false b h = h
+
+-- a pending request that neither waits nor is served isn't at the home
+away_at : (last : List ℕ) (s : LineState) (n : ℕ) (requested responded retried : Bool) → Here last s n → Trail s.home.serving n (lane s n) requested false false responded retried
+    → is_comp_unique (cells_of s n).rsp_down ≡ false → is_dbid (cells_of s n).rsp_down ≡ false
+    → (slot : Slot) → is_slot (pending_slot (rn_of s n).pending) slot ≡ true → is_at_home (seen_of s n) slot ≡ false
+away_at last s n requested responded retried h t unique dbid slot is =
+    false_or _ _
+    (ap (λ (w : Option Waiting). is_slot (waiting_slot w) slot) (none_is (waiting_of s.home n) t.waiting))
+    (not_served s.home.serving s.home.filter.unique s.home.filter.owner last n (lane s n) slot is t.unsnooped t.completion unique dbid h.lane_kept)
+
+-- one that is served is
+served_at : (s : LineState) (n : ℕ) → slot_served_for s.home.serving n ≡ pending_slot (rn_of s n).pending → (slot : Slot) → is_slot (pending_slot (rn_of s n).pending) slot ≡ true → is_at_home (seen_of s n) slot ≡ true
+served_at s n served slot is = or_true (is_slot (waiting_slot (waiting_of s.home n)) slot) (is_slot (slot_served_for s.home.serving n) slot) (ap (λ (o : Option Slot). is_slot o slot) served ∙ is)
+
+-- what a step shows of its own agent
+abbrev Shows : LineState → LineState → ℕ → Option Slot → Option Where → Option Where → Type 0
+Shows s s' n moved from to = SeenMoved (seen_of s n) (seen_of s' n) moved from to
+
+shows_by : (x y x' : Seen) (moved : Option Slot) (from to : Option Where) → SeenMoved x y moved from to → x' ≡ y → SeenMoved x x' moved from to
+shows_by x y x' moved from to m same = subst (λ (z : Seen). SeenMoved x z moved from to) (sym same) m
+
+-- a step that moves no request
+shows_same : (s s' : LineState) (n : ℕ) → seen_of s' n ≡ seen_of s n → Shows s s' n None None None
+shows_same s s' n same = none_moved (seen_of s n) (seen_of s' n) (λ slot. ap (λ (x : Seen). where_in x slot) same)
+
+-- Issue
+issue_shows : (last : List ℕ) (s : LineState) (n : ℕ) (kind : Kind) (own : Slot) → Here last s n → (rn_of s n).pending ≡ None → line_uses s n own ≡ false
+    → Shows s (issued_line s n kind own) n (Some own) None (Some places.Sent)
+issue_shows last s n kind own h none free =
+    shows_by _ _ _ _ _ _
+    (issue_seen (seen_of s n) kind own none
+    (λ slot is. subst (λ (x : Slot). is_at_home (seen_of s n) x ≡ false) (same_slot own slot is) (neither (is_slot (pending_slot (rn_of s n).pending) own) (is_at_home (seen_of s n) own) free).1))
+    (both_seen s n _ _ h.requesters h.flits)
+
+-- Admit
+admit_shows : (last : List ℕ) (s : LineState) (n : ℕ) (there : Option Request) → Here last s n → (cells_of s n).req ≡ there → is_some there ≡ true
+    → Shows s (where_some s there (admitted_line s n)) n (requested_slot there) (flit_at there) (Some places.Admitted)
+admit_shows last s n None h here is = absurd (cc (is))
+admit_shows last s n (Some request) h here is =
+    let t : Trail s.home.serving n (lane s n) true false false false false = requested_trail _ _ _ last n (lane s n) (ap is_some here) h.lane_kept in
+    shows_by _ _ _ _ _ _
+    (admit_seen (seen_of s n) request here (h.lane_kept.request_slot request here) t.phase (none_is (waiting_of s.home n) t.waiting))
+    (home_seen s n (admitted s.home n (record { kind = request.kind; slot = request.slot })) _ _ _ h.flits (get_or-set_same s.home.waiting n _ None h.waiting) refl)
+
+-- Retry
+retry_shows : (profile : Profile) (last : List ℕ) (s : LineState) (n : ℕ) (there : Option Request) → Here last s n → (cells_of s n).req ≡ there → retry_refusal there ≡ None
+    → Shows s (where_some s there (retried_line profile s n)) n (requested_slot there) (Some places.Sent) (Some places.Refused)
+retry_shows profile last s n None h here may = absurd (cc (may))
+retry_shows profile last s n (Some request) h here may =
+    let t : Trail s.home.serving n (lane s n) true false false false false = requested_trail _ _ _ last n (lane s n) (ap is_some here) h.lane_kept in
+    let none : (cells_of s n).rsp_down ≡ None = none_is (cells_of s n).rsp_down t.response in
+    shows_by _ _ _ _ _ _
+    (retry_seen (seen_of s n) request (credit_type_of profile request.kind) here (grind (arith, may)) (h.lane_kept.request_slot request here) t.phase
+    (away_at last s n true false false h t (ap is_comp_unique none) (ap is_dbid none)))
+    (flits_seen s n _ h.flits)
+
+-- RecvRetry
+retried_shows : (last : List ℕ) (s : LineState) (n : ℕ) (ty : CreditType) → Here last s n → (cells_of s n).rsp_down ≡ Some (RetryAck ty)
+    → Shows s (retry_received_line s n) n (pending_slot (rn_of s n).pending) (Some places.Refused) (Some places.Retried)
+retried_shows last s n ty h here =
+    let t : Trail s.home.serving n (lane s n) false false false true false = responded_trail _ _ _ last n (lane s n) (ap is_some here) h.lane_kept in
+    shows_by _ _ _ _ _ _
+    (retried_seen (seen_of s n) ty (none_is (cells_of s n).req t.request) here t.phase (away_at last s n false true false h t (ap is_comp_unique here) (ap is_dbid here)))
+    (both_seen s n _ _ h.requesters h.flits)
+
+-- Resend
+is_retried_by : (p : Option Pending) → IsRetried p → is_retried p ≡ true
+is_retried_by p may = ap is_retried may.is ∙ ap is_retried_phase may.phase
+
+resend_shows : (last : List ℕ) (s : LineState) (n : ℕ) (there : Option Pending) → Here last s n → (rn_of s n).pending ≡ there → IsRetried there
+    → Shows s (where_some s there (resent_line s n)) n (pending_slot (rn_of s n).pending) (Some places.Retried) (Some places.Riding)
+resend_shows last s n None h here may = absurd (cc (may.is))
+resend_shows last s n (Some request) h here may =
+    shows_by _ _ _ _ _ _
+    (resent_seen (seen_of s n) request.kind request.slot (ap is_retried here ∙ is_retried_by (Some request) may))
+    (both_seen s n _ _ h.requesters h.flits)
+
+-- Cancel
+cancel_shows : (last : List ℕ) (s : LineState) (n : ℕ) → Here last s n → IsRetried (rn_of s n).pending
+    → Shows s (cancelled_line s n) n (pending_slot (rn_of s n).pending) (Some places.Retried) None
+cancel_shows last s n h may =
+    let retried : is_retried (rn_of s n).pending ≡ true = is_retried_by (rn_of s n).pending may in
+    let t : Trail s.home.serving n (lane s n) false false false false true = retried_trail _ _ _ last n (lane s n) retried h.lane_kept in
+    let none : (cells_of s n).rsp_down ≡ None = none_is (cells_of s n).rsp_down t.response in
+    shows_by _ _ _ _ _ _
+    (cancelled_seen (seen_of s n) retried (away_at last s n false false true h t (ap is_comp_unique none) (ap is_dbid none)))
+    (copy_seen s n _ h.requesters)
+
+-- RecvData
+data_shows : (last : List ℕ) (s : LineState) (n : ℕ) (there : Option CompData) → Here last s n → (cells_of s n).dat_down ≡ there → is_some there ≡ true
+    → Shows s (where_some s there (received_line s n)) n (pending_slot (rn_of s n).pending) (Some places.Admitted) (Some places.Answered)
+data_shows last s n None h here is = absurd (cc (is))
+data_shows last s n (Some message) h here is =
+    let sent : is_some (cells_of s n).dat_down ≡ true = ap is_some here in
+    let t : Trail s.home.serving n (lane s n) false false true false false = completed_trail _ _ _ last n (lane s n) sent h.lane_kept in
+    shows_by _ _ _ _ _ _
+    (answered_seen (seen_of s n) (cells_of s n).rsp_down (none_is (cells_of s n).req t.request) t.phase
+    (served_at s n (acked_for s.home.serving n (search (arith, sent, h.lane_kept.one_ack)) ∙ sym (h.lane_kept.read_slot sent))))
+    (both_seen s n _ _ h.requesters h.flits)
+
+-- RecvComp
+comp_shows : (last : List ℕ) (s : LineState) (n : ℕ) (there : Option RspDown) → Here last s n → (cells_of s n).rsp_down ≡ there → is_comp there ≡ true
+    → Shows s (completion_received s n there) n (pending_slot (rn_of s n).pending) (completed_from there) (completed_to there)
+comp_shows last s n None h here is = absurd (cc (is))
+comp_shows last s n (Some (RetryAck ty)) h here is = absurd (cc (is))
+comp_shows last s n (Some CompUC) h here is =
+    let t : Trail s.home.serving n (lane s n) false false false true false = responded_trail _ _ _ last n (lane s n) (ap is_some here) h.lane_kept in
+    let unique : is_comp_unique (cells_of s n).rsp_down ≡ true = ap is_comp_unique here in
+    shows_by _ _ _ _ _ _
+    (answered_seen (seen_of s n) None (none_is (cells_of s n).req t.request) t.phase
+    (served_at s n (acked_for s.home.serving n (search (arith, unique, h.lane_kept.one_ack)) ∙ sym (h.lane_kept.comp_slot unique))))
+    (both_seen s n _ _ h.requesters h.flits)
+comp_shows last s n (Some CompI) h here is =
+    let t : Trail s.home.serving n (lane s n) false false false true false = responded_trail _ _ _ last n (lane s n) (ap is_some here) h.lane_kept in
+    shows_by _ _ _ _ _ _
+    (closed_seen (seen_of s n) (none_is (cells_of s n).req t.request) here t.phase (away_at last s n false true false h t (ap is_comp_unique here) (ap is_dbid here)))
+    (both_seen s n _ _ h.requesters h.flits)
+comp_shows last s n (Some CompDBIDResp) h here is = absurd (cc (is))
+
+-- RecvDbid
+dbid_shows : (last : List ℕ) (s : LineState) (n : ℕ) (there : Option Pending) → Here last s n → (cells_of s n).rsp_down ≡ Some CompDBIDResp → is_some there ≡ true
+    → Shows s (where_some s there (λ (request : Pending). dbid_received_line s n request.kind)) n (pending_slot (rn_of s n).pending) (Some places.Admitted) (Some places.Answered)
+dbid_shows last s n None h here is = absurd (cc (is))
+dbid_shows last s n (Some request) h here is =
+    let t : Trail s.home.serving n (lane s n) false false false true false = responded_trail _ _ _ last n (lane s n) (ap is_some here) h.lane_kept in
+    let asked : is_dbid (cells_of s n).rsp_down ≡ true = ap is_dbid here in
+    shows_by _ _ _ _ _ _
+    (answered_seen (seen_of s n) None (none_is (cells_of s n).req t.request) t.phase
+    (served_at s n (written_for s.home.serving n (search (arith, asked, h.lane_kept.one_write)) ∙ sym (h.lane_kept.dbid_slot asked))))
+    (both_seen s n _ _ h.requesters h.flits)
+
+-- RecvAck and RecvWrData: the request that ends is served, and its slot is neither pending nor waiting
+ended_shows : (last : List ℕ) (s s' : LineState) (n : ℕ) → Here last s n → seen_of s' n ≡ record (seen_of s n) { served = None }
+    → slot_served_for s.home.serving n ≡ served_slot s.home.serving → pending_slot (rn_of s n).pending ≢ served_slot s.home.serving
+    → Shows s s' n (completed_slot (completed_effect (served_slot s.home.serving))) (Some places.Answered) None
+ended_shows last s s' n h after served apart =
+    subst (λ (o : Option Slot). Shows s s' n o (Some places.Answered) None) (served ∙ sym (completed_is (served_slot s.home.serving)))
+    (shows_by _ _ _ _ _ _ (ended_seen (seen_of s n) unpending (λ slot is. waits_not (waiting_of s.home n) (pending_slot (rn_of s n).pending) slot h.lane_kept.waiting_slot (unpending slot is))) after)
+  where
+    completed_is : (o : Option Slot) → completed_slot (completed_effect o) ≡ o
+    completed_is None = refl
+    completed_is (Some slot) = refl
+
+    both : (p v : Option Slot) (slot : Slot) → is_slot p slot ≡ true → is_slot v slot ≡ true → p ≡ v
+    both None v slot x y = absurd (cc (x))
+    both (Some p) None slot x y = absurd (cc (y))
+    both (Some p) (Some v) slot x y = ap (λ (o : Slot). Some o) (same_slot p slot x ∙ sym (same_slot v slot y))
+
+    unpending : (slot : Slot) → is_slot (slot_served_for s.home.serving n) slot ≡ true → is_slot (pending_slot (rn_of s n).pending) slot ≡ false
+    unpending slot is = go (is_slot (pending_slot (rn_of s n).pending) slot) refl
+      where
+        go : (b : Bool) → is_slot (pending_slot (rn_of s n).pending) slot ≡ b → b ≡ false
+        go false other = refl
+        go true own = absurd (apart (both (pending_slot (rn_of s n).pending) (slot_served_for s.home.serving n) slot own is ∙ served))
+
+ack_shows : (last : List ℕ) (s : LineState) (n : ℕ) → Here last s n → is_ack (cells_of s n).rsp_up ≡ true
+    → Shows s (acknowledged_line s n) n (completed_slot (completed_effect (served_slot s.home.serving))) (Some places.Answered) None
+ack_shows last s n h is =
+    ended_shows last s (acknowledged_line s n) n h (home_seen s n (acknowledged s.home) _ _ _ h.flits refl refl)
+    (acked_for s.home.serving n (acked_for_ack _ _ _ last n (lane s n) is h.lane_kept))
+    (h.lane_kept.ack_apart is)
+
+write_shows : (last : List ℕ) (s : LineState) (n : ℕ) (kind : Kind) (there : Option DatUp) → Here last s n → (cells_of s n).dat_up ≡ there → is_write_data there ≡ true
+    → Shows s (data_written s n kind there) n (completed_slot (completed_effect (served_slot s.home.serving))) (Some places.Answered) None
+write_shows last s n kind None h here is = absurd (cc (is))
+write_shows last s n kind (Some (SnpRespDataIPD words)) h here is = absurd (cc (is))
+write_shows last s n kind (Some (SnpRespDataSCPD words)) h here is = absurd (cc (is))
+write_shows last s n kind (Some (SnpRespDataSD words)) h here is = absurd (cc (is))
+write_shows last s n kind (Some (CopyBackWrData form words)) h here is =
+    let data_there : is_write_data (cells_of s n).dat_up ≡ true = ap is_write_data here in
+    ended_shows last s (written_line s n kind form words) n h (home_seen s n (written s.home n kind form words) _ _ _ h.flits refl refl)
+    (written_for s.home.serving n (write_awaited _ _ _ last n (lane s n) data_there h.lane_kept))
+    (h.lane_kept.write_apart data_there)
+
+-- write data is awaited of a request whose kind is known
+written_kind : (serving : Serving) (n : ℕ) → writes_for serving n ≡ true → is_some (served_kind serving) ≡ true
+written_kind Idle n here = absurd (cc (here))
+written_kind (Snooping agent kind slot) n here = absurd (cc (here))
+written_kind (AwaitingCompAck agent slot) n here = absurd (cc (here))
+written_kind (AwaitingWriteData agent kind slot) n here = refl
+
+wrdata_shows : (last : List ℕ) (s : LineState) (n : ℕ) (there : Option Kind) → Here last s n → is_some there ≡ true → is_write_data (cells_of s n).dat_up ≡ true
+    → Shows s (where_some s there (λ (kind : Kind). data_written s n kind (cells_of s n).dat_up)) n (completed_slot (completed_effect (served_slot s.home.serving))) (Some places.Answered) None
+wrdata_shows last s n None h known is = absurd (cc (known))
+wrdata_shows last s n (Some kind) h known is = write_shows last s n kind (cells_of s n).dat_up h refl is
+
+-- RecvSnp
+snoop_shows : (s : LineState) (n : ℕ) (there : Option Snoop) → n < length s.requesters → n < length s.flits → Shows s (where_some s there (snooped_line s n)) n None None None
+snoop_shows s n None low flits = shows_same s s n refl
+snoop_shows s n (Some snoop) low flits =
+    let cells : SameCells (cells_of s n) (with_message (record (cells_of s n) { snp = None }) (answer_of (rn_of s n).state snoop (rn_of s n).words).1) = answer_up (rn_of s n).state snoop (rn_of s n).words (cells_of s n) in
+    shows_same s (snooped_line s n snoop) n (both_seen s n _ _ low flits ∙ same_shown _ _ _ _ _ _ _ _ _ _ refl cells.request cells.response refl refl)
+
+-- RecvSnpResp
+answer_shows : (last : List ℕ) (s : LineState) (agent : Agent) (there : Option SnoopAnswer) → agent.0 < 8 → Kept last s → Shows s (where_some s there (answered_by s agent)) agent.0 None None None
+answer_shows last s agent None low k = shows_same s s agent.0 refl
+answer_shows last s agent (Some answer) low k =
+    none_moved (seen_of s agent.0) (seen_of (answered_by s agent answer) agent.0) (λ slot. stays_where s (answered_by s agent answer) agent.0 slot (answered_stays last s agent answer agent.0 low k))
+
+-- Start: what the home sends to the agent leaves its request's cell
+itself : (n : ℕ) → (n == n) ≡ true
+itself n = grind arith
+
+served_own : (n : ℕ) (own : Slot) → (if n == n then Some own else None) ≡ Some own
+served_own n own = ap (λ (b : Bool). if b then Some own else None) (itself n)
+
+-- a request that is taken up and served
+record TakenUp (s s' : LineState) (n : ℕ) (own : Slot) : Type 0 where
+  copies : s'.requesters ≡ s.requesters
+  request : (cells_of s' n).req ≡ (cells_of s n).req
+  waiting : waiting_of s'.home n ≡ None
+  served : slot_served_for s'.home.serving n ≡ Some own
+
+taken_shows : (last : List ℕ) (s s' : LineState) (n : ℕ) (request : Waiting) → Here last s n → waiting_of s.home n ≡ Some request → s.home.serving ≡ Idle → TakenUp s s' n request.slot → Shows s s' n None None None
+taken_shows last s s' n request h here idle up =
+    let t : Trail s.home.serving n (lane s n) false true false false false = waiting_trail _ _ _ last n (lane s n) (ap is_some here) h.lane_kept in
+    shows_by _ _ _ _ _ _
+    (started_seen (seen_of s n) request (cells_of s' n).rsp_down here (none_is (cells_of s n).req t.request) (ap (λ (v : Serving). slot_served_for v n) idle) (h.lane_kept.waiting_slot request here) t.phase)
+    (same_shown _ _ _ _ _ _ _ _ _ _ (ap (λ (l : List Rn). (get_or l n no_line).pending) up.copies) up.request refl up.waiting up.served)
+
+-- an Evict
+evicted_shows : (last : List ℕ) (s : LineState) (n : ℕ) (request : Waiting) (home : Home) → Here last s n → waiting_of s.home n ≡ Some request → s.home.serving ≡ Idle → home.serving ≡ s.home.serving → waiting_of home n ≡ None
+    → Shows s (record s { home = home; flits = set s.flits n (with_message (cells_of s n) (messages.RspDown CompI)) }) n (Some request.slot) (Some places.Admitted) (Some places.Closing)
+evicted_shows last s n request home h here idle stays gone =
+    let t : Trail s.home.serving n (lane s n) false true false false false = waiting_trail _ _ _ last n (lane s n) (ap is_some here) h.lane_kept in
+    shows_by _ _ _ _ _ _
+    (evicted_seen (seen_of s n) request here (none_is (cells_of s n).req t.request) (ap (λ (v : Serving). slot_served_for v n) idle) (h.lane_kept.waiting_slot request here) t.phase)
+    (home_seen s n home _ _ _ h.flits gone (ap (λ (v : Serving). slot_served_for v n) stays))
+
+-- the line once a request is started as one of the kind
+abbrev started_with : LineState → Kind → Option Snoop → Agent → Slot → LineState
+started_with s kind o agent own = record s { home = started_as kind o (taken_up s.home agent.0) agent own; flits = sent s.flits agent.0 (started_sends_as kind o s.home agent own) }
+
+start_waits : (s : LineState) (kind : Kind) (o : Option Snoop) (agent : Agent) (own : Slot) → agent.0 < length s.home.waiting → waiting_of (started_as kind o (taken_up s.home agent.0) agent own) agent.0 ≡ None
+start_waits s kind o agent own low =
+    ap (λ (l : List (Option Waiting)). get_or l agent.0 None) (started_waits kind o (taken_up s.home agent.0) agent own) ∙ get_or-set_same s.home.waiting agent.0 None None low
+
+-- the slot that a start completes
+abbrev start_completes : Kind → Option Snoop → Home → Agent → Slot → Option Slot
+start_completes kind o home agent own = completed_slot (started_effect (started_sends_as kind o home agent own))
+
+start_snooped : (last : List ℕ) (s : LineState) (agent : Agent) (request : Waiting) (snoop : Snoop) → Here last s agent.0 → waiting_of s.home agent.0 ≡ Some request → s.home.serving ≡ Idle
+    → Shows s (started_with s request.kind (Some snoop) agent request.slot) agent.0 (start_completes request.kind (Some snoop) s.home agent request.slot)
+    (if_moved (start_completes request.kind (Some snoop) s.home agent request.slot) places.Admitted) (if_moved (start_completes request.kind (Some snoop) s.home agent request.slot) places.Closing)
+start_snooped last s agent request snoop h here idle =
+    go (has_any (asks snoop s.home.filter agent.0)) (start_waits s request.kind (Some snoop) agent request.slot h.waiting)
+    (sent_request request.kind (Some snoop) s.home agent request.slot s.flits h.flits)
+  where
+    n : ℕ
+    n = agent.0
+
+    home : Home
+    home = taken_up s.home agent.0
+
+    served : Bool → Home
+    served b = if b then record home { serving = Snooping agent request.kind request.slot; awaited = asks snoop home.filter agent.0 } else completed home snoop agent request.slot
+
+    sends : Bool → Started
+    sends b = if b then Snoops snoop (asks snoop s.home.filter agent.0) else Sends (completion_of s.home snoop agent s.home.memory)
+
+    after : Bool → LineState
+    after b = record s { home = served b; flits = sent s.flits agent.0 (sends b) }
+
+    go : (b : Bool) → waiting_of (served b) agent.0 ≡ None → (cells_of (after b) agent.0).req ≡ (cells_of s agent.0).req
+        → Shows s (after b) agent.0 (completed_slot (started_effect (sends b))) (if_moved (completed_slot (started_effect (sends b))) places.Admitted) (if_moved (completed_slot (started_effect (sends b))) places.Closing)
+    go true gone stays = taken_shows last s (after true) n request h here idle (record {
+      copies = refl;
+      request = stays;
+      waiting = gone;
+      served = served_own n request.slot;
+    })
+    go false gone stays = taken_shows last s (after false) n request h here idle (record {
+      copies = refl;
+      request = stays;
+      waiting = gone;
+      served = served_own n request.slot;
+    })
+
+start_unsnooped : (last : List ℕ) (s : LineState) (agent : Agent) (request : Waiting) → Here last s agent.0 → waiting_of s.home agent.0 ≡ Some request → s.home.serving ≡ Idle
+    → Shows s (started_with s request.kind None agent request.slot) agent.0 (start_completes request.kind None s.home agent request.slot)
+    (if_moved (start_completes request.kind None s.home agent request.slot) places.Admitted) (if_moved (start_completes request.kind None s.home agent request.slot) places.Closing)
+start_unsnooped last s agent request h here idle =
+    go (is_copy_back request.kind) (start_waits s request.kind None agent request.slot h.waiting)
+    (sent_request request.kind None s.home agent request.slot s.flits h.flits)
+  where
+    n : ℕ
+    n = agent.0
+
+    home : Home
+    home = taken_up s.home agent.0
+
+    served : Bool → Home
+    served b = if b then record home { serving = AwaitingWriteData agent request.kind request.slot } else record home { filter = removed home.filter agent.0 }
+
+    sends : Bool → Started
+    sends b = if b then Sends (messages.RspDown CompDBIDResp) else Evicted request.slot
+
+    after : Bool → LineState
+    after b = record s { home = served b; flits = sent s.flits agent.0 (sends b) }
+
+    go : (b : Bool) → waiting_of (served b) agent.0 ≡ None → (cells_of (after b) agent.0).req ≡ (cells_of s agent.0).req
+        → Shows s (after b) agent.0 (completed_slot (started_effect (sends b))) (if_moved (completed_slot (started_effect (sends b))) places.Admitted) (if_moved (completed_slot (started_effect (sends b))) places.Closing)
+    go true gone stays = taken_shows last s (after true) n request h here idle (record {
+      copies = refl;
+      request = stays;
+      waiting = gone;
+      served = served_own n request.slot;
+    })
+    go false gone stays = evicted_shows last s n request (served false) h here idle refl gone
+
+start_as_shows : (last : List ℕ) (s : LineState) (agent : Agent) (request : Waiting) (o : Option Snoop) → Here last s agent.0 → waiting_of s.home agent.0 ≡ Some request → s.home.serving ≡ Idle
+    → Shows s (started_with s request.kind o agent request.slot) agent.0 (start_completes request.kind o s.home agent request.slot)
+    (if_moved (start_completes request.kind o s.home agent request.slot) places.Admitted) (if_moved (start_completes request.kind o s.home agent request.slot) places.Closing)
+start_as_shows last s agent request None h here idle = start_unsnooped last s agent request h here idle
+start_as_shows last s agent request (Some snoop) h here idle = start_snooped last s agent request snoop h here idle
+
+start_shows : (last : List ℕ) (s : LineState) (agent : Agent) (there : Option Waiting) → Here last s agent.0 → waiting_of s.home agent.0 ≡ there → is_some there ≡ true → s.home.serving ≡ Idle
+    → Shows s (where_some s there (started_line s agent)) agent.0 (completed_slot (waiting_effect s.home agent there))
+    (if_moved (completed_slot (waiting_effect s.home agent there)) places.Admitted) (if_moved (completed_slot (waiting_effect s.home agent there)) places.Closing)
+start_shows last s agent None h here is idle = absurd (cc (is))
+start_shows last s agent (Some request) h here is idle = start_as_shows last s agent request (snoop_of request.kind) h here idle
+
+-- every step
+step_shows : (c : Conditions) (last : List ℕ) (profile : Profile) (s : LineState) (agent : Agent) (step : Step) → Here last s agent.0 → step_refusal c s agent step ≡ None → names_used_slot s agent.0 step ≡ false
+    → Shows s (after_step profile s agent step) agent.0 (moved_slot s agent step) (moved_from s agent step) (moved_to s agent step)
+step_shows c last profile s agent (steps.Load word) h may free = shows_same s s agent.0 refl
+step_shows c last profile s agent (steps.Store word value) h may free = shows_same s (stored_line s agent.0 word.0 value) agent.0 (copy_seen s agent.0 _ h.requesters)
+step_shows c last profile s agent steps.Drop h may free = shows_same s (dropped_line s agent.0) agent.0 (copy_seen s agent.0 _ h.requesters)
+step_shows c last profile s agent (steps.Issue kind slot) h may free =
+    let can : IssueAllowed c.slot_used (rn_of s agent.0) kind = issue_allowed c.slot_used (rn_of s agent.0) kind may in
+    issue_shows last s agent.0 kind slot h can.none free
+step_shows c last profile s agent steps.Admit h may free = admit_shows last s agent.0 (cells_of s agent.0).req h refl (flit_there (is_some (cells_of s agent.0).req) may)
+step_shows c last profile s agent steps.Retry h may free = retry_shows profile last s agent.0 (cells_of s agent.0).req h refl may
+step_shows c last profile s agent steps.RecvRetry h may free =
+    let there = retry_there (cells_of s agent.0).rsp_down (flit_there (is_retry (cells_of s agent.0).rsp_down) may) in
+    retried_shows last s agent.0 there.0 h there.1
+step_shows c last profile s agent steps.Resend h may free = resend_shows last s agent.0 (rn_of s agent.0).pending h refl (resend_allowed (rn_of s agent.0).state (rn_of s agent.0).pending may)
+step_shows c last profile s agent steps.Cancel h may free = cancel_shows last s agent.0 h (cancel_allowed (rn_of s agent.0).state (rn_of s agent.0).pending may)
+step_shows c last profile s agent steps.Start h may free =
+    let can : CanStart s.home agent.0 = can_start s.home agent.0 may in
+    start_shows last s agent (waiting_of s.home agent.0) h refl can.is_waiting (idle_is s.home.serving can.idle)
+step_shows c last profile s agent steps.RecvSnp h may free = snoop_shows s agent.0 (cells_of s agent.0).snp h.requesters h.flits
+step_shows c last profile s agent steps.RecvSnpResp h may free = answer_shows last s agent (answer_in (cells_of s agent.0)) h.low h.line
+step_shows c last profile s agent steps.RecvData h may free = data_shows last s agent.0 (cells_of s agent.0).dat_down h refl (flit_there (is_some (cells_of s agent.0).dat_down) may)
+step_shows c last profile s agent steps.RecvComp h may free = comp_shows last s agent.0 (cells_of s agent.0).rsp_down h refl (flit_there (is_comp (cells_of s agent.0).rsp_down) may)
+step_shows c last profile s agent steps.RecvAck h may free = ack_shows last s agent.0 h (flit_there (is_ack (cells_of s agent.0).rsp_up) may)
+step_shows c last profile s agent steps.RecvDbid h may free =
+    let there : (cells_of s agent.0).rsp_down ≡ Some CompDBIDResp = dbid_there (cells_of s agent.0).rsp_down (flit_there (is_dbid (cells_of s agent.0).rsp_down) may) in
+    dbid_shows last s agent.0 (rn_of s agent.0).pending h there (place_pending _ _ _ last agent.0 (lane s agent.0) (or_true (is_some (cells_of s agent.0).dat_down) (is_some (cells_of s agent.0).rsp_down) (ap is_some there)) h.lane_kept)
+step_shows c last profile s agent steps.RecvWrData h may free =
+    let data_there : is_write_data (cells_of s agent.0).dat_up ≡ true = flit_there (is_write_data (cells_of s agent.0).dat_up) may in
+    wrdata_shows last s agent.0 (served_kind s.home.serving) h (written_kind s.home.serving agent.0 (write_awaited _ _ _ last agent.0 (lane s agent.0) data_there h.lane_kept)) data_there
+
+-- The steps that move a request find it.
+slot_there : (p : Option Pending) → is_some p ≡ true → is_some (pending_slot p) ≡ true
+slot_there None h = absurd (cc (h))
+slot_there (Some request) h = refl
+
+flit_slot_there : (q : Option Request) → is_some q ≡ true → is_some (requested_slot q) ≡ true
+flit_slot_there None h = absurd (cc (h))
+flit_slot_there (Some request) h = refl
+
+retry_slot_there : (q : Option Request) → retry_refusal q ≡ None → is_some (requested_slot q) ≡ true
+retry_slot_there None may = absurd (cc (may))
+retry_slot_there (Some request) may = refl
+
+retried_there : (p : Option Pending) → IsRetried p → is_some (pending_slot p) ≡ true
+retried_there None may = absurd (cc (may.is))
+retried_there (Some request) may = refl
+
+served_there : (serving : Serving) (n : ℕ) → acks_for serving n || writes_for serving n ≡ true → is_some (completed_slot (completed_effect (served_slot serving))) ≡ true
+served_there Idle n here = absurd (cc (here))
+served_there (Snooping agent kind slot) n here = absurd (cc (here))
+served_there (AwaitingCompAck agent slot) n here = refl
+served_there (AwaitingWriteData agent kind slot) n here = refl
+
+or_first : (a b : Bool) → a ≡ true → a || b ≡ true
+or_first true b h = refl
+or_first false b h = absurd (cc (h))
+
+-- what is on its way to an agent is for its pending request
+answered_there : (last : List ℕ) (s : LineState) (n : ℕ) → Here last s n → is_some (cells_of s n).dat_down || is_some (cells_of s n).rsp_down ≡ true → is_some (pending_slot (rn_of s n).pending) ≡ true
+answered_there last s n h here = slot_there (rn_of s n).pending (place_pending _ _ _ last n (lane s n) here h.lane_kept)
+
+response_there : (last : List ℕ) (s : LineState) (n : ℕ) (response : RspDown) → Here last s n → (cells_of s n).rsp_down ≡ Some response → is_some (pending_slot (rn_of s n).pending) ≡ true
+response_there last s n response h here = answered_there last s n h (or_true (is_some (cells_of s n).dat_down) (is_some (cells_of s n).rsp_down) (ap is_some here))
+
+comp_there : (there : Option RspDown) → is_comp there ≡ true → is_some there ≡ true
+comp_there None h = absurd (cc (h))
+comp_there (Some response) h = refl
+
+moved_there : (c : Conditions) (last : List ℕ) (s : LineState) (agent : Agent) (step : Step) → Here last s agent.0 → step_refusal c s agent step ≡ None → always_moves step ≡ true → is_some (moved_slot s agent step) ≡ true
+moved_there c last s agent (steps.Load word) h may moves = absurd (cc (moves))
+moved_there c last s agent (steps.Store word value) h may moves = absurd (cc (moves))
+moved_there c last s agent steps.Drop h may moves = absurd (cc (moves))
+moved_there c last s agent (steps.Issue kind slot) h may moves = refl
+moved_there c last s agent steps.Admit h may moves = flit_slot_there (cells_of s agent.0).req (flit_there (is_some (cells_of s agent.0).req) may)
+moved_there c last s agent steps.Retry h may moves = retry_slot_there (cells_of s agent.0).req may
+moved_there c last s agent steps.RecvRetry h may moves =
+    let there = retry_there (cells_of s agent.0).rsp_down (flit_there (is_retry (cells_of s agent.0).rsp_down) may) in
+    response_there last s agent.0 (RetryAck there.0) h there.1
+moved_there c last s agent steps.Resend h may moves = retried_there (rn_of s agent.0).pending (resend_allowed (rn_of s agent.0).state (rn_of s agent.0).pending may)
+moved_there c last s agent steps.Cancel h may moves = retried_there (rn_of s agent.0).pending (cancel_allowed (rn_of s agent.0).state (rn_of s agent.0).pending may)
+moved_there c last s agent steps.Start h may moves = absurd (cc (moves))
+moved_there c last s agent steps.RecvSnp h may moves = absurd (cc (moves))
+moved_there c last s agent steps.RecvSnpResp h may moves = absurd (cc (moves))
+moved_there c last s agent steps.RecvData h may moves = answered_there last s agent.0 h (or_first (is_some (cells_of s agent.0).dat_down) (is_some (cells_of s agent.0).rsp_down) (flit_there (is_some (cells_of s agent.0).dat_down) may))
+moved_there c last s agent steps.RecvComp h may moves =
+    answered_there last s agent.0 h (or_true (is_some (cells_of s agent.0).dat_down) (is_some (cells_of s agent.0).rsp_down) (comp_there (cells_of s agent.0).rsp_down (flit_there (is_comp (cells_of s agent.0).rsp_down) may)))
+moved_there c last s agent steps.RecvAck h may moves =
+    served_there s.home.serving agent.0 (or_first (acks_for s.home.serving agent.0) (writes_for s.home.serving agent.0) (acked_for_ack _ _ _ last agent.0 (lane s agent.0) (flit_there (is_ack (cells_of s agent.0).rsp_up) may) h.lane_kept))
+moved_there c last s agent steps.RecvDbid h may moves = response_there last s agent.0 CompDBIDResp h (dbid_there (cells_of s agent.0).rsp_down (flit_there (is_dbid (cells_of s agent.0).rsp_down) may))
+moved_there c last s agent steps.RecvWrData h may moves =
+    served_there s.home.serving agent.0 (or_true (acks_for s.home.serving agent.0) (writes_for s.home.serving agent.0) (write_awaited _ _ _ last agent.0 (lane s agent.0) (flit_there (is_write_data (cells_of s agent.0).dat_up) may) h.lane_kept))
+
+-- the slot that an Issue names has the type of the kind that it names
+issued_there : (last : List ℕ) (profile : Profile) (s : LineState) (agent : Agent) (step : Step) (kind : Kind) (slot : Slot) → Here last s agent.0 → names_used_slot s agent.0 step ≡ false
+    → issued_kind step ≡ Some kind → is_slot (issued_slot step) slot ≡ true → is_of_type profile (credit_type_of profile kind) (after_step profile s agent step) agent.0 slot ≡ true
+issued_there last profile s agent (steps.Load word) kind slot h free is same = absurd (cc (is))
+issued_there last profile s agent (steps.Store word value) kind slot h free is same = absurd (cc (is))
+issued_there last profile s agent steps.Drop kind slot h free is same = absurd (cc (is))
+issued_there last profile s agent (steps.Issue named own) kind slot h free is same =
+    let kinds : named ≡ kind = cc (is) in
+    subst (λ (x : Kind). is_of_type profile (credit_type_of profile x) (issued_line s agent.0 named own) agent.0 slot ≡ true) kinds
+    (subst (λ (x : Slot). is_of_type profile (credit_type_of profile named) (issued_line s agent.0 named own) agent.0 x ≡ true) (same_slot own slot same)
+    (issued_types profile s agent.0 named own h.requesters h.flits (is_free s agent.0 own free)))
+issued_there last profile s agent steps.Admit kind slot h free is same = absurd (cc (is))
+issued_there last profile s agent steps.Retry kind slot h free is same = absurd (cc (is))
+issued_there last profile s agent steps.RecvRetry kind slot h free is same = absurd (cc (is))
+issued_there last profile s agent steps.Resend kind slot h free is same = absurd (cc (is))
+issued_there last profile s agent steps.Cancel kind slot h free is same = absurd (cc (is))
+issued_there last profile s agent steps.Start kind slot h free is same = absurd (cc (is))
+issued_there last profile s agent steps.RecvSnp kind slot h free is same = absurd (cc (is))
+issued_there last profile s agent steps.RecvSnpResp kind slot h free is same = absurd (cc (is))
+issued_there last profile s agent steps.RecvData kind slot h free is same = absurd (cc (is))
+issued_there last profile s agent steps.RecvComp kind slot h free is same = absurd (cc (is))
+issued_there last profile s agent steps.RecvAck kind slot h free is same = absurd (cc (is))
+issued_there last profile s agent steps.RecvDbid kind slot h free is same = absurd (cc (is))
+issued_there last profile s agent steps.RecvWrData kind slot h free is same = absurd (cc (is))
+
+-- a refusal doesn't depend on the profile
+refusal_for : (c : Conditions) (profile : Profile) (s : LineState) (agent : Agent) (step : Step) → step_refusal (record c { profile = profile }) s agent step ≡ step_refusal c s agent step
+refusal_for c profile s agent (steps.Load word) = refl
+refusal_for c profile s agent (steps.Store word value) = refl
+refusal_for c profile s agent steps.Drop = refl
+refusal_for c profile s agent (steps.Issue kind slot) = refl
+refusal_for c profile s agent steps.Admit = refl
+refusal_for c profile s agent steps.Retry = refl
+refusal_for c profile s agent steps.RecvRetry = refl
+refusal_for c profile s agent steps.Resend = refl
+refusal_for c profile s agent steps.Cancel = refl
+refusal_for c profile s agent steps.Start = refl
+refusal_for c profile s agent steps.RecvSnp = refl
+refusal_for c profile s agent steps.RecvSnpResp = refl
+refusal_for c profile s agent steps.RecvData = refl
+refusal_for c profile s agent steps.RecvComp = refl
+refusal_for c profile s agent steps.RecvAck = refl
+refusal_for c profile s agent steps.RecvDbid = refl
+refusal_for c profile s agent steps.RecvWrData = refl
+
+-- the other agents' slots
+elsewhere : (c : Conditions) (last : List ℕ) (profile : Profile) (s : LineState) (agent : Agent) (step : Step) (n : ℕ) → agent.0 < 8 → Kept last s → step_refusal c s agent step ≡ None → n < 8 → n ≢ agent.0 → Stays s (after_step profile s agent step) n
+elsewhere c last profile s agent step n low k may at apart = stays_elsewhere (record c { profile = profile }) last s agent step n low at apart (refusal_for c profile s agent step ∙ may) k
+
+pub moves : (c : Conditions) (last : List ℕ) (profile : Profile) (s : LineState) (agent : Agent) (step : Step) → agent.0 < 8 → Kept last s → step_refusal c s agent step ≡ None → names_used_slot s agent.0 step ≡ false
+    → Moved profile s agent step
+moves c last profile s agent step low k may free =
+    let h : Here last s agent.0 = here_of last s agent.0 low k in
+    let shows : Shows s (after_step profile s agent step) agent.0 (moved_slot s agent step) (moved_from s agent step) (moved_to s agent step) = step_shows c last profile s agent step h may free in
+    record {
+      there = moved_there c last s agent step h may;
+      found = shows.found;
+      left = shows.left;
+      stay = shows.stay;
+      others = λ n slot at apart. stays_where s (after_step profile s agent step) n slot (elsewhere c last profile s agent step n low k may at apart);
+      types = λ slot ty other is. own_types profile last s agent step slot ty low k other is;
+      other_types = λ n slot ty at apart is. elsewhere_types profile s agent step n slot ty apart (elsewhere c last profile s agent step n low k may at apart) is;
+      issued_type = λ kind slot is same. issued_there last profile s agent step kind slot h free is same;
+    }

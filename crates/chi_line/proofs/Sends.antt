@@ -1,0 +1,91 @@
+-- What a start that isn't refused finds, and on which channels it sends.
+use Rattle.std.proofs.Common.{◌≡◌, ℕ, Bool, true, false, Option, Some, None, List, [], refl, ap, ◌∙◌, subst, is_some, if◌then◌else◌, rules, arith}
+use Rattle.chi_flit.specs.declared.numbers.Agent.{Agent}
+use Rattle.chi_flit.specs.declared.numbers.Slot.{Slot}
+use Rattle.chi_flit.specs.declared.kind.Kind.{Kind}
+use Rattle.chi_flit.specs.declared.snoop.Snoop.{Snoop}
+use Rattle.chi_flit.specs.declared.snoop.Snoop.TheVariants.{SnpShared, SnpNotSharedDirty, SnpUnique, SnpCleanInvalid}
+use Rattle.chi_flit.specs.declared.action.Effect.TheVariants.{Nothing}
+use Rattle.chi_flit.specs.declared.message.RspDown.TheVariants.{CompI, CompUC, CompDBIDResp}
+use Rattle.chi_flit.specs.declared.message.Msg.{Msg}
+use Rattle.chi_flit.specs.declared.message.Msg.TheVariants as messages
+use Rattle.chi_flit.specs.declared.refusal.Refusal.{Refusal}
+use Rattle.chi_flit.specs.declared.refusal.Refusal.TheVariants.{LineBusy, NotWaiting}
+use Rattle.chi_flit.specs.Message.{channel_of}
+use Rattle.chi_flit.specs.Kind.{snoop_of, is_copy_back}
+use Rattle.chi_filter.specs.Filter.{has_any}
+use Rattle.chi_wires.specs.declared.cells.Cells.{Cells}
+use Rattle.chi_wires.specs.Cell.{cell_of}
+use Rattle.chi_homeline.specs.declared.serving.Waiting.{Waiting}
+use Rattle.chi_homeline.specs.declared.serving.Started.{Started}
+use Rattle.chi_homeline.specs.declared.serving.Started.TheVariants.{Sends, Evicted, Snoops}
+use Rattle.chi_line.specs.Step.{evicted_if, started_effect, waiting_effect, completed_slot, slot_unless}
+use Rattle.chi_homeline.specs.Home.{Home, asks, completes_unique, completion_message, completion_of, is_idle, served_sends, start_refusal, started_sends, started_sends_as, waiting_of}
+
+-- a request waits, and the line is idle
+pub record CanStart (home : Home) (n : ℕ) : Type 0 where
+  pub request : Waiting
+  pub waits : waiting_of home n ≡ Some request
+  pub is_waiting : is_some (waiting_of home n) ≡ true
+  pub idle : is_idle home.serving ≡ true
+
+pub can_start : (home : Home) (n : ℕ) → start_refusal home n ≡ None → CanStart home n
+can_start home n h =
+    let found = go (waiting_of home n) (is_idle home.serving) h in
+    record { request = found.0; waits = found.1; is_waiting = found.2; idle = found.3 }
+  where
+    go : (w : Option Waiting) (b : Bool) → (if is_some w then (if b then None else Some LineBusy) else Some NotWaiting) ≡ None → (request : Waiting) × (w ≡ Some request) × (is_some w ≡ true) × (b ≡ true)
+    go None b h = absurd (cc (h))
+    go (Some request) true h = (request, refl, refl, refl)
+    go (Some request) false h = absurd (cc (h))
+
+-- a message to a requester finds its cell empty where both cells of responses to it are
+-- a completion
+pub completion_down : (snoop : Snoop) (unique : Bool) (sent : List ℕ) (cells : Cells) → cells.rsp_down ≡ None → cells.dat_down ≡ None → cell_of cells (channel_of (completion_message snoop unique sent)) ≡ None
+completion_down SnpNotSharedDirty unique sent cells r d = search (rules, r, d)
+completion_down SnpShared unique sent cells r d = search (rules, r, d)
+completion_down SnpUnique unique sent cells r d = search (rules, r, d)
+completion_down SnpCleanInvalid unique sent cells r d = search (rules, r, d)
+
+served_down : (home : Home) (snoop : Snoop) (agent : Agent) (message : Msg) (cells : Cells) → cells.rsp_down ≡ None → cells.dat_down ≡ None → served_sends home snoop agent ≡ Sends message → cell_of cells (channel_of message) ≡ None
+served_down home snoop agent message cells r d h = go (has_any (asks snoop home.filter agent.0)) h
+  where
+    go : (b : Bool) → (if b then Snoops snoop (asks snoop home.filter agent.0) else Sends (completion_of home snoop agent home.memory)) ≡ Sends message → cell_of cells (channel_of message) ≡ None
+    go true h = absurd (cc (h))
+    go false h =
+        let same : completion_of home snoop agent home.memory ≡ message = cc (h) in
+        subst (λ (m : Msg). cell_of cells (channel_of m) ≡ None) same (completion_down snoop (completes_unique snoop home.filter agent.0) home.memory cells r d)
+
+pub sends_down : (home : Home) (agent : Agent) (request : Waiting) (message : Msg) (cells : Cells) → cells.rsp_down ≡ None → cells.dat_down ≡ None → started_sends home agent request ≡ Sends message → cell_of cells (channel_of message) ≡ None
+sends_down home agent request message cells r d h = go (snoop_of request.kind) h
+  where
+    write : (b : Bool) → (if b then Sends (messages.RspDown CompDBIDResp) else Evicted request.slot) ≡ Sends message → cell_of cells (channel_of message) ≡ None
+    write true h =
+        let same : messages.RspDown CompDBIDResp ≡ message = cc (h) in
+        subst (λ (m : Msg). cell_of cells (channel_of m) ≡ None) same (search (rules, r))
+    write false h = absurd (cc (h))
+
+    go : (s : Option Snoop) → started_sends_as request.kind s home agent request.slot ≡ Sends message → cell_of cells (channel_of message) ≡ None
+    go None h = write (is_copy_back request.kind) h
+    go (Some snoop) h = served_down home snoop agent message cells r d h
+
+-- a request that is served by a snoop is not complete with its start
+pub served_effect : (home : Home) (snoop : Snoop) (agent : Agent) → started_effect (served_sends home snoop agent) ≡ Nothing
+served_effect home snoop agent = go (has_any (asks snoop home.filter agent.0))
+  where
+    go : (b : Bool) → started_effect (if b then Snoops snoop (asks snoop home.filter agent.0) else Sends (completion_of home snoop agent home.memory)) ≡ Nothing
+    go true = refl
+    go false = refl
+
+-- the slot that a start would complete, by what serves the kind
+evicted_by : (s : Option Snoop) (c : Bool) (home : Home) (agent : Agent) (request : Waiting) → snoop_of request.kind ≡ s → is_copy_back request.kind ≡ c → completed_slot (started_effect (started_sends home agent request)) ≡ evicted_if s c request.slot
+evicted_by (Some snoop) c home agent request h g = ap (λ (o : Option Snoop). completed_slot (started_effect (started_sends_as request.kind o home agent request.slot))) h ∙ ap completed_slot (served_effect home snoop agent)
+evicted_by None true home agent request h g = ap (λ (o : Option Snoop). completed_slot (started_effect (started_sends_as request.kind o home agent request.slot))) h ∙ ap (λ (b : Bool). completed_slot (started_effect (if b then Sends (messages.RspDown CompDBIDResp) else Evicted request.slot))) g
+evicted_by None false home agent request h g = ap (λ (o : Option Snoop). completed_slot (started_effect (started_sends_as request.kind o home agent request.slot))) h ∙ ap (λ (b : Bool). completed_slot (started_effect (if b then Sends (messages.RspDown CompDBIDResp) else Evicted request.slot))) g
+
+pub evicted_slot_is : (home : Home) (agent : Agent) (request : Waiting) → waiting_of home agent.0 ≡ Some request → is_idle home.serving ≡ true
+    → slot_unless (start_refusal home agent.0) (waiting_effect home agent (waiting_of home agent.0)) ≡ evicted_if (snoop_of request.kind) (is_copy_back request.kind) request.slot
+evicted_slot_is home agent request w idle =
+    ap (λ (o : Option Waiting). slot_unless (if is_some o then (if is_idle home.serving then None else Some LineBusy) else Some NotWaiting) (waiting_effect home agent o)) w
+    ∙ (ap (λ (b : Bool). slot_unless (if b then None else Some LineBusy) (started_effect (started_sends home agent request))) idle
+    ∙ evicted_by (snoop_of request.kind) (is_copy_back request.kind) home agent request refl refl)

@@ -1,0 +1,11 @@
+pub mod LineState
+pub mod Step
+pub mod Refused
+pub mod Snooped
+pub mod Kept
+pub mod Coherent
+pub mod LineStep
+pub mod View
+pub mod Places
+pub mod Types
+pub mod Moves

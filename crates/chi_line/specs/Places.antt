@@ -1,0 +1,57 @@
+-- Where an agent's requests are, by their slots (docs/PROTOCOL.md, "Agreement").
+use Rattle.std.specs.Prelude.{ℕ, Bool, true, false, ◌&&◌, ◌||◌, ◌==◌, nat_lt, Option, Some, None, if◌then◌else◌}
+use Rattle.chi_flit.specs.declared.numbers.Slot.{Slot}
+use Rattle.chi_flit.specs.declared.message.Request.{Request}
+use Rattle.chi_flit.specs.declared.message.RspDown.{RspDown}
+use Rattle.chi_flit.specs.declared.message.RspDown.TheVariants.{RetryAck, CompUC, CompI, CompDBIDResp}
+use Rattle.chi_rnline.specs.declared.pending.Pending.{Pending}
+use Rattle.chi_rnline.specs.declared.pending.Phase.{Phase}
+use Rattle.chi_rnline.specs.declared.pending.Phase.TheVariants as phases
+use Rattle.chi_homeline.specs.Home.{waiting_of}
+use Rattle.chi_line.specs.declared.seen.Where.{Where}
+use Rattle.chi_line.specs.declared.seen.Where.TheVariants.{Sent, Refused, Retried, Riding, Admitted, Answered, Closing}
+use Rattle.chi_line.specs.declared.seen.Seen.{Seen}
+use Rattle.chi_line.specs.LineState.{LineState, rn_of, cells_of}
+use Rattle.chi_line.specs.Step.{is_slot, slot_served_for, waiting_slot}
+
+-- what a line shows of an agent's requests
+abbrev pub seen_of : LineState → ℕ → Seen
+seen_of s n = record { pending = (rn_of s n).pending; request = (cells_of s n).req; response = (cells_of s n).rsp_down; waiting = waiting_of s.home n; served = slot_served_for s.home.serving n }
+
+-- whether the slot waits or is served at the home
+abbrev pub is_at_home : Seen → Slot → Bool
+is_at_home x slot = is_slot (waiting_slot x.waiting) slot || is_slot x.served slot
+
+-- where a request is that a response refuses or ends
+abbrev pub response_at : Option RspDown → Option Where
+response_at None = None
+response_at (Some (RetryAck ty)) = Some Refused
+response_at (Some CompUC) = None
+response_at (Some CompI) = Some Closing
+response_at (Some CompDBIDResp) = None
+
+-- where a request is that was sent: in flight, else at the home, else answered by a response
+abbrev pub sent_at : Option Request → Bool → Option RspDown → Option Where
+sent_at (Some request) at_home response = if request.allow_retry then Some Sent else Some Riding
+sent_at None true response = Some Admitted
+sent_at None false response = response_at response
+
+-- where a pending request is, by its phase
+abbrev pub phase_at : Phase → Seen → Slot → Option Where
+phase_at phases.Sent x slot = sent_at x.request (is_at_home x slot) x.response
+phase_at phases.Retried x slot = Some Retried
+
+-- where a slot is that no pending request has
+abbrev pub unasked_at : Seen → Slot → Option Where
+unasked_at x slot = if is_at_home x slot then Some Answered else None
+
+abbrev pub where_by : Option Pending → Seen → Slot → Option Where
+where_by None x slot = unasked_at x slot
+where_by (Some request) x slot = if request.slot.0 == slot.0 then phase_at request.phase x slot else unasked_at x slot
+
+abbrev pub where_in : Seen → Slot → Option Where
+where_in x slot = where_by x.pending x slot
+
+-- where the request of an agent's slot is at a line: None where the line shows nothing of it
+abbrev pub where_at : LineState → ℕ → Slot → Option Where
+where_at s n slot = where_in (seen_of s n) slot

@@ -1,0 +1,96 @@
+//! Which request an action would complete.
+
+ghost use Rattle.std.specs.Prelude.{◌≡◌, ◌<◌};
+ghost use Rattle.chi_flit.specs.Kind.{is_copy_back, snoop_of};
+ghost use Rattle.chi_homeline.specs.Home.{served_slot, start_refusal, waiting_of};
+ghost use Rattle.chi_line.specs.Refused.{completed_at, no_flit_unless};
+ghost use Rattle.chi_line.specs.Step.{completed_effect, evicted_if, is_ack, is_write_data, slot_unless, waiting_effect};
+
+use chi_flit::{Agent, DatUp, RspUp, Slot, Step};
+use chi_homeline::{HomeLine, Serving, Waiting};
+use chi_wires::Cells;
+
+/// The slot of the request that a step of the agent would complete, by the home's part of the line and
+/// the agent's flits.
+pub fn completed_at(home: &HomeLine, cells: Cells, agent: Agent, step: Step) -> Option<Slot>
+    requires { agent.0 < 8 }
+    ensures { result ≡ completed_at home.now cells agent step }
+{
+    match step {
+        Step::Start => evicted_slot(home, agent),
+        Step::RecvAck => acknowledged_slot(home, cells),
+        Step::RecvWrData => written_slot(home, cells),
+        Step::Load(_)
+        | Step::Store(_, _)
+        | Step::Drop
+        | Step::Issue(_, _)
+        | Step::Admit
+        | Step::Retry
+        | Step::RecvRetry
+        | Step::Resend
+        | Step::Cancel
+        | Step::RecvSnp
+        | Step::RecvSnpResp
+        | Step::RecvData
+        | Step::RecvComp
+        | Step::RecvDbid => None,
+    }
+}
+
+/// The slot that a Start of the agent's request would complete: that of an Evict that waits at an idle
+/// line.
+fn evicted_slot(home: &HomeLine, agent: Agent) -> Option<Slot>
+    requires { agent.0 < 8 }
+    ensures { result ≡ slot_unless (start_refusal home.now agent.0) (waiting_effect home.now agent (waiting_of home.now agent.0)) }
+{
+    let request = home.waiting(agent)?;
+    match home.serving() {
+        Serving::Idle => evicted(request),
+        Serving::Snooping { .. }
+        | Serving::AwaitingCompAck { .. }
+        | Serving::AwaitingWriteData { .. } => None,
+    }
+}
+
+/// The slot of a request that its start completes: that of an Evict.
+fn evicted(request: Waiting) -> Option<Slot>
+    ensures { result ≡ evicted_if (snoop_of request.kind) (is_copy_back request.kind) request.slot }
+{
+    if request.kind.snoop().is_some() || request.kind.is_copy_back() {
+        return None;
+    }
+    Some(request.slot)
+}
+
+/// The slot that the CompAck among these cells would complete.
+fn acknowledged_slot(home: &HomeLine, cells: Cells) -> Option<Slot>
+    ensures { result ≡ slot_unless (no_flit_unless (is_ack cells.rsp_up)) (completed_effect (served_slot home.now.serving)) }
+{
+    match cells.rsp_up {
+        Some(RspUp::CompAck) => served_slot(home.serving()),
+        Some(RspUp::SnpRespI | RspUp::SnpRespSC) | None => None,
+    }
+}
+
+/// The slot that the write data among these cells would complete.
+fn written_slot(home: &HomeLine, cells: Cells) -> Option<Slot>
+    ensures { result ≡ slot_unless (no_flit_unless (is_write_data cells.dat_up)) (completed_effect (served_slot home.now.serving)) }
+{
+    match cells.dat_up {
+        Some(DatUp::CopyBackWrData(..)) => served_slot(home.serving()),
+        Some(DatUp::SnpRespDataIPD(_) | DatUp::SnpRespDataSCPD(_) | DatUp::SnpRespDataSD(_))
+        | None => None,
+    }
+}
+
+/// The slot of the request that is served.
+fn served_slot(serving: Serving) -> Option<Slot>
+    ensures { result ≡ served_slot serving }
+{
+    match serving {
+        Serving::Idle => None,
+        Serving::Snooping { slot, .. }
+        | Serving::AwaitingCompAck { slot, .. }
+        | Serving::AwaitingWriteData { slot, .. } => Some(slot),
+    }
+}

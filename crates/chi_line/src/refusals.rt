@@ -1,0 +1,146 @@
+//! Why an action is refused, found without doing it.
+
+ghost use Rattle.std.specs.Prelude.{◌≡◌, ◌<◌, Some, length, if◌then◌else◌};
+ghost use Rattle.chi_flit.specs.declared.refusal.Refusal.TheVariants as refusals;
+ghost use Rattle.chi_rnline.specs.Rn.{issue_refusal, load_refusal, store_refusal};
+ghost use Rattle.chi_line.specs.Refused.{first_of, full_if, line_refusal, no_flit_unless, retry_refusal};
+ghost use Rattle.chi_line.specs.Step.{is_ack, is_comp, is_dbid, is_retry, is_write_data, line_of_parts};
+
+use crate::act::Conditions;
+use crate::snoops::answer_in;
+use chi_flit::{Action, DatUp, Kind, Line, Refusal, Request, RspDown, RspUp, Step};
+use chi_homeline::HomeLine;
+use chi_rnline::RnLine;
+use chi_wires::Wires;
+use std::alloc::Allocator;
+
+/// Why `act_on` would refuse the action on a line of these parts, its numbers being in their ranges.
+/// Source: `docs/PROTOCOL.md`, "The actions".
+pub fn refusal_on<A: Allocator>(
+    requesters: &[RnLine; 8],
+    home: &HomeLine,
+    wires: &Wires<A>,
+    row: Line,
+    conditions: Conditions,
+    action: Action,
+) -> Option<Refusal>
+    requires agent { action.agent.0 < 8 }
+    requires row { row.0 < length wires.now }
+    ensures { result ≡ line_refusal conditions (line_of_parts requesters.now home.now wires.now row.0) action }
+{
+    let copy = &requesters[usize::from(action.agent.0)];
+    let cells = wires.cells(action.agent, row);
+    match action.step {
+        Step::Load(_) => why_no_load(copy, conditions.journal_full),
+        Step::Store(_, _) => why_no_store(copy, conditions.journal_full),
+        Step::Drop => copy.why_no_drop(),
+        Step::Issue(kind, _) => why_no_issue(copy, kind, conditions.slot_used),
+        Step::Admit => no_flit_unless(cells.req.is_some()),
+        Step::Retry => why_no_retry(cells.req),
+        Step::RecvRetry => no_flit_unless(is_retry(cells.rsp_down)),
+        Step::Resend => copy.why_no_resend(),
+        Step::Cancel => copy.why_no_cancel(),
+        Step::Start => home.why_no_start(action.agent),
+        Step::RecvSnp => no_flit_unless(cells.snp.is_some()),
+        Step::RecvSnpResp => no_flit_unless(answer_in(cells).is_some()),
+        Step::RecvData => no_flit_unless(cells.dat_down.is_some()),
+        Step::RecvComp => no_flit_unless(is_comp(cells.rsp_down)),
+        Step::RecvAck => no_flit_unless(is_ack(cells.rsp_up)),
+        Step::RecvDbid => no_flit_unless(is_dbid(cells.rsp_down)),
+        Step::RecvWrData => no_flit_unless(is_write_data(cells.dat_up)),
+    }
+}
+
+/// The refusal of a Load: the copy's, then that of a full journal.
+fn why_no_load(copy: &RnLine, full: bool) -> Option<Refusal>
+    ensures { result ≡ first_of (load_refusal copy.now) (full_if full) }
+{
+    match copy.why_no_load() {
+        Some(refusal) => Some(refusal),
+        None => full_if(full),
+    }
+}
+
+/// The refusal of a Store: the copy's, then that of a full journal.
+fn why_no_store(copy: &RnLine, full: bool) -> Option<Refusal>
+    ensures { result ≡ first_of (store_refusal copy.now) (full_if full) }
+{
+    match copy.why_no_store() {
+        Some(refusal) => Some(refusal),
+        None => full_if(full),
+    }
+}
+
+/// The refusal of an Issue: that of a slot that is used, then the copy's.
+fn why_no_issue(copy: &RnLine, kind: Kind, used: bool) -> Option<Refusal>
+    ensures { result ≡ if used then Some refusals.Pending else issue_refusal copy.now kind }
+{
+    if used {
+        return Some(Refusal::Pending);
+    }
+    copy.why_no_issue(kind)
+}
+
+/// The refusal of a Retry: there is no request, then it is without AllowRetry.
+fn why_no_retry(request: Option<Request>) -> Option<Refusal>
+    ensures { result ≡ retry_refusal request }
+{
+    match request {
+        Some(request) if request.allow_retry => None,
+        Some(_) => Some(Refusal::MustAccept),
+        None => Some(Refusal::NoFlit),
+    }
+}
+
+/// The refusal of a journal that is full.
+fn full_if(full: bool) -> Option<Refusal>
+    ensures { result ≡ full_if full }
+{
+    if full {
+        Some(Refusal::JournalFull)
+    } else {
+        None
+    }
+}
+
+/// The refusal of a message that isn't in flight.
+fn no_flit_unless(there: bool) -> Option<Refusal>
+    ensures { result ≡ no_flit_unless there }
+{
+    if there { None } else { Some(Refusal::NoFlit) }
+}
+
+/// Whether it is a RetryAck.
+fn is_retry(response: Option<RspDown>) -> bool
+    ensures { result ≡ is_retry response }
+{
+    matches!(response, Some(RspDown::RetryAck(_)))
+}
+
+/// Whether it is Comp_UC or Comp_I.
+fn is_comp(response: Option<RspDown>) -> bool
+    ensures { result ≡ is_comp response }
+{
+    matches!(response, Some(RspDown::CompUC | RspDown::CompI))
+}
+
+/// Whether it is CompDBIDResp.
+fn is_dbid(response: Option<RspDown>) -> bool
+    ensures { result ≡ is_dbid response }
+{
+    matches!(response, Some(RspDown::CompDBIDResp))
+}
+
+/// Whether it is a CompAck.
+fn is_ack(response: Option<RspUp>) -> bool
+    ensures { result ≡ is_ack response }
+{
+    matches!(response, Some(RspUp::CompAck))
+}
+
+/// Whether it is write data.
+fn is_write_data(sent: Option<DatUp>) -> bool
+    ensures { result ≡ is_write_data sent }
+{
+    matches!(sent, Some(DatUp::CopyBackWrData(..)))
+}

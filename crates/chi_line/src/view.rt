@@ -1,0 +1,96 @@
+//! A line as plain data.
+
+ghost use Rattle.std.specs.Prelude.{◌≡◌, map};
+ghost use Rattle.chi_line.specs.View.{copy_shown, pending_shown, shown};
+
+use chi_flit::{Agent, Data, NO_DATA, State};
+use chi_homeline::{HomeLine, Serving, Waiting};
+use chi_rnline::{Pending, RnLine};
+use chi_wires::Cells;
+/// One requester's copy of a line: its data means nothing in state `I`.
+#[derive(Clone, Copy, Debug, PartialEq, Eq)]
+pub struct CopyView {
+    pub state: State,
+    pub words: Data,
+}
+
+/// All parts of one line, as plain data. Arrays go by agent number.
+#[derive(Clone, Copy, Debug, PartialEq, Eq)]
+pub struct LineView {
+    /// The requesters' copies.
+    pub copies: [CopyView; 8],
+    /// The requesters' pending requests.
+    pub pending: [Option<Pending>; 8],
+    /// The memory's value.
+    pub memory: Data,
+    /// The agents that the snoop filter names.
+    pub named: [bool; 8],
+    /// Whether the one named agent holds the line alone.
+    pub unique: bool,
+    /// The agent that answers for dirty shared data.
+    pub owner: Option<Agent>,
+    /// The request that is served.
+    pub serving: Serving,
+    /// The agents whose snoop answer is awaited.
+    pub awaited: [bool; 8],
+    /// The requests that wait.
+    pub waiting: [Option<Waiting>; 8],
+    /// The flits in flight.
+    pub flits: [Cells; 8],
+    /// The values last stored to the words.
+    pub last: Data,
+}
+
+impl CopyView {
+    /// No copy.
+    pub const NONE: CopyView = CopyView {
+        state: State::I,
+        words: NO_DATA,
+    };
+}
+
+/// A line's parts, as plain data; last are the values last stored to its words.
+pub fn view_of(requesters: &[RnLine; 8], home: &HomeLine, flits: [Cells; 8], last: Data) -> LineView
+    ensures { result ≡ shown (record { requesters = requesters.now; home = home.now; flits = flits }) last }
+{
+    let filter = home.filter();
+    LineView {
+        copies: copies_of(requesters),
+        pending: pending_of(requesters),
+        memory: home.memory(),
+        named: filter.named(),
+        unique: filter.is_unique(),
+        owner: filter.owner(),
+        serving: home.serving(),
+        awaited: home.awaited(),
+        waiting: home.all_waiting(),
+        flits,
+        last,
+    }
+}
+
+/// The requesters' copies.
+fn copies_of(requesters: &[RnLine; 8]) -> [CopyView; 8]
+    ensures { result ≡ map copy_shown requesters.now }
+{
+    let mut copies = [CopyView::NONE; 8];
+    for agent in 0..8 {
+        let line = &requesters[agent];
+        copies[agent] = CopyView {
+            state: line.state(),
+            words: line.words(),
+        };
+    }
+    copies
+}
+
+/// The requesters' pending requests.
+fn pending_of(requesters: &[RnLine; 8]) -> [Option<Pending>; 8]
+    ensures { result ≡ map pending_shown requesters.now }
+{
+    let mut pending = [None; 8];
+    for agent in 0..8 {
+        pending[agent] = requesters[agent].pending();
+    }
+    pending
+}

@@ -1,0 +1,61 @@
+-- When a requester agrees with a slice: what the slice shows of each of its slots is what the account says of
+-- it, and the slice answered as many loads and stores as were counted (docs/PROTOCOL.md, "Agreement").
+use Rattle.std.specs.Prelude.{◌≡◌, ◌≢◌, ℕ, ◌<◌, Bool, true, ⊤, false, Option, Some, None, length, slice_index, ◌==◌, if◌then◌else◌}
+use Rattle.chi_flit.specs.declared.numbers.Line.{Line}
+use Rattle.chi_flit.specs.declared.numbers.Slot.{Slot}
+use Rattle.chi_journal.specs.Journal.{part_of}
+use Rattle.chi_slice.specs.declared.places.Place.{Place}
+use Rattle.chi_line.specs.declared.seen.Where.{Where}
+use Rattle.chi_line.specs.declared.seen.Where.TheVariants as places
+use Rattle.chi_slice.specs.Slice.{SliceState, is_line_in_range, line}
+use Rattle.chi_line.specs.Places.{where_at}
+use Rattle.chi_line.specs.Types.{is_of_type}
+use Rattle.chi_credit.specs.declared.slot.SlotState.{SlotState}
+use Rattle.chi_credit.specs.declared.slot.SlotState.TheVariants.{Admitted, Cancelled, Closing, Idle, Refused, Retried, Riding, Sent}
+use Rattle.chi_credit.specs.declared.slot.SlotRecord.{SlotRecord}
+use Rattle.chi_credit.specs.Account.{slot_at}
+use Rattle.chi_node.specs.Requester.{RequesterState}
+
+-- where the request of a slot is, by the slot's state and whether it is marked as answered
+abbrev pub told_at : SlotState → Bool → Option Where
+told_at Idle answered = None
+told_at Sent answered = Some places.Sent
+told_at Refused answered = Some places.Refused
+told_at Retried answered = Some places.Retried
+told_at Riding answered = Some places.Riding
+told_at (Admitted entry) answered = if answered then Some places.Answered else Some places.Admitted
+told_at Closing answered = Some places.Closing
+told_at Cancelled answered = None
+
+-- what a slot's record says of a line: nothing where its request is at another one
+abbrev pub told : SlotRecord → ℕ → Option Where
+told x l = if x.line.0 == l then told_at x.state x.answered else None
+
+-- what a slice shows of an agent's slot at each of its lines is what the slot's record says, and the kinds
+-- that it keeps of it take the record's credit type
+pub record IsTold (s : SliceState) (n : ℕ) (slot : Slot) (x : SlotRecord) : Type 0 where
+  pub places : (l : ℕ) → is_line_in_range s l ≡ true → where_at (line s l) n slot ≡ told x l
+  pub types : (l : ℕ) (at : Where) → is_line_in_range s l ≡ true → where_at (line s l) n slot ≡ Some at → is_of_type s.config.profile x.credit (line s l) n slot ≡ true
+
+-- what the place that a slice shows of a slot says, beside where its record says that it is, and whether the
+-- record's line is one of the slice's
+abbrev pub FitsAt : Option Place → Option Where → Line → Bool → Type 0
+FitsAt None None line here = ⊤
+FitsAt None (Some at) line here = here ≡ false
+FitsAt (Some place) None line here = ⊥
+FitsAt (Some place) (Some at) line here = (place.line.0 ≡ line.0) × (place.at ≡ at)
+
+abbrev pub Fits : Option Place → SlotRecord → Bool → Type 0
+Fits place x here = FitsAt place (told_at x.state x.answered) x.line here
+
+-- the count for the slice is the length of the requester's part of the journal
+pub record Agree (s : SliceState) (r : RequesterState) : Type 0 where
+  pub slots : (slot : Slot) → slot.0 < 8 → IsTold s r.number slot (slot_at r.slots slot.0)
+  pub count : slice_index r.counts s.index ≡ length (part_of s.journal.entries r.number)
+
+-- what a call leaves of agreement: a requester that agreed with the slice agrees still, so does each other
+-- requester, and with the node's other slices the requester agrees as before
+pub record KeepsAgreement (s s' : SliceState) (r r' : RequesterState) : Type 0 where
+  pub own : Agree s r → Agree s' r'
+  pub others : (m : RequesterState) → m.number < 8 → m.number ≢ r.number → Agree s m → Agree s' m
+  pub elsewhere : (t : SliceState) → t.config ≡ s.config → t.index ≢ s.index → Agree t r → Agree t r'

@@ -1,0 +1,101 @@
+//! Whether a requester agrees with a slice.
+
+ghost use Rattle.std.specs.Prelude.{◌≡◌, ◌≤◌, ◌<◌, ◌↔◌, ℕ, IsTrue, length, slice_index, true};
+ghost use Rattle.chi_journal.specs.Journal.{part_of};
+ghost use Rattle.chi_credit.specs.Account.{slot_at};
+ghost use Rattle.chi_slice.specs.Slice.{SliceKept};
+ghost use Rattle.chi_node.specs.Requester.{RequesterKept};
+ghost use Rattle.chi_node.specs.Agree.{told_at, Agree, Fits, IsTold};
+
+use crate::requester::Requester;
+use chi_credit::{SlotRecord, SlotState};
+use chi_flit::Slot;
+use chi_slice::{Place, Slice, Where};
+use std::alloc::Allocator;
+
+/// Whether the requester agrees with the slice: what the slice shows of each of the eight slots is what
+/// the account says of it, and the slice answered as many loads and stores as the requester counted. No
+/// line is walked over, and no memory is taken.
+/// Source: `docs/PROTOCOL.md`, "Agreement".
+pub fn agrees<A: Allocator>(slice: &Slice<A>, requester: &Requester) -> bool
+    ensures { IsTrue result ↔ Agree slice.now requester.now }
+{
+    is_open(slice, requester)
+}
+
+// As `agrees`. Whoever asks knows what every slice and every requester keeps, and that the slice's journal
+// has no more records than it may have.
+pub(crate) fn is_open<A: Allocator>(slice: &Slice<A>, requester: &Requester) -> bool
+    ensures agree { IsTrue result ↔ Agree slice.now requester.now }
+    ensures within { length slice.now.journal.entries ≤ slice.now.journal.limit }
+    ensures slice { SliceKept slice.now }
+    ensures requester { RequesterKept requester.now.port.shape.sizes requester.now }
+{
+    has_count(slice, requester) && are_told(slice, requester)
+}
+
+/// Whether the requester's count for the slice is the length of its part of the journal.
+fn has_count<A: Allocator>(slice: &Slice<A>, requester: &Requester) -> bool
+    ensures is { IsTrue result ↔ (slice_index requester.now.counts slice.now.index ≡ length (part_of slice.now.journal.entries requester.now.number)) }
+    ensures within { length slice.now.journal.entries ≤ slice.now.journal.limit }
+    ensures slice { SliceKept slice.now }
+    ensures requester { RequesterKept requester.now.port.shape.sizes requester.now }
+{
+    let answered = slice.journal().part_len(requester.number());
+    requester.count(slice.index()) == answered
+}
+
+/// Whether the slice shows of each slot what the account says of it.
+fn are_told<A: Allocator>(slice: &Slice<A>, requester: &Requester) -> bool
+    ensures { IsTrue result ↔ ((slot : Slot) → slot.0 < 8 → IsTold slice.now requester.now.number slot (slot_at requester.now.slots slot.0)) }
+{
+    let mut told = true;
+    for slot in 0..8 {
+        told &= is_told(slice, requester, Slot(slot));
+    }
+    told
+}
+
+/// Whether the slice shows of a slot what the account says of it.
+fn is_told<A: Allocator>(slice: &Slice<A>, requester: &Requester, slot: Slot) -> bool
+    requires { slot.0 < 8 }
+    ensures { IsTrue result ↔ IsTold slice.now requester.now.number slot (slot_at requester.now.slots slot.0) }
+{
+    let agent = requester.number();
+    let said = requester.slot(slot);
+    let place = slice.place(agent, slot);
+    let here = slice.has_line(said.line);
+    slice.has_credit(agent, slot, said.credit) && fits(place, said, here)
+}
+
+/// Whether a record says of its slot what the slice's place of it shows, its line being one of the
+/// slice's or not.
+fn fits(place: Option<Place>, said: SlotRecord, here: bool) -> bool
+    ensures { IsTrue result ↔ Fits place said here }
+{
+    match (place, told_at(said.state, said.answered)) {
+        (None, None) => true,
+        (None, Some(_)) => !here,
+        (Some(_), None) => false,
+        (Some(place), Some(at)) => place.line.0 == said.line.0 && place.at == at,
+    }
+}
+
+/// Where the request of a slot is, by the slot's state and whether it is marked as answered.
+fn told_at(state: SlotState, answered: bool) -> Option<Where>
+    ensures { result ≡ told_at state answered }
+{
+    match state {
+        SlotState::Idle | SlotState::Cancelled => None,
+        SlotState::Sent => Some(Where::Sent),
+        SlotState::Refused => Some(Where::Refused),
+        SlotState::Retried => Some(Where::Retried),
+        SlotState::Riding => Some(Where::Riding),
+        SlotState::Admitted(_) => Some(if answered {
+            Where::Answered
+        } else {
+            Where::Admitted
+        }),
+        SlotState::Closing => Some(Where::Closing),
+    }
+}

@@ -1,0 +1,62 @@
+//! The answer of `audit`.
+
+ghost use Rattle.std.specs.Prelude.{◌≡◌, Some};
+ghost use Rattle.chi_reply.specs.Replies.{audit_text, verdict_text};
+
+use std::fmt;
+
+/// How many loads and stores the journals of a node have, and whether its lines are coherent and its
+/// journals legal. It prints as the answer of `audit`, without the line feed.
+/// Source: `docs/PROTOCOL.md`, "Replay files".
+#[derive(Clone, Copy, Debug, PartialEq, Eq)]
+pub struct Audit {
+    pub loads: u64,
+    pub stores: u64,
+    pub coherent: bool,
+}
+
+impl fmt::Display for Audit {
+    ghost output = { λ audit. Some (audit_text audit) };
+
+    fn fmt<W: fmt::Write>(&self, f: &mut fmt::Formatter<W>) -> fmt::Result {
+        let (loads, stores) = (self.loads, self.stores);
+        let verdict = verdict_word(self.coherent);
+        write!(f, "ok loads {loads} stores {stores} {verdict}")
+    }
+}
+
+/// The word for a verdict.
+fn verdict_word(coherent: bool) -> &'static str
+    ensures { result.now ≡ verdict_text coherent }
+{
+    if coherent { "coherent" } else { "broken" }
+}
+
+#[cfg(test)]
+mod tests {
+    use super::*;
+    use std::test::Fail;
+
+    #[test]
+    fn prints_both_verdicts(rt: HostRuntime) -> Result<(), Fail> {
+        let coherent = Audit {
+            loads: 0,
+            stores: 524_288,
+            coherent: true,
+        };
+        assert_eq!(rt;
+            coherent.to_string(rt.alloc())?.as_str(),
+            "ok loads 0 stores 524288 coherent"
+        );
+        let broken = Audit {
+            loads: 3,
+            stores: 1,
+            coherent: false,
+        };
+        assert_eq!(rt;
+            broken.to_string(rt.alloc())?.as_str(),
+            "ok loads 3 stores 1 broken"
+        );
+        Ok(())
+    }
+}

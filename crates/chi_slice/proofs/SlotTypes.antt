@@ -1,0 +1,100 @@
+-- The credit type of a slot: only the line of its place keeps a kind of its request.
+use Rattle.std.proofs.Common.{◌≡◌, ℕ, ◌<◌, Bool, true, false, ◌&&◌, ◌==◌, nat_lt, List, Option, Some, None, refl, sym, ◌∙◌, ap, subst, if◌then◌else◌, arith}
+use Rattle.chi_flit.specs.declared.numbers.Slot.{Slot}
+use Rattle.chi_flit.specs.declared.kind.Kind.{Kind}
+use Rattle.chi_flit.specs.declared.credit.CreditType.{CreditType}
+use Rattle.chi_flit.specs.declared.credit.Profile.{Profile}
+use Rattle.chi_flit.specs.declared.message.Request.{Request}
+use Rattle.chi_rnline.specs.declared.pending.Pending.{Pending}
+use Rattle.chi_homeline.specs.declared.serving.Serving.{Serving}
+use Rattle.chi_homeline.specs.declared.serving.Serving.TheVariants.{Idle, Snooping, AwaitingCompAck, AwaitingWriteData}
+use Rattle.chi_homeline.specs.declared.serving.Waiting.{Waiting}
+use Rattle.chi_homeline.specs.Home.{waiting_of}
+use Rattle.chi_slice.specs.declared.places.Place.{Place}
+use Rattle.chi_line.specs.LineState.{LineState, rn_of, cells_of}
+use Rattle.chi_line.specs.Kept.{Kept, LaneKept, lane}
+use Rattle.chi_line.specs.Step.{is_slot, pending_slot, slot_served_for, waiting_slot}
+use Rattle.chi_slice.specs.Slice.{SliceState, SliceKept, is_line_in_range, last_of, line}
+use Rattle.chi_slice.specs.Index.{at_line, is_slot_of, typed_at}
+use Rattle.chi_line.specs.Places.{where_at}
+use Rattle.chi_line.specs.Types.{has_type, is_of_type, pending_kind_of, requested_kind_of, served_kind_of, waiting_kind_of}
+use Rattle.chi_slice.proofs.Rows.{both}
+use Rattle.chi_line.proofs.Untouched.{Free, is_free}
+use Rattle.chi_line.proofs.Wheres.{shows_unused}
+
+-- nothing is kept of a slot that isn't in use
+unpending : (profile : Profile) (ty : CreditType) (pending : Option Pending) (slot : Slot) → is_slot (pending_slot pending) slot ≡ false → has_type profile ty (pending_kind_of pending slot) ≡ true
+unpending profile ty None slot other = refl
+unpending profile ty (Some request) slot other = ap (λ (b : Bool). has_type profile ty (if b then Some request.kind else None)) other
+
+unrequested : (profile : Profile) (ty : CreditType) (there : Option Request) (pending : Option Slot) (slot : Slot) → ((q : Request) → there ≡ Some q → pending ≡ Some q.slot) → is_slot pending slot ≡ false
+    → has_type profile ty (requested_kind_of there slot) ≡ true
+unrequested profile ty None pending slot fits other = refl
+unrequested profile ty (Some request) pending slot fits other =
+    ap (λ (b : Bool). has_type profile ty (if b then Some request.kind else None)) (sym (ap (λ (o : Option Slot). is_slot o slot) (fits request refl)) ∙ other)
+
+unwaiting : (profile : Profile) (ty : CreditType) (waiting : Option Waiting) (slot : Slot) → is_slot (waiting_slot waiting) slot ≡ false → has_type profile ty (waiting_kind_of waiting slot) ≡ true
+unwaiting profile ty None slot other = refl
+unwaiting profile ty (Some request) slot other = ap (λ (b : Bool). has_type profile ty (if b then Some request.kind else None)) other
+
+unserved_by : (profile : Profile) (ty : CreditType) (kind : Kind) (b : Bool) (own slot : Slot) → is_slot (if b then Some own else None) slot ≡ false → has_type profile ty (if b && own.0 == slot.0 then Some kind else None) ≡ true
+unserved_by profile ty kind true own slot other = ap (λ (c : Bool). has_type profile ty (if c then Some kind else None)) other
+unserved_by profile ty kind false own slot other = refl
+
+unserved : (profile : Profile) (ty : CreditType) (serving : Serving) (n : ℕ) (slot : Slot) → is_slot (slot_served_for serving n) slot ≡ false → has_type profile ty (served_kind_of serving n slot) ≡ true
+unserved profile ty Idle n slot other = refl
+unserved profile ty (Snooping agent kind own) n slot other = unserved_by profile ty kind (agent.0 == n) own slot other
+unserved profile ty (AwaitingCompAck agent own) n slot other = refl
+unserved profile ty (AwaitingWriteData agent kind own) n slot other = unserved_by profile ty kind (agent.0 == n) own slot other
+
+all_four : (a b c d : Bool) → a ≡ true → b ≡ true → c ≡ true → d ≡ true → a && (b && (c && d)) ≡ true
+all_four a b c d w x y z = rw (w, x, y, z) refl
+
+pub unused_type : (profile : Profile) (ty : CreditType) (last : List ℕ) (s : LineState) (n : ℕ) (slot : Slot) → n < 8 → Kept last s → where_at s n slot ≡ None → is_of_type profile ty s n slot ≡ true
+unused_type profile ty last s n slot low k none =
+    let free : Free s n slot = is_free s n slot (shows_unused s last n slot low k none) in
+    let lanes : LaneKept s.home.serving s.home.filter.unique s.home.filter.owner last n (lane s n) = k.lanes n low in
+    all_four _ _ _ _
+    (unpending profile ty (rn_of s n).pending slot free.pending)
+    (unrequested profile ty (cells_of s n).req (pending_slot (rn_of s n).pending) slot lanes.request_slot free.pending)
+    (unwaiting profile ty (waiting_of s.home n) slot free.waiting)
+    (unserved profile ty s.home.serving n slot free.served)
+
+-- the type at the place is the type at every line
+abbrev pub ShowsPlace : SliceState → ℕ → Slot → Option Place → Type 0
+ShowsPlace s n slot place = (l : ℕ) → is_line_in_range s l ≡ true → where_at (line s l) n slot ≡ at_line place l
+
+abbrev pub HasType : SliceState → CreditType → ℕ → Slot → Type 0
+HasType s ty n slot = (l : ℕ) → is_line_in_range s l ≡ true → is_of_type s.config.profile ty (line s l) n slot ≡ true
+
+is_equal : (a b : ℕ) → (a == b) ≡ true → a ≡ b
+is_equal a b h = grind (arith, h)
+
+pub types_of : (s : SliceState) (ty : CreditType) (n : ℕ) (slot : Slot) (place : Option Place) → SliceKept s → n < 8 → ShowsPlace s n slot place → typed_at s ty n slot place ≡ true → HasType s ty n slot
+types_of s ty n slot None k low shows typed l here = unused_type s.config.profile ty (last_of s l) (line s l) n slot low (k.lines l here) (shows l here)
+types_of s ty n slot (Some place) k low shows typed l here = go (place.line.0 == l) refl
+  where
+    go : (b : Bool) → (place.line.0 == l) ≡ b → is_of_type s.config.profile ty (line s l) n slot ≡ true
+    go true same =
+        subst (λ (m : ℕ). is_of_type s.config.profile ty (line s m) n slot ≡ true) (is_equal place.line.0 l same) typed
+    go false other =
+        unused_type s.config.profile ty (last_of s l) (line s l) n slot low (k.lines l here) (shows l here ∙ ap (λ (b : Bool). if b then Some place.at else None) other)
+
+pub types_at : (s : SliceState) (ty : CreditType) (n : ℕ) (slot : Slot) (place : Option Place) → ((there : Place) → place ≡ Some there → is_line_in_range s there.line.0 ≡ true) → HasType s ty n slot → typed_at s ty n slot place ≡ true
+types_at s ty n slot None inside types = refl
+types_at s ty n slot (Some place) inside types = types place.line.0 (inside place refl)
+
+-- a slot with a place is one of the eight
+pub record IsSlotOf (n : ℕ) (slot : Slot) : Type 0 where
+  pub agent : n < 8
+  pub number : slot.0 < 8
+
+is_low : (a b : ℕ) → nat_lt a b ≡ true → a < b
+is_low a b h = grind (arith, h)
+
+pub slot_inside : (n : ℕ) (slot : Slot) (o : Option Place) (there : Place) → (is_slot_of n slot ≡ false → o ≡ None) → o ≡ Some there → IsSlotOf n slot
+slot_inside n slot o there outside some = go (is_slot_of n slot) refl
+  where
+    go : (b : Bool) → is_slot_of n slot ≡ b → IsSlotOf n slot
+    go true inside = let parts = both (nat_lt n 8) (nat_lt slot.0 8) inside in record { agent = is_low n 8 parts.0; number = is_low slot.0 8 parts.1 }
+    go false other = absurd (cc (outside other, some))

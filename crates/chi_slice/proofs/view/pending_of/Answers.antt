@@ -1,9 +1,0 @@
--- After eight turns each place is shown.
-use Rattle.std.proofs.Common.{None}
-use Rattle.chi_rnline.specs.Rn.{no_line}
-use Rattle.chi_slice.specs.View.{pending_shown}
-use Rattle.chi_slice.proofs.Views.{shows_all}
-use Rattle.chi_slice.proofs.view.pending_of.Goals as goal
-
-pub returns : goal.returns
-returns c = shows_all pending_shown no_line None c.args.requesters.now c.loop-agent.pending c.loop-agent.agent c.loop-agent.invariant c.told-requesters c.loop-agent-test.false

@@ -1,9 +1,0 @@
--- So far each place shows its agent's line.
-use Rattle.std.proofs.Common.{◌≡◌, ℕ, ◌<◌, None, length, get_or}
-use Rattle.chi_rnline.specs.Rn.{no_line}
-use Rattle.chi_slice.specs.View.{pending_shown}
-use Rattle.chi_slice.proofs.Views.{ShowsBelow}
-use Rattle.chi_slice.proofs.view.pending_of.Given as goal
-
-abbrev pub invariant-loop-agent : goal.invariant-loop-agent
-invariant-loop-agent l = ShowsBelow pending_shown no_line None l.requesters l.pending l.agent

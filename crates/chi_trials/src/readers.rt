@@ -1,0 +1,126 @@
+//! What a slice answers without an action (`docs/PROTOCOL.md`, "One line" and "Agreement").
+
+ghost use Rattle.std.specs.Prelude.{◌≡◌};
+
+use crate::moves::{LINE, at, does, slice_of, waits};
+use chi_flit::{Agent, CreditType, Kind, Line, Refusal, Slot, WordNo};
+use chi_slice::{Config, Slice, Step};
+use std::alloc::Global;
+use std::process::Abort;
+
+/// A node of five lines in two slices, with four credit types.
+fn halves(rt: &impl Abort) -> Config
+    ensures { result.slices ≡ 2 }
+{
+    Config::four(3, 5, 2, [1, 1, 1, 1], 16).expect(rt, "sizes in their limits")
+}
+
+#[test]
+fn has_its_own_lines(rt: HostRuntime) {
+    let config = halves(&rt);
+    let even = Slice::new(rt.alloc(), &config, 0).expect(&rt, "memory for a slice");
+    let odd = Slice::new(rt.alloc(), &config, 1).expect(&rt, "memory for a slice");
+    for line in 0..5 {
+        assert_eq!(rt; even.has_line(Line(line)), line % 2 == 0, "line {line}");
+        assert_eq!(rt; odd.has_line(Line(line)), line % 2 == 1, "line {line}");
+    }
+    for line in [5, 6, 255] {
+        assert!(rt; !even.has_line(Line(line)), "line {line}");
+        assert!(rt; !odd.has_line(Line(line)), "line {line}");
+    }
+}
+
+#[test]
+fn tells_the_pending_slot(rt: HostRuntime) {
+    let mut slice = slice_of(&rt, rt.alloc(), 2, 2, 16);
+    assert_eq!(rt; slice.pending(Agent(1), LINE), Ok(None));
+    does(&rt, &mut slice, 1, Step::Issue(Kind::ReadUnique, Slot(6)));
+    assert_eq!(rt; slice.pending(Agent(1), LINE), Ok(Some(Slot(6))));
+    assert_eq!(rt; slice.pending(Agent(0), LINE), Ok(None));
+    assert_eq!(rt; slice.pending(Agent(1), Line(1)), Ok(None));
+    for step in [Step::Admit, Step::Start] {
+        does(&rt, &mut slice, 1, step);
+        assert_eq!(rt; slice.pending(Agent(1), LINE), Ok(Some(Slot(6))));
+    }
+    // served still, and not pending any more
+    does(&rt, &mut slice, 1, Step::RecvData);
+    assert_eq!(rt; slice.pending(Agent(1), LINE), Ok(None));
+    for (agent, line) in [(2, 0), (255, 0), (0, 2), (0, 255)] {
+        let refused = slice.pending(Agent(agent), Line(line));
+        assert_eq!(rt; refused, Err(Refusal::OutOfRange));
+    }
+}
+
+/// Of all types the slot has this one alone.
+fn has_type(rt: &impl Abort, slice: &Slice<Global>, slot: Slot, credit: CreditType) {
+    for other in TYPES {
+        let has = slice.has_credit(Agent(1), slot, other);
+        assert_eq!(rt; has, other == credit, "{other:?} in place of {credit:?}");
+    }
+}
+
+/// Nothing is kept of the slot: it has every type.
+fn has_any_type(rt: &impl Abort, slice: &Slice<Global>, agent: Agent, slot: Slot) {
+    for credit in TYPES {
+        assert!(rt; slice.has_credit(agent, slot, credit), "{credit:?}");
+    }
+}
+
+const TYPES: [CreditType; 4] = [
+    CreditType::T0,
+    CreditType::T1,
+    CreditType::T2,
+    CreditType::T3,
+];
+
+#[test]
+fn tells_the_type_of_a_slot(rt: HostRuntime) {
+    let config = halves(&rt);
+    let mut slice = Slice::new(rt.alloc(), &config, 0).expect(&rt, "memory for a slice");
+    has_any_type(&rt, &slice, Agent(1), Slot(0));
+    does(&rt, &mut slice, 1, Step::Issue(Kind::ReadUnique, Slot(0)));
+    // in flight, waiting and served
+    has_type(&rt, &slice, Slot(0), CreditType::T2);
+    has_any_type(&rt, &slice, Agent(1), Slot(1));
+    has_any_type(&rt, &slice, Agent(0), Slot(0));
+    for step in [Step::Admit, Step::Start] {
+        does(&rt, &mut slice, 1, step);
+        has_type(&rt, &slice, Slot(0), CreditType::T2);
+    }
+    // the home keeps no kind while it awaits the CompAck
+    does(&rt, &mut slice, 1, Step::RecvData);
+    has_any_type(&rt, &slice, Agent(1), Slot(0));
+    does(&rt, &mut slice, 1, Step::RecvAck);
+    does(&rt, &mut slice, 1, Step::Store(WordNo(0), 7));
+    for step in [
+        Step::Issue(Kind::WriteBackFull, Slot(1)),
+        Step::Admit,
+        Step::Start,
+        Step::RecvDbid,
+    ] {
+        does(&rt, &mut slice, 1, step);
+        has_type(&rt, &slice, Slot(1), CreditType::T1);
+    }
+    for (agent, slot) in [(8, 0), (255, 0), (0, 8), (0, 255)] {
+        has_any_type(&rt, &slice, Agent(agent), Slot(slot));
+    }
+}
+
+#[test]
+fn tells_a_refusal_and_does_nothing(rt: HostRuntime) {
+    let mut slice = slice_of(&rt, rt.alloc(), 2, 2, 16);
+    let read = at(0, Step::Issue(Kind::ReadShared, Slot(0)));
+    assert_eq!(rt; slice.refusal(read, false), None);
+    assert_eq!(rt; slice.refusal(read, true), Some(Refusal::Pending));
+    assert_eq!(rt; slice.pending(Agent(0), LINE), Ok(None));
+    waits(&rt, &mut slice, 0, Kind::ReadShared);
+    // a slot that is taken is nothing to other steps
+    for taken in [false, true] {
+        assert_eq!(rt; slice.refusal(at(0, Step::Start), taken), None);
+        let load = slice.refusal(at(0, Step::Load(WordNo(0))), taken);
+        assert_eq!(rt; load, Some(Refusal::WrongState));
+        assert_eq!(rt; slice.refusal(read, taken), Some(Refusal::Pending));
+    }
+    let outside = at(0, Step::Issue(Kind::ReadShared, Slot(8)));
+    assert_eq!(rt; slice.refusal(outside, true), Some(Refusal::OutOfRange));
+}
