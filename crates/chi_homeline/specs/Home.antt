@@ -18,6 +18,8 @@ use Rattle.chi_flit.specs.Kind.{snoop_of, is_copy_back}
 use Rattle.chi_flit.specs.Message.{no_words}
 use Rattle.chi_flit.specs.State.{is_dirty, is_valid}
 use Rattle.chi_filter.specs.Filter.{FilterState, added, empty_filter, has_any, nobody, only_named, others_than, owner_set, owner_without, removed, shared}
+use Rattle.chi_homeline.specs.declared.serving.Begun.{Begun}
+use Rattle.chi_homeline.specs.declared.serving.Begun.TheVariants as begins
 use Rattle.chi_homeline.specs.declared.serving.Waiting.{Waiting}
 use Rattle.chi_homeline.specs.declared.serving.Serving.{Serving}
 use Rattle.chi_homeline.specs.declared.serving.Serving.TheVariants.{Idle, Snooping, AwaitingCompAck, AwaitingWriteData}
@@ -123,6 +125,14 @@ started_as kind None home agent slot =
 abbrev pub started_sends_as : Kind → Option Snoop → Home → Agent → Slot → Started
 started_sends_as kind (Some snoop) home agent slot = served_sends home snoop agent
 started_sends_as kind None home agent slot = if is_copy_back kind then Sends (messages.RspDown CompDBIDResp) else Evicted slot
+
+-- what a start sends, with the memory as the data of a completion
+abbrev pub started_with : Begun → List ℕ → Started
+started_with (begins.Data unique) memory = Sends (messages.DatDown (record { unique = unique; words = memory }))
+started_with begins.Unique memory = Sends (messages.RspDown CompUC)
+started_with begins.WriteData memory = Sends (messages.RspDown CompDBIDResp)
+started_with (begins.Evicted slot) memory = Evicted slot
+started_with (begins.Snoops snoop agents) memory = Snoops snoop agents
 
 -- Start of a request that waits
 abbrev pub started : Home → Agent → Waiting → Home

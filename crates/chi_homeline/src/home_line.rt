@@ -1,14 +1,15 @@
 //! One line at the home.
 
-ghost use Rattle.std.specs.Prelude.{◌≡◌, ◌<◌, IfOk, OnErr, Some, true};
+ghost use Rattle.std.specs.Prelude.{◌≡◌, ◌<◌, ℕ, List, IfOk, OnErr, Some, true};
 ghost use Rattle.chi_flit.specs.Kind.{snoop_of};
 ghost use Rattle.chi_flit.specs.Refusal.{refusal_of};
 ghost use Rattle.chi_filter.specs.Filter.{is_named};
-ghost use Rattle.chi_homeline.specs.Home.{Home, acknowledged, acks_for, admitted, answer_taken, asks, completed, completes_unique, completion_message, completion_of, data_to_send, finished_home, finished_sends, idle_home, leaves, served, served_kind, served_sends, served_slot, snoop_answered, snoop_answered_sends, start_refusal, started, started_as, started_sends, waiting_of, writes_for, written};
+ghost use Rattle.chi_homeline.specs.Home.{Home, acknowledged, acks_for, admitted, answer_taken, asks, completed, completes_unique, completion_message, data_to_send, finished_home, finished_sends, idle_home, leaves, served, served_kind, served_sends, served_slot, snoop_answered, snoop_answered_sends, start_refusal, started, started_as, started_sends, started_with, waiting_of, writes_for, written};
 ghost use Rattle.chi_flit.specs.declared.kind.Kind.{Kind};
 ghost use Rattle.chi_homeline.specs.declared.serving.Waiting.{Waiting};
+ghost use Rattle.chi_homeline.specs.declared.serving.Started.TheVariants.{Sends};
 
-use crate::serving::{Completion, Serving, SnoopAnswer, Started, Waiting};
+use crate::serving::{Begun, Completion, Serving, SnoopAnswer, Started, Waiting};
 use chi_filter::{Filter, has_any};
 use chi_flit::{Agent, CompData, Data, Kind, Msg, NO_DATA, Refusal, RspDown, Slot, Snoop, State};
 use std::marker::Model;
@@ -92,15 +93,35 @@ impl HomeLine {
         ensures ok { IfOk result (λ _. (request : Waiting) → waiting_of self.old agent.0 ≡ Some request → self.new ≡ started self.old agent request) }
         ensures err { OnErr result (self.new ≡ self.old) }
     {
+        let begun = self.begin(agent)?;
+        Ok(started_with(begun, self.memory))
+    }
+
+    /// Begins to serve the agent's waiting request as `start` does. Answers what is to be sent, where the
+    /// memory is the data of a completion: so whoever sends it needn't copy that twice.
+    ///
+    /// Refused 6 (NotWaiting) where the agent doesn't wait, then 5 (LineBusy) where the line is served;
+    /// nothing changes then.
+    /// Source: `docs/PROTOCOL.md`, "Start".
+    pub fn begin(&mut self, agent: Agent) -> Result<Begun, Refusal>
+        requires { agent.0 < 8 }
+        ensures refusal { refusal_of result ≡ start_refusal self.old agent.0 }
+        ensures sends { IfOk result (λ begun. (request : Waiting) → waiting_of self.old agent.0 ≡ Some request → started_with begun self.old.memory ≡ started_sends self.old agent request) }
+        ensures ok { IfOk result (λ _. (request : Waiting) → waiting_of self.old agent.0 ≡ Some request → self.new ≡ started self.old agent request) }
+        ensures memory { IfOk result (λ _. self.new.memory ≡ self.old.memory) }
+        ensures err { OnErr result (self.new ≡ self.old) }
+    {
         let request = self.to_start(agent)?;
         self.waiting[agent.0 as usize] = None;
         Ok(self.take_up(agent, request))
     }
 
-    /// Serves a request that was taken out of those that wait.
-    fn take_up(&mut self, agent: Agent, request: Waiting) -> Started
+    /// Serves a request that was taken out of those that wait. Answers what is to be sent, with the memory
+    /// as the data.
+    fn take_up(&mut self, agent: Agent, request: Waiting) -> Begun
         requires { agent.0 < 8 }
-        ensures sends { result ≡ started_sends self.old agent request }
+        ensures sends { started_with result self.old.memory ≡ started_sends self.old agent request }
+        ensures memory { self.new.memory ≡ self.old.memory }
         ensures after { self.new ≡ started_as request.kind (snoop_of request.kind) self.old agent request.slot }
     {
         let kind = request.kind;
@@ -110,36 +131,37 @@ impl HomeLine {
             None => {
                 if kind.is_copy_back() {
                     self.serving = Serving::AwaitingWriteData { agent, kind, slot };
-                    Started::Sends(Msg::RspDown(RspDown::CompDBIDResp))
+                    Begun::WriteData
                 } else {
                     self.filter.remove(agent);
-                    Started::Evicted(slot)
+                    Begun::Evicted(slot)
                 }
             }
         }
     }
 
     /// Snoops for a request, or completes it at once where there is nobody to ask.
-    fn serve(&mut self, agent: Agent, kind: Kind, snoop: Snoop, slot: Slot) -> Started
+    fn serve(&mut self, agent: Agent, kind: Kind, snoop: Snoop, slot: Slot) -> Begun
         requires { agent.0 < 8 }
-        ensures sends { result ≡ served_sends self.old snoop agent }
+        ensures sends { started_with result self.old.memory ≡ served_sends self.old snoop agent }
+        ensures memory { self.new.memory ≡ self.old.memory }
         ensures after { self.new ≡ served self.old kind snoop agent slot }
     {
         let agents = asked(&self.filter, snoop, agent);
         if has_any(&agents) {
             self.serving = Serving::Snooping { agent, kind, slot };
             self.awaited = agents;
-            return Started::Snoops { snoop, agents };
+            return Begun::Snoops { snoop, agents };
         }
-        let sent = self.memory;
-        Started::Sends(self.complete(agent, snoop, slot, sent))
+        let unique = self.complete(agent, snoop, slot);
+        completion_begun(snoop, unique)
     }
 
-    /// Completes a request, with the data that is to be sent. Answers the completion.
+    /// Completes a request. Answers whether its agent is left the only one named.
     /// Source: `docs/PROTOCOL.md`, "Completion".
-    fn complete(&mut self, agent: Agent, snoop: Snoop, slot: Slot, sent: Data) -> Msg
+    fn complete(&mut self, agent: Agent, snoop: Snoop, slot: Slot) -> bool
         requires { agent.0 < 8 }
-        ensures message { result ≡ completion_of self.old snoop agent sent }
+        ensures unique { result ≡ completes_unique snoop self.old.filter agent.0 }
         ensures after { self.new ≡ completed self.old snoop agent slot }
     {
         let unique = completes_unique(&self.filter, snoop, agent);
@@ -150,7 +172,7 @@ impl HomeLine {
             self.filter.add(agent);
         }
         self.serving = Serving::AwaitingCompAck { agent, slot };
-        completion_message(snoop, unique, sent)
+        unique
     }
 
     /// Takes the agent's CompAck, which is awaited: the line is idle. Answers the slot of the request
@@ -273,7 +295,8 @@ impl HomeLine {
             return None;
         }
         let snoop = kind.snoop()?;
-        let message = self.complete(agent, snoop, slot, sent);
+        let unique = self.complete(agent, snoop, slot);
+        let message = completion_message(snoop, unique, sent);
         Some(Completion { agent, message })
     }
 
@@ -358,6 +381,32 @@ fn completes_unique(filter: &Filter, snoop: Snoop, agent: Agent) -> bool
     match snoop {
         Snoop::SnpNotSharedDirty | Snoop::SnpShared => !has_any(&filter.others_than(agent)),
         Snoop::SnpUnique | Snoop::SnpCleanInvalid => true,
+    }
+}
+
+/// What a start sends by which a request completes.
+fn completion_begun(snoop: Snoop, unique: bool) -> Begun
+    ensures { (memory : List ℕ) → started_with result memory ≡ Sends (completion_message snoop unique memory) }
+{
+    match snoop {
+        Snoop::SnpNotSharedDirty | Snoop::SnpShared | Snoop::SnpUnique => Begun::Data { unique },
+        Snoop::SnpCleanInvalid => Begun::Unique,
+    }
+}
+
+/// What a start sends, with the memory as the data of a completion.
+fn started_with(begun: Begun, memory: Data) -> Started
+    ensures { result ≡ started_with begun memory }
+{
+    match begun {
+        Begun::Data { unique } => Started::Sends(Msg::DatDown(CompData {
+            unique,
+            words: memory,
+        })),
+        Begun::Unique => Started::Sends(Msg::RspDown(RspDown::CompUC)),
+        Begun::WriteData => Started::Sends(Msg::RspDown(RspDown::CompDBIDResp)),
+        Begun::Evicted(slot) => Started::Evicted(slot),
+        Begun::Snoops { snoop, agents } => Started::Snoops { snoop, agents },
     }
 }
 

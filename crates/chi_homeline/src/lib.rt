@@ -9,4 +9,4 @@ mod serving;
 mod tests;
 
 pub use home_line::HomeLine;
-pub use serving::{Completion, Serving, SnoopAnswer, Started, Waiting};
+pub use serving::{Begun, Completion, Serving, SnoopAnswer, Started, Waiting};

@@ -44,6 +44,21 @@ pub enum Started {
     Snoops { snoop: Snoop, agents: [bool; 8] },
 }
 
+/// What a start sends, before the data of a completion is added.
+#[derive(Clone, Copy, Debug, PartialEq, Eq)]
+pub enum Begun {
+    /// CompData with the line's data, and whether the copy may be unique.
+    Data { unique: bool },
+    /// Comp_UC.
+    Unique,
+    /// CompDBIDResp.
+    WriteData,
+    /// Comp_I, and the request of this slot is complete.
+    Evicted(Slot),
+    /// The snoop to each agent that has a mark.
+    Snoops { snoop: Snoop, agents: [bool; 8] },
+}
+
 /// An agent's answer to its snoop, by what it says of the agent's copy (`docs/PROTOCOL.md`, "Answers of
 /// snooped agents").
 #[derive(Clone, Copy, Debug, PartialEq, Eq)]

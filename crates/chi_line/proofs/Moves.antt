@@ -33,13 +33,12 @@ use Rattle.chi_homeline.specs.Home.{Home, acks_for, asks, acknowledged, admitted
 use Rattle.chi_line.specs.declared.act.Conditions.{Conditions}
 use Rattle.chi_line.specs.declared.seen.Where.{Where}
 use Rattle.chi_line.specs.declared.seen.Where.TheVariants as places
-use Rattle.chi_line.specs.declared.seen.Seen.{Seen}
 use Rattle.chi_line.specs.LineState.{LineState, rn_of, cells_of}
 use Rattle.chi_line.specs.Kept.{Kept, LaneKept, is_comp_unique, is_retried, is_retried_phase, lane}
 use Rattle.chi_line.specs.Moves.{Moved, always_moves, completed_from, completed_to, flit_at, if_moved, issued_kind, moved_from, moved_slot, moved_to, requested_slot}
 use Rattle.chi_line.specs.Types.{is_of_type}
 use Rattle.chi_line.specs.Step.{issued_slot, acknowledged_line, admitted_line, after_step, answer_in, answered_by, cancelled_line, completed_effect, completed_slot, completion_received, data_written, dbid_received_line, dropped_line, is_ack, is_comp, is_dbid, is_retry, is_slot, is_write_data, issued_line, line_uses, pending_slot, received_line, resent_line, retried_line, retry_received_line, sent, slot_served_for, snooped_line, started_effect, started_line, stored_line, waiting_effect, waiting_slot, where_some, written_line}
-use Rattle.chi_line.specs.Places.{is_at_home, seen_of, where_in}
+use Rattle.chi_line.specs.Places.{is_at_home, Seen, seen_of, where_in}
 use Rattle.chi_line.specs.Refused.{retry_refusal, step_refusal}
 use Rattle.chi_line.proofs.After.{IsRetried, IssueAllowed, cancel_allowed, dbid_there, flit_there, issue_allowed, names_used_slot, resend_allowed, retry_there}
 use Rattle.chi_line.proofs.Elsewhere.{SameCells, Stays, answer_up, answered_stays, sent_request, started_waits, stays_elsewhere, stays_where, write_awaited}

@@ -39,35 +39,12 @@ can_start home n h =
     go (Some request) true h = (request, refl, refl, refl)
     go (Some request) false h = absurd (cc (h))
 
--- a message to a requester finds its cell empty where both cells of responses to it are
--- a completion
+-- a completion finds its cell empty where both cells of responses to its agent are
 pub completion_down : (snoop : Snoop) (unique : Bool) (sent : List ℕ) (cells : Cells) → cells.rsp_down ≡ None → cells.dat_down ≡ None → cell_of cells (channel_of (completion_message snoop unique sent)) ≡ None
 completion_down SnpNotSharedDirty unique sent cells r d = search (rules, r, d)
 completion_down SnpShared unique sent cells r d = search (rules, r, d)
 completion_down SnpUnique unique sent cells r d = search (rules, r, d)
 completion_down SnpCleanInvalid unique sent cells r d = search (rules, r, d)
-
-served_down : (home : Home) (snoop : Snoop) (agent : Agent) (message : Msg) (cells : Cells) → cells.rsp_down ≡ None → cells.dat_down ≡ None → served_sends home snoop agent ≡ Sends message → cell_of cells (channel_of message) ≡ None
-served_down home snoop agent message cells r d h = go (has_any (asks snoop home.filter agent.0)) h
-  where
-    go : (b : Bool) → (if b then Snoops snoop (asks snoop home.filter agent.0) else Sends (completion_of home snoop agent home.memory)) ≡ Sends message → cell_of cells (channel_of message) ≡ None
-    go true h = absurd (cc (h))
-    go false h =
-        let same : completion_of home snoop agent home.memory ≡ message = cc (h) in
-        subst (λ (m : Msg). cell_of cells (channel_of m) ≡ None) same (completion_down snoop (completes_unique snoop home.filter agent.0) home.memory cells r d)
-
-pub sends_down : (home : Home) (agent : Agent) (request : Waiting) (message : Msg) (cells : Cells) → cells.rsp_down ≡ None → cells.dat_down ≡ None → started_sends home agent request ≡ Sends message → cell_of cells (channel_of message) ≡ None
-sends_down home agent request message cells r d h = go (snoop_of request.kind) h
-  where
-    write : (b : Bool) → (if b then Sends (messages.RspDown CompDBIDResp) else Evicted request.slot) ≡ Sends message → cell_of cells (channel_of message) ≡ None
-    write true h =
-        let same : messages.RspDown CompDBIDResp ≡ message = cc (h) in
-        subst (λ (m : Msg). cell_of cells (channel_of m) ≡ None) same (search (rules, r))
-    write false h = absurd (cc (h))
-
-    go : (s : Option Snoop) → started_sends_as request.kind s home agent request.slot ≡ Sends message → cell_of cells (channel_of message) ≡ None
-    go None h = write (is_copy_back request.kind) h
-    go (Some snoop) h = served_down home snoop agent message cells r d h
 
 -- a request that is served by a snoop is not complete with its start
 pub served_effect : (home : Home) (snoop : Snoop) (agent : Agent) → started_effect (served_sends home snoop agent) ≡ Nothing
@@ -82,6 +59,11 @@ evicted_by : (s : Option Snoop) (c : Bool) (home : Home) (agent : Agent) (reques
 evicted_by (Some snoop) c home agent request h g = ap (λ (o : Option Snoop). completed_slot (started_effect (started_sends_as request.kind o home agent request.slot))) h ∙ ap completed_slot (served_effect home snoop agent)
 evicted_by None true home agent request h g = ap (λ (o : Option Snoop). completed_slot (started_effect (started_sends_as request.kind o home agent request.slot))) h ∙ ap (λ (b : Bool). completed_slot (started_effect (if b then Sends (messages.RspDown CompDBIDResp) else Evicted request.slot))) g
 evicted_by None false home agent request h g = ap (λ (o : Option Snoop). completed_slot (started_effect (started_sends_as request.kind o home agent request.slot))) h ∙ ap (λ (b : Bool). completed_slot (started_effect (if b then Sends (messages.RspDown CompDBIDResp) else Evicted request.slot))) g
+
+pub evicted_start : (home : Home) (agent : Agent) (request : Waiting) → waiting_of home agent.0 ≡ Some request
+    → completed_slot (waiting_effect home agent (waiting_of home agent.0)) ≡ evicted_if (snoop_of request.kind) (is_copy_back request.kind) request.slot
+evicted_start home agent request w =
+    ap (λ (o : Option Waiting). completed_slot (waiting_effect home agent o)) w ∙ evicted_by (snoop_of request.kind) (is_copy_back request.kind) home agent request refl refl
 
 pub evicted_slot_is : (home : Home) (agent : Agent) (request : Waiting) → waiting_of home agent.0 ≡ Some request → is_idle home.serving ≡ true
     → slot_unless (start_refusal home agent.0) (waiting_effect home agent (waiting_of home agent.0)) ≡ evicted_if (snoop_of request.kind) (is_copy_back request.kind) request.slot

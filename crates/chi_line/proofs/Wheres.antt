@@ -13,11 +13,10 @@ use Rattle.chi_homeline.specs.Home.{acks_for, served_slot, waiting_of}
 use Rattle.chi_line.specs.declared.seen.Where.{Where}
 use Rattle.chi_line.specs.declared.seen.Where.TheVariants.{Answered}
 use Rattle.chi_line.specs.declared.seen.Where.TheVariants as places
-use Rattle.chi_line.specs.declared.seen.Seen.{Seen}
 use Rattle.chi_line.specs.LineState.{LineState, rn_of, cells_of}
 use Rattle.chi_line.specs.Kept.{Kept, Lane, LaneKept, is_comp_unique, lane, snoops_for, writes_for}
 use Rattle.chi_line.specs.Step.{is_dbid, is_slot, line_uses, pending_slot, slot_served_for, waiting_slot}
-use Rattle.chi_line.specs.Places.{is_at_home, phase_at, response_at, seen_of, sent_at, unasked_at, where_at, where_by}
+use Rattle.chi_line.specs.Places.{is_at_home, phase_at, response_at, Seen, seen_of, sent_at, unasked_at, where_at, where_by}
 
 -- the slot of the request that is served is its agent's
 pub snooped_for : (serving : Serving) (n : ℕ) → snoops_for serving n ≡ true → slot_served_for serving n ≡ served_slot serving

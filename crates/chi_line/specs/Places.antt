@@ -1,5 +1,5 @@
 -- Where an agent's requests are, by their slots (docs/PROTOCOL.md, "Agreement").
-use Rattle.std.specs.Prelude.{ℕ, Bool, true, false, ◌&&◌, ◌||◌, ◌==◌, nat_lt, Option, Some, None, if◌then◌else◌}
+use Rattle.std.specs.Prelude.{ℕ, Bool, true, false, ◌||◌, ◌==◌, Option, Some, None, if◌then◌else◌}
 use Rattle.chi_flit.specs.declared.numbers.Slot.{Slot}
 use Rattle.chi_flit.specs.declared.message.Request.{Request}
 use Rattle.chi_flit.specs.declared.message.RspDown.{RspDown}
@@ -7,14 +7,23 @@ use Rattle.chi_flit.specs.declared.message.RspDown.TheVariants.{RetryAck, CompUC
 use Rattle.chi_rnline.specs.declared.pending.Pending.{Pending}
 use Rattle.chi_rnline.specs.declared.pending.Phase.{Phase}
 use Rattle.chi_rnline.specs.declared.pending.Phase.TheVariants as phases
+use Rattle.chi_homeline.specs.declared.serving.Waiting.{Waiting}
 use Rattle.chi_homeline.specs.Home.{waiting_of}
 use Rattle.chi_line.specs.declared.seen.Where.{Where}
 use Rattle.chi_line.specs.declared.seen.Where.TheVariants.{Sent, Refused, Retried, Riding, Admitted, Answered, Closing}
-use Rattle.chi_line.specs.declared.seen.Seen.{Seen}
 use Rattle.chi_line.specs.LineState.{LineState, rn_of, cells_of}
 use Rattle.chi_line.specs.Step.{is_slot, slot_served_for, waiting_slot}
 
--- what a line shows of an agent's requests
+-- what a line shows of an agent's requests: the pending one, the one in flight and the response to it, the
+-- one that waits, and the slot of the one that is served
+pub record Seen : Type 0 where
+  pub pending : Option Pending
+  pub request : Option Request
+  pub response : Option RspDown
+  pub waiting : Option Waiting
+  pub served : Option Slot
+
+-- what it shows of the agent n
 abbrev pub seen_of : LineState → ℕ → Seen
 seen_of s n = record { pending = (rn_of s n).pending; request = (cells_of s n).req; response = (cells_of s n).rsp_down; waiting = waiting_of s.home n; served = slot_served_for s.home.serving n }
 

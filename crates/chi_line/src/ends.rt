@@ -53,7 +53,7 @@ fn evicted_slot(home: &HomeLine, agent: Agent) -> Option<Slot>
 }
 
 /// The slot of a request that its start completes: that of an Evict.
-fn evicted(request: Waiting) -> Option<Slot>
+pub fn evicted(request: Waiting) -> Option<Slot>
     ensures { result ≡ evicted_if (snoop_of request.kind) (is_copy_back request.kind) request.slot }
 {
     if request.kind.snoop().is_some() || request.kind.is_copy_back() {
@@ -84,7 +84,7 @@ fn written_slot(home: &HomeLine, cells: Cells) -> Option<Slot>
 }
 
 /// The slot of the request that is served.
-fn served_slot(serving: Serving) -> Option<Slot>
+pub fn served_slot(serving: Serving) -> Option<Slot>
     ensures { result ≡ served_slot serving }
 {
     match serving {

@@ -17,9 +17,10 @@ ghost use Rattle.chi_line.specs.Refused.{no_flit_unless, retry_refusal};
 ghost use Rattle.chi_line.specs.Step.{is_retry, sent, started_effect};
 
 use chi_flit::{
-    Agent, Channel, Effect, Kind, Line, Msg, Profile, Refusal, Request, RspDown, Slot, credit_type,
+    Agent, Channel, CompData, Effect, Kind, Line, Msg, Profile, Refusal, Request, RspDown, Slot,
+    credit_type,
 };
-use chi_homeline::{HomeLine, Started, Waiting};
+use chi_homeline::{Begun, HomeLine, Waiting};
 use chi_rnline::RnLine;
 use chi_wires::Wires;
 use std::alloc::Allocator;
@@ -206,16 +207,25 @@ pub fn start<A: Allocator>(
     ensures home_stays { OnErr result (home.new ≡ home.old) }
     ensures flits_stay { OnErr result (wires.new ≡ wires.old) }
 {
-    match home.start(agent)? {
-        Started::Sends(message) => {
-            wires.put(agent, row, message);
+    match home.begin(agent)? {
+        Begun::Data { unique } => {
+            let words = home.memory();
+            wires.put_data(agent, row, CompData { unique, words });
             Ok(Effect::Nothing)
         }
-        Started::Evicted(slot) => {
+        Begun::Unique => {
+            wires.put(agent, row, Msg::RspDown(RspDown::CompUC));
+            Ok(Effect::Nothing)
+        }
+        Begun::WriteData => {
+            wires.put(agent, row, Msg::RspDown(RspDown::CompDBIDResp));
+            Ok(Effect::Nothing)
+        }
+        Begun::Evicted(slot) => {
             wires.put(agent, row, Msg::RspDown(RspDown::CompI));
             Ok(Effect::Completed(slot))
         }
-        Started::Snoops { snoop, agents } => {
+        Begun::Snoops { snoop, agents } => {
             wires.put_snoops(row, agents, snoop);
             Ok(Effect::Nothing)
         }

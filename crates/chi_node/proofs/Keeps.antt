@@ -7,6 +7,7 @@ use Rattle.std.proofs.lemmas.Nat.Bits.{bit_at-lt}
 use Rattle.std.proofs.lemmas.List.Sums.{count_by-le-length}
 use mathlib.Core.Logic.{dite}
 use native.Mathlib.Decide.{ℕ_discrete, dec_le}
+use Rattle.chi_flit.specs.declared.numbers.Entry.{Entry}
 use Rattle.chi_flit.specs.declared.credit.CreditType.{CreditType}
 use Rattle.chi_flit.specs.declared.credit.CreditType.TheVariants.{T0, T1, T2, T3}
 use Rattle.chi_flit.specs.Credit.{credit_number}
@@ -18,6 +19,8 @@ use Rattle.chi_tracker.specs.Calls.{saw_all, seen_of, set_count}
 use Rattle.chi_tracker.proofs.BitLaws.{with_here, with_else, dropped_here, dropped_else}
 use Rattle.chi_credit.specs.Slot.{is_due_of}
 use Rattle.chi_credit.specs.declared.slot.SlotRecord.{SlotRecord}
+use Rattle.chi_credit.specs.declared.slot.SlotState.{SlotState}
+use Rattle.chi_credit.specs.declared.slot.SlotState.TheVariants.{Admitted}
 use Rattle.chi_credit.specs.Account.{riding_of, due_of, holders_of, FallsAt, GrowsAt, IsSame, HasDue, HasEntries, IsWithinSeen}
 use Rattle.chi_node.specs.Requester.{RequesterState, RequesterKept}
 
@@ -104,6 +107,13 @@ pub held_entry : (entries : List ℕ) (r : RequesterState) (b : List SlotRecord)
 held_entry entries r b e kept falls =
     let held : has e r.port ≡ 1 = omega (arith, bit_at-lt r.port.hand e, falls.less, kept.hand.entries e) in
     (dite (dec_le (low r.port.shape 4) e) (λ l. absurd (omega (arith, kept.inside e l))) (λ l. omega arith), held)
+
+-- so is the entry that its state names
+pub in_hand : (entries : List ℕ) (r : RequesterState) (b : List SlotRecord) (was : SlotState) (found : Entry) → RequesterKept entries r → FallsAt found.0 (holders_of r.slots) (holders_of b) → was ≡ Admitted found → (e : Entry) → was ≡ Admitted e → has e.0 r.port ≡ 1
+in_hand entries r b was found kept falls at = λ e is. subst (λ (x : Entry). has x.0 r.port ≡ 1) (same found e (sym at ∙ is)) (held_entry entries r b found.0 kept falls).1
+  where
+    same : (a c : Entry) → Admitted a ≡ Admitted c → a ≡ c
+    same a c h = cc (h)
 
 -- one number of a row more
 raised_here : (ns : List ℕ) (t : ℕ) → slice_index (raised ns t) t ≡ slice_index ns t + 1

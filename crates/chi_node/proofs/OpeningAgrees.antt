@@ -1,10 +1,8 @@
 -- The requesters of a new node agree with its slices.
-use Rattle.std.proofs.Common.{◌≡◌, ℕ, ◌<◌, ◌≤◌, true, Option, Some, None, get_or, [], length, replicate, refl, sym, ◌∙◌, ap, arith}
+use Rattle.std.proofs.Common.{◌≡◌, ℕ, ◌<◌, true, Option, Some, None, [], replicate, refl, sym, ◌∙◌, ap, arith}
 use Rattle.std.proofs.lemmas.List.{get_or-replicate}
-use Rattle.std.specs.Prelude.{slice_index}
 use Rattle.atomic_table.specs.Seated.{TableId}
 use Rattle.chi_flit.specs.declared.numbers.Slot.{Slot}
-use Rattle.chi_journal.specs.Journal.{part_of}
 use Rattle.chi_wires.specs.Cell.{no_flits}
 use Rattle.chi_rnline.specs.Rn.{no_line}
 use Rattle.chi_homeline.specs.Home.{idle_home}
@@ -14,7 +12,6 @@ use Rattle.chi_slice.specs.Config.{Sizes, are_in_limits}
 use Rattle.chi_line.specs.LineState.{LineState, opening_line}
 use Rattle.chi_line.specs.Places.{where_at}
 use Rattle.chi_slice.specs.Slice.{is_line_in_range, line, opening_slice, row_count, row_of_line}
-use Rattle.chi_line.specs.Types.{is_of_type}
 use Rattle.chi_slice.proofs.Rows.{InLimits, in_limits, row_in_range}
 use Rattle.chi_slice.proofs.SlotNumbers.{opening_unused}
 use Rattle.chi_slice.proofs.Slices.{same_line}
@@ -22,7 +19,7 @@ use Rattle.chi_line.proofs.Wheres.{unused_shows}
 use Rattle.chi_credit.specs.declared.slot.SlotRecord.{SlotRecord}
 use Rattle.chi_credit.specs.Slot.{idle_slot}
 use Rattle.chi_credit.specs.Account.{all_idle, slot_at}
-use Rattle.chi_node.specs.Agree.{Agree, IsTold, told}
+use Rattle.chi_node.specs.Agree.{Agree, told}
 use Rattle.chi_node.specs.Parts.{AllAgree}
 use Rattle.chi_node.specs.Requester.{opening_requester}
 use Rattle.chi_node.proofs.Records.{told_none}

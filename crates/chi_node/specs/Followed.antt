@@ -10,6 +10,7 @@ use Rattle.chi_flit.specs.declared.action.Effect.TheVariants.{Nothing, Value, Co
 use Rattle.chi_flit.specs.Credit.{credit_type_of}
 use Rattle.chi_tracker.specs.declared.released.Released.{Released}
 use Rattle.chi_tracker.specs.Shape.{IsOf}
+use Rattle.chi_tracker.specs.Views.{has}
 use Rattle.chi_tracker.specs.Calls.{seen_of, Ended, HasSameCredits}
 use Rattle.chi_credit.specs.declared.slot.SlotState.TheVariants.{Admitted, Idle, Refused, Retried, Riding, Cancelled}
 use Rattle.chi_credit.specs.Slot.{after_answer, after_finish, can_be_answered, is_admitted, opened}
@@ -67,9 +68,10 @@ CanFollow at steps.RecvAck r = ⊤
 CanFollow at steps.RecvDbid r = IsPending at.pending (λ s. can_be_answered (state_at r.slots s) ≡ true)
 CanFollow at steps.RecvWrData r = ⊤
 
--- the request of slot s was completed, and its entry released
+-- the request of slot s was completed, and its entry, which was in hand, released
 pub record Completes (s : ℕ) (released : Released) (old new : RequesterState) : Type 0 where
   pub ended : (e : Entry) × (state_at old.slots s ≡ Admitted e) × ((t : ℕ) × (t < 4) × IsOf old.port.shape t e.0 × Ended old.port t e.0 released new.port)
+  pub held : (e : Entry) → state_at old.slots s ≡ Admitted e → has e.0 old.port ≡ 1
   pub credits : HasSameCredits old.port new.port
   pub after : new ≡ with_both new.port (slice_set old.slots s (after_finish (slot_at old.slots s))) old
 

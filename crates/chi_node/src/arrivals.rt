@@ -95,6 +95,7 @@ impl Requester {
         requires slot { slot.0 < 8 }
         requires admitted { is_admitted (state_at self.old.slots slot.0) ≡ true }
         ensures released { (e : Entry) × (state_at self.old.slots slot.0 ≡ SlotState.Admitted e) × ((t : ℕ) × (t < 4) × IsOf self.old.port.shape t e.0 × Ended self.old.port t e.0 result self.new.port) }
+        ensures held { (e : Entry) → state_at self.old.slots slot.0 ≡ SlotState.Admitted e → has e.0 self.old.port ≡ 1 }
         ensures credits { HasSameCredits self.old.port self.new.port }
         ensures after { self.new ≡ with_both self.new.port (slice_set self.old.slots slot.0 (after_finish (slot_at self.old.slots slot.0))) self.old }
     {

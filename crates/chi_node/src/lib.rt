@@ -18,8 +18,3 @@ pub use answers::{Arrived, Stepped};
 pub use calls::{arrive_on, step_on};
 pub use opening::parts;
 pub use requester::Requester;
-
-#[cfg(test)]
-mod call_tests;
-#[cfg(test)]
-mod tests;

@@ -1,8 +1,9 @@
 //! The parts of a node: its slices, its tracker and its requesters.
 
-ghost use Rattle.std.specs.Prelude.{◌≡◌, ℕ, ◌<◌, nat_lt, IfOk};
+ghost use Rattle.std.specs.Prelude.{◌≡◌, ℕ, ◌<◌, nat_lt, true, IfOk};
 ghost use Rattle.chi_tracker.specs.Shape.{size};
 ghost use Rattle.chi_tracker.specs.Calls.{shape_of};
+ghost use Rattle.chi_slice.specs.Config.{are_in_limits};
 ghost use Rattle.chi_node.specs.Parts.{AllAgree, is_of_profile, opening_requesters, opening_slices};
 
 use crate::requester::Requester;
@@ -14,7 +15,8 @@ use std::alloc::Allocator;
 
 /// The slices of a node of that size, each in its opening state.
 fn slices<A: Allocator + Copy>(alloc: A, config: &Config) -> Result<Vec<Slice<A>, A>, NoMemory>
-    ensures { IfOk result (λ slices. slices.items ≡ opening_slices config.now config.now.slices) }
+    ensures slices { IfOk result (λ slices. slices.items ≡ opening_slices config.now config.now.slices) }
+    ensures limits { are_in_limits config.now ≡ true }
 {
     let count = config.slices();
     let mut slices = Vec::with_capacity(alloc, usize::from(count))?;
@@ -48,12 +50,13 @@ fn requesters<A: Allocator>(
 /// The slices of a node of that size in rising order, each in its opening state; its tracker, with all
 /// entries free and entries of exactly the profile's types; and its requesters in rising order, each with
 /// its port, free slots and counts of 0, which agree with all the slices. All memory that they ever need is
-/// found here; refused where it runs out.
+/// found here; refused where it runs out. Whoever asks knows that the size is within the limits.
 /// Source: `docs/PROTOCOL.md`, "A requester and its calls".
 pub fn parts<A: Allocator + Copy>(
     alloc: A,
     config: &Config,
 ) -> Result<(Vec<Slice<A>, A>, Tracker<A>, ArrayVec<Requester, 8>), NoMemory>
+    ensures limits { are_in_limits config.now ≡ true }
     ensures slices { IfOk result (λ made. made.0.items ≡ opening_slices config.now config.now.slices) }
     ensures tracker { IfOk result (λ made. made.1.shape ≡ shape_of config.now.entries config.now.agents) }
     ensures types { IfOk result (λ made. (t : ℕ) → t < 4 → nat_lt 0 (size made.1.shape t) ≡ is_of_profile config.now.profile t) }

@@ -8,28 +8,39 @@ use Rattle.chi_flit.specs.declared.credit.Profile.TheVariants.{Two, Four}
 use Rattle.chi_flit.specs.declared.message.Channel.{Channel}
 use Rattle.chi_flit.specs.declared.message.Channel.TheVariants as channels
 use Rattle.chi_flit.specs.declared.message.Msg.{Msg}
+use Rattle.chi_flit.specs.Credit.{credit_text}
 use Rattle.chi_flit.specs.Message.{message_text}
 use Rattle.chi_flit.specs.Refusal.{refusal_number, refusal_text}
 use Rattle.chi_flit.specs.State.{state_text}
 use Rattle.chi_filter.specs.Filter.{is_in}
 use Rattle.chi_homeline.specs.declared.serving.Serving.{Serving}
-use Rattle.chi_homeline.specs.declared.serving.Serving.TheVariants.{Idle, Snooping, AwaitingCompAck, AwaitingWriteData}
+use Rattle.chi_homeline.specs.declared.serving.Serving.TheVariants as servings
 use Rattle.chi_wires.specs.declared.cells.Cells.{Cells}
 use Rattle.chi_wires.specs.Cell.{cell_of}
 use Rattle.chi_line.specs.declared.view.CopyView.{CopyView}
 use Rattle.chi_line.specs.declared.view.LineView.{LineView}
+use Rattle.chi_tracker.specs.declared.released.Released.{Released}
+use Rattle.chi_tracker.specs.declared.released.Released.TheVariants.{Granted, Freed}
 use Rattle.chi_reply.specs.declared.replies.Reply.{Reply}
-use Rattle.chi_reply.specs.declared.replies.Reply.TheVariants.{Done, Value, Admitted, NoEntry, Completed, Refused}
+use Rattle.chi_reply.specs.declared.replies.Reply.TheVariants.{Done, Value, Admitted, Retry, Completed, Paid, Idle, Refused}
+use Rattle.chi_reply.specs.declared.credits.Credits.{Credits}
 use Rattle.chi_reply.specs.declared.totals.Totals.{Totals}
 use Rattle.chi_reply.specs.declared.audits.Audit.{Audit}
+
+-- where a released entry went
+abbrev pub released_text : Released → List ℕ
+released_text (Granted agent) = codes "granted " ++ decimal agent.0
+released_text Freed = codes "freed"
 
 -- what a command that does something answers
 abbrev pub reply_text : Reply → List ℕ
 reply_text Done = codes "ok"
 reply_text (Value value) = codes "ok value " ++ decimal value
 reply_text (Admitted entry) = codes "ok admitted " ++ decimal entry.0
-reply_text NoEntry = codes "ok none"
-reply_text (Completed slot) = codes "ok completed " ++ (decimal slot.0 ++ codes " freed")
+reply_text (Retry credit) = codes "ok retry " ++ credit_text credit
+reply_text (Completed slot released) = codes "ok completed " ++ (decimal slot.0 ++ (codes " " ++ released_text released))
+reply_text (Paid released) = codes "ok " ++ released_text released
+reply_text Idle = codes "ok idle"
 reply_text (Refused refusal) = codes "refused " ++ (decimal (refusal_number refusal) ++ (codes " " ++ refusal_text refusal))
 
 -- the texts of a list with commas between them, and `-` where it is empty
@@ -58,10 +69,10 @@ yes_no false = codes "no"
 
 -- the request that is served, by its agent
 abbrev pub serving_text : Serving → List ℕ
-serving_text Idle = codes "none"
-serving_text (Snooping agent kind slot) = codes "snooping " ++ decimal agent.0
-serving_text (AwaitingCompAck agent slot) = codes "compack " ++ decimal agent.0
-serving_text (AwaitingWriteData agent kind slot) = codes "wrdata " ++ decimal agent.0
+serving_text servings.Idle = codes "none"
+serving_text (servings.Snooping agent kind slot) = codes "snooping " ++ decimal agent.0
+serving_text (servings.AwaitingCompAck agent slot) = codes "compack " ++ decimal agent.0
+serving_text (servings.AwaitingWriteData agent kind slot) = codes "wrdata " ++ decimal agent.0
 
 -- `show` of a line, with the copies of so many agents
 abbrev pub shown_text : ℕ → LineView → List ℕ
@@ -107,6 +118,10 @@ type_count Four = 4
 -- the numbers by type, of the types that there are
 abbrev pub counts_text : Profile → List ℕ → List ℕ
 counts_text profile counts = spaced decimal (take (type_count profile) counts)
+
+-- `see`
+abbrev pub credits_text : Credits → List ℕ
+credits_text credits = codes "ok credits" ++ counts_text credits.profile credits.counts
 
 -- `totals`
 abbrev pub totals_text : Totals → List ℕ

@@ -6,6 +6,7 @@
 mod agents;
 mod audits;
 mod copies;
+mod credits;
 mod flights;
 mod numbers;
 mod replies;
@@ -13,6 +14,7 @@ mod shown;
 mod totals;
 
 pub use audits::Audit;
+pub use credits::Credits;
 pub use flights::InFlight;
 pub use replies::Reply;
 pub use shown::Shown;

@@ -1,9 +1,10 @@
 //! Rows of numbers inside an answer.
 
-ghost use Rattle.std.specs.Prelude.{Some};
+ghost use Rattle.std.specs.Prelude.{◌≡◌, Some};
 ghost use Rattle.std.specs.Fmt.{decimal};
-ghost use Rattle.chi_reply.specs.Replies.{spaced};
+ghost use Rattle.chi_reply.specs.Replies.{spaced, type_count};
 
+use chi_flit::Profile;
 use std::fmt;
 
 /// Numbers of entries or credits, a space before each.
@@ -33,5 +34,15 @@ impl<'a> fmt::Display for Words<'a> {
             write!(f, " {word}")?;
         }
         Ok(())
+    }
+}
+
+/// How many credit types the profile has.
+pub(crate) fn type_count(profile: Profile) -> usize
+    ensures { result ≡ type_count profile }
+{
+    match profile {
+        Profile::Two => 2,
+        Profile::Four => 4,
     }
 }

@@ -1,9 +1,10 @@
 //! The answers of the commands that do something.
 
 ghost use Rattle.std.specs.Prelude.{Some};
-ghost use Rattle.chi_reply.specs.Replies.{reply_text};
+ghost use Rattle.chi_reply.specs.Replies.{released_text, reply_text};
 
-use chi_flit::{Entry, Refusal, Slot};
+use chi_flit::{CreditType, Entry, Refusal, Slot};
+use chi_tracker::Released;
 use std::fmt;
 
 /// What a command that does something answers. It prints as its line of the output, without the line
@@ -17,13 +18,22 @@ pub enum Reply {
     Value(u64),
     /// `ok admitted ENTRY`: the request was let in, and holds this entry.
     Admitted(Entry),
-    /// `ok none`: no entry was left for the request.
-    NoEntry,
-    /// `ok completed SLOT freed`: the request of this slot is complete, and its entry is free.
-    Completed(Slot),
+    /// `ok retry TYPE`: no entry was left for the request, and it waits for a credit of this type.
+    Retry(CreditType),
+    /// `ok completed SLOT freed` or `ok completed SLOT granted M`: the request of this slot is complete,
+    /// and its entry is free, or promised to agent M.
+    Completed(Slot, Released),
+    /// `ok freed` or `ok granted M`: an entry was released, and is free, or promised to agent M.
+    Paid(Released),
+    /// `ok idle`: no entry was released, since nobody was owed one or none was free.
+    Idle,
     /// `refused NUMBER NAME`: nothing was done.
     Refused(Refusal),
 }
+
+/// Where a released entry went, in the words of an answer.
+#[derive(Drop)]
+struct Went(Released);
 
 impl fmt::Display for Reply {
     ghost output = { λ reply. Some (reply_text reply) };
@@ -33,8 +43,16 @@ impl fmt::Display for Reply {
             Reply::Done => write!(f, "ok"),
             Reply::Value(value) => write!(f, "ok value {value}"),
             Reply::Admitted(entry) => write!(f, "ok admitted {entry}"),
-            Reply::NoEntry => write!(f, "ok none"),
-            Reply::Completed(slot) => write!(f, "ok completed {slot} freed"),
+            Reply::Retry(credit) => write!(f, "ok retry {credit}"),
+            Reply::Completed(slot, released) => {
+                let went = Went(*released);
+                write!(f, "ok completed {slot} {went}")
+            }
+            Reply::Paid(released) => {
+                let went = Went(*released);
+                write!(f, "ok {went}")
+            }
+            Reply::Idle => write!(f, "ok idle"),
             Reply::Refused(refusal) => {
                 let number = refusal.number();
                 write!(f, "refused {number} {refusal}")
@@ -43,9 +61,21 @@ impl fmt::Display for Reply {
     }
 }
 
+impl fmt::Display for Went {
+    ghost output = { λ went. Some (released_text went.0) };
+
+    fn fmt<W: fmt::Write>(&self, f: &mut fmt::Formatter<W>) -> fmt::Result {
+        match self.0 {
+            Released::Granted(agent) => write!(f, "granted {agent}"),
+            Released::Freed => write!(f, "freed"),
+        }
+    }
+}
+
 #[cfg(test)]
 mod tests {
     use super::*;
+    use chi_flit::Agent;
     use std::test::Fail;
 
     #[test]
@@ -62,12 +92,28 @@ mod tests {
         );
         let admitted = Reply::Admitted(Entry(64));
         assert_eq!(rt; admitted.to_string(rt.alloc())?.as_str(), "ok admitted 64");
-        assert_eq!(rt; Reply::NoEntry.to_string(rt.alloc())?.as_str(), "ok none");
-        let completed = Reply::Completed(Slot(1));
+        let retry = Reply::Retry(CreditType::T3);
+        assert_eq!(rt; retry.to_string(rt.alloc())?.as_str(), "ok retry 3");
+        Ok(())
+    }
+
+    #[test]
+    fn prints_where_an_entry_went(rt: HostRuntime) -> Result<(), Fail> {
+        let freed = Reply::Completed(Slot(1), Released::Freed);
         assert_eq!(rt;
-            completed.to_string(rt.alloc())?.as_str(),
+            freed.to_string(rt.alloc())?.as_str(),
             "ok completed 1 freed"
         );
+        let granted = Reply::Completed(Slot(7), Released::Granted(Agent(2)));
+        assert_eq!(rt;
+            granted.to_string(rt.alloc())?.as_str(),
+            "ok completed 7 granted 2"
+        );
+        let paid = Reply::Paid(Released::Granted(Agent(0)));
+        assert_eq!(rt; paid.to_string(rt.alloc())?.as_str(), "ok granted 0");
+        let back = Reply::Paid(Released::Freed);
+        assert_eq!(rt; back.to_string(rt.alloc())?.as_str(), "ok freed");
+        assert_eq!(rt; Reply::Idle.to_string(rt.alloc())?.as_str(), "ok idle");
         Ok(())
     }
 

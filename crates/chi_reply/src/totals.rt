@@ -1,9 +1,9 @@
 //! The answer of `totals`.
 
-ghost use Rattle.std.specs.Prelude.{◌≡◌, Some};
-ghost use Rattle.chi_reply.specs.Replies.{totals_text, type_count};
+ghost use Rattle.std.specs.Prelude.{Some};
+ghost use Rattle.chi_reply.specs.Replies.{totals_text};
 
-use crate::numbers::Counts;
+use crate::numbers::{Counts, type_count};
 use chi_flit::Profile;
 use std::fmt;
 
@@ -30,16 +30,6 @@ impl fmt::Display for Totals {
         let promised = Counts(&self.promised[..types]);
         let owed = Counts(&self.owed[..types]);
         write!(f, "ok free{free} hand{hand} promised{promised} owed{owed}")
-    }
-}
-
-/// How many credit types the profile has.
-fn type_count(profile: Profile) -> usize
-    ensures { result ≡ type_count profile }
-{
-    match profile {
-        Profile::Two => 2,
-        Profile::Four => 4,
     }
 }
 

@@ -4,6 +4,7 @@ pub mod CommandLoop
 pub mod FaultLemmas
 pub mod FileLemmas
 pub mod NumberLemmas
+pub mod CreditLemmas
 pub mod CommandLemmas
 pub mod SpaceLemmas
 pub mod HeaderLemmas

@@ -1,17 +1,19 @@
 -- The commands of a replay file: a table for each count of words, a line for each command
 -- (docs/PROTOCOL.md, "Replay files").
-use Rattle.std.specs.Prelude.{ℕ, List, [], ◌∷◌, Option, Some, None, if◌then◌else◌, codes}
+use Rattle.std.specs.Prelude.{ℕ, ◌==◌, List, [], ◌∷◌, Option, Some, None, if◌then◌else◌, codes}
 use Rattle.chi_flit.specs.Kind.{kind_text}
 use Rattle.chi_flit.specs.declared.numbers.Agent.{Agent}
 use Rattle.chi_flit.specs.declared.numbers.Line.{Line}
 use Rattle.chi_flit.specs.declared.numbers.Slot.{Slot}
 use Rattle.chi_flit.specs.declared.numbers.WordNo.{WordNo}
+use Rattle.chi_flit.specs.declared.credit.CreditType.{CreditType}
+use Rattle.chi_flit.specs.declared.credit.CreditType.TheVariants.{T0, T1, T2, T3}
 use Rattle.chi_flit.specs.declared.kind.Kind.{Kind}
 use Rattle.chi_flit.specs.declared.kind.Kind.TheVariants.{ReadNotSharedDirty, ReadShared, ReadUnique, CleanUnique, Evict, WriteBackFull, WriteCleanFull, WriteEvictFull}
 use Rattle.chi_flit.specs.declared.action.Step.{Step}
-use Rattle.chi_flit.specs.declared.action.Step.TheVariants.{Load, Store, Drop, Issue, Start, RecvSnp, RecvSnpResp, RecvData, RecvComp, RecvAck, RecvDbid, RecvWrData}
+use Rattle.chi_flit.specs.declared.action.Step.TheVariants.{Load, Store, Drop, Issue, RecvRetry, Resend, Cancel, Start, RecvSnp, RecvSnpResp, RecvData, RecvComp, RecvAck, RecvDbid, RecvWrData}
 use Rattle.chi_script.specs.declared.commands.Command.{Command}
-use Rattle.chi_script.specs.declared.commands.Command.TheVariants.{Totals, Audit, Show, Flits, Arrive, Act}
+use Rattle.chi_script.specs.declared.commands.Command.TheVariants.{Totals, Audit, Show, Flits, Arrive, See, GiveBack, Tend, Act}
 use Rattle.chi_script.specs.Words.{◌>>=◌, is_text, number_of, small_of}
 
 abbrev pub agent_at : ℕ → Agent
@@ -25,6 +27,14 @@ slot_at n = record { 0 = n }
 
 abbrev pub word_at : ℕ → WordNo
 word_at n = record { 0 = n }
+
+-- the type of a number; above 3 there is none
+abbrev pub credit_of : ℕ → Option CreditType
+credit_of n =
+    if n == 0 then Some T0 else (
+    if n == 1 then Some T1 else (
+    if n == 2 then Some T2 else (
+    if n == 3 then Some T3 else None)))
 
 -- one step of an agent on a line
 abbrev pub act_at : ℕ → ℕ → Step → Command
@@ -48,11 +58,14 @@ step_of verb =
     if is_text verb (codes "start") then Some Start else (
     if is_text verb (codes "snp") then Some RecvSnp else (
     if is_text verb (codes "snpresp") then Some RecvSnpResp else (
+    if is_text verb (codes "retryack") then Some RecvRetry else (
+    if is_text verb (codes "resend") then Some Resend else (
+    if is_text verb (codes "cancel") then Some Cancel else (
     if is_text verb (codes "data") then Some RecvData else (
     if is_text verb (codes "comp") then Some RecvComp else (
     if is_text verb (codes "ack") then Some RecvAck else (
     if is_text verb (codes "dbid") then Some RecvDbid else (
-    if is_text verb (codes "wrdata") then Some RecvWrData else None))))))))
+    if is_text verb (codes "wrdata") then Some RecvWrData else None)))))))))))
 
 -- the step of VERB N L and a word
 abbrev pub step_with_one : List ℕ → List ℕ → Option Step
@@ -71,21 +84,24 @@ command_bare verb =
     if is_text verb (codes "totals") then Some Totals else (
     if is_text verb (codes "audit") then Some Audit else None)
 
--- VERB L
+-- VERB L, or VERB N
 abbrev pub command_one : List ℕ → ℕ → Option Command
-command_one verb l =
-    if is_text verb (codes "show") then Some (Show (line_at l)) else None
+command_one verb n =
+    if is_text verb (codes "show") then Some (Show (line_at n)) else (
+    if is_text verb (codes "see") then Some (See (agent_at n)) else None)
 
--- VERB N L
+-- VERB N L, or VERB N TYPE
 abbrev pub command_two : List ℕ → ℕ → ℕ → Option Command
 command_two verb n l =
     if is_text verb (codes "arrive") then Some (Arrive (agent_at n) (line_at l)) else (
-    if is_text verb (codes "flits") then Some (Flits (agent_at n) (line_at l)) else
-    (step_of verb >>= λ step. Some (act_at n l step)))
+    if is_text verb (codes "flits") then Some (Flits (agent_at n) (line_at l)) else (
+    if is_text verb (codes "giveback") then Some (GiveBack (agent_at n) (credit_of l)) else (
+    if is_text verb (codes "tend") then Some (Tend (agent_at n) (credit_of l)) else
+    (step_of verb >>= λ step. Some (act_at n l step)))))
 
 abbrev pub command_of : List (List ℕ) → Option Command
 command_of (verb ∷ []) = command_bare verb
-command_of (verb ∷ a ∷ []) = small_of a >>= λ l. command_one verb l
+command_of (verb ∷ a ∷ []) = small_of a >>= λ n. command_one verb n
 command_of (verb ∷ a ∷ b ∷ []) = small_of a >>= λ n. small_of b >>= λ l. command_two verb n l
 command_of (verb ∷ a ∷ b ∷ c ∷ []) = step_with_one verb c >>= λ step. small_of a >>= λ n. small_of b >>= λ l. Some (act_at n l step)
 command_of (verb ∷ a ∷ b ∷ c ∷ d ∷ []) = step_with_two verb c d >>= λ step. small_of a >>= λ n. small_of b >>= λ l. Some (act_at n l step)

@@ -1,18 +1,20 @@
 -- How numbers, commands and headers are written (docs/PROTOCOL.md, "Replay files"): apart from how they
 -- are read.
-use Rattle.std.specs.Prelude.{◌≡◌, ℕ, ◌^◌, ◌<◌, min, List, [], ◌∷◌, codes, slice_index, true}
+use Rattle.std.specs.Prelude.{◌≡◌, ℕ, ◌^◌, ◌<◌, min, List, [], ◌∷◌, Option, Some, None, codes, slice_index, true}
 use Rattle.std.specs.List.{join_with_byte}
 use Rattle.std.specs.Fmt.{decimal}
+use Rattle.chi_flit.specs.Credit.{credit_number}
 use Rattle.chi_flit.specs.Kind.{kind_text}
 use Rattle.chi_flit.specs.declared.kind.Kind.{Kind}
 use Rattle.chi_flit.specs.declared.action.Step.{Step}
 use Rattle.chi_flit.specs.declared.action.Step.TheVariants.{Load, Store, Drop, Issue, Admit, Retry, RecvRetry, Resend, Cancel, Start, RecvSnp, RecvSnpResp, RecvData, RecvComp, RecvAck, RecvDbid, RecvWrData}
+use Rattle.chi_flit.specs.declared.credit.CreditType.{CreditType}
 use Rattle.chi_flit.specs.declared.credit.Profile.{Profile}
 use Rattle.chi_flit.specs.declared.credit.Profile.TheVariants.{Two, Four}
 use Rattle.chi_script.specs.declared.headers.Header.{Header}
 use Rattle.chi_script.specs.Headers.{is_in_limits}
 use Rattle.chi_script.specs.declared.commands.Command.{Command}
-use Rattle.chi_script.specs.declared.commands.Command.TheVariants.{Totals, Audit, Show, Flits, Arrive, Act}
+use Rattle.chi_script.specs.declared.commands.Command.TheVariants.{Totals, Audit, Show, Flits, Arrive, See, GiveBack, Tend, Act}
 
 -- a number of 64 bits, in decimal
 abbrev pub IsNumber : ℕ → List ℕ → Type 0
@@ -26,13 +28,22 @@ IsSmall n word = (written : ℕ) × IsNumber written word × (n ≡ min written 
 abbrev pub IsKind : Kind → List ℕ → Type 0
 IsKind kind word = word ≡ kind_text kind
 
--- VERB L
+-- a credit type, by its number; none where the number is above 3
+abbrev pub IsCredit : Option CreditType → List ℕ → Type 0
+IsCredit (Some ty) word = IsNumber (credit_number ty) word
+IsCredit None word = (written : ℕ) × IsNumber written word × (3 < written)
+
+-- VERB L, or VERB N
 abbrev pub WithOne : List ℕ → ℕ → List (List ℕ) → Type 0
-WithOne verb l words = (line : List ℕ) × IsSmall l line × (words ≡ verb ∷ line ∷ [])
+WithOne verb n words = (first : List ℕ) × IsSmall n first × (words ≡ verb ∷ first ∷ [])
 
 -- VERB N L
 abbrev pub WithTwo : List ℕ → ℕ → ℕ → List (List ℕ) → Type 0
 WithTwo verb n l words = (agent line : List ℕ) × IsSmall n agent × IsSmall l line × (words ≡ verb ∷ agent ∷ line ∷ [])
+
+-- VERB N TYPE
+abbrev pub WithCredit : List ℕ → ℕ → Option CreditType → List (List ℕ) → Type 0
+WithCredit verb n credit words = (agent ty : List ℕ) × IsSmall n agent × IsCredit credit ty × (words ≡ verb ∷ agent ∷ ty ∷ [])
 
 -- VERB N L W
 abbrev pub WithWord : List ℕ → ℕ → ℕ → ℕ → List (List ℕ) → Type 0
@@ -54,9 +65,9 @@ SpellsStep Drop n l words = WithTwo (codes "drop") n l words
 SpellsStep (Issue kind slot) n l words = WithKind (codes "issue") n l kind slot.0 words
 SpellsStep Admit n l words = ⊥
 SpellsStep Retry n l words = ⊥
-SpellsStep RecvRetry n l words = ⊥
-SpellsStep Resend n l words = ⊥
-SpellsStep Cancel n l words = ⊥
+SpellsStep RecvRetry n l words = WithTwo (codes "retryack") n l words
+SpellsStep Resend n l words = WithTwo (codes "resend") n l words
+SpellsStep Cancel n l words = WithTwo (codes "cancel") n l words
 SpellsStep Start n l words = WithTwo (codes "start") n l words
 SpellsStep RecvSnp n l words = WithTwo (codes "snp") n l words
 SpellsStep RecvSnpResp n l words = WithTwo (codes "snpresp") n l words
@@ -73,6 +84,9 @@ Spells Audit words = words ≡ codes "audit" ∷ []
 Spells (Show l) words = WithOne (codes "show") l.0 words
 Spells (Flits n l) words = WithTwo (codes "flits") n.0 l.0 words
 Spells (Arrive n l) words = WithTwo (codes "arrive") n.0 l.0 words
+Spells (See n) words = WithOne (codes "see") n.0 words
+Spells (GiveBack n credit) words = WithCredit (codes "giveback") n.0 credit words
+Spells (Tend n credit) words = WithCredit (codes "tend") n.0 credit words
 Spells (Act action) words = SpellsStep action.step action.agent.0 action.line.0 words
 
 -- the words with one space between two of them

@@ -2,11 +2,11 @@
 
 ghost use Rattle.std.specs.Prelude.{◌≡◌};
 ghost use Rattle.chi_script.specs.Words.{texts_of};
-ghost use Rattle.chi_script.specs.Commands.{command_of, command_bare, command_one, command_two, act_at, step_of, step_with_one, step_with_two, kind_of};
+ghost use Rattle.chi_script.specs.Commands.{command_of, command_bare, command_one, command_two, act_at, credit_of, step_of, step_with_one, step_with_two, kind_of};
 
 use crate::numbers::{number, small};
 use crate::words::is;
-use chi_flit::{Action, Agent, Kind, Line, Slot, Step, WordNo};
+use chi_flit::{Action, Agent, CreditType, Kind, Line, Slot, Step, WordNo};
 
 /// One command of a replay file.
 /// Source: `docs/PROTOCOL.md`, "Replay files".
@@ -17,14 +17,37 @@ pub enum Command {
     /// `audit`: whether all lines and journals are coherent.
     Audit,
     /// `show L`: the line's copies, filter, service and memory.
-    Show { line: Line },
+    Show {
+        line: Line,
+    },
     /// `flits N L`: the messages in flight for one agent and line.
-    Flits { agent: Agent, line: Line },
+    Flits {
+        agent: Agent,
+        line: Line,
+    },
     /// `arrive N L`: the home takes the agent's request, and admits it or answers a retry.
-    Arrive { agent: Agent, line: Line },
+    Arrive {
+        agent: Agent,
+        line: Line,
+    },
+    /// `see N`: the agent looks which credits it was granted.
+    See {
+        agent: Agent,
+    },
+    /// `giveback N TYPE`: the agent returns a credit of the type. No type: the number is above 3.
+    GiveBack {
+        agent: Agent,
+        credit: Option<CreditType>,
+    },
+    /// `tend N TYPE`: the agent hands a free entry of the type to whoever is owed a credit. No type: the
+    /// number is above 3.
+    Tend {
+        agent: Agent,
+        credit: Option<CreditType>,
+    },
     /// A command that is one action: `load N L W`, `store N L W V`, `issue N L KIND SLOT`, and of the
-    /// form `VERB N L` those of `drop`, `start`, `snp`, `snpresp`, `data`, `comp`, `ack`, `dbid` and
-    /// `wrdata`.
+    /// form `VERB N L` those of `drop`, `start`, `snp`, `snpresp`, `retryack`, `resend`, `cancel`, `data`,
+    /// `comp`, `ack`, `dbid` and `wrdata`.
     Act(Action),
 }
 
@@ -63,19 +86,22 @@ fn bare(verb: &[u8]) -> Option<Command>
     }
 }
 
-/// `VERB L`
+/// `VERB L`, or `VERB N`
 fn with_one(verb: &[u8], first: u8) -> Option<Command>
     ensures { result ≡ command_one verb.now first }
 {
-    let line = Line(first);
     if is(verb, "show") {
+        let line = Line(first);
         Some(Command::Show { line })
+    } else if is(verb, "see") {
+        let agent = Agent(first);
+        Some(Command::See { agent })
     } else {
         None
     }
 }
 
-/// `VERB N L`
+/// `VERB N L`, or `VERB N TYPE`
 fn with_two(verb: &[u8], first: u8, second: u8) -> Option<Command>
     ensures { result ≡ command_two verb.now first second }
 {
@@ -85,8 +111,27 @@ fn with_two(verb: &[u8], first: u8, second: u8) -> Option<Command>
         Some(Command::Arrive { agent, line })
     } else if is(verb, "flits") {
         Some(Command::Flits { agent, line })
+    } else if is(verb, "giveback") {
+        let credit = credit_at(second);
+        Some(Command::GiveBack { agent, credit })
+    } else if is(verb, "tend") {
+        let credit = credit_at(second);
+        Some(Command::Tend { agent, credit })
     } else {
         Some(act(first, second, step_of(verb)?))
+    }
+}
+
+/// The credit type of this number.
+fn credit_at(number: u8) -> Option<CreditType>
+    ensures { result ≡ credit_of number }
+{
+    match number {
+        0 => Some(CreditType::T0),
+        1 => Some(CreditType::T1),
+        2 => Some(CreditType::T2),
+        3 => Some(CreditType::T3),
+        _ => None,
     }
 }
 
@@ -112,6 +157,12 @@ fn step_of(verb: &[u8]) -> Option<Step>
         Some(Step::RecvSnp)
     } else if is(verb, "snpresp") {
         Some(Step::RecvSnpResp)
+    } else if is(verb, "retryack") {
+        Some(Step::RecvRetry)
+    } else if is(verb, "resend") {
+        Some(Step::Resend)
+    } else if is(verb, "cancel") {
+        Some(Step::Cancel)
     } else if is(verb, "data") {
         Some(Step::RecvData)
     } else if is(verb, "comp") {

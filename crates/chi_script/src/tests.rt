@@ -1,5 +1,5 @@
 use super::*;
-use chi_flit::{Action, Agent, Kind, Line, Profile, Slot, Step, WordNo};
+use chi_flit::{Action, Agent, CreditType, Kind, Line, Profile, Slot, Step, WordNo};
 use std::alloc::AllocError;
 
 /// The header of six numbers that stands before the commands of most tests.
@@ -68,7 +68,7 @@ fn a_good_file_is_its_header_and_its_commands(rt: HostRuntime) -> Result<(), Fau
 
 #[test]
 fn each_action_is_a_line(rt: HostRuntime) -> Result<(), Fault> {
-    let lines: [(&[u8], Step); 15] = [
+    let lines: [(&[u8], Step); 18] = [
         (b"load 1 3 0", Step::Load(WordNo(0))),
         (b"load 1 3 256", Step::Load(WordNo(255))),
         (b"store 1 3 0 0", Step::Store(WordNo(0), 0)),
@@ -82,6 +82,9 @@ fn each_action_is_a_line(rt: HostRuntime) -> Result<(), Fault> {
         (b"start 1 3", Step::Start),
         (b"snp 1 3", Step::RecvSnp),
         (b"snpresp 1 3", Step::RecvSnpResp),
+        (b"retryack 1 3", Step::RecvRetry),
+        (b"resend 1 3", Step::Resend),
+        (b"cancel 1 3", Step::Cancel),
         (b"data 1 3", Step::RecvData),
         (b"comp 1 3", Step::RecvComp),
         (b"ack 1 3", Step::RecvAck),
@@ -113,7 +116,7 @@ fn each_kind_is_named(rt: HostRuntime) -> Result<(), Fault> {
     Ok(())
 }
 
-const OTHER_LINES: [&[u8]; 37] = [
+const OTHER_LINES: [&[u8]; 48] = [
     b"audit 0",
     b"audits",
     b"Audit",
@@ -148,6 +151,17 @@ const OTHER_LINES: [&[u8]; 37] = [
     b"issue 0 0  0",
     b"Drop 0 0",
     b"snpdata 0 0",
+    b"retryack 0",
+    b"resend 0 0 0",
+    b"cancel 00 0",
+    b"see",
+    b"see 0 0",
+    b"giveback 0",
+    b"giveback 0 0 0",
+    b"giveback 0 T0",
+    b"giveback 0 18446744073709551616",
+    b"tend 0",
+    b"tend 0 01",
     b"comp  0 0",
     b" load 0 0 0",
     b"store 0 0 0 0 ",
@@ -161,18 +175,33 @@ fn other_lines_are_no_commands(rt: HostRuntime) {
 }
 
 #[test]
-fn retries_and_credits_are_no_commands_yet(rt: HostRuntime) {
-    let lines: [&[u8]; 6] = [
-        b"retryack 0 0",
-        b"resend 0 0",
-        b"cancel 0 0",
-        b"see 0",
-        b"giveback 0 0",
-        b"tend 0 0",
+fn credits_have_commands(rt: HostRuntime) -> Result<(), Fault> {
+    let agent = Agent(1);
+    let credit = Some(CreditType::T2);
+    let lines: [(&[u8], Command); 6] = [
+        (b"see 1", Command::See { agent }),
+        (b"see 256", Command::See { agent: Agent(255) }),
+        (b"giveback 1 2", Command::GiveBack { agent, credit }),
+        (
+            b"giveback 1 4",
+            Command::GiveBack {
+                agent,
+                credit: None,
+            },
+        ),
+        (b"tend 1 2", Command::Tend { agent, credit }),
+        (
+            b"tend 1 256",
+            Command::Tend {
+                agent,
+                credit: None,
+            },
+        ),
     ];
-    for line in lines {
-        assert_eq!(rt; line_two(&rt, line), Err(Fault::BadCommand(2)), "{line:?}");
+    for (line, command) in lines {
+        assert_eq!(rt; line_two(&rt, line)?, Some(command), "{line:?}");
     }
+    Ok(())
 }
 
 #[test]

@@ -357,6 +357,13 @@ outcome now s action row place conditions copies home result copies' home' wires
     (subst (λ (r : ℕ). E now r r conditions) (sym looked.row_is)
     (subst (λ (x : Conditions). E now (row_of_line now action.line.0) (row_of_line now action.line.0) x) (sym looked.conditions_is) moved)) looked.inside call
 
+-- the row that was looked up is one of the slice's
+pub row_low : (now s : SliceState) (action : Action) (row count : ℕ) → SliceKept s → s ≡ now → true ≡ is_in_range now action → row ≡ row_of_line now action.line.0 → count ≡ row_count s.config s.index → row < count
+row_low now s action row count k same inside row_is count_is =
+    subst (λ (c : ℕ). row < c) (sym count_is)
+    (subst (λ (r : ℕ). r < row_count s.config s.index) (sym row_is)
+    (subst (λ (v : SliceState). true ≡ is_in_range v action → row_of_line v action.line.0 < row_count s.config s.index) same (λ (h : true ≡ is_in_range s action). (in_range s action k (sym h)).row) inside))
+
 abbrev Starts : SliceState → Action → List Rn → Home → SliceState → ℕ → ℕ → Type 0
 Starts s action copies home now row place =
     true ≡ is_in_range now action → copies ≡ get_or s.requesters place copies → home ≡ get_or s.homes place home → Kept (last_of s action.line.0) (line_of_parts copies home s.wires row)

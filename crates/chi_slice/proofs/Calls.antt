@@ -19,7 +19,7 @@ use Rattle.chi_slice.proofs.Follows.{index_after, indexed_acted}
 
 -- what the call leaves of the index
 pub record Follows (conditions : Conditions) (places : List (List (Option Place))) (old : LineState) (action : Action) (result : Result Effect Refusal) (places' : List (List (Option Place))) : Type 0 where
-  pub after : OnOk result (places' ≡ followed_by conditions.profile places old action)
+  pub after : OnOk result (places' ≡ followed_by places old action)
   pub stays : OnErr result (places' ≡ places)
 
 abbrev called_line : SliceState → Action → List Rn → Home → LineState
@@ -31,7 +31,7 @@ indexed_call : (s : SliceState) (action : Action) (copies : List Rn) (home : Hom
 indexed_call s action copies home (Ok effect) copies' home' wires' journal' places places' k i acts follows journal_is =
     let by : Called s action (Ok effect) = called s action copies home (Ok effect) copies' home' wires' k acts in
     let same : called_line s action copies home ≡ line s action.line.0 = line_is s action copies home k acts.inside acts.at_copies acts.at_home in
-    let places_are : places' ≡ index_after s places action = follows.after ∙ ap (λ (l : LineState). followed_by s.config.profile places l action) same in
+    let places_are : places' ≡ index_after s places action = follows.after ∙ ap (λ (l : LineState). followed_by places l action) same in
     subst (λ (v : SliceState). Indexed v places') (sym (after_call s action copies home (Ok effect) copies' home' wires' journal' k acts journal_is))
     (subst (Indexed (acted s action)) (sym places_are) (indexed_acted s places action k i (allowed s action (sym by.refusal))))
 indexed_call s action copies home (Err refusal) copies' home' wires' journal' places places' k i acts follows journal_is =

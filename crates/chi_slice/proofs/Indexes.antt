@@ -1,14 +1,13 @@
--- An index of slots in which places are looked up again.
-use Rattle.std.proofs.Common.{◌≡◌, ◌≢◌, ℕ, ◌<◌, List, [], Bool, true, false, ◌||◌, ◌&&◌, ◌==◌, nat_lt, Option, Some, None, length, get_or, set, refl, sym, ◌∙◌, ap, subst, if◌then◌else◌, arith, ⊎_elim, get_or-set_same, get_or-set_other}
+-- An index of slots in which a slot has another place.
+use Rattle.std.proofs.Common.{◌≡◌, ◌≢◌, ℕ, ◌<◌, List, [], Bool, true, false, ◌&&◌, ◌==◌, nat_lt, Option, Some, None, length, get_or, set, refl, sym, ◌∙◌, ap, subst, if◌then◌else◌, arith, ⊎_elim, get_or-set_same, get_or-set_other}
 use Rattle.std.proofs.lemmas.List.{length-set}
 use Rattle.std.proofs.lemmas.Bool.{cases_eq}
 use Rattle.chi_flit.specs.declared.numbers.Line.{Line}
 use Rattle.chi_flit.specs.declared.numbers.Slot.{Slot}
 use Rattle.chi_slice.specs.declared.places.Place.{Place}
-use Rattle.chi_line.specs.declared.seen.Seen.{Seen}
-use Rattle.chi_slice.specs.Index.{is_slot_of, followed, looked_at, place_of, placed, with_place}
-use Rattle.chi_line.specs.Places.{where_in}
-use Rattle.chi_line.specs.Step.{is_slot, pending_slot}
+use Rattle.chi_line.specs.declared.seen.Where.{Where}
+use Rattle.chi_slice.specs.Index.{is_slot_of, moved_in, place_of, placed, with_place}
+use Rattle.chi_line.specs.Step.{is_slot}
 use Rattle.chi_line.proofs.EqualSlots.{same_slot}
 
 -- an index of eight agents with eight slots each
@@ -70,71 +69,20 @@ with_same places n slot place wide low at =
     ∙ (ap (λ (row : List (Option Place)). get_or row slot.0 None) (get_or-set_same places n (set (get_or places n []) slot.0 place) [] (omega (arith, low, wide.agents)))
     ∙ get_or-set_same (get_or places n []) slot.0 place None (omega (arith, at, wide.slots n low))))
 
--- a slot that is looked up again
-looked_wide : (places : List (List (Option Place))) (n : ℕ) (line : Line) (now : Seen) (o : Option Slot) → Wide places → Wide (looked_at places n line now o)
-looked_wide places n line now None wide = wide
-looked_wide places n line now (Some slot) wide = with_wide places n slot (placed line (where_in now slot)) wide
+-- a slot, if there is one, that is moved
+pub moved_wide : (places : List (List (Option Place))) (n : ℕ) (line : Line) (o : Option Slot) (to : Option Where) → Wide places → Wide (moved_in places n line o to)
+moved_wide places n line None to wide = wide
+moved_wide places n line (Some slot) to wide = with_wide places n slot (placed line to) wide
 
-looked_elsewhere : (places : List (List (Option Place))) (n m : ℕ) (line : Line) (now : Seen) (o : Option Slot) (slot : Slot) → m ≢ n → place_of (looked_at places n line now o) m slot ≡ place_of places m slot
-looked_elsewhere places n m line now None slot apart = refl
-looked_elsewhere places n m line now (Some own) slot apart = with_elsewhere places n m own slot (placed line (where_in now own)) apart
+pub moved_elsewhere : (places : List (List (Option Place))) (n m : ℕ) (line : Line) (o : Option Slot) (to : Option Where) (slot : Slot) → m ≢ n → place_of (moved_in places n line o to) m slot ≡ place_of places m slot
+moved_elsewhere places n m line None to slot apart = refl
+moved_elsewhere places n m line (Some own) to slot apart = with_elsewhere places n m own slot (placed line to) apart
 
-looked_other : (places : List (List (Option Place))) (n : ℕ) (line : Line) (now : Seen) (o : Option Slot) (slot : Slot) → Wide places → n < 8 → is_slot o slot ≡ false → place_of (looked_at places n line now o) n slot ≡ place_of places n slot
-looked_other places n line now None slot wide low other = refl
-looked_other places n line now (Some own) slot wide low other = with_other places n own slot (placed line (where_in now own)) wide low other
+pub moved_other : (places : List (List (Option Place))) (n : ℕ) (line : Line) (o : Option Slot) (to : Option Where) (slot : Slot) → Wide places → n < 8 → is_slot o slot ≡ false → place_of (moved_in places n line o to) n slot ≡ place_of places n slot
+moved_other places n line None to slot wide low other = refl
+moved_other places n line (Some own) to slot wide low other = with_other places n own slot (placed line to) wide low other
 
-abbrev HasPlace : List (List (Option Place)) → ℕ → Line → Seen → Slot → Type 0
-HasPlace places n line now slot = place_of places n slot ≡ placed line (where_in now slot)
-
-looked_here : (places : List (List (Option Place))) (n : ℕ) (line : Line) (now : Seen) (o : Option Slot) (slot : Slot) → Wide places → n < 8 → slot.0 < 8 → is_slot o slot ≡ true → HasPlace (looked_at places n line now o) n line now slot
-looked_here places n line now None slot wide low at here = absurd (cc (here))
-looked_here places n line now (Some own) slot wide low at here =
-    subst (λ (x : Slot). HasPlace (looked_at places n line now (Some x)) n line now slot) (sym (same_slot own slot here)) (with_same places n slot (placed line (where_in now slot)) wide low at)
-
--- and one that has its place already
-looked_again : (places : List (List (Option Place))) (n : ℕ) (line : Line) (now : Seen) (o : Option Slot) (slot : Slot) → Wide places → n < 8 → slot.0 < 8 → HasPlace places n line now slot → HasPlace (looked_at places n line now o) n line now slot
-looked_again places n line now o slot wide low at has = go (is_slot o slot) refl
-  where
-    go : (b : Bool) → is_slot o slot ≡ b → HasPlace (looked_at places n line now o) n line now slot
-    go true here = looked_here places n line now o slot wide low at here
-    go false other = looked_other places n line now o slot wide low other ∙ has
-
--- an index that followed an action
-pub followed_wide : (places : List (List (Option Place))) (n : ℕ) (line : Line) (before now : Seen) (named : Option Slot) → Wide places → Wide (followed places n line before now named)
-followed_wide places n line before now named wide =
-    looked_wide _ n line now named (looked_wide _ n line now before.served (looked_wide places n line now (pending_slot before.pending) wide))
-
-pub followed_elsewhere : (places : List (List (Option Place))) (n m : ℕ) (line : Line) (before now : Seen) (named : Option Slot) (slot : Slot) → m ≢ n → place_of (followed places n line before now named) m slot ≡ place_of places m slot
-followed_elsewhere places n m line before now named slot apart =
-    looked_elsewhere _ n m line now named slot apart ∙ (looked_elsewhere _ n m line now before.served slot apart ∙ looked_elsewhere places n m line now (pending_slot before.pending) slot apart)
-
--- the slots that are looked up again
-pub record Untouched (before : Seen) (named : Option Slot) (slot : Slot) : Type 0 where
-  pub pending : is_slot (pending_slot before.pending) slot ≡ false
-  pub served : is_slot before.served slot ≡ false
-  pub issued : is_slot named slot ≡ false
-
-pub followed_other : (places : List (List (Option Place))) (n : ℕ) (line : Line) (before now : Seen) (named : Option Slot) (slot : Slot) → Wide places → n < 8 → Untouched before named slot → place_of (followed places n line before now named) n slot ≡ place_of places n slot
-followed_other places n line before now named slot wide low un =
-    let first : Wide (looked_at places n line now (pending_slot before.pending)) = looked_wide places n line now (pending_slot before.pending) wide in
-    looked_other _ n line now named slot (looked_wide _ n line now before.served first) low un.issued
-    ∙ (looked_other _ n line now before.served slot first low un.served ∙ looked_other places n line now (pending_slot before.pending) slot wide low un.pending)
-
-abbrev pub is_touched : Seen → Option Slot → Slot → Bool
-is_touched before named slot = is_slot (pending_slot before.pending) slot || (is_slot before.served slot || is_slot named slot)
-
-pub followed_here : (places : List (List (Option Place))) (n : ℕ) (line : Line) (before now : Seen) (named : Option Slot) (slot : Slot) → Wide places → n < 8 → slot.0 < 8 → is_touched before named slot ≡ true → HasPlace (followed places n line before now named) n line now slot
-followed_here places n line before now named slot wide low at touched =
-    go (is_slot (pending_slot before.pending) slot) (is_slot before.served slot) (is_slot named slot) refl refl refl touched
-  where
-    first : Wide (looked_at places n line now (pending_slot before.pending))
-    first = looked_wide places n line now (pending_slot before.pending) wide
-
-    second : Wide (looked_at (looked_at places n line now (pending_slot before.pending)) n line now before.served)
-    second = looked_wide _ n line now before.served first
-
-    go : (a b c : Bool) → is_slot (pending_slot before.pending) slot ≡ a → is_slot before.served slot ≡ b → is_slot named slot ≡ c → a || (b || c) ≡ true → HasPlace (followed places n line before now named) n line now slot
-    go true b c ha hb hc touched = looked_again _ n line now named slot second low at (looked_again _ n line now before.served slot first low at (looked_here places n line now (pending_slot before.pending) slot wide low at ha))
-    go false true c ha hb hc touched = looked_again _ n line now named slot second low at (looked_here _ n line now before.served slot first low at hb)
-    go false false true ha hb hc touched = looked_here _ n line now named slot second low at hc
-    go false false false ha hb hc touched = absurd (cc (touched))
+pub moved_here : (places : List (List (Option Place))) (n : ℕ) (line : Line) (o : Option Slot) (to : Option Where) (slot : Slot) → Wide places → n < 8 → slot.0 < 8 → is_slot o slot ≡ true → place_of (moved_in places n line o to) n slot ≡ placed line to
+moved_here places n line None to slot wide low at here = absurd (cc (here))
+moved_here places n line (Some own) to slot wide low at here =
+    subst (λ (x : Slot). place_of (moved_in places n line (Some x) to) n slot ≡ placed line to) (sym (same_slot own slot here)) (with_same places n slot (placed line to) wide low at)

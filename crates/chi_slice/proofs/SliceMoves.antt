@@ -9,7 +9,7 @@ use Rattle.chi_line.specs.declared.act.Conditions.{Conditions}
 use Rattle.chi_line.specs.declared.seen.Where.{Where}
 use Rattle.chi_line.specs.LineState.{LineState, rn_of}
 use Rattle.chi_slice.specs.SliceMoves.{SliceMoved}
-use Rattle.chi_line.specs.Moves.{if_moved}
+use Rattle.chi_line.specs.Moves.{Moved, if_moved}
 use Rattle.chi_line.specs.Refused.{step_refusal}
 use Rattle.chi_slice.specs.Slice.{SliceKept, SliceState, conditions_of, last_of, line, refused, row_of_line}
 use Rattle.chi_line.specs.Step.{after, is_slot}
@@ -39,14 +39,19 @@ names_unused c s agent steps.RecvAck may free = refl
 names_unused c s agent steps.RecvDbid may free = refl
 names_unused c s agent steps.RecvWrData may free = refl
 
+pub moved_at : (s : SliceState) (action : Action) → SliceKept s → Allowed s action → Moved s.config.profile (line s action.line.0) action.agent action.step
+moved_at s action k by =
+    let inside : InRange s action = in_range s action k by.inside in
+    moves (conditions_of s action) (last_of s action.line.0) s.config.profile (line s action.line.0) action.agent action.step inside.agent (k.lines action.line.0 inside.line) by.by_line
+    (names_unused (conditions_of s action) (line s action.line.0) action.agent action.step by.by_line (free_at s (row_of_line s action.line.0) action.agent.0 action.step k inside.row))
+
 pub slice_moves : (s : SliceState) (action : Action) → SliceKept s → refused s action ≡ None → SliceMoved s action
 slice_moves s action k may =
     let by : Allowed s action = allowed s action may in
     let inside : InRange s action = in_range s action k by.inside in
     let new : LineState = after s.config.profile (line s action.line.0) action in
     record {
-      moved = moves (conditions_of s action) (last_of s action.line.0) s.config.profile (line s action.line.0) action.agent action.step inside.agent (k.lines action.line.0 inside.line) by.by_line
-          (names_unused (conditions_of s action) (line s action.line.0) action.agent action.step by.by_line (free_at s (row_of_line s action.line.0) action.agent.0 action.step k inside.row));
+      moved = moved_at s action k by;
       here = line_at-with_line s (row_of_line s action.line.0) new inside.row k;
       elsewhere = λ other there apart. line_at-with_other s (row_of_line s action.line.0) (row_of_line s other) new (rows_apart s action.line.0 other k inside.line there apart);
     }

@@ -1,6 +1,6 @@
 //! The sizes of a node.
 
-ghost use Rattle.std.specs.Prelude.{◌≡◌, ◌+◌, ◌/◌, ◌%◌, ◌&&◌, nat_le, true, ⊤};
+ghost use Rattle.std.specs.Prelude.{◌≡◌, ◌+◌, ◌/◌, ◌%◌, ◌==◌, ◌&&◌, nat_le, nat_lt, true, None, Some, if◌then◌else◌, ⊤};
 ghost use Rattle.chi_flit.specs.declared.credit.Profile.TheVariants.{Four};
 ghost use Rattle.chi_slice.specs.Config.{Sizes, are_entries, are_in_limits, config_if, four_types, is_between, is_slice_count, two_types};
 
@@ -154,27 +154,43 @@ impl Config {
         self.slices
     }
 
-    /// The slice that a line is in: `line mod slices`, with no division.
-    pub(crate) fn slice_of(&self, line: u8) -> u8
-        ensures { result ≡ line % self.now.slices }
+    /// The slice that a line is in, and its row there: `line mod slices` and `line / slices`, with no
+    /// division.
+    fn split(&self, line: u8) -> (u8, u8)
+        ensures slice { result.0 ≡ line % self.now.slices }
+        ensures row { result.1 ≡ line / self.now.slices }
     {
         match self.slices {
-            1 => 0,
-            2 => line % 2,
-            4 => line % 4,
-            _ => line % 8,
+            1 => (0, line),
+            2 => (line % 2, line / 2),
+            4 => (line % 4, line / 4),
+            _ => (line % 8, line / 8),
         }
     }
 
-    /// The row of a line in its slice: `line / slices`, with no division.
+    /// The slice that a line is in.
+    pub(crate) fn slice_of(&self, line: u8) -> u8
+        ensures { result ≡ line % self.now.slices }
+    {
+        self.split(line).0
+    }
+
+    /// The row of a line in its slice.
     pub(crate) fn row_of(&self, line: u8) -> u8
         ensures { result ≡ line / self.now.slices }
     {
-        match self.slices {
-            1 => line,
-            2 => line / 2,
-            4 => line / 4,
-            _ => line / 8,
+        self.split(line).1
+    }
+
+    /// The row of a line in the slice of this index; `None` for a line that isn't in it.
+    pub(crate) fn row_in(&self, index: u8, line: u8) -> Option<u8>
+        ensures { result ≡ if nat_lt line self.now.lines && (line % self.now.slices == index) then Some (line / self.now.slices) else None }
+    {
+        let (slice, row) = self.split(line);
+        if line < self.lines && slice == index {
+            Some(row)
+        } else {
+            None
         }
     }
 

@@ -1,11 +1,10 @@
 //! An index of the slots in use: where each agent's requests are.
 
-ghost use Rattle.std.specs.Prelude.{◌≡◌};
-ghost use Rattle.chi_slice.specs.Index.{followed, looked_at, no_places, place_of, placed, with_place};
-ghost use Rattle.chi_line.specs.Step.{pending_slot};
+ghost use Rattle.std.specs.Prelude.{◌≡◌, ◌<◌, is_some};
+ghost use Rattle.chi_slice.specs.Index.{moved_in, no_places, place_of, with_place};
 
 use chi_flit::{Agent, Line, Slot};
-use chi_line::{Seen, Where, where_in};
+use chi_line::{Move, Where};
 use std::marker::Model;
 
 /// The line of a request, and where the request is.
@@ -52,6 +51,16 @@ impl Places {
         }
     }
 
+    /// Whether an agent's slot has a place.
+    pub fn is_used(&self, agent: Agent, slot: Slot) -> bool
+        requires agent { agent.0 < 8 }
+        requires slot { slot.0 < 8 }
+        ensures { result ≡ is_some (place_of self.now agent.0 slot) }
+    {
+        let row = &self.by_agent[usize::from(agent.0)];
+        row[usize::from(slot.0)].is_some()
+    }
+
     /// Gives an agent's slot this place, or none; outside the eight of each nothing changes.
     fn put(&mut self, agent: Agent, slot: Slot, place: Option<Place>)
         ensures { self.new ≡ with_place self.old agent.0 slot place }
@@ -61,24 +70,14 @@ impl Places {
         }
     }
 
-    /// Gives the agent's slot, if there is one, the place that the line shows now.
-    fn look(&mut self, agent: Agent, line: Line, now: Seen, slot: Option<Slot>)
-        ensures { self.new ≡ looked_at self.old agent.0 line now slot }
+    /// Follows an action of the agent on a line, by what it did to a request: the slot of that request, if
+    /// one was moved, has its new place on the line, or none.
+    pub fn follow(&mut self, agent: Agent, line: Line, done: Move)
+        ensures { self.new ≡ moved_in self.old agent.0 line done.slot done.to }
     {
-        if let Some(slot) = slot {
-            let place = where_in(now, slot).map(|at| Place { line, at });
+        if let Some(slot) = done.slot {
+            let place = done.to.map(|at| Place { line, at });
             self.put(agent, slot, place);
         }
-    }
-
-    /// Follows an action of the agent on a line, by what the line showed before and shows now. The slots
-    /// that it can have moved are that of the request that was pending, that of the one that was served,
-    /// and the one that an Issue names.
-    pub fn follow(&mut self, agent: Agent, line: Line, before: Seen, now: Seen, named: Option<Slot>)
-        ensures { self.new ≡ followed self.old agent.0 line before now named }
-    {
-        self.look(agent, line, now, before.pending.map(|request| request.slot));
-        self.look(agent, line, now, before.served);
-        self.look(agent, line, now, named);
     }
 }

@@ -10,12 +10,12 @@ ghost use Rattle.chi_line.specs.Step.{after, effect_of, is_step_in_range, line_o
 use crate::places::Places;
 use chi_flit::{Action, Effect, Line, Refusal};
 use chi_homeline::HomeLine;
-use chi_line::{Conditions, act_on, issued_slot, seen_of};
+use chi_line::{Conditions, act_on, move_of};
 use chi_rnline::RnLine;
 use chi_wires::Wires;
 use std::alloc::Allocator;
 
-/// Does an action on a line, out of its parts; the index then has the places that the line shows.
+/// Does an action on a line, out of its parts; the index then has the place that it moves a request to.
 ///
 /// Refused in the order of the action's row; nothing changes then.
 /// Source: `docs/PROTOCOL.md`, "The actions".
@@ -37,16 +37,15 @@ pub fn act_in_row<A: Allocator>(
     ensures requesters { OnOk result (requesters.new ≡ (after conditions.profile (line_of_parts requesters.old home.old wires.old row.0) action).requesters) }
     ensures home { OnOk result (home.new ≡ (after conditions.profile (line_of_parts requesters.old home.old wires.old row.0) action).home) }
     ensures flits { OnOk result (wires.new ≡ slice_set wires.old row.0 (after conditions.profile (line_of_parts requesters.old home.old wires.old row.0) action).flits) }
-    ensures places { OnOk result (places.new ≡ followed_by conditions.profile places.old (line_of_parts requesters.old home.old wires.old row.0) action) }
+    ensures places { OnOk result (places.new ≡ followed_by places.old (line_of_parts requesters.old home.old wires.old row.0) action) }
     ensures copies_stay { OnErr result (requesters.new ≡ requesters.old) }
     ensures home_stays { OnErr result (home.new ≡ home.old) }
     ensures flits_stay { OnErr result (wires.new ≡ wires.old) }
     ensures places_stay { OnErr result (places.new ≡ places.old) }
 {
     let agent = action.agent;
-    let before = seen_of(requesters, home, wires, row, agent);
+    let done = move_of(requesters, home, wires, row, agent, action.step);
     let effect = act_on(requesters, home, wires, row, conditions, action)?;
-    let now = seen_of(requesters, home, wires, row, agent);
-    places.follow(agent, action.line, before, now, issued_slot(action.step));
+    places.follow(agent, action.line, done);
     Ok(effect)
 }

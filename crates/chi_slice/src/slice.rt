@@ -1,6 +1,6 @@
 //! A slice: some of the node's lines, and all that belongs to them.
 
-ghost use Rattle.std.specs.Prelude.{◌≡◌, ◌≢◌, ℕ, ◌<◌, [], true, false, None, Some, length, replicate, IfOk, OnOk, OnErr};
+ghost use Rattle.std.specs.Prelude.{◌≡◌, ◌≢◌, ℕ, ◌<◌, [], true, false, None, Some, is_some, length, replicate, IfOk, OnOk, OnErr};
 ghost use Rattle.chi_flit.specs.Refusal.{refusal_of};
 ghost use Rattle.chi_rnline.specs.Rn.{no_line};
 ghost use Rattle.chi_homeline.specs.Home.{idle_home};
@@ -121,9 +121,21 @@ impl<A: Allocator> Slice<A> {
     fn is_in_range(&self, action: Action) -> bool
         ensures { result ≡ is_in_range self.now action }
     {
-        action.agent.0 < self.config.agents()
-            && self.has_line(action.line)
-            && is_step_in_range(action.step)
+        self.row_in_range(action).is_some()
+    }
+
+    /// The row of an action's line, where all its numbers are in their ranges and its line is in this slice.
+    fn row_in_range(&self, action: Action) -> Option<u8>
+        ensures inside { is_some result ≡ is_in_range self.now action }
+        ensures row { (row : ℕ) → result ≡ Some row → row ≡ row_of_line self.now action.line.0 }
+        ensures kept { SliceKept self.now }
+    {
+        let row = self.config.row_in(self.index, action.line.0)?;
+        if action.agent.0 < self.config.agents() && is_step_in_range(action.step) {
+            Some(row)
+        } else {
+            None
+        }
     }
 
     /// Whether the agent is in the node, and the line in this slice.
@@ -149,7 +161,7 @@ impl<A: Allocator> Slice<A> {
         requires slot { slot.0 < 8 }
         ensures { result ≡ uses self.now agent.0 slot }
     {
-        self.places.get(agent, slot).is_some()
+        self.places.is_used(agent, slot)
     }
 
     /// Whether the slot that a step of the agent wants is in use.
@@ -197,11 +209,10 @@ impl<A: Allocator> Slice<A> {
     fn perform(&mut self, action: Action) -> Result<Effect, Refusal>
         ensures { Performed self.old action result self.new }
     {
-        if !self.is_in_range(action) {
+        let Some(row) = self.row_in_range(action) else {
             return Err(Refusal::OutOfRange);
-        }
+        };
         let conditions = self.conditions(action);
-        let row = self.row_of(action.line);
         let place = usize::from(row);
         let done = act_in_row(
             &mut self.requesters[place],

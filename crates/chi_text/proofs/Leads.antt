@@ -1,8 +1,12 @@
 -- What was written leads on: whatever answers the commands that are left get, the whole is a text.
 use Rattle.std.proofs.Common.{◌≡◌, ℕ, List, [], ◌∷◌, ◌++◌, refl, sym, ◌∙◌, ap, subst, append_assoc, append-nil}
+use Rattle.atomic_table.specs.Seated.{TableId}
 use Rattle.chi_script.specs.declared.commands.Command.{Command}
 use Rattle.chi_slice.specs.Config.{Sizes}
 use Rattle.chi_tracker.specs.Views.{PortView}
+use Rattle.chi_system.specs.System.{SystemState, opening_system}
+use Rattle.chi_text.specs.Session.{machine_of, ports_of}
+use Rattle.chi_text.proofs.Openings.{opening_machine, opening_views}
 use Rattle.chi_text.specs.Turns.{Answer, Asks, Ends, Machine, Turn, opening, turn}
 use Rattle.chi_text.specs.Texts.{Allowed, IsText, Made, Plays, Says, made, opening_ports, text}
 
@@ -17,8 +21,14 @@ made_plays (Asks call next) old [] later said state new h = absurd h
 made_plays (Asks call next) old (answer ∷ answers) later said state new h = made_plays (next answer) h.0 answers later said state new h.2
 
 -- before the first command
-pub leads_from : (config : Sizes) (all : List Command) → LeadsOn config all [] (opening config) (opening_ports config) all
+leads_from : (config : Sizes) (all : List Command) → LeadsOn config all [] (opening config) (opening_ports config) all
 leads_from config all = λ answers allowed. record { answers = answers; allowed = allowed; same = refl }
+
+pub leads_first : (config : Sizes) (all : List Command) (z : TableId) (y : SystemState) (written : List ℕ) → y ≡ opening_system config z → written ≡ [] → LeadsOn config all written (machine_of y) (ports_of y) all
+leads_first config all z y written is none =
+    subst (λ (l : List ℕ). LeadsOn config all l (machine_of y) (ports_of y) all) (sym none)
+    (subst (λ (m : Machine). LeadsOn config all [] m (ports_of y) all) (sym (opening_machine config z y is))
+    (subst (λ (ports : List PortView). LeadsOn config all [] (opening config) ports all) (sym (opening_views config z y is)) (leads_from config all)))
 
 joined_line : (written said rest : List ℕ) → written ++ (said ++ (10 ∷ rest)) ≡ (written ++ (said ++ (10 ∷ []))) ++ rest
 joined_line written said rest = ap (λ (l : List ℕ). written ++ l) (sym (append_assoc said (10 ∷ []) rest)) ∙ sym (append_assoc written (said ++ (10 ∷ [])) rest)

@@ -1,7 +1,7 @@
-pub mod Homes
-pub mod Audited
-pub mod PortLists
-pub mod Held
-pub mod Turned
-pub mod Openings
 pub mod Leads
+pub mod Machines
+pub mod Seen
+pub mod Reasons
+pub mod Turned
+pub mod Credited
+pub mod Openings

@@ -1,129 +1,287 @@
--- What was done for a command plays its turn.
-use Rattle.std.proofs.Common.{◌≡◌, ℕ, Bool, List, [], ◌∷◌, ◌++◌, length, ◌<◌, Option, Some, None, Result, Ok, Err, OnOk, refl, sym, ◌∙◌, ap, subst}
-use Rattle.std.proofs.lemmas.Option.{slice_get-get_or}
+-- What a node did for a command plays the command's turn.
+use Rattle.std.proofs.Common.{◌≡◌, ℕ, ◌<◌, Bool, true, false, List, [], ◌∷◌, ◌++◌, Option, Some, None, Result, Ok, Err, IfOk, OnOk, OnErr, refl, sym, ◌∙◌, ap, subst, arith}
 use Rattle.std.proofs.Math.ListN.{set}
+use Rattle.std.specs.Int.{bit_at}
 use Rattle.chi_flit.specs.declared.numbers.Agent.{Agent}
 use Rattle.chi_flit.specs.declared.numbers.Entry.{Entry}
 use Rattle.chi_flit.specs.declared.numbers.Line.{Line}
 use Rattle.chi_flit.specs.declared.numbers.Slot.{Slot}
+use Rattle.chi_flit.specs.declared.credit.CreditType.{CreditType}
+use Rattle.chi_flit.specs.declared.credit.CreditType.TheVariants.{T0, T1, T2, T3}
 use Rattle.chi_flit.specs.declared.action.Action.{Action}
+use Rattle.chi_flit.specs.declared.action.Step.{Step}
+use Rattle.chi_flit.specs.declared.action.Step.TheVariants as steps
 use Rattle.chi_flit.specs.declared.action.Effect.{Effect}
 use Rattle.chi_flit.specs.declared.action.Effect.TheVariants.{Completed, Nothing, Value}
-use Rattle.chi_flit.specs.declared.refusal.Refusal.{Refusal}
-use Rattle.chi_tracker.specs.Views.{PortView, has}
-use Rattle.chi_tracker.specs.Steps.{frees}
-use Rattle.chi_tracker.specs.Laws.{port_at}
-use Rattle.chi_text.specs.Ports.{Claims}
-use Rattle.chi_text.proofs.Held.{IsPortChange}
 use Rattle.chi_flit.specs.declared.message.Request.{Request}
-use Rattle.chi_flit.specs.Credit.{credit_type_of}
+use Rattle.chi_flit.specs.declared.refusal.Refusal.{Refusal}
+use Rattle.chi_flit.specs.Credit.{credit_number}
+use Rattle.chi_flit.specs.Refusal.{refusal_of}
+use Rattle.chi_tracker.specs.declared.released.Released.{Released}
+use Rattle.chi_tracker.specs.Views.{PortView}
+use Rattle.chi_tracker.specs.Shape.{low, size}
+use Rattle.chi_tracker.specs.Calls.{owed_one, scanned}
+use Rattle.chi_line.specs.LineState.{cells_of, rn_of}
+use Rattle.chi_line.specs.Step.{pending_slot}
+use Rattle.chi_slice.specs.Slice.{SliceState}
+use Rattle.chi_slice.specs.Slice as slice
+use Rattle.chi_credit.specs.declared.slot.SlotRecord.{SlotRecord}
+use Rattle.chi_credit.specs.declared.slot.SlotState.{SlotState}
+use Rattle.chi_credit.specs.declared.slot.SlotState.TheVariants as states
+use Rattle.chi_credit.specs.Slot.{after_answer, after_finish}
+use Rattle.chi_credit.specs.Account.{moved, slot_at, state_at}
+use Rattle.chi_node.specs.declared.answers.Arrived.{Arrived}
+use Rattle.chi_node.specs.declared.answers.Arrived.TheVariants.{Admitted, Retried}
+use Rattle.chi_node.specs.declared.answers.Stepped.{Stepped}
+use Rattle.chi_node.specs.Requester.{RequesterState, no_requester, with_slots}
+use Rattle.chi_node.specs.Arrives.{Arrives}
+use Rattle.chi_node.specs.Followed.{Completes, Finishes, at_pending, followed}
+use Rattle.chi_node.specs.Calls.{ArrivesAt, arrival_action, is_own_step, place_at}
 use Rattle.chi_script.specs.declared.commands.Command.TheVariants as commands
-use Rattle.chi_line.specs.LineState.{cells_of}
-use Rattle.chi_line.specs.Step.{effect_of}
-use Rattle.chi_text.specs.Home.{HomeState, IsAudited, acted, line, loads_in, refused}
+use Rattle.chi_system.specs.Home.{HomeState, IsAudited, acted, line, loads_in, slice_of}
+use Rattle.chi_system.specs.System.{ArrivesIn, IsSystem, OthersStay, StepsIn, SystemState, arrive_refusal, requester_of, step_refusal}
 use Rattle.chi_reply.specs.Replies.{audit_text, reply_text, totals_text}
 use Rattle.chi_reply.specs.declared.replies.Reply.TheVariants as replies
-use Rattle.chi_text.specs.Turns.{Answer, Asks, Claim, Claimed, Ends, Freed, Glanced, Judged, Machine, Turn, admission, arrived, arriving, turn, act, done, or_refused, released, with_action}
-use Rattle.chi_text.specs.Slots.{entries_after, entry_of, ports_after, with_entry}
-use Rattle.chi_text.specs.Texts.{Plays, Says}
+use Rattle.chi_text.specs.Ports.{Claims, Owes, Releases, Spends, seen_counts}
+use Rattle.chi_text.specs.Turns.{Claimed, Ends, Glanced, Judged, Machine, Owed, Spent, Turn, Went, act, act_refusal, acting, admitted, arrive, arriving, attempted, completing, credits_of, done, less_one, or_refused, slots_after, slots_of, with_action, with_arrival, with_credits, with_end, turn}
+use Rattle.chi_text.specs.Told.{arrival_reply, done_reply, step_reply}
+use Rattle.chi_text.specs.Session.{PlaysOn, SaysOn, machine_of, ports_of}
+use Rattle.chi_text.proofs.Machines.{at_port, at_port_again, credits_at, machine_after, machine_seen_same, ports_after, ports_same, slots_at}
+use Rattle.chi_text.proofs.Reasons.{act_same, arrives_low, few_there, steps_low}
+use Rattle.chi_text.proofs.Seen.{counts_less, same_counts}
 
-released_plays : (o : Option Entry) (m : Machine) (ports : List PortView) (agent : Agent) (slot : Slot) → ((entry : Entry) → o ≡ Some entry → (agent.0 < length ports) × (has entry.0 (port_at ports agent.0) ≡ 1))
-    → (answers : List Answer) × Plays (released o m agent slot) ports answers (reply_text (replies.Completed slot)) (record m { entries = entries_after o m.entries agent.0 slot.0 }) (ports_after o ports agent.0)
-released_plays None m ports agent slot held = ([], (refl, refl, refl))
-released_plays (Some entry) m ports agent slot held =
-    let h = held entry refl in
-    (Freed ∷ [], (set ports agent.0 (frees entry.0 (port_at ports agent.0)), (port_at ports agent.0, slice_get-get_or ports agent.0 _ h.0, h.1, refl), (refl, refl, refl)))
+-- what is refused says so, and what isn't goes on
+pub refused_plays : (y y' : SystemState) (o : Option Refusal) (refusal : Refusal) (t : Turn) → Some refusal ≡ o → y' ≡ y → PlaysOn (or_refused o (machine_of y) t) y y' (reply_text (replies.Refused refusal))
+refused_plays y y' o refusal t h same =
+    subst (λ (x : Option Refusal). PlaysOn (or_refused x (machine_of y) t) y y' (reply_text (replies.Refused refusal))) h
+    (subst (λ (z : SystemState). PlaysOn (or_refused (Some refusal) (machine_of y) t) y z (reply_text (replies.Refused refusal))) (sym same) ([], (refl, refl, refl)))
 
--- an action that has no more to say
-pub nothing_plays : (m : Machine) (ports : List PortView) (action : Action) (home' : HomeState) → refused m.home action ≡ None → effect_of (line m.home action.line.0) action ≡ Nothing → home' ≡ acted m.home action
-    → (answers : List Answer) × Plays (act m action) ports answers (reply_text replies.Done) (record { home = home'; entries = m.entries }) ports
-nothing_plays m ports action home' allowed effect is =
-    let turned : act m action ≡ Ends (reply_text replies.Done) (record { home = home'; entries = m.entries }) =
-    ap (λ (o : Option Refusal). or_refused o m (done (effect_of (line m.home action.line.0) action) (with_action m action) action.agent)) allowed
-    ∙ (ap (λ (e : Effect). done e (with_action m action) action.agent) effect
-    ∙ ap (λ (s : HomeState). Ends (reply_text replies.Done) (record { home = s; entries = m.entries })) (sym is)) in
-    subst (λ (t : Turn). (answers : List Answer) × Plays t ports answers (reply_text replies.Done) (record { home = home'; entries = m.entries }) ports) (sym turned) ([], (refl, refl, refl))
+pub allowed_plays : (y y' : SystemState) (o : Option Refusal) (t : Turn) (said : List ℕ) → None ≡ o → PlaysOn t y y' said → PlaysOn (or_refused o (machine_of y) t) y y' said
+allowed_plays y y' o t said h plays = subst (λ (x : Option Refusal). PlaysOn (or_refused x (machine_of y) t) y y' said) h plays
 
--- a load
-pub value_plays : (m : Machine) (ports : List PortView) (action : Action) (word : ℕ) (home' : HomeState) → refused m.home action ≡ None → effect_of (line m.home action.line.0) action ≡ Value word → home' ≡ acted m.home action
-    → (answers : List Answer) × Plays (act m action) ports answers (reply_text (replies.Value word)) (record { home = home'; entries = m.entries }) ports
-value_plays m ports action word home' allowed effect is =
-    let turned : act m action ≡ Ends (reply_text (replies.Value word)) (record { home = home'; entries = m.entries }) =
-    ap (λ (o : Option Refusal). or_refused o m (done (effect_of (line m.home action.line.0) action) (with_action m action) action.agent)) allowed
-    ∙ (ap (λ (e : Effect). done e (with_action m action) action.agent) effect
-    ∙ ap (λ (s : HomeState). Ends (reply_text (replies.Value word)) (record { home = s; entries = m.entries })) (sym is)) in
-    subst (λ (t : Turn). (answers : List Answer) × Plays t ports answers (reply_text (replies.Value word)) (record { home = home'; entries = m.entries }) ports) (sym turned) ([], (refl, refl, refl))
+-- types of the same number
+same_type : (a b : CreditType) → credit_number a ≡ credit_number b → a ≡ b
+same_type T0 T0 e = refl
+same_type T0 T1 e = absurd (omega (arith, e))
+same_type T0 T2 e = absurd (omega (arith, e))
+same_type T0 T3 e = absurd (omega (arith, e))
+same_type T1 T0 e = absurd (omega (arith, e))
+same_type T1 T1 e = refl
+same_type T1 T2 e = absurd (omega (arith, e))
+same_type T1 T3 e = absurd (omega (arith, e))
+same_type T2 T0 e = absurd (omega (arith, e))
+same_type T2 T1 e = absurd (omega (arith, e))
+same_type T2 T2 e = refl
+same_type T2 T3 e = absurd (omega (arith, e))
+same_type T3 T0 e = absurd (omega (arith, e))
+same_type T3 T1 e = absurd (omega (arith, e))
+same_type T3 T2 e = absurd (omega (arith, e))
+same_type T3 T3 e = refl
 
--- an action that is refused
-pub refused_plays : (m : Machine) (ports : List PortView) (action : Action) (refusal : Refusal) (home' : HomeState) → refused m.home action ≡ Some refusal → home' ≡ m.home
-    → (answers : List Answer) × Plays (act m action) ports answers (reply_text (replies.Refused refusal)) (record { home = home'; entries = m.entries }) ports
-refused_plays m ports action refusal home' denied stays =
-    let turned : act m action ≡ Ends (reply_text (replies.Refused refusal)) (record { home = home'; entries = m.entries }) =
-    ap (λ (o : Option Refusal). or_refused o m (done (effect_of (line m.home action.line.0) action) (with_action m action) action.agent)) denied
-    ∙ ap (λ (s : HomeState). Ends (reply_text (replies.Refused refusal)) (record { home = s; entries = m.entries })) (sym stays) in
-    subst (λ (t : Turn). (answers : List Answer) × Plays t ports answers (reply_text (replies.Refused refusal)) (record { home = home'; entries = m.entries }) ports) (sym turned) ([], (refl, refl, refl))
+-- the slots of a requester of which one was moved
+moved_slots : (y y' : SystemState) (agent : Agent) (s : ℕ) (state : SlotState) → (requester_of y' agent.0).slots ≡ moved (requester_of y agent.0).slots s state → (requester_of y' agent.0).slots ≡ moved (slots_of (machine_of y) agent) s state
+moved_slots y y' agent s state is = is ∙ ap (λ (x : List SlotRecord). moved x s state) (sym (slots_at y agent))
 
--- an action that completes a request
-pub completed_plays : (m : Machine) (ports : List PortView) (action : Action) (slot : Slot) (home' : HomeState) → refused m.home action ≡ None → effect_of (line m.home action.line.0) action ≡ Completed slot → home' ≡ acted m.home action
-    → ((entry : Entry) → entry_of m.entries action.agent.0 slot.0 ≡ Some entry → (action.agent.0 < length ports) × (has entry.0 (port_at ports action.agent.0) ≡ 1))
-    → (answers : List Answer) × Plays (act m action) ports answers (reply_text (replies.Completed slot)) (record { home = home'; entries = entries_after (entry_of m.entries action.agent.0 slot.0) m.entries action.agent.0 slot.0 }) (ports_after (entry_of m.entries action.agent.0 slot.0) ports action.agent.0)
-completed_plays m ports action slot home' allowed effect is held =
-    let after : Machine = record { home = home'; entries = entries_after (entry_of m.entries action.agent.0 slot.0) m.entries action.agent.0 slot.0 } in
-    let turned : act m action ≡ released (entry_of m.entries action.agent.0 slot.0) (record m { home = home' }) action.agent slot =
-    ap (λ (o : Option Refusal). or_refused o m (done (effect_of (line m.home action.line.0) action) (with_action m action) action.agent)) allowed
-    ∙ (ap (λ (e : Effect). done e (with_action m action) action.agent) effect
-    ∙ ap (λ (s : HomeState). released (entry_of m.entries action.agent.0 slot.0) (record m { home = s }) action.agent slot) (sym is)) in
-    subst (λ (t : Turn). (answers : List Answer) × Plays t ports answers (reply_text (replies.Completed slot)) after (ports_after (entry_of m.entries action.agent.0 slot.0) ports action.agent.0)) (sym turned)
-    (released_plays (entry_of m.entries action.agent.0 slot.0) (record m { home = home' }) ports action.agent slot held)
+-- the table's state after an arrival
+arrived_state : (y y' : SystemState) (agent : Agent) (l : Line) (s : ℕ) (arrived : Arrived) (state : SlotState) → y'.home ≡ acted y.home (arrival_action agent.0 l arrived) → OthersStay y y' agent
+    → (requester_of y' agent.0).slots ≡ moved (requester_of y agent.0).slots s state → seen_counts (requester_of y' agent.0).port ≡ seen_counts (requester_of y agent.0).port → machine_of y' ≡ with_arrival (machine_of y) agent l s arrived state
+arrived_state y y' agent l s arrived state home others slots seen =
+    machine_seen_same y y' agent (moved (slots_of (machine_of y) agent) s state) others (moved_slots y y' agent s state slots) seen
+    ∙ ap (λ (h : HomeState). record { home = h; accounts = set (machine_of y).accounts agent.0 (moved (slots_of (machine_of y) agent) s state); seen = (machine_of y).seen }) home
 
-arrive_asks : (m : Machine) (agent : Agent) (l : Line) (request : Request) → refused m.home (admission agent l) ≡ None → (cells_of (line m.home l.0) agent.0).req ≡ Some request
-    → turn m (commands.Arrive agent l) ≡ Asks (Claim agent (credit_type_of m.home.config.profile request.kind)) (arrived m agent l request)
-arrive_asks m agent l request allowed here =
-    ap (λ (o : Option Refusal). or_refused o m (arriving m agent l (cells_of (line m.home l.0) agent.0).req)) allowed
-    ∙ ap (λ (o : Option Request). arriving m agent l o) here
+-- a first attempt that is admitted, one that is retried, and a resent request
+first_admitted : (y y' : SystemState) (agent : Agent) (l : Line) (s : ℕ) (e : Entry) → IsSystem y → agent.0 < y.home.config.agents → y'.home ≡ acted y.home (arrival_action agent.0 l (Admitted e)) → OthersStay y y' agent
+    → Arrives true s (Admitted e) (requester_of y agent.0) (requester_of y' agent.0) → PlaysOn (attempted true (machine_of y) agent l s (slot_at (requester_of y agent.0).slots s).credit) y y' (reply_text (replies.Admitted e))
+first_admitted y y' agent l s e k low home others h =
+    let r : RequesterState = requester_of y agent.0 in
+    let ty : CreditType = (slot_at r.slots s).credit in (
+      Claimed (Some e) ∷ [],
+      (
+        ports_of y',
+        at_port y agent (ports_of y') (requester_of y' agent.0).port (λ before after. Claims before ty (Some e) after) k low (ports_after y y' agent others) (h.1, h.2, ap (λ (x : RequesterState). x.port) h.3),
+        (refl, arrived_state y y' agent l s (Admitted e) (states.Admitted e) home others (ap (λ (x : RequesterState). x.slots) h.3) (ap (λ (x : RequesterState). seen_counts x.port) h.3), refl),
+      ),
+    )
 
--- an arrival that finds no entry
-pub none_arrives : (m : Machine) (ports ports' : List PortView) (agent : Agent) (l : Line) (request : Request) → refused m.home (admission agent l) ≡ None → (cells_of (line m.home l.0) agent.0).req ≡ Some request
-    → IsPortChange ports ports' agent.0 → Claims (port_at ports agent.0) (credit_type_of m.home.config.profile request.kind) None (port_at ports' agent.0)
-    → (answers : List Answer) × Plays (turn m (commands.Arrive agent l)) ports answers (reply_text replies.NoEntry) m ports'
-none_arrives m ports ports' agent l request allowed here change claim =
-    subst (λ (t : Turn). (answers : List Answer) × Plays t ports answers (reply_text replies.NoEntry) m ports') (sym (arrive_asks m agent l request allowed here))
-    (Claimed None ∷ [], (ports', (port_at ports agent.0, port_at ports' agent.0, slice_get-get_or ports agent.0 _ change.low, claim, change.others), (refl, refl, refl)))
+first_retried : (y y' : SystemState) (agent : Agent) (l : Line) (s : ℕ) (told : CreditType) → IsSystem y → agent.0 < y.home.config.agents → y'.home ≡ acted y.home (arrival_action agent.0 l (Retried told)) → OthersStay y y' agent
+    → Arrives true s (Retried told) (requester_of y agent.0) (requester_of y' agent.0) → PlaysOn (attempted true (machine_of y) agent l s (slot_at (requester_of y agent.0).slots s).credit) y y' (reply_text (replies.Retry told))
+first_retried y y' agent l s told k low home others h =
+    let r : RequesterState = requester_of y agent.0 in
+    let ty : CreditType = (slot_at r.slots s).credit in
+    let t : ℕ = credit_number ty in
+    let mid : PortView = scanned t (size r.port.shape t) r.port in
+    let after : (requester_of y' agent.0).port ≡ owed_one t mid = ap (λ (x : RequesterState). x.port) h.2 in (
+      Claimed None ∷ Owed ∷ [],
+      (
+        set (ports_of y) agent.0 mid,
+        at_port y agent (set (ports_of y) agent.0 mid) mid (λ before after. Claims before ty None after) k low refl (refl, λ i is. sym (ap (λ (p : PortView). bit_at p.found i) after) ∙ h.1 i is),
+        (
+          ports_of y',
+          at_port_again y agent (ports_of y') mid (requester_of y' agent.0).port (λ before after. Owes before ty after) k low (ports_after y y' agent others) after,
+          (ap (λ (c : CreditType). reply_text (replies.Retry c)) (same_type told ty h.0), arrived_state y y' agent l s (Retried ty) states.Refused home others (ap (λ (x : RequesterState). x.slots) h.2) (ap (λ (x : RequesterState). seen_counts x.port) h.2), refl),
+        ),
+      ),
+    )
 
--- an arrival that is given an entry
-pub some_arrives : (m : Machine) (ports ports' : List PortView) (agent : Agent) (l : Line) (request : Request) (entry : Entry) (home' : HomeState) → refused m.home (admission agent l) ≡ None → (cells_of (line m.home l.0) agent.0).req ≡ Some request
-    → IsPortChange ports ports' agent.0 → Claims (port_at ports agent.0) (credit_type_of m.home.config.profile request.kind) (Some entry) (port_at ports' agent.0) → home' ≡ acted m.home (admission agent l)
-    → (answers : List Answer) × Plays (turn m (commands.Arrive agent l)) ports answers (reply_text (replies.Admitted entry)) (record { home = home'; entries = with_entry m.entries agent.0 request.slot.0 (Some entry) }) ports'
-some_arrives m ports ports' agent l request entry home' allowed here change claim is =
-    subst (λ (t : Turn). (answers : List Answer) × Plays t ports answers (reply_text (replies.Admitted entry)) (record { home = home'; entries = with_entry m.entries agent.0 request.slot.0 (Some entry) }) ports') (sym (arrive_asks m agent l request allowed here))
-    (Claimed (Some entry) ∷ [], (ports', (port_at ports agent.0, port_at ports' agent.0, slice_get-get_or ports agent.0 _ change.low, claim, change.others), (refl, ap (λ (s : HomeState). record { home = s; entries = with_entry m.entries agent.0 request.slot.0 (Some entry) }) is, refl)))
+resent_admitted : (y y' : SystemState) (agent : Agent) (l : Line) (s : ℕ) (e : Entry) → IsSystem y → agent.0 < y.home.config.agents → y'.home ≡ acted y.home (arrival_action agent.0 l (Admitted e)) → OthersStay y y' agent
+    → Arrives false s (Admitted e) (requester_of y agent.0) (requester_of y' agent.0) → PlaysOn (attempted false (machine_of y) agent l s (slot_at (requester_of y agent.0).slots s).credit) y y' (reply_text (replies.Admitted e))
+resent_admitted y y' agent l s e k low home others h =
+    let r : RequesterState = requester_of y agent.0 in
+    let ty : CreditType = (slot_at r.slots s).credit in
+    let m : Machine = machine_of y in
+    let after = ap (λ (x : RequesterState). x.port) h.3 in
+    let credits : seen_counts (requester_of y' agent.0).port ≡ less_one (credits_of m agent) ty =
+    counts_less r.port (requester_of y' agent.0).port ty e.0 (few_there y agent.0 k low) h.1 (ap (λ (p : PortView). p.shape) after) (ap (λ (p : PortView). p.seen) after) ∙ ap (λ (x : List ℕ). less_one x ty) (sym (credits_at y agent)) in
+    let state : machine_of y' ≡ with_credits (admitted m agent l s e) agent (less_one (credits_of m agent) ty) =
+    machine_after y y' agent (moved (slots_of m agent) s (states.Admitted e)) (less_one (credits_of m agent) ty) others (moved_slots y y' agent s (states.Admitted e) (ap (λ (x : RequesterState). x.slots) h.3)) credits
+    ∙ ap (λ (z : HomeState). record { home = z; accounts = set m.accounts agent.0 (moved (slots_of m agent) s (states.Admitted e)); seen = set m.seen agent.0 (less_one (credits_of m agent) ty) }) home in (
+      Spent e ∷ [],
+      (
+        ports_of y',
+        at_port y agent (ports_of y') (requester_of y' agent.0).port (λ before after. Spends before ty e after) k low (ports_after y y' agent others) (h.1, h.2, after),
+        (refl, state, refl),
+      ),
+    )
 
--- a turn that ends at once says its line
-pub ends_says : (m : Machine) (ports : List PortView) (said before after : List ℕ) → after ≡ before ++ (said ++ (10 ∷ [])) → Says (Ends said m) ports m ports before after
-ends_says m ports said before after h = ([], said, (refl, refl, refl), h)
+attempt_plays : (y y' : SystemState) (agent : Agent) (l : Line) (s : ℕ) (first : Bool) (arrived : Arrived) → IsSystem y → agent.0 < y.home.config.agents → y'.home ≡ acted y.home (arrival_action agent.0 l arrived) → OthersStay y y' agent
+    → Arrives first s arrived (requester_of y agent.0) (requester_of y' agent.0) → PlaysOn (attempted first (machine_of y) agent l s (slot_at (requester_of y agent.0).slots s).credit) y y' (reply_text (arrival_reply (Ok arrived)))
+attempt_plays y y' agent l s true (Admitted e) k low home others h = first_admitted y y' agent l s e k low home others h
+attempt_plays y y' agent l s true (Retried told) k low home others h = first_retried y y' agent l s told k low home others h
+attempt_plays y y' agent l s false (Admitted e) k low home others h = resent_admitted y y' agent l s e k low home others h
+attempt_plays y y' agent l s false (Retried told) k low home others h = absurd h
 
--- what isn't refused goes on, and what is refused says so
-pub allowed_says : (o : Option Refusal) (m m' : Machine) (ports ports' : List PortView) (t : Turn) (before after : List ℕ) → o ≡ None → Says t ports m' ports' before after → Says (or_refused o m t) ports m' ports' before after
-allowed_says None m m' ports ports' t before after h says = says
-allowed_says (Some refusal) m m' ports ports' t before after h says = absurd (cc (h))
+arriving_plays : (y y' : SystemState) (agent : Agent) (l : Line) (o : Option Request) (arrived : Arrived) → IsSystem y → agent.0 < y.home.config.agents → y'.home ≡ acted y.home (arrival_action agent.0 l arrived) → OthersStay y y' agent
+    → ArrivesAt o arrived (requester_of y agent.0) (requester_of y' agent.0) → PlaysOn (arriving (machine_of y) agent l o) y y' (reply_text (arrival_reply (Ok arrived)))
+arriving_plays y y' agent l None arrived k low home others h = absurd h
+arriving_plays y y' agent l (Some request) arrived k low home others h =
+    subst (λ (x : List SlotRecord). PlaysOn (attempted request.allow_retry (machine_of y) agent l request.slot.0 (slot_at x request.slot.0).credit) y y' (reply_text (arrival_reply (Ok arrived)))) (sym (slots_at y agent))
+    (attempt_plays y y' agent l request.slot.0 request.allow_retry arrived k low home others h)
 
-pub refused_says : (o : Option Refusal) (refusal : Refusal) (m : Machine) (ports : List PortView) (t : Turn) (before after : List ℕ) → o ≡ Some refusal → after ≡ before ++ (reply_text (replies.Refused refusal) ++ (10 ∷ [])) → Says (or_refused o m t) ports m ports before after
-refused_says None refusal m ports t before after h is = absurd (cc (h))
-refused_says (Some found) refusal m ports t before after h is =
-    let same : refusal ≡ found = cc (h) in
-    ends_says m ports (reply_text (replies.Refused found)) before after (is ∙ ap (λ (r : Refusal). before ++ (reply_text (replies.Refused r) ++ (10 ∷ []))) same)
+-- an arrival
+pub arrive_plays : (y y' : SystemState) (agent : Agent) (l : Line) (result : Result Arrived Refusal) → IsSystem y → refusal_of result ≡ arrive_refusal y agent.0 l.0 → IfOk result (λ arrived. ArrivesIn y y' agent l arrived) → OnErr result (y' ≡ y)
+    → PlaysOn (arrive (machine_of y) agent l) y y' (reply_text (arrival_reply result))
+arrive_plays y y' agent l (Err refusal) k h ok err = refused_plays y y' (arrive_refusal y agent.0 l.0) refusal _ h err
+arrive_plays y y' agent l (Ok arrived) k h ok err =
+    allowed_plays y y' (arrive_refusal y agent.0 l.0) _ (reply_text (arrival_reply (Ok arrived))) h
+    (arriving_plays y y' agent l (cells_of (line y.home l.0) agent.0).req arrived k (arrives_low y agent l k h) ok.home ok.others ok.requester)
 
--- the numbers of entries
-pub glance_says : (m : Machine) (ports : List PortView) (free hand promised owed before after : List ℕ) → after ≡ before ++ (totals_text (record { free = free; hand = hand; promised = promised; owed = owed; profile = m.home.config.profile }) ++ (10 ∷ [])) → Says (turn m commands.Totals) ports m ports before after
-glance_says m ports free hand promised owed before after h = (Glanced free hand promised owed ∷ [], totals_text (record { free = free; hand = hand; promised = promised; owed = owed; profile = m.home.config.profile }), (ports, refl, (refl, refl, refl)), h)
+-- the slots of a requester after a step are those of its slots alone, and its port stays
+pub record OnSlots (z : SliceState) (agent : Agent) (l : Line) (step : Step) (r : RequesterState) : Type 0 where
+  pub slots : (followed (place_at z (record { agent = agent; line = l; step = step })) step r).slots ≡ (followed (place_at z (record { agent = agent; line = l; step = step })) step (record no_requester { slots = r.slots })).slots
+  pub port : (followed (place_at z (record { agent = agent; line = l; step = step })) step r).port ≡ r.port
 
--- an audit: the loads, the stores, and the verdict on the slices
-pub audit_says : (m : Machine) (ports : List PortView) (loads stores : ℕ) (coherent : Bool) (before after : List ℕ) → IsAudited m.home.slices loads stores coherent
-    → after ≡ before ++ (audit_text (record { loads = loads; stores = stores; coherent = coherent }) ++ (10 ∷ [])) → Says (turn m commands.Audit) ports m ports before after
-audit_says m ports loads stores coherent before after k h =
-    (Judged coherent ∷ [], audit_text (record { loads = loads; stores = stores; coherent = coherent }), (ports, (k.coherent, refl), (ap (λ n. audit_text (record { loads = n; stores = stores; coherent = coherent })) k.loads ∙ ap (λ n. audit_text (record { loads = loads_in m.home.slices; stores = n; coherent = coherent })) k.stores, refl, refl)), h)
+-- where the pending slot changes
+pending_slots : (o : Option Slot) (r : RequesterState) (change : ℕ → List SlotRecord) → (at_pending o (λ s. with_slots (change s) r) r).slots ≡ (at_pending o (λ s. with_slots (change s) (record no_requester { slots = r.slots })) (record no_requester { slots = r.slots })).slots
+pending_slots None r change = refl
+pending_slots (Some slot) r change = refl
+
+pending_port : (o : Option Slot) (r : RequesterState) (change : ℕ → List SlotRecord) → (at_pending o (λ s. with_slots (change s) r) r).port ≡ r.port
+pending_port None r change = refl
+pending_port (Some slot) r change = refl
+
+on_slots : (z : SliceState) (agent : Agent) (l : Line) (step : Step) (r : RequesterState) → OnSlots z agent l step r
+on_slots z agent l (steps.Load word) r = record { slots = refl; port = refl }
+on_slots z agent l (steps.Store word value) r = record { slots = refl; port = refl }
+on_slots z agent l steps.Drop r = record { slots = refl; port = refl }
+on_slots z agent l (steps.Issue kind slot) r = record { slots = refl; port = refl }
+on_slots z agent l steps.Admit r = record { slots = refl; port = refl }
+on_slots z agent l steps.Retry r = record { slots = refl; port = refl }
+on_slots z agent l steps.RecvRetry r = let change = λ (s : ℕ). moved r.slots s states.Retried in record { slots = pending_slots (pending_slot (rn_of (slice.line z l.0) agent.0).pending) r change; port = pending_port (pending_slot (rn_of (slice.line z l.0) agent.0).pending) r change }
+on_slots z agent l steps.Resend r = let change = λ (s : ℕ). moved r.slots s states.Riding in record { slots = pending_slots (pending_slot (rn_of (slice.line z l.0) agent.0).pending) r change; port = pending_port (pending_slot (rn_of (slice.line z l.0) agent.0).pending) r change }
+on_slots z agent l steps.Cancel r = let change = λ (s : ℕ). moved r.slots s states.Cancelled in record { slots = pending_slots (pending_slot (rn_of (slice.line z l.0) agent.0).pending) r change; port = pending_port (pending_slot (rn_of (slice.line z l.0) agent.0).pending) r change }
+on_slots z agent l steps.Start r = record { slots = refl; port = refl }
+on_slots z agent l steps.RecvSnp r = record { slots = refl; port = refl }
+on_slots z agent l steps.RecvSnpResp r = record { slots = refl; port = refl }
+on_slots z agent l steps.RecvData r = let change = λ (s : ℕ). set r.slots s (after_answer (slot_at r.slots s)) in record { slots = pending_slots (pending_slot (rn_of (slice.line z l.0) agent.0).pending) r change; port = pending_port (pending_slot (rn_of (slice.line z l.0) agent.0).pending) r change }
+on_slots z agent l steps.RecvComp r = let change = λ (s : ℕ). set r.slots s (after_answer (slot_at r.slots s)) in record { slots = pending_slots (pending_slot (rn_of (slice.line z l.0) agent.0).pending) r change; port = pending_port (pending_slot (rn_of (slice.line z l.0) agent.0).pending) r change }
+on_slots z agent l steps.RecvAck r = record { slots = refl; port = refl }
+on_slots z agent l steps.RecvDbid r = let change = λ (s : ℕ). set r.slots s (after_answer (slot_at r.slots s)) in record { slots = pending_slots (pending_slot (rn_of (slice.line z l.0) agent.0).pending) r change; port = pending_port (pending_slot (rn_of (slice.line z l.0) agent.0).pending) r change }
+on_slots z agent l steps.RecvWrData r = record { slots = refl; port = refl }
+
+-- the table's state after a step that completes nothing
+stepped_state : (y y' : SystemState) (action : Action) → y'.home ≡ acted y.home action → OthersStay y y' action.agent → requester_of y' action.agent.0 ≡ followed (place_at (slice_of y.home action.line.0) action) action.step (requester_of y action.agent.0)
+    → (machine_of y' ≡ with_action (machine_of y) action) × (ports_of y' ≡ ports_of y)
+stepped_state y y' action home others is =
+    let r : RequesterState = requester_of y action.agent.0 in
+    let z : SliceState = slice_of y.home action.line.0 in
+    let on : OnSlots z action.agent action.line action.step r = on_slots z action.agent action.line action.step r in
+    let slots : (requester_of y' action.agent.0).slots ≡ slots_after (machine_of y) action =
+    ap (λ (x : RequesterState). x.slots) is ∙ (on.slots ∙ ap (λ (x : List SlotRecord). (followed (place_at z action) action.step (record no_requester { slots = x })).slots) (sym (slots_at y action.agent))) in
+    let port : (requester_of y' action.agent.0).port ≡ r.port = ap (λ (x : RequesterState). x.port) is ∙ on.port in (
+      machine_seen_same y y' action.agent (slots_after (machine_of y) action) others slots (ap seen_counts port)
+          ∙ ap (λ (h : HomeState). record { home = h; accounts = set (machine_of y).accounts action.agent.0 (slots_after (machine_of y) action); seen = (machine_of y).seen }) home,
+      ports_same y y' action.agent others port,
+    )
+
+-- a step that completes a request
+completing_plays : (y y' : SystemState) (action : Action) (slot : Slot) (released : Released) → IsSystem y → action.agent.0 < y.home.config.agents → y'.home ≡ acted y.home action → OthersStay y y' action.agent
+    → Completes slot.0 released (requester_of y action.agent.0) (requester_of y' action.agent.0) → PlaysOn (completing (state_at (requester_of y action.agent.0).slots slot.0) (machine_of y) action slot) y y' (reply_text (replies.Completed slot released))
+completing_plays y y' action slot released k low home others c =
+    let m : Machine = machine_of y in
+    let r : RequesterState = requester_of y action.agent.0 in
+    let e : Entry = c.ended.0 in
+    let ended : List SlotRecord = set (slots_of m action.agent) slot.0 (after_finish (slot_at (slots_of m action.agent) slot.0)) in
+    let slots : (requester_of y' action.agent.0).slots ≡ ended =
+    ap (λ (x : RequesterState). x.slots) c.after ∙ ap (λ (x : List SlotRecord). set x slot.0 (after_finish (slot_at x slot.0))) (sym (slots_at y action.agent)) in
+    let state : machine_of y' ≡ with_end m action slot =
+    machine_seen_same y y' action.agent ended others slots (same_counts r.port (requester_of y' action.agent.0).port c.credits.1 c.credits.2)
+    ∙ ap (λ (h : HomeState). record { home = h; accounts = set m.accounts action.agent.0 ended; seen = m.seen }) home in
+    subst (λ (x : SlotState). PlaysOn (completing x m action slot) y y' (reply_text (replies.Completed slot released))) (sym c.ended.1) (
+      Went released ∷ [],
+      (
+        ports_of y',
+        at_port y action.agent (ports_of y') (requester_of y' action.agent.0).port (λ before after. Releases before e released after) k low (ports_after y y' action.agent others) (c.held e c.ended.1, c.ended.2),
+        (refl, state, refl),
+      ),
+    )
+
+done_plays : (y y' : SystemState) (action : Action) (effect : Effect) (o : Option Released) → IsSystem y → action.agent.0 < y.home.config.agents → y'.home ≡ acted y.home action → OthersStay y y' action.agent
+    → Finishes (place_at (slice_of y.home action.line.0) action) action.step effect o (requester_of y action.agent.0) (requester_of y' action.agent.0) → PlaysOn (done effect (machine_of y) action) y y' (reply_text (done_reply effect o))
+done_plays y y' action Nothing o k low home others h = let at = stepped_state y y' action home others h.1 in ([], (refl, at.0, at.1))
+done_plays y y' action (Value word) o k low home others h = let at = stepped_state y y' action home others h.1 in ([], (refl, at.0, at.1))
+done_plays y y' action (Completed slot) None k low home others h = absurd h.0
+done_plays y y' action (Completed slot) (Some released) k low home others h =
+    subst (λ (x : List SlotRecord). PlaysOn (completing (state_at x slot.0) (machine_of y) action slot) y y' (reply_text (replies.Completed slot released))) (sym (slots_at y action.agent))
+    (completing_plays y y' action slot released k low home others h.1)
+
+-- a step
+step_plays : (y y' : SystemState) (action : Action) (result : Result Stepped Refusal) → IsSystem y → refusal_of result ≡ step_refusal y action → IfOk result (λ stepped. StepsIn y y' action stepped) → OnErr result (y' ≡ y)
+    → PlaysOn (act (machine_of y) action) y y' (reply_text (step_reply result))
+step_plays y y' action (Err refusal) k h ok err = refused_plays y y' (act_refusal (machine_of y) action) refusal _ (h ∙ sym (act_same y action)) err
+step_plays y y' action (Ok stepped) k h ok err =
+    allowed_plays y y' (act_refusal (machine_of y) action) _ (reply_text (step_reply (Ok stepped))) (h ∙ sym (act_same y action))
+    (subst (λ (e : Effect). PlaysOn (done e (machine_of y) action) y y' (reply_text (done_reply stepped.effect stepped.released))) ok.effect
+    (done_plays y y' action stepped.effect stepped.released k (steps_low y action k h) ok.home ok.others ok.requester))
+
+-- an action that is none of an arrival's
+pub own_plays : (y y' : SystemState) (action : Action) (result : Result Stepped Refusal) → is_own_step action.step ≡ true → IsSystem y → refusal_of result ≡ step_refusal y action → IfOk result (λ stepped. StepsIn y y' action stepped) → OnErr result (y' ≡ y)
+    → PlaysOn (acting (is_own_step action.step) (machine_of y) action) y y' (reply_text (step_reply result))
+own_plays y y' action result own k h ok err = subst (λ (b : Bool). PlaysOn (acting b (machine_of y) action) y y' (reply_text (step_reply result))) (sym own) (step_plays y y' action result k h ok err)
+
+-- a turn that was played says its line, with its end
+pub said_on : (y y' : SystemState) (t : Turn) (said before after : List ℕ) → PlaysOn t y y' said → after ≡ before ++ (said ++ (10 ∷ [])) → SaysOn t y y' before after
+said_on y y' t said before after plays is = (plays.0, said, plays.1, is)
+
+-- a turn that ends at once, where it isn't refused
+pub shown_on : (y : SystemState) (o : Option Refusal) (said before after : List ℕ) → None ≡ o → after ≡ before ++ (said ++ (10 ∷ [])) → SaysOn (or_refused o (machine_of y) (Ends said (machine_of y))) y y before after
+shown_on y o said before after h is = said_on y y (or_refused o (machine_of y) (Ends said (machine_of y))) said before after (allowed_plays y y o (Ends said (machine_of y)) said h ([], (refl, refl, refl))) is
 
 -- what follows from what holds where a call succeeded
-pub on_ok : {T E : Type 0} (r : Result T E) {P Q : Type 0} → OnOk r P → (P → Q) → OnOk r Q
+on_ok : {T E : Type 0} (r : Result T E) {P Q : Type 0} → OnOk r P → (P → Q) → OnOk r Q
 on_ok (Ok value) h f = f h
 on_ok (Err error) h f = h
+
+-- a refusal that was put behind the text
+pub refused_on : (y y' : SystemState) (o : Option Refusal) (refusal : Refusal) (t : Turn) (before after : List ℕ) {T E : Type 0} (put : Result T E) → Some refusal ≡ o → y' ≡ y → OnOk put (after ≡ before ++ (reply_text (replies.Refused refusal) ++ (10 ∷ [])))
+    → OnOk put (SaysOn (or_refused o (machine_of y) t) y y' before after)
+refused_on y y' o refusal t before after put h same said = on_ok put said (said_on y y' (or_refused o (machine_of y) t) (reply_text (replies.Refused refusal)) before after (refused_plays y y' o refusal t h same))
+
+-- the numbers of entries
+pub glance_says : (y : SystemState) (free hand promised owed before after : List ℕ) → after ≡ before ++ (totals_text (record { free = free; hand = hand; promised = promised; owed = owed; profile = y.home.config.profile }) ++ (10 ∷ [])) → SaysOn (turn (machine_of y) commands.Totals) y y before after
+glance_says y free hand promised owed before after h = (Glanced free hand promised owed ∷ [], totals_text (record { free = free; hand = hand; promised = promised; owed = owed; profile = y.home.config.profile }), (ports_of y, refl, (refl, refl, refl)), h)
+
+-- an audit: the loads, the stores, and the verdict on the slices
+pub audit_says : (y : SystemState) (loads stores : ℕ) (coherent : Bool) (before after : List ℕ) → IsAudited y.home.slices loads stores coherent
+    → after ≡ before ++ (audit_text (record { loads = loads; stores = stores; coherent = coherent }) ++ (10 ∷ [])) → SaysOn (turn (machine_of y) commands.Audit) y y before after
+audit_says y loads stores coherent before after k h =
+    (Judged coherent ∷ [], audit_text (record { loads = loads; stores = stores; coherent = coherent }), (ports_of y, (k.coherent, refl), (ap (λ n. audit_text (record { loads = n; stores = stores; coherent = coherent })) k.loads ∙ ap (λ n. audit_text (record { loads = loads_in y.home.slices; stores = n; coherent = coherent })) k.stores, refl, refl)), h)

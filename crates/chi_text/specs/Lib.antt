@@ -1,6 +1,5 @@
-pub mod Home
-pub mod Slots
 pub mod Ports
 pub mod Turns
 pub mod Texts
+pub mod Told
 pub mod Session

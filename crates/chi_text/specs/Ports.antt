@@ -1,12 +1,17 @@
--- What a claim does to the view of the port that claims (docs/PROTOCOL.md, "Steps of the tracker").
-use Rattle.std.specs.Prelude.{◌≡◌, ℕ, ◌-◌, Option, Some, None}
+-- What each call does to the view of the port that is called, and what it answers (docs/PROTOCOL.md, "Steps
+-- of the tracker").
+use Rattle.std.specs.Prelude.{◌≡◌, ℕ, ◌-◌, ◌<◌, ◌≤◌, List, [], ◌∷◌, Option, Some, None}
 use Rattle.std.specs.Int.{bit_at}
 use Rattle.chi_flit.specs.declared.numbers.Entry.{Entry}
 use Rattle.chi_flit.specs.declared.credit.CreditType.{CreditType}
 use Rattle.chi_flit.specs.Credit.{credit_number}
+use Rattle.chi_tracker.specs.declared.released.Released.{Released}
+use Rattle.chi_tracker.specs.Sums.{set_at}
 use Rattle.chi_tracker.specs.Shape.{IsOf, low, size}
 use Rattle.chi_tracker.specs.Views.{PortView, has}
-use Rattle.chi_tracker.specs.Calls.{into_hand, scanned}
+use Rattle.chi_tracker.specs.Steps.{returns_credit, spends}
+use Rattle.chi_tracker.specs.Calls.{Ended, IsLowestSeen, into_hand, owed_one, saw_all, scanned, seen_of}
+use Rattle.chi_tracker.specs.Calls as calls
 
 -- An entry of the type that wasn't in hand comes to hand, in a scan that found the lower entries of the
 -- type claimed; or none does, in a scan that found each entry of the type claimed.
@@ -15,3 +20,31 @@ Claims before ty (Some entry) after = IsOf before.shape (credit_number ty) entry
     × (after ≡ into_hand entry.0 (scanned (credit_number ty) (entry.0 - low before.shape (credit_number ty)) before))
 Claims before ty None after = (after ≡ scanned (credit_number ty) (size before.shape (credit_number ty)) before)
     × ((entry : ℕ) → IsOf before.shape (credit_number ty) entry → bit_at after.found entry ≡ 1)
+
+-- one credit more of the type is owed
+abbrev pub Owes : PortView → CreditType → PortView → Type 0
+Owes before ty after = after ≡ owed_one (credit_number ty) before
+
+-- the lowest seen credit of the type is spent: its entry comes to hand
+abbrev pub Spends : PortView → CreditType → Entry → PortView → Type 0
+Spends before ty entry after = IsLowestSeen before (credit_number ty) entry.0 × (has entry.0 before ≡ 0) × (after ≡ spends (credit_number ty) entry.0 before)
+
+-- an entry that is in hand leaves it: it is promised on to who is owed a credit of its type, or freed
+abbrev pub Releases : PortView → Entry → Released → PortView → Type 0
+Releases before entry released after = (has entry.0 before ≡ 1) × ((t : ℕ) × (t < 4) × IsOf before.shape t entry.0 × Ended before t entry.0 released after)
+
+-- a port's seen credits by type
+abbrev pub seen_counts : PortView → List ℕ
+seen_counts p = seen_of p 0 ∷ seen_of p 1 ∷ seen_of p 2 ∷ seen_of p 3 ∷ []
+
+-- the port looks at what is promised to it, and what it had seen stays seen; the answer counts it by type
+abbrev pub Sees : PortView → List ℕ → PortView → Type 0
+Sees before counts after = (after ≡ saw_all after.seen before) × ((e : ℕ) → e < 256 → set_at before.seen e ≤ set_at after.seen e) × (counts ≡ seen_counts after)
+
+-- the lowest seen credit of the type is returned, and its entry promised on, or freed
+abbrev pub GivesBack : PortView → CreditType → Released → PortView → Type 0
+GivesBack before ty released after = (e : ℕ) × IsLowestSeen before (credit_number ty) e × (has e before ≡ 0) × Ended (returns_credit (credit_number ty) e before) (credit_number ty) e released after
+
+-- a free entry of the type is claimed and released, or none is
+abbrev pub Tends : PortView → CreditType → Option Released → PortView → Type 0
+Tends before ty released after = calls.Tended before (credit_number ty) released after

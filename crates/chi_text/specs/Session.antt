@@ -1,23 +1,23 @@
--- A node that commands are played on: the state of the table of the commands, and the views of the
--- requesters' ports to the tracker.
-use Rattle.std.specs.Prelude.{◌≡◌, ℕ, ◌<◌, List, Some, length, true}
-use Rattle.chi_flit.specs.declared.numbers.Entry.{Entry}
-use Rattle.chi_slice.specs.Config.{are_in_limits}
-use Rattle.chi_tracker.specs.Views.{PortView, has}
-use Rattle.chi_tracker.specs.Calls.{shape_of}
-use Rattle.chi_tracker.specs.Laws.{port_at}
-use Rattle.chi_text.specs.Turns.{Machine}
-use Rattle.chi_text.specs.Slots.{entry_of}
+-- A node that commands are played on, as the table of the commands sees it.
+use Rattle.std.specs.Prelude.{ℕ, List, map}
+use Rattle.chi_tracker.specs.Views.{PortView}
+use Rattle.chi_system.specs.System.{SystemState}
+use Rattle.chi_text.specs.Ports.{seen_counts}
+use Rattle.chi_text.specs.Turns.{Answer, Machine, Turn}
+use Rattle.chi_text.specs.Texts.{Plays, Says}
 
-pub record SessionState : Type 0 where
-  pub machine : Machine
-  pub ports : List PortView
+-- its state in the table: the slices, and each requester's slots and seen credits
+abbrev pub machine_of : SystemState → Machine
+machine_of y = record { home = y.home; accounts = map (λ r. r.slots) y.requesters; seen = map (λ r. seen_counts r.port) y.requesters }
 
--- The entries of an agent's slots are in the hand of its port, and different slots have different
--- entries; each requester of the node, whose sizes are in their limits, has a port to the node's entries.
-pub record IsHeld (s : SessionState) : Type 0 where
-  pub held : (n slot : ℕ) (entry : Entry) → entry_of s.machine.entries n slot ≡ Some entry → has entry.0 (port_at s.ports n) ≡ 1
-  pub apart : (n slot other : ℕ) (entry same : Entry) → entry_of s.machine.entries n slot ≡ Some entry → entry_of s.machine.entries n other ≡ Some same → entry.0 ≡ same.0 → slot ≡ other
-  pub all : length s.ports ≡ s.machine.home.config.agents
-  pub shapes : (n : ℕ) → n < length s.ports → (port_at s.ports n).shape ≡ shape_of s.machine.home.config.entries s.machine.home.config.agents
-  pub limits : are_in_limits s.machine.home.config ≡ true
+-- the views of its requesters' ports
+abbrev pub ports_of : SystemState → List PortView
+ports_of y = map (λ r. r.port) y.requesters
+
+-- a turn was played on a node, which went on so, and said this
+abbrev pub PlaysOn : Turn → SystemState → SystemState → List ℕ → Type 0
+PlaysOn played y y' said = (answers : List Answer) × Plays played (ports_of y) answers said (machine_of y') (ports_of y')
+
+-- and its line, with its end, was put behind the bytes
+abbrev pub SaysOn : Turn → SystemState → SystemState → List ℕ → List ℕ → Type 0
+SaysOn played y y' before after = Says played (ports_of y) (machine_of y') (ports_of y') before after

@@ -1,14 +1,14 @@
 -- The text of a list of commands, under the tracker's answers, and which answers are allowed
 -- (docs/PROTOCOL.md, "Replay files").
 use Rattle.std.specs.Prelude.{◌≡◌, ◌↔◌, ℕ, All, IsTrue, List, [], ◌∷◌, ◌++◌, Some, slice_get, slice_set}
+use Rattle.chi_flit.specs.declared.numbers.Agent.{Agent}
 use Rattle.chi_script.specs.declared.commands.Command.{Command}
 use Rattle.chi_audit.specs.Slices.{IsCoherentSlice}
 use Rattle.chi_slice.specs.Config.{Sizes}
-use Rattle.chi_tracker.specs.Views.{PortView, has, new_ports}
-use Rattle.chi_tracker.specs.Steps.{frees}
+use Rattle.chi_tracker.specs.Views.{PortView, new_ports}
 use Rattle.chi_tracker.specs.Calls.{shape_of}
-use Rattle.chi_text.specs.Ports.{Claims}
-use Rattle.chi_text.specs.Turns.{Answer, Call, Claim, Claimed, Free, Freed, Glance, Glanced, Judge, Judged, Turn, Asks, Ends, Machine, opening, turn}
+use Rattle.chi_text.specs.Ports.{Claims, GivesBack, Owes, Releases, Sees, Spends, Tends}
+use Rattle.chi_text.specs.Turns.{Answer, Call, Claim, Claimed, GiveBack, Glance, Glanced, Judge, Judged, Owe, Owed, Release, See, Saw, Spend, Spent, Tend, Tended, Went, Turn, Asks, Ends, Machine, opening, turn}
 
 -- the line that a turn says, the state that it leaves, and the answers that it leaves over
 pub record Made : Type 0 where
@@ -19,7 +19,7 @@ pub record Made : Type 0 where
 -- a turn under the next answers; a turn that lacks an answer says nothing more
 abbrev pub made : Turn → List Answer → Made
 made (Ends said m) answers = record { said = said; state = m; left = answers }
-made (Asks call next) [] = made (next Freed) []
+made (Asks call next) [] = made (next Owed) []
 made (Asks call next) (answer ∷ answers) = made (next answer) answers
 
 -- a line for each command
@@ -27,26 +27,24 @@ abbrev pub text : Machine → List Command → List Answer → List ℕ
 text m [] answers = []
 text m (command ∷ rest) answers = (made (turn m command) answers).said ++ (10 ∷ text (made (turn m command) answers).state rest (made (turn m command) answers).left)
 
--- what may be answered to a call, and the views of the ports then. The tracker's answers: the port of the
--- agent, which has one, goes on by the clause of the call, and the other ports stay; a glance may show any
--- numbers. A verdict is that on the slices.
+-- the port of the agent, which has one, goes on so, and the other ports stay
+abbrev pub AtPort : Agent → List PortView → List PortView → (PortView → PortView → Type 0) → Type 0
+AtPort agent old new Goes = (before after : PortView) × (slice_get old agent.0 ≡ Some before) × Goes before after × (new ≡ slice_set old agent.0 after)
+
+-- what may be answered to a call, and the views of the ports then. The tracker's answers: the agent's port
+-- goes on by the clause of the call; a glance may show any numbers. A verdict is that on the slices. No call
+-- has an answer of another kind.
 abbrev pub Permits : List PortView → Call → Answer → List PortView → Type 0
-Permits old (Claim agent ty) (Claimed claim) new = (before after : PortView) × (slice_get old agent.0 ≡ Some before) × Claims before ty claim after × (new ≡ slice_set old agent.0 after)
-Permits old (Claim agent ty) Freed new = ⊥
-Permits old (Claim agent ty) (Glanced free hand promised owed) new = ⊥
-Permits old (Claim agent ty) (Judged coherent) new = ⊥
-Permits old (Free agent entry) (Claimed claim) new = ⊥
-Permits old (Free agent entry) Freed new = (before : PortView) × (slice_get old agent.0 ≡ Some before) × (has entry.0 before ≡ 1) × (new ≡ slice_set old agent.0 (frees entry.0 before))
-Permits old (Free agent entry) (Glanced free hand promised owed) new = ⊥
-Permits old (Free agent entry) (Judged coherent) new = ⊥
-Permits old Glance (Claimed claim) new = ⊥
-Permits old Glance Freed new = ⊥
+Permits old (Claim agent ty) (Claimed claim) new = AtPort agent old new (λ before after. Claims before ty claim after)
+Permits old (Owe agent ty) Owed new = AtPort agent old new (λ before after. Owes before ty after)
+Permits old (Spend agent ty) (Spent entry) new = AtPort agent old new (λ before after. Spends before ty entry after)
+Permits old (Release agent entry) (Went released) new = AtPort agent old new (λ before after. Releases before entry released after)
+Permits old (See agent) (Saw counts) new = AtPort agent old new (λ before after. Sees before counts after)
+Permits old (GiveBack agent ty) (Went released) new = AtPort agent old new (λ before after. GivesBack before ty released after)
+Permits old (Tend agent ty) (Tended released) new = AtPort agent old new (λ before after. Tends before ty released after)
 Permits old Glance (Glanced free hand promised owed) new = new ≡ old
-Permits old Glance (Judged coherent) new = ⊥
-Permits old (Judge slices) (Claimed claim) new = ⊥
-Permits old (Judge slices) Freed new = ⊥
-Permits old (Judge slices) (Glanced free hand promised owed) new = ⊥
 Permits old (Judge slices) (Judged coherent) new = (IsTrue coherent ↔ All IsCoherentSlice slices) × (new ≡ old)
+Permits old call other new = ⊥
 
 -- a turn, played with just these answers
 abbrev pub Plays : Turn → List PortView → List Answer → List ℕ → Machine → List PortView → Type 0

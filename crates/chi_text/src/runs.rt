@@ -3,10 +3,11 @@
 ghost use Rattle.std.specs.Prelude.{IfOk, string_bytes};
 ghost use Rattle.chi_text.specs.Texts.{IsText};
 
-use crate::session::Session;
+use crate::session::answer;
 use chi_flit::NoMemory;
 use chi_script::Command;
 use chi_slice::Config;
+use chi_system::System;
 use std::alloc::Allocator;
 
 /// Plays the commands on a new node of that size, and answers the text of their answers, a line for each
@@ -21,10 +22,10 @@ pub fn run<A: Allocator + Copy>(
 ) -> Result<String<A>, NoMemory>
     ensures { IfOk result (λ text. IsText config.now commands.now (string_bytes text)) }
 {
-    let mut session = Session::new(alloc, config)?;
+    let mut system = System::new(alloc, config)?;
     let mut text = String::new(alloc);
     for command in commands {
-        session.answer(*command, &mut text)?;
+        answer(&mut system, *command, &mut text)?;
     }
     Ok(text)
 }

@@ -1,5 +1,5 @@
-use super::*;
-use chi_flit::{Action, Agent, Kind, Line, NoMemory, Slot, Step, WordNo};
+use crate::run;
+use chi_flit::{Action, Agent, CreditType, Kind, Line, NoMemory, Slot, Step, WordNo};
 use chi_script::Command;
 use chi_slice::Config;
 
@@ -22,11 +22,33 @@ fn commands_are_answered_line_by_line(rt: HostRuntime) -> Result<(), NoMemory> {
                 text.as_str(),
                 "ok loads 0 stores 0 coherent\nok free 1 1 hand 0 0 promised 0 0 owed 0 0\nok none\nrefused 7 NoFlit\nrefused 10 OutOfRange\n"
             );
-            let mut session = Session::new(rt.alloc(), &config)?;
-            let mut text = String::new(rt.alloc());
-            session.answer(Command::Flits { agent, line }, &mut text)?;
-            session.answer(Command::Show { line: Line(255) }, &mut text)?;
-            assert_eq!(rt; text.as_str(), "ok none\nrefused 10 OutOfRange\n");
+        }
+    }
+    Ok(())
+}
+
+#[test]
+fn calls_of_credits_are_answered(rt: HostRuntime) -> Result<(), NoMemory> {
+    let (agent, stranger) = (Agent(0), Agent(1));
+    let credit = Some(CreditType::T1);
+    match Config::new(1, 1, 1, 1, 1, 4) {
+        None => assert!(rt; false),
+        Some(config) => {
+            let commands = [
+                Command::See { agent },
+                Command::See { agent: stranger },
+                Command::GiveBack { agent, credit },
+                Command::Tend { agent, credit },
+                Command::Tend {
+                    agent,
+                    credit: None,
+                },
+            ];
+            let text = run(rt.alloc(), &config, &commands)?;
+            assert_eq!(rt;
+                text.as_str(),
+                "ok credits 0 0\nrefused 10 OutOfRange\nrefused 12 NoCredit\nok idle\nrefused 10 OutOfRange\n"
+            );
         }
     }
     Ok(())

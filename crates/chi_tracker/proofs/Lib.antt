@@ -1,6 +1,6 @@
 mod Adding
 pub mod BitLaws
-mod Entries
+pub mod Entries
 mod Moving
 mod Written
 mod Places

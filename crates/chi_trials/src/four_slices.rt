@@ -2,7 +2,7 @@
 
 ghost use Rattle.std.specs.Prelude.{◌≡◌};
 
-use chi_flit::{Agent, Kind, Line, NO_DATA, Slot};
+use chi_flit::{Agent, Kind, Line, NO_DATA, Refusal, Slot};
 use chi_homeline::Serving;
 use chi_slice::{Action, Config, CopyView, Effect, LineView, Slice, Step};
 use chi_wires::Cells;
@@ -86,10 +86,35 @@ pub fn slice_one(rt: &impl Abort, alloc: Global) -> Slice<Global> {
     Slice::new(alloc, &node(rt), 1).expect(rt, "memory for a slice")
 }
 
+/// What the action is answered.
+pub fn answered(
+    rt: &impl Abort,
+    slice: &mut Slice<Global>,
+    action: Action,
+    wanted: Result<Effect, Refusal>,
+) {
+    assert_eq!(rt; slice.act(action), wanted, "{action:?}");
+}
+
+/// The slot that the action would complete.
+pub fn would_complete(
+    rt: &impl Abort,
+    slice: &Slice<Global>,
+    action: Action,
+    wanted: Option<Slot>,
+) {
+    assert_eq!(rt; slice.completes(action), wanted, "{action:?}");
+}
+
+/// What is shown of a line.
+pub fn shows(rt: &impl Abort, slice: &Slice<Global>, line: Line, wanted: LineView) {
+    assert_eq!(rt; slice.view(line), Ok(wanted), "{line:?}");
+}
+
 /// The slice does all of these, and none completes a request.
 pub fn does_all(rt: &impl Abort, slice: &mut Slice<Global>, actions: &[Action]) {
     for action in actions {
-        assert_eq!(rt; slice.act(*action), Ok(Effect::Nothing), "{action:?}");
+        answered(rt, slice, *action, Ok(Effect::Nothing));
     }
 }
 
@@ -101,5 +126,5 @@ pub fn reads(rt: &impl Abort, slice: &mut Slice<Global>, kind: Kind, slot: Slot)
         slice,
         &[read, admit(READER), start(READER), data(READER)],
     );
-    assert_eq!(rt; slice.act(ack(READER)), Ok(Effect::Completed(slot)));
+    answered(rt, slice, ack(READER), Ok(Effect::Completed(slot)));
 }

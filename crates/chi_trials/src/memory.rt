@@ -1,28 +1,45 @@
 //! A slice takes no memory once it was made.
 
-use crate::moves::{LINE, at, node};
-use crate::runs::SNOOP_CROSSES_WRITE_BACK;
+use crate::moves::{LINE, answer, at, look, node, recorded};
+use crate::runs::{Move, SNOOP_CROSSES_WRITE_BACK};
 use chi_slice::Slice;
 use linked_list_allocator::LocalHeap;
-use std::alloc::AllocError;
+use std::alloc::{AllocError, Allocator, Global};
+use std::process::Abort;
+
+/// A slice of one line in this memory.
+fn slice_in<A: Allocator + Copy>(rt: &impl Abort, alloc: A) -> Slice<A> {
+    let config = node(rt, 2, 1, 8);
+    Slice::new(alloc, &config, 0).expect(rt, "memory for a slice")
+}
+
+/// The slice answers each move as it says.
+fn runs<A: Allocator>(rt: &impl Abort, slice: &mut Slice<A>, moves: &[Move]) {
+    for (agent, step, wanted) in moves {
+        let done = answer(slice, at(*agent, *step));
+        assert_eq!(rt; done, *wanted, "agent {agent} does {step:?}");
+        assert!(rt; look(slice, LINE).is_ok());
+    }
+}
+
+/// How much memory such a slice takes.
+fn size_of_slice(rt: &impl Abort, alloc: Global) -> Result<usize, AllocError> {
+    let heap = LocalHeap::new(alloc, 16_384)?;
+    let slice = slice_in(rt, &heap);
+    assert_eq!(rt; slice.index(), 0);
+    Ok(heap.used())
+}
 
 #[test]
 fn a_slice_runs_where_all_memory_is_used(rt: HostRuntime) -> Result<(), AllocError> {
-    let config = node(&rt, 2, 1, 8);
-    let large = LocalHeap::new(rt.alloc(), 16_384)?;
-    let measured = Slice::new(&large, &config, 0).expect(&rt, "memory for a slice");
-    let size = large.used();
-    assert_eq!(rt; measured.index(), 0);
+    let size = size_of_slice(&rt, rt.alloc())?;
     let heap = LocalHeap::new(rt.alloc(), size)?;
-    let mut slice = Slice::new(&heap, &config, 0).expect(&rt, "memory for a slice");
+    let mut slice = slice_in(&rt, &heap);
     assert_eq!(rt; heap.used(), size);
     assert!(rt; Box::new(&heap, 0u8).is_err());
-    for (agent, step, answer) in SNOOP_CROSSES_WRITE_BACK {
-        let done = slice.act(at(agent, step));
-        assert_eq!(rt; done, answer, "agent {agent} does {step:?}");
-        assert!(rt; slice.view(LINE).is_ok());
-    }
+    // loads, stores, snoops and write data
+    runs(&rt, &mut slice, &SNOOP_CROSSES_WRITE_BACK);
+    assert_eq!(rt; recorded(&slice), 3);
     assert!(rt; Box::new(&heap, 0u8).is_err());
-    assert_eq!(rt; slice.journal().len(), 3);
     Ok(())
 }

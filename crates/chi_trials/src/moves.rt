@@ -2,9 +2,9 @@
 
 ghost use Rattle.std.specs.Prelude.{◌≡◌};
 
-use chi_flit::{Agent, Kind, Line, Slot, State, WordNo};
-use chi_slice::{Action, Config, LineView, Slice, Step};
-use std::alloc::Global;
+use chi_flit::{Agent, Kind, Line, Refusal, Slot, State, WordNo};
+use chi_slice::{Action, Config, Effect, LineView, Slice, Step};
+use std::alloc::{Allocator, Global};
 use std::process::Abort;
 
 /// The line of every move.
@@ -38,14 +38,30 @@ pub fn at(agent: u8, step: Step) -> Action {
     }
 }
 
+/// What the slice answers to the action. A call of its own, so that a test doesn't carry along what each
+/// action promises; so are the other questions that the tests ask often.
+pub fn answer<A: Allocator>(slice: &mut Slice<A>, action: Action) -> Result<Effect, Refusal> {
+    slice.act(action)
+}
+
+/// A line as it is shown.
+pub fn look<A: Allocator>(slice: &Slice<A>, line: Line) -> Result<LineView, Refusal> {
+    slice.view(line)
+}
+
+/// How many loads and stores the journal has.
+pub fn recorded<A: Allocator>(slice: &Slice<A>) -> usize {
+    slice.journal().len()
+}
+
 /// Line 0 as it is shown.
 pub fn view(rt: &impl Abort, slice: &Slice<Global>) -> LineView {
-    slice.view(LINE).expect(rt, "line 0 is in the slice")
+    look(slice, LINE).expect(rt, "line 0 is in the slice")
 }
 
 /// The agent does the step at line 0, which isn't refused.
 pub fn does(rt: &impl Abort, slice: &mut Slice<Global>, agent: u8, step: Step) {
-    let done = slice.act(at(agent, step));
+    let done = answer(slice, at(agent, step));
     assert!(rt; done.is_ok(), "agent {agent} does {step:?}: {done:?}");
 }
 

@@ -1,23 +1,31 @@
 //! Each refusal of each action (`docs/PROTOCOL.md`, "The actions"), in its order, and that nothing is
 //! changed by it.
 
-use crate::moves::{LINE, answers, asks, at, brings, does, reads, slice_of, takes_data, waits};
+use crate::moves::{
+    LINE, answer, answers, asks, at, brings, does, look, reads, recorded, slice_of, takes_data,
+    waits,
+};
 use chi_flit::{Agent, Kind, Line, Slot, State, WordNo};
 use chi_slice::{Action, Slice, Step};
 use std::alloc::Global;
 use std::process::Abort;
 
-/// The slice refuses the action with this number, and is left as it was.
-fn refuses(rt: &impl Abort, slice: &mut Slice<Global>, action: Action, number: u8) {
-    let (here, there) = (slice.view(LINE), slice.view(Line(1)));
-    let length = slice.journal().len();
+/// The slice says that it would refuse the action with this number, and does so.
+fn is_refused(rt: &impl Abort, slice: &mut Slice<Global>, action: Action, number: u8) {
     let told = slice.refusal(action, false).map(|refusal| refusal.number());
     assert_eq!(rt; told, Some(number), "{action:?}");
-    let refusal = slice.act(action).err().map(|refusal| refusal.number());
+    let refusal = answer(slice, action).err().map(|refusal| refusal.number());
     assert_eq!(rt; refusal, Some(number), "{action:?}");
-    assert_eq!(rt; slice.view(LINE), here);
-    assert_eq!(rt; slice.view(Line(1)), there);
-    assert_eq!(rt; slice.journal().len(), length);
+}
+
+/// The slice refuses the action with this number, and is left as it was.
+fn refuses(rt: &impl Abort, slice: &mut Slice<Global>, action: Action, number: u8) {
+    let (here, there) = (look(slice, LINE), look(slice, Line(1)));
+    let length = recorded(slice);
+    is_refused(rt, slice, action, number);
+    assert_eq!(rt; look(slice, LINE), here);
+    assert_eq!(rt; look(slice, Line(1)), there);
+    assert_eq!(rt; recorded(slice), length);
 }
 
 /// All these are refused at line 0.

@@ -1,6 +1,6 @@
 //! Whatever is refused leaves the slice as it was, after every beginning of the worked runs.
 
-use crate::moves::{LINE, at, slice_of};
+use crate::moves::{LINE, answer, at, look, slice_of};
 use crate::runs::{Move, RUNS};
 use chi_flit::{Agent, Kind, Line, Slot, WordNo};
 use chi_slice::{Action, Slice, Step};
@@ -53,7 +53,7 @@ impl Begun<'_> {
     fn slice(&self, rt: &impl Abort, alloc: Global) -> Slice<Global> {
         let mut slice = slice_of(rt, alloc, self.agents, self.lines, 8);
         for (agent, step, _) in self.moves {
-            let _ = slice.act(at(*agent, *step));
+            let _ = answer(&mut slice, at(*agent, *step));
         }
         slice
     }
@@ -68,13 +68,18 @@ fn tries(
     action: Action,
 ) {
     let mut slice = begun.slice(rt, alloc);
-    if slice.act(action).is_ok() {
+    if answer(&mut slice, action).is_ok() {
         return;
     }
-    assert_eq!(rt; slice.view(LINE), left_alone.view(LINE), "{action:?}");
-    assert_eq!(rt; slice.view(Line(1)), left_alone.view(Line(1)), "{action:?}");
+    shows_the_same(rt, &slice, left_alone, LINE);
+    shows_the_same(rt, &slice, left_alone, Line(1));
     let records = slice.journal().records();
     assert_eq!(rt; records, left_alone.journal().records(), "{action:?}");
+}
+
+/// Both slices show the same of the line.
+fn shows_the_same(rt: &impl Abort, slice: &Slice<Global>, other: &Slice<Global>, line: Line) {
+    assert_eq!(rt; look(slice, line), look(other, line), "{line:?}");
 }
 
 /// Tries every step of an agent at a line, with slots inside and outside their range.

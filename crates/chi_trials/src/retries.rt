@@ -2,10 +2,11 @@
 
 ghost use Rattle.std.specs.Prelude.{◌≡◌};
 
-use crate::moves::{at, brings, does, slice_of, view};
+use crate::moves::{answer, at, brings, does, slice_of, view};
 use chi_flit::CreditType::{self, T0, T1, T2, T3};
 use chi_flit::{Kind, Refusal, RspDown, Slot, State};
 use chi_slice::{Config, Effect, Slice, Step};
+use std::alloc::Global;
 use std::process::Abort;
 
 #[test]
@@ -17,10 +18,12 @@ fn a_resent_request_must_be_accepted(rt: HostRuntime) {
         Step::RecvRetry,
         Step::Resend,
     ] {
-        assert_eq!(rt; slice.act(at(0, step)), Ok(Effect::Nothing), "{step:?}");
+        does(&rt, &mut slice, 0, step);
     }
-    assert_eq!(rt; slice.act(at(0, Step::Retry)), Err(Refusal::MustAccept));
-    assert_eq!(rt; slice.act(at(0, Step::Admit)), Ok(Effect::Nothing));
+    let refused = answer(&mut slice, at(0, Step::Retry));
+    assert_eq!(rt; refused, Err(Refusal::MustAccept));
+    let done = answer(&mut slice, at(0, Step::Admit));
+    assert_eq!(rt; done, Ok(Effect::Nothing));
 }
 
 /// Each kind, a state in which it may be issued, and its credit type among two and among four.
@@ -42,6 +45,14 @@ fn node_of_four(rt: &impl Abort) -> Config
     Config::four(2, 1, 1, [1, 1, 1, 1], 4).expect(rt, "sizes in their limits")
 }
 
+/// Agent 0's request of the kind is answered by a RetryAck of the type.
+fn is_retried_for(rt: &impl Abort, slice: &mut Slice<Global>, kind: Kind, ty: CreditType) {
+    does(rt, slice, 0, Step::Issue(kind, Slot(0)));
+    does(rt, slice, 0, Step::Retry);
+    let sent = view(rt, slice).flits[0].rsp_down;
+    assert_eq!(rt; sent, Some(RspDown::RetryAck(ty)), "{kind:?}");
+}
+
 #[test]
 fn a_retry_names_the_credit_type_of_the_kind(rt: HostRuntime) {
     for (kind, state, two, four) in TYPES {
@@ -50,10 +61,7 @@ fn a_retry_names_the_credit_type_of_the_kind(rt: HostRuntime) {
         let of_four = Slice::new(rt.alloc(), &config, 0).expect(&rt, "memory for a slice");
         for (mut slice, ty) in [(of_two, two), (of_four, four)] {
             brings(&rt, &mut slice, state);
-            does(&rt, &mut slice, 0, Step::Issue(kind, Slot(0)));
-            does(&rt, &mut slice, 0, Step::Retry);
-            let sent = view(&rt, &slice).flits[0].rsp_down;
-            assert_eq!(rt; sent, Some(RspDown::RetryAck(ty)), "{kind:?}");
+            is_retried_for(&rt, &mut slice, kind, ty);
         }
     }
 }

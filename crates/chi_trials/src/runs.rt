@@ -1,6 +1,6 @@
 //! Worked runs at line 0, each action with its answer.
 
-use crate::moves::{LINE, at, slice_of};
+use crate::moves::{LINE, answer, at, look, slice_of};
 use chi_flit::Kind::{ReadNotSharedDirty, ReadShared, ReadUnique, WriteBackFull, WriteCleanFull};
 use chi_flit::{Refusal, Slot, WordNo};
 use chi_slice::Effect::{Completed, Nothing, Value};
@@ -8,8 +8,9 @@ use chi_slice::Step::{
     self, Admit, Drop, Issue, Load, RecvAck, RecvData, RecvDbid, RecvSnp, RecvSnpResp, RecvWrData,
     Start, Store,
 };
-use chi_slice::{Action, Effect};
-use std::alloc::{AllocError, Global};
+use chi_slice::{Action, Effect, Slice};
+use std::alloc::Global;
+use std::process::Abort;
 
 /// An agent's step at line 0, and what it is answered.
 pub type Move = (u8, Step, Result<Effect, Refusal>);
@@ -134,53 +135,74 @@ pub const RUNS: [Run; 4] = [
 fn every_move_is_answered_as_it_says(rt: HostRuntime) {
     for run in RUNS {
         let mut slice = slice_of(&rt, rt.alloc(), run.agents, 1, 8);
-        for (agent, step, answer) in run.moves {
-            let done = slice.act(at(*agent, *step));
-            assert_eq!(rt; done, *answer, "agent {agent} does {step:?}");
+        for (agent, step, wanted) in run.moves {
+            let done = answer(&mut slice, at(*agent, *step));
+            assert_eq!(rt; done, *wanted, "agent {agent} does {step:?}");
         }
     }
 }
 
-/// The actions of a run, and then the same ones again, of which some are refused.
-fn twice(alloc: Global, run: Run) -> Result<Vec<Action>, AllocError> {
+/// The actions of a run, so many times over; of those that come again some are refused.
+fn actions_of(rt: &impl Abort, alloc: Global, run: Run, times: u8) -> Vec<Action> {
     let mut actions = Vec::new(alloc);
-    for _ in 0..2 {
+    for _ in 0..times {
         for (agent, step, _) in run.moves {
-            actions.push(at(*agent, *step))?;
+            actions
+                .push(at(*agent, *step))
+                .expect(rt, "memory for actions");
         }
     }
-    Ok(actions)
+    actions
+}
+
+/// Tries the actions one by one, and answers how many were done.
+fn in_turn(rt: &impl Abort, alloc: Global, slice: &mut Slice<Global>, actions: &[Action]) -> usize {
+    let mut answers = Vec::new(alloc);
+    for action in actions {
+        answers
+            .push(answer(slice, *action))
+            .expect(rt, "memory for answers");
+    }
+    answers.iter().filter(|answer| answer.is_ok()).count()
+}
+
+/// How many of the actions a run does.
+fn done_by(slice: &mut Slice<Global>, actions: &[Action]) -> usize {
+    slice.run(actions)
+}
+
+/// Both slices show the same, and have the same journal.
+fn are_alike(rt: &impl Abort, one: &Slice<Global>, other: &Slice<Global>) {
+    assert_eq!(rt; look(one, LINE), look(other, LINE));
+    let records = one.journal().records();
+    assert_eq!(rt; records, other.journal().records());
+}
+
+/// The actions at once and one by one: as many are done, some are not, and the slices are alike.
+fn runs_alike(rt: &impl Abort, alloc: Global, run: Run, actions: &[Action]) {
+    let mut at_once = slice_of(rt, alloc, run.agents, 1, 8);
+    let mut one_by_one = slice_of(rt, alloc, run.agents, 1, 8);
+    let done = in_turn(rt, alloc, &mut one_by_one, actions);
+    assert!(rt; done < actions.len());
+    assert_eq!(rt; done_by(&mut at_once, actions), done);
+    are_alike(rt, &at_once, &one_by_one);
+    assert_eq!(rt; done_by(&mut at_once, &[]), 0);
+    are_alike(rt, &at_once, &one_by_one);
 }
 
 #[test]
-fn a_run_leaves_what_its_actions_leave_in_turn(rt: HostRuntime) -> Result<(), AllocError> {
+fn a_run_leaves_what_its_actions_leave_in_turn(rt: HostRuntime) {
     for run in RUNS {
-        let actions = twice(rt.alloc(), run)?;
-        let mut at_once = slice_of(&rt, rt.alloc(), run.agents, 1, 8);
-        let mut in_turn = slice_of(&rt, rt.alloc(), run.agents, 1, 8);
-        let mut answers = Vec::new(rt.alloc());
-        for action in &actions {
-            answers.push(in_turn.act(*action))?;
-        }
-        let done = answers.iter().filter(|answer| answer.is_ok()).count();
-        assert!(rt; done < actions.len());
-        assert_eq!(rt; at_once.run(&actions), done);
-        assert_eq!(rt; at_once.view(LINE), in_turn.view(LINE));
-        let records = at_once.journal().records();
-        assert_eq!(rt; records, in_turn.journal().records());
-        assert_eq!(rt; at_once.run(&[]), 0);
-        assert_eq!(rt; at_once.view(LINE), in_turn.view(LINE));
+        let actions = actions_of(&rt, rt.alloc(), run, 2);
+        runs_alike(&rt, rt.alloc(), run, &actions);
     }
-    Ok(())
 }
 
 #[test]
-fn a_run_counts_what_was_done(rt: HostRuntime) -> Result<(), AllocError> {
+fn a_run_counts_what_was_done(rt: HostRuntime) {
     for (run, wanted) in [(RUNS[0], 14), (RUNS[1], 20), (RUNS[2], 12), (RUNS[3], 21)] {
-        let actions = twice(rt.alloc(), run)?;
+        let actions = actions_of(&rt, rt.alloc(), run, 1);
         let mut slice = slice_of(&rt, rt.alloc(), run.agents, 1, 8);
-        assert!(rt; run.moves.len() <= actions.len());
-        assert_eq!(rt; slice.run(&actions[..run.moves.len()]), wanted);
+        assert_eq!(rt; done_by(&mut slice, &actions), wanted);
     }
-    Ok(())
 }

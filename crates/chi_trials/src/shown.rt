@@ -1,14 +1,13 @@
 //! Each part of a line that is shown, after the actions of a few requests.
 
 use crate::four_slices::{
-    LINE, OPENING, READER, SLOT, WRITER, ack, admit, data, does_all, issue, reads, slice_one, start,
+    LINE, OPENING, READER, SLOT, WRITER, ack, admit, answered, data, does_all, issue, reads, shows,
+    slice_one, start, would_complete,
 };
 use chi_flit::{CompData, Kind, Line, NO_DATA, Request, RspDown, RspUp, Slot, Snoop, State};
 use chi_homeline::{Serving, Waiting};
 use chi_rnline::{Pending, Phase};
-use chi_slice::{Effect, LineView, Slice};
-use std::alloc::Global;
-use std::process::Abort;
+use chi_slice::{Effect, LineView};
 
 /// A request that is pending and wasn't retried.
 fn sent(kind: Kind, slot: Slot) -> Option<Pending> {
@@ -19,56 +18,93 @@ fn sent(kind: Kind, slot: Slot) -> Option<Pending> {
     })
 }
 
-/// The reader's request is in flight, and then waits: the line as it is shown at the end.
-fn asks(rt: &impl Abort, slice: &mut Slice<Global>, kind: Kind) -> LineView {
-    let mut want = OPENING;
-    assert_eq!(rt; slice.view(LINE), Ok(want));
-    does_all(rt, slice, &[issue(READER, LINE, kind, SLOT)]);
-    want.pending[7] = sent(kind, SLOT);
-    want.flits[7].req = Some(Request {
+/// The line with the reader's request in flight.
+fn with_request(kind: Kind) -> LineView {
+    let mut line = OPENING;
+    line.pending[7] = sent(kind, SLOT);
+    line.flits[7].req = Some(Request {
         kind,
         slot: SLOT,
         allow_retry: true,
     });
-    assert_eq!(rt; slice.view(LINE), Ok(want));
-    does_all(rt, slice, &[admit(READER)]);
-    want.flits[7].req = None;
-    want.waiting[7] = Some(Waiting { kind, slot: SLOT });
-    assert_eq!(rt; slice.view(LINE), Ok(want));
-    want
+    line
+}
+
+/// The line once that request waits.
+fn with_waiting(kind: Kind) -> LineView {
+    let mut line = with_request(kind);
+    line.flits[7].req = None;
+    line.waiting[7] = Some(Waiting { kind, slot: SLOT });
+    line
+}
+
+/// The line once that request, a read, was answered from memory.
+fn with_data(kind: Kind) -> LineView {
+    let mut line = with_waiting(kind);
+    line.waiting[7] = None;
+    line.flits[7].dat_down = Some(CompData {
+        unique: true,
+        words: NO_DATA,
+    });
+    line.named[7] = true;
+    line.unique = true;
+    line.serving = Serving::AwaitingCompAck {
+        agent: READER,
+        slot: SLOT,
+    };
+    line
+}
+
+/// The line once the reader has its data.
+fn with_ack(kind: Kind) -> LineView {
+    let mut line = with_data(kind);
+    line.pending[7] = None;
+    line.flits[7].dat_down = None;
+    line.flits[7].rsp_up = Some(RspUp::CompAck);
+    line.copies[7].state = State::UC;
+    line
+}
+
+/// The line once the read is over.
+fn with_copy(kind: Kind) -> LineView {
+    let mut line = with_ack(kind);
+    line.flits[7].rsp_up = None;
+    line.serving = Serving::Idle;
+    line
 }
 
 #[test]
 fn a_read_of_a_line_that_nobody_holds(rt: HostRuntime) {
+    let kind = Kind::ReadNotSharedDirty;
     let mut slice = slice_one(&rt, rt.alloc());
-    let mut want = asks(&rt, &mut slice, Kind::ReadNotSharedDirty);
-    assert_eq!(rt; slice.completes(start(READER)), None);
-    does_all(&rt, &mut slice, &[start(READER)]);
-    want.waiting[7] = None;
-    want.flits[7].dat_down = Some(CompData {
-        unique: true,
-        words: NO_DATA,
+    shows(&rt, &slice, LINE, OPENING);
+    for (action, line) in [
+        (issue(READER, LINE, kind, SLOT), with_request(kind)),
+        (admit(READER), with_waiting(kind)),
+        (start(READER), with_data(kind)),
+        (data(READER), with_ack(kind)),
+    ] {
+        would_complete(&rt, &slice, action, None);
+        does_all(&rt, &mut slice, &[action]);
+        shows(&rt, &slice, LINE, line);
+    }
+    would_complete(&rt, &slice, ack(READER), Some(SLOT));
+    answered(&rt, &mut slice, ack(READER), Ok(Effect::Completed(SLOT)));
+    shows(&rt, &slice, LINE, with_copy(kind));
+    shows(&rt, &slice, Line(9), OPENING);
+}
+
+/// The line with the reader's Evict answered, beside the writer's request that waits.
+fn with_evicted() -> LineView {
+    let mut line = OPENING;
+    line.pending[0] = sent(Kind::ReadUnique, Slot(0));
+    line.waiting[0] = Some(Waiting {
+        kind: Kind::ReadUnique,
+        slot: Slot(0),
     });
-    want.named[7] = true;
-    want.unique = true;
-    want.serving = Serving::AwaitingCompAck {
-        agent: READER,
-        slot: SLOT,
-    };
-    assert_eq!(rt; slice.view(LINE), Ok(want));
-    assert_eq!(rt; slice.completes(ack(READER)), None);
-    does_all(&rt, &mut slice, &[data(READER)]);
-    want.pending[7] = None;
-    want.flits[7].dat_down = None;
-    want.flits[7].rsp_up = Some(RspUp::CompAck);
-    want.copies[7].state = State::UC;
-    assert_eq!(rt; slice.view(LINE), Ok(want));
-    assert_eq!(rt; slice.completes(ack(READER)), Some(SLOT));
-    assert_eq!(rt; slice.act(ack(READER)), Ok(Effect::Completed(SLOT)));
-    want.flits[7].rsp_up = None;
-    want.serving = Serving::Idle;
-    assert_eq!(rt; slice.view(LINE), Ok(want));
-    assert_eq!(rt; slice.view(Line(9)), Ok(OPENING));
+    line.pending[7] = sent(Kind::Evict, SLOT);
+    line.flits[7].rsp_down = Some(RspDown::CompI);
+    line
 }
 
 #[test]
@@ -82,18 +118,27 @@ fn an_evict_beside_a_request_that_waits(rt: HostRuntime) {
         &mut slice,
         &[write, admit(WRITER), evict, admit(READER)],
     );
-    assert_eq!(rt; slice.completes(start(READER)), Some(SLOT));
-    assert_eq!(rt; slice.completes(start(WRITER)), None);
-    assert_eq!(rt; slice.act(start(READER)), Ok(Effect::Completed(SLOT)));
-    let mut want = OPENING;
-    want.pending[0] = sent(Kind::ReadUnique, Slot(0));
-    want.waiting[0] = Some(Waiting {
+    would_complete(&rt, &slice, start(READER), Some(SLOT));
+    would_complete(&rt, &slice, start(WRITER), None);
+    answered(&rt, &mut slice, start(READER), Ok(Effect::Completed(SLOT)));
+    shows(&rt, &slice, LINE, with_evicted());
+}
+
+/// The line with the reader as its one holder, snooped for the writer.
+fn with_snoop() -> LineView {
+    let mut line = OPENING;
+    line.copies[7].state = State::UC;
+    line.named[7] = true;
+    line.unique = true;
+    line.pending[0] = sent(Kind::ReadUnique, Slot(0));
+    line.serving = Serving::Snooping {
+        agent: WRITER,
         kind: Kind::ReadUnique,
         slot: Slot(0),
-    });
-    want.pending[7] = sent(Kind::Evict, SLOT);
-    want.flits[7].rsp_down = Some(RspDown::CompI);
-    assert_eq!(rt; slice.view(LINE), Ok(want));
+    };
+    line.awaited[7] = true;
+    line.flits[7].snp = Some(Snoop::SnpUnique);
+    line
 }
 
 #[test]
@@ -102,17 +147,5 @@ fn a_snoop_of_the_one_holder(rt: HostRuntime) {
     reads(&rt, &mut slice, Kind::ReadShared, SLOT);
     let write = issue(WRITER, LINE, Kind::ReadUnique, Slot(0));
     does_all(&rt, &mut slice, &[write, admit(WRITER), start(WRITER)]);
-    let mut want = OPENING;
-    want.copies[7].state = State::UC;
-    want.named[7] = true;
-    want.unique = true;
-    want.pending[0] = sent(Kind::ReadUnique, Slot(0));
-    want.serving = Serving::Snooping {
-        agent: WRITER,
-        kind: Kind::ReadUnique,
-        slot: Slot(0),
-    };
-    want.awaited[7] = true;
-    want.flits[7].snp = Some(Snoop::SnpUnique);
-    assert_eq!(rt; slice.view(LINE), Ok(want));
+    shows(&rt, &slice, LINE, with_snoop());
 }

@@ -1,9 +1,14 @@
 //! Limits of a node's sizes, and of the numbers of an action.
 
-use crate::four_slices::{LINE, SLOT, WRITER, ack, admit, data, issue, start};
+use crate::four_slices::{
+    LINE, SLOT, WRITER, ack, admit, answered, data, issue, start, would_complete,
+};
+use crate::moves::look;
 use chi_flit::{Agent, Kind, Line, NoMemory, Profile, Refusal, Slot};
 use chi_slice::{Config, Effect, Slice};
 use linked_list_allocator::LocalHeap;
+use std::alloc::Global;
+use std::process::Abort;
 
 #[test]
 fn sizes_have_limits(rt: HostRuntime) {
@@ -31,23 +36,34 @@ fn sizes_have_limits(rt: HostRuntime) {
     for (agents, lines, slices, t0, t1, journal, good) in table {
         let config = Config::new(agents, lines, slices, t0, t1, journal);
         assert_eq!(rt; config.is_some(), good);
-        let Some(config) = config else {
-            continue;
-        };
-        assert_eq!(rt; config.agents(), agents);
-        assert_eq!(rt; config.lines(), lines);
-        assert_eq!(rt; config.slices(), slices);
-        assert_eq!(rt; config.entries(), [t0, t1, 0, 0]);
-        assert_eq!(rt; config.journal(), journal);
-        assert_eq!(rt; config.profile(), Profile::Two);
+        if let Some(config) = config {
+            has_sizes(&rt, &config, [agents, lines, slices], [t0, t1], journal);
+        }
     }
+}
+
+/// A node of two types with these sizes: of agents, lines and slices, of the types, of the journal.
+fn has_sizes(rt: &impl Abort, config: &Config, sizes: [u8; 3], types: [u16; 2], journal: u32) {
+    let found = [config.agents(), config.lines(), config.slices()];
+    assert_eq!(rt; found, sizes);
+    assert_eq!(rt; config.entries(), [types[0], types[1], 0, 0]);
+    assert_eq!(rt; config.journal(), journal);
+    assert_eq!(rt; config.profile(), Profile::Two);
+}
+
+/// Slice 1 of a node of seven requesters and 62 lines in four slices.
+fn slice_one(rt: &impl Abort, alloc: Global) -> Slice<Global> {
+    let config = Config::new(7, 62, 4, 4, 2, 16).expect(rt, "sizes in their limits");
+    assert_eq!(rt; config.slices(), 4);
+    let slice = Slice::new(alloc, &config, 1).expect(rt, "memory for a slice");
+    assert_eq!(rt; slice.index(), 1);
+    assert_eq!(rt; slice.config().lines(), 62);
+    slice
 }
 
 #[test]
 fn numbers_outside_their_ranges_are_refused(rt: HostRuntime) {
-    let config = Config::new(7, 62, 4, 4, 2, 16).expect(&rt, "sizes in their limits");
-    assert_eq!(rt; config.slices(), 4);
-    let mut slice = Slice::new(rt.alloc(), &config, 1).expect(&rt, "memory for a slice");
+    let mut slice = slice_one(&rt, rt.alloc());
     let kind = Kind::ReadShared;
     let outside = [
         issue(Agent(7), LINE, kind, SLOT),
@@ -66,17 +82,20 @@ fn numbers_outside_their_ranges_are_refused(rt: HostRuntime) {
         ack(Agent(7)),
     ];
     for action in outside {
-        assert_eq!(rt; slice.act(action), Err(Refusal::OutOfRange));
-        assert_eq!(rt; slice.completes(action), None);
-    }
-    for line in [0, 2, 3, 62, 65, 255] {
-        assert_eq!(rt; slice.view(Line(line)), Err(Refusal::OutOfRange));
+        answered(&rt, &mut slice, action, Err(Refusal::OutOfRange));
+        would_complete(&rt, &slice, action, None);
     }
     // the last line of the slice, and the last agent and slot
     let last = issue(Agent(6), Line(61), kind, Slot(7));
-    assert_eq!(rt; slice.act(last), Ok(Effect::Nothing));
-    assert_eq!(rt; slice.index(), 1);
-    assert_eq!(rt; slice.config().lines(), 62);
+    answered(&rt, &mut slice, last, Ok(Effect::Nothing));
+}
+
+#[test]
+fn lines_outside_the_slice_are_not_shown(rt: HostRuntime) {
+    let slice = slice_one(&rt, rt.alloc());
+    for line in [0, 2, 3, 62, 65, 255] {
+        assert_eq!(rt; look(&slice, Line(line)), Err(Refusal::OutOfRange));
+    }
 }
 
 #[test]
@@ -90,6 +109,12 @@ fn too_little_memory_is_refused_and_given_back(rt: HostRuntime) {
         assert_eq!(rt; refused, Err(NoMemory), "in {bytes} bytes");
         assert_eq!(rt; heap.used(), 0, "in {bytes} bytes");
     }
+}
+
+#[test]
+fn enough_memory_is_found(rt: HostRuntime) {
+    let config = Config::new(8, 2, 1, 1, 1, 1).expect(&rt, "sizes in their limits");
+    assert_eq!(rt; config.slices(), 1);
     let heap = LocalHeap::new(rt.alloc(), 16384).expect(&rt, "memory for a large heap");
     let slice = Slice::new(&heap, &config, 0).expect(&rt, "memory for a slice");
     assert_eq!(rt; slice.index(), 0);

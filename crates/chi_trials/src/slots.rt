@@ -1,20 +1,39 @@
 //! A slot in use: at each line of its slice it is refused to another request, and its place is shown.
 
 use crate::four_slices::{
-    LINE, OPENING, READER, SLOT, WRITER, ack, admit, at, data, does_all, issue, reads, slice_one,
-    start,
+    LINE, OPENING, READER, SLOT, WRITER, ack, admit, answered, at, data, does_all, issue, reads,
+    shows, slice_one, start,
 };
+use crate::moves::look;
 use chi_flit::{Agent, Kind, Line, Refusal, Slot, WordNo};
 use chi_slice::{Effect, Place, Slice, Step, Where};
 use std::alloc::Global;
 use std::process::Abort;
 
+/// Where the agent's slot is found.
+fn is_placed(
+    rt: &impl Abort,
+    slice: &Slice<Global>,
+    agent: Agent,
+    slot: Slot,
+    wanted: Option<Place>,
+) {
+    assert_eq!(rt; slice.place(agent, slot), wanted, "{agent:?} {slot:?}");
+}
+
+/// A place at the line.
+fn place(at: Where) -> Option<Place> {
+    Some(Place { line: LINE, at })
+}
+
+const PENDING: Result<Effect, Refusal> = Err(Refusal::Pending);
+
 #[test]
 fn a_slot_is_refused_at_every_line_while_it_is_in_use(rt: HostRuntime) {
     let mut slice = slice_one(&rt, rt.alloc());
     let evict = issue(READER, LINE, Kind::Evict, SLOT);
-    assert_eq!(rt; slice.act(evict), Err(Refusal::WrongState));
-    assert_eq!(rt; slice.view(LINE), Ok(OPENING));
+    answered(&rt, &mut slice, evict, Err(Refusal::WrongState));
+    shows(&rt, &slice, LINE, OPENING);
     let read = issue(READER, LINE, Kind::ReadShared, SLOT);
     let other = issue(WRITER, LINE, Kind::ReadShared, SLOT);
     does_all(
@@ -22,30 +41,37 @@ fn a_slot_is_refused_at_every_line_while_it_is_in_use(rt: HostRuntime) {
         &mut slice,
         &[read, other, admit(READER), admit(WRITER), start(READER)],
     );
-    let before = slice.view(LINE);
+    let before = look(&slice, LINE);
     // a request of the agent to the line is pending, and its slot is in use at every line
     let second = issue(READER, LINE, Kind::ReadShared, Slot(4));
     let same_slot = issue(READER, Line(9), Kind::ReadShared, SLOT);
-    for action in [second, same_slot] {
-        assert_eq!(rt; slice.act(action), Err(Refusal::Pending));
-    }
-    assert_eq!(rt; slice.act(start(WRITER)), Err(Refusal::LineBusy));
-    assert_eq!(rt; slice.view(LINE), before);
+    answered(&rt, &mut slice, second, PENDING);
+    answered(&rt, &mut slice, same_slot, PENDING);
+    answered(&rt, &mut slice, start(WRITER), Err(Refusal::LineBusy));
+    assert_eq!(rt; look(&slice, LINE), before);
     // the served request keeps its slot in use until the CompAck is in
     does_all(&rt, &mut slice, &[data(READER)]);
-    assert_eq!(rt; slice.act(same_slot), Err(Refusal::Pending));
-    assert_eq!(rt; slice.act(ack(READER)), Ok(Effect::Completed(SLOT)));
+    answered(&rt, &mut slice, same_slot, PENDING);
+    answered(&rt, &mut slice, ack(READER), Ok(Effect::Completed(SLOT)));
     does_all(&rt, &mut slice, &[same_slot]);
 }
 
-fn place(at: Where) -> Option<Place> {
-    Some(Place { line: LINE, at })
+/// Other slots, other agents, and what is no slot have no place.
+fn are_elsewhere(rt: &impl Abort, slice: &Slice<Global>) {
+    for (agent, slot) in [
+        (READER, Slot(4)),
+        (WRITER, SLOT),
+        (READER, Slot(8)),
+        (Agent(8), SLOT),
+    ] {
+        is_placed(rt, slice, agent, slot, None);
+    }
 }
 
 #[test]
 fn a_place_for_each_step_of_a_read_and_an_evict(rt: HostRuntime) {
     let mut slice = slice_one(&rt, rt.alloc());
-    assert_eq!(rt; slice.place(READER, SLOT), None);
+    is_placed(&rt, &slice, READER, SLOT, None);
     let (nothing, done) = (Effect::Nothing, Effect::Completed(SLOT));
     let table = [
         (
@@ -66,13 +92,9 @@ fn a_place_for_each_step_of_a_read_and_an_evict(rt: HostRuntime) {
         (Step::RecvComp, nothing, None),
     ];
     for (step, effect, want) in table {
-        assert_eq!(rt; slice.act(at(READER, step)), Ok(effect));
-        assert_eq!(rt; slice.place(READER, SLOT), want);
-        // other slots, other agents, and what is no slot
-        assert_eq!(rt; slice.place(READER, Slot(4)), None);
-        assert_eq!(rt; slice.place(WRITER, SLOT), None);
-        assert_eq!(rt; slice.place(READER, Slot(8)), None);
-        assert_eq!(rt; slice.place(Agent(8), SLOT), None);
+        answered(&rt, &mut slice, at(READER, step), Ok(effect));
+        is_placed(&rt, &slice, READER, SLOT, want);
+        are_elsewhere(&rt, &slice);
     }
 }
 
@@ -88,12 +110,12 @@ fn a_place_for_each_step_of_a_copy_back(rt: HostRuntime) {
     holds_dirty(&rt, &mut slice);
     let write = issue(READER, LINE, Kind::WriteBackFull, SLOT);
     does_all(&rt, &mut slice, &[write, admit(READER), start(READER)]);
-    assert_eq!(rt; slice.place(READER, SLOT), place(Where::Admitted));
+    is_placed(&rt, &slice, READER, SLOT, place(Where::Admitted));
     does_all(&rt, &mut slice, &[at(READER, Step::RecvDbid)]);
-    assert_eq!(rt; slice.place(READER, SLOT), place(Where::Answered));
+    is_placed(&rt, &slice, READER, SLOT, place(Where::Answered));
     let last = at(READER, Step::RecvWrData);
-    assert_eq!(rt; slice.act(last), Ok(Effect::Completed(SLOT)));
-    assert_eq!(rt; slice.place(READER, SLOT), None);
+    answered(&rt, &mut slice, last, Ok(Effect::Completed(SLOT)));
+    is_placed(&rt, &slice, READER, SLOT, None);
 }
 
 #[test]
@@ -104,41 +126,34 @@ fn a_retried_copy_back_stays_where_it_is_through_a_snoop(rt: HostRuntime) {
     let retried = [write, at(READER, Step::Retry), at(READER, Step::RecvRetry)];
     does_all(&rt, &mut slice, &retried);
     let other = issue(WRITER, LINE, Kind::ReadUnique, SLOT);
-    for action in [
-        other,
-        admit(WRITER),
-        start(WRITER),
-        at(READER, Step::RecvSnp),
-    ] {
-        assert_eq!(rt; slice.act(action), Ok(Effect::Nothing));
-        assert_eq!(rt; slice.place(READER, SLOT), place(Where::Retried));
+    let snoop = at(READER, Step::RecvSnp);
+    for action in [other, admit(WRITER), start(WRITER), snoop] {
+        does_all(&rt, &mut slice, &[action]);
+        is_placed(&rt, &slice, READER, SLOT, place(Where::Retried));
     }
     does_all(&rt, &mut slice, &[at(READER, Step::RecvSnpResp)]);
-    assert_eq!(rt; slice.place(WRITER, SLOT), place(Where::Admitted));
+    is_placed(&rt, &slice, WRITER, SLOT, place(Where::Admitted));
     does_all(&rt, &mut slice, &[data(WRITER)]);
-    assert_eq!(rt; slice.place(WRITER, SLOT), place(Where::Answered));
-    assert_eq!(rt; slice.place(READER, SLOT), place(Where::Retried));
+    is_placed(&rt, &slice, WRITER, SLOT, place(Where::Answered));
+    is_placed(&rt, &slice, READER, SLOT, place(Where::Retried));
     does_all(&rt, &mut slice, &[at(READER, Step::Cancel)]);
-    assert_eq!(rt; slice.place(READER, SLOT), None);
+    is_placed(&rt, &slice, READER, SLOT, None);
 }
 
 #[test]
 fn a_refused_action_leaves_the_places(rt: HostRuntime) {
     let mut slice = slice_one(&rt, rt.alloc());
-    does_all(
-        &rt,
-        &mut slice,
-        &[issue(READER, LINE, Kind::ReadShared, SLOT)],
-    );
+    let first = issue(READER, LINE, Kind::ReadShared, SLOT);
+    does_all(&rt, &mut slice, &[first]);
     let same_slot = issue(READER, Line(9), Kind::ReadShared, SLOT);
-    assert_eq!(rt; slice.act(same_slot), Err(Refusal::Pending));
-    assert_eq!(rt; slice.place(READER, SLOT), place(Where::Sent));
+    answered(&rt, &mut slice, same_slot, PENDING);
+    is_placed(&rt, &slice, READER, SLOT, place(Where::Sent));
     let second = issue(READER, Line(9), Kind::ReadShared, Slot(4));
     does_all(&rt, &mut slice, &[second]);
     let there = Place {
         line: Line(9),
         at: Where::Sent,
     };
-    assert_eq!(rt; slice.place(READER, Slot(4)), Some(there));
-    assert_eq!(rt; slice.place(READER, SLOT), place(Where::Sent));
+    is_placed(&rt, &slice, READER, Slot(4), Some(there));
+    is_placed(&rt, &slice, READER, SLOT, place(Where::Sent));
 }

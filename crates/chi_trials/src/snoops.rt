@@ -5,7 +5,7 @@
 
 use crate::moves::{STORED, answers, asks, brings, does, slice_of, view, waits};
 use chi_flit::{DatUp, Kind, Msg, RspUp, Snoop, State, WordNo};
-use chi_slice::{Slice, Step};
+use chi_slice::{LineView, Slice, Step};
 use std::alloc::Global;
 use std::process::Abort;
 
@@ -88,25 +88,41 @@ fn meets(rt: &impl Abort, slice: &mut Slice<Global>, found: State, snoop: Snoop)
     }
 }
 
+/// The line once agent 0 took its snoop: its copy in the state, and its answer in flight.
+fn after_snoop(before: LineView, left: State, answer: Msg) -> LineView {
+    let mut line = before;
+    line.copies[0].state = left;
+    line.flits[0].snp = None;
+    match answer {
+        Msg::RspUp(response) => line.flits[0].rsp_up = Some(response),
+        Msg::DatUp(response) => line.flits[0].dat_up = Some(response),
+        Msg::Req(_) | Msg::Snp(_) | Msg::RspDown(_) | Msg::DatDown(_) => {}
+    }
+    line
+}
+
 #[test]
 fn each_state_answers_each_snoop_by_the_table(rt: HostRuntime) {
     for (found, snoop, left, answer) in ANSWERS {
         let mut slice = slice_of(&rt, rt.alloc(), 3, 1, 16);
         meets(&rt, &mut slice, found, snoop);
-        let mut want = view(&rt, &slice);
-        assert_eq!(rt; want.copies[0].state, found, "before {snoop:?}");
-        assert_eq!(rt; want.flits[0].snp, Some(snoop), "at {found:?}");
-        want.copies[0].state = left;
-        want.flits[0].snp = None;
-        match answer {
-            Msg::RspUp(response) => want.flits[0].rsp_up = Some(response),
-            Msg::DatUp(response) => want.flits[0].dat_up = Some(response),
-            Msg::Req(_) | Msg::Snp(_) | Msg::RspDown(_) | Msg::DatDown(_) => {}
-        }
+        let before = view(&rt, &slice);
+        is_met(&rt, before, found, snoop);
         does(&rt, &mut slice, 0, Step::RecvSnp);
-        assert_eq!(rt; view(&rt, &slice), want, "{snoop:?} at {found:?}");
+        let after = view(&rt, &slice);
+        assert_eq!(rt;
+            after,
+            after_snoop(before, left, answer),
+            "{snoop:?} at {found:?}"
+        );
         does(&rt, &mut slice, 0, Step::RecvSnpResp);
     }
+}
+
+/// Agent 0's copy is in the state, and the snoop is on its way to it, as the line is shown.
+fn is_met(rt: &impl Abort, line: LineView, found: State, snoop: Snoop) {
+    assert_eq!(rt; line.copies[0].state, found, "before {snoop:?}");
+    assert_eq!(rt; line.flits[0].snp, Some(snoop), "at {found:?}");
 }
 
 #[test]

@@ -5,7 +5,7 @@
 //! WriteEvictFull find it in UD or SD.
 
 use crate::moves::{
-    LINE, STORED, answers, asks, at, brings, does, slice_of, takes_data, view, waits,
+    STORED, answer, answers, asks, at, brings, does, slice_of, takes_data, view, waits,
 };
 use chi_flit::Kind::{
     self, ReadNotSharedDirty, ReadShared, ReadUnique, WriteBackFull, WriteCleanFull, WriteEvictFull,
@@ -13,7 +13,7 @@ use chi_flit::Kind::{
 use chi_flit::State::{self, I, SC, SD, UC, UD};
 use chi_flit::{DatUp, NO_DATA, Slot, WordNo};
 use chi_homeline::Serving;
-use chi_slice::{Effect, Slice, Step};
+use chi_slice::{Effect, LineView, Slice, Step};
 use std::alloc::Global;
 use std::process::Abort;
 
@@ -121,32 +121,47 @@ fn is_asked_for_data(
 
 /// Agent 0 sends its write data by the table.
 fn sends(rt: &impl Abort, slice: &mut Slice<Global>, form: State, left: State) {
-    let mut want = view(rt, slice);
-    assert_eq!(rt; want.copies[0].state, form);
-    assert_eq!(rt; want.memory, if form.is_dirty() { NO_DATA } else { STORED });
-    let words = if matches!(form, I) { NO_DATA } else { STORED };
-    want.copies[0].state = left;
-    want.pending[0] = None;
-    want.flits[0].rsp_down = None;
-    want.flits[0].dat_up = Some(DatUp::CopyBackWrData(form, words));
+    let before = view(rt, slice);
+    assert_eq!(rt; before.copies[0].state, form);
+    assert_eq!(rt;
+        before.memory,
+        if form.is_dirty() { NO_DATA } else { STORED }
+    );
     does(rt, slice, 0, Step::RecvDbid);
-    assert_eq!(rt; view(rt, slice), want);
+    assert_eq!(rt; view(rt, slice), after_dbid(before, form, left));
+}
+
+/// The line once agent 0 sent its write data.
+fn after_dbid(before: LineView, form: State, left: State) -> LineView {
+    let words = if matches!(form, I) { NO_DATA } else { STORED };
+    let mut line = before;
+    line.copies[0].state = left;
+    line.pending[0] = None;
+    line.flits[0].rsp_down = None;
+    line.flits[0].dat_up = Some(DatUp::CopyBackWrData(form, words));
+    line
+}
+
+/// The line once the home took that data.
+fn after_write_data(before: LineView, named: &[usize], unique: bool) -> LineView {
+    let mut line = before;
+    line.flits[0].dat_up = None;
+    line.memory = STORED;
+    for agent in 0..8 {
+        line.named[agent] = named.contains(&agent);
+    }
+    line.unique = unique;
+    line.owner = None;
+    line.serving = Serving::Idle;
+    line
 }
 
 /// The home takes agent 0's write data: the dirty words are in memory then.
 fn takes(rt: &impl Abort, slice: &mut Slice<Global>, named: &[usize], unique: bool) {
-    let mut want = view(rt, slice);
-    want.flits[0].dat_up = None;
-    want.memory = STORED;
-    for agent in 0..8 {
-        want.named[agent] = named.contains(&agent);
-    }
-    want.unique = unique;
-    want.owner = None;
-    want.serving = Serving::Idle;
-    let done = slice.act(at(0, Step::RecvWrData));
+    let before = view(rt, slice);
+    let done = answer(slice, at(0, Step::RecvWrData));
     assert_eq!(rt; done, Ok(Effect::Completed(Slot(0))));
-    assert_eq!(rt; view(rt, slice), want);
+    assert_eq!(rt; view(rt, slice), after_write_data(before, named, unique));
 }
 
 #[test]
@@ -166,7 +181,8 @@ fn a_store_behind_the_write_data_leaves_it_older(rt: HostRuntime) {
     does(&rt, &mut slice, 0, Step::RecvDbid);
     does(&rt, &mut slice, 0, Step::Store(WordNo(3), 9));
     takes(&rt, &mut slice, &[0], true);
-    assert_eq!(rt; view(&rt, &slice).copies[0].state, UD);
-    assert_eq!(rt; view(&rt, &slice).last, [0, 0, 0, 9, 0, 0, 0, 0]);
-    assert_eq!(rt; slice.view(LINE).map(|line| line.memory), Ok(STORED));
+    let line = view(&rt, &slice);
+    assert_eq!(rt; line.copies[0].state, UD);
+    assert_eq!(rt; line.last, [0, 0, 0, 9, 0, 0, 0, 0]);
+    assert_eq!(rt; line.memory, STORED);
 }

@@ -1,6 +1,7 @@
 //! The six cells of one agent at one line.
 
 ghost use Rattle.std.specs.Prelude.{◌≡◌};
+ghost use Rattle.chi_flit.specs.declared.message.Msg.TheVariants as messages;
 ghost use Rattle.chi_wires.specs.Cell.{no_flits, cell_of, with_message, emptied};
 
 use chi_flit::{Channel, CompData, DatUp, Msg, Request, RspDown, RspUp, Snoop};
@@ -57,6 +58,13 @@ impl Cells {
             Msg::RspUp(response) => self.rsp_up = Some(response),
             Msg::DatUp(response) => self.dat_up = Some(response),
         }
+    }
+
+    /// The data of a read is in flight; all else stays.
+    pub(crate) fn put_data(&mut self, sent: CompData)
+        ensures { self.new ≡ with_message self.old (messages.DatDown sent) }
+    {
+        self.dat_down = Some(sent);
     }
 
     /// Nothing is in flight on `channel`; all else stays.

@@ -4,12 +4,13 @@ ghost use Rattle.std.specs.Prelude.{◌≡◌, ℕ, ◌<◌, true, false, None, 
 ghost use Rattle.std.specs.List.{filter};
 ghost use Rattle.std.specs.List.Sorted.{IsPermutation};
 ghost use Rattle.chi_flit.specs.Message.{channel_of};
+ghost use Rattle.chi_flit.specs.declared.message.Msg.TheVariants as messages;
 ghost use Rattle.chi_wires.specs.Cell.{no_flits, cell_of, with_message, emptied};
 ghost use Rattle.chi_wires.specs.Wires.{flits_at, with_flits, taken_from, row_of, with_snoops, IsWide};
 ghost use Rattle.chi_wires.specs.Flight.{in_flight, flit, flit_of, is_at, snoop_flits};
 
 use crate::cells::Cells;
-use chi_flit::{Agent, Channel, Line, Msg, NoMemory, Refusal, Snoop};
+use chi_flit::{Agent, Channel, CompData, Line, Msg, NoMemory, Refusal, Snoop};
 use std::alloc::Allocator;
 use std::marker::Model;
 
@@ -93,6 +94,18 @@ impl<A: Allocator> Wires<A> {
         ensures adds { IsPermutation (in_flight self.new) (flit (channel_of message) agent line message ∷ in_flight self.old) }
     {
         self.cells[usize::from(line.0)][usize::from(agent.0)].put(message);
+    }
+
+    /// Puts the data of a read on its channel, whose cell must be empty. All else stays.
+    #[tactic(auto, using(crate::proofs::Moved::put_adds))]
+    pub fn put_data(&mut self, agent: Agent, line: Line, sent: CompData)
+        requires agent { agent.0 < 8 }
+        requires line { line.0 < length self.old }
+        requires empty { cell_of (flits_at self.old line.0 agent.0) (channel_of (messages.DatDown sent)) ≡ None }
+        ensures after { self.new ≡ with_flits self.old line.0 agent.0 (with_message (flits_at self.old line.0 agent.0) (messages.DatDown sent)) }
+        ensures adds { IsPermutation (in_flight self.new) (flit (channel_of (messages.DatDown sent)) agent line (messages.DatDown sent) ∷ in_flight self.old) }
+    {
+        self.cells[usize::from(line.0)][usize::from(agent.0)].put_data(sent);
     }
 
     /// Takes the message that is in flight on `channel`: its cell is empty then, and all else stays.

@@ -159,14 +159,33 @@ fn a_stop_is_a_line_and_a_status(rt: HostRuntime) -> Result<(), AllocError> {
     Ok(())
 }
 
-/// Whether the first path was answered with this allocator; otherwise memory ran out, and nothing was
-/// written.
-fn is_answered<A: Allocator + Copy>(rt: &(impl Abort + AllocGlobal), alloc: A) -> bool {
-    let mut input = MemoryInput::new(FIRST_PATH, 10);
+/// A read from the request to its acknowledgement.
+const COLD_READ: &[u8] =
+    b"node 1 1 1 1 1 4\nissue 0 0 ReadNotSharedDirty 0\narrive 0 0\nstart 0 0\nflits 0 0\ndata 0 0\nload 0 0 0\nack 0 0\nshow 0\n";
+
+const COLD_READ_TEXT: &[u8] =
+    b"ok\nok admitted 0\nok\nok CompData_UC\nok\nok value 0\nok completed 0 freed\nok copies UC named 0 unique yes serving none waiting - memory 0 0 0 0 0 0 0 0\n";
+
+/// Reads of which the third is retried, and a copy-back that is let in.
+const RETRIED_READ: &[u8] =
+    b"node 1 4 1 2 1 8\nissue 0 0 ReadNotSharedDirty 0\nissue 0 1 ReadNotSharedDirty 1\nissue 0 2 ReadNotSharedDirty 2\narrive 0 0\narrive 0 1\narrive 0 2\nstart 0 0\ndata 0 0\nissue 0 0 WriteEvictFull 3\narrive 0 0\ntotals\ntend 0 0\nflits 0 2\n";
+
+const RETRIED_READ_TEXT: &[u8] =
+    b"ok\nok\nok\nok admitted 0\nok admitted 1\nok retry 0\nok\nok\nok\nok admitted 2\nok free 0 0 hand 2 1 promised 0 0 owed 1 0\nok idle\nok RetryAck/0\n";
+
+/// Whether the file was answered with this allocator, by this text; otherwise memory ran out, and nothing
+/// was written.
+fn is_answered<A: Allocator + Copy>(
+    rt: &(impl Abort + AllocGlobal),
+    alloc: A,
+    file: &[u8],
+    text: &[u8],
+) -> bool {
+    let mut input = MemoryInput::new(file, 10);
     let mut output = MemoryOutput::new(rt.alloc(), 1_000);
     match replay(alloc, &mut input, &mut output) {
         Ok(()) => {
-            assert!(rt; output.bytes() == FIRST_PATH_TEXT);
+            assert!(rt; output.bytes() == text);
             true
         }
         Err(fault) => {
@@ -178,13 +197,17 @@ fn is_answered<A: Allocator + Copy>(rt: &(impl Abort + AllocGlobal), alloc: A) -
     }
 }
 
-#[test]
-fn a_heap_of_any_size_answers_or_says_so(rt: HostRuntime) -> Result<(), AllocError> {
+/// Replays the file on heaps of growing size: the least is too small, and the last is large enough.
+fn fits_a_heap(
+    rt: &(impl Abort + AllocGlobal),
+    file: &[u8],
+    text: &[u8],
+) -> Result<(), AllocError> {
     let mut with_least = true;
     let mut with_most = false;
     for step in 0..400 {
         let heap = LocalHeap::new(rt.alloc(), 64 + 32 * step)?;
-        with_most = is_answered(&rt, &heap);
+        with_most = is_answered(rt, &heap, file, text);
         with_least = with_least && with_most;
     }
     assert!(rt; with_most);
@@ -192,8 +215,12 @@ fn a_heap_of_any_size_answers_or_says_so(rt: HostRuntime) -> Result<(), AllocErr
     Ok(())
 }
 
-#[test]
-fn a_budget_of_any_size_answers_or_says_so(rt: HostRuntime) -> Result<(), AllocError> {
+/// Replays the file with each budget of bytes, so that each allocation is refused in turn.
+fn fits_a_budget(
+    rt: &(impl Abort + AllocGlobal),
+    file: &[u8],
+    text: &[u8],
+) -> Result<(), AllocError> {
     let filling = [0u8; 16_000];
     let mut with_some = false;
     let mut with_least = true;
@@ -201,10 +228,22 @@ fn a_budget_of_any_size_answers_or_says_so(rt: HostRuntime) -> Result<(), AllocE
         let bump = Bump::new(rt.alloc());
         bump.set_allocation_limit(Some(16_320));
         bump.try_alloc_slice_copy(&filling[..taken])?;
-        with_least = is_answered(&rt, &bump);
+        with_least = is_answered(rt, &bump, file, text);
         with_some = with_some || with_least;
     }
     assert!(rt; with_some);
     assert!(rt; !with_least);
     Ok(())
+}
+
+#[test]
+fn a_heap_of_any_size_answers_or_says_so(rt: HostRuntime) -> Result<(), AllocError> {
+    fits_a_heap(&rt, COLD_READ, COLD_READ_TEXT)?;
+    fits_a_heap(&rt, RETRIED_READ, RETRIED_READ_TEXT)
+}
+
+#[test]
+fn a_budget_of_any_size_answers_or_says_so(rt: HostRuntime) -> Result<(), AllocError> {
+    fits_a_budget(&rt, COLD_READ, COLD_READ_TEXT)?;
+    fits_a_budget(&rt, RETRIED_READ, RETRIED_READ_TEXT)
 }

@@ -1,5 +1,7 @@
 -- What the home's part of the line and the agent's flits say is what the slice says.
-use Rattle.std.proofs.Common.{◌≡◌, ◌∙◌, sym}
+use Rattle.std.proofs.Common.{◌≡◌, ◌∙◌, rules, sym}
+use Rattle.chi_line.specs.Refused.{completed_at}
+use Rattle.chi_wires.specs.Wires.{flits_at}
 use Rattle.chi_slice.specs.Slice.{SliceState}
 use Rattle.chi_slice.proofs.Acts.{completes_read}
 use Rattle.chi_slice.proofs.Rows.{in_range}
@@ -8,7 +10,8 @@ use Rattle.chi_slice.proofs.slice.Slice.completes.Goals as goal
 pub returns : goal.returns
 returns g c =
     let s : SliceState = record { config = c.self.inside.config; index = c.self.inside.index; requesters = c.self.inside.requesters.items; homes = c.self.inside.homes.items; wires = c.self.inside.wires; journal = c.self.inside.journal } in
-    rw (c.completed_at.ensures, c.cells-cells.ensures) (completes_read c.args.self.now s c.args.action c.row_of-row.result c.from-place.result c.index.result.now c.self.invariant.0 c.self.view_is c.if-not-is_in_range.ensures c.row_of-row.ensures.row c.from-place.ensures c.index.ensures)
+    let told : c.completed_at.result ≡ completed_at c.index.result.now (flits_at c.self.inside.wires c.row_of-row.result c.args.action.agent.0) c.args.action.agent c.args.action.step = search (rules, c.completed_at.ensures, c.cells-cells.ensures) in
+    told ∙ (completes_read c.args.self.now s c.args.action c.row_of-row.result c.from-place.result c.index.result.now c.self.invariant.0 c.self.view_is c.if-not-is_in_range.ensures c.row_of-row.ensures.row c.from-place.ensures c.index.ensures)
 
 pub completed_at-requires : goal.completed_at-requires
 completed_at-requires g c = (in_range c.args.self.now c.args.action c.row_of-row.ensures.kept (sym c.if-not-is_in_range.ensures)).agent

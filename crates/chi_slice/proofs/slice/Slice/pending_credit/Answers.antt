@@ -1,5 +1,5 @@
 -- The request is read out of the line's row.
-use Rattle.std.proofs.Common.{◌≡◌, ◌∙◌, ap, sym}
+use Rattle.std.proofs.Common.{◌≡◌, ◌∙◌, ap, sym, rules}
 use Rattle.chi_flit.specs.declared.credit.Profile.{Profile}
 use Rattle.chi_rnline.specs.Rn.{Rn}
 use Rattle.chi_line.specs.Types.{pending_credit}
@@ -11,6 +11,8 @@ pub returns-clause-credit : goal.returns-clause-credit
 returns-clause-credit g c =
     let s : SliceState = record { config = c.self.inside.config; index = c.self.inside.index; requesters = c.self.inside.requesters.items; homes = c.self.inside.homes.items; wires = c.self.inside.wires; journal = c.self.inside.journal } in
     let profile : c.profile.result ≡ c.args.self.now.config.profile = c.profile.ensures ∙ ap (λ (v : SliceState). v.config.profile) c.self.view_is in
+    let row_is : c.from.result ≡ c.row_of-row.result = search (rules, c.from.ensures) in
+    let agent_is : c.from-2.result ≡ c.args.agent.0 = search (rules, c.from-2.ensures) in
     c.pending_credit.ensures ∙ (ap (λ (p : Profile). pending_credit p c.pending-pending.result) profile
     ∙ ap (pending_credit c.args.self.now.config.profile) (c.pending-pending.ensures ∙ ap (λ (rn : Rn). rn.pending)
-    (sym c.index-copies-from.is ∙ copy_read c.args.self.now s c.args.agent.0 c.args.line.0 c.row_of-row.result c.from.result c.from-2.result c.index-copies.result.now c.index-copies-from.result c.self.invariant.0 c.self.view_is (sym c.if-not-are_in_range.ensures.range) c.row_of-row.ensures.row c.from.ensures c.from-2.ensures c.index-copies.ensures c.index-copies-from.is)))
+    (sym c.index-copies-from.is ∙ copy_read c.args.self.now s c.args.agent.0 c.args.line.0 c.row_of-row.result c.from.result c.from-2.result c.index-copies.result.now c.index-copies-from.result c.self.invariant.0 c.self.view_is (sym c.if-not-are_in_range.ensures.range) c.row_of-row.ensures.row row_is agent_is c.index-copies.ensures c.index-copies-from.is)))

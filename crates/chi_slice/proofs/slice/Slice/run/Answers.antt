@@ -1,5 +1,5 @@
 -- Each turn tries one more action.
-use Rattle.std.proofs.Common.{◌≡◌, ◌∙◌, sym, arith, length, ◌≤◌}
+use Rattle.std.proofs.Common.{arith, rules}
 use Rattle.chi_slice.proofs.Runs.{runs_end, runs_next, runs_start}
 use Rattle.chi_slice.proofs.slice.Slice.run.Goals as goal
 use Rattle.chi_slice.proofs.slice.Slice.run.Goals.{then-is_ok, else-is_ok}
@@ -11,8 +11,8 @@ pub loop-action-preserved : goal.loop-action-preserved
 loop-action-preserved g c =
     runs_next c.args.self.now c.loop-action.self c.act.new.self c.args.actions.now c.loop-action.done c.if-is_ok.done c.loop-action.action-index _ c.act.result c.loop-action-test.true c.loop-action.invariant
     c.act.ensures.refusal c.act.ensures.after c.act.ensures.err
-    (λ ok. elim c.if-is_ok.branch [ then-is_ok w ↦ w.done-is | else-is_ok w ↦ absurd (cc (w.if-is_ok.false, c.is_ok.ensures.value, ok)) ])
-    (λ err. elim c.if-is_ok.branch [ then-is_ok w ↦ absurd (cc (w.if-is_ok.true, c.is_ok.ensures.value, err)) | else-is_ok w ↦ w.done-is ])
+    (λ ok. elim c.if-is_ok.branch [ then-is_ok w ↦ search (rules, w.done-is) | else-is_ok w ↦ absurd (cc (w.if-is_ok.false, c.is_ok.ensures.value, ok)) ])
+    (λ err. elim c.if-is_ok.branch [ then-is_ok w ↦ absurd (cc (w.if-is_ok.true, c.is_ok.ensures.value, err)) | else-is_ok w ↦ search (rules, w.done-is) ])
 
 pub returns-clause-done : goal.returns-clause-done
 returns-clause-done g c = (runs_end c.args.self.now c.loop-action.self c.args.actions.now c.loop-action.done c.loop-action.action-index (omega (arith, c.loop-action-test.false)) c.loop-action.invariant).1

@@ -1,0 +1,122 @@
+//! Which request a step moves, and where to.
+
+ghost use Rattle.std.specs.Prelude.{◌≡◌, ◌<◌, None, Some, length};
+ghost use Rattle.chi_line.specs.Moves.{completed_to, if_moved, moved_slot, moved_to, requested_slot};
+ghost use Rattle.chi_line.specs.declared.seen.Where.TheVariants.{Closing};
+ghost use Rattle.chi_line.specs.Step.{completed_effect, completed_slot, line_of_parts, waiting_effect};
+ghost use Rattle.chi_homeline.specs.Home.{served_slot, waiting_of};
+
+use crate::ends::{evicted, served_slot};
+use crate::seen::Where;
+use crate::slots::pending_slot;
+use chi_flit::{Agent, Line, Request, RspDown, Slot, Step};
+use chi_homeline::{HomeLine, Serving};
+use chi_rnline::RnLine;
+use chi_wires::Wires;
+use std::alloc::Allocator;
+
+/// What a step does to a request of its agent.
+#[derive(Clone, Copy, Debug, PartialEq, Eq)]
+pub struct Move {
+    /// The slot of the request that is moved, if one is.
+    pub slot: Option<Slot>,
+    /// Where that request is then; `None` where it is over.
+    pub to: Option<Where>,
+}
+
+/// The request of the agent that a step moves where it isn't refused, and where to, by the parts of a line
+/// before the step.
+/// Source: `docs/PROTOCOL.md`, "Agreement".
+pub fn move_of<A: Allocator>(
+    requesters: &[RnLine; 8],
+    home: &HomeLine,
+    wires: &Wires<A>,
+    row: Line,
+    agent: Agent,
+    step: Step,
+) -> Move
+    requires agent { agent.0 < 8 }
+    requires row { row.0 < length wires.now }
+    ensures slot { result.slot ≡ moved_slot (line_of_parts requesters.now home.now wires.now row.0) agent step }
+    ensures to { result.to ≡ moved_to (line_of_parts requesters.now home.now wires.now row.0) agent step }
+{
+    let copy = &requesters[usize::from(agent.0)];
+    match step {
+        Step::Load(_) | Step::Store(_, _) | Step::Drop | Step::RecvSnp | Step::RecvSnpResp => {
+            ends(None)
+        }
+        Step::Issue(_, slot) => goes(Some(slot), Where::Sent),
+        Step::Admit => goes(requested_slot(wires.cells(agent, row).req), Where::Admitted),
+        Step::Retry => goes(requested_slot(wires.cells(agent, row).req), Where::Refused),
+        Step::RecvRetry => goes(pending_slot(copy.pending()), Where::Retried),
+        Step::Resend => goes(pending_slot(copy.pending()), Where::Riding),
+        Step::Cancel => ends(pending_slot(copy.pending())),
+        Step::Start => closes(evicted_slot(home, agent)),
+        Step::RecvData | Step::RecvDbid => goes(pending_slot(copy.pending()), Where::Answered),
+        Step::RecvComp => Move {
+            slot: pending_slot(copy.pending()),
+            to: completed_to(wires.cells(agent, row).rsp_down),
+        },
+        Step::RecvAck | Step::RecvWrData => ends(finished_slot(home.serving())),
+    }
+}
+
+/// A request that is left there.
+fn goes(slot: Option<Slot>, at: Where) -> Move
+    ensures slot { result.slot ≡ slot }
+    ensures to { result.to ≡ Some at }
+{
+    Move { slot, to: Some(at) }
+}
+
+/// A request, if there is one, that is over.
+fn ends(slot: Option<Slot>) -> Move
+    ensures slot { result.slot ≡ slot }
+    ensures to { result.to ≡ None }
+{
+    Move { slot, to: None }
+}
+
+/// A request, if there is one, that its start ends.
+fn closes(slot: Option<Slot>) -> Move
+    ensures slot { result.slot ≡ slot }
+    ensures to { result.to ≡ if_moved slot Closing }
+{
+    Move {
+        slot,
+        to: slot.map(|_| Where::Closing),
+    }
+}
+
+/// The slot of a request that is in flight.
+fn requested_slot(request: Option<Request>) -> Option<Slot>
+    ensures { result ≡ requested_slot request }
+{
+    request.map(|request| request.slot)
+}
+
+/// The slot of the agent's waiting request that its start completes: that of an Evict.
+fn evicted_slot(home: &HomeLine, agent: Agent) -> Option<Slot>
+    requires { agent.0 < 8 }
+    ensures { result ≡ completed_slot (waiting_effect home.now agent (waiting_of home.now agent.0)) }
+{
+    evicted(home.waiting(agent)?)
+}
+
+/// The slot of the request that is served, and that the home is done with.
+fn finished_slot(serving: Serving) -> Option<Slot>
+    ensures { result ≡ completed_slot (completed_effect (served_slot serving)) }
+{
+    served_slot(serving)
+}
+
+/// Where a pending request is after its completion without data: at the home where it is to be
+/// acknowledged, and nowhere where that ends it.
+fn completed_to(response: Option<RspDown>) -> Option<Where>
+    ensures { result ≡ completed_to response }
+{
+    match response {
+        Some(RspDown::CompUC) => Some(Where::Answered),
+        Some(RspDown::CompI | RspDown::RetryAck(_) | RspDown::CompDBIDResp) | None => None,
+    }
+}

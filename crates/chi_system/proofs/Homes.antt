@@ -1,0 +1,76 @@
+-- The slices of a node: each line has its slice, all slices have the node's sizes and their own index, and
+-- what a call does to one keeps that.
+use Rattle.std.proofs.Common.{◌≡◌, ℕ, zero, suc, ◌<◌, ◌≤◌, [], ◌∷◌, All, true, get_or, length, length-append, refl, sym, ◌∙◌, ap, subst, arith, mod-lt, ⊎_elim, get_or-set_other}
+use Rattle.std.proofs.Math.ListN.{set, length-set}
+use Rattle.std.proofs.lemmas.Bool.{cases_eq, cases_lt}
+use Rattle.std.proofs.lemmas.Grind.{get_or-set_at}
+use Rattle.std.proofs.lemmas.List.{get_or_append_left, get_or_push, get_or_read}
+use Rattle.std.proofs.lemmas.List.Elements.{All-nil, All-push, All-set}
+use Rattle.chi_slice.specs.Config.{Sizes, are_in_limits}
+use Rattle.chi_slice.specs.Slice.{SliceState, opening_slice}
+use Rattle.chi_slice.proofs.Rows.{InLimits, in_limits}
+use Rattle.chi_node.specs.Calls.{IsSameSlice}
+use Rattle.chi_node.specs.Parts.{opening_slices}
+use Rattle.chi_system.specs.Home.{HomeState, IsHome, index_of, opening_home, slice_of, with_slice}
+
+-- the place of a line's slice
+pub is_low : (h : HomeState) (l : ℕ) → IsHome h → index_of h l < length h.slices
+is_low h l k = subst (λ n. index_of h l < n) (sym k.count) (mod-lt l k.some)
+
+-- and what stands there
+pub slice_read : (h : HomeState) (l place : ℕ) (s : SliceState) → IsHome h → place ≡ index_of h l → s ≡ get_or h.slices place s → s ≡ slice_of h l
+slice_read h l place s k is read =
+    get_or_read h.slices place s (subst (λ i. i < length h.slices) (sym is) (is_low h l k)) read (opening_slice h.config 0)
+    ∙ ap (λ i. get_or h.slices i (opening_slice h.config 0)) is
+
+pub sizes_at : (h : HomeState) (l : ℕ) → IsHome h → (slice_of h l).config ≡ h.config
+sizes_at h l k = k.sizes (index_of h l) (opening_slice h.config 0) (is_low h l k)
+
+index_at : (h : HomeState) (l : ℕ) → IsHome h → (slice_of h l).index ≡ index_of h l
+index_at h l k = k.indexes (index_of h l) (mod-lt l k.some)
+
+-- another slice of the same node and index in place of one
+pub still_home : (h : HomeState) (l : ℕ) (s : SliceState) → IsHome h → IsSameSlice (slice_of h l) s → IsHome (with_slice h l s)
+still_home h l s k same = record {
+  limits = k.limits;
+  count = length-set h.slices (index_of h l) s ∙ k.count;
+  some = k.some;
+  few = k.few;
+  sizes = All-set (λ (x : SliceState). x.config ≡ h.config) h.slices (index_of h l) s (same.config ∙ sizes_at h l k) k.sizes;
+  indexes = λ j low. ⊎_elim
+      (λ (e : j ≡ index_of h l). ap (λ (x : SliceState). x.index) (get_or-set_at h.slices (index_of h l) j s (opening_slice h.config 0) e (is_low h l k)) ∙ (same.index ∙ (index_at h l k ∙ sym e)))
+      (λ apart. ap (λ (x : SliceState). x.index) (get_or-set_other h.slices (index_of h l) j s (opening_slice h.config 0) apart) ∙ k.indexes j low)
+      (cases_eq j (index_of h l));
+}
+
+as_many : (config : Sizes) (n : ℕ) → length (opening_slices config n) ≡ n
+as_many config zero = refl
+as_many config (suc n) = omega (arith, length-append (opening_slices config n) (opening_slice config n ∷ []), as_many config n)
+
+of_sizes : (config : Sizes) (n : ℕ) → All (λ (s : SliceState). s.config ≡ config) (opening_slices config n)
+of_sizes config zero = All-nil (λ (s : SliceState). s.config ≡ config)
+of_sizes config (suc n) = All-push (λ (s : SliceState). s.config ≡ config) (opening_slices config n) (opening_slice config n) (of_sizes config n) refl
+
+-- the slices of a new node
+pub opening_at : (config : Sizes) (n i : ℕ) (d : SliceState) → i < n → get_or (opening_slices config n) i d ≡ opening_slice config i
+opening_at config zero i d low = absurd (omega (arith, low))
+opening_at config (suc n) i d low = ⊎_elim
+    (λ (before : i < n). get_or_append_left (opening_slices config n) (opening_slice config n ∷ []) d i (omega (arith, before, as_many config n)) ∙ opening_at config n i d before)
+    (λ (past : n ≤ i). let e : n ≡ i = omega (arith, past, low) in get_or_push (opening_slices config n) (opening_slice config n) d i (as_many config n ∙ e) ∙ ap (opening_slice config) e)
+    (cases_lt i n)
+
+pub opening_is_home : (config : Sizes) → are_in_limits config ≡ true → IsHome (opening_home config)
+opening_is_home config h =
+    let l : InLimits config = in_limits config h in
+    record {
+      limits = h;
+      count = as_many config config.slices;
+      some = omega (arith, l.some_slice);
+      few = omega (arith, l.slices, l.lines);
+      sizes = of_sizes config config.slices;
+      indexes = λ i low. ap (λ (s : SliceState). s.index) (opening_at config config.slices i (opening_slice config 0) low);
+    }
+
+-- as a call finds the slice at its place
+pub still_home_at : (h : HomeState) (l place : ℕ) (s s' : SliceState) → IsHome h → place ≡ index_of h l → s ≡ get_or h.slices place s → IsSameSlice s s' → IsHome (record h { slices = set h.slices place s' })
+still_home_at h l place s s' k is read same = subst (λ (i : ℕ). IsHome (record h { slices = set h.slices i s' })) (sym is) (still_home h l s' k (subst (λ (x : SliceState). IsSameSlice x s') (slice_read h l place s k is read) same))

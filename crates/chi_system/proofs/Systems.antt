@@ -1,0 +1,127 @@
+-- What a node keeps, in its opening state and as one slice and one requester change.
+use Rattle.std.proofs.Common.{◌≡◌, ℕ, zero, suc, ◌<◌, ◌≤◌, List, [], ◌∷◌, All, true, get_or, length, refl, sym, ◌∙◌, ap, subst, arith, ⊎_elim, get_or-set_other}
+use Rattle.std.proofs.Math.ListN.{set, length-set}
+use Rattle.std.proofs.lemmas.Bool.{cases_eq, cases_lt, ltb-true}
+use Rattle.std.proofs.lemmas.Grind.{get_or-set_at}
+use Rattle.std.proofs.lemmas.List.{get_or_append_left, get_or_default, get_or_push}
+use Rattle.std.proofs.lemmas.List.Elements.{All-set}
+use Rattle.atomic_table.specs.Seated.{TableId}
+use Rattle.chi_tracker.specs.declared.shape.Shape.{Shape}
+use Rattle.chi_tracker.specs.Shape.{size}
+use Rattle.chi_tracker.specs.Calls.{shape_of}
+use Rattle.chi_slice.specs.Config.{Sizes, are_in_limits}
+use Rattle.chi_slice.specs.Slice.{SliceState, opening_slice}
+use Rattle.chi_slice.proofs.Rows.{InLimits, in_limits}
+use Rattle.chi_node.specs.Agree.{Agree, KeepsAgreement}
+use Rattle.chi_node.specs.Calls.{IsSameRequester, IsSameSlice}
+use Rattle.chi_node.specs.Parts.{is_of_profile, opening_requesters}
+use Rattle.chi_node.specs.Parts as parts
+use Rattle.chi_node.specs.Requester.{RequesterState, no_requester, opening_requester}
+use Rattle.chi_node.proofs.Openings.{all_types, length_requesters}
+use Rattle.chi_system.specs.Home.{HomeState, IsHome, index_of, opening_home, slice_of, with_slice}
+use Rattle.chi_system.specs.System.{AllAgree, IsOf, IsSystem, SystemState, opening_system, requester_of}
+use Rattle.chi_system.proofs.Homes.{is_low, opening_at, opening_is_home, sizes_at, still_home}
+
+requester_at : (table : TableId) (shape : Shape) (n i : ℕ) (d : RequesterState) → i < n → get_or (opening_requesters table shape n) i d ≡ opening_requester table shape i
+requester_at table shape zero i d low = absurd (omega (arith, low))
+requester_at table shape (suc n) i d low = ⊎_elim
+    (λ (before : i < n). get_or_append_left (opening_requesters table shape n) (opening_requester table shape n ∷ []) d i (omega (arith, before, length_requesters table shape n)) ∙ requester_at table shape n i d before)
+    (λ (past : n ≤ i). let e : n ≡ i = omega (arith, past, low) in get_or_push (opening_requesters table shape n) (opening_requester table shape n) d i (length_requesters table shape n ∙ e) ∙ ap (opening_requester table shape) e)
+    (cases_lt i n)
+
+pub agree_at : (s s' : SliceState) (r r' : RequesterState) → s ≡ s' → r ≡ r' → Agree s' r' → Agree s r
+agree_at s s' r r' same_slice same a = subst (λ (t : SliceState). Agree t r) (sym same_slice) (subst (λ (q : RequesterState). Agree s' q) (sym same) a)
+
+pub opening_is_system : (config : Sizes) (table : TableId) → are_in_limits config ≡ true → parts.AllAgree config table (shape_of config.entries config.agents) → IsOf table (opening_system config table)
+opening_is_system config table limits all =
+    let shape = shape_of config.entries config.agents in
+    let home : IsHome (opening_home config) = opening_is_home config limits in
+    let count = length_requesters table shape config.agents in
+    let own : (i : ℕ) (d : RequesterState) → i < length (opening_requesters table shape config.agents) → get_or (opening_requesters table shape config.agents) i d ≡ opening_requester table shape i = λ i d low. requester_at table shape config.agents i d (subst (λ m. i < m) count low) in
+    record {
+      system = record {
+        home = home;
+        count = count;
+        numbers = λ n low. ap (λ (r : RequesterState). r.number) (requester_at table shape config.agents n no_requester low);
+        shapes = λ i d low. ap (λ (r : RequesterState). r.port.shape) (own i d low);
+        agree = λ j d inside. λ m e low.
+            let here = subst (λ k. j < k) home.count inside in
+            agree_at _ _ _ _ (opening_at config config.slices j d here) (own m e low) (all.agree j m here (subst (λ k. m < k) count low));
+      };
+      tables = λ i d low. ap (λ (r : RequesterState). r.table) (own i d low);
+    }
+
+-- an agent of the node has a requester, one of eight
+pub has_requester : (y : SystemState) (n : ℕ) → IsSystem y → n < y.home.config.agents → n < length y.requesters
+has_requester y n k low = subst (λ m. n < m) (sym k.count) low
+
+-- the tracker has entries of each type of the profile
+pub have_types : (y : SystemState) → IsSystem y → All (λ (r : RequesterState). (t : ℕ) → t < 4 → is_of_profile y.home.config.profile t ≡ true → 0 < size r.port.shape t) y.requesters
+have_types y k = λ n d inside. λ t low of_profile.
+    let shape = (get_or y.requesters n d).port.shape in
+    ltb-true 0 (size shape t) (all_types y.home.config shape k.home.limits (k.shapes n d inside) t low ∙ of_profile)
+
+low_number : (y : SystemState) (m : ℕ) (d : RequesterState) → IsSystem y → m < length y.requesters → (get_or y.requesters m d).number ≡ m
+low_number y m d k low = ap (λ (r : RequesterState). r.number) (get_or_default y.requesters m d no_requester low) ∙ k.numbers m (subst (λ n. m < n) k.count low)
+
+few_requesters : (y : SystemState) → IsSystem y → length y.requesters ≤ 8
+few_requesters y k = let l : InLimits y.home.config = in_limits y.home.config k.home.limits in omega (arith, k.count, l.agents)
+
+-- one requester is another one that keeps its number and its tracker
+pub renewed : (table : TableId) (y : SystemState) (h : HomeState) (n : ℕ) (r : RequesterState) → IsOf table y → n < y.home.config.agents → IsHome h → h.config ≡ y.home.config → IsSameRequester (requester_of y n) r → AllAgree h.slices (set y.requesters n r)
+    → IsOf table (record { home = h; requesters = set y.requesters n r })
+renewed table y h n r own near home config same all =
+    let k : IsSystem y = own.system in
+    let low = has_requester y n k near in
+    record {
+      system = record {
+        home = home;
+        count = length-set y.requesters n r ∙ (k.count ∙ ap (λ (c : Sizes). c.agents) (sym config));
+        numbers = λ m inside. ⊎_elim
+            (λ (e : m ≡ n). ap (λ (q : RequesterState). q.number) (get_or-set_at y.requesters n m r no_requester e low) ∙ (same.number ∙ (k.numbers n near ∙ sym e)))
+            (λ apart. ap (λ (q : RequesterState). q.number) (get_or-set_other y.requesters n m r no_requester apart) ∙ k.numbers m (subst (λ (c : Sizes). m < c.agents) config inside))
+            (cases_eq m n);
+        shapes = subst (λ (c : Sizes). All (λ (q : RequesterState). q.port.shape ≡ shape_of c.entries c.agents) (set y.requesters n r)) (sym config)
+            (All-set (λ (q : RequesterState). q.port.shape ≡ shape_of y.home.config.entries y.home.config.agents) y.requesters n r (same.shape ∙ k.shapes n no_requester low) k.shapes);
+        agree = all;
+      };
+      tables = All-set (λ (q : RequesterState). q.table ≡ table) y.requesters n r (same.table ∙ own.tables n no_requester low) own.tables;
+    }
+
+index_of_place : (y : SystemState) (j : ℕ) (d : SliceState) → IsSystem y → j < length y.home.slices → (get_or y.home.slices j d).index ≡ j
+index_of_place y j d k low = ap (λ (s : SliceState). s.index) (get_or_default y.home.slices j d (opening_slice y.home.config 0) low) ∙ k.home.indexes j (subst (λ (z : ℕ). j < z) k.home.count low)
+
+-- agreement after a call on the slice of a line
+visit_agrees : (y : SystemState) (n l : ℕ) (s : SliceState) (r : RequesterState) → IsSystem y → n < y.home.config.agents → IsSameSlice (slice_of y.home l) s → KeepsAgreement (slice_of y.home l) s (requester_of y n) r → AllAgree (with_slice y.home l s).slices (set y.requesters n r)
+visit_agrees y n l s r k near same keeps = λ j d inside. λ m e within.
+    let slices = y.home.slices in let rs = y.requesters in let i = index_of y.home l in
+    let d0 = opening_slice y.home.config 0 in
+    let low = has_requester y n k near in
+    let here = is_low y.home l k.home in
+    let there : j < length slices = subst (λ (z : ℕ). j < z) (length-set slices i s) inside in
+    let who : m < length rs = subst (λ (z : ℕ). m < z) (length-set rs n r) within in
+    ⊎_elim
+    (λ (is : j ≡ i). ⊎_elim
+    (λ (own : m ≡ n). agree_at _ _ _ _ (get_or-set_at slices i j s d is here) (get_or-set_at rs n m r e own low) (keeps.own (k.agree i d0 here n no_requester low)))
+    (λ apart. agree_at _ _ _ _ (get_or-set_at slices i j s d is here) (get_or-set_other rs n m r e apart)
+    (keeps.others (get_or rs m e) (omega (arith, low_number y m e k who, who, few_requesters y k)) (λ same_number. apart (sym (low_number y m e k who) ∙ (same_number ∙ k.numbers n near))) (k.agree i d0 here m e who)))
+    (cases_eq m n))
+    (λ away. ⊎_elim
+    (λ (own : m ≡ n). agree_at _ _ _ _ (get_or-set_other slices i j s d away) (get_or-set_at rs n m r e own low)
+    (keeps.elsewhere (get_or slices j d) (k.home.sizes j d there ∙ sym (sizes_at y.home l k.home)) (λ same_index. away (sym (index_of_place y j d k there) ∙ (same_index ∙ k.home.indexes i (subst (λ (z : ℕ). i < z) k.home.count here)))) (k.agree j d there n no_requester low)))
+    (λ apart. agree_at _ _ _ _ (get_or-set_other slices i j s d away) (get_or-set_other rs n m r e apart) (k.agree j d there m e who))
+    (cases_eq m n))
+    (cases_eq j i)
+
+-- a call on the slice of a line
+pub visited : (table : TableId) (y : SystemState) (n l : ℕ) (s : SliceState) (r : RequesterState) → IsOf table y → n < y.home.config.agents → IsSameSlice (slice_of y.home l) s → IsSameRequester (requester_of y n) r → KeepsAgreement (slice_of y.home l) s (requester_of y n) r
+    → IsOf table (record { home = with_slice y.home l s; requesters = set y.requesters n r })
+visited table y n l s r own near same_slice same keeps = renewed table y (with_slice y.home l s) n r own near (still_home y.home l s own.system.home same_slice) refl same (visit_agrees y n l s r own.system near same_slice keeps)
+
+-- what was made of the parts of a node
+pub made_system : (config : Sizes) (table : TableId) (shape : Shape) (h : HomeState) (rs : List RequesterState) → are_in_limits config ≡ true → parts.AllAgree config table shape → shape ≡ shape_of config.entries config.agents → h ≡ opening_home config → rs ≡ opening_requesters table shape config.agents
+    → IsOf table (record { home = h; requesters = rs })
+made_system config table shape h rs limits all is home requesters =
+    let opened = opening_is_system config table limits (subst (λ (z : Shape). parts.AllAgree config table z) is all) in
+    let same : rs ≡ opening_requesters table (shape_of config.entries config.agents) config.agents = requesters ∙ ap (λ (z : Shape). opening_requesters table z config.agents) is in
+    subst (λ (y : SystemState). IsOf table y) (sym (ap (λ (g : HomeState). record { home = g; requesters = rs }) home ∙ ap (λ (qs : List RequesterState). record { home = opening_home config; requesters = qs }) same)) opened

@@ -1,0 +1,4 @@
+pub mod Home
+pub mod Visits
+pub mod Credits
+pub mod System

@@ -1,0 +1,122 @@
+-- A node on one thread: its slices and its requesters (docs/PROTOCOL.md, "A requester and its calls" and
+-- "Agreement").
+use Rattle.std.specs.Prelude.{◌≡◌, ℕ, ◌<◌, List, All, nat_lt, Option, Some, None, Result, IfOk, OnErr, length, slice_set, if◌then◌else◌}
+use Rattle.std.specs.List.{slice_index_or}
+use Rattle.atomic_table.specs.Seated.{TableId}
+use Rattle.chi_flit.specs.declared.action.Action.{Action}
+use Rattle.chi_flit.specs.declared.credit.CreditType.{CreditType}
+use Rattle.chi_flit.specs.declared.numbers.Agent.{Agent}
+use Rattle.chi_flit.specs.declared.numbers.Line.{Line}
+use Rattle.chi_flit.specs.declared.refusal.Refusal.{Refusal}
+use Rattle.chi_flit.specs.declared.refusal.Refusal.TheVariants.{OutOfRange}
+use Rattle.chi_flit.specs.Refusal.{refusal_of}
+use Rattle.chi_tracker.specs.declared.released.Released.{Released}
+use Rattle.chi_tracker.specs.Calls.{shape_of}
+use Rattle.chi_line.specs.LineState.{cells_of}
+use Rattle.chi_line.specs.Refused.{first_of}
+use Rattle.chi_line.specs.Step.{effect_of}
+use Rattle.chi_slice.specs.Config.{Sizes}
+use Rattle.chi_slice.specs.Slice.{SliceState}
+use Rattle.chi_node.specs.declared.answers.Arrived.{Arrived}
+use Rattle.chi_node.specs.declared.answers.Stepped.{Stepped}
+use Rattle.chi_node.specs.Agree.{Agree}
+use Rattle.chi_node.specs.Calls.{arrival_action, arrival_refusal, call_refusal, place_at, ArrivesAt}
+use Rattle.chi_node.specs.Followed.{Finishes}
+use Rattle.chi_node.specs.Parts.{opening_requesters}
+use Rattle.chi_node.specs.Requester.{RequesterState, no_requester}
+use Rattle.chi_node.specs.Requester as requester
+use Rattle.chi_system.specs.Home.{HomeState, IsHome, acted, line, opening_home, slice_of}
+use Rattle.chi_system.specs.Credits.{GivesBack, Sees, Tends, Typed, typed_refusal}
+
+-- the slices of a node, and its requesters in rising order
+pub record SystemState : Type 0 where
+  pub home : HomeState
+  pub requesters : List RequesterState
+
+abbrev pub requester_of : SystemState → ℕ → RequesterState
+requester_of y n = slice_index_or y.requesters n no_requester
+
+-- a new node, whose tracker's words are these
+abbrev pub opening_system : Sizes → TableId → SystemState
+opening_system config table = record { home = opening_home config; requesters = opening_requesters table (shape_of config.entries config.agents) config.agents }
+
+-- 10: the agent is none of the node's
+abbrev pub agent_refusal : SystemState → ℕ → Option Refusal
+agent_refusal y n = if nat_lt n y.home.config.agents then None else Some OutOfRange
+
+-- why nothing of an agent arrives at a line
+abbrev pub arrive_refusal : SystemState → ℕ → ℕ → Option Refusal
+arrive_refusal y n l = arrival_refusal (slice_of y.home l) n l
+
+-- why an agent's step isn't done
+abbrev pub step_refusal : SystemState → Action → Option Refusal
+step_refusal y action = call_refusal (slice_of y.home action.line.0) (requester_of y action.agent.0) action
+
+-- why an agent can't give a credit back, and can't tend a type
+abbrev pub give_back_refusal : SystemState → ℕ → Option CreditType → Option Refusal
+give_back_refusal y n ty = first_of (agent_refusal y n) (typed_refusal (requester.give_back_refusal (requester_of y n)) ty)
+
+abbrev pub tend_refusal : SystemState → ℕ → Option CreditType → Option Refusal
+tend_refusal y n ty = first_of (agent_refusal y n) (typed_refusal (requester.tend_refusal (requester_of y n)) ty)
+
+-- all requesters but the agent's are as they were
+abbrev pub OthersStay : SystemState → SystemState → Agent → Type 0
+OthersStay y y' agent = y'.requesters ≡ slice_set y.requesters agent.0 (requester_of y' agent.0)
+
+-- an arrival was done: by the slice of its line, and by the agent's requester
+pub record ArrivesIn (y y' : SystemState) (agent : Agent) (l : Line) (arrived : Arrived) : Type 0 where
+  pub home : y'.home ≡ acted y.home (arrival_action agent.0 l arrived)
+  pub requester : ArrivesAt (cells_of (line y.home l.0) agent.0).req arrived (requester_of y agent.0) (requester_of y' agent.0)
+  pub others : OthersStay y y' agent
+
+-- a step was done: by the slice of its line, and by the agent's requester
+pub record StepsIn (y y' : SystemState) (action : Action) (stepped : Stepped) : Type 0 where
+  pub home : y'.home ≡ acted y.home action
+  pub effect : stepped.effect ≡ effect_of (line y.home action.line.0) action
+  pub requester : Finishes (place_at (slice_of y.home action.line.0) action) action.step stepped.effect stepped.released (requester_of y action.agent.0) (requester_of y' action.agent.0)
+  pub others : OthersStay y y' action.agent
+
+-- both, with their refusals; a refused call leaves all as it was
+pub record ArriveTry (y y' : SystemState) (agent : Agent) (l : Line) (result : Result Arrived Refusal) : Type 0 where
+  pub refusal : refusal_of result ≡ arrive_refusal y agent.0 l.0
+  pub ok : IfOk result (λ arrived. ArrivesIn y y' agent l arrived)
+  pub err : OnErr result (y' ≡ y)
+
+pub record StepTry (y y' : SystemState) (action : Action) (result : Result Stepped Refusal) : Type 0 where
+  pub refusal : refusal_of result ≡ step_refusal y action
+  pub ok : IfOk result (λ stepped. StepsIn y y' action stepped)
+  pub err : OnErr result (y' ≡ y)
+
+-- an agent looked at its promises, gave a credit back, or tended a type: the slices stay
+pub record SeesIn (y y' : SystemState) (agent : Agent) (seen : List ℕ) : Type 0 where
+  pub home : y'.home ≡ y.home
+  pub requester : Sees seen (requester_of y agent.0) (requester_of y' agent.0)
+  pub others : OthersStay y y' agent
+
+pub record GivesBackIn (y y' : SystemState) (agent : Agent) (ty : Option CreditType) (released : Released) : Type 0 where
+  pub home : y'.home ≡ y.home
+  pub requester : Typed ty (λ t. GivesBack t released (requester_of y agent.0) (requester_of y' agent.0))
+  pub others : OthersStay y y' agent
+
+pub record TendsIn (y y' : SystemState) (agent : Agent) (ty : Option CreditType) (released : Option Released) : Type 0 where
+  pub home : y'.home ≡ y.home
+  pub requester : Typed ty (λ t. Tends t released (requester_of y agent.0) (requester_of y' agent.0))
+  pub others : OthersStay y y' agent
+
+-- each requester agrees with each slice
+abbrev pub AllAgree : List SliceState → List RequesterState → Type 0
+AllAgree slices requesters = All (λ s. All (Agree s) requesters) slices
+
+-- what a node keeps: there are as many requesters as agents, each with its place as its number and with a
+-- port to a tracker of the node's entries, and each agrees with each slice
+pub record IsSystem (y : SystemState) : Type 0 where
+  pub home : IsHome y.home
+  pub count : length y.requesters ≡ y.home.config.agents
+  pub numbers : (n : ℕ) → n < y.home.config.agents → (requester_of y n).number ≡ n
+  pub shapes : All (λ r. r.port.shape ≡ shape_of y.home.config.entries y.home.config.agents) y.requesters
+  pub agree : AllAgree y.home.slices y.requesters
+
+-- and all ports are those of one tracker
+pub record IsOf (table : TableId) (y : SystemState) : Type 0 where
+  pub system : IsSystem y
+  pub tables : All (λ r. r.table ≡ table) y.requesters

@@ -1,0 +1,12 @@
+//! A node on one thread: its slices, its tracker and its requesters as one value.
+//!
+//! Source: `docs/PROTOCOL.md`, "A requester and its calls".
+#![tactic(auto)]
+
+mod agreement;
+mod audits;
+mod home;
+mod system;
+
+pub use audits::Audit;
+pub use system::System;

@@ -1,0 +1,349 @@
+//! A node on one thread.
+
+ghost use Rattle.std.specs.Prelude.{◌≡◌, ◌<◌, ◌↔◌, ℕ, All, IfOk, IsTrue, None, OnErr, OnOk, Some, length, nat_lt, slice_set, true};
+ghost use Rattle.std.specs.List.{slice_index_or};
+ghost use Rattle.atomic_table.specs.Seated.{TableId};
+ghost use Rattle.chi_flit.specs.Credit.{credit_number};
+ghost use Rattle.chi_flit.specs.Refusal.{refusal_of};
+ghost use Rattle.chi_tracker.specs.Shape.{size};
+ghost use Rattle.chi_slice.specs.Slice.{SliceState};
+ghost use Rattle.chi_line.specs.LineState.{cells_of};
+ghost use Rattle.chi_line.specs.Refused.{first_of};
+ghost use Rattle.chi_line.specs.View.{shown};
+ghost use Rattle.chi_node.specs.Calls.{is_own_step};
+ghost use Rattle.chi_node.specs.Parts.{is_of_profile};
+ghost use Rattle.chi_node.specs.Requester.{RequesterState, no_requester};
+ghost use Rattle.chi_system.specs.Home.{IsAudited, flits_refusal, last_of, line as line_of_home, view_refusal};
+ghost use Rattle.chi_system.specs.Credits.{GiveBackTry, Sees, TendTry, typed_refusal};
+ghost use Rattle.chi_system.specs.Visits.{ArrivalVisit, StepVisit};
+ghost use Rattle.chi_system.specs.System.{agent_refusal, arrive_refusal, give_back_refusal, opening_system, step_refusal, tend_refusal, AllAgree, ArriveTry, ArrivesIn, GivesBackIn, IsSystem, SeesIn, StepTry, StepsIn, TendsIn};
+
+use crate::audits::Audit;
+use crate::home::Home;
+use arrayvec::ArrayVec;
+use chi_flit::{Action, Agent, CreditType, Line, NoMemory, Refusal};
+use chi_node::{Arrived, Requester, Stepped, parts};
+use chi_slice::{Config, LineView};
+use chi_tracker::{Counts, Released, Tracker};
+use chi_wires::Cells;
+use std::alloc::Allocator;
+use std::marker::Model;
+
+/// The slices of a node, its tracker, and its requesters in rising order. Contracts see it as a
+/// `SystemState`.
+///
+/// Each requester agrees with each slice, so no call is refused with 11 (NotOpen). No call takes memory or
+/// waits.
+/// Source: `docs/PROTOCOL.md`, "A requester and its calls" and "Agreement".
+#[derive(Drop)]
+pub struct System<A: Allocator> {
+    home: Home<A>,
+    tracker: Tracker<A>,
+    requesters: ArrayVec<Requester, 8>,
+}
+
+impl<A: Allocator> Model for System<A> {
+    ghost use Rattle.chi_system.specs.System.{SystemState, IsOf};
+
+    ghost Value = { SystemState };
+
+    ghost view = { λ y. record { home = y.home; requesters = y.requesters.items } };
+
+    ghost invariant = { λ y. IsOf y.tracker.table (record { home = y.home; requesters = y.requesters.items }) };
+}
+
+impl<A: Allocator + Copy> System<A> {
+    /// A node of that size in its opening state. All memory that it ever needs is found here; refused where
+    /// it runs out.
+    pub fn new(alloc: A, config: &Config) -> Result<System<A>, NoMemory>
+        ensures opening { IfOk result (λ system. (table : TableId) × (system ≡ opening_system config.now table)) }
+        ensures kept { IfOk result IsSystem }
+    {
+        let (slices, tracker, requesters) = parts(alloc, config)?;
+        Ok(System {
+            home: Home::opening(config, slices),
+            tracker,
+            requesters,
+        })
+    }
+}
+
+impl<A: Allocator> System<A> {
+    /// The agent's request that is in flight at the line arrives at the home: it is admitted, or retried
+    /// where each entry of its type was found claimed. A resent request is always admitted.
+    ///
+    /// Refused 10 (OutOfRange) where the agent or the line is outside the node, and then 7 (NoFlit) where no
+    /// request of the agent is in flight there; nothing changes then.
+    /// Source: `docs/PROTOCOL.md`, "A requester and its calls".
+    pub fn arrive(&mut self, agent: Agent, line: Line) -> Result<Arrived, Refusal>
+        ensures refusal { refusal_of result ≡ arrive_refusal self.old agent.0 line.0 }
+        ensures ok { IfOk result (λ arrived. ArrivesIn self.old self.new agent line arrived) }
+        ensures err { OnErr result (self.new ≡ self.old) }
+        ensures kept { IsSystem self.old }
+    {
+        if !self.has_agent(agent) {
+            return Err(Refusal::OutOfRange);
+        }
+        self.arrive_inside(agent, line)
+    }
+
+    /// The agent does an action other than Admit and Retry, which are an arrival's. Where it completes a
+    /// request, the slot's entry is released.
+    ///
+    /// Refused as `step_on` of chi_node refuses it of the line's slice and of the agent's requester, but
+    /// never with 11; nothing changes then.
+    /// Condition: the action is neither Admit nor Retry.
+    /// Source: `docs/PROTOCOL.md`, "The actions" and "A requester and its calls".
+    pub fn step(&mut self, action: Action) -> Result<Stepped, Refusal>
+        requires { is_own_step action.step ≡ true }
+        ensures refusal { refusal_of result ≡ step_refusal self.old action }
+        ensures ok { IfOk result (λ stepped. StepsIn self.old self.new action stepped) }
+        ensures err { OnErr result (self.new ≡ self.old) }
+        ensures kept { IsSystem self.old }
+    {
+        if !self.has_agent(action.agent) {
+            return Err(Refusal::OutOfRange);
+        }
+        self.step_inside(action)
+    }
+
+    /// The agent looks at what is promised to it, one step on each of the tracker's four words, and is told
+    /// the seen credits by type.
+    ///
+    /// Refused 10 (OutOfRange) exactly where the agent is none of the node's; nothing changes then.
+    /// Source: `docs/PROTOCOL.md`, "A requester and its calls".
+    pub fn see(&mut self, agent: Agent) -> Result<[u32; 4], Refusal>
+        ensures refusal { refusal_of result ≡ agent_refusal self.old agent.0 }
+        ensures ok { IfOk result (λ seen. SeesIn self.old self.new agent seen) }
+        ensures err { OnErr result (self.new ≡ self.old) }
+        ensures kept { IsSystem self.old }
+    {
+        if !self.has_agent(agent) {
+            return Err(Refusal::OutOfRange);
+        }
+        let requesters = self.requesters.as_mut_slice();
+        Ok(see_at(&self.tracker, requesters, agent))
+    }
+
+    /// The agent's lowest Cancelled slot of the type becomes Idle, and its lowest seen credit of the type is
+    /// given back. `None` is a number that names no type.
+    ///
+    /// Refused 10 (OutOfRange) where the agent is none of the node's, or the type none of the profile's, and
+    /// then 12 (NoCredit) where no slot of the type is Cancelled, or no seen credit is beyond those for the
+    /// Riding slots; nothing changes then.
+    /// Source: `docs/PROTOCOL.md`, "A requester and its calls".
+    pub fn give_back(
+        &mut self,
+        agent: Agent,
+        credit: Option<CreditType>,
+    ) -> Result<Released, Refusal>
+        ensures refusal { refusal_of result ≡ give_back_refusal self.old agent.0 credit }
+        ensures ok { IfOk result (λ released. GivesBackIn self.old self.new agent credit released) }
+        ensures err { OnErr result (self.new ≡ self.old) }
+        ensures kept { IsSystem self.old }
+    {
+        let ty = self.type_for(agent, credit)?;
+        let requesters = self.requesters.as_mut_slice();
+        give_back_at(&self.tracker, requesters, agent, ty)
+    }
+
+    /// Where a requester shows an owed credit of the type, the agent claims an entry of the type and releases
+    /// it. `None` is answered where no credit of the type was seen owed, or each entry of the type was found
+    /// claimed. A type of `None` is a number that names no type.
+    ///
+    /// Refused 10 (OutOfRange) exactly where the agent is none of the node's, or the type none of the
+    /// profile's; nothing changes then.
+    /// Source: `docs/PROTOCOL.md`, "A requester and its calls".
+    pub fn tend(
+        &mut self,
+        agent: Agent,
+        credit: Option<CreditType>,
+    ) -> Result<Option<Released>, Refusal>
+        ensures refusal { refusal_of result ≡ tend_refusal self.old agent.0 credit }
+        ensures ok { IfOk result (λ released. TendsIn self.old self.new agent credit released) }
+        ensures err { OnErr result (self.new ≡ self.old) }
+        ensures kept { IsSystem self.old }
+    {
+        let ty = self.type_for(agent, credit)?;
+        let requesters = self.requesters.as_mut_slice();
+        tend_at(&self.tracker, requesters, agent, ty)
+    }
+
+    /// An arrival, for an agent of the node.
+    fn arrive_inside(&mut self, agent: Agent, line: Line) -> Result<Arrived, Refusal>
+        requires { agent.0 < self.old.home.config.agents }
+        ensures { ArriveTry self.old self.new agent line result }
+    {
+        arrive_at(
+            &mut self.home,
+            &self.tracker,
+            self.requesters.as_mut_slice(),
+            agent,
+            line,
+        )
+    }
+
+    /// A step, for an agent of the node.
+    fn step_inside(&mut self, action: Action) -> Result<Stepped, Refusal>
+        requires agent { action.agent.0 < self.old.home.config.agents }
+        requires step { is_own_step action.step ≡ true }
+        ensures { StepTry self.old self.new action result }
+    {
+        step_at(
+            &mut self.home,
+            &self.tracker,
+            self.requesters.as_mut_slice(),
+            action,
+        )
+    }
+
+    /// The type that a call for an agent names.
+    fn type_for(&self, agent: Agent, credit: Option<CreditType>) -> Result<CreditType, Refusal>
+        ensures refusal { refusal_of result ≡ first_of (agent_refusal self.now agent.0) (typed_refusal (λ t. None) credit) }
+        ensures ok { IfOk result (λ ty. credit ≡ Some ty) }
+        ensures agent { OnOk result (agent.0 < self.now.home.config.agents) }
+        ensures kept { IsSystem self.now }
+    {
+        if !self.has_agent(agent) {
+            return Err(Refusal::OutOfRange);
+        }
+        credit.ok_or(Refusal::OutOfRange)
+    }
+
+    /// Whether the agent is one of the node's.
+    fn has_agent(&self, agent: Agent) -> bool
+        ensures is { result ≡ nat_lt agent.0 self.now.home.config.agents }
+        ensures kept { IsSystem self.now }
+    {
+        agent.0 < self.home.config().agents()
+    }
+
+    /// All parts of a line, as plain data.
+    ///
+    /// Refused 10 (OutOfRange) exactly where the line is outside the node.
+    pub fn view(&self, line: Line) -> Result<LineView, Refusal>
+        ensures shown { IfOk result (λ view. view ≡ shown (line_of_home self.now.home line.0) (last_of self.now.home line.0)) }
+        ensures refusal { refusal_of result ≡ view_refusal self.now.home line.0 }
+    {
+        self.home.view(line)
+    }
+
+    /// What is in flight between an agent and the home for a line.
+    ///
+    /// Refused 10 (OutOfRange) exactly where the agent or the line is outside the node.
+    pub fn flits(&self, agent: Agent, line: Line) -> Result<Cells, Refusal>
+        ensures cells { IfOk result (λ cells. cells ≡ cells_of (line_of_home self.now.home line.0) agent.0) }
+        ensures refusal { refusal_of result ≡ flits_refusal self.now.home agent.0 line.0 }
+        ensures agent { OnOk result (agent.0 < self.now.home.config.agents) }
+    {
+        self.home.flits(agent, line)
+    }
+
+    /// The loads and stores of all slices, and whether each is coherent.
+    /// Source: `docs/PROTOCOL.md`, "Replay files".
+    pub fn audit(&self) -> Audit
+        ensures { IsAudited self.now.home.slices result.loads result.stores result.coherent }
+    {
+        self.home.audit()
+    }
+
+    /// The size of the node. Whoever asks for it knows what every node keeps.
+    pub fn config(&self) -> &Config
+        ensures is { result.now ≡ self.now.home.config }
+        ensures kept { IsSystem self.now }
+    {
+        self.home.config()
+    }
+
+    /// Whether each requester agrees with each slice. It is always so, since every call keeps it.
+    /// Source: `docs/PROTOCOL.md`, "Agreement".
+    pub fn agrees(&self) -> bool
+        ensures is { IsTrue result ↔ AllAgree self.now.home.slices self.now.requesters }
+        ensures always { result ≡ true }
+    {
+        self.home.agrees(self.requesters.as_slice())
+    }
+
+    /// How many entries of each type are free, in hand and promised, and how many credits are owed, as
+    /// the tracker's words show it.
+    pub fn glance(&self) -> Counts {
+        self.tracker.glance()
+    }
+}
+
+/// An arrival of the agent's requester.
+fn arrive_at<A: Allocator>(
+    home: &mut Home<A>,
+    tracker: &Tracker<A>,
+    requesters: &mut [Requester],
+    agent: Agent,
+    line: Line,
+) -> Result<Arrived, Refusal>
+    requires agent { agent.0 < length requesters.old }
+    requires tables { All (λ r. r.table ≡ tracker.now.table) requesters.old }
+    requires types { All (λ r. (t : ℕ) → t < 4 → is_of_profile home.old.config.profile t ≡ true → 0 < size r.port.shape t) requesters.old }
+    ensures { (r : RequesterState) × (requesters.new ≡ slice_set requesters.old agent.0 r) × ((s : SliceState) × ArrivalVisit home.old home.new line s (slice_index_or requesters.old agent.0 no_requester) r result) }
+{
+    home.arrive(tracker, &mut requesters[usize::from(agent.0)], line)
+}
+
+/// A step of the action's agent's requester.
+fn step_at<A: Allocator>(
+    home: &mut Home<A>,
+    tracker: &Tracker<A>,
+    requesters: &mut [Requester],
+    action: Action,
+) -> Result<Stepped, Refusal>
+    requires agent { action.agent.0 < length requesters.old }
+    requires tables { All (λ r. r.table ≡ tracker.now.table) requesters.old }
+    requires number { action.agent.0 ≡ (slice_index_or requesters.old action.agent.0 no_requester).number }
+    requires step { is_own_step action.step ≡ true }
+    ensures { (r : RequesterState) × (requesters.new ≡ slice_set requesters.old action.agent.0 r) × ((s : SliceState) × StepVisit home.old home.new action s (slice_index_or requesters.old action.agent.0 no_requester) r result) }
+{
+    home.step(
+        tracker,
+        &mut requesters[usize::from(action.agent.0)],
+        action,
+    )
+}
+
+/// A look of the agent's requester.
+fn see_at<A: Allocator>(
+    tracker: &Tracker<A>,
+    requesters: &mut [Requester],
+    agent: Agent,
+) -> [u32; 4]
+    requires agent { agent.0 < length requesters.old }
+    requires tables { All (λ r. r.table ≡ tracker.now.table) requesters.old }
+    ensures { (r : RequesterState) × (requesters.new ≡ slice_set requesters.old agent.0 r) × Sees result (slice_index_or requesters.old agent.0 no_requester) r }
+{
+    requesters[usize::from(agent.0)].see(tracker)
+}
+
+/// The agent's requester gives a credit back.
+fn give_back_at<A: Allocator>(
+    tracker: &Tracker<A>,
+    requesters: &mut [Requester],
+    agent: Agent,
+    ty: CreditType,
+) -> Result<Released, Refusal>
+    requires agent { agent.0 < length requesters.old }
+    requires tables { All (λ r. r.table ≡ tracker.now.table) requesters.old }
+    ensures { (r : RequesterState) × (requesters.new ≡ slice_set requesters.old agent.0 r) × GiveBackTry (credit_number ty) (slice_index_or requesters.old agent.0 no_requester) r result }
+{
+    requesters[usize::from(agent.0)].give_back(tracker, ty)
+}
+
+/// The agent's requester tends a type.
+fn tend_at<A: Allocator>(
+    tracker: &Tracker<A>,
+    requesters: &mut [Requester],
+    agent: Agent,
+    ty: CreditType,
+) -> Result<Option<Released>, Refusal>
+    requires agent { agent.0 < length requesters.old }
+    requires tables { All (λ r. r.table ≡ tracker.now.table) requesters.old }
+    ensures { (r : RequesterState) × (requesters.new ≡ slice_set requesters.old agent.0 r) × TendTry (credit_number ty) (slice_index_or requesters.old agent.0 no_requester) r result }
+{
+    requesters[usize::from(agent.0)].tend(tracker, ty)
+}
