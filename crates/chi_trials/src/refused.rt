@@ -1,7 +1,9 @@
-//! Whatever is refused leaves the slice as it was, after every beginning of the worked runs.
+//! Whatever is refused leaves the slice as it was, and whatever is done leaves it coherent, after every
+//! beginning of the worked runs.
 
 use crate::moves::{LINE, answer, at, look, slice_of};
 use crate::runs::{Move, RUNS};
+use chi_audit::check;
 use chi_flit::{Agent, Kind, Line, Slot, WordNo};
 use chi_slice::{Action, Slice, Step};
 use std::alloc::Global;
@@ -59,7 +61,16 @@ impl Begun<'_> {
     }
 }
 
-/// Tries an action on a slice of its own: where it is refused, all is as on the slice that was left alone.
+/// Whether the line, if it is one of the slice's, is coherent by what is shown of it.
+fn is_coherent(slice: &Slice<Global>, line: Line) -> bool {
+    match look(slice, line) {
+        Ok(view) => check(&view),
+        Err(_) => true,
+    }
+}
+
+/// Tries an action on a slice of its own: both lines are coherent then, and where the action is refused, all
+/// is as on the slice that was left alone.
 fn tries(
     rt: &impl Abort,
     alloc: Global,
@@ -68,7 +79,10 @@ fn tries(
     action: Action,
 ) {
     let mut slice = begun.slice(rt, alloc);
-    if answer(&mut slice, action).is_ok() {
+    let answered = answer(&mut slice, action);
+    assert!(rt; is_coherent(&slice, LINE), "{action:?}");
+    assert!(rt; is_coherent(&slice, Line(1)), "{action:?}");
+    if answered.is_ok() {
         return;
     }
     shows_the_same(rt, &slice, left_alone, LINE);
