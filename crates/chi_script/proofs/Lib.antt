@@ -8,3 +8,4 @@ pub mod CreditLemmas
 pub mod CommandLemmas
 pub mod SpaceLemmas
 pub mod HeaderLemmas
+pub mod WordLemmas

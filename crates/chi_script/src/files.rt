@@ -9,7 +9,7 @@ ghost use Rattle.chi_script.specs.Files.{lines_of, header_at, command_at, comman
 use crate::commands::{Command, read_command};
 use crate::faults::Fault;
 use crate::headers::{Header, read_header};
-use crate::words::words_in;
+use crate::words::read_words;
 use std::alloc::Allocator;
 
 /// The most bytes that a file may have.
@@ -54,10 +54,11 @@ fn read_commands<A: Allocator + Copy>(alloc: A, bytes: &[u8]) -> Result<Vec<Comm
     ensures { Gives (λ commands. commands.items) result (commands_of 2 (lines_of bytes.now)) }
 {
     let mut commands = Vec::new(alloc);
+    let mut words = Vec::new(alloc);
     let mut rest = bytes;
     let mut number = 2;
     while let Some((line, after)) = first_line(rest) {
-        let command = command_in(alloc, line, number)?;
+        let command = command_in(&mut words, line, number)?;
         commands.push(command)?;
         rest = after;
         number += 1;
@@ -74,16 +75,21 @@ fn header_in<A: Allocator>(alloc: A, line: &[u8]) -> Result<Header, Fault>
     ensures read { Gives (λ header. header) result (header_at line.now) }
     ensures kept { IfOk result (λ header. is_in_limits header ≡ true) }
 {
-    let words = words_in(alloc, line)?;
+    let mut words = Vec::new(alloc);
+    read_words(&mut words, line)?;
     read_header(&words).ok_or(Fault::BadHeader)
 }
 
-/// The command that a line is; its number is for the fault.
-fn command_in<A: Allocator>(alloc: A, line: &[u8], number: usize) -> Result<Command, Fault>
+/// The command that a line is; its number is for the fault. The list is room for its words.
+fn command_in<'a, A: Allocator>(
+    words: &mut Vec<&'a [u8], A>,
+    line: &'a [u8],
+    number: usize,
+) -> Result<Command, Fault>
     ensures { Gives (λ command. command) result (command_at number line.now) }
 {
-    let words = words_in(alloc, line)?;
-    read_command(&words).ok_or(Fault::BadCommand(number))
+    read_words(words, line)?;
+    read_command(words).ok_or(Fault::BadCommand(number))
 }
 
 /// The bytes before the first line end, and those after it. `None` where there is no line end.

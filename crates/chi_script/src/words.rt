@@ -1,15 +1,20 @@
 //! The words of a line.
 
-ghost use Rattle.std.specs.Prelude.{◌≡◌, bytes_eq, IfOk};
+ghost use Rattle.std.specs.Prelude.{◌≡◌, bytes_eq, OnOk};
 ghost use Rattle.chi_script.specs.Words.{words_of, texts_of, is_text};
 
 use std::alloc::{AllocError, Allocator};
 
-/// The words of a line, which is given without its line end: one space stands between two of them.
-pub fn words_in<A: Allocator>(alloc: A, line: &[u8]) -> Result<Vec<&[u8], A>, AllocError>
-    ensures { IfOk result (λ words. texts_of words.items ≡ words_of line.now) }
+/// Makes the list that of the words of a line, which is given without its line end: one space stands
+/// between two of them. The list keeps its room, so that few lines want memory.
+pub fn read_words<'a, A: Allocator>(
+    words: &mut Vec<&'a [u8], A>,
+    line: &'a [u8],
+) -> Result<(), AllocError>
+    ensures { OnOk result (texts_of words.new.items ≡ words_of line.now) }
 {
-    line.split(|byte| *byte == b' ').collect(alloc)
+    words.clear();
+    words.extend(line.split(|byte| *byte == b' '))
 }
 
 /// Whether a word is just this text.
