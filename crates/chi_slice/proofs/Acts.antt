@@ -1,5 +1,5 @@
 -- A slice keeps what it keeps through an action on one of its lines.
-use Rattle.std.proofs.Common.{◌≡◌, ℕ, ◌<◌, List, [], Bool, true, false, ◌||◌, Option, Some, None, if◌then◌else◌, Result, Ok, Err, IfOk, OnOk, OnErr, ◌≢◌, refl, sym, ◌∙◌, ap, subst, get_or, length, arith, rules}
+use Rattle.std.proofs.Common.{◌≡◌, ℕ, ◌<◌, List, [], Bool, true, false, Option, Some, None, if◌then◌else◌, Result, Ok, Err, IfOk, OnOk, OnErr, refl, sym, ◌∙◌, ap, subst, get_or, length, arith}
 use Rattle.std.proofs.lemmas.List.{get_or_read, set-get_or}
 use Rattle.std.proofs.Math.ListN.{set}
 use Rattle.chi_flit.specs.declared.numbers.Agent.{Agent}
@@ -13,24 +13,23 @@ use Rattle.chi_flit.specs.declared.refusal.Refusal.{Refusal}
 use Rattle.chi_flit.specs.declared.refusal.Refusal.TheVariants.{OutOfRange}
 use Rattle.chi_flit.specs.Refusal.{refusal_of}
 use Rattle.chi_flit.specs.State.{is_valid}
-use Rattle.chi_journal.specs.declared.record.Record.{Record}
 use Rattle.chi_journal.specs.Journal.{Log, is_full, last_words}
 use Rattle.chi_wires.specs.declared.cells.Cells.{Cells}
-use Rattle.chi_wires.specs.Wires.{flits_at, row_of}
+use Rattle.chi_wires.specs.Wires.{flits_at}
 use Rattle.chi_rnline.specs.Rn.{Rn, load_refusal, store_refusal, word_of}
 use Rattle.chi_homeline.specs.Home.{Home, idle_home}
 use Rattle.chi_line.specs.declared.act.Conditions.{Conditions}
 use Rattle.chi_line.specs.LineState.{LineState, cells_of, rn_of}
 use Rattle.chi_line.specs.Step.{after, effect_of, is_step_in_range, line_of_parts, record_of, slot_unless, step_effect, step_record}
-use Rattle.chi_line.specs.Refused.{completed_at, first_of, full_if, line_refusal, step_refusal}
+use Rattle.chi_line.specs.Refused.{completed_at, full_if, line_refusal, step_refusal}
 use Rattle.chi_slice.specs.Recorded.{CanAppend, done_record, record_by}
 use Rattle.chi_line.specs.Kept.{Kept}
-use Rattle.chi_slice.specs.Slice.{SliceState, SliceKept, OtherLinesStay, acted, completes, conditions_of, is_in_range, is_line_in_range, is_slot_used, last_of, line, line_at, Performed, recorded, refused, row_count, row_of_line, with_line}
+use Rattle.chi_slice.specs.Slice.{SliceState, SliceKept, OtherLinesStay, acted, completes, conditions_of, is_in_range, is_slot_used, last_of, line, line_at, Performed, recorded, refused, row_count, row_of_line}
 use Rattle.chi_line.specs.LineStep.{LineStep}
-use Rattle.chi_line.proofs.After.{kept_after, last_with, names_used_slot, neither}
+use Rattle.chi_line.proofs.After.{kept_after, names_used_slot, neither}
 use Rattle.chi_slice.proofs.Rows.{InRange, in_range, rows_apart}
 use Rattle.chi_line.proofs.Steps.{step_after}
-use Rattle.chi_slice.proofs.Slices.{FitsLine, kept_with_entry, line_at-with_line, line_at-with_other, same_line, with_entry}
+use Rattle.chi_slice.proofs.Slices.{FitsLine, kept_with_entry, line_at-with_line, line_at-with_other, same_line}
 use Rattle.chi_slice.proofs.Uses.{unused_at}
 
 -- the parts that are read out of a row are the line of that row

@@ -1,7 +1,7 @@
 -- The row of a line that is in the slice.
-use Rattle.std.proofs.Common.{◌≡◌, ℕ, ◌+◌, ◌-◌, ◌*◌, ◌/◌, ◌%◌, ◌<◌, ◌≤◌, Bool, true, false, ◌&&◌, ◌||◌, ◌==◌, ◌≢◌, nat_le, nat_lt, refl, subst, sym, arith, rules, ◌⊎◌, inl, inr, ⊎_elim}
+use Rattle.std.proofs.Common.{◌≡◌, ℕ, ◌+◌, ◌-◌, ◌*◌, ◌/◌, ◌%◌, ◌<◌, ◌≤◌, Bool, true, false, ◌&&◌, ◌||◌, ◌==◌, ◌≢◌, nat_le, nat_lt, refl, subst, sym, arith, ◌⊎◌, inl, inr, ⊎_elim}
 use Rattle.chi_flit.specs.declared.action.Action.{Action}
-use Rattle.chi_slice.specs.Config.{Sizes, are_entries, are_in_limits, is_between, is_slice_count}
+use Rattle.chi_slice.specs.Config.{Sizes, are_in_limits, is_between, is_slice_count}
 use Rattle.chi_slice.specs.Slice.{SliceState, SliceKept, are_in_range, is_in_range, is_line_in_range, row_count, row_of_line}
 use Rattle.chi_line.specs.Step.{is_step_in_range}
 

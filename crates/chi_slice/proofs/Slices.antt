@@ -1,7 +1,7 @@
 -- What a slice keeps: in the opening state, and where one line of it is replaced.
-use Rattle.std.proofs.Common.{◌≡◌, ◌≢◌, ℕ, ◌+◌, ◌-◌, ◌*◌, ◌/◌, ◌%◌, ◌<◌, ◌≤◌, List, [], Bool, true, false, ◌==◌, Option, Some, None, refl, sym, ◌∙◌, ap, subst, get_or, length, replicate, arith, rules, get_or-set_same, get_or-set_other}
+use Rattle.std.proofs.Common.{◌≡◌, ◌≢◌, ℕ, ◌/◌, ◌<◌, List, [], Bool, true, false, ◌==◌, Option, Some, None, refl, sym, ◌∙◌, ap, subst, length, replicate, arith, get_or-set_same, get_or-set_other}
 use Rattle.std.proofs.lemmas.List.{get_or-replicate}
-use Rattle.std.proofs.Math.ListN.{set, length-set, length-replicate}
+use Rattle.std.proofs.Math.ListN.{length-set, length-replicate}
 use Rattle.chi_flit.specs.Message.{no_words}
 use Rattle.chi_wires.specs.declared.cells.Cells.{Cells}
 use Rattle.chi_wires.specs.Cell.{no_flits}
@@ -13,7 +13,7 @@ use Rattle.chi_line.specs.Kept.{Kept}
 use Rattle.chi_journal.specs.declared.record.Record.{Record}
 use Rattle.chi_journal.specs.declared.record.Record.TheVariants.{Load, Store}
 use Rattle.chi_journal.specs.Record.{record_line}
-use Rattle.chi_journal.specs.Journal.{IsLegal, IsLegalAfter, Log, appended, last_words, opening_log, words_after}
+use Rattle.chi_journal.specs.Journal.{IsLegal, IsLegalAfter, Log, last_words, opening_log, words_after}
 use Rattle.chi_journal.proofs.Append.{last_words_with, legal_with}
 use Rattle.chi_slice.specs.Slice.{SliceState, SliceKept, is_line_in_range, last_of, line, line_at, recorded, row_count, row_of_line, with_line}
 use Rattle.chi_line.proofs.After.{last_with}

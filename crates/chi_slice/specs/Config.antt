@@ -1,6 +1,5 @@
 -- The sizes of a node, and their limits (docs/PROTOCOL.md, "Limits").
-use Rattle.std.specs.Prelude.{ℕ, ◌+◌, ◌-◌, ◌/◌, ◌%◌, List, [], ◌∷◌, Bool, true, false, ◌&&◌, ◌||◌, ◌==◌, nat_le, nat_lt, Option, Some, None, if◌then◌else◌}
-use Rattle.std.specs.List.{slice_index_or}
+use Rattle.std.specs.Prelude.{ℕ, ◌+◌, List, [], ◌∷◌, Bool, false, ◌&&◌, ◌||◌, ◌==◌, nat_le, Option, Some, None, if◌then◌else◌}
 use Rattle.chi_flit.specs.declared.credit.Profile.{Profile}
 use Rattle.chi_flit.specs.declared.credit.Profile.TheVariants.{Two, Four}
 
@@ -21,7 +20,7 @@ four_types agents lines slices entries journal = record { agents = agents; lines
 abbrev pub is_between : ℕ → ℕ → ℕ → Bool
 is_between low high n = nat_le low n && nat_le n high
 
--- line l is in slice l mod slices
+-- a node has one, two, four or eight slices; line l is in slice l mod slices
 abbrev pub is_slice_count : ℕ → Bool
 is_slice_count n = n == 1 || (n == 2 || (n == 4 || n == 8))
 

@@ -1,5 +1,6 @@
 pub mod Config
 pub mod Recorded
 pub mod Slice
+pub mod Run
 pub mod Index
 pub mod SliceMoves

@@ -1,5 +1,5 @@
 -- The record of an action that was tried (docs/PROTOCOL.md, "The actions", Load and Store).
-use Rattle.std.specs.Prelude.{◌≡◌, ◌<◌, ℕ, Bool, true, false, Option, Some, None, Result, Ok, Err}
+use Rattle.std.specs.Prelude.{◌≡◌, ◌<◌, false, Option, Some, None, Result, Ok, Err}
 use Rattle.chi_flit.specs.declared.numbers.Agent.{Agent}
 use Rattle.chi_flit.specs.declared.numbers.Line.{Line}
 use Rattle.chi_flit.specs.declared.numbers.WordNo.{WordNo}

@@ -32,7 +32,7 @@ pub record SliceState : Type 0 where
   pub wires : List (List Cells)
   pub journal : Log
 
--- how many lines below the node's number are in a slice
+-- how many of the node's lines are in a slice
 abbrev pub row_count : Sizes → ℕ → ℕ
 row_count config index = (config.lines - 1 - index) / config.slices + 1
 

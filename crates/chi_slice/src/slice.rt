@@ -16,6 +16,7 @@ ghost use Rattle.chi_line.specs.LineStep.{LineStep};
 ghost use Rattle.chi_slice.specs.Recorded.{CanAppend, record_by};
 ghost use Rattle.chi_line.specs.Coherent.{Coherent};
 ghost use Rattle.chi_line.specs.View.{shown};
+ghost use Rattle.chi_slice.specs.Run.{IsRun};
 ghost use Rattle.chi_slice.specs.Slice.{acted, are_in_range, completes, conditions_of, conditions_with, flits_refusal, is_in_range, is_line_in_range, is_slot_used, last_of, line, line as line_of_slice, opening_slice, OtherLinesStay, Performed, SliceKept, recorded, refused, refused_with, row_count, row_of_line, run_after, run_done, uses, view_refusal};
 
 use crate::config::Config;
@@ -93,7 +94,9 @@ fn row_count(config: &Config, index: u8) -> u8
 
 impl<A: Allocator + Copy> Slice<A> {
     /// The slice of that index in a node of that size, in the opening state: memory 0, no copies, nothing
-    /// in flight. All memory that the slice ever needs is found here; refused where it runs out.
+    /// in flight. The index is below the node's number of slices. All memory that the slice ever needs is
+    /// found here; refused where it runs out.
+    /// Source: `docs/PROTOCOL.md`, "One line".
     pub fn new(alloc: A, config: &Config, index: u8) -> Result<Slice<A>, NoMemory>
         requires { index < config.now.slices }
         ensures { IfOk result (λ slice. slice ≡ opening_slice config.now index) }
@@ -246,10 +249,14 @@ impl<A: Allocator> Slice<A> {
     }
 
     /// Tries the actions in their order; a refused one changes nothing. Answers how many were done.
-    /// Takes no memory.
+    /// Takes no memory; the sizes and the index stay.
+    /// Source: `docs/PROTOCOL.md`, "The actions".
     pub fn run(&mut self, actions: &[Action]) -> usize
+        ensures run { IsRun self.old actions.now self.new }
         ensures done { result ≡ run_done self.old actions.now }
         ensures after { self.new ≡ run_after self.old actions.now }
+        ensures config { self.new.config ≡ self.old.config }
+        ensures index { self.new.index ≡ self.old.index }
     {
         let mut done = 0;
         for action in actions {

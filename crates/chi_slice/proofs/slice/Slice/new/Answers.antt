@@ -1,5 +1,5 @@
 -- The opening state keeps what a slice keeps.
-use Rattle.std.proofs.Common.{◌≡◌, ◌∙◌, ap, replicate}
+use Rattle.std.proofs.Common.{◌∙◌, ap, replicate}
 use Rattle.chi_wires.specs.Cell.{no_flits}
 use Rattle.chi_rnline.specs.Rn.{no_line}
 use Rattle.chi_homeline.specs.Home.{idle_home}

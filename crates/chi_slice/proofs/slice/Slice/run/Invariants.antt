@@ -1,5 +1,4 @@
 -- So far the actions that were tried lead to the slice as it is, and what is left leads on.
-use Rattle.std.proofs.Common.{◌≡◌}
 use Rattle.chi_slice.proofs.Runs.{RunsOn}
 use Rattle.chi_slice.proofs.slice.Slice.run.Given as goal
 
