@@ -1,4 +1,5 @@
--- Cache states: which hold a copy, hold it alone, owe memory its value (Arm IHI 0050 B, chapter 4).
+-- Cache states: which hold a copy, hold it alone, owe memory its value (Arm IHI 0050 B, chapter 4; docs/PROTOCOL.md,
+-- "What is taken from the standard").
 use Rattle.std.specs.Prelude.{ℕ, List, Bool, true, false, codes}
 use Rattle.chi_flit.specs.declared.state.State.{State}
 use Rattle.chi_flit.specs.declared.state.State.TheVariants.{I, SC, UC, UD, SD}

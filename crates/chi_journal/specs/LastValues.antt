@@ -1,4 +1,4 @@
--- A table of the words of each line (docs/PROTOCOL.md, "One line").
+-- A table of the words of each line (docs/PROTOCOL.md, "The journal and last values").
 use Rattle.std.specs.Prelude.{ℕ, List, [], get_or, slice_set}
 use Rattle.chi_journal.specs.declared.record.Record.{Record}
 use Rattle.chi_journal.specs.declared.record.Record.TheVariants.{Load, Store}

@@ -1,6 +1,6 @@
 //! The loads and stores of one slice that were answered, in their order.
 //!
-//! Source: `docs/PROTOCOL.md`, "The actions", Load and Store.
+//! Source: `docs/PROTOCOL.md`, "The journal and last values".
 #![tactic(auto)]
 
 mod journal;

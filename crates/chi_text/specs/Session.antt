@@ -1,4 +1,5 @@
--- A node that commands are played on, as the table of the commands sees it.
+-- A node that commands are played on, as the table of the commands sees it (docs/PROTOCOL.md, "Replay
+-- files").
 use Rattle.std.specs.Prelude.{ℕ, List, map}
 use Rattle.chi_tracker.specs.Views.{PortView}
 use Rattle.chi_system.specs.System.{SystemState}

@@ -1,4 +1,5 @@
--- The rule of the tracker: what holds between any two atomic steps, whichever ports do them.
+-- The rule of the tracker: what holds between any two atomic steps, whichever ports do them
+-- (docs/PROTOCOL.md, "The rule between steps").
 use Rattle.std.specs.Prelude.{◌≡◌, ℕ, ◌+◌, ◌<◌, ◌≤◌, List, [], ◌∷◌, Option, Some, None, IfSome, length, slice_index, cond, ◌==◌}
 use Rattle.std.specs.Int.{bit_at}
 use Rattle.atomic_table.specs.Table.{State}

@@ -1,4 +1,4 @@
--- Entries by credit type, numbered by rising type (docs/PROTOCOL.md, "Words of the tracker").
+-- Entries by credit type, numbered by rising type (docs/PROTOCOL.md, "Limits").
 use Rattle.std.specs.Prelude.{◌≡◌, ℕ, ◌+◌, ◌*◌, ◌<◌, ◌≤◌, length, slice_index}
 use Rattle.std.specs.Int.{bit_at}
 use Rattle.chi_tracker.specs.declared.shape.Shape.{Shape}

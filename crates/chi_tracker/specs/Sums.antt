@@ -1,4 +1,4 @@
--- Sums over numbers, lists and bits.
+-- Sums over numbers, lists and bits, for the counts of words (docs/PROTOCOL.md, "Words of the tracker").
 use Rattle.std.specs.Prelude.{ℕ, zero, suc, ◌+◌, ◌-◌, ◌/◌, ◌%◌, ◌^◌, List, [], ◌∷◌, slice_index, slice_set, bit_and, bit_or, bit_xor}
 use Rattle.std.specs.Int.{bit_at}
 
