@@ -12,18 +12,18 @@ use Rattle.chi_tracker.specs.declared.shape.Shape.{Shape}
 use Rattle.chi_tracker.specs.declared.view.SeatView.{SeatView}
 use Rattle.chi_tracker.specs.declared.totals.Counts.{Counts}
 use Rattle.chi_tracker.specs.declared.totals.Credits.{Credits}
-use Rattle.chi_tracker.specs.Sums.{below, total}
+use Rattle.chi_tracker.specs.Sums.{total}
 use Rattle.chi_tracker.specs.Shape.{count_of, owed_in}
 use Rattle.chi_tracker.specs.Words.{c_of, p_of, o_of}
-use Rattle.chi_tracker.specs.Views.{PortView, has}
-use Rattle.chi_tracker.specs.Rule.{weigh, duty_is, AllSound, Fits, TrackerRule}
+use Rattle.chi_tracker.specs.Views.{PortView}
+use Rattle.chi_tracker.specs.Rule.{weigh, duty_is, TrackerRule}
 use Rattle.chi_tracker.specs.Steps.{solo}
 use Rattle.chi_tracker.specs.Laws.{port_at, Ledger, duties}
 use Rattle.chi_tracker.specs.Calls.{Owner}
-use Rattle.chi_tracker.specs.Totals.{views_of, sum_of, AreDue, AreCredits, credits_at, no_credits, IsClosed, IsCount, IsBalanced}
+use Rattle.chi_tracker.specs.Totals.{views_of, sum_of, AreDue, AreCredits, credits_at, no_credits, closed_state, IsClosed, IsCount, IsBalanced}
 use Rattle.chi_tracker.proofs.Moving.{of_mine, of_other}
 use Rattle.chi_tracker.proofs.Opening.{regroup, seats-at}
-use Rattle.chi_tracker.proofs.Exactly.{place_of, ledger_of}
+use Rattle.chi_tracker.proofs.Exactly.{ledgers}
 
 -- a read by get_elem? is a read by index
 pub read_at : (xs : List ℕ) (i x : ℕ) → get_elem? xs i ≡ some x → slice_index xs i ≡ x
@@ -139,29 +139,35 @@ credits_more s ws dues m all all' x a is due owed promised =
           (λ d. ap (λ c. slice_index c.due t) (at n (omega arith)) ∙ a.due n t (omega arith) lt);
     })
 
--- what the last state has, and the numbers read from it
-pub closes : (key : Shape) (st : State ℕ SeatView) (id : ℕ) (v : SeatView) (ports : List PortView) (dues : List ℕ) (counts : Counts) (credits : List Credits) → TrackerRule key st → get_elem? st.views id ≡ some v → v.ports ≡ ports → length ports ≡ key.agents
-    → ((n t : ℕ) → duties n t ports ≡ 0) → AreDue dues ports → IsCount key st.words counts → AreCredits key st.words dues key.agents credits → IsClosed key ports counts credits
-closes key st id v ports dues counts credits rule at is many idle due counted handed =
-    let all : (f : PortView → ℕ) → weigh f st.views ≡ total f ports = λ f. whole f st.views id v at (omega (arith, rule.fits.ports, ones v.ports, ap length is)) ∙ ap (total f) is in
-    let whole_seat : Fits key (c_of st.words) (p_of st.words) (o_of st.words) (record { ports = ports } ∷ []) = regroup key (c_of st.words) (p_of st.words) (o_of st.words) st.views (record { ports = ports } ∷ [])
-    (λ f. omega (arith, all f)) (subst (AllSound key) is (seats-at key st.views id v rule.fits.sound at), tt) rule.fits in record {
-      words = st.words;
-      place = λ e l. let le : e < 256 = omega (arith, l, rule.entries) in place_of key.agents (c_of st.words) (p_of st.words) ports e (rule.fits.bits e le) (rule.fits.place e le ∙ ap (λ z. z + below (λ n. p_of st.words n e) key.agents) (all (has e)));
-      ledger = λ n t ln lt. subst (λ (ps : List PortView). Ledger key (p_of st.words) (o_of st.words) ps n t) (append-nil ports)
-          (ledger_of key (c_of st.words) (p_of st.words) (o_of st.words) (record { ports = ports } ∷ []) whole_seat n t ln lt);
+-- a state whose seat has all ports keeps the rule with that seat alone
+pub one_seat : (key : Shape) (st : State ℕ SeatView) (id : ℕ) (v : SeatView) → TrackerRule key st → get_elem? st.views id ≡ some v → length v.ports ≡ key.agents → TrackerRule key (closed_state st.words v.ports)
+one_seat key st id v rule at many =
+    let all : (f : PortView → ℕ) → weigh f st.views ≡ total f v.ports = λ f. whole f st.views id v at (omega (arith, rule.fits.ports, ones v.ports)) in record {
+      words = rule.words;
+      agents = rule.agents;
+      entries = rule.entries;
+      fits = regroup key (c_of st.words) (p_of st.words) (o_of st.words) st.views (record { ports = v.ports } ∷ []) (λ f. omega (arith, all f)) (seats-at key st.views id v rule.fits.sound at, tt) rule.fits;
+    }
+
+-- the numbers read from the words at the end
+pub closes : (key s : Shape) (ws : List ℕ) (gathered ports : List PortView) (dues : List ℕ) (counts : Counts) (credits : List Credits) → key ≡ s → gathered ≡ ports → TrackerRule key (closed_state ws gathered)
+    → ((n t : ℕ) → duties n t ports ≡ 0) → AreDue dues ports → IsCount s ws counts → AreCredits s ws dues s.agents credits → IsClosed s ports counts credits
+closes key s ws gathered ports dues counts credits key_is all rule idle due counted handed =
+    let kept : TrackerRule s (closed_state ws ports) = subst (λ k. TrackerRule k (closed_state ws ports)) key_is (subst (λ ps. TrackerRule key (closed_state ws ps)) all rule) in record {
+      words = ws;
+      rule = kept;
       no_duty = idle;
       counted = counted;
       requesters = handed.requesters;
       owed = handed.owed;
       promised = handed.promised;
-      due = λ n t ln lt. let h = handed.due n t ln lt in let k = due n t (omega (arith, rule.agents)) lt in omega arith;
+      due = λ n t ln lt. let h = handed.due n t ln lt in let k = due n t (omega (arith, kept.agents)) lt in omega arith;
     }
 
 -- what is due is what is owed and what is promised
-pub balances : (s : Shape) (ports : List PortView) (counts : Counts) (credits : List Credits) → s.agents ≤ 8 → IsClosed s ports counts credits → IsBalanced s.agents credits
-balances s ports counts credits l8 closed n t ln lt =
-    let led = closed.ledger n t ln lt in let i : ℕ = led.0 in
+pub balances : (s : Shape) (ports : List PortView) (counts : Counts) (credits : List Credits) → IsClosed s ports counts credits → IsBalanced s.agents credits
+balances s ports counts credits closed n t ln lt =
+    let led : Ledger s (p_of closed.words) (o_of closed.words) ports n t = subst (λ (ps : List PortView). Ledger s (p_of closed.words) (o_of closed.words) ps n t) (append-nil ports) (ledgers s (closed_state closed.words ports) closed.rule n t ln lt) in let i : ℕ = led.0 in
     let h = closed.due n t ln lt in let d = closed.no_duty n t in let o = closed.owed n t ln lt in let q = closed.promised n t ln lt in
     let mine : (f : PortView → ℕ) → sum_of n f ports ≡ f (port_at ports i) = λ f. sum-mine n f ports i led.1 led.2 led.3 in
     let a = mine (λ x. slice_index x.retries t) in let b = mine (λ x. slice_index x.spent t) in let e = mine (λ x. slice_index x.returned t) in let g = led.4 in omega arith
@@ -174,9 +180,3 @@ balances s ports counts credits l8 closed n t ln lt =
     sum-mine n f [] i l w h = absurd (omega arith)
     sum-mine n f (p ∷ ps) zero l w h = omega (arith, of_mine n f p w, sum-none n f ps (λ j lj. h (suc j) (omega arith) (λ q. omega arith)))
     sum-mine n f (p ∷ ps) (suc i) l w h = omega (arith, of_other n f p (h 0 (omega arith) (λ q. omega arith)), sum-mine n f ps i (omega arith) w (λ j lj d. h (suc j) (omega arith) (λ q. d (omega arith))))
-
--- the same, of the words that were read and the shape that is kept beside the table
-pub closes_at : (key s : Shape) (st : State ℕ SeatView) (id : ℕ) (v : SeatView) (ws : List ℕ) (ports : List PortView) (dues : List ℕ) (counts : Counts) (credits : List Credits) → key ≡ s → TrackerRule key st → get_elem? st.views id ≡ some v → st.words ≡ ws → v.ports ≡ ports → length ports ≡ s.agents
-    → ((n t : ℕ) → duties n t ports ≡ 0) → AreDue dues ports → IsCount s ws counts → AreCredits s ws dues s.agents credits → IsClosed s ports counts credits
-closes_at key s st id v ws ports dues counts credits key_is rule at words_are is many idle due counted handed =
-    closes s st id v ports dues counts credits (subst (λ k. TrackerRule k st) key_is rule) at is many idle due (subst (λ w. IsCount s w counts) (sym words_are) counted) (subst (λ w. AreCredits s w dues s.agents credits) (sym words_are) handed)

@@ -1,19 +1,22 @@
--- From the rule's sums to Place and Ledger in their literal words.
-use Rattle.std.proofs.Common.{◌≡◌, ◌≢◌, inl, inr, ℕ, zero, suc, ◌+◌, ◌<◌, ◌≤◌, List, [], ◌∷◌, length, slice_index, refl, sym, ap, ◌∙◌, arith}
+-- From the rule's sums to Place, Ledger and what a port knows, in literal words.
+use Rattle.std.proofs.Common.{◌≡◌, ◌≢◌, inl, inr, ℕ, zero, suc, ◌+◌, ◌*◌, ◌/◌, ◌%◌, ◌<◌, ◌≤◌, Bool, cond, List, [], ◌∷◌, Option, Some, None, IfSome, length, slice_index, refl, sym, ap, ◌∙◌, arith, eq-eqb}
 use mathlib.Core.Logic.{dite}
 use native.Mathlib.Decide.{ℕ_discrete}
-use Rattle.std.proofs.lemmas.Nat.Bits.{bit_at-zero}
+use Rattle.std.specs.Int.{bit_at}
+use Rattle.std.proofs.lemmas.Nat.Bits.{bit_at-zero, bit_at-lt}
 use Rattle.atomic_table.specs.Table.{State}
 use Rattle.chi_tracker.specs.declared.shape.Shape.{Shape}
 use Rattle.chi_tracker.specs.declared.view.SeatView.{SeatView}
-use Rattle.chi_tracker.specs.Sums.{below, total}
+use Rattle.chi_tracker.specs.Sums.{below, total, set_at}
+use Rattle.chi_tracker.specs.Shape.{IsOf}
 use Rattle.chi_tracker.specs.Words.{c_of, p_of, o_of}
-use Rattle.chi_tracker.specs.Views.{PortView, has, new_port}
-use Rattle.chi_tracker.specs.Rule.{weigh, of_port, duty_is, Fits, TrackerRule}
+use Rattle.chi_tracker.specs.Views.{PortView, Duty, has, new_port}
+use Rattle.chi_tracker.specs.Rule.{weigh, of_port, duty_is, note_is, IsSound, AllSound, AllSeatsSound, Fits, TrackerRule}
 use Rattle.chi_tracker.specs.Steps.{no_shape}
-use Rattle.chi_tracker.specs.Laws.{all_ports, port_at, Place, Places, Ledger, Ledgers}
+use Rattle.chi_tracker.specs.Laws.{all_ports, port_at, Place, Places, Ledger, Ledgers, AllKnow}
 use Rattle.chi_tracker.proofs.Adding.{total-append, below_term}
 use Rattle.chi_tracker.proofs.Moving.{of_mine, of_other}
+use Rattle.chi_tracker.proofs.Opening.{sound-join}
 
 abbrev nobody : PortView
 nobody = new_port no_shape 0
@@ -99,3 +102,36 @@ ledger_of s c p o vs fits n t ln lt =
 
 pub ledgers : (key : Shape) (st : State ℕ SeatView) → TrackerRule key st → Ledgers key st
 ledgers key st rule = ledger_of key (c_of st.words) (p_of st.words) (o_of st.words) st.views rule.fits
+
+-- what a port weighs, all ports weigh at least
+term_in : (f : PortView → ℕ) (ps : List PortView) (i : ℕ) → i < length ps → f (port_at ps i) ≤ total f ps
+term_in f [] i l = absurd (omega arith)
+term_in f (p ∷ ps) zero l = omega arith
+term_in f (p ∷ ps) (suc i) l = omega (arith, term_in f ps i (omega arith))
+
+all_sound : (s : Shape) (vs : List SeatView) → AllSeatsSound s vs → AllSound s (all_ports vs)
+all_sound s [] h = tt
+all_sound s (v ∷ vs) h = sound-join s v.ports (all_ports vs) h.0 (all_sound s vs h.1)
+
+sound_at : (s : Shape) (ps : List PortView) → AllSound s ps → (i : ℕ) → i < length ps → IsSound s (port_at ps i)
+sound_at s [] h i l = absurd (omega arith)
+sound_at s (p ∷ ps) h zero l = h.0
+sound_at s (p ∷ ps) h (suc i) l = sound_at s ps h.1 i (omega arith)
+
+duty_of : (s : Shape) (p : PortView) (duty : Option Duty) → IfSome duty (λ d. (d.to < s.agents) × (d.kind < 4) × IsOf s d.kind d.entry × (has d.entry p ≡ 1)) → IfSome duty (λ d. IsOf s d.kind d.entry × (has d.entry p ≡ 1))
+duty_of s p None h = tt
+duty_of s p (Some d) h = (h.2, h.3)
+
+note_clear : (word : ℕ) (noted : Option ℕ) → ((k : ℕ) → note_is k noted + bit_at word k ≤ 1) → IfSome noted (λ k. bit_at word k ≡ 0)
+note_clear word None h = tt
+note_clear word (Some k) h = let a : note_is k (Some k) ≡ 1 = ap (λ (t : Bool). cond t 1 0) (eq-eqb k k refl) in omega (arith, h k)
+
+pub knows : (key : Shape) (st : State ℕ SeatView) → TrackerRule key st → AllKnow key st
+knows key st rule i l =
+    let x : PortView = port_at (all_ports st.views) i in
+    let sound : IsSound key x = sound_at key (all_ports st.views) (all_sound key st.views rule.fits.sound) i l in
+    let mine : (f : PortView → ℕ) → f x ≤ weigh (of_port x.who f) st.views = λ f. omega (arith, term_in (of_port x.who f) (all_ports st.views) i l, of_mine x.who f x refl, weigh_all (of_port x.who f) st.views) in record {
+      seen = λ e le is. omega (arith, mine (λ z. set_at z.seen e), rule.fits.seen x.who e sound.who_in (omega (arith, le, rule.entries)), bit_at-lt (slice_index st.words (4 + 5 * x.who + e / 64)) (e % 64));
+      duty = duty_of key x x.duty sound.duty_in;
+      noted = note_clear (o_of st.words x.who) x.noted (λ k. omega (arith, mine (λ z. note_is k z.noted), rule.fits.noted x.who k sound.who_in));
+    }

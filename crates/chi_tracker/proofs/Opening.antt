@@ -112,7 +112,7 @@ seats-push : (s : Shape) (vs : List SeatView) (v : SeatView) → AllSeatsSound s
 seats-push s [] v all here = (here, tt)
 seats-push s (w ∷ vs) v all here = (all.0, seats-push s vs v all.1 here)
 
-sound-join : (s : Shape) (ps qs : List PortView) → AllSound s ps → AllSound s qs → AllSound s (ps ++ qs)
+pub sound-join : (s : Shape) (ps qs : List PortView) → AllSound s ps → AllSound s qs → AllSound s (ps ++ qs)
 sound-join s [] qs a b = b
 sound-join s (p ∷ ps) qs a b = (a.0, sound-join s ps qs a.1 b)
 

@@ -1,10 +1,12 @@
--- Place and Ledger in their literal words (docs/PROTOCOL.md, "Words of the tracker").
-use Rattle.std.specs.Prelude.{◌≡◌, ◌≢◌, ◌⊎◌, ℕ, ◌+◌, ◌<◌, List, [], ◌∷◌, ◌++◌, length, slice_index, slice_index_or}
+-- What the rule means in literal words: Place, Ledger, and what a port knows (docs/PROTOCOL.md, "Words of
+-- the tracker").
+use Rattle.std.specs.Prelude.{◌≡◌, ◌≢◌, ◌⊎◌, ℕ, ◌+◌, ◌<◌, List, [], ◌∷◌, ◌++◌, IfSome, length, slice_index, slice_index_or}
+use Rattle.std.specs.Int.{bit_at}
 use Rattle.atomic_table.specs.Table.{State}
 use Rattle.chi_tracker.specs.declared.shape.Shape.{Shape}
 use Rattle.chi_tracker.specs.declared.view.SeatView.{SeatView}
-use Rattle.chi_tracker.specs.Sums.{total}
-use Rattle.chi_tracker.specs.Shape.{low, count_of, owed_in}
+use Rattle.chi_tracker.specs.Sums.{total, set_at}
+use Rattle.chi_tracker.specs.Shape.{low, IsOf, count_of, owed_in}
 use Rattle.chi_tracker.specs.Words.{c_of, p_of, o_of}
 use Rattle.chi_tracker.specs.Views.{PortView, has, new_port}
 use Rattle.chi_tracker.specs.Rule.{duty_is}
@@ -57,3 +59,14 @@ Ledger s p o ports n t = (i : ℕ) × (i < length ports) × ((port_at ports i).w
 
 abbrev pub Ledgers : Shape → State ℕ SeatView → Type 0
 Ledgers key st = (n t : ℕ) → n < key.agents → t < 4 → Ledger key (p_of st.words) (o_of st.words) (all_ports st.views) n t
+
+-- What a port knows holds of the words: each credit that it has seen is promised to its requester, its
+-- duty's entry is in hand and of the duty's type, and the place that it has noted is clear in its
+-- requester's word of owed credits.
+pub record Knows (s : Shape) (ws : List ℕ) (p : PortView) : Type 0 where
+  pub seen : (e : ℕ) → e < low s 4 → set_at p.seen e ≡ 1 → p_of ws p.who e ≡ 1
+  pub duty : IfSome p.duty (λ d. IsOf s d.kind d.entry × (has d.entry p ≡ 1))
+  pub noted : IfSome p.noted (λ k. bit_at (o_of ws p.who) k ≡ 0)
+
+abbrev pub AllKnow : Shape → State ℕ SeatView → Type 0
+AllKnow key st = (i : ℕ) → i < length (all_ports st.views) → Knows key st.words (port_at (all_ports st.views) i)

@@ -2,15 +2,17 @@
 -- the tracker").
 use Rattle.std.specs.Prelude.{◌≡◌, ℕ, ◌+◌, ◌*◌, ◌<◌, List, [], ◌∷◌, length, slice_index, slice_index_or, cond, ◌==◌}
 use Rattle.std.specs.Int.{bit_at}
+use Rattle.atomic_table.specs.Table.{State}
 use Rattle.chi_tracker.specs.declared.shape.Shape.{Shape}
+use Rattle.chi_tracker.specs.declared.view.SeatView.{SeatView}
 use Rattle.chi_tracker.specs.declared.totals.Counts.{Counts}
 use Rattle.chi_tracker.specs.declared.totals.Credits.{Credits}
 use Rattle.chi_tracker.specs.Sums.{below, total}
-use Rattle.chi_tracker.specs.Shape.{low, count_of, owed_in}
+use Rattle.chi_tracker.specs.Shape.{count_of, owed_in}
 use Rattle.chi_tracker.specs.Words.{c_of, p_of, o_of}
 use Rattle.chi_tracker.specs.Views.{PortView}
-use Rattle.chi_tracker.specs.Rule.{of_port}
-use Rattle.chi_tracker.specs.Laws.{Place, Ledger, duties}
+use Rattle.chi_tracker.specs.Rule.{of_port, TrackerRule}
+use Rattle.chi_tracker.specs.Laws.{duties}
 use Rattle.chi_tracker.specs.Calls.{Owner}
 
 -- to how many requesters an entry is promised
@@ -85,12 +87,16 @@ pub record AreCredits (s : Shape) (ws dues : List ℕ) (m : ℕ) (credits : List
   pub promised : (n t : ℕ) → n < m → t < 4 → slice_index (credits_at credits n).promised t ≡ count_of s t (p_of ws n)
   pub due : (n t : ℕ) → n < m → t < 4 → slice_index (credits_at credits n).due t ≡ slice_index dues (4 * n + t)
 
--- What the words at the end hold, beside the ports' views: each entry in exactly one place, the ledger of
--- each requester, no duty open, and the numbers handed out.
+-- the words and the views at the end, when one seat stands for all ports
+abbrev pub closed_state : List ℕ → List PortView → State ℕ SeatView
+closed_state words ports = record { words = words; homes = []; views = record { ports = ports } ∷ [] }
+
+-- What the words at the end hold, beside the views of the ports that were handed in: the rule of the
+-- tracker (each entry in one place, each seen credit promised, the ledgers), no duty, and the numbers
+-- handed out.
 pub record IsClosed (s : Shape) (ports : List PortView) (counts : Counts) (credits : List Credits) : Type 0 where
   pub words : List ℕ
-  pub place : (e : ℕ) → e < low s 4 → Place s.agents (c_of words) (p_of words) ports e
-  pub ledger : (n t : ℕ) → n < s.agents → t < 4 → Ledger s (p_of words) (o_of words) ports n t
+  pub rule : TrackerRule s (closed_state words ports)
   pub no_duty : (n t : ℕ) → duties n t ports ≡ 0
   pub counted : IsCount s words counts
   pub requesters : length credits ≡ s.agents

@@ -4,17 +4,19 @@ ghost use Rattle.std.specs.Prelude.{◌≡◌, ℕ, ◌+◌, ◌*◌, ◌<◌, �
 ghost use Rattle.std.specs.Slots.{slots_items, slots_len, IsFull};
 ghost use Rattle.chi_tracker.specs.Shape.{low, count_of, owed_in};
 ghost use Rattle.chi_tracker.specs.Words.{p_of, o_of};
+ghost use Rattle.chi_tracker.specs.Rule.{TrackerRule};
 ghost use Rattle.chi_tracker.specs.Laws.{duties};
-ghost use Rattle.chi_tracker.specs.Totals.{views_of, AreDue, AreCredits};
+ghost use Rattle.chi_tracker.specs.Totals.{views_of, closed_state, AreDue, AreCredits};
 
-use crate::law::{Board, Chair};
+use crate::law::{Board, Chair, Law};
 use crate::plays::{Enter, Gather};
 use crate::port::{Port, Seated};
 use crate::shape::Shape;
 use crate::tally::{Words, owed_to, promised_of};
 use crate::totals::Credits;
+use crate::view::SeatView;
 use arrayvec::ArrayVec;
-use atomic_table::Closed;
+use atomic_table::{Closed, Table};
 use std::alloc::Allocator;
 
 /// What is due by requester and type: place 4 * requester + type.
@@ -72,7 +74,7 @@ pub(crate) fn gather(board: &Board, mut ports: ArrayVec<Port, 8>) -> Gathered
 }
 
 /// The words of a closed tracker.
-pub(crate) fn read<A: Allocator>(closed: &Closed<u8, A>) -> Words
+fn read<A: Allocator>(closed: &Closed<u8, A>) -> Words
     requires { (slots_len closed.now.words ≡ 44) × IsFull closed.now.words }
     ensures { result ≡ slots_items closed.now.words }
 {
@@ -80,6 +82,22 @@ pub(crate) fn read<A: Allocator>(closed: &Closed<u8, A>) -> Words
     for i in 0..44 {
         words[i] = closed.word(i);
     }
+    words
+}
+
+/// Ends the words' table with the seat that stands for all ports: what the words hold then.
+pub(crate) fn last_words<A: Allocator>(
+    table: Table<u8, SeatView, Shape, Law, A>,
+    chair: Chair,
+) -> Words
+    requires words { (table.shared.table_id.words ≡ 44) × (table.shared.table_id.slots ≡ 0) }
+    requires table { chair.table_id ≡ table.shared.table_id }
+    requires all { length chair.me.0.ports ≡ table.shared.key.agents }
+    ensures { TrackerRule table.shared.key (closed_state result chair.me.0.ports) }
+{
+    let closed = table.close_with(chair);
+    let words = read(&closed);
+    closed.free();
     words
 }
 

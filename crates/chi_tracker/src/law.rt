@@ -20,7 +20,7 @@ impl Law {
     ghost use Rattle.atomic_table.specs.Table.{State};
     ghost use Rattle.chi_tracker.specs.declared.shape.Shape.{Shape};
     ghost use Rattle.chi_tracker.specs.declared.view.SeatView.{SeatView};
-    ghost use Rattle.chi_tracker.specs.Laws.{Places, Ledgers};
+    ghost use Rattle.chi_tracker.specs.Laws.{Places, Ledgers, AllKnow};
 
     /// Between any two atomic steps each entry is free, in the hand of exactly one port, or promised to
     /// exactly one requester. Does nothing: its contract is the law.
@@ -32,6 +32,13 @@ impl Law {
     /// duty, promised, spent and returned. Does nothing: its contract is the law.
     pub fn ledger()
         ensures { (key : Shape) (st : State ℕ SeatView) → TrackerRule key st → Ledgers key st }
+    {}
+
+    /// Between any two atomic steps each credit that a port has seen is promised to its requester, the
+    /// entry of a port's duty is in hand and of the duty's type, and the place that a port has noted is
+    /// clear. Does nothing: its contract is the law.
+    pub fn knowledge()
+        ensures { (key : Shape) (st : State ℕ SeatView) → TrackerRule key st → AllKnow key st }
     {}
 }
 

@@ -110,7 +110,7 @@ impl Port {
     /// Tries the entries of the type from the lowest, in one scan, until one is free: it comes to hand.
     /// None only where each entry of the type was found claimed by a step of this call.
     ///
-    /// Condition: the type has entries.
+    /// Conditions: the port is one that this tracker gave, and the type has entries.
     /// Source: `docs/PROTOCOL.md`, "Steps of the tracker".
     #[tactic(auto, using(crate::proofs::BitLaws::with_here, crate::proofs::Entries::of_credit, crate::proofs::Entries::scan_found))]
     pub fn claim<A: Allocator>(&mut self, tracker: &Tracker<A>, ty: CreditType) -> Option<Entry>
@@ -138,7 +138,7 @@ impl Port {
 
     /// Frees an entry in hand.
     ///
-    /// Condition: the entry is in hand.
+    /// Conditions: the port is one that this tracker gave, and the entry is in its hand.
     pub fn free<A: Allocator>(&mut self, tracker: &Tracker<A>, entry: Entry)
         requires table { self.old.table ≡ tracker.now.table }
         requires entry { has entry.0 self.old.port ≡ 1 }
@@ -156,7 +156,8 @@ impl Port {
     /// Owes the requester one more credit of the type: it looks at its own word of owed credits and sets
     /// the lowest clear place there.
     ///
-    /// Conditions: the type has entries, and fewer than 8 credits of the type are due.
+    /// Conditions: the port is one that this tracker gave, the type has entries, and fewer than 8 credits
+    /// of the type are due.
     pub fn owe<A: Allocator>(&mut self, tracker: &Tracker<A>, ty: CreditType)
         requires table { self.old.table ≡ tracker.now.table }
         requires entries { 0 < size self.old.port.shape (credit_number ty) }
@@ -176,6 +177,8 @@ impl Port {
 
     /// Looks at what is promised to the port, one step on each of its four words, and answers the seen
     /// credits by type.
+    ///
+    /// Condition: the port is one that this tracker gave.
     pub fn see<A: Allocator>(&mut self, tracker: &Tracker<A>) -> [u32; 4]
         requires table { self.old.table ≡ tracker.now.table }
         ensures table { self.new.table ≡ self.old.table }
@@ -213,7 +216,7 @@ impl Port {
 
     /// Spends the lowest seen credit of the type: its entry comes to hand.
     ///
-    /// Condition: a seen credit of the type.
+    /// Conditions: the port is one that this tracker gave, and has a seen credit of the type.
     #[tactic(auto, using(crate::proofs::BitLaws::with_here, crate::proofs::Entries::of_credit))]
     pub fn spend<A: Allocator>(&mut self, tracker: &Tracker<A>, ty: CreditType) -> Entry
         requires table { self.old.table ≡ tracker.now.table }
@@ -243,7 +246,8 @@ impl Port {
     /// first of which it can settle an owed credit of the entry's type; where there is none, the entry is
     /// freed.
     ///
-    /// Condition: the entry is in hand.
+    /// Conditions: the port is one that this tracker gave, and the entry is one of the tracker's and in its
+    /// hand.
     pub fn release<A: Allocator>(&mut self, tracker: &Tracker<A>, entry: Entry) -> Released
         requires table { self.old.table ≡ tracker.now.table }
         requires entry { (entry.0 < low self.old.port.shape 4) × (has entry.0 self.old.port ≡ 1) }
@@ -266,7 +270,7 @@ impl Port {
     /// Gives back the lowest seen credit of the type, which counts as returned and not as spent, and
     /// releases its entry.
     ///
-    /// Condition: a seen credit of the type.
+    /// Conditions: the port is one that this tracker gave, and has a seen credit of the type.
     #[tactic(auto, using(crate::proofs::BitLaws::with_here))]
     pub fn give_back<A: Allocator>(&mut self, tracker: &Tracker<A>, ty: CreditType) -> Released
         requires table { self.old.table ≡ tracker.now.table }
@@ -293,7 +297,7 @@ impl Port {
     /// Where a requester shows an owed credit of the type, claims an entry of the type and releases it.
     /// None where no credit of the type was seen owed, or each entry of the type was found claimed.
     ///
-    /// Condition: the type has entries.
+    /// Conditions: the port is one that this tracker gave, and the type has entries.
     #[tactic(auto, using(crate::proofs::Sweeps::tended_hand))]
     pub fn tend<A: Allocator>(&mut self, tracker: &Tracker<A>, ty: CreditType) -> Option<Released>
         requires table { self.old.table ≡ tracker.now.table }

@@ -7,7 +7,7 @@ ghost use Rattle.chi_tracker.specs.Rule.{all_new};
 ghost use Rattle.chi_tracker.specs.Calls.{owners, shape_of};
 ghost use Rattle.chi_tracker.specs.Totals.{views_of, IsClosed, IsBalanced};
 
-use crate::closing::{Gathered, credits, gather, read};
+use crate::closing::{Gathered, credits, gather, last_words};
 use crate::law::{Board, Chair, Law};
 use crate::plays::Deal;
 use crate::port::Port;
@@ -91,10 +91,12 @@ impl<A: Allocator> Tracker<A> {
     }
 
     /// Ends the tracker: it joins the seats of all ports, so that all views are known, and answers what the
-    /// words hold then, by type and by requester. No duty is open, and for each requester and type what is
-    /// due is what is owed and what is promised.
+    /// words hold then, by type and by requester. With these views the words keep the tracker's rule: each
+    /// entry is in one place, and each credit that a port has seen is promised to its requester. No duty is
+    /// open, and for each requester and type what is due is what is owed and what is promised.
     ///
     /// Condition: the ports are all that `new` gave, in any order.
+    /// Source: `docs/PROTOCOL.md`, "Words of the tracker".
     pub fn close(self, ports: ArrayVec<Port, 8>) -> Totals
         requires all { length ports.items ≡ self.shape.agents }
         requires table { All (λ p. p.table ≡ self.table) ports.items }
@@ -103,9 +105,7 @@ impl<A: Allocator> Tracker<A> {
     {
         let Tracker { table, shape } = self;
         let Gathered { chair, dues } = gather(&table.shared, ports);
-        let closed = table.close_with(chair);
-        let words = read(&closed);
-        closed.free();
+        let words = last_words(table, chair);
         let counts = counts(words, shape);
         let requesters = credits(words, shape, dues);
         Totals { counts, requesters }

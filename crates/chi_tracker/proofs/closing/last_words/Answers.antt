@@ -1,0 +1,11 @@
+use Rattle.std.proofs.Common.{subst, rules}
+use Rattle.chi_tracker.specs.Rule.{TrackerRule}
+use Rattle.chi_tracker.specs.Totals.{closed_state}
+use Rattle.chi_tracker.proofs.Balance.{one_seat}
+use Rattle.chi_tracker.proofs.closing.last_words.Goals as goal
+
+pub returns : goal.returns
+returns g c =
+    let last = c.close_with-closed.ensures.values.2 in let key = c.args.table.shared.key in let chair = c.args.chair in
+    subst (λ ws. TrackerRule key (closed_state ws chair.me.0.ports)) (search (rules, last.2, c.read-words.ensures))
+    (one_seat key last.0 chair.id chair.me.0 last.1.0 last.1.1 c.requires.all)
