@@ -1,16 +1,20 @@
--- A header is read from its one spelling alone.
-use Rattle.std.proofs.Common.{◌≡◌, ℕ, Bool, true, false, cond, List, [], ◌∷◌, Option, Some, None, refl, sym, ap, subst, ◌∙◌, codes}
+-- A header is read from its one spelling, and from that alone.
+use Rattle.std.proofs.Common.{◌≡◌, ℕ, ◌≤◌, Bool, true, false, cond, List, [], ◌∷◌, get_or, Option, Some, None, refl, sym, ap, subst, ◌∙◌, codes, arith}
 use Rattle.std.specs.List.{join_with_byte}
 use Rattle.std.specs.Fmt.{decimal}
+use Rattle.std.proofs.lemmas.Bool.Decides.{nat_tests}
 use Rattle.std.proofs.lemmas.List.Splits.{join_with_byte-slice_split}
 use Rattle.std.proofs.lemmas.Slice.Eq.{bytes_eq-Decides}
+use Rattle.chi_flit.specs.declared.credit.Profile.{Profile}
 use Rattle.chi_flit.specs.declared.credit.Profile.TheVariants.{Two, Four}
 use Rattle.chi_script.specs.declared.headers.Header.{Header}
 use Rattle.chi_script.specs.declared.headers.CreditTypes.{CreditTypes}
 use Rattle.chi_script.specs.Words.{◌>>=◌, is_text, words_of, number_of}
-use Rattle.chi_script.specs.Headers.{types_of, sizes_of, kept, header_of, is_in_limits}
+use Rattle.chi_script.specs.Headers.{types_of, sizes_of, kept, header_of, is_from, is_slice_count, are_entries, is_in_limits, IsInLimits}
 use Rattle.chi_script.specs.Spelling.{type_words, header_words, IsHeaderLine}
-use Rattle.chi_script.proofs.NumberLemmas.{number_read, bound}
+use Rattle.chi_script.proofs.LimitLemmas.{each_few, limits_of}
+use Rattle.chi_script.proofs.NumberLemmas.{number_read, number_again, bound, both}
+use Rattle.chi_script.proofs.SpaceLemmas.{no_space, no_spaces, joined_again, decimal_no_space}
 
 -- words that are equal one by one
 front : (a b : List ℕ) (x y : List (List ℕ)) → a ≡ b → x ≡ y → a ∷ x ≡ b ∷ y
@@ -77,3 +81,80 @@ pub header_line : (line : List ℕ) (header : Header) → header_of (words_of li
 header_line line header e =
     let read = header_read (words_of line) header e in
     (read.0, sym (join_with_byte-slice_split 32 line) ∙ ap (join_with_byte 32) read.1)
+
+-- a number within the limits is read again, and has no space
+few_again : (n : ℕ) → n ≤ 65536 → number_of (decimal n) ≡ Some n
+few_again n few = number_again n (decimal n) (omega (arith, few), refl)
+
+few_spaceless : (n : ℕ) → n ≤ 65536 → no_space (decimal n) ≡ true
+few_spaceless n few = decimal_no_space n (omega (arith, few))
+
+-- a profile of two types has entries of these alone
+none_left : (t0 t1 t2 t3 : ℕ) → are_entries Two (t0 ∷ t1 ∷ t2 ∷ t3 ∷ []) ≡ true → (t2 ≡ 0) × (t3 ≡ 0)
+none_left t0 t1 t2 t3 e = (grind (arith, nat_tests), grind (arith, nat_tests))
+
+-- the entries of the types are those of the profile
+entries_fit : (header : Header) → is_in_limits header ≡ true → are_entries header.profile header.entries ≡ true
+entries_fit header e =
+    let agents = both (is_from 1 8 header.agents) _ e in
+    let lines = both (is_from 1 64 header.lines) _ agents.1 in
+    let slices = both (is_slice_count header.lines header.slices) _ lines.1 in
+    (both (are_entries header.profile header.entries) _ slices.1).0
+
+types_again : (profile : Profile) (entries : List ℕ) (journal : ℕ) → are_entries profile entries ≡ true → ((i : ℕ) → get_or entries i 0 ≤ 65536) → journal ≤ 65536
+    → types_of (type_words profile entries journal) ≡ Some (record { entries = entries; journal = journal; profile = profile })
+types_again Two [] journal e few late = cc
+types_again Four [] journal e few late = cc
+types_again Two (t0 ∷ []) journal e few late = cc
+types_again Four (t0 ∷ []) journal e few late = cc
+types_again Two (t0 ∷ t1 ∷ []) journal e few late = cc
+types_again Four (t0 ∷ t1 ∷ []) journal e few late = cc
+types_again Two (t0 ∷ t1 ∷ t2 ∷ []) journal e few late = cc
+types_again Four (t0 ∷ t1 ∷ t2 ∷ []) journal e few late = cc
+types_again Two (t0 ∷ t1 ∷ t2 ∷ t3 ∷ []) journal e few late =
+    let none = none_left t0 t1 t2 t3 e in
+    rw (none.0, none.1, few_again t0 (few 0), few_again t1 (few 1), few_again journal late) refl
+types_again Four (t0 ∷ t1 ∷ t2 ∷ t3 ∷ []) journal e few late = rw (few_again t0 (few 0), few_again t1 (few 1), few_again t2 (few 2), few_again t3 (few 3), few_again journal late) refl
+types_again Two (t0 ∷ t1 ∷ t2 ∷ t3 ∷ t4 ∷ more) journal e few late = cc
+types_again Four (t0 ∷ t1 ∷ t2 ∷ t3 ∷ t4 ∷ more) journal e few late = cc
+
+types_spaceless : (profile : Profile) (entries : List ℕ) (journal : ℕ) → ((i : ℕ) → get_or entries i 0 ≤ 65536) → journal ≤ 65536 → no_spaces (type_words profile entries journal) ≡ true
+types_spaceless Two entries journal few late = rw (few_spaceless (get_or entries 0 0) (few 0), few_spaceless (get_or entries 1 0) (few 1), few_spaceless journal late) refl
+types_spaceless Four entries journal few late =
+    rw (few_spaceless (get_or entries 0 0) (few 0), few_spaceless (get_or entries 1 0) (few 1), few_spaceless (get_or entries 2 0) (few 2), few_spaceless (get_or entries 3 0) (few 3), few_spaceless journal late) refl
+
+-- all numbers of a header within the limits are few
+record AreFew (header : Header) : Type 0 where
+  agents : header.agents ≤ 65536
+  lines : header.lines ≤ 65536
+  slices : header.slices ≤ 65536
+  entries : (i : ℕ) → get_or header.entries i 0 ≤ 65536
+  journal : header.journal ≤ 65536
+
+are_few : (header : Header) → is_in_limits header ≡ true → AreFew header
+are_few header e =
+    let l : IsInLimits header = limits_of header e in
+    record {
+      agents = omega (arith, l.agents.1);
+      lines = omega (arith, l.lines.1);
+      slices = omega (arith, l.slices.1);
+      entries = λ i. omega (arith, each_few header e i);
+      journal = l.journal.1;
+    }
+
+header_again : (header : Header) → is_in_limits header ≡ true → header_of (header_words header) ≡ Some header
+header_again header e =
+    let few : AreFew header = are_few header e in
+    let types = types_again header.profile header.entries header.journal (entries_fit header e) few.entries few.journal in
+    let sizes : sizes_of (sizes_words header) ≡ Some header = rw (few_again header.agents few.agents, few_again header.lines few.lines, few_again header.slices few.slices, types) refl in
+    let through : kept header ≡ Some header = rw e refl in
+    ap (λ (found : Option Header). found >>= kept) sizes ∙ through
+
+header_joined : (header : Header) → is_in_limits header ≡ true → words_of (join_with_byte 32 (header_words header)) ≡ header_words header
+header_joined header e =
+    let few : AreFew header = are_few header e in
+    let types = types_spaceless header.profile header.entries header.journal few.entries few.journal in
+    joined_again (codes "node") (sizes_words header) (rw (few_spaceless header.agents few.agents, few_spaceless header.lines few.lines, few_spaceless header.slices few.slices, types) refl)
+
+pub header_line_again : (line : List ℕ) (header : Header) → IsHeaderLine header line → header_of (words_of line) ≡ Some header
+header_line_again line header is = ap (λ (bytes : List ℕ). header_of (words_of bytes)) is.1 ∙ (ap header_of (header_joined header is.0) ∙ header_again header is.0)

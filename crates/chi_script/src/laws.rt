@@ -23,10 +23,12 @@ pub fn commands_are_lines()
     ensures again { (line : List ℕ) (command : Command) → IsLine command line → command_of (words_of line) ≡ Some command }
 {}
 
-/// A line that is read as a header is the one spelling of it, and the header is within the limits.
+/// A line is read as a header exactly where it is the one spelling of it and the header is within the
+/// limits, with one space between two words.
 /// Source: `docs/PROTOCOL.md`, "Replay files" and "Limits".
 pub fn headers_are_lines()
-    ensures { (line : List ℕ) (header : Header) → header_of (words_of line) ≡ Some header → IsHeaderLine header line }
+    ensures read { (line : List ℕ) (header : Header) → header_of (words_of line) ≡ Some header → IsHeaderLine header line }
+    ensures again { (line : List ℕ) (header : Header) → IsHeaderLine header line → header_of (words_of line) ≡ Some header }
 {}
 
 /// One byte more than a file may have is enough of it: the rest changes nothing.

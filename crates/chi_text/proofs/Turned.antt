@@ -1,6 +1,7 @@
 -- What a node did for a command plays the command's turn.
-use Rattle.std.proofs.Common.{◌≡◌, ℕ, ◌<◌, Bool, true, false, List, [], ◌∷◌, ◌++◌, Option, Some, None, Result, Ok, Err, IfOk, OnOk, OnErr, refl, sym, ◌∙◌, ap, subst, arith}
+use Rattle.std.proofs.Common.{◌≡◌, ℕ, ◌<◌, Bool, true, false, List, [], ◌∷◌, ◌++◌, length, Option, Some, None, Result, Ok, Err, IfOk, OnOk, OnErr, refl, sym, ◌∙◌, ap, subst, arith}
 use Rattle.std.proofs.Math.ListN.{set}
+use Rattle.std.specs.Prelude.{slice_index}
 use Rattle.std.specs.Int.{bit_at}
 use Rattle.chi_flit.specs.declared.numbers.Agent.{Agent}
 use Rattle.chi_flit.specs.declared.numbers.Entry.{Entry}
@@ -8,6 +9,7 @@ use Rattle.chi_flit.specs.declared.numbers.Line.{Line}
 use Rattle.chi_flit.specs.declared.numbers.Slot.{Slot}
 use Rattle.chi_flit.specs.declared.credit.CreditType.{CreditType}
 use Rattle.chi_flit.specs.declared.credit.CreditType.TheVariants.{T0, T1, T2, T3}
+use Rattle.chi_flit.specs.declared.credit.Profile.{Profile}
 use Rattle.chi_flit.specs.declared.action.Action.{Action}
 use Rattle.chi_flit.specs.declared.action.Step.{Step}
 use Rattle.chi_flit.specs.declared.action.Step.TheVariants as steps
@@ -18,6 +20,7 @@ use Rattle.chi_flit.specs.declared.refusal.Refusal.{Refusal}
 use Rattle.chi_flit.specs.Credit.{credit_number}
 use Rattle.chi_flit.specs.Refusal.{refusal_of}
 use Rattle.chi_tracker.specs.declared.released.Released.{Released}
+use Rattle.chi_tracker.specs.declared.totals.Counts.{Counts}
 use Rattle.chi_tracker.specs.Views.{PortView}
 use Rattle.chi_tracker.specs.Shape.{low, size}
 use Rattle.chi_tracker.specs.Calls.{owed_one, scanned}
@@ -42,8 +45,9 @@ use Rattle.chi_system.specs.Home.{HomeState, IsAudited, acted, line, loads_in, s
 use Rattle.chi_system.specs.System.{ArrivesIn, IsSystem, OthersStay, StepsIn, SystemState, arrive_refusal, requester_of, step_refusal}
 use Rattle.chi_reply.specs.Replies.{audit_text, reply_text, totals_text}
 use Rattle.chi_reply.specs.declared.replies.Reply.TheVariants as replies
+use Rattle.chi_reply.specs.declared.totals.Totals.{Totals}
 use Rattle.chi_text.specs.Ports.{Claims, Owes, Releases, Spends, seen_counts}
-use Rattle.chi_text.specs.Turns.{Claimed, Ends, Glanced, Judged, Machine, Owed, Spent, Turn, Went, act, act_refusal, acting, admitted, arrive, arriving, attempted, completing, credits_of, done, less_one, or_refused, slots_after, slots_of, with_action, with_arrival, with_credits, with_end, turn}
+use Rattle.chi_text.specs.Turns.{Claimed, Ends, Glanced, Judged, Machine, Owed, Spent, Turn, Went, act, act_refusal, acting, admitted, arrive, arriving, attempted, by_type, completing, credits_of, done, less_one, or_refused, slots_after, slots_of, with_action, with_arrival, with_credits, with_end, turn}
 use Rattle.chi_text.specs.Told.{arrival_reply, done_reply, step_reply}
 use Rattle.chi_text.specs.Session.{PlaysOn, SaysOn, machine_of, ports_of}
 use Rattle.chi_text.proofs.Machines.{at_port, at_port_again, credits_at, machine_after, machine_seen_same, ports_after, ports_same, slots_at}
@@ -276,9 +280,45 @@ pub refused_on : (y y' : SystemState) (o : Option Refusal) (refusal : Refusal) (
     → OnOk put (SaysOn (or_refused o (machine_of y) t) y y' before after)
 refused_on y y' o refusal t before after put h same said = on_ok put said (said_on y y' (or_refused o (machine_of y) t) (reply_text (replies.Refused refusal)) before after (refused_plays y y' o refusal t h same))
 
--- the numbers of entries
-pub glance_says : (y : SystemState) (free hand promised owed before after : List ℕ) → after ≡ before ++ (totals_text (record { free = free; hand = hand; promised = promised; owed = owed; profile = y.home.config.profile }) ++ (10 ∷ [])) → SaysOn (turn (machine_of y) commands.Totals) y y before after
-glance_says y free hand promised owed before after h = (Glanced free hand promised owed ∷ [], totals_text (record { free = free; hand = hand; promised = promised; owed = owed; profile = y.home.config.profile }), (ports_of y, refl, (refl, refl, refl)), h)
+-- a list of four numbers holds one for each credit type
+abbrev typed : List ℕ → CreditType → ℕ
+typed numbers ty = slice_index numbers (credit_number ty)
+
+four_typed : (numbers : List ℕ) → length numbers ≡ 4 → numbers ≡ by_type (typed numbers)
+four_typed [] four = absurd (omega (arith, four))
+four_typed (a ∷ []) four = absurd (omega (arith, four))
+four_typed (a ∷ b ∷ []) four = absurd (omega (arith, four))
+four_typed (a ∷ b ∷ c ∷ []) four = absurd (omega (arith, four))
+four_typed (a ∷ b ∷ c ∷ d ∷ []) four = refl
+four_typed (a ∷ b ∷ c ∷ d ∷ e ∷ more) four = absurd (omega (arith, four))
+
+-- the numbers of entries, four of each
+pub record AreFours (counts : Counts) : Type 0 where
+  pub free : length counts.free ≡ 4
+  pub hand : length counts.hand ≡ 4
+  pub promised : length counts.promised ≡ 4
+  pub owed : length counts.owed ≡ 4
+
+abbrev pub totals_of : Counts → Profile → Totals
+totals_of counts profile = record { free = counts.free; hand = counts.hand; promised = counts.promised; owed = counts.owed; profile = profile }
+
+abbrev typed_counts : Counts → Counts
+typed_counts counts = record { free = by_type (typed counts.free); hand = by_type (typed counts.hand); promised = by_type (typed counts.promised); owed = by_type (typed counts.owed) }
+
+counts_typed : (counts : Counts) → AreFours counts → counts ≡ typed_counts counts
+counts_typed counts four =
+    ap (λ (n : List ℕ). record counts { free = n }) (four_typed counts.free four.free)
+    ∙ (ap (λ (n : List ℕ). record counts { free = by_type (typed counts.free); hand = n }) (four_typed counts.hand four.hand)
+    ∙ (ap (λ (n : List ℕ). record counts { free = by_type (typed counts.free); hand = by_type (typed counts.hand); promised = n }) (four_typed counts.promised four.promised)
+    ∙ ap (λ (n : List ℕ). record (typed_counts counts) { owed = n }) (four_typed counts.owed four.owed)))
+
+pub glance_says : (y : SystemState) (counts : Counts) (before after : List ℕ) → AreFours counts → after ≡ before ++ (totals_text (totals_of counts y.home.config.profile) ++ (10 ∷ [])) → SaysOn (turn (machine_of y) commands.Totals) y y before after
+glance_says y counts before after four h = (
+  Glanced (typed counts.free) (typed counts.hand) (typed counts.promised) (typed counts.owed) ∷ [],
+  totals_text (totals_of counts y.home.config.profile),
+  (ports_of y, refl, (ap (λ (n : Counts). totals_text (totals_of n y.home.config.profile)) (counts_typed counts four), refl, refl)),
+  h,
+)
 
 -- an audit: the loads, the stores, and the verdict on the slices
 pub audit_says : (y : SystemState) (loads stores : ℕ) (coherent : Bool) (before after : List ℕ) → IsAudited y.home.slices loads stores coherent

@@ -32,8 +32,8 @@ abbrev pub AtPort : Agent → List PortView → List PortView → (PortView → 
 AtPort agent old new Goes = (before after : PortView) × (slice_get old agent.0 ≡ Some before) × Goes before after × (new ≡ slice_set old agent.0 after)
 
 -- what may be answered to a call, and the views of the ports then. The tracker's answers: the agent's port
--- goes on by the clause of the call; a glance may show any numbers. A verdict is that on the slices. No call
--- has an answer of another kind.
+-- goes on by the clause of the call; a glance may show any number for each type. A verdict is that on the
+-- slices. No call has an answer of another kind.
 abbrev pub Permits : List PortView → Call → Answer → List PortView → Type 0
 Permits old (Claim agent ty) (Claimed claim) new = AtPort agent old new (λ before after. Claims before ty claim after)
 Permits old (Owe agent ty) Owed new = AtPort agent old new (λ before after. Owes before ty after)

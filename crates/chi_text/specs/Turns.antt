@@ -7,6 +7,7 @@ use Rattle.chi_flit.specs.declared.numbers.Entry.{Entry}
 use Rattle.chi_flit.specs.declared.numbers.Line.{Line}
 use Rattle.chi_flit.specs.declared.numbers.Slot.{Slot}
 use Rattle.chi_flit.specs.declared.credit.CreditType.{CreditType}
+use Rattle.chi_flit.specs.declared.credit.CreditType.TheVariants.{T0, T1, T2, T3}
 use Rattle.chi_flit.specs.declared.action.Action.{Action}
 use Rattle.chi_flit.specs.declared.action.Effect.{Effect}
 use Rattle.chi_flit.specs.declared.action.Effect.TheVariants as effects
@@ -83,8 +84,9 @@ pub data Call : Type 0 where
   Judge : List SliceState → Call
 
 -- what is answered: an entry or none; that a credit is owed; the entry of a credit; where a released or
--- returned entry went; the seen credits by type; where a tended entry went, if there was one; by type the
--- entries that are free, in hand and promised, and the credits that are owed; whether the slices are coherent
+-- returned entry went; the seen credits by type; where a tended entry went, if there was one; for each type
+-- the entries that are free, in hand and promised, and the credits that are owed; whether the slices are
+-- coherent
 pub data Answer : Type 0 where
   Claimed : Option Entry → Answer
   Owed : Answer
@@ -92,7 +94,7 @@ pub data Answer : Type 0 where
   Went : Released → Answer
   Saw : List ℕ → Answer
   Tended : Option Released → Answer
-  Glanced : (free hand promised owed : List ℕ) → Answer
+  Glanced : (free hand promised owed : CreditType → ℕ) → Answer
   Judged : Bool → Answer
 
 -- a command's turn: it ends with a line and a state, or asks, and goes on with the answer
@@ -227,9 +229,13 @@ abbrev pub tend : Machine → Agent → Option CreditType → Turn
 tend m agent None = says (replies.Refused OutOfRange) m
 tend m agent (Some ty) = or_refused (type_refusal m agent ty) m (Asks (Tend agent ty) (tended m))
 
+-- the four numbers of the types, by rising type
+abbrev pub by_type : (CreditType → ℕ) → List ℕ
+by_type number = number T0 ∷ number T1 ∷ number T2 ∷ number T3 ∷ []
+
 -- the numbers of entries
 abbrev pub glanced : Machine → Answer → Turn
-glanced m (Glanced free hand promised owed) = Ends (totals_text (record { free = free; hand = hand; promised = promised; owed = owed; profile = m.home.config.profile })) m
+glanced m (Glanced free hand promised owed) = Ends (totals_text (record { free = by_type free; hand = by_type hand; promised = by_type promised; owed = by_type owed; profile = m.home.config.profile })) m
 glanced m other = never m
 
 -- the loads, the stores and the verdict
