@@ -33,7 +33,7 @@ to_line s last eight c = record {
   valid_data = λ n low valid.
       sym (ap (λ (v : CopyView). v.words) (at s last n eight low)) ∙ (c.agents n low).valid_data (subst (λ (v : State). is_valid v ≡ true) (sym (state_at s last n eight low)) valid);
   memory = λ clean. c.memory (λ n low. record {
-    clean = subst (λ (v : State). is_dirty v ≡ false) (sym (state_at s last n eight low)) (clean n low).copy;
+    copy = subst (λ (v : State). is_dirty v ≡ false) (sym (state_at s last n eight low)) (clean n low).copy;
     on_its_way = (clean n low).on_its_way;
   });
   one_owner = λ n m low here first second. same_agent n m (λ apart.
@@ -51,7 +51,7 @@ to_view s last eight c = record {
     };
   };
   memory = λ quiet. c.memory (λ n low. record {
-    copy = subst (λ (v : State). is_dirty v ≡ false) (state_at s last n eight low) (quiet n low).clean;
+    copy = subst (λ (v : State). is_dirty v ≡ false) (state_at s last n eight low) (quiet n low).copy;
     on_its_way = (quiet n low).on_its_way;
   });
 }

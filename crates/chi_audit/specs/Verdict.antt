@@ -3,12 +3,12 @@ use Rattle.std.specs.Prelude.{◌≡◌, ◌≢◌, ℕ, ◌<◌, [], true, fals
 use Rattle.std.specs.List.{slice_index_or}
 use Rattle.chi_flit.specs.declared.state.State.{State}
 use Rattle.chi_flit.specs.declared.state.State.TheVariants.{I, SD}
-use Rattle.chi_flit.specs.State.{is_dirty, is_unique, is_valid}
+use Rattle.chi_flit.specs.State.{is_unique, is_valid}
 use Rattle.chi_wires.specs.declared.cells.Cells.{Cells}
 use Rattle.chi_wires.specs.Cell.{no_flits}
 use Rattle.chi_line.specs.declared.view.CopyView.{CopyView}
 use Rattle.chi_line.specs.declared.view.LineView.{LineView}
-use Rattle.chi_line.specs.Kept.{passes_dirty}
+use Rattle.chi_line.specs.Coherent.{IsCleanAgent}
 
 abbrev pub no_copy : CopyView
 no_copy = record { state = I; words = [] }
@@ -31,13 +31,9 @@ pub record IsAgentCoherent (view : LineView) (n : ℕ) : Type 0 where
   pub valid_data : is_valid (copy_of view n).state ≡ true → (copy_of view n).words ≡ view.last
   pub others : (m : ℕ) → m < 8 → m ≢ n → MayStandBeside (copy_of view n).state (copy_of view m).state
 
--- no copy is UD or SD, and no dirty data is on its way
-pub record IsQuietAgent (copy : CopyView) (flits : Cells) : Type 0 where
-  pub clean : is_dirty copy.state ≡ false
-  pub on_its_way : passes_dirty flits.dat_up ≡ false
-
+-- no copy is UD or SD, and no _PD form is in flight
 abbrev pub IsQuiet : LineView → Type 0
-IsQuiet view = (n : ℕ) → n < 8 → IsQuietAgent (copy_of view n) (flits_of view n)
+IsQuiet view = (n : ℕ) → n < 8 → IsCleanAgent (copy_of view n).state (flits_of view n).dat_up
 
 pub record IsCoherentView (view : LineView) : Type 0 where
   pub agents : (n : ℕ) → n < 8 → IsAgentCoherent view n

@@ -1,11 +1,10 @@
 //! Whether the plain data of a line is coherent.
 
 ghost use Rattle.std.specs.Prelude.{◌≡◌, ◌≢◌, ◌↔◌, ℕ, List, ◌<◌, IsTrue, length, true};
-ghost use Rattle.chi_line.specs.Coherent.{Coherent};
-ghost use Rattle.chi_line.specs.Kept.{passes_dirty};
+ghost use Rattle.chi_line.specs.Coherent.{Coherent, IsCleanAgent, passes_dirty};
 ghost use Rattle.chi_line.specs.LineState.{LineState};
 ghost use Rattle.chi_line.specs.View.{shown};
-ghost use Rattle.chi_audit.specs.Verdict.{IsAgentCoherent, IsCoherentView, IsQuiet, IsQuietAgent, MayStandBeside, copy_of};
+ghost use Rattle.chi_audit.specs.Verdict.{IsAgentCoherent, IsCoherentView, IsQuiet, MayStandBeside, copy_of};
 
 use chi_flit::{DatUp, State};
 use chi_line::{CopyView, LineView};
@@ -49,7 +48,7 @@ fn is_quiet(view: &LineView) -> bool
 
 /// Whether an agent's copy isn't dirty, and its flits pass no dirty data on.
 fn is_quiet_agent(copy: CopyView, flits: Cells) -> bool
-    ensures { IsTrue result ↔ IsQuietAgent copy flits }
+    ensures { IsTrue result ↔ IsCleanAgent copy.state flits.dat_up }
 {
     !copy.state.is_dirty() && !passes_dirty(flits.dat_up)
 }

@@ -17,8 +17,8 @@ use Rattle.chi_rnline.specs.Rn.{no_line}
 use Rattle.chi_homeline.specs.declared.serving.Serving.TheVariants.{Snooping, AwaitingCompAck}
 use Rattle.chi_homeline.specs.Home.{completed, completed_filter, completes_unique, completion_message, completion_of}
 use Rattle.chi_line.specs.LineState.{LineState, cells_of}
-use Rattle.chi_line.specs.Kept.{Kept, Lane, LaneKept, IsCleanLane, invalidates, is_read, lane}
-use Rattle.chi_line.proofs.Frame.{Puts, Moves, moves_by, puts_nothing, puts_set, nothing_waiting, lanes_by, clean_by}
+use Rattle.chi_line.specs.Kept.{Kept, Lane, LaneKept, invalidates, is_read, lane}
+use Rattle.chi_line.proofs.Frame.{IsCleanLane, Puts, Moves, moves_by, puts_nothing, puts_set, nothing_waiting, lanes_by, clean_by}
 use Rattle.chi_line.proofs.Asks.{apart, same, are_same, in_only, none_in, left_in, length-others}
 use Rattle.chi_line.proofs.CompleteLanes.{read_completes, clean_completes, no_owner, alone_other, shared_other, none_left, read_from_none}
 

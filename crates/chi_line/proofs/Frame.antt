@@ -10,7 +10,8 @@ use Rattle.chi_homeline.specs.declared.serving.Waiting.{Waiting}
 use Rattle.chi_homeline.specs.declared.serving.Serving.{Serving}
 use Rattle.chi_homeline.specs.Home.{Home}
 use Rattle.chi_line.specs.LineState.{LineState}
-use Rattle.chi_line.specs.Kept.{Lane, LaneKept, IsCleanLane, IsClean, Kept, lane}
+use Rattle.chi_line.specs.Coherent.{IsClean, IsCleanAgent}
+use Rattle.chi_line.specs.Kept.{Lane, LaneKept, Kept, lane}
 
 -- a list whose entry n is a, and whose other entries stay
 pub record Puts {A : Type 0} (d : A) (l l' : List A) (n : ℕ) (a : A) : Type 0 where
@@ -97,6 +98,10 @@ lanes_by s s' serving unique owner last n x moves own other m low =
     (λ (same : m ≡ n). subst (λ k. LaneKept serving unique owner last k (lane s' k)) (sym same) (subst (LaneKept serving unique owner last n) (sym moves.at) own))
     (λ (apart : m ≢ n). subst (LaneKept serving unique owner last m) (sym (moves.others m apart)) (other m low apart))
     (cases_eq m n)
+
+-- neither a dirty copy nor dirty data on its way
+abbrev pub IsCleanLane : Lane → Type 0
+IsCleanLane x = IsCleanAgent x.rn.state x.flits.dat_up
 
 pub clean_by : (s s' : LineState) (n : ℕ) (x : Lane) → Moves s s' n x → n < 8
     → (IsCleanLane x → IsCleanLane (lane s n)) → IsClean s' → IsClean s

@@ -14,9 +14,9 @@ use Rattle.chi_rnline.specs.declared.pending.Pending.{Pending}
 use Rattle.chi_rnline.specs.declared.pending.Phase.TheVariants.{Retried}
 use Rattle.chi_rnline.specs.Rn.{is_clean_copy, stored}
 use Rattle.chi_line.specs.LineState.{LineState, rn_of, cells_of}
-use Rattle.chi_line.specs.Kept.{Lane, IsCleanLane, Kept, lane}
+use Rattle.chi_line.specs.Kept.{Lane, Kept, lane}
 use Rattle.chi_line.specs.Step.{stored_line, dropped_line, retried_line, retry_received_line, resent_line, cancelled_line, evict_received_line}
-use Rattle.chi_line.proofs.Frame.{Moves, moves_by, puts_set, puts_nothing, lanes_by, kept_by, kept_by_requester, kept_by_flits}
+use Rattle.chi_line.proofs.Frame.{IsCleanLane, Moves, moves_by, puts_set, puts_nothing, lanes_by, kept_by, kept_by_requester, kept_by_flits}
 use Rattle.chi_line.proofs.Coherence.{unique_valid}
 use Rattle.chi_line.proofs.RetryLanes.{store_lane, store_other, drop_lane, retry_lane, retry_received_lane, resend_lane, cancel_lane, evict_received_lane}
 

@@ -12,7 +12,8 @@ use Rattle.chi_flit.specs.Kind.{snoop_of}
 use Rattle.chi_filter.specs.Filter.{owned_by}
 use Rattle.chi_homeline.specs.declared.serving.Waiting.{Waiting}
 use Rattle.chi_homeline.specs.declared.serving.Serving.TheVariants.{Idle, Snooping, AwaitingWriteData}
-use Rattle.chi_line.specs.Kept.{IsCleanLane, Lane, LaneKept, shares, invalidates}
+use Rattle.chi_line.specs.Coherent.{IsCleanAgent}
+use Rattle.chi_line.specs.Kept.{Lane, LaneKept, shares, invalidates}
 
 -- the own lane where a snoop, or its want of anybody to ask, serves the request
 pub snooping_own : (unique : Bool) (owner : Option Agent) (last : List ℕ) (agent : Agent) (request : Waiting) (x : Lane)
@@ -86,10 +87,10 @@ idle_owner unique owner last n x owns k = search (arith, k)
 -- data is on its way
 pub idle_clean : (unique : Bool) (owner : Option Agent) (last : List ℕ) (n : ℕ) (x : Lane)
     → (unique ≡ true → x.named ≡ false) → (owned_by owner n ≡ true → x.named ≡ false)
-    → LaneKept Idle unique owner last n x → IsCleanLane x
+    → LaneKept Idle unique owner last n x → IsCleanAgent x.rn.state x.flits.dat_up
 idle_clean unique owner last n x unflagged unowned k = search (arith, k)
 
 -- nor has one whose copy is I
 pub none_clean : (unique : Bool) (owner : Option Agent) (last : List ℕ) (n : ℕ) (x : Lane)
-    → x.rn.state ≡ I → LaneKept Idle unique owner last n x → IsCleanLane x
+    → x.rn.state ≡ I → LaneKept Idle unique owner last n x → IsCleanAgent x.rn.state x.flits.dat_up
 none_clean unique owner last n x none k = search (arith, k)

@@ -25,8 +25,9 @@ use Rattle.chi_homeline.specs.declared.serving.Started.TheVariants.{Sends, Evict
 use Rattle.chi_homeline.specs.Home.{Home, asks, asks_shared, completes_unique, completed, completion_of, is_idle, started_as, started_sends_as, taken_up, waiting_of}
 use Rattle.chi_line.specs.LineState.{LineState, cells_of}
 use Rattle.chi_line.specs.Step.{sent, started_line}
-use Rattle.chi_line.specs.Kept.{IsClean, IsCleanLane, Kept, Lane, LaneKept, allows, invalidates, lane, passes_dirty}
-use Rattle.chi_line.proofs.Frame.{Moves, moves_by, puts_nothing, puts_set, nothing_waiting, lanes_by, clean_by, same_lane}
+use Rattle.chi_line.specs.Coherent.{IsClean, passes_dirty}
+use Rattle.chi_line.specs.Kept.{Kept, Lane, LaneKept, allows, invalidates, lane}
+use Rattle.chi_line.proofs.Frame.{IsCleanLane, Moves, moves_by, puts_nothing, puts_set, nothing_waiting, lanes_by, clean_by, same_lane}
 use Rattle.chi_line.proofs.Finds.{idle_awaits_nobody, idle_is}
 use Rattle.chi_line.proofs.Asks.{AsksFit, asks_fit, apart, same, has_in, none_in, left_in, length-others, was_in}
 use Rattle.chi_line.proofs.SnoopRows.{snooped_at, snooped_cells, length-with_snoops}

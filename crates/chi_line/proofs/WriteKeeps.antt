@@ -15,7 +15,8 @@ use Rattle.chi_homeline.specs.declared.serving.Serving.{Serving}
 use Rattle.chi_homeline.specs.declared.serving.Serving.TheVariants.{Idle, AwaitingWriteData}
 use Rattle.chi_homeline.specs.Home.{leaves, written_filter}
 use Rattle.chi_line.specs.LineState.{LineState, rn_of, cells_of}
-use Rattle.chi_line.specs.Kept.{Lane, LaneKept, IsClean, Kept, gives_up, is_unique_dirty, is_write_data, lane, passes_dirty, served_kind, writes_for}
+use Rattle.chi_line.specs.Coherent.{IsClean, passes_dirty}
+use Rattle.chi_line.specs.Kept.{Lane, LaneKept, Kept, gives_up, is_unique_dirty, is_write_data, lane, served_kind, writes_for}
 use Rattle.chi_line.specs.Step.{written_line}
 use Rattle.chi_line.proofs.Frame.{Moves, Puts, moves_by, puts_set, puts_nothing, lanes_by, clean_by}
 use Rattle.chi_line.proofs.Asks.{has_in, left_in, was_in}

@@ -12,7 +12,8 @@ use Rattle.chi_flit.specs.Kind.{snoop_of}
 use Rattle.chi_filter.specs.Filter.{owned_by}
 use Rattle.chi_homeline.specs.declared.serving.Serving.{Serving}
 use Rattle.chi_homeline.specs.declared.serving.Serving.TheVariants.{Idle, Snooping, AwaitingWriteData}
-use Rattle.chi_line.specs.Kept.{Lane, LaneKept, IsCleanLane, invalidates, is_answer, is_snoop_data, passes_dirty, shares}
+use Rattle.chi_line.specs.Coherent.{IsCleanAgent, passes_dirty}
+use Rattle.chi_line.specs.Kept.{Lane, LaneKept, invalidates, is_answer, is_snoop_data, shares}
 
 -- RecvWrData: named and flag may end where no copy is left
 pub write_lane : (agent : Agent) (kind : Kind) (slot : Slot) (unique unique' : Bool) (owner owner' : Option Agent) (last : List ℕ) (n : ℕ) (x : Lane) (form : State) (words : List ℕ) (named : Bool)
@@ -103,7 +104,7 @@ nothing_on_its_way agent kind slot unique owner last n x done k = search (arith,
 
 pub quiet_own : (agent : Agent) (kind : Kind) (slot : Slot) (unique : Bool) (owner : Option Agent) (last : List ℕ) (n : ℕ) (x : Lane)
     → x.awaited ≡ false → x.rn.state ≡ I
-    → LaneKept (Snooping agent kind slot) unique owner last n x → IsCleanLane x
+    → LaneKept (Snooping agent kind slot) unique owner last n x → IsCleanAgent x.rn.state x.flits.dat_up
 quiet_own agent kind slot unique owner last n x done none k = record {
   copy = ap is_dirty none;
   on_its_way = nothing_on_its_way agent kind slot unique owner last n x done k;
@@ -111,7 +112,7 @@ quiet_own agent kind slot unique owner last n x done none k = record {
 
 pub quiet_asked : (agent : Agent) (kind : Kind) (slot : Slot) (unique : Bool) (owner : Option Agent) (last : List ℕ) (n : ℕ) (x : Lane)
     → x.awaited ≡ false → eqb agent.0 n ≡ false → invalidates (snoop_of kind) ≡ true
-    → LaneKept (Snooping agent kind slot) unique owner last n x → IsCleanLane x
+    → LaneKept (Snooping agent kind slot) unique owner last n x → IsCleanAgent x.rn.state x.flits.dat_up
 quiet_asked agent kind slot unique owner last n x done apart all k = record {
   copy = unnamed_clean (Snooping agent kind slot) unique owner last n x (all_asked agent kind slot unique owner last n x done apart all k) k;
   on_its_way = nothing_on_its_way agent kind slot unique owner last n x done k;
@@ -119,7 +120,7 @@ quiet_asked agent kind slot unique owner last n x done apart all k = record {
 
 pub quiet_shared : (agent : Agent) (kind : Kind) (slot : Slot) (owner : Option Agent) (last : List ℕ) (n : ℕ) (x : Lane)
     → x.awaited ≡ false → owned_by owner n ≡ false
-    → LaneKept (Snooping agent kind slot) false owner last n x → IsCleanLane x
+    → LaneKept (Snooping agent kind slot) false owner last n x → IsCleanAgent x.rn.state x.flits.dat_up
 quiet_shared agent kind slot owner last n x done unowned k = record {
   copy = unowned_clean agent kind slot owner last n x done unowned k;
   on_its_way = nothing_on_its_way agent kind slot false owner last n x done k;

@@ -2,9 +2,7 @@
 -- agent at the line, beside what the home serves, the filter's flag and owner, and the last values
 -- (docs/PROTOCOL.md, "What a line keeps").
 use Rattle.std.specs.Prelude.{◌≡◌, ◌≢◌, ℕ, ◌+◌, ◌<◌, List, length, Bool, true, false, ◌==◌, Option, Some, None, is_some}
-use Rattle.std.specs.List.{slice_index_or}
 use Rattle.chi_flit.specs.declared.numbers.Agent.{Agent}
-use Rattle.chi_flit.specs.declared.numbers.Slot.{Slot}
 use Rattle.chi_flit.specs.declared.state.State.{State}
 use Rattle.chi_flit.specs.declared.state.State.TheVariants.{I, SC, UC, UD, SD}
 use Rattle.chi_flit.specs.declared.kind.Kind.{Kind}
@@ -30,9 +28,10 @@ use Rattle.chi_rnline.specs.Rn.{Rn}
 use Rattle.chi_homeline.specs.declared.serving.Waiting.{Waiting}
 use Rattle.chi_homeline.specs.declared.serving.Serving.{Serving}
 use Rattle.chi_homeline.specs.declared.serving.Serving.TheVariants.{Idle, Snooping, AwaitingCompAck, AwaitingWriteData}
-use Rattle.chi_homeline.specs.Home.{Home, acks_for, served_slot, waiting_of}
+use Rattle.chi_homeline.specs.Home.{acks_for, served_slot, waiting_of}
 pub use Rattle.chi_homeline.specs.Home.{IsServedInRange, served_kind, writes_for}
 use Rattle.chi_line.specs.LineState.{LineState, rn_of, cells_of}
+use Rattle.chi_line.specs.Coherent.{IsClean, passes_dirty}
 use Rattle.chi_line.specs.Step.{is_ack, pending_slot}
 pub use Rattle.chi_line.specs.Step.{is_dbid, is_write_data}
 
@@ -140,14 +139,6 @@ is_snoop_data (Some (SnpRespDataSCPD words)) = true
 is_snoop_data (Some (SnpRespDataSD words)) = true
 is_snoop_data (Some (CopyBackWrData form words)) = false
 
--- the forms that pass the responsibility for the data
-abbrev pub passes_dirty : Option DatUp → Bool
-passes_dirty None = false
-passes_dirty (Some (SnpRespDataIPD words)) = true
-passes_dirty (Some (SnpRespDataSCPD words)) = true
-passes_dirty (Some (SnpRespDataSD words)) = false
-passes_dirty (Some (CopyBackWrData form words)) = is_dirty form
-
 abbrev pub is_shared_dirty_data : Option DatUp → Bool
 is_shared_dirty_data None = false
 is_shared_dirty_data (Some (SnpRespDataIPD words)) = false
@@ -246,14 +237,6 @@ pub record LaneKept (serving : Serving) (unique : Bool) (owner : Option Agent) (
   pub flag_no_owner : unique ≡ true → owned_by owner n ≡ false
   pub owner_holds : owned_by owner n ≡ true → is_shared_dirty x.rn.state ≡ false → bit (is_answer x.flits.rsp_up) + bit (is_snoop_data x.flits.dat_up) + bit (is_shared_dirty_write x.flits.dat_up) ≡ 1
   pub shared_dirty_owned : x.rn.state ≡ SD → owned_by owner n ≡ false → is_comp_unique x.flits.rsp_down ≡ false → is_shared_dirty_data x.flits.dat_up ≡ true
-
--- neither a dirty copy nor dirty data on its way
-pub record IsCleanLane (x : Lane) : Type 0 where
-  pub copy : is_dirty x.rn.state ≡ false
-  pub on_its_way : passes_dirty x.flits.dat_up ≡ false
-
-abbrev pub IsClean : LineState → Type 0
-IsClean s = (n : ℕ) → n < 8 → IsCleanLane (lane s n)
 
 -- what a line keeps; last are the values last stored to its words
 pub record Kept (last : List ℕ) (s : LineState) : Type 0 where

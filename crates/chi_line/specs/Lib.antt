@@ -2,8 +2,8 @@ pub mod LineState
 pub mod Step
 pub mod Refused
 pub mod Snooped
-pub mod Kept
 pub mod Coherent
+pub mod Kept
 pub mod LineStep
 pub mod View
 pub mod Places

@@ -1,4 +1,4 @@
--- A line as plain data.
+-- A line as plain data (docs/PROTOCOL.md, "One line"), with its last values ("The journal and last values").
 use Rattle.std.specs.Prelude.{ℕ, List, Option, map}
 use Rattle.chi_rnline.specs.declared.pending.Pending.{Pending}
 use Rattle.chi_rnline.specs.Rn.{Rn}
