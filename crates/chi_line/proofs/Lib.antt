@@ -31,6 +31,7 @@ pub mod Finished
 pub mod Answering
 pub mod SeenMoves
 pub mod Trails
+pub mod TableRows
 pub mod Typed
 pub mod Moves
 pub mod EqualSlots

@@ -7,5 +7,6 @@ pub mod Kept
 pub mod LineStep
 pub mod View
 pub mod Places
+pub mod Table
 pub mod Types
 pub mod Moves

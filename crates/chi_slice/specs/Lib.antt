@@ -3,4 +3,5 @@ pub mod Recorded
 pub mod Slice
 pub mod Run
 pub mod Index
+pub mod Table
 pub mod SliceMoves

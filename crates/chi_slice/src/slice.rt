@@ -9,6 +9,7 @@ ghost use Rattle.chi_journal.specs.Journal.{IsLegal};
 ghost use Rattle.chi_line.specs.Step.{effect_of, is_step_in_range, pending_slot, record_of};
 ghost use Rattle.chi_slice.specs.declared.places.Place.{Place};
 ghost use Rattle.chi_slice.specs.Index.{at_line, is_slot_of, SlotsInRange, typed_at};
+ghost use Rattle.chi_slice.specs.Table.{IsByTable};
 ghost use Rattle.chi_line.specs.Places.{where_at};
 ghost use Rattle.chi_line.specs.LineState.{cells_of, rn_of};
 ghost use Rattle.chi_line.specs.Types.{pending_credit, is_of_type};
@@ -384,10 +385,11 @@ impl<A: Allocator> Slice<A> {
     }
 
     /// The place of the request that uses an agent's slot: its line, which is in this slice, and where the
-    /// line shows it. `None` where no line of the slice shows anything of the slot, and for an agent or slot
-    /// outside the eight of each.
+    /// request is there, by the rows of the table. `None` where no row holds of the slot at any line of the
+    /// slice, and for an agent or slot outside the eight of each.
     /// Source: `docs/PROTOCOL.md`, "Agreement".
     pub fn place(&self, agent: Agent, slot: Slot) -> Option<Place>
+        ensures table { agent.0 < 8 → slot.0 < 8 → IsByTable self.now agent.0 slot result }
         ensures shows { agent.0 < 8 → slot.0 < 8 → (l : ℕ) → is_line_in_range self.now l ≡ true → where_at (line_of_slice self.now l) agent.0 slot ≡ at_line result l }
         ensures line { agent.0 < 8 → slot.0 < 8 → (place : Place) → result ≡ Some place → is_line_in_range self.now place.line.0 ≡ true }
         ensures outside { is_slot_of agent.0 slot ≡ false → result ≡ None }
