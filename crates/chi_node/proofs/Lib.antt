@@ -8,3 +8,4 @@ pub mod StepCalls
 pub mod CallArrivals
 pub mod Same
 pub mod OpeningAgrees
+pub mod CreditCalls

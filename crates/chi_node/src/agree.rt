@@ -63,9 +63,9 @@ fn is_told<A: Allocator>(slice: &Slice<A>, requester: &Requester, slot: Slot) ->
 {
     let agent = requester.number();
     let said = requester.slot(slot);
-    let place = slice.place(agent, slot);
     let here = slice.has_line(said.line);
-    slice.has_credit(agent, slot, said.credit) && fits(place, said, here)
+    let (place, typed) = slice.typed_place(agent, slot, said.credit);
+    typed && fits(place, said, here)
 }
 
 /// Whether a record says of its slot what the slice's place of it shows, its line being one of the

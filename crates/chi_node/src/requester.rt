@@ -10,6 +10,8 @@ ghost use Rattle.chi_tracker.specs.Steps.{returns_credit};
 ghost use Rattle.chi_tracker.specs.Calls.{saw_all, seen_of, Ended, HasSameCredits, IsLowestSeen, Tended};
 ghost use Rattle.chi_credit.specs.Slot.{idle_slot};
 ghost use Rattle.chi_credit.specs.Account.{lowest_cancelled, riding_of, slot_at, state_at, IsLowestIdle};
+ghost use Rattle.chi_slice.specs.Slice.{SliceState};
+ghost use Rattle.chi_node.specs.Agree.{Agree};
 ghost use Rattle.chi_node.specs.Requester.{can_give_back, give_back_refusal, has_type, no_requester, opening_requester, tend_refusal, with_port, RequesterKept};
 
 use chi_credit::{Account, SlotRecord, SlotState};
@@ -138,22 +140,24 @@ impl Requester {
     }
 
     /// Looks at what is promised to the requester, one step on each of the four words, and answers the
-    /// seen credits by type. Nothing but the port changes.
+    /// seen credits by type. Nothing but the port changes; the requester agrees with each slice that it
+    /// agreed with.
     ///
     /// Condition: the tracker is the requester's.
-    #[tactic(auto, using(crate::proofs::Keeps::saw_within))]
+    #[tactic(auto, using(crate::proofs::Keeps::saw_within, crate::proofs::CreditCalls::ported_agrees))]
     pub fn see<A: Allocator>(&mut self, tracker: &Tracker<A>) -> [u32; 4]
         requires { self.old.table ≡ tracker.now.table }
         ensures port { self.new.port ≡ saw_all self.new.port.seen self.old.port }
         ensures more { (e : ℕ) → e < 256 → set_at self.old.port.seen e ≤ set_at self.new.port.seen e }
         ensures counts { (t : ℕ) → t < 4 → slice_index result t ≡ seen_of self.new.port t }
         ensures others { self.new ≡ with_port self.new.port self.old }
+        ensures agreement { (s : SliceState) → Agree s self.old → Agree s self.new }
     {
         self.port.see(tracker)
     }
 
     /// The lowest Cancelled slot of the type becomes Idle, and the port gives the lowest seen credit of the
-    /// type back.
+    /// type back. The requester agrees with each slice that it agreed with.
     ///
     /// Refused 10 (OutOfRange) where the tracker has no entries of the type, and then 12 (NoCredit) where
     /// no slot of the type is Cancelled, or no seen credit is beyond those for the Riding slots; nothing
@@ -169,6 +173,7 @@ impl Requester {
         ensures returned { IfOk result (λ released. (e : ℕ) × IsLowestSeen self.old.port (credit_number ty) e × (has e self.old.port ≡ 0) × Ended (returns_credit (credit_number ty) e self.old.port) (credit_number ty) e released self.new.port × HasSameCredits (returns_credit (credit_number ty) e self.old.port) self.new.port) }
         ensures err { OnErr result (self.new ≡ self.old) }
         ensures others { IfOk result (λ _. self.new ≡ record self.old { port = self.new.port; slots = slice_set self.old.slots (lowest_cancelled self.old.slots (credit_number ty)) idle_slot }) }
+        ensures agreement { (s : SliceState) → Agree s self.old → Agree s self.new }
     {
         if !self.has_type(ty) {
             return Err(Refusal::OutOfRange);
@@ -181,10 +186,12 @@ impl Requester {
 
     /// Where a requester shows an owed credit of the type, an entry of the type is claimed and released.
     /// `None` where no credit of the type was seen owed, or each entry of the type was found claimed.
-    /// Nothing but the port changes, and its credits and its hand stay.
+    /// Nothing but the port changes, and its credits and its hand stay; the requester agrees with each slice
+    /// that it agreed with.
     ///
     /// Refused 10 (OutOfRange) exactly where the tracker has no entries of the type; nothing changes then.
     /// Condition: the tracker is the requester's.
+    #[tactic(auto, using(crate::proofs::CreditCalls::ported_agrees))]
     pub fn tend<A: Allocator>(
         &mut self,
         tracker: &Tracker<A>,
@@ -197,6 +204,7 @@ impl Requester {
         ensures hand { IfOk result (λ _. (e : ℕ) → has e self.new.port ≡ has e self.old.port) }
         ensures err { OnErr result (self.new ≡ self.old) }
         ensures others { IfOk result (λ _. self.new ≡ with_port self.new.port self.old) }
+        ensures agreement { (s : SliceState) → Agree s self.old → Agree s self.new }
     {
         if !self.has_type(ty) {
             return Err(Refusal::OutOfRange);

@@ -4,7 +4,7 @@ ghost use Rattle.std.specs.Prelude.{◌≡◌, ◌+◌, ◌/◌, ◌%◌, ◌==�
 ghost use Rattle.chi_flit.specs.declared.credit.Profile.TheVariants.{Four};
 ghost use Rattle.chi_slice.specs.Config.{Sizes, are_entries, are_in_limits, config_if, four_types, is_between, is_slice_count, two_types};
 
-use chi_flit::Profile;
+use chi_flit::{Line, Profile};
 use std::alloc::AllocError;
 use std::marker::Model;
 
@@ -159,6 +159,7 @@ impl Config {
     fn split(&self, line: u8) -> (u8, u8)
         ensures slice { result.0 ≡ line % self.now.slices }
         ensures row { result.1 ≡ line / self.now.slices }
+        ensures limits { are_in_limits self.now ≡ true }
     {
         match self.slices {
             1 => (0, line),
@@ -168,11 +169,14 @@ impl Config {
         }
     }
 
-    /// The slice that a line is in.
-    pub(crate) fn slice_of(&self, line: u8) -> u8
-        ensures { result ≡ line % self.now.slices }
+    /// The index of the slice that a line is in: `line mod slices`, with no division. A line outside the
+    /// node has such an index too, and nothing is refused.
+    /// Source: `docs/PROTOCOL.md`, "Limits".
+    pub fn slice_of(&self, line: Line) -> u8
+        ensures value { result ≡ line.0 % self.now.slices }
+        ensures limits { are_in_limits self.now ≡ true }
     {
-        self.split(line).0
+        self.split(line.0).0
     }
 
     /// The row of a line in its slice.

@@ -362,7 +362,7 @@ impl<A: Allocator> Slice<A> {
     pub fn has_line(&self, line: Line) -> bool
         ensures { result ≡ is_line_in_range self.now line.0 }
     {
-        line.0 < self.config.lines() && self.config.slice_of(line.0) == self.index
+        line.0 < self.config.lines() && self.config.slice_of(line) == self.index
     }
 
     /// The slot of the agent's request to the line that is pending.
@@ -422,6 +422,27 @@ impl<A: Allocator> Slice<A> {
         }
     }
 
+    /// The place of an agent's slot, as `place` answers it, and whether the slot has this credit type, as
+    /// `has_credit` does. Both come of one look at the index.
+    /// Source: `docs/PROTOCOL.md`, "Agreement".
+    pub fn typed_place(&self, agent: Agent, slot: Slot, credit: CreditType) -> (Option<Place>, bool)
+        ensures shows { agent.0 < 8 → slot.0 < 8 → (l : ℕ) → is_line_in_range self.now l ≡ true → where_at (line_of_slice self.now l) agent.0 slot ≡ at_line result.0 l }
+        ensures line { agent.0 < 8 → slot.0 < 8 → (place : Place) → result.0 ≡ Some place → is_line_in_range self.now place.line.0 ≡ true }
+        ensures nowhere { is_slot_of agent.0 slot ≡ false → result.0 ≡ None }
+        ensures all { agent.0 < 8 → slot.0 < 8 → result.1 ≡ true → (l : ℕ) → is_line_in_range self.now l ≡ true → is_of_type self.now.config.profile credit (line_of_slice self.now l) agent.0 slot ≡ true }
+        ensures only { agent.0 < 8 → slot.0 < 8 → ((l : ℕ) → is_line_in_range self.now l ≡ true → is_of_type self.now.config.profile credit (line_of_slice self.now l) agent.0 slot ≡ true) → result.1 ≡ true }
+        ensures outside { is_slot_of agent.0 slot ≡ false → result.1 ≡ true }
+        ensures kept { SliceKept self.now }
+    {
+        let place = self.place(agent, slot);
+        let typed = TypedSlot {
+            agent,
+            slot,
+            credit,
+        };
+        (place, self.is_type_in(place, typed))
+    }
+
     /// Whether the slot of an agent has this credit type, wherever a line of the slice still keeps the kind
     /// of its request. Only the line of its place is looked at. True for an agent or slot outside the eight
     /// of each.
@@ -432,15 +453,7 @@ impl<A: Allocator> Slice<A> {
         ensures outside { is_slot_of agent.0 slot ≡ false → result ≡ true }
         ensures kept { SliceKept self.now }
     {
-        let place = self.place(agent, slot);
-        self.is_type_in(
-            place,
-            TypedSlot {
-                agent,
-                slot,
-                credit,
-            },
-        )
+        self.typed_place(agent, slot, credit).1
     }
 
     /// The loads and stores that were answered, in their order: each load had the value that was stored

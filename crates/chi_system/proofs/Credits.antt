@@ -1,25 +1,18 @@
 -- A requester's calls that need no slice keep agreement.
-use Rattle.std.proofs.Common.{◌≡◌, ℕ, ◌<◌, List, Option, Some, None, Result, Ok, Err, length, get_or, refl, sym, ◌∙◌, ap, subst, ⊎_elim, get_or-set_other}
+use Rattle.std.proofs.Common.{◌≡◌, ℕ, ◌<◌, List, Option, Result, Ok, Err, length, get_or, refl, sym, ◌∙◌, ap, subst, ⊎_elim, get_or-set_other}
 use Rattle.std.proofs.Math.ListN.{set, length-set}
-use Rattle.std.proofs.lemmas.Bool.{cases_eq, cases_lt}
+use Rattle.std.proofs.lemmas.Bool.{cases_eq}
 use Rattle.std.proofs.lemmas.Grind.{get_or-set_at}
-use Rattle.std.proofs.lemmas.List.{get_or_past}
 use Rattle.std.specs.List.{refill}
 use Rattle.atomic_table.specs.Seated.{TableId}
-use Rattle.chi_flit.specs.declared.numbers.Slot.{Slot}
 use Rattle.chi_flit.specs.declared.refusal.Refusal.{Refusal}
-use Rattle.chi_line.specs.declared.seen.Where.{Where}
 use Rattle.chi_tracker.specs.declared.released.Released.{Released}
 use Rattle.chi_slice.specs.Slice.{SliceState}
-use Rattle.chi_credit.specs.declared.slot.SlotState.{SlotState}
-use Rattle.chi_credit.specs.declared.slot.SlotState.TheVariants.{Cancelled, Idle}
-use Rattle.chi_credit.specs.declared.slot.SlotRecord.{SlotRecord}
-use Rattle.chi_credit.specs.Slot.{idle_slot}
-use Rattle.chi_credit.specs.Account.{lowest_cancelled, slot_at, state_at}
-use Rattle.chi_node.specs.Agree.{Agree, IsTold, told_at}
+use Rattle.chi_credit.specs.Account.{lowest_cancelled}
+use Rattle.chi_node.specs.Agree.{Agree}
 use Rattle.chi_node.specs.Calls.{IsSameRequester}
 use Rattle.chi_node.specs.Requester.{RequesterState, no_requester, with_port}
-use Rattle.chi_node.proofs.Records.{told_none}
+use Rattle.chi_node.proofs.CreditCalls.{freed_agrees, ported_agrees}
 use Rattle.chi_system.specs.Credits.{GiveBackTry, GivesBack, Sees, Tends, TendTry}
 use Rattle.chi_system.specs.System.{AllAgree, IsOf, IsSystem, SystemState, requester_of}
 use Rattle.chi_system.proofs.Changed.{written_back}
@@ -33,7 +26,7 @@ pub record IsAlike (r r' : RequesterState) : Type 0 where
 another_port : (r r' : RequesterState) → r' ≡ with_port r'.port r → r'.port.shape ≡ r.port.shape → IsAlike r r'
 another_port r r' is shape = record {
   same = record { number = ap (λ (q : RequesterState). q.number) is; table = ap (λ (q : RequesterState). q.table) is; shape = shape };
-  agree = λ s a. subst (Agree s) (sym is) (record { slots = a.slots; count = a.count });
+  agree = λ s a. ported_agrees s r r' is a;
 }
 
 pub sees_alike : (seen : List ℕ) (r r' : RequesterState) → Sees seen r r' → IsAlike r r'
@@ -42,36 +35,10 @@ sees_alike seen r r' done = another_port r r' done.others (ap (λ p. p.shape) do
 tends_alike : (t : ℕ) (released : Option Released) (r r' : RequesterState) → Tends t released r r' → IsAlike r r'
 tends_alike t released r r' done = another_port r r' done.others done.credits.1
 
--- nothing is shown of a Cancelled slot, and so of an Idle one
-not_shown : {o : Option Where} (at : Where) → o ≡ None → o ≡ Some at → ⊥
-not_shown at none is = cc (none, is)
-
-told_idle : (s : SliceState) (n : ℕ) (slot : Slot) (x : SlotRecord) → x.state ≡ Cancelled → IsTold s n slot x → IsTold s n slot idle_slot
-told_idle s n slot x is a =
-    let none : told_at x.state x.answered ≡ None = ap (λ (z : SlotState). told_at z x.answered) is in
-    record {
-      places = λ l here. a.places l here ∙ (told_none x l none ∙ sym (told_none idle_slot l refl));
-      types = λ l at here shown. absurd (not_shown at (a.places l here ∙ told_none x l none) shown);
-    }
-
--- a Cancelled slot is one of the slots
-is_slot : (slots : List SlotRecord) (k : ℕ) → state_at slots k ≡ Cancelled → k < length slots
-is_slot slots k is = ⊎_elim (λ low. low) (λ past. absurd (no_idle (ap (λ (x : SlotRecord). x.state) (get_or_past slots k idle_slot past)) is)) (cases_lt k (length slots))
-  where
-    no_idle : {z : SlotState} → z ≡ Idle → z ≡ Cancelled → ⊥
-    no_idle idle cancelled = cc (idle, cancelled)
-
-freed_slots : (s : SliceState) (n : ℕ) (slots : List SlotRecord) (k : ℕ) → state_at slots k ≡ Cancelled → ((slot : Slot) → slot.0 < 8 → IsTold s n slot (slot_at slots slot.0)) → (slot : Slot) → slot.0 < 8 → IsTold s n slot (slot_at (set slots k idle_slot) slot.0)
-freed_slots s n slots k is told slot low = ⊎_elim
-    (λ (own : slot.0 ≡ k). subst (IsTold s n slot) (sym (get_or-set_at slots k slot.0 idle_slot idle_slot own (is_slot slots k is)))
-    (told_idle s n slot (slot_at slots slot.0) (ap (λ (i : ℕ). state_at slots i) own ∙ is) (told slot low)))
-    (λ apart. subst (IsTold s n slot) (sym (get_or-set_other slots k slot.0 idle_slot idle_slot apart)) (told slot low))
-    (cases_eq slot.0 k)
-
 gives_alike : (t : ℕ) (released : Released) (r r' : RequesterState) → GivesBack t released r r' → IsAlike r r'
 gives_alike t released r r' done = record {
   same = record { number = ap (λ (q : RequesterState). q.number) done.others; table = ap (λ (q : RequesterState). q.table) done.others; shape = done.returned.4.1 };
-  agree = λ s a. subst (Agree s) (sym done.others) (record { slots = freed_slots s r.number r.slots (lowest_cancelled r.slots t) done.cancelled a.slots; count = a.count });
+  agree = λ s a. freed_agrees s r r' (lowest_cancelled r.slots t) done.cancelled done.others a;
 }
 
 stays_alike : (r r' : RequesterState) → r' ≡ r → IsAlike r r'

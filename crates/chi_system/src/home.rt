@@ -59,7 +59,7 @@ impl<A: Allocator> Home<A> {
         ensures place { result ≡ index_of self.now line.0 }
         ensures kept { IsHome self.now }
     {
-        usize::from(line.0 % self.config.slices())
+        usize::from(self.config.slice_of(line))
     }
 
     /// The slice of a line.

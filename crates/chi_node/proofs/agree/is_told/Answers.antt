@@ -7,18 +7,18 @@ use Rattle.chi_node.specs.Agree.{IsTold}
 use Rattle.chi_node.proofs.Told.{told_by, typed_told}
 use Rattle.chi_node.proofs.agree.is_told.Goals as goal
 
-pub returns-then-has_credit : goal.returns-then-has_credit
-returns-then-has_credit g c =
+pub returns-then-typed : goal.returns-then-typed
+returns-then-typed g c =
     let low : c.number-agent.result.0 < 8 = omega (arith, c.number-agent.ensures.is, c.number-agent.ensures.kept.near) in
     subst (λ (n : ℕ). IsTrue c.fits.result ↔ IsTold c.args.slice.now n c.args.slot (slot_at c.args.requester.now.slots c.args.slot.0)) c.number-agent.ensures.is
     (subst (λ (x : SlotRecord). IsTrue c.fits.result ↔ IsTold c.args.slice.now c.number-agent.result.0 c.args.slot x) c.slot-said.ensures
-    (subst (λ (b : Bool). IsTrue (b && c.fits.result) ↔ IsTold c.args.slice.now c.number-agent.result.0 c.args.slot c.slot-said.result) c.if-has_credit.true
-    (told_by c.args.slice.now c.number-agent.result.0 c.args.slot c.slot-said.result c.place-place.result c.has_line-here.result c.has_credit.result c.fits.result c.has_credit.ensures.kept low
-    (c.place-place.ensures.shows low c.requires) (c.place-place.ensures.line low c.requires) c.has_line-here.ensures (c.has_credit.ensures.all low c.requires) (c.has_credit.ensures.only low c.requires) c.fits.ensures)))
+    (subst (λ (b : Bool). IsTrue (b && c.fits.result) ↔ IsTold c.args.slice.now c.number-agent.result.0 c.args.slot c.slot-said.result) c.if-typed.true
+    (told_by c.args.slice.now c.number-agent.result.0 c.args.slot c.slot-said.result c.typed_place-place.result.0 c.has_line-here.result c.typed_place-place.result.1 c.fits.result c.typed_place-place.ensures.kept low
+    (c.typed_place-place.ensures.shows low c.requires) (c.typed_place-place.ensures.line low c.requires) c.has_line-here.ensures (c.typed_place-place.ensures.all low c.requires) (c.typed_place-place.ensures.only low c.requires) c.fits.ensures)))
 
-pub returns-else-has_credit : goal.returns-else-has_credit
-returns-else-has_credit g c =
+pub returns-else-typed : goal.returns-else-typed
+returns-else-typed g c =
     let low : c.number-agent.result.0 < 8 = omega (arith, c.number-agent.ensures.is, c.number-agent.ensures.kept.near) in
-    subst (λ (n : ℕ). IsTrue c.has_credit.result ↔ IsTold c.args.slice.now n c.args.slot (slot_at c.args.requester.now.slots c.args.slot.0)) c.number-agent.ensures.is
-    (subst (λ (x : SlotRecord). IsTrue c.has_credit.result ↔ IsTold c.args.slice.now c.number-agent.result.0 c.args.slot x) c.slot-said.ensures
-    (typed_told c.args.slice.now c.number-agent.result.0 c.args.slot c.slot-said.result c.has_credit.result c.has_credit.ensures.kept low (c.has_credit.ensures.only low c.requires) c.if-has_credit.false))
+    subst (λ (n : ℕ). IsTrue c.typed_place-place.result.1 ↔ IsTold c.args.slice.now n c.args.slot (slot_at c.args.requester.now.slots c.args.slot.0)) c.number-agent.ensures.is
+    (subst (λ (x : SlotRecord). IsTrue c.typed_place-place.result.1 ↔ IsTold c.args.slice.now c.number-agent.result.0 c.args.slot x) c.slot-said.ensures
+    (typed_told c.args.slice.now c.number-agent.result.0 c.args.slot c.slot-said.result c.typed_place-place.result.1 c.typed_place-place.ensures.kept low (c.typed_place-place.ensures.only low c.requires) c.if-typed.false))

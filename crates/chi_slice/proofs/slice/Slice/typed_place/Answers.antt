@@ -2,7 +2,7 @@
 use Rattle.std.proofs.Common.{◌≡◌, true, rules}
 use Rattle.chi_slice.specs.Index.{typed_at}
 use Rattle.chi_slice.proofs.SlotTypes.{types_of}
-use Rattle.chi_slice.proofs.slice.Slice.has_credit.Goals as goal
+use Rattle.chi_slice.proofs.slice.Slice.typed_place.Goals as goal
 
 pub returns-clause-all : goal.returns-clause-all
 returns-clause-all g c = λ low at is.

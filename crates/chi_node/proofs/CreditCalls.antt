@@ -1,0 +1,51 @@
+-- A requester's calls that need no slice keep agreement.
+use Rattle.std.proofs.Common.{◌≡◌, ℕ, ◌<◌, List, Option, Some, None, length, refl, sym, ◌∙◌, ap, subst, ⊎_elim, get_or-set_other}
+use Rattle.std.proofs.Math.ListN.{set}
+use Rattle.std.proofs.lemmas.Bool.{cases_eq, cases_lt}
+use Rattle.std.proofs.lemmas.Grind.{get_or-set_at}
+use Rattle.std.proofs.lemmas.List.{get_or_past}
+use Rattle.chi_flit.specs.declared.numbers.Slot.{Slot}
+use Rattle.chi_line.specs.declared.seen.Where.{Where}
+use Rattle.chi_slice.specs.Slice.{SliceState}
+use Rattle.chi_credit.specs.declared.slot.SlotState.{SlotState}
+use Rattle.chi_credit.specs.declared.slot.SlotState.TheVariants.{Cancelled, Idle}
+use Rattle.chi_credit.specs.declared.slot.SlotRecord.{SlotRecord}
+use Rattle.chi_credit.specs.Slot.{idle_slot}
+use Rattle.chi_credit.specs.Account.{slot_at, state_at}
+use Rattle.chi_node.specs.Agree.{Agree, IsTold, told_at}
+use Rattle.chi_node.specs.Requester.{RequesterState, with_port}
+use Rattle.chi_node.proofs.Records.{told_none}
+
+-- another view of the port
+pub ported_agrees : (s : SliceState) (r r' : RequesterState) → r' ≡ with_port r'.port r → Agree s r → Agree s r'
+ported_agrees s r r' is a = subst (Agree s) (sym is) (record { slots = a.slots; count = a.count })
+
+-- nothing is shown of a Cancelled slot, and so of an Idle one
+not_shown : {o : Option Where} (at : Where) → o ≡ None → o ≡ Some at → ⊥
+not_shown at none is = cc (none, is)
+
+told_idle : (s : SliceState) (n : ℕ) (slot : Slot) (x : SlotRecord) → x.state ≡ Cancelled → IsTold s n slot x → IsTold s n slot idle_slot
+told_idle s n slot x is a =
+    let none : told_at x.state x.answered ≡ None = ap (λ (z : SlotState). told_at z x.answered) is in
+    record {
+      places = λ l here. a.places l here ∙ (told_none x l none ∙ sym (told_none idle_slot l refl));
+      types = λ l at here shown. absurd (not_shown at (a.places l here ∙ told_none x l none) shown);
+    }
+
+-- a Cancelled slot is one of the slots
+is_slot : (slots : List SlotRecord) (k : ℕ) → state_at slots k ≡ Cancelled → k < length slots
+is_slot slots k is = ⊎_elim (λ low. low) (λ past. absurd (no_idle (ap (λ (x : SlotRecord). x.state) (get_or_past slots k idle_slot past)) is)) (cases_lt k (length slots))
+  where
+    no_idle : {z : SlotState} → z ≡ Idle → z ≡ Cancelled → ⊥
+    no_idle idle cancelled = cc (idle, cancelled)
+
+freed_slots : (s : SliceState) (n : ℕ) (slots : List SlotRecord) (k : ℕ) → state_at slots k ≡ Cancelled → ((slot : Slot) → slot.0 < 8 → IsTold s n slot (slot_at slots slot.0)) → (slot : Slot) → slot.0 < 8 → IsTold s n slot (slot_at (set slots k idle_slot) slot.0)
+freed_slots s n slots k is told slot low = ⊎_elim
+    (λ (own : slot.0 ≡ k). subst (IsTold s n slot) (sym (get_or-set_at slots k slot.0 idle_slot idle_slot own (is_slot slots k is)))
+    (told_idle s n slot (slot_at slots slot.0) (ap (λ (i : ℕ). state_at slots i) own ∙ is) (told slot low)))
+    (λ apart. subst (IsTold s n slot) (sym (get_or-set_other slots k slot.0 idle_slot idle_slot apart)) (told slot low))
+    (cases_eq slot.0 k)
+
+-- a Cancelled slot becomes Idle
+pub freed_agrees : (s : SliceState) (r r' : RequesterState) (k : ℕ) → state_at r.slots k ≡ Cancelled → r' ≡ record r { port = r'.port; slots = set r.slots k idle_slot } → Agree s r → Agree s r'
+freed_agrees s r r' k cancelled is a = subst (Agree s) (sym is) (record { slots = freed_slots s r.number r.slots k cancelled a.slots; count = a.count })
