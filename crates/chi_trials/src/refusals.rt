@@ -36,7 +36,7 @@ fn refuses_all(rt: &impl Abort, slice: &mut Slice<Global>, table: &[(u8, Step, u
 }
 
 /// Every step, with numbers in their ranges.
-const STEPS: [Step; 17] = [
+pub const STEPS: [Step; 17] = [
     Step::Load(WordNo(7)),
     Step::Store(WordNo(7), 1),
     Step::Drop,

@@ -18,7 +18,8 @@ fn a_resent_request_must_be_accepted(rt: HostRuntime) {
         Step::RecvRetry,
         Step::Resend,
     ] {
-        does(&rt, &mut slice, 0, step);
+        let done = answer(&mut slice, at(0, step));
+        assert_eq!(rt; done, Ok(Effect::Nothing), "{step:?}");
     }
     let refused = answer(&mut slice, at(0, Step::Retry));
     assert_eq!(rt; refused, Err(Refusal::MustAccept));

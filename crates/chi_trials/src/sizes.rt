@@ -1,11 +1,12 @@
 //! Limits of a node's sizes, and of the numbers of an action.
 
 use crate::four_slices::{
-    LINE, SLOT, WRITER, ack, admit, answered, data, issue, start, would_complete,
+    LINE, OPENING, SLOT, WRITER, ack, admit, answered, data, issue, shows, start, would_complete,
 };
 use crate::moves::look;
+use crate::refusals::STEPS;
 use chi_flit::{Agent, Kind, Line, NoMemory, Profile, Refusal, Slot};
-use chi_slice::{Config, Effect, Slice};
+use chi_slice::{Action, Config, Effect, Slice};
 use linked_list_allocator::LocalHeap;
 use std::alloc::Global;
 use std::process::Abort;
@@ -72,10 +73,6 @@ fn numbers_outside_their_ranges_are_refused(rt: HostRuntime) {
         issue(WRITER, Line(255), kind, SLOT),
         issue(WRITER, LINE, kind, Slot(8)),
         issue(WRITER, LINE, kind, Slot(255)),
-        // lines of the other slices
-        issue(WRITER, Line(4), kind, SLOT),
-        issue(WRITER, Line(6), kind, SLOT),
-        issue(WRITER, Line(7), kind, SLOT),
         admit(Agent(7)),
         start(Agent(7)),
         data(Agent(7)),
@@ -88,6 +85,41 @@ fn numbers_outside_their_ranges_are_refused(rt: HostRuntime) {
     // the last line of the slice, and the last agent and slot
     let last = issue(Agent(6), Line(61), kind, Slot(7));
     answered(&rt, &mut slice, last, Ok(Effect::Nothing));
+}
+
+/// Each step at the line is refused, whichever it is.
+fn refuses_each_step(rt: &impl Abort, slice: &mut Slice<Global>, line: Line) {
+    for step in STEPS {
+        let action = Action {
+            agent: WRITER,
+            line,
+            step,
+        };
+        answered(rt, slice, action, Err(Refusal::OutOfRange));
+        would_complete(rt, slice, action, None);
+    }
+}
+
+#[test]
+fn no_step_is_done_at_a_line_outside_the_slice(rt: HostRuntime) {
+    let mut slice = slice_one(&rt, rt.alloc());
+    // lines of the other slices, and lines that no slice has; beside each a line that the slice has
+    let table = [
+        (0, 1),
+        (2, 1),
+        (3, 1),
+        (4, 5),
+        (6, 5),
+        (7, 5),
+        (60, 61),
+        (62, 61),
+        (65, 61),
+        (255, 61),
+    ];
+    for (outside, inside) in table {
+        refuses_each_step(&rt, &mut slice, Line(outside));
+        shows(&rt, &slice, Line(inside), OPENING);
+    }
 }
 
 #[test]

@@ -215,7 +215,9 @@ fn fits_a_heap(
     Ok(())
 }
 
-/// Replays the file with each budget of bytes, so that each allocation is refused in turn.
+/// Replays the file in an arena of 16,320 bytes, of which 0 to 15,999 are taken beforehand: what some of
+/// these leave is enough, and what the last leaves is too little. An allocation that fits into what an
+/// earlier one gave back is refused at none of them.
 fn fits_a_budget(
     rt: &(impl Abort + AllocGlobal),
     file: &[u8],
@@ -239,11 +241,13 @@ fn fits_a_budget(
 #[test]
 fn a_heap_of_any_size_answers_or_says_so(rt: HostRuntime) -> Result<(), AllocError> {
     fits_a_heap(&rt, COLD_READ, COLD_READ_TEXT)?;
-    fits_a_heap(&rt, RETRIED_READ, RETRIED_READ_TEXT)
+    fits_a_heap(&rt, RETRIED_READ, RETRIED_READ_TEXT)?;
+    fits_a_heap(&rt, FIRST_PATH, FIRST_PATH_TEXT)
 }
 
 #[test]
 fn a_budget_of_any_size_answers_or_says_so(rt: HostRuntime) -> Result<(), AllocError> {
     fits_a_budget(&rt, COLD_READ, COLD_READ_TEXT)?;
-    fits_a_budget(&rt, RETRIED_READ, RETRIED_READ_TEXT)
+    fits_a_budget(&rt, RETRIED_READ, RETRIED_READ_TEXT)?;
+    fits_a_budget(&rt, FIRST_PATH, FIRST_PATH_TEXT)
 }
