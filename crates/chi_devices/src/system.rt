@@ -1,7 +1,7 @@
 //! The program's own devices: a file that is read, and standard output.
 
-ghost use Rattle.std.specs.Prelude.{◌≡◌, IfOk, OnOk, OnErr};
-ghost use Rattle.std.specs.Io.KnownBytes.{Appends};
+ghost use Rattle.std.specs.Prelude.{◌≡◌, ◌≤◌, length, IfOk, OnOk, OnErr};
+ghost use Rattle.std.specs.Io.KnownBytes.{Appends, ReadConsumes};
 ghost use Rattle.chi_devices.specs.Devices.{AppendsFront};
 
 use crate::devices::{Failed, Input, Output};
@@ -41,14 +41,30 @@ impl<F: Read> Input for FileInput<F> {
     ghost failures = { λ input. input.failures };
 
     fn read(&mut self, buffer: &mut [u8]) -> Result<usize, Failed> {
-        match self.file.read(buffer) {
+        match read_once(&mut self.file, buffer) {
             Ok(count) => Ok(count),
-            Err(_) => {
+            Err(Failed) => {
                 self.failures += 1;
                 Err(Failed)
             }
         }
     }
+}
+
+/// Reads into the front of the buffer, again where a read was interrupted. Where that fails, no byte was
+/// taken.
+fn read_once<F: Read>(file: &mut F, buffer: &mut [u8]) -> Result<usize, Failed>
+    ensures bound { IfOk result (λ count. count ≤ length buffer.new) }
+    ensures bytes { ReadConsumes (F.remaining file.old) (F.remaining file.new) result buffer.new }
+{
+    'reads: for _ in 0..u64::MAX {
+        match file.read(buffer) {
+            Ok(count) => return Ok(count),
+            Err(error) if error.kind() == ErrorKind::Interrupted => {}
+            Err(_) => return Err(Failed),
+        }
+    }
+    Err(Failed)
 }
 
 /// Writes to standard output, or to another writer. Its bytes are known where the writer's are, and so
@@ -107,4 +123,42 @@ fn write_whole<W: Write>(stream: &mut W, bytes: &[u8]) -> Result<(), Failed>
         return Err(Failed);
     }
     Ok(())
+}
+
+#[cfg(test)]
+mod tests {
+    use super::*;
+    use std::io;
+
+    /// Its first read is interrupted, the second gives a byte, and each later one fails.
+    #[derive(Drop)]
+    struct Interrupted {
+        reads: u64,
+    }
+
+    impl Read for Interrupted {
+        fn read(&mut self, buffer: &mut [u8]) -> io::Result<usize> {
+            self.reads = self.reads.saturating_add(1);
+            if self.reads == 1 {
+                return Err(ErrorKind::Interrupted.into());
+            }
+            if self.reads > 2 || buffer.is_empty() {
+                return Err(ErrorKind::Other.into());
+            }
+            buffer[0] = b'a';
+            Ok(1)
+        }
+    }
+
+    #[test]
+    fn an_interrupted_read_is_tried_again(rt: HostRuntime) {
+        let file = Interrupted { reads: 0 };
+        let mut input = FileInput { file, failures: 0 };
+        let mut buffer = [0; 4];
+        assert_eq!(rt; input.read(&mut buffer), Ok(1));
+        assert_eq!(rt; buffer, [b'a', 0, 0, 0]);
+        assert_eq!(rt; input.failures, 0);
+        assert_eq!(rt; input.read(&mut buffer), Err(Failed));
+        assert_eq!(rt; input.failures, 1);
+    }
 }

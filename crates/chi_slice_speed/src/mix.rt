@@ -105,27 +105,50 @@ fn action(line: u8, after: u8, step: Step) -> Action {
     }
 }
 
+/// Adds a step at each of so many lines, from the first on.
+fn add_side_by_side(
+    actions: &mut Vec<Action>,
+    first: u8,
+    width: u8,
+    after: u8,
+    step: Step,
+) -> Result<(), AllocError> {
+    for place in 0..width {
+        actions.push(action(first.wrapping_add(place), after, step))?;
+    }
+    Ok(())
+}
+
+/// Adds the cycle of each of so many lines, from the first on: they go side by side.
+fn add_cycles(actions: &mut Vec<Action>, first: u8, width: u8) -> Result<(), AllocError> {
+    for (after, step) in CYCLE {
+        add_side_by_side(actions, first, width, after, step)?;
+    }
+    Ok(())
+}
+
 /// The mix over so many lines: blocks of lines take their turns, and those of a block go side by side.
 pub fn mix(alloc: Global, blocks: u8, width: u8) -> Result<Vec<Action>, AllocError> {
     let mut actions = Vec::new(alloc);
     for block in 0..blocks {
-        for (after, step) in CYCLE {
-            for place in 0..width {
-                let line = block.wrapping_mul(width).wrapping_add(place);
-                actions.push(action(line, after, step))?;
-            }
-        }
+        add_cycles(&mut actions, block.wrapping_mul(width), width)?;
     }
     Ok(actions)
+}
+
+/// Adds a cold read of the line.
+fn add_cold_read(actions: &mut Vec<Action>, line: u8) -> Result<(), AllocError> {
+    for step in COLD_READ {
+        actions.push(action(line, 0, step))?;
+    }
+    Ok(())
 }
 
 /// A cold read of each of so many lines.
 pub fn cold_reads(alloc: Global, lines: u8) -> Result<Vec<Action>, AllocError> {
     let mut actions = Vec::new(alloc);
     for line in 0..lines {
-        for step in COLD_READ {
-            actions.push(action(line, 0, step))?;
-        }
+        add_cold_read(&mut actions, line)?;
     }
     Ok(actions)
 }

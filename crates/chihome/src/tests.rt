@@ -21,6 +21,10 @@ const HANDED_ON: &[u8] =
 const HANDED_ON_TEXT: &[u8] =
     b"ok\nok admitted 0\nok\nok\nok completed 0 freed\nok\nok\nok admitted 0\nok\nok\nok SnpRespData_SC_PD\nok\nok\nok value 7\nok completed 0 freed\nok copies SC,SC named 0,1 unique no serving none waiting - memory 0 0 0 7 0 0 0 0\n";
 
+const TOTALS: &[u8] = b"node 1 1 1 1 1 4\ntotals\n";
+
+const TOTALS_TEXT: &[u8] = b"ok free 1 1 hand 0 0 promised 0 0 owed 0 0\n";
+
 const TWO_COMMANDS: &[u8] = b"node 1 1 1 1 1 4\ntotals\nflits 0 0\n";
 
 const TWO_COMMANDS_TEXT: &[u8] = b"ok free 1 1 hand 0 0 promised 0 0 owed 0 0\nok none\n";
@@ -43,7 +47,7 @@ fn dirty_data_is_handed_on_to_another_agent(rt: HostRuntime) {
 
 /// The replay of this file must end with this line and status 1, and write nothing.
 fn tells(rt: &(impl Abort + AllocGlobal), file: &[u8], line: &str) -> Result<(), AllocError> {
-    let mut input = MemoryInput::new(file, 10);
+    let mut input = MemoryInput::new(file, 1_000);
     let mut output = MemoryOutput::new(rt.alloc(), 1_000);
     match replay(rt.alloc(), &mut input, &mut output) {
         Ok(()) => assert!(rt; false, "{line}"),
@@ -60,11 +64,15 @@ fn tells(rt: &(impl Abort + AllocGlobal), file: &[u8], line: &str) -> Result<(),
 
 #[test]
 fn a_faulty_file_is_told_and_nothing_written(rt: HostRuntime) -> Result<(), AllocError> {
-    let files: [(&[u8], &str); 10] = [
+    let files: [(&[u8], &str); 11] = [
         (b"", "chihome: line 1: bad header"),
         (b"node 1 1 1 1 1 4", "chihome: line 1: missing newline"),
         (b"node 1 1 1 1 1 4\r\n", "chihome: line 1: bad header"),
         (b"node 9 64 8 32 32 65536\n", "chihome: line 1: bad header"),
+        (
+            b"node 8 64 8 100 100 30 27 65536\ntotals\n",
+            "chihome: line 1: bad header",
+        ),
         (
             b"node 1 1 1 1 1 4\nload 0 0\n",
             "chihome: line 2: bad command",
@@ -93,34 +101,69 @@ fn a_faulty_file_is_told_and_nothing_written(rt: HostRuntime) -> Result<(), Allo
     Ok(())
 }
 
+/// Adds the line so many times.
+fn add_lines(file: &mut Vec<u8>, times: usize, line: &[u8]) -> Result<(), AllocError> {
+    for _ in 0..times {
+        file.extend_from_slice(line)?;
+    }
+    Ok(())
+}
+
 #[test]
-fn an_output_that_fails_holds_a_beginning_of_the_text(rt: HostRuntime) {
-    for room in 0..51 {
-        let mut input = MemoryInput::new(TWO_COMMANDS, 10);
+fn a_file_of_one_byte_too_many_is_too_large(rt: HostRuntime) -> Result<(), AllocError> {
+    let mut file = Vec::new(rt.alloc());
+    add_lines(&mut file, 1, b"node 1 1 1 1 1 4\n")?;
+    add_lines(&mut file, 174_754, b"see 0\n")?;
+    add_lines(&mut file, 5, b"totals\n")?;
+    add_lines(&mut file, 1, b"\n")?;
+    assert_eq!(rt; file.len(), 1_048_577);
+    tells(&rt, &file, "chihome: file too large")
+}
+
+/// An output that takes fewer bytes than the file's text has, and then fails, holds a beginning of it;
+/// one that takes as many holds all.
+fn fails_at_each_write(rt: &(impl Abort + AllocGlobal), file: &[u8], text: &[u8]) {
+    for room in 0..text.len() {
+        let mut input = MemoryInput::new(file, 10);
         let mut output = MemoryOutput::new(rt.alloc(), room);
         let fault = replay(rt.alloc(), &mut input, &mut output).err();
         assert_eq!(rt; fault, Some(Fault::Write), "{room}");
         assert!(rt; output.bytes().len() <= room, "{room}");
-        assert!(rt; TWO_COMMANDS_TEXT.starts_with(output.bytes()), "{room}");
+        assert!(rt; text.starts_with(output.bytes()), "{room}");
     }
-    let mut input = MemoryInput::new(TWO_COMMANDS, 10);
-    let mut output = MemoryOutput::new(rt.alloc(), 51);
+    let mut input = MemoryInput::new(file, 10);
+    let mut output = MemoryOutput::new(rt.alloc(), text.len());
     assert_eq!(rt; replay(rt.alloc(), &mut input, &mut output), Ok(()));
-    assert!(rt; output.bytes() == TWO_COMMANDS_TEXT);
+    assert!(rt; output.bytes() == text);
+}
+
+#[test]
+fn an_output_that_fails_holds_a_beginning_of_the_text(rt: HostRuntime) {
+    assert_eq!(rt; TOTALS_TEXT.len(), 43);
+    fails_at_each_write(&rt, TOTALS, TOTALS_TEXT);
+    fails_at_each_write(&rt, TWO_COMMANDS, TWO_COMMANDS_TEXT);
+}
+
+/// A short file is read in two reads, the second of which finds its end. Where one of them fails, nothing
+/// is written.
+fn fails_at_each_read(rt: &(impl Abort + AllocGlobal), file: &[u8], text: &[u8]) {
+    for good_reads in 0..2 {
+        let mut input = MemoryInput::new(file, good_reads);
+        let mut output = MemoryOutput::new(rt.alloc(), 1_000);
+        let fault = replay(rt.alloc(), &mut input, &mut output).err();
+        assert_eq!(rt; fault, Some(Fault::Read), "{good_reads}");
+        assert!(rt; output.bytes().is_empty(), "{good_reads}");
+    }
+    let mut input = MemoryInput::new(file, 2);
+    let mut output = MemoryOutput::new(rt.alloc(), 1_000);
+    assert_eq!(rt; replay(rt.alloc(), &mut input, &mut output), Ok(()));
+    assert!(rt; output.bytes() == text);
 }
 
 #[test]
 fn an_input_that_fails_writes_nothing(rt: HostRuntime) {
-    for good_reads in 0..2 {
-        let mut input = MemoryInput::new(TWO_COMMANDS, good_reads);
-        let mut output = MemoryOutput::new(rt.alloc(), 1_000);
-        let fault = replay(rt.alloc(), &mut input, &mut output).err();
-        assert_eq!(rt; fault, Some(Fault::Read));
-        assert!(rt; output.bytes().is_empty());
-    }
-    let mut input = MemoryInput::new(TWO_COMMANDS, 2);
-    let mut output = MemoryOutput::new(rt.alloc(), 1_000);
-    assert_eq!(rt; replay(rt.alloc(), &mut input, &mut output), Ok(()));
+    fails_at_each_read(&rt, TOTALS, TOTALS_TEXT);
+    fails_at_each_read(&rt, TWO_COMMANDS, TWO_COMMANDS_TEXT);
 }
 
 #[test]
