@@ -1,6 +1,7 @@
 pub mod Keeps
 pub mod Openings
 pub mod Told
+pub mod AgreeRows
 pub mod Records
 pub mod Agreement
 pub mod Stepping

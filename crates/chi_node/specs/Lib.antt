@@ -3,4 +3,5 @@ pub mod Parts
 pub mod Followed
 pub mod Arrives
 pub mod Agree
+pub mod Table
 pub mod Calls

@@ -6,6 +6,7 @@ ghost use Rattle.chi_credit.specs.Account.{slot_at};
 ghost use Rattle.chi_slice.specs.Slice.{SliceKept};
 ghost use Rattle.chi_node.specs.Requester.{RequesterKept};
 ghost use Rattle.chi_node.specs.Agree.{told_at, Agree, Fits, IsTold};
+ghost use Rattle.chi_node.specs.Table.{AgreeByTable};
 
 use crate::requester::Requester;
 use chi_credit::{SlotRecord, SlotState};
@@ -14,11 +15,12 @@ use chi_slice::{Place, Slice, Where};
 use std::alloc::Allocator;
 
 /// Whether the requester agrees with the slice: what the slice shows of each of the eight slots is what
-/// the account says of it, and the slice answered as many loads and stores as the requester counted. No
-/// line is walked over, and no memory is taken.
+/// the account says of it, row by row of the table, and the slice answered as many loads and stores as the
+/// requester counted. No line is walked over, and no memory is taken.
 /// Source: `docs/PROTOCOL.md`, "Agreement".
 pub fn agrees<A: Allocator>(slice: &Slice<A>, requester: &Requester) -> bool
-    ensures { IsTrue result ↔ Agree slice.now requester.now }
+    ensures agree { IsTrue result ↔ Agree slice.now requester.now }
+    ensures table { IsTrue result ↔ AgreeByTable slice.now requester.now }
 {
     is_open(slice, requester)
 }

@@ -11,7 +11,7 @@ loop-requester-preserved g c =
     let one = c.requester-item.result in
     let low : n < length requesters = omega arith in
     let here : one ≡ get_or requesters n one = search (rules, c.requester-item.is) in
-    next_meets (Agree c.args.slice.now) requesters n one c.loop-requester.found c.agrees-found.result c.loop-requester.invariant low here c.agrees-found.ensures
+    next_meets (Agree c.args.slice.now) requesters n one c.loop-requester.found c.agrees-found.result c.loop-requester.invariant low here c.agrees-found.ensures.agree
 
 pub returns : goal.returns
 returns g c = all_meet (Agree c.args.slice.now) c.args.requesters.now c.loop-requester.requester-index c.loop-requester.found c.loop-requester.invariant (omega arith)
