@@ -16,7 +16,7 @@ pub record Made : Type 0 where
   pub state : Machine
   pub left : List Answer
 
--- a turn under the next answers; a turn that lacks an answer says nothing more
+-- a turn under the next answers; where one is lacking, which no allowed list does, it goes on as after Owed
 abbrev pub made : Turn → List Answer → Made
 made (Ends said m) answers = record { said = said; state = m; left = answers }
 made (Asks call next) [] = made (next Owed) []
