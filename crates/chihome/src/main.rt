@@ -2,7 +2,6 @@
 #![tactic(auto)]
 
 mod program;
-mod replays;
 #[cfg(test)]
 mod tests;
 

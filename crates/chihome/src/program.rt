@@ -6,9 +6,9 @@ ghost use Rattle.chi_arguments.specs.declared.faults.ArgFault.{ArgFault};
 ghost use Rattle.chihome.specs.declared.program.Stop.TheVariants.{Arguments, Replay};
 ghost use Rattle.chihome.specs.Stops.{end_status, statuses, stop_status, stop_text, words_fault};
 
-use crate::replays::replay;
 use chi_arguments::{ArgFault, Job, arguments};
 use chi_devices::{FileInput, StandardOutput};
+use chi_replay::replay;
 use chi_script::Fault;
 use std::alloc::Global;
 use std::env::Args;

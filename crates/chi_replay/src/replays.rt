@@ -7,7 +7,7 @@ ghost use Rattle.chi_slice.specs.Config.{config_if};
 ghost use Rattle.chi_script.specs.Faults.{Fails};
 ghost use Rattle.chi_script.specs.Files.{file_of};
 ghost use Rattle.chi_script.specs.declared.faults.Fault.{Fault};
-ghost use Rattle.chihome.specs.Replays.{IsTextOf, NoText, Refuses, WritesBeginning, WritesText, node_sizes, read_sizes};
+ghost use Rattle.chi_replay.specs.Replays.{IsTextOf, NoText, Refuses, WritesBeginning, WritesText, node_sizes, read_sizes};
 
 use chi_devices::{Failed, Input, Output, read_all};
 use chi_flit::Profile;

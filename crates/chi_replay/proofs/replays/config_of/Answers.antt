@@ -1,7 +1,7 @@
 -- The sizes of a header that was read fit a node.
 use Rattle.std.proofs.Common.{rules}
-use Rattle.chihome.proofs.Fits.{never_none, some_sizes}
-use Rattle.chihome.proofs.replays.config_of.Goals as goal
+use Rattle.chi_replay.proofs.Fits.{never_none, some_sizes}
+use Rattle.chi_replay.proofs.replays.config_of.Goals as goal
 
 pub unreachable-requires : goal.unreachable-requires
 unreachable-requires c = never_none c.args.header.now c.requires c.in-None.ensures

@@ -5,7 +5,7 @@ use Rattle.chi_script.specs.declared.faults.Fault.TheVariants.{NoMemory, BadHead
 use Rattle.chi_script.specs.Faults.{Fails}
 use Rattle.chi_script.specs.Files.{file_of}
 use Rattle.chi_script.proofs.FileLemmas.{front_enough}
-use Rattle.chihome.specs.Replays.{IsTextOf, NoText}
+use Rattle.chi_replay.specs.Replays.{IsTextOf, NoText}
 
 -- the text of what was read is that of the input's file
 pub text_of_known : {T : Type 0} (left : Option (List ℕ)) (bytes : List ℕ) (bytes_of : T → List ℕ) (result : Result T Fault) → IfSome left (λ file. bytes ≡ take 1048577 file)

@@ -1,7 +1,7 @@
 -- What was read is enough of the input's file.
 use Rattle.std.proofs.Common.{string_bytes}
-use Rattle.chihome.proofs.Enough.{fault_of_known, text_of_known}
-use Rattle.chihome.proofs.replays.text_of_input.Goals as goal
+use Rattle.chi_replay.proofs.Enough.{fault_of_known, text_of_known}
+use Rattle.chi_replay.proofs.replays.text_of_input.Goals as goal
 
 pub returns-clause-ok : goal.returns-clause-ok
 returns-clause-ok g c = text_of_known (g.I.Input.left c.args.input.now) c.in_ok-bytes.bytes.items string_bytes c.text_of.result c.in_ok-bytes.ensures.front (rw (← c.deref.ensures.value) c.text_of.ensures.ok)
