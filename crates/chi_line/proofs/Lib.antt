@@ -35,3 +35,4 @@ pub mod TableRows
 pub mod Typed
 pub mod Moves
 pub mod EqualSlots
+pub mod Leaves

@@ -40,7 +40,7 @@ taken s None step h = absurd (cc (h))
 taken s (Some a) step h = (a, refl, refl)
 
 -- a request that may be retried is there
-request_there : (there : Option Request) → retry_refusal there ≡ None → is_some there ≡ true
+pub request_there : (there : Option Request) → retry_refusal there ≡ None → is_some there ≡ true
 request_there None h = absurd (cc (h))
 request_there (Some request) h = refl
 
