@@ -3,7 +3,7 @@
 ghost use Rattle.std.specs.Prelude.{◌≡◌, ◌<◌, None, Some, length};
 ghost use Rattle.chi_line.specs.Moves.{completed_to, if_moved, moved_slot, moved_to, requested_slot};
 ghost use Rattle.chi_line.specs.declared.seen.Where.TheVariants.{Closing};
-ghost use Rattle.chi_line.specs.Step.{completed_effect, completed_slot, line_of_parts, waiting_effect};
+ghost use Rattle.chi_line.specs.Step.{completed_effect, completed_slot, line_of_parts, pending_slot, waiting_effect};
 ghost use Rattle.chi_homeline.specs.Home.{served_slot, waiting_of};
 
 use crate::ends::{evicted, served_slot};
@@ -12,7 +12,7 @@ use crate::slots::pending_slot;
 use chi_flit::{Agent, Line, Request, RspDown, Slot, Step};
 use chi_homeline::{HomeLine, Serving};
 use chi_rnline::RnLine;
-use chi_wires::Wires;
+use chi_wires::{Cells, Wires};
 use std::alloc::Allocator;
 
 /// What a step does to a request of its agent.
@@ -46,17 +46,14 @@ pub fn move_of<A: Allocator>(
             ends(None)
         }
         Step::Issue(_, slot) => goes(Some(slot), Where::Sent),
-        Step::Admit => goes(requested_slot(wires.cells(agent, row).req), Where::Admitted),
-        Step::Retry => goes(requested_slot(wires.cells(agent, row).req), Where::Refused),
-        Step::RecvRetry => goes(pending_slot(copy.pending()), Where::Retried),
-        Step::Resend => goes(pending_slot(copy.pending()), Where::Riding),
+        Step::Admit => request_goes(wires.cells(agent, row), Where::Admitted),
+        Step::Retry => request_goes(wires.cells(agent, row), Where::Refused),
+        Step::RecvRetry => pending_goes(copy, Where::Retried),
+        Step::Resend => pending_goes(copy, Where::Riding),
         Step::Cancel => ends(pending_slot(copy.pending())),
         Step::Start => closes(evicted_slot(home, agent)),
-        Step::RecvData | Step::RecvDbid => goes(pending_slot(copy.pending()), Where::Answered),
-        Step::RecvComp => Move {
-            slot: pending_slot(copy.pending()),
-            to: completed_to(wires.cells(agent, row).rsp_down),
-        },
+        Step::RecvData | Step::RecvDbid => pending_goes(copy, Where::Answered),
+        Step::RecvComp => completes(copy, wires.cells(agent, row)),
         Step::RecvAck | Step::RecvWrData => ends(finished_slot(home.serving())),
     }
 }
@@ -67,6 +64,33 @@ fn goes(slot: Option<Slot>, at: Where) -> Move
     ensures to { result.to ≡ Some at }
 {
     Move { slot, to: Some(at) }
+}
+
+/// The request among these cells, which is left there.
+fn request_goes(cells: Cells, at: Where) -> Move
+    ensures slot { result.slot ≡ requested_slot cells.req }
+    ensures to { result.to ≡ Some at }
+{
+    goes(requested_slot(cells.req), at)
+}
+
+/// The copy's pending request, which is left there.
+fn pending_goes(copy: &RnLine, at: Where) -> Move
+    ensures slot { result.slot ≡ pending_slot copy.now.pending }
+    ensures to { result.to ≡ Some at }
+{
+    goes(pending_slot(copy.pending()), at)
+}
+
+/// The copy's pending request, which takes the completion among these cells.
+fn completes(copy: &RnLine, cells: Cells) -> Move
+    ensures slot { result.slot ≡ pending_slot copy.now.pending }
+    ensures to { result.to ≡ completed_to cells.rsp_down }
+{
+    Move {
+        slot: pending_slot(copy.pending()),
+        to: completed_to(cells.rsp_down),
+    }
 }
 
 /// A request, if there is one, that is over.
