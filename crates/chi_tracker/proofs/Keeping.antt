@@ -1,19 +1,21 @@
 -- What a port keeps between two calls, after each call.
-use Rattle.std.proofs.Common.{◌≡◌, ◌≢◌, ℕ, ◌+◌, ◌-◌, ◌<◌, ◌≤◌, List, length, slice_index, slice_set, Option, Some, None, refl, sym, ap, ◌∙◌, subst, arith, get_or-set_other, get_or-set_same}
+use Rattle.std.proofs.Common.{◌≡◌, ◌≢◌, ℕ, ◌+◌, ◌-◌, ◌/◌, ◌<◌, ◌≤◌, List, length, slice_index, slice_set, Option, Some, None, refl, sym, ap, ◌∙◌, subst, arith, get_or-set_other, get_or-set_same, Fits, w8}
 use mathlib.Core.Logic.{dite}
 use native.Mathlib.Decide.{ℕ_discrete}
 use Rattle.atomic_table.specs.Table.{Me}
 use Rattle.atomic_table.specs.declared.shared.Seat.{Seat}
+use Rattle.chi_flit.specs.declared.credit.CreditType.{CreditType}
+use Rattle.chi_flit.specs.Credit.{credit_number}
 use Rattle.chi_tracker.specs.declared.shape.Shape.{Shape}
 use Rattle.chi_tracker.specs.declared.view.SeatView.{SeatView}
 use Rattle.chi_tracker.specs.Sums.{raised, set_at, take_out}
-use Rattle.chi_tracker.specs.Shape.{low, IsOf, count_of}
-use Rattle.chi_tracker.specs.Views.{PortView}
+use Rattle.chi_tracker.specs.Shape.{low, size, IsOf, IsShape, count_of}
+use Rattle.chi_tracker.specs.Views.{PortView, has}
 use Rattle.chi_tracker.specs.Steps.{solo, port_of, spends, returns_credit}
-use Rattle.chi_tracker.specs.Calls.{Owner, owner_of, IsHeld, IsKept, owed_one, seen_of, IsLowestSeen, Ended, HasOneLess}
+use Rattle.chi_tracker.specs.Calls.{Owner, owner_of, IsHeld, IsKept, owed_one, set_count, seen_of, IsLowestSeen, Ended, HasOneLess}
 use Rattle.chi_tracker.proofs.Adding.{raised_here, raised_else}
-use Rattle.chi_tracker.proofs.BitLaws.{taken_here, taken_else}
-use Rattle.chi_tracker.proofs.Entries.{in_range, count_moved, count_kept}
+use Rattle.chi_tracker.proofs.BitLaws.{with_here, taken_here, taken_else}
+use Rattle.chi_tracker.proofs.Entries.{credit_below, in_range, count_moved, count_kept}
 use Rattle.chi_tracker.proofs.Sweeps.{ended_same, ended_duty, ended_note}
 use Rattle.chi_tracker.specs.declared.released.Released.{Released}
 
@@ -89,6 +91,40 @@ pub lowest_seen : (m : Me ℕ SeatView) (n : ℕ) (s : Shape) (seen due : List �
 lowest_seen m n s seen due t e held is set lowest =
     let P : Shape → List ℕ → Type 0 = λ sh sn. IsOf sh t e × (set_at sn e ≡ 1) × ((i : ℕ) → low sh t ≤ i → i < e → set_at sn i ≡ 0) in
     subst (λ (sh : Shape). P sh (port_of m).seen) (sym held.shape_is) (subst (P s) (sym held.seen_is) (is, set, lowest))
+
+-- what is due of a type once one is paid, and the places of a type's entries and of its number
+pub one_due : (m : Me ℕ SeatView) (n : ℕ) (s : Shape) (seen due : List ℕ) (t : ℕ) → IsHeld m n s seen due → t < 4 → slice_index (port_of m).spent t + slice_index (port_of m).returned t < slice_index (port_of m).retries t → 1 ≤ slice_index due t
+one_due m n s seen due t held lt some = omega (arith, held.due_is t lt, some)
+
+pub in_bounds : (s : Shape) (t first count e : ℕ) → IsShape s → t < 4 → first ≡ low s t → count ≡ size s t → e < first + count → e < 256
+in_bounds s t first count e shaped lt first_is count_is below = omega (arith, in_range s t lt shaped.1, first_is, count_is, below)
+
+pub word_of : (e : ℕ) → e < 256 → e / 64 < 4
+word_of e below = omega arith
+
+pub as_byte : (e : ℕ) → e < 256 → Fits w8 e
+as_byte e below = omega arith
+
+pub kind_below : (k : ℕ) (ty : CreditType) → k ≡ credit_number ty → k < 4
+kind_below k ty is = omega (arith, is, credit_below ty)
+
+-- a held port with a seen credit of a type has a lowest one
+pub can_pick : (p : PortView) (m : Me ℕ SeatView) (n : ℕ) (s : Shape) (seen due : List ℕ) (t first count : ℕ) → IsHeld m n s seen due → p ≡ port_of m → t < 4 → first ≡ low s t → count ≡ size s t → 0 < seen_of p t → (first + count ≤ 256) × (0 < set_count seen first count)
+can_pick p m n s seen due t first count held at lt first_is count_is some =
+    let same = ap (λ x. seen_of x t) at ∙ (ap (λ (z : Shape). set_count (port_of m).seen (low z t) (size z t)) held.shape_is ∙ ap (λ (xs : List ℕ). set_count xs (low s t) (size s t)) held.seen_is) in
+    (omega (arith, in_range s t lt held.shaped.1), rw (first_is, count_is) (omega (arith, same, some)))
+
+-- what is paid is in hand, with no duty
+pub paid_in_hand : (m m1 : Me ℕ SeatView) (n : ℕ) (s : Shape) (seen due : List ℕ) (t e : ℕ) → IsHeld m n s seen due → m1 ≡ solo (returns_credit t e (port_of m)) → (m1 ≡ solo (port_of m1)) × ((port_of m1).duty ≡ None) × (has e (port_of m1) ≡ 1)
+paid_in_hand m m1 n s seen due t e held is =
+    (is ∙ ap solo (sym (ap port_of is)), ap (λ z. (port_of z).duty) is ∙ held.no_duty, ap (λ z. has e (port_of z)) is ∙ with_here (port_of m).hand e)
+
+-- and can be released
+pub paid_in_range : (m m1 : Me ℕ SeatView) (n : ℕ) (s : Shape) (seen due : List ℕ) (t e : ℕ) → IsHeld m n s seen due → m1 ≡ solo (returns_credit t e (port_of m)) → t < 4 → IsOf s t e
+    → (t < 4) × (s.agents ≡ (port_of m1).shape.agents) × (0 < s.agents) × (s.agents ≤ 8) × (e < 256) × IsOf (port_of m1).shape t e
+paid_in_range m m1 n s seen due t e held is lt of =
+    let now : s ≡ (port_of m1).shape = sym (ap (λ z. (port_of z).shape) is ∙ held.shape_is) in
+    (lt, ap (λ z. z.agents) now, held.shaped.2, held.shaped.3, omega (arith, of.1, in_range s t lt held.shaped.1), subst (λ (z : Shape). IsOf z t e) now of)
 
 -- after the end of a release
 pub ended_held : (m m' : Me ℕ SeatView) (n : ℕ) (s : Shape) (seen due : List ℕ) (t e : ℕ) (r : Released) → IsHeld m n s seen due → m' ≡ solo (port_of m') → Ended (port_of m) t e r (port_of m') → IsHeld m' n s seen due

@@ -217,7 +217,6 @@ impl Port {
     /// Spends the lowest seen credit of the type: its entry comes to hand.
     ///
     /// Conditions: the port is one that this tracker gave, and has a seen credit of the type.
-    #[tactic(auto, using(crate::proofs::BitLaws::with_here, crate::proofs::Entries::of_credit))]
     pub fn spend<A: Allocator>(&mut self, tracker: &Tracker<A>, ty: CreditType) -> Entry
         requires table { self.old.table ≡ tracker.now.table }
         requires credit { 0 < seen_of self.old.port (credit_number ty) }
@@ -271,7 +270,6 @@ impl Port {
     /// releases its entry.
     ///
     /// Conditions: the port is one that this tracker gave, and has a seen credit of the type.
-    #[tactic(auto, using(crate::proofs::BitLaws::with_here))]
     pub fn give_back<A: Allocator>(&mut self, tracker: &Tracker<A>, ty: CreditType) -> Released
         requires table { self.old.table ≡ tracker.now.table }
         requires credit { 0 < seen_of self.old.port (credit_number ty) }

@@ -1,12 +1,70 @@
-use Rattle.std.proofs.Common.{◌≡◌, sym, ap, ◌∙◌, subst, arith}
+use Rattle.std.proofs.Common.{◌≡◌, ℕ, sym, ap, ◌∙◌, subst, arith}
 use Rattle.chi_flit.specs.Credit.{credit_number}
+use Rattle.chi_tracker.specs.Shape.{IsOf}
 use Rattle.chi_tracker.specs.Views.{PortView, has}
 use Rattle.chi_tracker.specs.Steps.{port_of, returns_credit}
 use Rattle.chi_tracker.specs.Calls.{IsLowestSeen, Ended}
 use Rattle.chi_tracker.proofs.Entries.{credit_below}
-use Rattle.chi_tracker.proofs.Keeping.{held_of, owner_is, returned_held, ended_held, lowest_seen, spent_less}
+use Rattle.chi_tracker.proofs.Keeping.{held_of, owner_is, one_due, in_bounds, word_of, kind_below, returned_held, ended_held, can_pick, lowest_seen, paid_in_hand, paid_in_range, spent_less}
 use Rattle.chi_tracker.proofs.Sweeps.{ended_same, paid_hand}
 use Rattle.chi_tracker.proofs.port.Port.give_back.Goals as goal
+
+pub first-requires : goal.first-requires
+first-requires g c =
+    let i = c.self.inside in
+    (held_of i.chair c.in-Some.chair i.number i.shape i.seen i.due (sym c.take.ensures.value ∙ c.in-Some.is) c.self.invariant).shaped
+
+pub count-requires : goal.count-requires
+count-requires g c =
+    let i = c.self.inside in
+    (held_of i.chair c.in-Some.chair i.number i.shape i.seen i.due (sym c.take.ensures.value ∙ c.in-Some.is) c.self.invariant).shaped
+
+pub lowest-entry-requires : goal.lowest-entry-requires
+lowest-entry-requires g c =
+    let i = c.self.inside in let seat = c.in-Some.chair in
+    let held = held_of i.chair seat i.number i.shape i.seen i.due (sym c.take.ensures.value ∙ c.in-Some.is) c.self.invariant in
+    let at = ap (λ w. w.port) (owner_is i.chair seat c.args.self.now (sym c.take.ensures.value ∙ c.in-Some.is) c.self.view_is) in
+    can_pick c.args.self.now.port seat.me i.number i.shape i.seen i.due (credit_number c.args.ty) c.first.result c.count.result held at (credit_below c.args.ty) c.first.ensures c.count.ensures c.requires.credit
+
+pub pay-requires-clause-seen : goal.pay-requires-clause-seen
+pay-requires-clause-seen g c =
+    let i = c.self.inside in let seat = c.in-Some.chair in let e = c.lowest-entry.result in
+    let held = held_of i.chair seat i.number i.shape i.seen i.due (sym c.take.ensures.value ∙ c.in-Some.is) c.self.invariant in
+    let found = c.lowest-entry.ensures in
+    let low = lowest_seen seat.me i.number i.shape i.seen i.due (credit_number c.args.ty) e held (omega (arith, found.within.0, c.first.ensures), omega (arith, found.within.1, c.first.ensures, c.count.ensures)) found.set (λ k le. found.lowest k (omega (arith, le, c.first.ensures))) in
+    (subst (λ (u : ℕ). IsOf (port_of seat.me).shape u e) (sym c.number-kind.ensures) low.0, low.1)
+
+pub release_entry-released-requires-clause-view : goal.release_entry-released-requires-clause-view
+release_entry-released-requires-clause-view g c =
+    let i = c.self.inside in let seat = c.in-Some.chair in
+    let held = held_of i.chair seat i.number i.shape i.seen i.due (sym c.take.ensures.value ∙ c.in-Some.is) c.self.invariant in
+    paid_in_hand seat.me c.pay.new.chair.me i.number i.shape i.seen i.due c.number-kind.result c.lowest-entry.result held c.pay.ensures.view
+
+pub release_entry-released-requires-clause-range : goal.release_entry-released-requires-clause-range
+release_entry-released-requires-clause-range g c =
+    let i = c.self.inside in let seat = c.in-Some.chair in let t = c.number-kind.result in let found = c.lowest-entry.ensures in
+    let held = held_of i.chair seat i.number i.shape i.seen i.due (sym c.take.ensures.value ∙ c.in-Some.is) c.self.invariant in
+    let of : IsOf i.shape t c.lowest-entry.result = rw c.number-kind.ensures (omega (arith, found.within.0, c.first.ensures), omega (arith, found.within.1, c.first.ensures, c.count.ensures)) in
+    paid_in_range seat.me c.pay.new.chair.me i.number i.shape i.seen i.due t c.lowest-entry.result held c.pay.ensures.view (omega (arith, c.number-kind.ensures, credit_below c.args.ty)) of
+
+pub bounds-self-inside-entry : goal.bounds-self-inside-entry
+bounds-self-inside-entry g c =
+    let i = c.self.inside in let seat = c.in-Some.chair in
+    let held = held_of i.chair seat i.number i.shape i.seen i.due (sym c.take.ensures.value ∙ c.in-Some.is) c.self.invariant in
+    word_of c.lowest-entry.result (in_bounds i.shape (credit_number c.args.ty) c.first.result c.count.result c.lowest-entry.result held.shaped (credit_below c.args.ty) c.first.ensures c.count.ensures c.lowest-entry.ensures.within.1)
+
+pub bounds-self-inside-kind : goal.bounds-self-inside-kind
+bounds-self-inside-kind g c = kind_below c.number-kind.result c.args.ty c.number-kind.ensures
+
+pub overflow_sub-self : goal.overflow_sub-self
+overflow_sub-self g c =
+    let i = c.self.inside in let seat = c.in-Some.chair in
+    let held = held_of i.chair seat i.number i.shape i.seen i.due (sym c.take.ensures.value ∙ c.in-Some.is) c.self.invariant in
+    one_due seat.me i.number i.shape i.seen i.due c.number-kind.result held (kind_below c.number-kind.result c.args.ty c.number-kind.ensures) c.pay.ensures.due
+
+pub returns-clause-table : goal.returns-clause-table
+returns-clause-table g c =
+    c.release_entry-released.ensures.table ∙ c.pay.ensures.table ∙ ap (λ w. w.table) (sym (owner_is c.self.inside.chair c.in-Some.chair c.args.self.now (sym c.take.ensures.value ∙ c.in-Some.is) c.self.view_is))
 
 pub invariant_of-self : goal.invariant_of-self
 invariant_of-self g c =
