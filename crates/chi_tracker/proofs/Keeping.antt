@@ -108,6 +108,17 @@ as_byte e below = omega arith
 pub kind_below : (k : ℕ) (ty : CreditType) → k ≡ credit_number ty → k < 4
 kind_below k ty is = omega (arith, is, credit_below ty)
 
+-- a scan of a type that has entries is in range, and so is each entry of a type
+pub scan_range : (p : PortView) (m : Me ℕ SeatView) (n : ℕ) (s : Shape) (seen due : List ℕ) (t k first count : ℕ) → IsHeld m n s seen due → p ≡ port_of m → k ≡ t → t < 4 → first ≡ low s t → count ≡ size s t → 0 < size p.shape t
+    → (first ≡ low (port_of m).shape k) × (count ≡ size (port_of m).shape k) × (0 < count) × (first + count ≤ 256)
+scan_range p m n s seen due t k first count held at is lt first_is count_is some =
+    let some_here = ap (λ x. size x.shape t) at ∙ ap (λ z. size z t) held.shape_is in
+    (rw (is, held.shape_is) first_is, rw (is, held.shape_is) count_is, omega (arith, some_here, some, count_is), omega (arith, first_is, count_is, in_range s t lt held.shaped.1))
+
+pub entry_as_byte : (m : Me ℕ SeatView) (n : ℕ) (s : Shape) (seen due : List ℕ) (t k e : ℕ) → IsHeld m n s seen due → k ≡ t → t < 4 → IsOf (port_of m).shape k e → Fits w8 e
+entry_as_byte m n s seen due t k e held is lt of =
+    let here = subst (λ (z : Shape). IsOf z t e) held.shape_is (subst (λ (u : ℕ). IsOf (port_of m).shape u e) is of) in as_byte e (omega (arith, here.1, in_range s t lt held.shaped.1))
+
 -- a held port with a seen credit of a type has a lowest one
 pub can_pick : (p : PortView) (m : Me ℕ SeatView) (n : ℕ) (s : Shape) (seen due : List ℕ) (t first count : ℕ) → IsHeld m n s seen due → p ≡ port_of m → t < 4 → first ≡ low s t → count ≡ size s t → 0 < seen_of p t → (first + count ≤ 256) × (0 < set_count seen first count)
 can_pick p m n s seen due t first count held at lt first_is count_is some =
