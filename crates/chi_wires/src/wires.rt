@@ -35,7 +35,6 @@ impl<A: Allocator> Model for Wires<A> {
 
 impl<A: Allocator> Wires<A> {
     /// The wires of so many lines, with nothing in flight. Refused where memory runs out.
-    #[tactic(auto, using(crate::proofs::Moved::none_in_rows))]
     pub fn new(alloc: A, lines: u8) -> Result<Wires<A>, NoMemory>
         ensures empty { IfOk result (λ wires. wires ≡ replicate lines (replicate 8 no_flits)) }
         ensures none { IfOk result (λ wires. in_flight wires ≡ []) }
