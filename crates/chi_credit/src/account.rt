@@ -238,7 +238,6 @@ impl Account {
     /// credit of its type, which the port spends. It is never refused.
     ///
     /// Condition: the port has seen no fewer credits of the slot's type than slots of the type are Riding.
-    #[tactic(auto, using(crate::proofs::Keeps::spent_within, crate::proofs::Keeps::spent_due, crate::proofs::Keeps::spent_entries))]
     pub fn arrive<A: Allocator>(
         &mut self,
         slot: Slot,
