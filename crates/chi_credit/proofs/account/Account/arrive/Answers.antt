@@ -2,8 +2,11 @@ use Rattle.std.proofs.Common.{ℕ, rules, ap, subst}
 use Rattle.chi_flit.specs.Credit.{credit_number}
 use Rattle.chi_tracker.specs.Calls.{HasOneLess}
 use Rattle.chi_credit.specs.Account.{type_at}
-use Rattle.chi_credit.proofs.Keeps.{spent_within, spent_due, spent_entries}
+use Rattle.chi_credit.proofs.Keeps.{spent_entries, spent_within, spent_due}
 use Rattle.chi_credit.proofs.account.Account.arrive.Goals as goal
+
+pub returns-clause-hand : goal.returns-clause-hand
+returns-clause-hand g c keeps = spent_entries _ _ _ _ (type_at c.args.self.now c.args.slot.0) c.spend-entry.result.0 (search rules) (search rules) (search rules) keeps
 
 pub returns-clause-within : goal.returns-clause-within
 returns-clause-within g c keeps =
@@ -12,6 +15,3 @@ returns-clause-within g c keeps =
 
 pub returns-clause-credits : goal.returns-clause-credits
 returns-clause-credits g c keeps = spent_due _ _ _ _ (type_at c.args.self.now c.args.slot.0) c.spend-entry.result.0 (search rules) (search rules) keeps
-
-pub returns-clause-hand : goal.returns-clause-hand
-returns-clause-hand g c keeps = spent_entries _ _ _ _ (type_at c.args.self.now c.args.slot.0) c.spend-entry.result.0 (search rules) (search rules) (search rules) keeps
