@@ -417,6 +417,11 @@ abbrev Reads : SliceState → Action → Home → SliceState → ℕ → ℕ →
 Reads s action home now row place =
     true ≡ is_in_range now action → home ≡ get_or s.homes place home → completed_at home (flits_at s.wires row action.agent.0) action.agent action.step ≡ completes now action
 
+-- an action that is out of range completes nothing
+pub out_completes : (s : SliceState) (action : Action) → false ≡ is_in_range s action → None ≡ completes s action
+out_completes s action out =
+    ap (λ (b : Bool). slot_unless (if b then line_refusal (conditions_of s action) (line s action.line.0) action else Some OutOfRange) (effect_of (line s action.line.0) action)) out
+
 -- what was looked up and read out of a row says what an action would complete
 pub completes_read : (now s : SliceState) (action : Action) (row place : ℕ) (home : Home) → SliceKept s → s ≡ now → true ≡ is_in_range now action → row ≡ row_of_line now action.line.0 → place ≡ row
     → home ≡ get_or s.homes place home → completed_at home (flits_at s.wires row action.agent.0) action.agent action.step ≡ completes now action

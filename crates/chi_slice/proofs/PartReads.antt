@@ -1,12 +1,13 @@
 -- What is read out of a line's row is the line's part.
-use Rattle.std.proofs.Common.{◌≡◌, ℕ, ◌<◌, List, [], true, ◌∙◌, length, get_or, sym, ap, subst, arith}
+use Rattle.std.proofs.Common.{◌≡◌, ℕ, ◌<◌, ◌%◌, ◌==◌, nat_lt, List, [], true, ◌∙◌, length, get_or, sym, ap, subst, arith}
 use Rattle.std.proofs.lemmas.List.{get_or_read}
+use Rattle.chi_flit.specs.declared.action.Action.{Action}
 use Rattle.chi_rnline.specs.Rn.{Rn, no_line}
 use Rattle.chi_homeline.specs.Home.{Home, idle_home}
 use Rattle.chi_line.specs.LineState.{rn_of}
 use Rattle.chi_line.specs.Step.{line_of_parts}
-use Rattle.chi_slice.specs.Slice.{SliceState, SliceKept, are_in_range, is_line_in_range, line, row_of_line}
-use Rattle.chi_slice.proofs.Rows.{agent_low, both, row_in_slice}
+use Rattle.chi_slice.specs.Slice.{SliceState, SliceKept, are_in_range, is_in_range, is_line_in_range, line, row_of_line}
+use Rattle.chi_slice.proofs.Rows.{agent_low, both, in_range, is_low, row_in_slice}
 use Rattle.chi_slice.proofs.Slices.{same_line}
 
 -- the place of a line's row in the tables
@@ -57,3 +58,14 @@ is_row now s l row k same here row_is =
     (λ here row_is.
     let low = row_in_slice s l k here in
     record { copies = omega (arith, low, row_is, k.requesters); home = omega (arith, low, row_is, k.homes); flits = omega (arith, low, row_is, k.wires) }) here row_is
+
+-- the row of an action that is in range is in each of the tables
+pub acting_row : (now s : SliceState) (action : Action) (row : ℕ) → SliceKept s → SliceKept now → s ≡ now → true ≡ is_in_range now action → row ≡ row_of_line now action.line.0 → IsRow s row
+acting_row now s action row k k' same inside row_is = is_row now s action.line.0 row k same (in_range now action k' (sym inside)).line row_is
+
+-- a line of the slice is one of the journal's
+pub line_low : (s : SliceState) (l : ℕ) → SliceKept s → is_line_in_range s l ≡ true → l < s.journal.lines
+line_low s l k here = omega (arith, is_low l s.config.lines (both (nat_lt l s.config.lines) (l % s.config.slices == s.index) here).0, k.journal_lines)
+
+pub viewed_low : (now s : SliceState) (l : ℕ) → SliceKept s → s ≡ now → true ≡ is_line_in_range now l → l < s.journal.lines
+viewed_low now s l k same here = line_low s l k (ap (λ (v : SliceState). is_line_in_range v l) same ∙ sym here)

@@ -63,6 +63,13 @@ allowed_untaken taken s action may = go (is_in_range s action) may
     go true may = step_untaken (is_slot_used s action.agent.0 action.step) taken (is_full s.journal) s.config.profile (line s action.line.0) action.agent action.step may
     go false may = absurd (cc (may))
 
+-- an action that is out of range is refused as such
+pub out_refused_with : (taken : Bool) (s : SliceState) (action : Action) → false ≡ is_in_range s action → Some OutOfRange ≡ refused_with taken s action
+out_refused_with taken s action out = ap (λ (b : Bool). if b then line_refusal (conditions_with taken s action) (line s action.line.0) action else Some OutOfRange) out
+
+pub out_refused : (s : SliceState) (action : Action) → false ≡ is_in_range s action → Some OutOfRange ≡ refused s action
+out_refused s action out = ap (λ (b : Bool). if b then line_refusal (conditions_of s action) (line s action.line.0) action else Some OutOfRange) out
+
 -- what is read out of the line's row says why an action would be refused
 pub refusal_read : (now s : SliceState) (action : Action) (taken : Bool) (found : Conditions) (row place : ℕ) (copies : List Rn) (home : Home) (result : Option Refusal) → SliceKept s → SliceKept now → s ≡ now → true ≡ is_in_range now action
     → found ≡ conditions_with taken now action → row ≡ row_of_line now action.line.0 → place ≡ row → copies ≡ get_or s.requesters place copies → home ≡ get_or s.homes place home

@@ -1,5 +1,5 @@
 -- The row of a line that is in the slice.
-use Rattle.std.proofs.Common.{◌≡◌, ℕ, ◌+◌, ◌-◌, ◌*◌, ◌/◌, ◌%◌, ◌<◌, ◌≤◌, Bool, true, false, ◌&&◌, ◌||◌, ◌==◌, ◌≢◌, nat_le, nat_lt, refl, subst, sym, arith, ◌⊎◌, inl, inr, ⊎_elim}
+use Rattle.std.proofs.Common.{◌≡◌, ℕ, ◌+◌, ◌-◌, ◌*◌, ◌/◌, ◌%◌, ◌<◌, ◌≤◌, Bool, true, false, ◌&&◌, ◌||◌, ◌==◌, ◌≢◌, nat_le, nat_lt, refl, subst, sym, arith, ◌⊎◌, inl, inr, ⊎_elim, Option, Some, None, is_some, if◌then◌else◌}
 use Rattle.chi_flit.specs.declared.action.Action.{Action}
 use Rattle.chi_slice.specs.Config.{Sizes, are_in_limits, is_between, is_slice_count}
 use Rattle.chi_slice.specs.Slice.{SliceState, SliceKept, are_in_range, is_in_range, is_line_in_range, row_count, row_of_line}
@@ -13,7 +13,7 @@ either : (a b : Bool) → (a || b) ≡ true → (a ≡ true) ⊎ (b ≡ true)
 either true b h = inl refl
 either false b h = inr h
 
-is_low : (a b : ℕ) → nat_lt a b ≡ true → a < b
+pub is_low : (a b : ℕ) → nat_lt a b ≡ true → a < b
 is_low a b h = grind (arith, h)
 
 pub at_most : (a b : ℕ) → nat_le a b ≡ true → a ≤ b
@@ -110,6 +110,40 @@ in_range s action k h =
       row = row_in_slice s action.line.0 k rest.0;
       step = rest.1;
     }
+
+-- an action with a number outside its range isn't in range
+out_by : (a b l : Bool) → false ≡ a && b → false ≡ a && (l && b)
+out_by true b true h = h
+out_by true b false h = refl
+out_by false b l h = refl
+
+pub untaken : (s : SliceState) (action : Action) → false ≡ (nat_lt action.agent.0 s.config.agents && is_step_in_range action.step) → false ≡ is_in_range s action
+untaken s action h = out_by (nat_lt action.agent.0 s.config.agents) (is_step_in_range action.step) (is_line_in_range s action.line.0) h
+
+-- the row of a line, where the other numbers of the action are in their ranges
+pub record IsRowOf (s : SliceState) (action : Action) (found : Option ℕ) : Type 0 where
+  pub inside : is_some found ≡ is_in_range s action
+  pub row : (row : ℕ) → found ≡ Some row → row ≡ row_of_line s action.line.0
+
+inside_by : (a b l : Bool) (row : ℕ) → true ≡ a && b → is_some (if l then Some row else None) ≡ a && (l && b)
+inside_by true b true row h = h
+inside_by true b false row h = refl
+inside_by false b l row h = absurd (cc (h))
+
+row_by : (l : Bool) (row at : ℕ) → (if l then Some at else None) ≡ Some row → row ≡ at
+row_by true row at h = sym (cc (h))
+row_by false row at h = absurd (cc (h))
+
+pub row_found : (now s : SliceState) (action : Action) (found : Option ℕ) → s ≡ now → true ≡ (nat_lt action.agent.0 now.config.agents && is_step_in_range action.step)
+    → found ≡ (if is_line_in_range s action.line.0 then Some (row_of_line s action.line.0) else None) → IsRowOf now action found
+row_found now s action found same taken is =
+    subst (λ (v : SliceState). true ≡ (nat_lt action.agent.0 v.config.agents && is_step_in_range action.step) → IsRowOf v action found) same
+    (λ taken.
+    subst (IsRowOf s action) (sym is)
+    (record {
+      inside = inside_by (nat_lt action.agent.0 s.config.agents) (is_step_in_range action.step) (is_line_in_range s action.line.0) (row_of_line s action.line.0) taken;
+      row = λ row h. row_by (is_line_in_range s action.line.0) row (row_of_line s action.line.0) h;
+    })) taken
 
 abbrev IsSame : ℕ → ℕ → ℕ → Type 0
 IsSame l other n = (index : ℕ) → l % n ≡ index → other % n ≡ index → other / n ≡ l / n → other ≡ l

@@ -1,6 +1,6 @@
 //! A slice: some of the node's lines, and all that belongs to them.
 
-ghost use Rattle.std.specs.Prelude.{◌≡◌, ◌≢◌, ℕ, ◌<◌, [], true, false, None, Some, is_some, length, replicate, IfOk, OnOk, OnErr};
+ghost use Rattle.std.specs.Prelude.{◌≡◌, ◌≢◌, ℕ, ◌<◌, ◌&&◌, nat_lt, [], true, false, None, Some, is_some, length, replicate, IfOk, OnOk, OnErr};
 ghost use Rattle.chi_flit.specs.Refusal.{refusal_of};
 ghost use Rattle.chi_rnline.specs.Rn.{no_line};
 ghost use Rattle.chi_homeline.specs.Home.{idle_home};
@@ -128,18 +128,24 @@ impl<A: Allocator> Slice<A> {
         self.row_in_range(action).is_some()
     }
 
+    /// Whether an action's agent is in the node, and the numbers of its step are in their ranges.
+    fn can_take(&self, action: Action) -> bool
+        ensures range { result ≡ (nat_lt action.agent.0 self.now.config.agents && is_step_in_range action.step) }
+        ensures kept { SliceKept self.now }
+    {
+        action.agent.0 < self.config.agents() && is_step_in_range(action.step)
+    }
+
     /// The row of an action's line, where all its numbers are in their ranges and its line is in this slice.
     fn row_in_range(&self, action: Action) -> Option<u8>
         ensures inside { is_some result ≡ is_in_range self.now action }
         ensures row { (row : ℕ) → result ≡ Some row → row ≡ row_of_line self.now action.line.0 }
         ensures kept { SliceKept self.now }
     {
-        let row = self.config.row_in(self.index, action.line.0)?;
-        if action.agent.0 < self.config.agents() && is_step_in_range(action.step) {
-            Some(row)
-        } else {
-            None
+        if !self.can_take(action) {
+            return None;
         }
+        self.config.row_in(self.index, action.line.0)
     }
 
     /// Whether the agent is in the node, and the line in this slice.
