@@ -69,3 +69,7 @@ line_low s l k here = omega (arith, is_low l s.config.lines (both (nat_lt l s.co
 
 pub viewed_low : (now s : SliceState) (l : ℕ) → SliceKept s → s ≡ now → true ≡ is_line_in_range now l → l < s.journal.lines
 viewed_low now s l k same here = line_low s l k (ap (λ (v : SliceState). is_line_in_range v l) same ∙ sym here)
+
+-- the row of a line that is looked at for an agent is in each of the tables
+pub seen_row : (now s : SliceState) (n l row : ℕ) → SliceKept s → s ≡ now → true ≡ are_in_range now n l → row ≡ row_of_line now l → IsRow s row
+seen_row now s n l row k same inside row_is = is_row now s l row k same (both _ (is_line_in_range now l) (sym inside)).1 row_is

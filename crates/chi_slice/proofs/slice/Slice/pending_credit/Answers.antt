@@ -1,10 +1,12 @@
 -- The request is read out of the line's row.
-use Rattle.std.proofs.Common.{◌≡◌, ◌∙◌, ap, sym, rules}
+use Rattle.std.proofs.Common.{◌≡◌, ◌∙◌, Bool, None, Some, ap, arith, if◌then◌else◌, sym, rules}
+use Rattle.chi_flit.specs.declared.refusal.Refusal.TheVariants.{OutOfRange}
 use Rattle.chi_flit.specs.declared.credit.Profile.{Profile}
 use Rattle.chi_rnline.specs.Rn.{Rn}
 use Rattle.chi_line.specs.Types.{pending_credit}
 use Rattle.chi_slice.specs.Slice.{SliceState}
-use Rattle.chi_slice.proofs.PartReads.{copy_read}
+use Rattle.chi_slice.proofs.PartReads.{copy_read, seen_row}
+use Rattle.chi_slice.proofs.Rows.{agent_low}
 use Rattle.chi_slice.proofs.slice.Slice.pending_credit.Goals as goal
 
 pub returns-clause-credit : goal.returns-clause-credit
@@ -16,3 +18,18 @@ returns-clause-credit g c =
     c.pending_credit.ensures ∙ (ap (λ (p : Profile). pending_credit p c.pending-pending.result) profile
     ∙ ap (pending_credit c.args.self.now.config.profile) (c.pending-pending.ensures ∙ ap (λ (rn : Rn). rn.pending)
     (sym c.index-copies-from.is ∙ copy_read c.args.self.now s c.args.agent.0 c.args.line.0 c.row_of-row.result c.from.result c.from-2.result c.index-copies.result.now c.index-copies-from.result c.self.invariant.0 c.self.view_is (sym c.if-not-are_in_range.ensures.range) c.row_of-row.ensures.row row_is agent_is c.index-copies.ensures c.index-copies-from.is)))
+
+pub index-copies-requires : goal.index-copies-requires
+index-copies-requires g c =
+    let s : SliceState = record { config = c.self.inside.config; index = c.self.inside.index; requesters = c.self.inside.requesters.items; homes = c.self.inside.homes.items; wires = c.self.inside.wires; journal = c.self.inside.journal } in
+    let low = (seen_row c.args.self.now s c.args.agent.0 c.args.line.0 c.row_of-row.result c.self.invariant.0 c.self.view_is c.if-not-are_in_range.ensures.range c.row_of-row.ensures.row).copies in
+    omega (arith, low, c.from.ensures, c.self.inside.requesters.ok.0)
+
+pub bounds-copies-from : goal.bounds-copies-from
+bounds-copies-from g c = omega (arith, agent_low c.args.self.now c.args.agent.0 c.args.line.0 c.row_of-row.ensures.kept (sym c.if-not-are_in_range.ensures.range), c.from-2.ensures)
+
+pub returns-then-not-are_in_range-clause-refusal : goal.returns-then-not-are_in_range-clause-refusal
+returns-then-not-are_in_range-clause-refusal g c = ap (λ (here : Bool). if here then None else Some OutOfRange) c.if-not-are_in_range.ensures.range
+
+pub returns-clause-refusal : goal.returns-clause-refusal
+returns-clause-refusal g c = ap (λ (here : Bool). if here then None else Some OutOfRange) c.if-not-are_in_range.ensures.range
