@@ -18,7 +18,7 @@ use Rattle.chi_slice.specs.Slice.{SliceState, SliceKept, is_line_in_range, last_
 use Rattle.chi_slice.specs.Index.{at_line, is_slot_of, typed_at}
 use Rattle.chi_line.specs.Places.{where_at}
 use Rattle.chi_line.specs.Types.{has_type, is_of_type, pending_kind_of, requested_kind_of, served_kind_of, waiting_kind_of}
-use Rattle.chi_slice.proofs.Rows.{both}
+use Rattle.chi_slice.proofs.Rows.{both, is_low}
 use Rattle.chi_line.proofs.Untouched.{Free, is_free}
 use Rattle.chi_line.proofs.Wheres.{shows_unused}
 
@@ -89,12 +89,18 @@ pub record IsSlotOf (n : ℕ) (slot : Slot) : Type 0 where
   pub agent : n < 8
   pub number : slot.0 < 8
 
-is_low : (a b : ℕ) → nat_lt a b ≡ true → a < b
-is_low a b h = grind (arith, h)
-
 pub slot_inside : (n : ℕ) (slot : Slot) (o : Option Place) (there : Place) → (is_slot_of n slot ≡ false → o ≡ None) → o ≡ Some there → IsSlotOf n slot
 slot_inside n slot o there outside some = go (is_slot_of n slot) refl
   where
     go : (b : Bool) → is_slot_of n slot ≡ b → IsSlotOf n slot
     go true inside = let parts = both (nat_lt n 8) (nat_lt slot.0 8) inside in record { agent = is_low n 8 parts.0; number = is_low slot.0 8 parts.1 }
     go false other = absurd (cc (outside other, some))
+
+-- a slot has the type at its place where it has it at every line, or has no place
+pub typed_if : (s : SliceState) (ty : CreditType) (n : ℕ) (slot : Slot) (place : Option Place) (typed : Bool) → typed ≡ typed_at s ty n slot place → ((there : Place) → place ≡ Some there → is_line_in_range s there.line.0 ≡ true)
+    → ((l : ℕ) → is_line_in_range s l ≡ true → is_of_type s.config.profile ty (line s l) n slot ≡ true) → typed ≡ true
+typed_if s ty n slot None typed is here all = is
+typed_if s ty n slot (Some there) typed is here all = is ∙ all there.line.0 (here there refl)
+
+pub typed_nowhere : (s : SliceState) (ty : CreditType) (n : ℕ) (slot : Slot) (place : Option Place) (typed : Bool) → typed ≡ typed_at s ty n slot place → place ≡ None → typed ≡ true
+typed_nowhere s ty n slot place typed is none = is ∙ ap (typed_at s ty n slot) none
