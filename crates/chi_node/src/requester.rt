@@ -191,7 +191,6 @@ impl Requester {
     ///
     /// Refused 10 (OutOfRange) exactly where the tracker has no entries of the type; nothing changes then.
     /// Condition: the tracker is the requester's.
-    #[tactic(auto, using(crate::proofs::CreditCalls::ported_agrees))]
     pub fn tend<A: Allocator>(
         &mut self,
         tracker: &Tracker<A>,
