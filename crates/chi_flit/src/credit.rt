@@ -57,11 +57,11 @@ impl fmt::Display for CreditType {
     ghost output = { λ ty. Some (credit_text ty) };
 
     fn fmt<W: fmt::Write>(&self, f: &mut fmt::Formatter<W>) -> fmt::Result {
-        match self {
-            CreditType::T0 => write!(f, "0"),
-            CreditType::T1 => write!(f, "1"),
-            CreditType::T2 => write!(f, "2"),
-            CreditType::T3 => write!(f, "3"),
-        }
+        f.write_str(match self {
+            CreditType::T0 => "0",
+            CreditType::T1 => "1",
+            CreditType::T2 => "2",
+            CreditType::T3 => "3",
+        })
     }
 }

@@ -29,6 +29,22 @@ pub enum Kind {
 }
 
 impl Kind {
+    /// The kind's name.
+    fn name(self) -> &'static str
+        ensures { result.now ≡ kind_text self }
+    {
+        match self {
+            Kind::ReadNotSharedDirty => "ReadNotSharedDirty",
+            Kind::ReadShared => "ReadShared",
+            Kind::ReadUnique => "ReadUnique",
+            Kind::CleanUnique => "CleanUnique",
+            Kind::Evict => "Evict",
+            Kind::WriteBackFull => "WriteBackFull",
+            Kind::WriteCleanFull => "WriteCleanFull",
+            Kind::WriteEvictFull => "WriteEvictFull",
+        }
+    }
+
     /// Whether a copy in `state` is in the state that this kind needs at its issue.
     /// Source: `docs/PROTOCOL.md`, "Kinds of request".
     pub fn needs(self, state: State) -> bool
@@ -74,15 +90,6 @@ impl fmt::Display for Kind {
     ghost output = { λ kind. Some (kind_text kind) };
 
     fn fmt<W: fmt::Write>(&self, f: &mut fmt::Formatter<W>) -> fmt::Result {
-        match self {
-            Kind::ReadNotSharedDirty => write!(f, "ReadNotSharedDirty"),
-            Kind::ReadShared => write!(f, "ReadShared"),
-            Kind::ReadUnique => write!(f, "ReadUnique"),
-            Kind::CleanUnique => write!(f, "CleanUnique"),
-            Kind::Evict => write!(f, "Evict"),
-            Kind::WriteBackFull => write!(f, "WriteBackFull"),
-            Kind::WriteCleanFull => write!(f, "WriteCleanFull"),
-            Kind::WriteEvictFull => write!(f, "WriteEvictFull"),
-        }
+        f.write_str(self.name())
     }
 }

@@ -118,18 +118,27 @@ pub fn write_data(state: State, words: Data) -> DatUp
     }
 }
 
+impl Channel {
+    /// The channel's name.
+    fn name(self) -> &'static str
+        ensures { result.now ≡ channel_text self }
+    {
+        match self {
+            Channel::Req => "Req",
+            Channel::Snp => "Snp",
+            Channel::RspDown => "RspDown",
+            Channel::DatDown => "DatDown",
+            Channel::RspUp => "RspUp",
+            Channel::DatUp => "DatUp",
+        }
+    }
+}
+
 impl fmt::Display for Channel {
     ghost output = { λ channel. Some (channel_text channel) };
 
     fn fmt<W: fmt::Write>(&self, f: &mut fmt::Formatter<W>) -> fmt::Result {
-        match self {
-            Channel::Req => write!(f, "Req"),
-            Channel::Snp => write!(f, "Snp"),
-            Channel::RspDown => write!(f, "RspDown"),
-            Channel::DatDown => write!(f, "DatDown"),
-            Channel::RspUp => write!(f, "RspUp"),
-            Channel::DatUp => write!(f, "DatUp"),
-        }
+        f.write_str(self.name())
     }
 }
 
@@ -164,11 +173,11 @@ impl fmt::Display for CompData {
     ghost output = { λ response. Some (data_down_text response) };
 
     fn fmt<W: fmt::Write>(&self, f: &mut fmt::Formatter<W>) -> fmt::Result {
-        if self.unique {
-            write!(f, "CompData_UC")
+        f.write_str(if self.unique {
+            "CompData_UC"
         } else {
-            write!(f, "CompData_SC")
-        }
+            "CompData_SC"
+        })
     }
 }
 
@@ -176,11 +185,11 @@ impl fmt::Display for RspUp {
     ghost output = { λ response. Some (rsp_up_text response) };
 
     fn fmt<W: fmt::Write>(&self, f: &mut fmt::Formatter<W>) -> fmt::Result {
-        match self {
-            RspUp::SnpRespI => write!(f, "SnpResp_I"),
-            RspUp::SnpRespSC => write!(f, "SnpResp_SC"),
-            RspUp::CompAck => write!(f, "CompAck"),
-        }
+        f.write_str(match self {
+            RspUp::SnpRespI => "SnpResp_I",
+            RspUp::SnpRespSC => "SnpResp_SC",
+            RspUp::CompAck => "CompAck",
+        })
     }
 }
 
@@ -188,16 +197,16 @@ impl fmt::Display for DatUp {
     ghost output = { λ response. Some (data_up_text response) };
 
     fn fmt<W: fmt::Write>(&self, f: &mut fmt::Formatter<W>) -> fmt::Result {
-        match self {
-            DatUp::SnpRespDataIPD(_) => write!(f, "SnpRespData_I_PD"),
-            DatUp::SnpRespDataSCPD(_) => write!(f, "SnpRespData_SC_PD"),
-            DatUp::SnpRespDataSD(_) => write!(f, "SnpRespData_SD"),
-            DatUp::CopyBackWrData(State::I, _) => write!(f, "CopyBackWrData_I"),
-            DatUp::CopyBackWrData(State::SC, _) => write!(f, "CopyBackWrData_SC"),
-            DatUp::CopyBackWrData(State::UC, _) => write!(f, "CopyBackWrData_UC"),
-            DatUp::CopyBackWrData(State::UD, _) => write!(f, "CopyBackWrData_UD_PD"),
-            DatUp::CopyBackWrData(State::SD, _) => write!(f, "CopyBackWrData_SD_PD"),
-        }
+        f.write_str(match self {
+            DatUp::SnpRespDataIPD(_) => "SnpRespData_I_PD",
+            DatUp::SnpRespDataSCPD(_) => "SnpRespData_SC_PD",
+            DatUp::SnpRespDataSD(_) => "SnpRespData_SD",
+            DatUp::CopyBackWrData(State::I, _) => "CopyBackWrData_I",
+            DatUp::CopyBackWrData(State::SC, _) => "CopyBackWrData_SC",
+            DatUp::CopyBackWrData(State::UC, _) => "CopyBackWrData_UC",
+            DatUp::CopyBackWrData(State::UD, _) => "CopyBackWrData_UD_PD",
+            DatUp::CopyBackWrData(State::SD, _) => "CopyBackWrData_SD_PD",
+        })
     }
 }
 

@@ -61,26 +61,33 @@ impl Refusal {
             Refusal::NoCredit => 12,
         }
     }
+
+    /// The refusal's name.
+    fn name(self) -> &'static str
+        ensures { result.now ≡ refusal_text self }
+    {
+        match self {
+            Refusal::JournalFull => "JournalFull",
+            Refusal::WrongState => "WrongState",
+            Refusal::Pending => "Pending",
+            Refusal::NothingPending => "NothingPending",
+            Refusal::LineBusy => "LineBusy",
+            Refusal::NotWaiting => "NotWaiting",
+            Refusal::NoFlit => "NoFlit",
+            Refusal::NoMemory => "NoMemory",
+            Refusal::MustAccept => "MustAccept",
+            Refusal::OutOfRange => "OutOfRange",
+            Refusal::NotOpen => "NotOpen",
+            Refusal::NoCredit => "NoCredit",
+        }
+    }
 }
 
 impl fmt::Display for Refusal {
     ghost output = { λ refusal. Some (refusal_text refusal) };
 
     fn fmt<W: fmt::Write>(&self, f: &mut fmt::Formatter<W>) -> fmt::Result {
-        match self {
-            Refusal::JournalFull => write!(f, "JournalFull"),
-            Refusal::WrongState => write!(f, "WrongState"),
-            Refusal::Pending => write!(f, "Pending"),
-            Refusal::NothingPending => write!(f, "NothingPending"),
-            Refusal::LineBusy => write!(f, "LineBusy"),
-            Refusal::NotWaiting => write!(f, "NotWaiting"),
-            Refusal::NoFlit => write!(f, "NoFlit"),
-            Refusal::NoMemory => write!(f, "NoMemory"),
-            Refusal::MustAccept => write!(f, "MustAccept"),
-            Refusal::OutOfRange => write!(f, "OutOfRange"),
-            Refusal::NotOpen => write!(f, "NotOpen"),
-            Refusal::NoCredit => write!(f, "NoCredit"),
-        }
+        f.write_str(self.name())
     }
 }
 
@@ -90,7 +97,7 @@ impl fmt::Display for NoMemory {
     ghost output = { λ _. Some (refusal_text refusals.NoMemory) };
 
     fn fmt<W: fmt::Write>(&self, f: &mut fmt::Formatter<W>) -> fmt::Result {
-        write!(f, "NoMemory")
+        f.write_str("NoMemory")
     }
 }
 

@@ -48,15 +48,24 @@ pub fn answer(state: State, snoop: Snoop, words: Data) -> (State, Msg)
     }
 }
 
+impl Snoop {
+    /// The snoop's name.
+    fn name(self) -> &'static str
+        ensures { result.now ≡ snoop_text self }
+    {
+        match self {
+            Snoop::SnpShared => "SnpShared",
+            Snoop::SnpNotSharedDirty => "SnpNotSharedDirty",
+            Snoop::SnpUnique => "SnpUnique",
+            Snoop::SnpCleanInvalid => "SnpCleanInvalid",
+        }
+    }
+}
+
 impl fmt::Display for Snoop {
     ghost output = { λ snoop. Some (snoop_text snoop) };
 
     fn fmt<W: fmt::Write>(&self, f: &mut fmt::Formatter<W>) -> fmt::Result {
-        match self {
-            Snoop::SnpShared => write!(f, "SnpShared"),
-            Snoop::SnpNotSharedDirty => write!(f, "SnpNotSharedDirty"),
-            Snoop::SnpUnique => write!(f, "SnpUnique"),
-            Snoop::SnpCleanInvalid => write!(f, "SnpCleanInvalid"),
-        }
+        f.write_str(self.name())
     }
 }

@@ -41,18 +41,25 @@ impl State {
     {
         matches!(self, State::UD | State::SD)
     }
+
+    /// The state's name.
+    fn name(self) -> &'static str
+        ensures { result.now ≡ state_text self }
+    {
+        match self {
+            State::I => "I",
+            State::SC => "SC",
+            State::UC => "UC",
+            State::UD => "UD",
+            State::SD => "SD",
+        }
+    }
 }
 
 impl fmt::Display for State {
     ghost output = { λ state. Some (state_text state) };
 
     fn fmt<W: fmt::Write>(&self, f: &mut fmt::Formatter<W>) -> fmt::Result {
-        match self {
-            State::I => write!(f, "I"),
-            State::SC => write!(f, "SC"),
-            State::UC => write!(f, "UC"),
-            State::UD => write!(f, "UD"),
-            State::SD => write!(f, "SD"),
-        }
+        f.write_str(self.name())
     }
 }

@@ -99,10 +99,14 @@ command_two verb n l =
     if is_text verb (codes "tend") then Some (Tend (agent_at n) (credit_of l)) else
     (step_of verb >>= λ step. Some (act_at n l step)))))
 
+-- VERB N L and what makes it this step
+abbrev pub command_step : List ℕ → List ℕ → Step → Option Command
+command_step a b step = small_of a >>= λ n. small_of b >>= λ l. Some (act_at n l step)
+
 abbrev pub command_of : List (List ℕ) → Option Command
 command_of (verb ∷ []) = command_bare verb
 command_of (verb ∷ a ∷ []) = small_of a >>= λ n. command_one verb n
 command_of (verb ∷ a ∷ b ∷ []) = small_of a >>= λ n. small_of b >>= λ l. command_two verb n l
-command_of (verb ∷ a ∷ b ∷ c ∷ []) = step_with_one verb c >>= λ step. small_of a >>= λ n. small_of b >>= λ l. Some (act_at n l step)
-command_of (verb ∷ a ∷ b ∷ c ∷ d ∷ []) = step_with_two verb c d >>= λ step. small_of a >>= λ n. small_of b >>= λ l. Some (act_at n l step)
+command_of (verb ∷ a ∷ b ∷ c ∷ []) = step_with_one verb c >>= λ step. command_step a b step
+command_of (verb ∷ a ∷ b ∷ c ∷ d ∷ []) = step_with_two verb c d >>= λ step. command_step a b step
 command_of _ = None

@@ -2,7 +2,7 @@
 
 ghost use Rattle.std.specs.Prelude.{◌≡◌};
 ghost use Rattle.chi_script.specs.Words.{texts_of};
-ghost use Rattle.chi_script.specs.Commands.{command_of, command_bare, command_one, command_two, act_at, credit_of, step_of, step_with_one, step_with_two, kind_of};
+ghost use Rattle.chi_script.specs.Commands.{command_of, command_bare, command_one, command_two, command_step, act_at, credit_of, step_of, step_with_one, step_with_two, kind_of};
 
 use crate::numbers::{number, small};
 use crate::words::is;
@@ -61,13 +61,9 @@ pub fn read_command(words: &[&[u8]]) -> Option<Command>
         [verb] => bare(verb),
         [verb, first] => with_one(verb, small(first)?),
         [verb, first, second] => with_two(verb, small(first)?, small(second)?),
-        [verb, first, second, third] => {
-            let step = step_with_one(verb, third)?;
-            Some(act(small(first)?, small(second)?, step))
-        }
+        [verb, first, second, third] => stepped(first, second, step_with_one(verb, third)?),
         [verb, first, second, third, fourth] => {
-            let step = step_with_two(verb, third, fourth)?;
-            Some(act(small(first)?, small(second)?, step))
+            stepped(first, second, step_with_two(verb, third, fourth)?)
         }
         _ => None,
     }
@@ -133,6 +129,13 @@ fn credit_at(number: u8) -> Option<CreditType>
         3 => Some(CreditType::T3),
         _ => None,
     }
+}
+
+/// The step of the agent and the line that two words name.
+fn stepped(first: &[u8], second: &[u8], step: Step) -> Option<Command>
+    ensures { result ≡ command_step first.now second.now step }
+{
+    Some(act(small(first)?, small(second)?, step))
 }
 
 /// The command that is this step of an agent on a line.
