@@ -8,6 +8,3 @@ mod jobs;
 
 pub use faults::ArgFault;
 pub use jobs::{Job, arguments};
-
-#[cfg(test)]
-mod tests;

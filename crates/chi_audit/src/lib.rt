@@ -2,8 +2,6 @@
 #![tactic(auto)]
 
 mod slices;
-#[cfg(test)]
-mod tests;
 mod verdict;
 
 pub use slices::check_slice;

@@ -9,6 +9,3 @@ mod slot;
 
 pub use account::Account;
 pub use slot::{SlotRecord, SlotState};
-
-#[cfg(test)]
-mod tests;

@@ -3,7 +3,5 @@
 
 mod filter;
 mod sets;
-#[cfg(test)]
-mod tests;
 
 pub use filter::{Filter, has_any};

@@ -12,8 +12,6 @@ mod numbers;
 mod refusal;
 mod snoop;
 mod state;
-#[cfg(test)]
-mod tests;
 
 pub use action::{Action, Effect, Step};
 pub use credit::{CreditType, Profile, credit_type};

@@ -5,8 +5,6 @@
 
 mod home_line;
 mod serving;
-#[cfg(test)]
-mod tests;
 
 pub use home_line::HomeLine;
 pub use serving::{Begun, Completion, Serving, SnoopAnswer, Started, Waiting};

@@ -2,7 +2,5 @@
 #![tactic(auto)]
 
 mod replays;
-#[cfg(test)]
-mod tests;
 
 pub use replays::replay;

@@ -31,32 +31,3 @@ fn verdict_word(coherent: bool) -> &'static str
 {
     if coherent { "coherent" } else { "broken" }
 }
-
-#[cfg(test)]
-mod tests {
-    use super::*;
-    use std::test::Fail;
-
-    #[test]
-    fn prints_both_verdicts(rt: HostRuntime) -> Result<(), Fail> {
-        let coherent = Audit {
-            loads: 0,
-            stores: 524_288,
-            coherent: true,
-        };
-        assert_eq!(rt;
-            coherent.to_string(rt.alloc())?.as_str(),
-            "ok loads 0 stores 524288 coherent"
-        );
-        let broken = Audit {
-            loads: 3,
-            stores: 1,
-            coherent: false,
-        };
-        assert_eq!(rt;
-            broken.to_string(rt.alloc())?.as_str(),
-            "ok loads 3 stores 1 broken"
-        );
-        Ok(())
-    }
-}

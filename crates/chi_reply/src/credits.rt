@@ -25,24 +25,3 @@ impl fmt::Display for Credits {
         write!(f, "ok credits{counts}")
     }
 }
-
-#[cfg(test)]
-mod tests {
-    use super::*;
-    use std::test::Fail;
-
-    #[test]
-    fn prints_the_types_there_are(rt: HostRuntime) -> Result<(), Fail> {
-        let two = Credits {
-            counts: [1, 0, 0, 0],
-            profile: Profile::Two,
-        };
-        assert_eq!(rt; two.to_string(rt.alloc())?.as_str(), "ok credits 1 0");
-        let four = Credits {
-            counts: [0, 64, 2, 8],
-            profile: Profile::Four,
-        };
-        assert_eq!(rt; four.to_string(rt.alloc())?.as_str(), "ok credits 0 64 2 8");
-        Ok(())
-    }
-}

@@ -5,8 +5,6 @@
 
 mod pending;
 mod rn_line;
-#[cfg(test)]
-mod tests;
 
 pub use pending::{Pending, Phase};
 pub use rn_line::RnLine;

@@ -18,6 +18,3 @@ pub use files::{MOST_BYTES, Script, read_file};
 pub use headers::{Header, read_header};
 pub use laws::{commands_are_lines, front_is_enough, headers_are_lines, numbers_are_decimal};
 pub use numbers::{number, small};
-
-#[cfg(test)]
-mod tests;

@@ -3,8 +3,6 @@
 
 mod runs;
 mod session;
-#[cfg(test)]
-mod tests;
 mod told;
 
 pub use runs::run;

@@ -27,6 +27,3 @@ pub use port::Port;
 pub use released::Released;
 pub use totals::{Counts, Credits, Totals};
 pub use tracker::Tracker;
-
-#[cfg(test)]
-mod tests;

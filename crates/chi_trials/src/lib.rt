@@ -27,4 +27,6 @@ mod slots;
 #[cfg(test)]
 mod snoops;
 #[cfg(test)]
+mod verdicts;
+#[cfg(test)]
 mod write_data;

@@ -1,0 +1,61 @@
+//! The filter through its calls, against the values of `docs/PROTOCOL.md`, "The filter".
+
+use chi_filter::{Filter, has_any};
+use chi_flit::Agent;
+
+const NOBODY: [bool; 8] = [false; 8];
+
+const SECOND: [bool; 8] = [false, true, false, false, false, false, false, false];
+
+const LAST: [bool; 8] = [false, false, false, false, false, false, false, true];
+
+const BOTH: [bool; 8] = [false, true, false, false, false, false, false, true];
+
+#[test]
+fn names_nobody_at_first(rt: HostRuntime) {
+    let filter = Filter::new();
+    assert_eq!(rt; filter.named(), NOBODY);
+    assert_eq!(rt; filter.is_unique(), false);
+    assert_eq!(rt; filter.owner(), None);
+    assert_eq!(rt; filter.other_owner(Agent(0)), NOBODY);
+    assert_eq!(rt; has_any(&filter.named()), false);
+    assert_eq!(rt; has_any(&LAST), true);
+}
+
+#[test]
+fn keeps_the_flag_for_one_agent_alone(rt: HostRuntime) {
+    let mut filter = Filter::new();
+    // who is added first isn't alone by that
+    filter.add(Agent(7));
+    assert_eq!(rt; filter.named(), LAST);
+    assert_eq!(rt; filter.is_unique(), false);
+    filter.only(Agent(7));
+    assert_eq!(rt; filter.named(), LAST);
+    assert_eq!(rt; filter.is_unique(), true);
+    // naming the same agent again changes nothing
+    filter.add(Agent(7));
+    assert_eq!(rt; filter.is_unique(), true);
+    assert_eq!(rt; filter.others_than(Agent(7)), NOBODY);
+    assert_eq!(rt; filter.others_than(Agent(1)), LAST);
+    filter.add(Agent(1));
+    assert_eq!(rt; filter.named(), BOTH);
+    assert_eq!(rt; filter.is_unique(), false);
+    assert_eq!(rt; filter.others_than(Agent(7)), SECOND);
+}
+
+#[test]
+fn drops_the_flag_with_its_agent(rt: HostRuntime) {
+    let mut filter = Filter::new();
+    filter.only(Agent(1));
+    // an agent that isn't named changes nothing
+    filter.remove(Agent(7));
+    assert_eq!(rt; filter.named(), SECOND);
+    assert_eq!(rt; filter.is_unique(), true);
+    filter.remove(Agent(1));
+    assert_eq!(rt; filter.named(), NOBODY);
+    assert_eq!(rt; filter.is_unique(), false);
+    filter.only(Agent(1));
+    filter.share();
+    assert_eq!(rt; filter.named(), SECOND);
+    assert_eq!(rt; filter.is_unique(), false);
+}

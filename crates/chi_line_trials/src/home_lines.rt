@@ -1,0 +1,124 @@
+//! A line at the home through its calls, against the values of `docs/PROTOCOL.md`, "Start" and "Completion".
+
+ghost use Rattle.std.specs.Prelude.{◌<◌};
+
+use chi_flit::{Agent, CompData, Kind, Msg, NO_DATA, Refusal, RspDown, Slot, Snoop};
+use chi_homeline::{Completion, HomeLine, Serving, Started, Waiting};
+
+const NOBODY: [bool; 8] = [false; 8];
+
+const FIRST: [bool; 8] = [true, false, false, false, false, false, false, false];
+
+const LAST: [bool; 8] = [false, false, false, false, false, false, false, true];
+
+fn request(kind: Kind, slot: u8) -> Waiting {
+    Waiting {
+        kind,
+        slot: Slot(slot),
+    }
+}
+
+fn data(unique: bool) -> Msg {
+    Msg::DatDown(CompData {
+        unique,
+        words: NO_DATA,
+    })
+}
+
+/// What the start of the agent's request answers.
+fn starts(home: &mut HomeLine, agent: u8) -> Result<Started, Refusal>
+    requires { agent < 8 }
+{
+    home.start(Agent(agent))
+}
+
+/// The agent's request of this kind and slot waits from now on.
+fn waits(home: &mut HomeLine, agent: u8, kind: Kind, slot: u8)
+    requires { agent < 8 }
+{
+    home.admit(Agent(agent), request(kind, slot));
+}
+
+/// Whom the filter names, and whether as a unique holder.
+fn names(home: &HomeLine) -> ([bool; 8], bool) {
+    (home.filter().named(), home.filter().is_unique())
+}
+
+#[test]
+fn completes_a_read_and_waits_for_its_ack(rt: HostRuntime) {
+    let mut home = HomeLine::new();
+    assert_eq!(rt; home.memory(), NO_DATA);
+    assert_eq!(rt; starts(&mut home, 0), Err(Refusal::NotWaiting));
+
+    waits(&mut home, 0, Kind::ReadShared, 3);
+    waits(&mut home, 7, Kind::ReadUnique, 5);
+    assert_eq!(rt; home.waiting(Agent(0)), Some(request(Kind::ReadShared, 3)));
+    assert_eq!(rt; home.all_waiting()[7], Some(request(Kind::ReadUnique, 5)));
+
+    // nobody else is named: the copy is unique
+    assert_eq!(rt; starts(&mut home, 0), Ok(Started::Sends(data(true))));
+    assert_eq!(rt; home.waiting(Agent(0)), None);
+    assert_eq!(rt; names(&home), (FIRST, true));
+    let served = Serving::AwaitingCompAck {
+        agent: Agent(0),
+        slot: Slot(3),
+    };
+    assert_eq!(rt; home.serving(), served);
+
+    // no other start before the CompAck; who doesn't wait is told so first
+    assert_eq!(rt; starts(&mut home, 7), Err(Refusal::LineBusy));
+    assert_eq!(rt; starts(&mut home, 0), Err(Refusal::NotWaiting));
+    assert_eq!(rt; home.serving(), served);
+
+    assert_eq!(rt; home.ack(Agent(0)), Slot(3));
+    assert_eq!(rt; home.serving(), Serving::Idle);
+
+    // the holder is snooped, and the filter stays till it has answered
+    let snoops = Started::Snoops {
+        snoop: Snoop::SnpUnique,
+        agents: FIRST,
+    };
+    assert_eq!(rt; starts(&mut home, 7), Ok(snoops));
+    assert_eq!(rt; home.awaited(), FIRST);
+    assert_eq!(rt; names(&home).0, FIRST);
+    assert_eq!(rt; starts(&mut home, 7), Err(Refusal::NotWaiting));
+}
+
+#[test]
+fn starts_evictions_and_copy_backs(rt: HostRuntime) {
+    let mut home = HomeLine::new();
+    waits(&mut home, 0, Kind::ReadUnique, 0);
+    assert_eq!(rt; starts(&mut home, 0), Ok(Started::Sends(data(true))));
+    let served = Serving::AwaitingCompAck {
+        agent: Agent(0),
+        slot: Slot(0),
+    };
+    assert_eq!(rt; home.serving(), served);
+    assert_eq!(rt; home.ack(Agent(0)), Slot(0));
+
+    waits(&mut home, 0, Kind::Evict, 6);
+    assert_eq!(rt; starts(&mut home, 0), Ok(Started::Evicted(Slot(6))));
+    assert_eq!(rt; names(&home), (NOBODY, false));
+    assert_eq!(rt; home.serving(), Serving::Idle);
+
+    waits(&mut home, 7, Kind::WriteBackFull, 1);
+    let dbid = Started::Sends(Msg::RspDown(RspDown::CompDBIDResp));
+    assert_eq!(rt; starts(&mut home, 7), Ok(dbid));
+    let serving = Serving::AwaitingWriteData {
+        agent: Agent(7),
+        kind: Kind::WriteBackFull,
+        slot: Slot(1),
+    };
+    assert_eq!(rt; home.serving(), serving);
+    waits(&mut home, 0, Kind::ReadShared, 2);
+    assert_eq!(rt; starts(&mut home, 0), Err(Refusal::LineBusy));
+}
+
+#[test]
+fn completes_a_clean_unique_without_data(rt: HostRuntime) {
+    let mut home = HomeLine::new();
+    waits(&mut home, 7, Kind::CleanUnique, 4);
+    let unique = Started::Sends(Msg::RspDown(RspDown::CompUC));
+    assert_eq!(rt; starts(&mut home, 7), Ok(unique));
+    assert_eq!(rt; names(&home), (LAST, true));
+}

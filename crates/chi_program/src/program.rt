@@ -1,0 +1,133 @@
+//! The program over the system: its arguments, its file, its streams and its status.
+
+ghost use Rattle.std.specs.Prelude.{◌≡◌, Some, IfOk, IfErr, Contains, map, string_bytes};
+ghost use Rattle.std.specs.Vec.Iter.{into_iter_items};
+ghost use Rattle.chi_arguments.specs.declared.faults.ArgFault.{ArgFault};
+ghost use Rattle.chi_program.specs.declared.program.Stop.TheVariants.{Arguments, Replay};
+ghost use Rattle.chi_program.specs.Stops.{end_status, statuses, stop_status, stop_text, words_fault};
+
+use chi_arguments::{ArgFault, Job, arguments};
+use chi_devices::{FileInput, StandardOutput};
+use chi_replay::replay;
+use chi_script::Fault;
+use std::alloc::Global;
+use std::env::Args;
+use std::io::ErrorKind;
+use std::rt::{Env, Files};
+use std::{env, fmt, io};
+
+/// Why the program didn't do what it was asked for. Its text is the line on standard error.
+#[derive(Clone, Copy, Debug, PartialEq, Eq)]
+pub enum Stop {
+    /// The command line isn't followed.
+    Arguments(ArgFault),
+    /// The replay found a fault.
+    Replay(Fault),
+}
+
+impl Stop {
+    /// The program's status.
+    /// Source: `docs/PROTOCOL.md`, "The program".
+    pub fn status(self) -> u8
+        ensures { result ≡ stop_status self }
+    {
+        match self {
+            Stop::Arguments(fault) => fault.status(),
+            Stop::Replay(fault) => fault.status(),
+        }
+    }
+}
+
+impl fmt::Display for Stop {
+    ghost output = { λ stop. Some (stop_text stop) };
+
+    fn fmt<W: fmt::Write>(&self, f: &mut fmt::Formatter<W>) -> fmt::Result {
+        match self {
+            Stop::Arguments(fault) => write!(f, "{fault}"),
+            Stop::Replay(fault) => write!(f, "{fault}"),
+        }
+    }
+}
+
+impl From<ArgFault> for Stop {
+    ghost from_gives = { λ fault stop. stop ≡ Arguments fault };
+
+    fn from(fault: ArgFault) -> Stop {
+        Stop::Arguments(fault)
+    }
+}
+
+impl From<Fault> for Stop {
+    ghost from_gives = { λ fault stop. stop ≡ Replay fault };
+
+    fn from(fault: Fault) -> Stop {
+        Stop::Replay(fault)
+    }
+}
+
+/// Does what the command line asks for, and answers the exit status. A fault is one line on standard
+/// error.
+/// Source: `docs/PROTOCOL.md`, "The program".
+pub fn serve<R: Env + Files + AllocGlobal + Print + Eprint>(rt: &R) -> u8
+    ensures { Contains statuses result }
+{
+    told(rt, follow(rt))
+}
+
+/// The exit status of a run. A stop is told on standard error.
+fn told<R: Eprint>(rt: &R, done: Result<(), Stop>) -> u8
+    ensures { result ≡ end_status done }
+{
+    match done {
+        Ok(()) => 0,
+        Err(stop) => {
+            let _ = rt.eprintln(stop);
+            stop.status()
+        }
+    }
+}
+
+/// Reads the command line, and does what it asks for.
+fn follow<R: Env + Files + AllocGlobal + Print>(rt: &R) -> Result<(), Stop> {
+    let texts = match env::args(rt) {
+        Ok(given) => kept(rt.alloc(), given)?,
+        Err(error) => return Err(Stop::Arguments(fault_of(error.kind()))),
+    };
+    let words = words_of(rt.alloc(), &texts)?;
+    match arguments(rt.alloc(), &words)? {
+        Job::Replay(path) => Ok(replay_file(rt, path)?),
+    }
+}
+
+/// The words that were given, in their order; `NoMemory` where memory runs out.
+fn kept(alloc: Global, given: Args) -> Result<Vec<String>, ArgFault>
+    ensures ok { IfOk result (λ texts. texts.items ≡ into_iter_items given) }
+    ensures err { IfErr result (λ fault. fault ≡ ArgFault.NoMemory) }
+{
+    Ok(given.collect(alloc)?)
+}
+
+/// The same words, lent; `NoMemory` where memory runs out.
+fn words_of<'a>(alloc: Global, texts: &'a [String]) -> Result<Vec<&'a str>, ArgFault>
+    ensures ok { IfOk result (λ words. map (λ word. word.now) words.items ≡ map string_bytes texts.now) }
+    ensures err { IfErr result (λ fault. fault ≡ ArgFault.NoMemory) }
+{
+    Ok(texts.iter().map(|text| text.as_str()).collect(alloc)?)
+}
+
+/// Want of memory while the words are read, or words that can't be read.
+fn fault_of(kind: ErrorKind) -> ArgFault
+    ensures { result ≡ words_fault kind }
+{
+    match kind {
+        ErrorKind::OutOfMemory => ArgFault::NoMemory,
+        _ => ArgFault::Bad,
+    }
+}
+
+/// Replays the file at the path to standard output.
+fn replay_file<R: Files + AllocGlobal + Print>(rt: &R, path: &str) -> Result<(), Fault> {
+    let mut input = FileInput::open(rt, path)?;
+    let mut output = StandardOutput::new(io::writer(rt));
+    replay(rt.alloc(), &mut input, &mut output)
+}

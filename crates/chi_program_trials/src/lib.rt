@@ -1,0 +1,13 @@
+//! Tests of the program's parts: replays from an input to an output, command lines, and the ways to stop.
+//!
+//! Source: `docs/PROTOCOL.md`, "The program".
+#![tactic(auto)]
+
+#[cfg(test)]
+mod command_lines;
+#[cfg(test)]
+mod replays;
+#[cfg(test)]
+mod scarce;
+#[cfg(test)]
+mod stops;

@@ -1,0 +1,38 @@
+//! The text of the entries' numbers.
+
+use crate::prints::prints;
+use chi_flit::Profile;
+use chi_reply::Totals;
+use std::test::Fail;
+
+#[test]
+fn prints_two_types(rt: HostRuntime) -> Result<(), Fail> {
+    let totals = Totals {
+        free: [0, 1, 0, 0],
+        hand: [2, 1, 0, 0],
+        promised: [1, 0, 0, 0],
+        owed: [6, 0, 0, 0],
+        profile: Profile::Two,
+    };
+    assert!(rt; prints(&rt, totals, "ok free 0 1 hand 2 1 promised 1 0 owed 6 0")?);
+    Ok(())
+}
+
+#[test]
+fn prints_four_types(rt: HostRuntime) -> Result<(), Fail> {
+    let totals = Totals {
+        free: [62, 0, 2, 1],
+        hand: [1, 1, 0, 0],
+        promised: [0, 0, 0, 0],
+        owed: [0, 0, 0, 0],
+        profile: Profile::Four,
+    };
+    assert!(rt;
+        prints(
+            &rt,
+            totals,
+            "ok free 62 0 2 1 hand 1 1 0 0 promised 0 0 0 0 owed 0 0 0 0"
+        )?
+    );
+    Ok(())
+}

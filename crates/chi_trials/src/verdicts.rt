@@ -1,0 +1,128 @@
+//! Verdicts on plain data, against `docs/PROTOCOL.md`, "Coherence".
+
+use chi_audit::{check, check_slice};
+use chi_flit::{Action, Agent, DatUp, Kind, Line, NO_DATA, Slot, State, Step, WordNo};
+use chi_homeline::Serving;
+use chi_slice::{Config, CopyView, LineView, Slice};
+use chi_wires::Cells;
+
+const OPENING: LineView = LineView {
+    copies: [CopyView::NONE; 8],
+    pending: [None; 8],
+    memory: NO_DATA,
+    named: [false; 8],
+    unique: false,
+    owner: None,
+    serving: Serving::Idle,
+    awaited: [false; 8],
+    waiting: [None; 8],
+    flits: [NO_CELLS; 8],
+    last: NO_DATA,
+};
+
+const NO_CELLS: Cells = Cells {
+    req: None,
+    snp: None,
+    rsp_down: None,
+    dat_down: None,
+    rsp_up: None,
+    dat_up: None,
+};
+
+/// Two agents hold the line in these states, with its last values, and are named.
+fn held(first: State, second: State) -> LineView {
+    let mut view = OPENING;
+    view.copies[2].state = first;
+    view.copies[5].state = second;
+    view.named[2] = true;
+    view.named[5] = true;
+    view
+}
+
+#[test]
+fn passes_copies_that_may_stand_together(rt: HostRuntime) {
+    assert!(rt; check(&OPENING));
+    assert!(rt; check(&held(State::SC, State::SC)));
+    assert!(rt; check(&held(State::SC, State::SD)));
+    assert!(rt; check(&held(State::I, State::UC)));
+    assert!(rt; check(&held(State::UD, State::I)));
+}
+
+#[test]
+fn fails_a_unique_copy_beside_another(rt: HostRuntime) {
+    for unique in [State::UC, State::UD] {
+        for other in [State::SC, State::UC, State::UD, State::SD] {
+            assert!(rt; !check(&held(unique, other)));
+            assert!(rt; !check(&held(other, unique)));
+        }
+    }
+    assert!(rt; !check(&held(State::SD, State::SD)));
+}
+
+#[test]
+fn fails_a_holder_that_is_not_named(rt: HostRuntime) {
+    let mut view = held(State::SC, State::SC);
+    view.named[5] = false;
+    assert!(rt; !check(&view));
+}
+
+#[test]
+fn fails_old_values(rt: HostRuntime) {
+    let mut copy = held(State::SC, State::SD);
+    copy.copies[2].words[7] = 1;
+    assert!(rt; !check(&copy));
+
+    let mut memory = held(State::SC, State::SC);
+    memory.memory[0] = 1;
+    assert!(rt; !check(&memory));
+
+    let mut shared_dirty = held(State::SC, State::SD);
+    shared_dirty.memory[0] = 1;
+    assert!(rt; check(&shared_dirty));
+}
+
+#[test]
+fn lets_memory_wait_for_dirty_data(rt: HostRuntime) {
+    let mut held_dirty = held(State::I, State::UD);
+    held_dirty.memory[3] = 9;
+    assert!(rt; check(&held_dirty));
+
+    let mut on_its_way = OPENING;
+    on_its_way.memory[3] = 9;
+    assert!(rt; !check(&on_its_way));
+    on_its_way.flits[1].dat_up = Some(DatUp::SnpRespDataIPD(NO_DATA));
+    assert!(rt; check(&on_its_way));
+    on_its_way.flits[1].dat_up = Some(DatUp::CopyBackWrData(State::SC, NO_DATA));
+    assert!(rt; !check(&on_its_way));
+}
+
+#[test]
+fn passes_what_a_slice_shows(rt: HostRuntime) {
+    let config = Config::new(2, 1, 1, 1, 1, 4).expect(&rt, "sizes in their limits");
+    let mut slice = Slice::new(rt.alloc(), &config, 0).expect(&rt, "memory for a slice");
+    let (agent, line) = (Agent(1), Line(0));
+    let steps = [
+        Step::Issue(Kind::ReadUnique, Slot(0)),
+        Step::Admit,
+        Step::Start,
+        Step::RecvData,
+        Step::RecvAck,
+        Step::Store(WordNo(2), 5),
+    ];
+    for step in steps {
+        let done = slice.act(Action { agent, line, step });
+        assert!(rt; done.is_ok());
+        let view = slice.view(line).expect(&rt, "a line of the slice");
+        assert!(rt; check(&view));
+        assert!(rt; check_slice(&slice));
+    }
+}
+
+#[test]
+fn passes_a_slice_that_has_some_of_the_lines(rt: HostRuntime) {
+    let config = Config::new(1, 5, 2, 1, 1, 4).expect(&rt, "sizes in their limits");
+    for index in 0..2 {
+        let slice = Slice::new(rt.alloc(), &config, index).expect(&rt, "memory for a slice");
+        assert!(rt; check_slice(&slice));
+    }
+}
