@@ -1,4 +1,4 @@
--- Coherence of a line's plain data (Arm IHI 0050 B, chapter 4; docs/PROTOCOL.md, "Coherence").
+-- Coherence of a line's plain data (Arm IHI 0050 B, 4.1; docs/PROTOCOL.md, "Coherence").
 use Rattle.std.specs.Prelude.{◌≡◌, ◌≢◌, ℕ, ◌<◌, [], true, false}
 use Rattle.std.specs.List.{slice_index_or}
 use Rattle.chi_flit.specs.declared.state.State.{State}

@@ -65,9 +65,9 @@ only_named n = record { named = only_set n; unique = true; owner = None }
 abbrev pub shared : FilterState → FilterState
 shared f = record f { unique = false }
 
--- the agent the owner, in place of any other
+-- the agent the owner, in place of any other, where it is named
 abbrev pub owner_made : FilterState → Agent → FilterState
-owner_made f agent = record f { owner = Some agent }
+owner_made f agent = record f { owner = if is_named f agent.0 then Some agent else f.owner }
 
 -- the agent no owner any more
 abbrev pub owner_ended : FilterState → ℕ → FilterState

@@ -142,14 +142,16 @@ impl Filter {
         self.owner
     }
 
-    /// Makes the agent, which is named, the owner in place of any other; who is named and the flag stay.
+    /// Makes the agent the owner in place of any other, where it is named; who is named and the flag stay.
+    /// Nothing changes where it isn't named.
     /// Source: `docs/PROTOCOL.md`, "Answers of snooped agents".
     pub fn make_owner(&mut self, agent: Agent)
-        requires agent { agent.0 < 8 }
-        requires named { is_named self.old agent.0 ≡ true }
+        requires { agent.0 < 8 }
         ensures { self.new ≡ owner_made self.old agent }
     {
-        self.owner = Some(agent);
+        if self.named[agent.0 as usize] {
+            self.owner = Some(agent);
+        }
     }
 
     /// Ends the agent as the owner; another owner, who is named and the flag stay.

@@ -1,5 +1,5 @@
--- One line at the home, and the home's part of each action (docs/PROTOCOL.md, "One line", "Start",
--- "Completion" and "The actions").
+-- One line at the home, and the home's part of each action (docs/PROTOCOL.md, "One line", "The actions",
+-- "Start", "Answers of snooped agents", "Completion", "The filter" and "Write data").
 use Rattle.std.specs.Prelude.{◌<◌, ℕ, List, Bool, true, false, ◌&&◌, ◌==◌, not, Option, Some, None, is_some, slice_set, replicate, if◌then◌else◌}
 use Rattle.std.specs.List.{slice_index_or}
 use Rattle.chi_flit.specs.declared.numbers.Agent.{Agent}
@@ -212,7 +212,8 @@ filter_after (answers.IPD words) f agent = removed f agent.0
 filter_after (answers.SCPD words) f agent = left_shared f agent.0
 filter_after (answers.SD words) f agent = left_owner f agent
 
--- the data that a completion sends after an answer: the answer's own, else the memory
+-- the data that a completion sends after an answer: the answer's own, which for a _PD form is the memory by
+-- then and for SnpRespData_SD is said to be the completion's; else the memory
 abbrev pub data_to_send : SnoopAnswer → List ℕ → List ℕ
 data_to_send answers.I memory = memory
 data_to_send answers.SC memory = memory

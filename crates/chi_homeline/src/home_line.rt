@@ -1,11 +1,12 @@
 //! One line at the home.
 
-ghost use Rattle.std.specs.Prelude.{◌≡◌, ◌<◌, ℕ, List, IfOk, OnErr, Some, true};
+ghost use Rattle.std.specs.Prelude.{◌≡◌, ◌<◌, ℕ, List, IfOk, OnErr, None, Some, false, is_some, true};
 ghost use Rattle.chi_flit.specs.Kind.{snoop_of};
 ghost use Rattle.chi_flit.specs.Refusal.{refusal_of};
 ghost use Rattle.chi_filter.specs.Filter.{is_named};
 ghost use Rattle.chi_homeline.specs.Home.{Home, acknowledged, acks_for, admitted, answer_taken, asks, completed, completes_unique, completion_message, data_to_send, finished_home, finished_sends, idle_home, leaves, served, served_kind, served_sends, served_slot, snoop_answered, snoop_answered_sends, start_refusal, started, started_as, started_sends, started_with, waiting_of, writes_for, written};
 ghost use Rattle.chi_flit.specs.declared.kind.Kind.{Kind};
+ghost use Rattle.chi_flit.specs.declared.numbers.Slot.{Slot};
 ghost use Rattle.chi_homeline.specs.declared.serving.Waiting.{Waiting};
 ghost use Rattle.chi_homeline.specs.declared.serving.Started.TheVariants.{Sends};
 
@@ -175,22 +176,24 @@ impl HomeLine {
         unique
     }
 
-    /// Takes the agent's CompAck, which is awaited: the line is idle. Answers the slot of the request
-    /// that is complete.
+    /// Takes the agent's CompAck: the line is idle. Answers the slot of the request that is complete, or
+    /// None where no CompAck of the agent is awaited; nothing changes then.
     /// Source: `docs/PROTOCOL.md`, "The actions", RecvAck.
-    pub fn ack(&mut self, agent: Agent) -> Slot
-        requires { acks_for self.old.serving agent.0 ≡ true }
-        ensures slot { served_slot self.old.serving ≡ Some result }
-        ensures after { self.new ≡ acknowledged self.old }
+    pub fn ack(&mut self, agent: Agent) -> Option<Slot>
+        ensures answers { is_some result ≡ acks_for self.old.serving agent.0 }
+        ensures slot { (slot : Slot) → result ≡ Some slot → served_slot self.old.serving ≡ Some slot }
+        ensures after { acks_for self.old.serving agent.0 ≡ true → self.new ≡ acknowledged self.old }
+        ensures stays { acks_for self.old.serving agent.0 ≡ false → self.new ≡ self.old }
     {
         match self.serving {
-            Serving::AwaitingCompAck { slot, .. } => {
+            Serving::AwaitingCompAck { agent: served, slot } if served.0 == agent.0 => {
                 self.serving = Serving::Idle;
-                slot
+                Some(slot)
             }
-            Serving::Idle | Serving::Snooping { .. } | Serving::AwaitingWriteData { .. } => {
-                unreachable!()
-            }
+            Serving::AwaitingCompAck { .. }
+            | Serving::Idle
+            | Serving::Snooping { .. }
+            | Serving::AwaitingWriteData { .. } => None,
         }
     }
 
@@ -241,13 +244,19 @@ impl HomeLine {
     /// memory; an agent that is left without a copy is named no more; the flag ends where a copy is left;
     /// and the agent is the owner after `SD`, and no owner after any other answer. Answers the completion
     /// that is to be sent, where this was the last answer.
+    ///
+    /// Who isn't named isn't snooped: its answer changes nothing, and None is answered.
     /// Source: `docs/PROTOCOL.md`, "Answers of snooped agents".
     pub fn snp_resp(&mut self, agent: Agent, answer: SnoopAnswer) -> Option<Completion>
-        requires agent { agent.0 < 8 }
-        requires named { is_named self.old.filter agent.0 ≡ true }
-        ensures sends { result ≡ snoop_answered_sends self.old agent answer }
-        ensures after { self.new ≡ snoop_answered self.old agent answer }
+        requires { agent.0 < 8 }
+        ensures sends { is_named self.old.filter agent.0 ≡ true → result ≡ snoop_answered_sends self.old agent answer }
+        ensures after { is_named self.old.filter agent.0 ≡ true → self.new ≡ snoop_answered self.old agent answer }
+        ensures nothing { is_named self.old.filter agent.0 ≡ false → result ≡ None }
+        ensures stays { is_named self.old.filter agent.0 ≡ false → self.new ≡ self.old }
     {
+        if !self.filter.named()[usize::from(agent.0)] {
+            return None;
+        }
         let sent = data_to_send(answer, self.memory);
         self.take_answer(agent, answer);
         self.finish(sent)
@@ -300,18 +309,19 @@ impl HomeLine {
         Some(Completion { agent, message })
     }
 
-    /// Takes the agent's write data, which is awaited: dirty data becomes the memory, the agent is no
-    /// owner and, where no copy is left to it, named no more, and the line is idle. Answers the slot of
-    /// the request that is complete.
+    /// Takes the agent's write data: dirty data becomes the memory, the agent is no owner and, where no
+    /// copy is left to it, named no more, and the line is idle. Answers the slot of the request that is
+    /// complete, or None where no write data of the agent is awaited; nothing changes then.
     /// Source: `docs/PROTOCOL.md`, "Write data".
-    pub fn wr_data(&mut self, agent: Agent, form: State, words: Data) -> Slot
-        requires agent { agent.0 < 8 }
-        requires awaited { writes_for self.old.serving agent.0 ≡ true }
-        ensures slot { served_slot self.old.serving ≡ Some result }
-        ensures after { (kind : Kind) → served_kind self.old.serving ≡ Some kind → self.new ≡ written self.old agent.0 kind form words }
+    pub fn wr_data(&mut self, agent: Agent, form: State, words: Data) -> Option<Slot>
+        requires { agent.0 < 8 }
+        ensures answers { is_some result ≡ writes_for self.old.serving agent.0 }
+        ensures slot { (slot : Slot) → result ≡ Some slot → served_slot self.old.serving ≡ Some slot }
+        ensures after { (kind : Kind) → writes_for self.old.serving agent.0 ≡ true → served_kind self.old.serving ≡ Some kind → self.new ≡ written self.old agent.0 kind form words }
+        ensures stays { writes_for self.old.serving agent.0 ≡ false → self.new ≡ self.old }
     {
         match self.serving {
-            Serving::AwaitingWriteData { kind, slot, .. } => {
+            Serving::AwaitingWriteData { agent: served, kind, slot } if served.0 == agent.0 => {
                 if form.is_dirty() {
                     self.memory = words;
                 }
@@ -321,11 +331,12 @@ impl HomeLine {
                     self.filter.end_owner(agent);
                 }
                 self.serving = Serving::Idle;
-                slot
+                Some(slot)
             }
-            Serving::Idle | Serving::Snooping { .. } | Serving::AwaitingCompAck { .. } => {
-                unreachable!()
-            }
+            Serving::AwaitingWriteData { .. }
+            | Serving::Idle
+            | Serving::Snooping { .. }
+            | Serving::AwaitingCompAck { .. } => None,
         }
     }
 }

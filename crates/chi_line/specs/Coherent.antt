@@ -1,4 +1,4 @@
--- Coherence of a line (Arm IHI 0050 B, chapter 4; docs/PROTOCOL.md, "Coherence"); last are the values last
+-- Coherence of a line (Arm IHI 0050 B, 4.1; docs/PROTOCOL.md, "Coherence"); last are the values last
 -- stored to its words.
 use Rattle.std.specs.Prelude.{◌≡◌, ◌≢◌, ℕ, ◌<◌, List, Bool, true, false, Option, Some, None}
 use Rattle.chi_flit.specs.declared.state.State.{State}

@@ -1,5 +1,6 @@
 -- The actions on one line as functions: what each leaves, and its effect (docs/PROTOCOL.md, "The actions",
--- "Start" and "Answers of snooped agents"). A case says what changes; all else stays.
+-- "Start", "Answers of snooped agents", "Completion" and "Write data"). A case says what changes; all else
+-- stays.
 use Rattle.std.specs.Prelude.{ℕ, List, Bool, true, false, Option, Some, None, is_some, slice_set, ◌==◌, ◌||◌, nat_lt, if◌then◌else◌}
 use Rattle.std.specs.List.{slice_index_or}
 use Rattle.chi_flit.specs.declared.numbers.Agent.{Agent}

@@ -109,7 +109,10 @@ pub fn receive_ack<A: Allocator>(
     match wires.cells(agent, row).rsp_up {
         Some(RspUp::CompAck) => {
             wires.take(Channel::RspUp, agent, row)?;
-            Ok(Effect::Completed(home.ack(agent)))
+            let Some(slot) = home.ack(agent) else {
+                unreachable!()
+            };
+            Ok(Effect::Completed(slot))
         }
         Some(RspUp::SnpRespI | RspUp::SnpRespSC) | None => Err(Refusal::NoFlit),
     }
@@ -171,7 +174,10 @@ pub fn receive_write_data<A: Allocator>(
     match wires.cells(agent, row).dat_up {
         Some(DatUp::CopyBackWrData(form, words)) => {
             wires.take(Channel::DatUp, agent, row)?;
-            Ok(Effect::Completed(home.wr_data(agent, form, words)))
+            let Some(slot) = home.wr_data(agent, form, words) else {
+                unreachable!()
+            };
+            Ok(Effect::Completed(slot))
         }
         Some(DatUp::SnpRespDataIPD(_) | DatUp::SnpRespDataSCPD(_) | DatUp::SnpRespDataSD(_))
         | None => Err(Refusal::NoFlit),

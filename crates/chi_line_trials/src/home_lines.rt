@@ -2,7 +2,7 @@
 
 ghost use Rattle.std.specs.Prelude.{◌<◌};
 
-use chi_flit::{Agent, CompData, Kind, Msg, NO_DATA, Refusal, RspDown, Slot, Snoop};
+use chi_flit::{Agent, CompData, Kind, Msg, NO_DATA, Refusal, RspDown, Slot, Snoop, State};
 use chi_homeline::{Completion, HomeLine, Serving, Started, Waiting};
 
 const NOBODY: [bool; 8] = [false; 8];
@@ -70,7 +70,11 @@ fn completes_a_read_and_waits_for_its_ack(rt: HostRuntime) {
     assert_eq!(rt; starts(&mut home, 0), Err(Refusal::NotWaiting));
     assert_eq!(rt; home.serving(), served);
 
-    assert_eq!(rt; home.ack(Agent(0)), Slot(3));
+    // another agent's CompAck isn't awaited, nor is write data
+    assert_eq!(rt; home.ack(Agent(7)), None);
+    assert_eq!(rt; home.wr_data(Agent(0), State::UD, [1; 8]), None);
+    assert_eq!(rt; home.serving(), served);
+    assert_eq!(rt; home.ack(Agent(0)), Some(Slot(3)));
     assert_eq!(rt; home.serving(), Serving::Idle);
 
     // the holder is snooped, and the filter stays till it has answered
@@ -94,7 +98,7 @@ fn starts_evictions_and_copy_backs(rt: HostRuntime) {
         slot: Slot(0),
     };
     assert_eq!(rt; home.serving(), served);
-    assert_eq!(rt; home.ack(Agent(0)), Slot(0));
+    assert_eq!(rt; home.ack(Agent(0)), Some(Slot(0)));
 
     waits(&mut home, 0, Kind::Evict, 6);
     assert_eq!(rt; starts(&mut home, 0), Ok(Started::Evicted(Slot(6))));

@@ -1,5 +1,5 @@
--- One requester's side of one line, and the requester's part of each action
--- (docs/PROTOCOL.md, "One line" and "The actions").
+-- One requester's side of one line, and the requester's part of each action (docs/PROTOCOL.md, "One line",
+-- "The actions", "Answers to snoops" and "Write data").
 use Rattle.std.specs.Prelude.{ℕ, List, Bool, true, false, ◌||◌, Option, Some, None, is_some, slice_set, if◌then◌else◌, not}
 use Rattle.std.specs.List.{slice_index_or}
 use Rattle.chi_flit.specs.declared.numbers.Slot.{Slot}

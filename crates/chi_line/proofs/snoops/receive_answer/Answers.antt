@@ -1,5 +1,7 @@
 -- The completion that an answer brings finds its cell empty, and the line is the answered one.
+use Rattle.std.specs.Prelude.{is_some, true}
 use Rattle.std.proofs.Common.{◌≡◌, List, Option, Some, None, set, ap, subst, sym, ◌∙◌, rules}
+use Rattle.chi_filter.specs.Filter.{is_named}
 use Rattle.chi_flit.specs.Message.{channel_of}
 use Rattle.chi_flit.specs.declared.message.Channel.{Channel}
 use Rattle.chi_wires.specs.declared.cells.Cells.{Cells}
@@ -21,7 +23,9 @@ put_completion-requires-clause-empty g c = λ some is.
     let r = c.args.row.0 in
     let n = c.args.agent.0 in
     let answer = c.in_ok-answer.answer in
-    let to : Completes c.args.home.now.serving some = answer_completes c.args.home.now c.args.agent answer some (sym c.snp_resp-completion.ensures.sends ∙ is) in
+    let found : answer_in (flits_at w r n) ≡ Some c.in_ok-answer.answer = search (rules, c.in_ok-answer.was, c.ok_or.ensures, c.answer_in.ensures, c.cells.ensures) in
+    let named : is_named c.args.home.now.filter n ≡ true = c.requires.named (ap is_some found) in
+    let to : Completes c.args.home.now.serving some = answer_completes c.args.home.now c.args.agent answer some (sym (c.snp_resp-completion.ensures.sends named) ∙ is) in
     let taken : c.take.new.self ≡ with_flits w r n (emptied (flits_at w r n) (answer_channel answer)) = c.in_ok-take.ensures.ok ∙ ap (λ (ch : Channel). with_flits w r n (emptied (flits_at w r n) ch)) c.channel_of.ensures in
     let down = c.requires.down some.agent.0 to.agent in
     subst (λ (v : List (List Cells)). cell_of (flits_at v r some.agent.0) (channel_of some.message) ≡ None) (sym taken)
@@ -32,9 +36,10 @@ put_completion-requires-clause-empty g c = λ some is.
 pub returns-clause-home : goal.returns-clause-home
 returns-clause-home g c = λ requesters answer here.
     let found : answer_in (flits_at c.args.wires.now c.args.row.0 c.args.agent.0) ≡ Some c.in_ok-answer.answer = search (rules, c.in_ok-answer.was, c.ok_or.ensures, c.answer_in.ensures, c.cells.ensures) in
+    let named : is_named c.args.home.now.filter c.args.agent.0 ≡ true = c.requires.named (ap is_some found) in
     let same : c.in_ok-answer.answer ≡ answer = cc (found, here) in
     let s : LineState = line_of_parts requesters c.args.home.now c.args.wires.now c.args.row.0 in
-    c.snp_resp-completion.ensures.after ∙ ap (λ (a : SnoopAnswer). snoop_answered c.args.home.now c.args.agent a) same
+    c.snp_resp-completion.ensures.after named ∙ ap (λ (a : SnoopAnswer). snoop_answered c.args.home.now c.args.agent a) same
     ∙ sym (ap (λ (l : LineState). l.home) (answered_is s c.args.agent answer))
 
 pub returns-clause-flits : goal.returns-clause-flits
@@ -43,13 +48,14 @@ returns-clause-flits g c = λ requesters answer here.
     let r = c.args.row.0 in
     let n = c.args.agent.0 in
     let found : answer_in (flits_at w r n) ≡ Some c.in_ok-answer.answer = search (rules, c.in_ok-answer.was, c.ok_or.ensures, c.answer_in.ensures, c.cells.ensures) in
+    let named : is_named c.args.home.now.filter n ≡ true = c.requires.named (ap is_some found) in
     let same : c.in_ok-answer.answer ≡ answer = cc (found, here) in
     let s : LineState = line_of_parts requesters c.args.home.now w r in
     let cells : Cells = emptied (flits_at w r n) (answer_channel answer) in
     let taken : c.take.new.self ≡ set w r (set (row_of w r) n cells) =
     c.in_ok-take.ensures.ok ∙ ap (λ (ch : Channel). with_flits w r n (emptied (flits_at w r n) ch)) (c.channel_of.ensures ∙ ap answer_channel same) in
     let sends : c.snp_resp-completion.result ≡ snoop_answered_sends c.args.home.now c.args.agent answer =
-    c.snp_resp-completion.ensures.sends ∙ ap (λ (a : SnoopAnswer). snoop_answered_sends c.args.home.now c.args.agent a) same in
+    c.snp_resp-completion.ensures.sends named ∙ ap (λ (a : SnoopAnswer). snoop_answered_sends c.args.home.now c.args.agent a) same in
     c.put_completion.ensures
     ∙ put_in_row w r c.take.new.self (set (row_of w r) n cells) c.snp_resp-completion.result c.requires.row taken
     ∙ ap (λ (o : Option Completion). set w r (completion_put (set (row_of w r) n cells) o)) sends
