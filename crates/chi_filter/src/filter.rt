@@ -8,6 +8,7 @@ use chi_flit::Agent;
 use std::marker::Model;
 
 /// Whether anybody is in a set of agents, given as a mark for each agent number.
+/// Source: `docs/DECISIONS.md`, "The protocol's types".
 pub fn has_any(agents: &[bool; 8]) -> bool
     ensures { result ≡ has_any agents.now }
 {
@@ -35,9 +36,9 @@ fn owner_set(owner: Option<Agent>) -> [bool; 8]
     }
 }
 
-/// The agents that the home names as possible holders of a line, a flag that says that the one named
-/// holds it alone, and the owner, who answers for dirty shared data. Contracts see it as a
-/// `FilterState`. No call is refused; each agent's number is below 8.
+/// The agents that the home names as possible holders of a line, a flag that is set only where one agent
+/// alone is named, and the owner, who answers for dirty shared data. A named agent may hold nothing.
+/// Contracts see it as a `FilterState`. No call is refused; each agent's number is below 8.
 /// Source: `docs/PROTOCOL.md`, "The filter".
 #[derive(Drop)]
 pub struct Filter {
@@ -57,7 +58,8 @@ impl Model for Filter {
 }
 
 impl Filter {
-    /// A filter that names nobody.
+    /// A filter that names nobody, with the flag clear and no owner.
+    /// Source: `docs/PROTOCOL.md`, "One line".
     pub fn new() -> Filter
         ensures { result ≡ empty_filter }
     {
@@ -68,7 +70,11 @@ impl Filter {
         }
     }
 
-    /// Names the agent; the flag stays only where the agent was named already, and the owner stays.
+    /// Names the agent; the flag stays only where the agent was named already, and who else is named and
+    /// the owner stay.
+    ///
+    /// Conditions: the agent's number is below 8.
+    /// Source: `docs/PROTOCOL.md`, "The filter".
     pub fn add(&mut self, agent: Agent)
         requires { agent.0 < 8 }
         ensures { self.new ≡ added self.old agent.0 }
@@ -77,7 +83,11 @@ impl Filter {
         self.named[agent.0 as usize] = true;
     }
 
-    /// Names the agent no more: it is no owner then, and the flag ends where nobody else is named.
+    /// Names the agent no more: it is no owner then, and the flag ends where nobody else is named. All
+    /// others that are named, and another owner, stay.
+    ///
+    /// Conditions: the agent's number is below 8.
+    /// Source: `docs/PROTOCOL.md`, "The filter".
     pub fn remove(&mut self, agent: Agent)
         requires { agent.0 < 8 }
         ensures { self.new ≡ removed self.old agent.0 }
@@ -88,6 +98,9 @@ impl Filter {
     }
 
     /// Names the agent alone, with the flag set and no owner.
+    ///
+    /// Conditions: the agent's number is below 8.
+    /// Source: `docs/PROTOCOL.md`, "The filter".
     pub fn only(&mut self, agent: Agent)
         requires { agent.0 < 8 }
         ensures { self.new ≡ only_named agent.0 }
@@ -98,6 +111,7 @@ impl Filter {
     }
 
     /// Clears the flag; who is named and who is the owner stay.
+    /// Source: `docs/PROTOCOL.md`, "Answers of snooped agents".
     pub fn share(&mut self)
         ensures { self.new ≡ shared self.old }
     {
@@ -105,6 +119,9 @@ impl Filter {
     }
 
     /// Everybody named but the agent, a mark for each agent number.
+    ///
+    /// Conditions: the agent's number is below 8.
+    /// Source: `docs/PROTOCOL.md`, "Start".
     pub fn others_than(&self, agent: Agent) -> [bool; 8]
         requires { agent.0 < 8 }
         ensures { result ≡ others_than agent.0 self.now.named }
@@ -113,6 +130,9 @@ impl Filter {
     }
 
     /// The owner, where it is another agent, as a mark for each agent number.
+    ///
+    /// Conditions: the agent's number is below 8.
+    /// Source: `docs/PROTOCOL.md`, "Start".
     pub fn other_owner(&self, agent: Agent) -> [bool; 8]
         requires { agent.0 < 8 }
         ensures { result ≡ others_than agent.0 (owner_set self.now.owner) }
@@ -120,7 +140,9 @@ impl Filter {
         others_than(owner_set(self.owner), agent)
     }
 
-    /// Everybody named, a mark for each agent number.
+    /// Everybody named, a mark for each agent number. Whoever asks knows what every filter keeps: where
+    /// the flag is set one agent alone is named, and the owner is named.
+    /// Source: `docs/PROTOCOL.md`, "The filter".
     pub fn named(&self) -> [bool; 8]
         ensures value { result ≡ self.now.named }
         ensures kept { IsFilter self.now }
@@ -128,14 +150,16 @@ impl Filter {
         self.named
     }
 
-    /// Whether the one named agent holds the line alone.
+    /// Whether the flag is set: then one agent alone is named, and that agent may hold nothing.
+    /// Source: `docs/PROTOCOL.md`, "The filter".
     pub fn is_unique(&self) -> bool
         ensures { result ≡ self.now.unique }
     {
         self.unique
     }
 
-    /// The agent that answers for dirty shared data.
+    /// The owner, who answers for dirty shared data; `None` where the filter has none.
+    /// Source: `docs/PROTOCOL.md`, "The filter".
     pub fn owner(&self) -> Option<Agent>
         ensures { result ≡ self.now.owner }
     {
@@ -155,6 +179,9 @@ impl Filter {
     }
 
     /// Ends the agent as the owner; another owner, who is named and the flag stay.
+    ///
+    /// Conditions: the agent's number is below 8.
+    /// Source: `docs/PROTOCOL.md`, "The filter".
     pub fn end_owner(&mut self, agent: Agent)
         requires { agent.0 < 8 }
         ensures { self.new ≡ owner_ended self.old agent.0 }

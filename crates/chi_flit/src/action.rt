@@ -55,6 +55,7 @@ pub enum Step {
 }
 
 /// What an action that was done gives.
+/// Source: `docs/PROTOCOL.md`, "The actions".
 #[derive(Clone, Copy, Debug, PartialEq, Eq)]
 pub enum Effect {
     Nothing,

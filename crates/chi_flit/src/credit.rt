@@ -6,8 +6,9 @@ ghost use Rattle.chi_flit.specs.Credit.{credit_number, credit_text, credit_type_
 use crate::kind::Kind;
 use std::fmt;
 
-/// A type of protocol credit: each tracker entry belongs to one, and a retried request waits for a
-/// credit of its own (Arm IHI 0050 B, chapter 2).
+/// A type of protocol credit: each tracker entry belongs to one, and a retried request waits for a credit
+/// of its type (Arm IHI 0050 B, chapter 2).
+/// Source: `docs/PROTOCOL.md`, "What is taken from the standard", Retry.
 #[derive(Clone, Copy, Debug, PartialEq, Eq)]
 pub enum CreditType {
     T0,
@@ -17,6 +18,7 @@ pub enum CreditType {
 }
 
 /// How many credit types there are, and so which kinds share one.
+/// Source: `docs/PROTOCOL.md`, "What is chosen here" and "Kinds of request".
 #[derive(Clone, Copy, Debug, PartialEq, Eq)]
 pub enum Profile {
     /// Types 0 and 1: copy-backs have type 1, all other kinds type 0.
@@ -27,6 +29,7 @@ pub enum Profile {
 
 impl CreditType {
     /// The type's number, 0 to 3.
+    /// Source: `docs/PROTOCOL.md`, "Kinds of request".
     pub fn number(self) -> u8
         ensures { result ≡ credit_number self }
     {

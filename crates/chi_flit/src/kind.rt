@@ -8,6 +8,7 @@ use crate::state::State;
 use std::fmt;
 
 /// A kind of request that a fully coherent requester issues (Arm IHI 0050 B, chapter 4).
+/// Source: `docs/PROTOCOL.md`, "Kinds of request".
 #[derive(Clone, Copy, Debug, PartialEq, Eq)]
 pub enum Kind {
     /// A read that never leaves its requester in `SD`.
@@ -76,6 +77,7 @@ impl Kind {
     }
 
     /// Whether this kind ends with write data: `WriteBackFull`, `WriteCleanFull` and `WriteEvictFull`.
+    /// Source: `docs/PROTOCOL.md`, "Kinds of request".
     pub fn is_copy_back(self) -> bool
         ensures { result ≡ is_copy_back self }
     {

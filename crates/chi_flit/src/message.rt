@@ -12,6 +12,7 @@ use std::fmt;
 
 /// A channel between requesters and home, with responses and data split by direction
 /// (Arm IHI 0050 B, chapter 2).
+/// Source: `docs/PROTOCOL.md`, "Messages".
 #[derive(Clone, Copy, Debug, PartialEq, Eq)]
 pub enum Channel {
     /// Requests, to the home.
@@ -29,6 +30,7 @@ pub enum Channel {
 }
 
 /// A request in flight.
+/// Source: `docs/PROTOCOL.md`, "Messages".
 #[derive(Clone, Copy, Debug, PartialEq, Eq)]
 pub struct Request {
     pub kind: Kind,
@@ -38,6 +40,7 @@ pub struct Request {
 }
 
 /// A response without data to a requester.
+/// Source: `docs/PROTOCOL.md`, "Messages".
 #[derive(Clone, Copy, Debug, PartialEq, Eq)]
 pub enum RspDown {
     /// No entry was free: resend with a credit of this type.
@@ -51,6 +54,7 @@ pub enum RspDown {
 }
 
 /// The data of a read: `CompData_UC` where `unique`, else `CompData_SC`.
+/// Source: `docs/PROTOCOL.md`, "Messages".
 #[derive(Clone, Copy, Debug, PartialEq, Eq)]
 pub struct CompData {
     pub words: Data,
@@ -58,6 +62,7 @@ pub struct CompData {
 }
 
 /// A response without data to the home.
+/// Source: `docs/PROTOCOL.md`, "Messages".
 #[derive(Clone, Copy, Debug, PartialEq, Eq)]
 pub enum RspUp {
     SnpRespI,
@@ -66,6 +71,7 @@ pub enum RspUp {
 }
 
 /// A response with data to the home.
+/// Source: `docs/PROTOCOL.md`, "Messages".
 #[derive(Clone, Copy, Debug, PartialEq, Eq)]
 pub enum DatUp {
     /// `SnpRespData_I_PD`: dirty data, and no copy is left.
@@ -80,6 +86,7 @@ pub enum DatUp {
 }
 
 /// A message of any channel.
+/// Source: `docs/PROTOCOL.md`, "Messages".
 #[derive(Clone, Copy, Debug, PartialEq, Eq)]
 pub enum Msg {
     Req(Request),
@@ -92,6 +99,7 @@ pub enum Msg {
 
 impl Msg {
     /// The one channel that the message travels on.
+    /// Source: `docs/PROTOCOL.md`, "Messages".
     pub fn channel(&self) -> Channel
         ensures { result ≡ channel_of self.now }
     {

@@ -6,29 +6,36 @@ ghost use Rattle.std.specs.Fmt.{decimal};
 use std::fmt;
 
 /// A requester (RN-F), by its number from 0.
+/// Source: `docs/PROTOCOL.md`, "The system".
 #[derive(Clone, Copy, Debug, PartialEq, Eq)]
 pub struct Agent(pub u8);
 
 /// A cache line of 64 bytes, by its number from 0.
+/// Source: `docs/PROTOCOL.md`, "What is taken from the standard", The home.
 #[derive(Clone, Copy, Debug, PartialEq, Eq)]
 pub struct Line(pub u8);
 
 /// One of a requester's eight transaction slots, by its number from 0.
+/// Source: `docs/PROTOCOL.md`, "Slots and accounts".
 #[derive(Clone, Copy, Debug, PartialEq, Eq)]
 pub struct Slot(pub u8);
 
 /// An entry of the home's tracker, by its number from 0.
+/// Source: `docs/PROTOCOL.md`, "Limits".
 #[derive(Clone, Copy, Debug, PartialEq, Eq)]
 pub struct Entry(pub u8);
 
 /// One of the eight words of 64 bits in a line, by its number from 0.
+/// Source: `docs/PROTOCOL.md`, "What is chosen here".
 #[derive(Clone, Copy, Debug, PartialEq, Eq)]
 pub struct WordNo(pub u8);
 
-/// The eight words of a line, lowest address first.
+/// The eight words of a line, by their numbers.
+/// Source: `docs/PROTOCOL.md`, "What is chosen here".
 pub type Data = [u64; 8];
 
 /// A line whose words are all 0, as memory is at first.
+/// Source: `docs/PROTOCOL.md`, "One line".
 pub const NO_DATA: Data = [0; 8];
 
 impl fmt::Display for Agent {

@@ -9,6 +9,7 @@ use std::error::Error;
 use std::fmt;
 
 /// Why a call is refused. After a refusal all that the call was lent is as before.
+/// Source: `docs/PROTOCOL.md`, "Refusals".
 #[derive(Clone, Copy, Debug, PartialEq, Eq)]
 pub enum Refusal {
     /// 1: the journal holds exactly its limit.
@@ -21,7 +22,7 @@ pub enum Refusal {
     NothingPending,
     /// 5: the line is serving a request.
     LineBusy,
-    /// 6: the named agent isn't waited for at this line.
+    /// 6: the agent has no request that waits at this line.
     NotWaiting,
     /// 7: no flit of that message is in flight for that agent and line.
     NoFlit,
@@ -38,11 +39,13 @@ pub enum Refusal {
 }
 
 /// Memory ran out: refusal 8, by itself.
+/// Source: `docs/PROTOCOL.md`, "Refusals".
 #[derive(Clone, Copy, Debug, PartialEq, Eq)]
 pub struct NoMemory;
 
 impl Refusal {
     /// The refusal's number, 1 to 12.
+    /// Source: `docs/PROTOCOL.md`, "Refusals".
     pub fn number(self) -> u8
         ensures { result ≡ refusal_number self }
     {

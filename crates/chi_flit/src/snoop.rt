@@ -9,6 +9,7 @@ use crate::state::State;
 use std::fmt;
 
 /// A snoop that the home sends to a requester (Arm IHI 0050 B, chapter 4).
+/// Source: `docs/PROTOCOL.md`, "Answers to snoops".
 #[derive(Clone, Copy, Debug, PartialEq, Eq)]
 pub enum Snoop {
     /// Leaves any shared copy, dirty ones too.

@@ -6,13 +6,14 @@ ghost use Rattle.chi_flit.specs.State.{state_text, is_valid, is_unique, is_dirty
 use std::fmt;
 
 /// The state of one requester's copy of a line (Arm IHI 0050 B, chapter 4).
+/// Source: `docs/PROTOCOL.md`, "What is taken from the standard", Cache states.
 #[derive(Clone, Copy, Debug, PartialEq, Eq)]
 pub enum State {
     /// Invalid: no copy.
     I,
     /// Shared, clean: others may hold the line, and this holder owes memory nothing.
     SC,
-    /// Unique, clean: no other cache holds the line, and memory has its value.
+    /// Unique, clean: no other cache holds the line, and this holder owes memory nothing.
     UC,
     /// Unique, dirty: no other cache holds the line, and this holder owes memory its value.
     UD,
@@ -22,6 +23,7 @@ pub enum State {
 
 impl State {
     /// Whether there is a copy at all: true in every state but `I`.
+    /// Source: `docs/PROTOCOL.md`, "What is taken from the standard", Cache states.
     pub fn is_valid(self) -> bool
         ensures { result ≡ is_valid self }
     {
@@ -29,6 +31,7 @@ impl State {
     }
 
     /// Whether no other cache may hold the line: true in `UC` and `UD`.
+    /// Source: `docs/PROTOCOL.md`, "What is taken from the standard", Cache states.
     pub fn is_unique(self) -> bool
         ensures { result ≡ is_unique self }
     {
@@ -36,6 +39,7 @@ impl State {
     }
 
     /// Whether the holder owes memory the line's value: true in `UD` and `SD`.
+    /// Source: `docs/PROTOCOL.md`, "What is taken from the standard", Cache states.
     pub fn is_dirty(self) -> bool
         ensures { result ≡ is_dirty self }
     {

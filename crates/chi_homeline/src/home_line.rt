@@ -16,6 +16,7 @@ use chi_flit::{Agent, CompData, Data, Kind, Msg, NO_DATA, Refusal, RspDown, Slot
 use std::marker::Model;
 
 /// What the home keeps of one line. Contracts see it as a `Home`. Each agent's number is below 8.
+/// Source: `docs/PROTOCOL.md`, "One line".
 #[derive(Drop)]
 pub struct HomeLine {
     memory: Data,
@@ -37,6 +38,7 @@ impl Model for HomeLine {
 
 impl HomeLine {
     /// A line that nobody holds and whose memory is 0, with nothing waiting or served.
+    /// Source: `docs/PROTOCOL.md`, "One line".
     pub fn new() -> HomeLine
         ensures { result ≡ idle_home }
     {
@@ -49,7 +51,9 @@ impl HomeLine {
         }
     }
 
-    /// Lets the agent's request in: it waits, in place of any that waited.
+    /// Lets the agent's request in: it waits, in place of any that waited. All else stays.
+    ///
+    /// Conditions: the agent's number is below 8.
     /// Source: `docs/PROTOCOL.md`, "The actions", Admit.
     pub fn admit(&mut self, agent: Agent, request: Waiting)
         requires { agent.0 < 8 }
@@ -74,6 +78,8 @@ impl HomeLine {
     }
 
     /// The refusal that `start` would answer.
+    ///
+    /// Conditions: the agent's number is below 8.
     /// Source: `docs/PROTOCOL.md`, "Start".
     pub fn why_no_start(&self, agent: Agent) -> Option<Refusal>
         requires { agent.0 < 8 }
@@ -82,10 +88,11 @@ impl HomeLine {
         self.to_start(agent).err()
     }
 
-    /// Begins to serve the agent's waiting request, which waits no more. Answers what is to be sent.
+    /// Begins to serve the agent's waiting request, which waits no more; the memory and the other
+    /// requests that wait stay. Answers what is to be sent.
     ///
     /// Refused 6 (NotWaiting) where the agent doesn't wait, then 5 (LineBusy) where the line is served;
-    /// nothing changes then.
+    /// nothing changes then. Conditions: the agent's number is below 8.
     /// Source: `docs/PROTOCOL.md`, "Start".
     pub fn start(&mut self, agent: Agent) -> Result<Started, Refusal>
         requires { agent.0 < 8 }
@@ -98,11 +105,12 @@ impl HomeLine {
         Ok(started_with(begun, self.memory))
     }
 
-    /// Begins to serve the agent's waiting request as `start` does. Answers what is to be sent, where the
-    /// memory is the data of a completion: so whoever sends it needn't copy that twice.
+    /// Begins to serve the agent's waiting request as `start` does; the memory and the other requests
+    /// that wait stay. Answers what is to be sent, where the memory is the data of a completion: so
+    /// whoever sends it needn't copy that twice.
     ///
     /// Refused 6 (NotWaiting) where the agent doesn't wait, then 5 (LineBusy) where the line is served;
-    /// nothing changes then.
+    /// nothing changes then. Conditions: the agent's number is below 8.
     /// Source: `docs/PROTOCOL.md`, "Start".
     pub fn begin(&mut self, agent: Agent) -> Result<Begun, Refusal>
         requires { agent.0 < 8 }
@@ -198,6 +206,7 @@ impl HomeLine {
     }
 
     /// The memory's value of the line.
+    /// Source: `docs/PROTOCOL.md`, "One line".
     pub fn memory(&self) -> Data
         ensures { result ≡ self.now.memory }
     {
@@ -205,6 +214,7 @@ impl HomeLine {
     }
 
     /// The snoop filter of the line.
+    /// Source: `docs/PROTOCOL.md`, "One line".
     pub fn filter(&self) -> &Filter
         ensures { result.now ≡ self.now.filter }
     {
@@ -212,6 +222,7 @@ impl HomeLine {
     }
 
     /// The request that is served.
+    /// Source: `docs/PROTOCOL.md`, "One line".
     pub fn serving(&self) -> Serving
         ensures { result ≡ self.now.serving }
     {
@@ -219,20 +230,25 @@ impl HomeLine {
     }
 
     /// The agents whose snoop answer is awaited, a mark for each agent number.
+    /// Source: `docs/PROTOCOL.md`, "One line".
     pub fn awaited(&self) -> [bool; 8]
         ensures { result ≡ self.now.awaited }
     {
         self.awaited
     }
 
-    /// The requests that wait, by agent.
+    /// The requests that wait, by agent; `None` for an agent that has none there.
+    /// Source: `docs/PROTOCOL.md`, "One line".
     pub fn all_waiting(&self) -> [Option<Waiting>; 8]
         ensures { result ≡ self.now.waiting }
     {
         self.waiting
     }
 
-    /// The agent's request that waits.
+    /// The agent's request that waits; `None` where there is none.
+    ///
+    /// Conditions: the agent's number is below 8.
+    /// Source: `docs/PROTOCOL.md`, "One line".
     pub fn waiting(&self, agent: Agent) -> Option<Waiting>
         requires { agent.0 < 8 }
         ensures { result ≡ waiting_of self.now agent.0 }

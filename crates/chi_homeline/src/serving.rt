@@ -3,6 +3,7 @@
 use chi_flit::{Agent, Data, Kind, Msg, Slot, Snoop};
 
 /// A request that was let in and not started yet.
+/// Source: `docs/PROTOCOL.md`, "One line".
 #[derive(Clone, Copy, Debug, PartialEq, Eq)]
 pub struct Waiting {
     pub kind: Kind,
@@ -10,6 +11,7 @@ pub struct Waiting {
 }
 
 /// What the home does at a line. A line serves one request at a time.
+/// Source: `docs/PROTOCOL.md`, "One line".
 #[derive(Clone, Copy, Debug, PartialEq, Eq)]
 pub enum Serving {
     /// No request is served.
@@ -34,6 +36,7 @@ pub enum Serving {
 }
 
 /// What a start sends.
+/// Source: `docs/PROTOCOL.md`, "Start".
 #[derive(Clone, Copy, Debug, PartialEq, Eq)]
 pub enum Started {
     /// This message to the agent: a completion, or CompDBIDResp.
@@ -45,6 +48,7 @@ pub enum Started {
 }
 
 /// What a start sends, before the data of a completion is added.
+/// Source: `docs/PROTOCOL.md`, "Start".
 #[derive(Clone, Copy, Debug, PartialEq, Eq)]
 pub enum Begun {
     /// CompData with the line's data, and whether the copy may be unique.
@@ -59,8 +63,8 @@ pub enum Begun {
     Snoops { snoop: Snoop, agents: [bool; 8] },
 }
 
-/// An agent's answer to its snoop, by what it says of the agent's copy (`docs/PROTOCOL.md`, "Answers of
-/// snooped agents").
+/// An agent's answer to its snoop, by what it says of the agent's copy.
+/// Source: `docs/PROTOCOL.md`, "Answers of snooped agents".
 #[derive(Clone, Copy, Debug, PartialEq, Eq)]
 pub enum SnoopAnswer {
     /// `SnpResp_I`: no copy is left.
@@ -76,6 +80,7 @@ pub enum SnoopAnswer {
 }
 
 /// The completion of a request: its agent, and the message that is to be sent to it.
+/// Source: `docs/PROTOCOL.md`, "Completion".
 #[derive(Clone, Copy, Debug, PartialEq, Eq)]
 pub struct Completion {
     pub agent: Agent,

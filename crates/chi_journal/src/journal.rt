@@ -15,6 +15,7 @@ use std::marker::Model;
 /// The loads and stores that were answered, in their order, up to a limit. Contracts see it as a `Log`:
 /// the records, the limit, and the number of lines. Each question takes the same time, however many
 /// records there are.
+/// Source: `docs/PROTOCOL.md`, "The journal and last values".
 #[derive(Drop)]
 pub struct Journal<A: Allocator> {
     records: Vec<Record, A>,
@@ -39,6 +40,7 @@ impl<A: Allocator> Model for Journal<A> {
 impl<A: Allocator + Copy> Journal<A> {
     /// An empty journal for so many lines, with room for `limit` records: all memory that it ever needs
     /// is found here. Refused where it runs out.
+    /// Source: `docs/PROTOCOL.md`, "The journal and last values".
     pub fn with_limit(alloc: A, lines: u8, limit: u32) -> Result<Journal<A>, NoMemory>
         ensures { IfOk result (λ journal. journal ≡ opening_log lines limit) }
     {
@@ -54,9 +56,11 @@ impl<A: Allocator + Copy> Journal<A> {
 }
 
 impl<A: Allocator> Journal<A> {
-    /// Appends a record. It takes no memory.
+    /// Appends a record, as the last one; the limit and the number of lines stay. It takes no memory.
     ///
     /// Refused 1 (JournalFull) where the journal holds exactly its limit; nothing changes then.
+    /// Conditions: the record's agent is below 8, its line below the number of lines, and its word below
+    /// 8.
     /// Source: `docs/PROTOCOL.md`, "Refusals".
     pub fn append(&mut self, entry: Record) -> Result<(), Refusal>
         requires agent { (record_agent entry).0 < 8 }
@@ -77,6 +81,7 @@ impl<A: Allocator> Journal<A> {
     }
 
     /// Whether the journal holds exactly its limit.
+    /// Source: `docs/PROTOCOL.md`, "The journal and last values".
     pub fn is_full(&self) -> bool
         ensures { result ≡ is_full self.now }
     {
@@ -84,6 +89,9 @@ impl<A: Allocator> Journal<A> {
     }
 
     /// The value of the last store to a word, or 0 where there is none.
+    ///
+    /// Conditions: the line is below the number of lines, and the word below 8.
+    /// Source: `docs/PROTOCOL.md`, "The journal and last values".
     pub fn last(&self, line: Line, word: WordNo) -> u64
         requires line { line.0 < self.now.lines }
         requires word { word.0 < 8 }
@@ -92,7 +100,10 @@ impl<A: Allocator> Journal<A> {
         self.last.value(line, word)
     }
 
-    /// The values of the last stores to the words of a line.
+    /// The values of the last stores to the words of a line, each 0 where there is none.
+    ///
+    /// Conditions: the line is below the number of lines.
+    /// Source: `docs/PROTOCOL.md`, "The journal and last values".
     pub fn last_words(&self, line: Line) -> Data
         requires { line.0 < self.now.lines }
         ensures { result ≡ last_words self.now.entries line.0 }
@@ -101,6 +112,7 @@ impl<A: Allocator> Journal<A> {
     }
 
     /// How many loads there are.
+    /// Source: `docs/PROTOCOL.md`, "The journal and last values".
     pub fn loads(&self) -> u32
         ensures { result ≡ loads_of self.now.entries }
     {
@@ -108,6 +120,7 @@ impl<A: Allocator> Journal<A> {
     }
 
     /// How many stores there are.
+    /// Source: `docs/PROTOCOL.md`, "The journal and last values".
     pub fn stores(&self) -> u32
         ensures { result ≡ stores_of self.now.entries }
     {
@@ -115,6 +128,9 @@ impl<A: Allocator> Journal<A> {
     }
 
     /// How many records of the agent there are. All records are no more than the limit.
+    ///
+    /// Conditions: the agent's number is below 8.
+    /// Source: `docs/PROTOCOL.md`, "The journal and last values".
     pub fn part_len(&self, agent: Agent) -> u32
         requires { agent.0 < 8 }
         ensures is { result ≡ length (part_of self.now.entries agent.0) }
@@ -124,6 +140,7 @@ impl<A: Allocator> Journal<A> {
     }
 
     /// Whether each load had the value that was stored last before it.
+    /// Source: `docs/PROTOCOL.md`, "The journal and last values".
     pub fn legal(&self) -> bool
         ensures { IsTrue result ↔ IsLegal self.now.entries }
     {
@@ -131,6 +148,7 @@ impl<A: Allocator> Journal<A> {
     }
 
     /// How many records there are.
+    /// Source: `docs/PROTOCOL.md`, "The journal and last values".
     pub fn len(&self) -> usize
         ensures { result ≡ length self.now.entries }
     {
@@ -138,6 +156,7 @@ impl<A: Allocator> Journal<A> {
     }
 
     /// How many records there may be.
+    /// Source: `docs/PROTOCOL.md`, "The journal and last values".
     pub fn limit(&self) -> u32
         ensures { result ≡ self.now.limit }
     {
@@ -145,6 +164,7 @@ impl<A: Allocator> Journal<A> {
     }
 
     /// The number of lines whose last values are kept.
+    /// Source: `docs/PROTOCOL.md`, "The journal and last values".
     pub fn lines(&self) -> usize
         ensures { result ≡ self.now.lines }
     {
@@ -152,6 +172,7 @@ impl<A: Allocator> Journal<A> {
     }
 
     /// The records, in their order.
+    /// Source: `docs/PROTOCOL.md`, "The journal and last values".
     pub fn records(&self) -> &[Record]
         ensures { result.now ≡ self.now.entries }
     {

@@ -6,6 +6,7 @@ ghost use Rattle.chi_journal.specs.Record.{record_agent, record_line, record_wor
 use chi_flit::{Agent, Line, WordNo};
 
 /// One load or store that an agent was answered: the word, and its value then.
+/// Source: `docs/PROTOCOL.md`, "The journal and last values".
 #[derive(Clone, Copy, Debug, PartialEq, Eq)]
 pub enum Record {
     Load {
@@ -24,6 +25,7 @@ pub enum Record {
 
 impl Record {
     /// Whose load or store it is.
+    /// Source: `docs/PROTOCOL.md`, "The journal and last values".
     pub fn agent(self) -> Agent
         ensures { result ≡ record_agent self }
     {
@@ -33,6 +35,7 @@ impl Record {
     }
 
     /// The line.
+    /// Source: `docs/PROTOCOL.md`, "The journal and last values".
     pub fn line(self) -> Line
         ensures { result ≡ record_line self }
     {
@@ -42,6 +45,7 @@ impl Record {
     }
 
     /// The word of the line.
+    /// Source: `docs/PROTOCOL.md`, "The journal and last values".
     pub fn word(self) -> WordNo
         ensures { result ≡ record_word self }
     {

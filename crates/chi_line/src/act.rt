@@ -19,6 +19,7 @@ use chi_wires::Wires;
 use std::alloc::Allocator;
 
 /// What an action needs to know of its slice beside its line.
+/// Source: `docs/DECISIONS.md`, "The slice", Conditions.
 #[derive(Clone, Copy, Debug, PartialEq, Eq)]
 pub struct Conditions {
     /// Whether the slot that an Issue names is in use.
@@ -28,11 +29,15 @@ pub struct Conditions {
     pub profile: Profile,
 }
 
-/// Does an action on a line, out of its parts. The line keeps what a line keeps, for any values last
-/// stored to its words.
+/// Does an action on a line, out of its parts: the requesters' sides, the home, and the row of the wires.
+/// The flits of all other rows stay. Answers the action's effect.
 ///
-/// Refused in the order of the action's row; nothing changes then.
-/// Source: `docs/PROTOCOL.md`, "The actions".
+/// Refused in the order of the action's row, but never 10; nothing changes then.
+///
+/// Conditions: the agent's number is below 8, the row is one of the wires' lines, the step's numbers are
+/// in their ranges, and the line keeps what "What a line keeps" says, for some values last stored to its
+/// words.
+/// Source: `docs/PROTOCOL.md`, "The actions" and "What a line keeps".
 pub fn act_on<A: Allocator>(
     requesters: &mut [RnLine; 8],
     home: &mut HomeLine,

@@ -11,7 +11,10 @@ use chi_homeline::{HomeLine, Serving, Waiting};
 use chi_wires::Cells;
 
 /// The slot of the request that a step of the agent would complete, by the home's part of the line and
-/// the agent's flits.
+/// the agent's flits; `None` where the step would be refused, or completes nothing.
+///
+/// Conditions: the agent's number is below 8.
+/// Source: `docs/PROTOCOL.md`, "The actions".
 pub fn completed_at(home: &HomeLine, cells: Cells, agent: Agent, step: Step) -> Option<Slot>
     requires { agent.0 < 8 }
     ensures { result ≡ completed_at home.now cells agent step }

@@ -16,6 +16,7 @@ use chi_wires::{Cells, Wires};
 use std::alloc::Allocator;
 
 /// What a step does to a request of its agent.
+/// Source: `docs/PROTOCOL.md`, "Agreement".
 #[derive(Clone, Copy, Debug, PartialEq, Eq)]
 pub struct Move {
     /// The slot of the request that is moved, if one is.
@@ -24,8 +25,10 @@ pub struct Move {
     pub to: Option<Where>,
 }
 
-/// The request of the agent that a step moves where it isn't refused, and where to, by the parts of a line
-/// before the step.
+/// The request of the agent that a step moves where it isn't refused, and where to, by the parts of a
+/// line before the step.
+///
+/// Conditions: the agent's number is below 8, and the row is one of the wires' lines.
 /// Source: `docs/PROTOCOL.md`, "Agreement".
 pub fn move_of<A: Allocator>(
     requesters: &[RnLine; 8],

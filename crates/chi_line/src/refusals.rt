@@ -14,7 +14,10 @@ use chi_rnline::RnLine;
 use chi_wires::Wires;
 use std::alloc::Allocator;
 
-/// Why `act_on` would refuse the action on a line of these parts, its numbers being in their ranges.
+/// Why `act_on` would refuse the action on a line of these parts, its numbers being in their ranges;
+/// `None` where it wouldn't.
+///
+/// Conditions: the agent's number is below 8, and the row is one of the wires' lines.
 /// Source: `docs/PROTOCOL.md`, "The actions".
 pub fn refusal_on<A: Allocator>(
     requesters: &[RnLine; 8],

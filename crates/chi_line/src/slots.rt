@@ -6,7 +6,8 @@ ghost use Rattle.chi_line.specs.Step.{pending_slot};
 use chi_flit::Slot;
 use chi_rnline::Pending;
 
-/// The slot of a request that is pending.
+/// The slot of a request that is pending; `None` where none is.
+/// Source: `docs/PROTOCOL.md`, "One line".
 pub fn pending_slot(pending: Option<Pending>) -> Option<Slot>
     ensures { result ≡ pending_slot pending }
 {

@@ -11,6 +11,7 @@ use chi_wires::Wires;
 use std::alloc::Allocator;
 
 /// A slot of an agent, and the credit type that it is said to have.
+/// Source: `docs/PROTOCOL.md`, "Agreement".
 #[derive(Clone, Copy, Debug, PartialEq, Eq)]
 pub struct TypedSlot {
     pub agent: Agent,
@@ -19,6 +20,8 @@ pub struct TypedSlot {
 }
 
 /// Whether the slot has its credit type wherever the parts of a line still keep the kind of its request.
+///
+/// Conditions: the agent's number is below 8, and the row is one of the wires' lines.
 /// Source: `docs/PROTOCOL.md`, "Agreement".
 pub fn is_of_type<A: Allocator>(
     requesters: &[RnLine; 8],
@@ -55,7 +58,8 @@ fn has_type(profile: Profile, credit: CreditType, kind: Option<Kind>) -> bool
     }
 }
 
-/// The credit type of a request that is pending.
+/// The credit type of a request that is pending, by the profile; `None` where none is pending.
+/// Source: `docs/PROTOCOL.md`, "Kinds of request".
 pub fn pending_credit(profile: Profile, pending: Option<Pending>) -> Option<CreditType>
     ensures { result ≡ pending_credit profile pending }
 {

@@ -8,6 +8,7 @@ use chi_homeline::{HomeLine, Serving, Waiting};
 use chi_rnline::{Pending, RnLine};
 use chi_wires::Cells;
 /// One requester's copy of a line: its data means nothing in state `I`.
+/// Source: `docs/PROTOCOL.md`, "One line".
 #[derive(Clone, Copy, Debug, PartialEq, Eq)]
 pub struct CopyView {
     pub state: State,
@@ -15,6 +16,7 @@ pub struct CopyView {
 }
 
 /// All parts of one line, as plain data. Arrays go by agent number.
+/// Source: `docs/PROTOCOL.md`, "One line" and "The journal and last values".
 #[derive(Clone, Copy, Debug, PartialEq, Eq)]
 pub struct LineView {
     /// The requesters' copies.
@@ -25,7 +27,7 @@ pub struct LineView {
     pub memory: Data,
     /// The agents that the snoop filter names.
     pub named: [bool; 8],
-    /// Whether the one named agent holds the line alone.
+    /// The filter's flag: where it is set, one agent alone is named, which may hold nothing.
     pub unique: bool,
     /// The agent that answers for dirty shared data.
     pub owner: Option<Agent>,
@@ -42,7 +44,8 @@ pub struct LineView {
 }
 
 impl CopyView {
-    /// No copy.
+    /// No copy: state `I`, with data that is 0.
+    /// Source: `docs/PROTOCOL.md`, "One line".
     pub const NONE: CopyView = CopyView {
         state: State::I,
         words: NO_DATA,
@@ -50,6 +53,7 @@ impl CopyView {
 }
 
 /// A line's parts, as plain data; last are the values last stored to its words.
+/// Source: `docs/PROTOCOL.md`, "One line" and "The journal and last values".
 pub fn view_of(requesters: &[RnLine; 8], home: &HomeLine, flits: [Cells; 8], last: Data) -> LineView
     ensures { result ≡ shown (record { requesters = requesters.now; home = home.now; flits = flits }) last }
 {

@@ -3,6 +3,7 @@
 use chi_flit::{Kind, Slot};
 
 /// How far a pending request has come, as its requester knows it.
+/// Source: `docs/PROTOCOL.md`, "One line".
 #[derive(Clone, Copy, Debug, PartialEq, Eq)]
 pub enum Phase {
     /// It was sent, and not answered yet.
@@ -12,6 +13,7 @@ pub enum Phase {
 }
 
 /// A request that its requester waits for.
+/// Source: `docs/PROTOCOL.md`, "One line".
 #[derive(Clone, Copy, Debug, PartialEq, Eq)]
 pub struct Pending {
     pub kind: Kind,

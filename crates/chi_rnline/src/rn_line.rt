@@ -19,6 +19,7 @@ use std::marker::Model;
 
 /// One requester's side of one line. Contracts see it as an `Rn`: the copy's state and data, and the
 /// pending request.
+/// Source: `docs/PROTOCOL.md`, "One line".
 pub struct RnLine {
     state: State,
     words: Data,
@@ -49,6 +50,7 @@ impl Copy for RnLine {}
 
 impl RnLine {
     /// A line without a copy, and nothing pending.
+    /// Source: `docs/PROTOCOL.md`, "One line".
     pub fn new() -> RnLine
         ensures { result ≡ no_line }
     {
@@ -73,8 +75,9 @@ impl RnLine {
         None
     }
 
-    /// Issues a request: it is pending, in phase Sent, and an Evict gives up the copy at once. Answers
-    /// the request that is to be put, with AllowRetry.
+    /// Issues a request: it is pending, in phase Sent, and an Evict gives up the copy at once; the data
+    /// stays, and at every other kind the state does too. Answers the request that is to be put, with
+    /// AllowRetry.
     ///
     /// Refused 3 (Pending) where a request is pending, then 2 (WrongState) where the copy isn't in the
     /// state that the kind needs; nothing changes then.
@@ -118,6 +121,7 @@ impl RnLine {
     }
 
     /// The copy's state.
+    /// Source: `docs/PROTOCOL.md`, "One line".
     pub fn state(&self) -> State
         ensures { result ≡ self.now.state }
     {
@@ -125,13 +129,15 @@ impl RnLine {
     }
 
     /// The copy's data, which means nothing in state `I`.
+    /// Source: `docs/PROTOCOL.md`, "One line".
     pub fn words(&self) -> Data
         ensures { result ≡ self.now.words }
     {
         self.words
     }
 
-    /// The request that is pending.
+    /// The request that is pending; `None` where there is none.
+    /// Source: `docs/PROTOCOL.md`, "One line".
     pub fn pending(&self) -> Option<Pending>
         ensures { result ≡ self.now.pending }
     {
@@ -151,7 +157,7 @@ impl RnLine {
 
     /// Loads the word of the copy.
     ///
-    /// Refused 2 (WrongState) where there is no copy.
+    /// Refused 2 (WrongState) where there is no copy. Conditions: the word is below 8.
     /// Source: `docs/PROTOCOL.md`, "The actions", Load.
     pub fn load(&self, word: WordNo) -> Result<u64, Refusal>
         requires { word.0 < 8 }
@@ -165,6 +171,7 @@ impl RnLine {
     }
 
     /// The refusal that `store` would answer.
+    /// Source: `docs/PROTOCOL.md`, "The actions", Store.
     pub fn why_no_store(&self) -> Option<Refusal>
         ensures { result ≡ store_refusal self.now }
     {
@@ -175,10 +182,10 @@ impl RnLine {
         }
     }
 
-    /// Stores the value: the word of the copy has it, and the copy is `UD`.
+    /// Stores the value: the word of the copy has it, and the copy is `UD`; the other words stay.
     ///
     /// Refused 3 (Pending) where a request is pending, then 2 (WrongState) where the copy isn't `UC` or
-    /// `UD`; nothing changes then.
+    /// `UD`; nothing changes then. Conditions: the word is below 8.
     /// Source: `docs/PROTOCOL.md`, "The actions", Store.
     pub fn store(&mut self, word: WordNo, value: u64) -> Result<(), Refusal>
         requires { word.0 < 8 }
@@ -206,7 +213,7 @@ impl RnLine {
         }
     }
 
-    /// Gives up the copy without a message: its state is `I`.
+    /// Gives up the copy without a message: its state is `I`, and its data stays.
     ///
     /// Refused 3 (Pending) where a request is pending, then 2 (WrongState) where the copy isn't `SC` or
     /// `UC`; nothing changes then.
@@ -234,7 +241,8 @@ impl RnLine {
         message
     }
 
-    /// Takes a RetryAck: the pending request is in phase Retried.
+    /// Takes a RetryAck: the pending request is in phase Retried, and the copy stays. Where nothing is
+    /// pending nothing changes.
     /// Source: `docs/PROTOCOL.md`, "The actions", RecvRetry.
     pub fn retried(&mut self)
         ensures { self.new ≡ retry_received self.old }
@@ -275,8 +283,8 @@ impl RnLine {
         self.to_resend().err()
     }
 
-    /// Sends a retried request again, with a credit: it is in phase Sent. Answers the request that is to
-    /// be put, without AllowRetry.
+    /// Sends a retried request again, with a credit: it is in phase Sent, and the copy stays. Answers the
+    /// request that is to be put, without AllowRetry.
     ///
     /// Refused 4 (NothingPending) where no request is in phase Retried, then 2 (WrongState) where it is a
     /// copy-back and the copy isn't in its needed state; nothing changes then.
@@ -321,7 +329,8 @@ impl RnLine {
         None
     }
 
-    /// Cancels a retried copy-back whose copy has left the needed state: nothing is pending.
+    /// Cancels a retried copy-back whose copy has left the needed state: nothing is pending, and the copy
+    /// stays.
     ///
     /// Refused 4 (NothingPending) where no request is in phase Retried, then 2 (WrongState) where it may
     /// still be sent; nothing changes then.
@@ -338,8 +347,8 @@ impl RnLine {
         Ok(())
     }
 
-    /// Takes Comp_UC: a copy that is left is unique, a lost one stays lost, and nothing is pending.
-    /// Answers the CompAck that is to be put.
+    /// Takes Comp_UC: a copy that is left is unique, a lost one stays lost, the data stays, and nothing
+    /// is pending. Answers the CompAck that is to be put.
     /// Source: `docs/PROTOCOL.md`, "The actions", RecvComp.
     pub fn comp(&mut self) -> Msg
         ensures message { result ≡ messages.RspUp CompAck }
@@ -350,7 +359,7 @@ impl RnLine {
         Msg::RspUp(RspUp::CompAck)
     }
 
-    /// Takes Comp_I, which ends an Evict: nothing is pending, and nothing is to be put.
+    /// Takes Comp_I, which ends an Evict: nothing is pending, the copy stays, and nothing is to be put.
     /// Source: `docs/PROTOCOL.md`, "The actions", RecvComp.
     pub fn evicted(&mut self)
         ensures { self.new ≡ evict_received self.old }
@@ -359,8 +368,8 @@ impl RnLine {
     }
 
     /// Takes CompDBIDResp. Answers the write data that is to be put: that of the copy as it stands. The
-    /// copy is what the pending request leaves of it, and nothing is pending; where nothing was, the copy
-    /// stays.
+    /// copy is what the pending request leaves of it, the data stays, and nothing is pending; where
+    /// nothing was, the copy stays.
     /// Source: `docs/PROTOCOL.md`, "Write data".
     pub fn dbid(&mut self) -> Msg
         ensures message { result ≡ messages.DatUp (write_data_of self.old.state self.old.words) }

@@ -90,6 +90,7 @@ impl Config {
     /// A node of two credit types, with `t0` and `t1` entries of them: `agents` requesters, `lines` lines
     /// in `slices` slices, and `journal` records a slice. `None` exactly where a number is outside its
     /// limits.
+    /// Source: `docs/PROTOCOL.md`, "Limits".
     pub fn new(agents: u8, lines: u8, slices: u8, t0: u16, t1: u16, journal: u32) -> Option<Config>
         ensures { result ≡ config_if (two_types agents lines slices t0 t1 journal) }
     {
@@ -108,6 +109,7 @@ impl Config {
 
     /// A node of four credit types, with so many entries of each: `agents` requesters, `lines` lines in
     /// `slices` slices, and `journal` records a slice. `None` exactly where a number is outside its limits.
+    /// Source: `docs/PROTOCOL.md`, "Limits".
     pub fn four(
         agents: u8,
         lines: u8,
@@ -131,6 +133,7 @@ impl Config {
     }
 
     /// The number of requesters, 1 to 8.
+    /// Source: `docs/PROTOCOL.md`, "Limits".
     pub fn agents(&self) -> u8
         ensures value { result ≡ self.now.agents }
         ensures limits { are_in_limits self.now ≡ true }
@@ -139,6 +142,7 @@ impl Config {
     }
 
     /// The number of lines, 1 to 64.
+    /// Source: `docs/PROTOCOL.md`, "Limits".
     pub fn lines(&self) -> u8
         ensures value { result ≡ self.now.lines }
         ensures limits { are_in_limits self.now ≡ true }
@@ -147,6 +151,7 @@ impl Config {
     }
 
     /// The number of slices, 1, 2, 4 or 8: line `l` is in slice `l mod slices`.
+    /// Source: `docs/PROTOCOL.md`, "Limits".
     pub fn slices(&self) -> u8
         ensures value { result ≡ self.now.slices }
         ensures limits { are_in_limits self.now ≡ true }
@@ -198,7 +203,9 @@ impl Config {
         }
     }
 
-    /// The number of tracker entries of each credit type.
+    /// The number of tracker entries of each credit type, by the type's number: 0 for a type that the
+    /// profile lacks.
+    /// Source: `docs/PROTOCOL.md`, "Limits".
     pub fn entries(&self) -> [u16; 4]
         ensures value { result ≡ self.now.entries }
         ensures limits { are_in_limits self.now ≡ true }
@@ -206,7 +213,8 @@ impl Config {
         self.entries
     }
 
-    /// The number of journal records that a slice holds.
+    /// The number of records that the journal of a slice may have, 1 to 65,536.
+    /// Source: `docs/PROTOCOL.md`, "Limits".
     pub fn journal(&self) -> u32
         ensures value { result ≡ self.now.journal }
         ensures limits { are_in_limits self.now ≡ true }
@@ -215,6 +223,7 @@ impl Config {
     }
 
     /// Which kinds share a credit type.
+    /// Source: `docs/PROTOCOL.md`, "Kinds of request".
     pub fn profile(&self) -> Profile
         ensures { result ≡ self.now.profile }
     {

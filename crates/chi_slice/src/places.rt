@@ -8,6 +8,7 @@ use chi_line::{Move, Where};
 use std::marker::Model;
 
 /// The line of a request, and where the request is.
+/// Source: `docs/PROTOCOL.md`, "Agreement".
 #[derive(Clone, Copy, Debug, PartialEq, Eq)]
 pub struct Place {
     pub line: Line,

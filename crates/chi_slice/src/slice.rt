@@ -39,6 +39,7 @@ use std::marker::Model;
 /// A slice of the home, with the requesters' copies of its lines and the flits in flight for them: line
 /// `l` of the node is in slice `l mod slices`. Contracts see it as a `SliceState`; each of its lines is
 /// coherent whenever it can be looked at.
+/// Source: `docs/PROTOCOL.md`, "The system" and "Coherence".
 #[derive(Drop)]
 pub struct Slice<A: Allocator> {
     config: Config,
@@ -95,8 +96,9 @@ fn row_count(config: &Config, index: u8) -> u8
 
 impl<A: Allocator + Copy> Slice<A> {
     /// The slice of that index in a node of that size, in the opening state: memory 0, no copies, nothing
-    /// in flight. The index is below the node's number of slices. All memory that the slice ever needs is
-    /// found here; refused where it runs out.
+    /// in flight. All memory that the slice ever needs is found here; refused where it runs out.
+    ///
+    /// Conditions: the index is below the node's number of slices.
     /// Source: `docs/PROTOCOL.md`, "One line".
     pub fn new(alloc: A, config: &Config, index: u8) -> Result<Slice<A>, NoMemory>
         requires { index < config.now.slices }
@@ -314,6 +316,7 @@ impl<A: Allocator> Slice<A> {
 
     /// The slot of the request that the action would complete; `None` where it would be refused, or
     /// completes nothing.
+    /// Source: `docs/PROTOCOL.md`, "The actions".
     pub fn completes(&self, action: Action) -> Option<Slot>
         ensures { result ≡ completes self.now action }
     {
@@ -329,6 +332,7 @@ impl<A: Allocator> Slice<A> {
     /// All parts of a line, as plain data. The line is coherent. Takes no memory.
     ///
     /// Refused 10 (OutOfRange) exactly where the line is outside the node or in another slice.
+    /// Source: `docs/PROTOCOL.md`, "One line" and "Coherence".
     pub fn view(&self, line: Line) -> Result<LineView, Refusal>
         ensures shown { IfOk result (λ view. view ≡ shown (line_of_slice self.now line.0) (last_of self.now line.0)) }
         ensures coherent { OnOk result (Coherent (last_of self.now line.0) (line_of_slice self.now line.0)) }
@@ -350,6 +354,7 @@ impl<A: Allocator> Slice<A> {
     ///
     /// Refused 10 (OutOfRange) exactly where the agent or the line is outside the node, or the line is in
     /// another slice.
+    /// Source: `docs/PROTOCOL.md`, "Messages".
     pub fn flits(&self, agent: Agent, line: Line) -> Result<Cells, Refusal>
         ensures cells { IfOk result (λ cells. cells ≡ cells_of (line_of_slice self.now line.0) agent.0) }
         ensures refusal { refusal_of result ≡ flits_refusal self.now agent.0 line.0 }
@@ -464,6 +469,7 @@ impl<A: Allocator> Slice<A> {
 
     /// The loads and stores that were answered, in their order: each load had the value that was stored
     /// last before it. Whoever asks for them knows what every slice keeps.
+    /// Source: `docs/PROTOCOL.md`, "The journal and last values".
     pub fn journal(&self) -> &Journal<A>
         ensures journal { result.now ≡ self.now.journal }
         ensures legal { IsLegal self.now.journal.entries }
@@ -473,6 +479,7 @@ impl<A: Allocator> Slice<A> {
     }
 
     /// The size of the node.
+    /// Source: `docs/PROTOCOL.md`, "Limits".
     pub fn config(&self) -> &Config
         ensures { result.now ≡ self.now.config }
     {
@@ -480,6 +487,7 @@ impl<A: Allocator> Slice<A> {
     }
 
     /// Which slice of the node this is.
+    /// Source: `docs/PROTOCOL.md`, "Limits".
     pub fn index(&self) -> u8
         ensures { result ≡ self.now.index }
     {

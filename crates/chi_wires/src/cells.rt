@@ -7,6 +7,7 @@ ghost use Rattle.chi_wires.specs.Cell.{no_flits, cell_of, with_message, emptied}
 use chi_flit::{Channel, CompData, DatUp, Msg, Request, RspDown, RspUp, Snoop};
 
 /// What is in flight between one agent and the home for one line: at most one message on each channel.
+/// Source: `docs/PROTOCOL.md`, "Messages".
 #[derive(Clone, Copy, Debug, PartialEq, Eq)]
 pub struct Cells {
     pub req: Option<Request>,
@@ -19,6 +20,7 @@ pub struct Cells {
 
 impl Cells {
     /// Nothing in flight.
+    /// Source: `docs/PROTOCOL.md`, "Messages".
     pub const fn new() -> Cells
         ensures { result ≡ no_flits }
     {
@@ -33,6 +35,7 @@ impl Cells {
     }
 
     /// The message that is in flight on `channel`; `None` where there is none.
+    /// Source: `docs/PROTOCOL.md`, "Messages".
     pub fn get(&self, channel: Channel) -> Option<Msg>
         ensures { result ≡ cell_of self.now channel }
     {

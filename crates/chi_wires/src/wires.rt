@@ -16,6 +16,7 @@ use std::marker::Model;
 
 /// The flits in flight of the lines of one slice. Contracts see it as a list by line of lists by agent
 /// of cells; each line has the cells of eight agents.
+/// Source: `docs/PROTOCOL.md`, "Messages".
 #[derive(Drop)]
 pub struct Wires<A: Allocator> {
     cells: Vec<[Cells; 8], A>,
@@ -35,6 +36,7 @@ impl<A: Allocator> Model for Wires<A> {
 
 impl<A: Allocator> Wires<A> {
     /// The wires of so many lines, with nothing in flight. Refused where memory runs out.
+    /// Source: `docs/PROTOCOL.md`, "One line".
     pub fn new(alloc: A, lines: u8) -> Result<Wires<A>, NoMemory>
         ensures empty { IfOk result (λ wires. wires ≡ replicate lines (replicate 8 no_flits)) }
         ensures none { IfOk result (λ wires. in_flight wires ≡ []) }
@@ -46,7 +48,8 @@ impl<A: Allocator> Wires<A> {
         Ok(Wires { cells })
     }
 
-    /// The number of lines.
+    /// The number of lines. Each has the cells of eight agents.
+    /// Source: `docs/PROTOCOL.md`, "Messages".
     pub fn lines(&self) -> usize
         ensures number { result ≡ length self.now }
         ensures wide { IsWide self.now }
@@ -55,6 +58,9 @@ impl<A: Allocator> Wires<A> {
     }
 
     /// What is in flight between the agent and the home for the line, counted from the first of these.
+    ///
+    /// Conditions: the agent's number is below 8, and the line below the number of lines.
+    /// Source: `docs/PROTOCOL.md`, "Messages".
     pub fn cells(&self, agent: Agent, line: Line) -> Cells
         requires agent { agent.0 < 8 }
         requires line { line.0 < length self.now }
@@ -65,6 +71,9 @@ impl<A: Allocator> Wires<A> {
     }
 
     /// What is in flight for the line, by agent.
+    ///
+    /// Conditions: the line is below the number of lines.
+    /// Source: `docs/PROTOCOL.md`, "Messages".
     pub fn row(&self, line: Line) -> [Cells; 8]
         requires { line.0 < length self.now }
         ensures { result ≡ row_of self.now line.0 }
@@ -73,6 +82,9 @@ impl<A: Allocator> Wires<A> {
     }
 
     /// What `take` would answer, left in place; `None` where the cell is empty.
+    ///
+    /// Conditions: the agent's number is below 8, and the line below the number of lines.
+    /// Source: `docs/PROTOCOL.md`, "Messages".
     #[tactic(auto, using(crate::proofs::Once::once))]
     pub fn has(&self, channel: Channel, agent: Agent, line: Line) -> Option<Msg>
         requires agent { agent.0 < 8 }
@@ -83,7 +95,11 @@ impl<A: Allocator> Wires<A> {
         self.cells(agent, line).get(channel)
     }
 
-    /// Puts the message on its channel, whose cell must be empty. All else stays.
+    /// Puts the message on its channel. All else stays.
+    ///
+    /// Conditions: the agent's number is below 8, the line is below the number of lines, and the cell of
+    /// the message's channel is empty.
+    /// Source: `docs/PROTOCOL.md`, "Messages".
     #[tactic(auto, using(crate::proofs::Moved::put_adds))]
     pub fn put(&mut self, agent: Agent, line: Line, message: Msg)
         requires agent { agent.0 < 8 }
@@ -95,7 +111,11 @@ impl<A: Allocator> Wires<A> {
         self.cells[usize::from(line.0)][usize::from(agent.0)].put(message);
     }
 
-    /// Puts the data of a read on its channel, whose cell must be empty. All else stays.
+    /// Puts the data of a read on its channel. All else stays.
+    ///
+    /// Conditions: the agent's number is below 8, the line is below the number of lines, and the cell of
+    /// that channel is empty.
+    /// Source: `docs/PROTOCOL.md`, "Messages".
     #[tactic(auto, using(crate::proofs::Moved::put_adds))]
     pub fn put_data(&mut self, agent: Agent, line: Line, sent: CompData)
         requires agent { agent.0 < 8 }
@@ -109,7 +129,9 @@ impl<A: Allocator> Wires<A> {
 
     /// Takes the message that is in flight on `channel`: its cell is empty then, and all else stays.
     ///
-    /// Refused 7 (NoFlit) exactly where the cell is empty; nothing changes then.
+    /// Refused 7 (NoFlit) exactly where the cell is empty; nothing changes then. Conditions: the agent's
+    /// number is below 8, and the line below the number of lines.
+    /// Source: `docs/PROTOCOL.md`, "Messages".
     #[tactic(auto, using(crate::proofs::Moved::take_one))]
     pub fn take(&mut self, channel: Channel, agent: Agent, line: Line) -> Result<Msg, Refusal>
         requires agent { agent.0 < 8 }
@@ -124,8 +146,11 @@ impl<A: Allocator> Wires<A> {
         Ok(message)
     }
 
-    /// Empties the cell of `taken`, and puts the message on its own channel, whose cell must be empty or
-    /// be the one that is emptied. All else stays.
+    /// Empties the cell of `taken`, and puts the message on its own channel. All else stays.
+    ///
+    /// Conditions: the agent's number is below 8, the line is below the number of lines, and the cell of
+    /// the message's channel is empty, or the one that is emptied.
+    /// Source: `docs/PROTOCOL.md`, "Messages".
     #[tactic(auto, using(crate::proofs::Moved::exchange_swaps))]
     pub fn exchange(&mut self, agent: Agent, line: Line, taken: Channel, message: Msg)
         requires agent { agent.0 < 8 }
@@ -137,7 +162,11 @@ impl<A: Allocator> Wires<A> {
         self.cells[usize::from(line.0)][usize::from(agent.0)].exchange(taken, message);
     }
 
-    /// Puts the snoop to each marked agent, whose cells for snoops must be empty. All else stays.
+    /// Puts the snoop to each marked agent. All else stays.
+    ///
+    /// Conditions: the line is below the number of lines, and the cell for snoops of each marked agent is
+    /// empty.
+    /// Source: `docs/PROTOCOL.md`, "Messages".
     #[tactic(auto, using(crate::proofs::Moved::snoops_add, crate::proofs::Wide::snoops_wide))]
     pub fn put_snoops(&mut self, line: Line, agents: [bool; 8], snoop: Snoop)
         requires line { line.0 < length self.old }
