@@ -10,6 +10,7 @@ use clap::{Arg, ArgAction, ArgMatches, Command};
 use std::alloc::{AllocError, Global};
 
 /// What the program is asked to do.
+/// Source: `docs/PROTOCOL.md`, "The program".
 #[derive(Clone, Copy, Debug, PartialEq, Eq)]
 pub enum Job<'a> {
     /// `replay FILE`: runs the commands of the file at this path.

@@ -46,6 +46,7 @@ impl Model for Account {
 
 impl Account {
     /// An account whose slots are all free.
+    /// Source: `docs/PROTOCOL.md`, "Slots and accounts".
     pub fn new() -> Account
         ensures { result ≡ all_idle }
     {
@@ -54,7 +55,10 @@ impl Account {
         }
     }
 
-    /// The slot.
+    /// The slot of this number.
+    ///
+    /// Condition: the slot's number is below 8.
+    /// Source: `docs/PROTOCOL.md`, "Slots and accounts".
     pub fn slot(&self, slot: Slot) -> SlotRecord
         requires { slot.0 < 8 }
         ensures { result ≡ slot_at self.now slot.0 }
@@ -62,7 +66,8 @@ impl Account {
         self.slots[usize::from(slot.0)]
     }
 
-    /// The lowest free slot.
+    /// The lowest free slot; `None` where no slot is free.
+    /// Source: `docs/PROTOCOL.md`, "Slots and accounts".
     pub fn lowest_idle(&self) -> Option<Slot>
         ensures some { IfSome result (λ slot. IsLowestIdle self.now slot.0) }
         ensures none { IfNone result ((s : ℕ) → s < 8 → state_at self.now s ≢ SlotState.Idle) }
@@ -71,7 +76,8 @@ impl Account {
         Some(Slot(place as u8))
     }
 
-    /// How many slots of the type are Riding.
+    /// How many slots of the type are Riding, at most 8.
+    /// Source: `docs/PROTOCOL.md`, "Slots and accounts".
     pub fn riding(&self, ty: CreditType) -> u32
         ensures is { result ≡ riding_of self.now (credit_number ty) }
         ensures few { result ≤ 8 }
@@ -86,6 +92,7 @@ impl Account {
     }
 
     /// Whether a slot of the type is Cancelled.
+    /// Source: `docs/PROTOCOL.md`, "Slots and accounts".
     #[tactic(auto, using(crate::proofs::Counts::cancelled_there))]
     pub fn has_cancelled(&self, ty: CreditType) -> bool
         ensures { IsTrue result ↔ (lowest_cancelled self.now (credit_number ty) < 8) }
@@ -94,13 +101,18 @@ impl Account {
     }
 
     /// Whether one of `seen` credits of the type is left beside those for the Riding slots.
+    /// Source: `docs/PROTOCOL.md`, "Slots and accounts", can_resend.
     pub fn can_resend(&self, ty: CreditType, seen: u32) -> bool
         ensures { IsTrue result ↔ (riding_of self.now (credit_number ty) < seen) }
     {
         self.riding(ty) < seen
     }
 
-    /// The first attempt of a request of this line and credit type was sent: Idle becomes Sent.
+    /// The first attempt of a request of this line and credit type was sent: Idle becomes Sent, not answered.
+    /// All other slots stay.
+    ///
+    /// Conditions: the slot's number is below 8, and the slot is Idle.
+    /// Source: `docs/PROTOCOL.md`, "Slots and accounts", open.
     pub fn open(&mut self, slot: Slot, line: Line, ty: CreditType)
         requires slot { slot.0 < 8 }
         requires idle { state_at self.old slot.0 ≡ SlotState.Idle }
@@ -117,7 +129,11 @@ impl Account {
         };
     }
 
-    /// The home let the first attempt in, with this entry: Sent becomes Admitted.
+    /// The home let the first attempt in, with this entry: Sent becomes Admitted. The slot's line and credit
+    /// type stay, and so do all other slots.
+    ///
+    /// Conditions: the slot's number is below 8, and the slot is Sent.
+    /// Source: `docs/PROTOCOL.md`, "Slots and accounts", admitted.
     pub fn admitted(&mut self, slot: Slot, entry: Entry)
         requires slot { slot.0 < 8 }
         requires sent { state_at self.old slot.0 ≡ SlotState.Sent }
@@ -130,7 +146,11 @@ impl Account {
         self.slots[usize::from(slot.0)].state = SlotState::Admitted(entry);
     }
 
-    /// The home answered the first attempt by RetryAck: Sent becomes Refused.
+    /// The home answered the first attempt by RetryAck: Sent becomes Refused. The slot's line and credit type
+    /// stay, and so do all other slots.
+    ///
+    /// Conditions: the slot's number is below 8, and the slot is Sent.
+    /// Source: `docs/PROTOCOL.md`, "Slots and accounts", refused.
     pub fn refused(&mut self, slot: Slot)
         requires slot { slot.0 < 8 }
         requires sent { state_at self.old slot.0 ≡ SlotState.Sent }
@@ -143,7 +163,11 @@ impl Account {
         self.slots[usize::from(slot.0)].state = SlotState::Refused;
     }
 
-    /// The RetryAck was taken: Refused becomes Retried.
+    /// The RetryAck was taken: Refused becomes Retried. The slot's line and credit type stay, and so do all
+    /// other slots.
+    ///
+    /// Conditions: the slot's number is below 8, and the slot is Refused.
+    /// Source: `docs/PROTOCOL.md`, "Slots and accounts", retry_seen.
     pub fn retry_seen(&mut self, slot: Slot)
         requires slot { slot.0 < 8 }
         requires refused { state_at self.old slot.0 ≡ SlotState.Refused }
@@ -155,8 +179,12 @@ impl Account {
         self.slots[usize::from(slot.0)].state = SlotState::Retried;
     }
 
-    /// The request was sent again with a credit: Retried becomes Riding. Where `can_resend` was true of
-    /// the port's seen credits, the Riding slots are still no more than these.
+    /// The request was sent again with a credit: Retried becomes Riding. The slot's line and credit type
+    /// stay, and so do all other slots. Where `can_resend` was true of the port's seen credits, the Riding
+    /// slots are still no more than these.
+    ///
+    /// Conditions: the slot's number is below 8, and the slot is Retried.
+    /// Source: `docs/PROTOCOL.md`, "Slots and accounts", resend.
     #[tactic(auto, using(crate::proofs::Keeps::rides_within))]
     pub fn resend(&mut self, slot: Slot)
         requires slot { slot.0 < 8 }
@@ -182,7 +210,11 @@ impl Account {
         self.slots[usize::from(slot.0)].state = SlotState::Riding;
     }
 
-    /// The request isn't sent again: Retried becomes Cancelled.
+    /// The request isn't sent again: Retried becomes Cancelled. The slot's line and credit type stay, and so
+    /// do all other slots.
+    ///
+    /// Conditions: the slot's number is below 8, and the slot is Retried.
+    /// Source: `docs/PROTOCOL.md`, "Slots and accounts", cancel.
     pub fn cancel(&mut self, slot: Slot)
         requires slot { slot.0 < 8 }
         requires retried { state_at self.old slot.0 ≡ SlotState.Retried }
@@ -194,7 +226,11 @@ impl Account {
         self.slots[usize::from(slot.0)].state = SlotState::Cancelled;
     }
 
-    /// The requester's own part is over: an Admitted slot is marked so, and a Closing one becomes Idle.
+    /// The requester's own part is over: an Admitted slot is marked so, and a Closing one becomes Idle. All
+    /// other slots stay.
+    ///
+    /// Conditions: the slot's number is below 8, and the slot is Admitted or Closing.
+    /// Source: `docs/PROTOCOL.md`, "Slots and accounts", answered.
     pub fn answered(&mut self, slot: Slot)
         requires slot { slot.0 < 8 }
         requires waits { can_be_answered (state_at self.old slot.0) ≡ true }
@@ -212,7 +248,10 @@ impl Account {
     }
 
     /// The home's part is over: Admitted becomes Idle where the slot was answered, and Closing where it
-    /// wasn't. Answers the slot's entry.
+    /// wasn't. Answers the slot's entry. All other slots stay.
+    ///
+    /// Conditions: the slot's number is below 8, and the slot is Admitted.
+    /// Source: `docs/PROTOCOL.md`, "Slots and accounts", finished.
     pub fn finished(&mut self, slot: Slot) -> Entry
         requires slot { slot.0 < 8 }
         requires admitted { is_admitted (state_at self.old slot.0) ≡ true }
@@ -234,10 +273,14 @@ impl Account {
         entry
     }
 
-    /// The home let the resent request in: Riding becomes Admitted, with the entry of the lowest seen
-    /// credit of its type, which the port spends. It is never refused.
+    /// The home let the resent request in: Riding becomes Admitted, with the entry of the lowest seen credit
+    /// of its type, which the port spends. It is never refused. The slot's line and credit type stay, and so
+    /// do all other slots. The port has one seen credit of the type less, and of each other type as many as
+    /// before.
     ///
-    /// Condition: the port has seen no fewer credits of the slot's type than slots of the type are Riding.
+    /// Conditions: the slot's number is below 8, the slot is Riding, the port is one that this tracker gave,
+    /// and it has seen no fewer credits of the slot's type than slots of the type are Riding.
+    /// Source: `docs/PROTOCOL.md`, "Slots and accounts", arrive.
     pub fn arrive<A: Allocator>(
         &mut self,
         slot: Slot,
@@ -286,10 +329,13 @@ impl Account {
         self.slots[usize::from(slot.0)].state = SlotState::Admitted(entry);
     }
 
-    /// The lowest Cancelled slot of the type becomes Idle, and the port gives its credit back.
+    /// The lowest Cancelled slot of the type becomes Idle, and the port gives its credit back. All other
+    /// slots stay, and so does the port's hand. The port has one seen credit of the type less, and of each
+    /// other type as many as before.
     ///
-    /// Conditions: a slot of the type is Cancelled, and the port has seen a credit of the type beyond
-    /// those for the Riding slots.
+    /// Conditions: a slot of the type is Cancelled, the port is one that this tracker gave, and it has seen a
+    /// credit of the type beyond those for the Riding slots.
+    /// Source: `docs/PROTOCOL.md`, "Slots and accounts", give_back.
     #[tactic(auto, using(crate::proofs::Keeps::returned_within, crate::proofs::Keeps::returned_due, crate::proofs::Keeps::returned_entries))]
     pub fn give_back<A: Allocator>(
         &mut self,

@@ -30,6 +30,7 @@ pub enum SlotState {
 
 /// A slot: the state of its request, the request's line and credit type, and whether the requester's own
 /// part of it is over. Of a free slot all but the state means nothing.
+/// Source: `docs/PROTOCOL.md`, "Slots and accounts".
 #[derive(Clone, Copy, Debug, PartialEq, Eq)]
 pub struct SlotRecord {
     pub state: SlotState,

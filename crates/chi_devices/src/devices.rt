@@ -5,10 +5,12 @@ ghost use Rattle.std.specs.Io.KnownBytes.{ReadConsumes, Appends};
 ghost use Rattle.chi_devices.specs.Devices.{AppendsFront};
 
 /// A device failed, and counted it.
+/// Source: `docs/PROTOCOL.md`, "The program".
 #[derive(Clone, Copy, Debug, PartialEq, Eq)]
 pub struct Failed;
 
 /// What bytes are read from. It counts its failures, so that who called it can tell that it failed.
+/// Source: `docs/PROTOCOL.md`, "The program".
 pub trait Input {
     /// The bytes that are still to be read, where they are known.
     ghost left: { Self → Option (List ℕ) };
@@ -16,8 +18,11 @@ pub trait Input {
     /// How often a read failed.
     ghost failures: { Self → ℕ };
 
-    /// Reads bytes into the front of the buffer, and answers how many: 0 of a buffer with room only at
-    /// the end. A read that fails takes no byte, and counts.
+    /// Reads bytes into the front of the buffer, and answers how many: 0 of a buffer with room only at the
+    /// end. A read that fails takes no byte, and counts; where it succeeds the count of failures stays.
+    ///
+    /// Condition: the count of failures is below 2 ^ 64 - 1.
+    /// Source: `docs/PROTOCOL.md`, "The program".
     fn read(&mut self, buffer: &mut [u8]) -> Result<usize, Failed>
         requires { failures self.old + 1 < 2 ^ 64 }
         ensures bound { IfOk result (λ count. count ≤ length buffer.new) }
@@ -27,6 +32,7 @@ pub trait Input {
 }
 
 /// What bytes are written to. It counts its failures, so that who called it can tell that it failed.
+/// Source: `docs/PROTOCOL.md`, "The program".
 pub trait Output {
     /// The bytes that were written, where they are known.
     ghost written: { Self → Option (List ℕ) };
@@ -34,7 +40,11 @@ pub trait Output {
     /// How often a write failed.
     ghost failures: { Self → ℕ };
 
-    /// Writes all of the bytes. Where that fails it counts, and a front of them was written.
+    /// Writes all of the bytes. Where that fails it counts, and a front of them was written; where it
+    /// succeeds the count of failures stays.
+    ///
+    /// Condition: the count of failures is below 2 ^ 64 - 1.
+    /// Source: `docs/PROTOCOL.md`, "The program".
     fn write_all(&mut self, bytes: &[u8]) -> Result<(), Failed>
         requires { failures self.old + 1 < 2 ^ 64 }
         ensures written { OnOk result (Appends (written self.old) (written self.new) bytes.now) }

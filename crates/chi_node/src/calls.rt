@@ -22,15 +22,15 @@ use chi_tracker::Tracker;
 use std::alloc::Allocator;
 
 /// The requester's request that is in flight at the line arrives at the home. A first attempt is admitted
-/// where one claim gives an entry of its type; where each entry of the type was found claimed it is
-/// retried, and a credit of the type is owed. A resent request is always admitted, with the entry of a
-/// credit that is spent for it. The slice does Admit or Retry. No memory is taken, and nothing waited for.
+/// where one claim gives an entry of its type; where each entry of the type was found claimed it is retried,
+/// and a credit of the type is owed. A resent request is always admitted, with the entry of a credit that is
+/// spent for it. The slice does Admit or Retry. No memory is taken, and nothing waited for.
 ///
-/// Refused 10 (OutOfRange) for a line outside the node or of another slice, 7 (NoFlit) where no request of
-/// the requester is in flight there, and then 11 (NotOpen) exactly where the requester doesn't agree with
-/// the slice; nothing changes then. Conditions: the tracker is the requester's, and it has entries of each
-/// type of the node's profile. Whoever agreed with the slice before agrees with it after, and so does the
-/// requester with the node's other slices.
+/// Refused 10 (OutOfRange) for a requester whose number is none of the node's, or a line outside the node or
+/// of another slice, 7 (NoFlit) where no request of the requester is in flight there, and then 11 (NotOpen)
+/// exactly where the requester doesn't agree with the slice; nothing changes then. Conditions: the tracker is
+/// the requester's, and it has entries of each type of the node's profile. Whoever agreed with the slice
+/// before agrees with it after, and so does the requester with the node's other slices.
 /// Source: `docs/PROTOCOL.md`, "A requester and its calls".
 pub fn arrive_on<A: Allocator, B: Allocator>(
     slice: &mut Slice<A>,
@@ -122,9 +122,9 @@ fn do_action<A: Allocator>(slice: &mut Slice<A>, action: Action) -> Effect
 /// Refused as `Slice::act` refuses the action, with 3 (Pending) also where an Issue's slot isn't Idle in the
 /// account; then 12 (NoCredit) for a Resend without a seen credit of the pending request's type beyond
 /// those for Riding slots; then 11 (NotOpen) exactly where the requester doesn't agree with the slice.
-/// Nothing changes then. Conditions: the action is the requester's own, and the tracker its own. Whoever
-/// agreed with the slice before agrees with it after, and so does the requester with the node's other
-/// slices.
+/// Nothing changes then. Conditions: the action's agent is the requester, its step is neither Admit nor
+/// Retry, and the tracker is the requester's. Whoever agreed with the slice before agrees with it after, and
+/// so does the requester with the node's other slices.
 /// Source: `docs/PROTOCOL.md`, "A requester and its calls".
 pub fn step_on<A: Allocator, B: Allocator>(
     slice: &mut Slice<A>,

@@ -79,6 +79,7 @@ impl Requester {
     }
 
     /// The agent's number, below 8. Whoever asks for it knows what every requester keeps.
+    /// Source: `docs/PROTOCOL.md`, "A requester and its calls".
     pub fn number(&self) -> Agent
         ensures is { result.0 ≡ self.now.number }
         ensures kept { RequesterKept self.now.port.shape.sizes self.now }
@@ -86,7 +87,10 @@ impl Requester {
         self.number
     }
 
-    /// The slot, whose number is below 8.
+    /// The slot of this number, as the account has it.
+    ///
+    /// Condition: the slot's number is below 8.
+    /// Source: `docs/PROTOCOL.md`, "Slots and accounts".
     pub fn slot(&self, slot: Slot) -> SlotRecord
         requires { slot.0 < 8 }
         ensures { result ≡ slot_at self.now.slots slot.0 }
@@ -94,7 +98,8 @@ impl Requester {
         self.account.slot(slot)
     }
 
-    /// The lowest free slot.
+    /// The lowest free slot; `None` where no slot is free.
+    /// Source: `docs/PROTOCOL.md`, "Slots and accounts".
     pub fn lowest_idle(&self) -> Option<Slot>
         ensures some { IfSome result (λ slot. IsLowestIdle self.now.slots slot.0) }
         ensures none { IfNone result ((s : ℕ) → s < 8 → state_at self.now.slots s ≢ SlotState.Idle) }
@@ -103,13 +108,17 @@ impl Requester {
     }
 
     /// The seen credits by type, as the port has them. It does no step.
+    /// Source: `docs/PROTOCOL.md`, "Steps of the tracker", seen.
     pub fn seen(&self) -> [u32; 4]
         ensures { (t : ℕ) → t < 4 → slice_index result t ≡ seen_of self.now.port t }
     {
         self.port.seen()
     }
 
-    /// How many loads and stores the slice of that index, below 8, answered the requester.
+    /// How many loads and stores the slice of that index answered the requester.
+    ///
+    /// Condition: the index is below 8.
+    /// Source: `docs/PROTOCOL.md`, "A requester and its calls".
     pub fn count(&self, index: u8) -> u32
         requires { index < 8 }
         ensures { result ≡ slice_index self.now.counts index }
@@ -118,6 +127,7 @@ impl Requester {
     }
 
     /// Whether a seen credit of the type is left beside those for the Riding slots.
+    /// Source: `docs/PROTOCOL.md`, "Slots and accounts", can_resend.
     pub fn can_resend(&self, ty: CreditType) -> bool
         ensures { IsTrue result ↔ (riding_of self.now.slots (credit_number ty) < seen_of self.now.port (credit_number ty)) }
     {
@@ -144,6 +154,7 @@ impl Requester {
     /// agreed with.
     ///
     /// Condition: the tracker is the requester's.
+    /// Source: `docs/PROTOCOL.md`, "A requester and its calls", see.
     #[tactic(auto, using(crate::proofs::Keeps::saw_within, crate::proofs::CreditCalls::ported_agrees))]
     pub fn see<A: Allocator>(&mut self, tracker: &Tracker<A>) -> [u32; 4]
         requires { self.old.table ≡ tracker.now.table }
@@ -157,11 +168,13 @@ impl Requester {
     }
 
     /// The lowest Cancelled slot of the type becomes Idle, and the port gives the lowest seen credit of the
-    /// type back. The requester agrees with each slice that it agreed with.
+    /// type back. Nothing but the port and that slot changes; the requester agrees with each slice that it
+    /// agreed with. What the contract says of the release is told at `Port::release`.
     ///
-    /// Refused 10 (OutOfRange) where the tracker has no entries of the type, and then 12 (NoCredit) where
-    /// no slot of the type is Cancelled, or no seen credit is beyond those for the Riding slots; nothing
-    /// changes then. Condition: the tracker is the requester's.
+    /// Refused 10 (OutOfRange) where the tracker has no entries of the type, and then 12 (NoCredit) where no
+    /// slot of the type is Cancelled, or no seen credit is beyond those for the Riding slots; nothing changes
+    /// then. Condition: the tracker is the requester's.
+    /// Source: `docs/PROTOCOL.md`, "A requester and its calls", give back.
     pub fn give_back<A: Allocator>(
         &mut self,
         tracker: &Tracker<A>,
@@ -185,12 +198,13 @@ impl Requester {
     }
 
     /// Where a requester shows an owed credit of the type, an entry of the type is claimed and released.
-    /// `None` where no credit of the type was seen owed, or each entry of the type was found claimed.
-    /// Nothing but the port changes, and its credits and its hand stay; the requester agrees with each slice
-    /// that it agreed with.
+    /// `None` where no credit of the type was seen owed, or each entry of the type was found claimed. What of
+    /// this the contract says is told at `Port::tend`. Nothing but the port changes, and its credits and its
+    /// hand stay; the requester agrees with each slice that it agreed with.
     ///
     /// Refused 10 (OutOfRange) exactly where the tracker has no entries of the type; nothing changes then.
     /// Condition: the tracker is the requester's.
+    /// Source: `docs/PROTOCOL.md`, "A requester and its calls", tend.
     pub fn tend<A: Allocator>(
         &mut self,
         tracker: &Tracker<A>,

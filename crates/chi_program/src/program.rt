@@ -17,6 +17,7 @@ use std::rt::{Env, Files};
 use std::{env, fmt, io};
 
 /// Why the program didn't do what it was asked for. Its text is the line on standard error.
+/// Source: `docs/PROTOCOL.md`, "The program".
 #[derive(Clone, Copy, Debug, PartialEq, Eq)]
 pub enum Stop {
     /// The command line isn't followed.

@@ -64,11 +64,13 @@ fn text_of_input<A: Allocator + Copy, I: Input>(alloc: A, input: &mut I) -> Resu
 
 /// Runs the commands of the file that the input has, on one thread, and writes the answer of each.
 ///
-/// At `Ok` the input was a good file, and the text of its commands, under answers that the tracker may
-/// give, was written, no more. Where the file is faulty nothing is written, and the fault is that of its
-/// first faulty line, or `TooLarge`, unless `Read` or `NoMemory` came first. `Read` and `Write` come only
-/// where that device counted a failure. After `Write` a beginning of such a text was written; after any
-/// other fault nothing was.
+/// At `Ok` the input was a good file, and the text of its commands, under answers that the tracker may give,
+/// was written, no more. Where the file is faulty nothing is written, and the fault is that of its first
+/// faulty line, or `TooLarge`, unless `Read` or `NoMemory` came first. `Read` and `Write` come only where
+/// that device counted a failure. After `Write` a beginning of such a text was written; after any other fault
+/// nothing was.
+///
+/// Conditions: the counts of failures of the input and of the output are below 2 ^ 64 - 1.
 /// Source: `docs/PROTOCOL.md`, "Replay files" and "The program".
 pub fn replay<A: Allocator + Copy, I: Input, O: Output>(
     alloc: A,

@@ -17,6 +17,7 @@ use std::alloc::Allocator;
 pub const MOST_BYTES: usize = 1_048_576;
 
 /// A good replay file: the sizes of the system, and the commands in order.
+/// Source: `docs/PROTOCOL.md`, "Replay files".
 #[derive(Drop)]
 pub struct Script<A: Allocator> {
     pub header: Header,

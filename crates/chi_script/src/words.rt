@@ -7,6 +7,7 @@ use std::alloc::{AllocError, Allocator};
 
 /// Makes the list that of the words of a line, which is given without its line end: one space stands
 /// between two of them. The list keeps its room, so that few lines want memory.
+/// Source: `docs/PROTOCOL.md`, "Bytes, lines and numbers".
 pub fn read_words<'a, A: Allocator>(
     words: &mut Vec<&'a [u8], A>,
     line: &'a [u8],

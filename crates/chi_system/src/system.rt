@@ -55,6 +55,7 @@ impl<A: Allocator> Model for System<A> {
 impl<A: Allocator + Copy> System<A> {
     /// A node of that size in its opening state. All memory that it ever needs is found here; refused where
     /// it runs out.
+    /// Source: `docs/PROTOCOL.md`, "A requester and its calls".
     pub fn new(alloc: A, config: &Config) -> Result<System<A>, NoMemory>
         ensures opening { IfOk result (λ system. (table : TableId) × (system ≡ opening_system config.now table)) }
         ensures kept { IfOk result IsSystem }
@@ -70,11 +71,12 @@ impl<A: Allocator + Copy> System<A> {
 
 impl<A: Allocator> System<A> {
     /// The agent's request that is in flight at the line arrives at the home: it is admitted, or retried
-    /// where each entry of its type was found claimed. A resent request is always admitted.
+    /// where each entry of its type was found claimed. A resent request is always admitted. The other slices
+    /// and all other requesters stay.
     ///
     /// Refused 10 (OutOfRange) where the agent or the line is outside the node, and then 7 (NoFlit) where no
     /// request of the agent is in flight there; nothing changes then.
-    /// Source: `docs/PROTOCOL.md`, "A requester and its calls".
+    /// Source: `docs/PROTOCOL.md`, "A requester and its calls", Arrival.
     pub fn arrive(&mut self, agent: Agent, line: Line) -> Result<Arrived, Refusal>
         ensures refusal { refusal_of result ≡ arrive_refusal self.old agent.0 line.0 }
         ensures ok { IfOk result (λ arrived. ArrivesIn self.old self.new agent line arrived) }
@@ -88,7 +90,7 @@ impl<A: Allocator> System<A> {
     }
 
     /// The agent does an action other than Admit and Retry, which are an arrival's. Where it completes a
-    /// request, the slot's entry is released.
+    /// request, the slot's entry is released. The other slices and all other requesters stay.
     ///
     /// Refused as `step_on` of chi_node refuses it of the line's slice and of the agent's requester, but
     /// never with 11; nothing changes then.
@@ -108,10 +110,10 @@ impl<A: Allocator> System<A> {
     }
 
     /// The agent looks at what is promised to it, one step on each of the tracker's four words, and is told
-    /// the seen credits by type.
+    /// the seen credits by type. The slices and all other requesters stay.
     ///
     /// Refused 10 (OutOfRange) exactly where the agent is none of the node's; nothing changes then.
-    /// Source: `docs/PROTOCOL.md`, "A requester and its calls".
+    /// Source: `docs/PROTOCOL.md`, "A requester and its calls", see.
     pub fn see(&mut self, agent: Agent) -> Result<[u32; 4], Refusal>
         ensures refusal { refusal_of result ≡ agent_refusal self.old agent.0 }
         ensures ok { IfOk result (λ seen. SeesIn self.old self.new agent seen) }
@@ -126,12 +128,12 @@ impl<A: Allocator> System<A> {
     }
 
     /// The agent's lowest Cancelled slot of the type becomes Idle, and its lowest seen credit of the type is
-    /// given back. `None` is a number that names no type.
+    /// given back. The slices and all other requesters stay. `None` is a number that names no type.
     ///
     /// Refused 10 (OutOfRange) where the agent is none of the node's, or the type none of the profile's, and
     /// then 12 (NoCredit) where no slot of the type is Cancelled, or no seen credit is beyond those for the
     /// Riding slots; nothing changes then.
-    /// Source: `docs/PROTOCOL.md`, "A requester and its calls".
+    /// Source: `docs/PROTOCOL.md`, "A requester and its calls", give back.
     pub fn give_back(
         &mut self,
         agent: Agent,
@@ -149,11 +151,12 @@ impl<A: Allocator> System<A> {
 
     /// Where a requester shows an owed credit of the type, the agent claims an entry of the type and releases
     /// it. `None` is answered where no credit of the type was seen owed, or each entry of the type was found
-    /// claimed. A type of `None` is a number that names no type.
+    /// claimed. What of this the contract says is told at `Port::tend` of chi_tracker. The slices and all
+    /// other requesters stay. A type of `None` is a number that names no type.
     ///
     /// Refused 10 (OutOfRange) exactly where the agent is none of the node's, or the type none of the
     /// profile's; nothing changes then.
-    /// Source: `docs/PROTOCOL.md`, "A requester and its calls".
+    /// Source: `docs/PROTOCOL.md`, "A requester and its calls", tend.
     pub fn tend(
         &mut self,
         agent: Agent,
@@ -221,6 +224,7 @@ impl<A: Allocator> System<A> {
     /// All parts of a line, as plain data.
     ///
     /// Refused 10 (OutOfRange) exactly where the line is outside the node.
+    /// Source: `docs/PROTOCOL.md`, "One line".
     pub fn view(&self, line: Line) -> Result<LineView, Refusal>
         ensures shown { IfOk result (λ view. view ≡ shown (line_of_home self.now.home line.0) (last_of self.now.home line.0)) }
         ensures refusal { refusal_of result ≡ view_refusal self.now.home line.0 }
@@ -231,6 +235,7 @@ impl<A: Allocator> System<A> {
     /// What is in flight between an agent and the home for a line.
     ///
     /// Refused 10 (OutOfRange) exactly where the agent or the line is outside the node.
+    /// Source: `docs/PROTOCOL.md`, "Messages".
     pub fn flits(&self, agent: Agent, line: Line) -> Result<Cells, Refusal>
         ensures cells { IfOk result (λ cells. cells ≡ cells_of (line_of_home self.now.home line.0) agent.0) }
         ensures refusal { refusal_of result ≡ flits_refusal self.now.home agent.0 line.0 }
@@ -248,6 +253,7 @@ impl<A: Allocator> System<A> {
     }
 
     /// The size of the node. Whoever asks for it knows what every node keeps.
+    /// Source: `docs/PROTOCOL.md`, "Limits".
     pub fn config(&self) -> &Config
         ensures is { result.now ≡ self.now.home.config }
         ensures kept { IsSystem self.now }
@@ -264,8 +270,9 @@ impl<A: Allocator> System<A> {
         self.home.agrees(self.requesters.as_slice())
     }
 
-    /// How many entries of each type are free, in hand and promised, and how many credits are owed, as
-    /// the tracker's words show it.
+    /// How many entries of each type are free, in hand and promised, and how many credits are owed, as the
+    /// tracker's words show it. The contract promises only that the call returns.
+    /// Source: `docs/PROTOCOL.md`, "Totals".
     pub fn glance(&self) -> Counts {
         self.tracker.glance()
     }

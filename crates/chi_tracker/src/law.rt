@@ -7,6 +7,7 @@ use crate::view::SeatView;
 use atomic_table::{Seat, Shared, TableRule};
 
 /// What holds between any two atomic steps.
+/// Source: `docs/PROTOCOL.md`, "The rule between steps".
 pub struct Law;
 
 impl TableRule<u8, SeatView, Shape> for Law {
@@ -24,12 +25,14 @@ impl Law {
 
     /// Between any two atomic steps each entry is free, in the hand of exactly one port, or promised to
     /// exactly one requester. Does nothing: its contract is the law.
+    /// Source: `docs/PROTOCOL.md`, "The rule between steps", place.
     pub fn place()
         ensures { (key : Shape) (st : State ℕ SeatView) → TrackerRule key st → Places key st }
     {}
 
     /// Between any two atomic steps, for each requester and type the retries are the credits owed, under
     /// duty, promised, spent and returned. Does nothing: its contract is the law.
+    /// Source: `docs/PROTOCOL.md`, "The rule between steps", ledger.
     pub fn ledger()
         ensures { (key : Shape) (st : State ℕ SeatView) → TrackerRule key st → Ledgers key st }
     {}
@@ -37,6 +40,7 @@ impl Law {
     /// Between any two atomic steps each credit that a port has seen is promised to its requester, the
     /// entry of a port's duty is in hand and of the duty's type, and the place that a port has noted is
     /// clear. Does nothing: its contract is the law.
+    /// Source: `docs/PROTOCOL.md`, "The rule between steps".
     pub fn knowledge()
         ensures { (key : Shape) (st : State ℕ SeatView) → TrackerRule key st → AllKnow key st }
     {}

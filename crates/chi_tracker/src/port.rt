@@ -24,9 +24,11 @@ use std::alloc::Allocator;
 use std::marker::Model;
 
 /// A requester's port to the tracker. A port that `Tracker::new` didn't give (`Port::default`) is of no
-/// tracker, and no call takes it.
+/// tracker, and no call that does a step can be made with it.
 ///
-/// Each call takes the tracker by reference; it takes no memory, no lock and waits for nobody.
+/// Each call that does a step takes the tracker by reference. No call takes memory or a lock, or waits for
+/// anybody.
+/// Source: `docs/PROTOCOL.md`, "Words of the tracker".
 #[derive(Drop)]
 pub struct Port {
     chair: Option<Chair>,
@@ -108,10 +110,11 @@ impl Port {
     }
 
     /// Tries the entries of the type from the lowest, in one scan, until one is free: it comes to hand.
-    /// None only where each entry of the type was found claimed by a step of this call.
+    /// `None` only where each entry of the type was found claimed by a step of this call. Nothing else comes
+    /// to hand, and the port's credits stay.
     ///
     /// Conditions: the port is one that this tracker gave, and the type has entries.
-    /// Source: `docs/PROTOCOL.md`, "Steps of the tracker".
+    /// Source: `docs/PROTOCOL.md`, "Steps of the tracker", claim.
     #[tactic(auto, using(crate::proofs::BitLaws::with_here, crate::proofs::Entries::of_credit, crate::proofs::Entries::scan_found))]
     pub fn claim<A: Allocator>(&mut self, tracker: &Tracker<A>, ty: CreditType) -> Option<Entry>
         requires table { self.old.table ≡ tracker.now.table }
@@ -136,9 +139,10 @@ impl Port {
         }
     }
 
-    /// Frees an entry in hand.
+    /// Frees an entry in hand. The port's other entries in hand and its credits stay.
     ///
     /// Conditions: the port is one that this tracker gave, and the entry is in its hand.
+    /// Source: `docs/PROTOCOL.md`, "Steps of the tracker", free.
     pub fn free<A: Allocator>(&mut self, tracker: &Tracker<A>, entry: Entry)
         requires table { self.old.table ≡ tracker.now.table }
         requires entry { has entry.0 self.old.port ≡ 1 }
@@ -153,11 +157,13 @@ impl Port {
         self.chair = Some(chair);
     }
 
-    /// Owes the requester one more credit of the type: it looks at its own word of owed credits and sets
-    /// the lowest clear place there.
+    /// Owes the requester one more credit of the type: it looks at its own word of owed credits and sets the
+    /// lowest clear place there. The port's retries of the type are one more, and nothing else that it knows
+    /// changes.
     ///
-    /// Conditions: the port is one that this tracker gave, the type has entries, and fewer than 8 credits
-    /// of the type are due.
+    /// Conditions: the port is one that this tracker gave, the type has entries, and fewer than 8 credits of
+    /// the type are due.
+    /// Source: `docs/PROTOCOL.md`, "Steps of the tracker", owe.
     pub fn owe<A: Allocator>(&mut self, tracker: &Tracker<A>, ty: CreditType)
         requires table { self.old.table ≡ tracker.now.table }
         requires entries { 0 < size self.old.port.shape (credit_number ty) }
@@ -176,9 +182,11 @@ impl Port {
     }
 
     /// Looks at what is promised to the port, one step on each of its four words, and answers the seen
-    /// credits by type.
+    /// credits by type. A credit that was seen before is seen still. The port's hand, and what it has counted
+    /// of its credits, stay.
     ///
     /// Condition: the port is one that this tracker gave.
+    /// Source: `docs/PROTOCOL.md`, "Steps of the tracker", see.
     pub fn see<A: Allocator>(&mut self, tracker: &Tracker<A>) -> [u32; 4]
         requires table { self.old.table ≡ tracker.now.table }
         ensures table { self.new.table ≡ self.old.table }
@@ -199,6 +207,7 @@ impl Port {
     }
 
     /// The seen credits by type, as the port has them. It does no step.
+    /// Source: `docs/PROTOCOL.md`, "Steps of the tracker", seen.
     pub fn seen(&self) -> [u32; 4]
         ensures { (t : ℕ) → t < 4 → slice_index result t ≡ seen_of self.now.port t }
     {
@@ -206,6 +215,7 @@ impl Port {
     }
 
     /// The credits due by type: retries less spent and returned credits, 0 to 8. It does no step.
+    /// Source: `docs/PROTOCOL.md`, "The rule between steps".
     pub fn due(&self) -> [u32; 4]
         ensures few { (t : ℕ) → t < 4 → slice_index result t ≤ 8 }
         ensures is { (t : ℕ) → t < 4 → slice_index result t + (slice_index self.now.port.spent t + slice_index self.now.port.returned t) ≡ slice_index self.now.port.retries t }
@@ -214,9 +224,11 @@ impl Port {
         due
     }
 
-    /// Spends the lowest seen credit of the type: its entry comes to hand.
+    /// Spends the lowest seen credit of the type: its entry, which wasn't in hand, comes to hand. One seen
+    /// credit of the type is less, and of each other type there are as many as before.
     ///
     /// Conditions: the port is one that this tracker gave, and has a seen credit of the type.
+    /// Source: `docs/PROTOCOL.md`, "Steps of the tracker", spend.
     pub fn spend<A: Allocator>(&mut self, tracker: &Tracker<A>, ty: CreditType) -> Entry
         requires table { self.old.table ≡ tracker.now.table }
         requires credit { 0 < seen_of self.old.port (credit_number ty) }
@@ -245,8 +257,16 @@ impl Port {
     /// first of which it can settle an owed credit of the entry's type; where there is none, the entry is
     /// freed.
     ///
+    /// The contract says that the entry left the hand, and that it was promised to the requester that is
+    /// answered, which is one of the tracker's, or freed after a sweep of its type that this call opened and
+    /// that came to the last requester with no bit left. The port's other entries in hand and its credits
+    /// stay. That it was the first requester in rising order isn't in the contract. That a credit of the type
+    /// was owed to it isn't either, and follows from the law that each step keeps (`Law::ledger`): one more
+    /// promise to a requester is one less of the credits that were owed to it.
+    ///
     /// Conditions: the port is one that this tracker gave, and the entry is one of the tracker's and in its
     /// hand.
+    /// Source: `docs/PROTOCOL.md`, "Steps of the tracker", release.
     pub fn release<A: Allocator>(&mut self, tracker: &Tracker<A>, entry: Entry) -> Released
         requires table { self.old.table ≡ tracker.now.table }
         requires entry { (entry.0 < low self.old.port.shape 4) × (has entry.0 self.old.port ≡ 1) }
@@ -266,10 +286,13 @@ impl Port {
         released
     }
 
-    /// Gives back the lowest seen credit of the type, which counts as returned and not as spent, and
-    /// releases its entry.
+    /// Gives back the lowest seen credit of the type, which counts as returned and not as spent, and releases
+    /// its entry as `release` does; what the contract says of the release is what is said there. The port's
+    /// hand is as it was. One seen credit of the type is less, and of each other type there are as many as
+    /// before.
     ///
     /// Conditions: the port is one that this tracker gave, and has a seen credit of the type.
+    /// Source: `docs/PROTOCOL.md`, "Steps of the tracker", give_back.
     pub fn give_back<A: Allocator>(&mut self, tracker: &Tracker<A>, ty: CreditType) -> Released
         requires table { self.old.table ≡ tracker.now.table }
         requires credit { 0 < seen_of self.old.port (credit_number ty) }
@@ -293,9 +316,16 @@ impl Port {
     }
 
     /// Where a requester shows an owed credit of the type, claims an entry of the type and releases it.
-    /// None where no credit of the type was seen owed, or each entry of the type was found claimed.
+    /// `None` where no credit of the type was seen owed, or each entry of the type was found claimed.
+    ///
+    /// The contract says that an entry of the type, which wasn't in hand, was claimed in a scan of this call
+    /// and went where `release` says; or, with `None`, that a sweep of the type that this call opened came to
+    /// the last requester with no bit left, or that a scan of this call found each entry of the type claimed.
+    /// The port's hand and its credits are as they were. That a requester showed an owed credit before the
+    /// claim isn't in the contract.
     ///
     /// Conditions: the port is one that this tracker gave, and the type has entries.
+    /// Source: `docs/PROTOCOL.md`, "Steps of the tracker", tend.
     #[tactic(auto, using(crate::proofs::Sweeps::tended_hand))]
     pub fn tend<A: Allocator>(&mut self, tracker: &Tracker<A>, ty: CreditType) -> Option<Released>
         requires table { self.old.table ≡ tracker.now.table }

@@ -3,6 +3,7 @@
 use chi_flit::Agent;
 
 /// Where a released entry went.
+/// Source: `docs/PROTOCOL.md`, "Steps of the tracker", release.
 #[derive(Clone, Copy, Debug, PartialEq, Eq)]
 pub enum Released {
     /// It was promised to this requester, for a credit that was owed to it.

@@ -3,6 +3,7 @@
 use chi_flit::CreditType;
 
 /// The entries by credit type, which are numbered by rising type, and the number of requesters.
+/// Source: `docs/PROTOCOL.md`, "Limits".
 #[derive(Clone, Copy, Debug, PartialEq, Eq)]
 pub struct Shape {
     pub sizes: [usize; 4],

@@ -3,6 +3,7 @@
 use arrayvec::ArrayVec;
 
 /// Entries and owed credits by type.
+/// Source: `docs/PROTOCOL.md`, "Totals".
 #[derive(Clone, Copy, Debug, PartialEq, Eq)]
 pub struct Counts {
     /// Entries that nobody claimed.
@@ -16,6 +17,7 @@ pub struct Counts {
 }
 
 /// A requester's credits by type.
+/// Source: `docs/PROTOCOL.md`, "The rule between steps", ledger.
 #[derive(Clone, Copy, Debug, Default, PartialEq, Eq)]
 pub struct Credits {
     /// Credits due: retries less spent and returned ones.
@@ -27,6 +29,7 @@ pub struct Credits {
 }
 
 /// What a tracker had at its end: the counts of all, and the credits of each requester in rising order.
+/// Source: `docs/PROTOCOL.md`, "Totals" and "The rule between steps".
 #[derive(Drop)]
 pub struct Totals {
     pub counts: Counts,

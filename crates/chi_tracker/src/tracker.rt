@@ -23,6 +23,7 @@ use std::marker::Model;
 
 /// The entries and the credits of a home node, in words that ports change by single atomic steps.
 /// Contracts see which words they are, the entries by type and the number of requesters.
+/// Source: `docs/PROTOCOL.md`, "Words of the tracker".
 #[derive(Drop)]
 pub struct Tracker<A: Allocator> {
     pub(crate) table: Table<u8, SeatView, Shape, Law, A>,
@@ -111,8 +112,9 @@ impl<A: Allocator> Tracker<A> {
         Totals { counts, requesters }
     }
 
-    /// Loads the words one after the other and counts what they held. Beside ports that do steps it
-    /// promises only to return.
+    /// Loads the words one after the other and counts what they held, by type. Ports may do steps between two
+    /// loads; the contract promises only that the call returns.
+    /// Source: `docs/PROTOCOL.md`, "Totals".
     pub fn glance(&self) -> Counts {
         let board = self.board();
         let mut words = [0; 44];

@@ -7,6 +7,7 @@ use std::marker::Model;
 
 /// The ports that a seat stands for: one, or all of those that were joined. It has no bytes, and no
 /// value of it is made.
+/// Source: `docs/PROTOCOL.md`, "Words of the tracker".
 pub struct SeatView {
     pub ghost ports: { List PortView },
 }
