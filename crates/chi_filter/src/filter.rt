@@ -167,7 +167,7 @@ impl Filter {
     }
 
     /// Makes the agent the owner in place of any other, where it is named; who is named and the flag stay.
-    /// Nothing changes where it isn't named.
+    /// Nothing changes where it isn't named. Conditions: the agent's number is below 8.
     /// Source: `docs/PROTOCOL.md`, "Answers of snooped agents".
     pub fn make_owner(&mut self, agent: Agent)
         requires { agent.0 < 8 }

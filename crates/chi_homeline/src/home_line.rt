@@ -261,7 +261,8 @@ impl HomeLine {
     /// and the agent is the owner after `SD`, and no owner after any other answer. Answers the completion
     /// that is to be sent, where this was the last answer.
     ///
-    /// Who isn't named isn't snooped: its answer changes nothing, and None is answered.
+    /// Who isn't named isn't snooped: its answer changes nothing, and None is answered. Conditions: the
+    /// agent's number is below 8.
     /// Source: `docs/PROTOCOL.md`, "Answers of snooped agents".
     pub fn snp_resp(&mut self, agent: Agent, answer: SnoopAnswer) -> Option<Completion>
         requires { agent.0 < 8 }
@@ -327,7 +328,8 @@ impl HomeLine {
 
     /// Takes the agent's write data: dirty data becomes the memory, the agent is no owner and, where no
     /// copy is left to it, named no more, and the line is idle. Answers the slot of the request that is
-    /// complete, or None where no write data of the agent is awaited; nothing changes then.
+    /// complete, or None where no write data of the agent is awaited; nothing changes then. Conditions: the
+    /// agent's number is below 8.
     /// Source: `docs/PROTOCOL.md`, "Write data".
     pub fn wr_data(&mut self, agent: Agent, form: State, words: Data) -> Option<Slot>
         requires { agent.0 < 8 }
