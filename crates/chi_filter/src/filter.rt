@@ -79,8 +79,8 @@ impl Filter {
         requires { agent.0 < 8 }
         ensures { self.new ≡ added self.old agent.0 }
     {
-        self.unique = self.unique && self.named[agent.0 as usize];
-        self.named[agent.0 as usize] = true;
+        self.unique = self.unique && self.named[usize::from(agent.0)];
+        self.named[usize::from(agent.0)] = true;
     }
 
     /// Names the agent no more: it is no owner then, and the flag ends where nobody else is named. All
@@ -173,7 +173,7 @@ impl Filter {
         requires { agent.0 < 8 }
         ensures { self.new ≡ owner_made self.old agent }
     {
-        if self.named[agent.0 as usize] {
+        if self.named[usize::from(agent.0)] {
             self.owner = Some(agent);
         }
     }

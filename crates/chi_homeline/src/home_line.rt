@@ -59,7 +59,7 @@ impl HomeLine {
         requires { agent.0 < 8 }
         ensures { self.new ≡ admitted self.old agent.0 request }
     {
-        self.waiting[agent.0 as usize] = Some(request);
+        self.waiting[usize::from(agent.0)] = Some(request);
     }
 
     /// The agent's waiting request, where it may be started.
@@ -68,7 +68,7 @@ impl HomeLine {
         ensures refusal { refusal_of result ≡ start_refusal self.now agent.0 }
         ensures request { IfOk result (λ request. waiting_of self.now agent.0 ≡ Some request) }
     {
-        let Some(request) = self.waiting[agent.0 as usize] else {
+        let Some(request) = self.waiting[usize::from(agent.0)] else {
             return Err(Refusal::NotWaiting);
         };
         if !matches!(self.serving, Serving::Idle) {
@@ -121,7 +121,7 @@ impl HomeLine {
         ensures err { OnErr result (self.new ≡ self.old) }
     {
         let request = self.to_start(agent)?;
-        self.waiting[agent.0 as usize] = None;
+        self.waiting[usize::from(agent.0)] = None;
         Ok(self.take_up(agent, request))
     }
 
@@ -253,7 +253,7 @@ impl HomeLine {
         requires { agent.0 < 8 }
         ensures { result ≡ waiting_of self.now agent.0 }
     {
-        self.waiting[agent.0 as usize]
+        self.waiting[usize::from(agent.0)]
     }
 
     /// Takes the agent's answer to its snoop, which is awaited no more. Data of a `_PD` form becomes the

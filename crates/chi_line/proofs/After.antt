@@ -39,6 +39,8 @@ use Rattle.chi_line.proofs.Starts.{kept_started}
 use Rattle.chi_line.proofs.RetryKeeps.{kept_cancelled, kept_dropped, kept_evict_received, kept_resent, kept_retried, kept_retry_received, kept_stored}
 use Rattle.chi_line.proofs.CopyKeeps.{kept_comp_received, kept_dbid_received, kept_snooped}
 use Rattle.chi_line.proofs.WriteKeeps.{kept_written}
+use Rattle.chi_line.proofs.Answered.{answered_case}
+use Rattle.chi_line.proofs.Finished.{answered_is}
 use Rattle.chi_line.proofs.AnswerKeeps.{kept_none_answered, kept_none_sent, kept_owner_sent, kept_shared_answered, kept_shared_sent}
 
 -- an Issue that isn't refused: its slot is idle, nothing is pending, the copy is in the needed state
@@ -132,13 +134,17 @@ brought (Some SnpRespI) sent answer h = let e : answers.I ≡ answer = cc (h) in
 brought (Some SnpRespSC) sent answer h = let e : answers.SC ≡ answer = cc (h) in subst (Brings (Some SnpRespSC) sent) e refl
 brought (Some CompAck) sent answer h = brought_data (Some CompAck) sent answer h
 
+kept_answered_case : (last : List ℕ) (s : LineState) (agent : Agent) (answer : SnoopAnswer) → agent.0 < 8
+    → Brings (cells_of s agent.0).rsp_up (cells_of s agent.0).dat_up answer → Kept last s → Kept last (answered_case s agent answer)
+kept_answered_case last s agent answers.I low here k = kept_none_answered last s agent.0 low here k
+kept_answered_case last s agent answers.SC low here k = kept_shared_answered last s agent.0 low here k
+kept_answered_case last s agent (answers.IPD words) low here k = kept_none_sent last s agent.0 words low here k
+kept_answered_case last s agent (answers.SCPD words) low here k = kept_shared_sent last s agent.0 words low here k
+kept_answered_case last s agent (answers.SD words) low here k = kept_owner_sent last s agent words low here k
+
 kept_answered_by : (last : List ℕ) (s : LineState) (agent : Agent) (answer : SnoopAnswer) → agent.0 < 8
     → Brings (cells_of s agent.0).rsp_up (cells_of s agent.0).dat_up answer → Kept last s → Kept last (answered_by s agent answer)
-kept_answered_by last s agent answers.I low here k = kept_none_answered last s agent.0 low here k
-kept_answered_by last s agent answers.SC low here k = kept_shared_answered last s agent.0 low here k
-kept_answered_by last s agent (answers.IPD words) low here k = kept_none_sent last s agent.0 words low here k
-kept_answered_by last s agent (answers.SCPD words) low here k = kept_shared_sent last s agent.0 words low here k
-kept_answered_by last s agent (answers.SD words) low here k = kept_owner_sent last s agent words low here k
+kept_answered_by last s agent answer low here k = subst (Kept last) (answered_is s agent answer) (kept_answered_case last s agent answer low here k)
 
 kept_completion : (last : List ℕ) (s : LineState) (n : ℕ) (there : Option RspDown) → n < 8
     → (cells_of s n).rsp_down ≡ there → Kept last s → Kept last (completion_received s n there)

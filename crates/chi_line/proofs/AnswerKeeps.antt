@@ -23,7 +23,7 @@ use Rattle.chi_homeline.specs.Home.{left_owner, left_shared}
 use Rattle.chi_line.specs.LineState.{LineState, rn_of, cells_of}
 use Rattle.chi_line.specs.Coherent.{IsClean}
 use Rattle.chi_line.specs.Kept.{Lane, LaneKept, IsServedInRange, Kept, invalidates, is_answer, is_read, is_snoop_data, lane, shares, snoop_out}
-use Rattle.chi_line.specs.Step.{answered_line, finished, finished_for, completed_with, none_answered, shared_answered, none_sent, shared_sent, owner_sent}
+use Rattle.chi_line.proofs.Answered.{answered_line, finished, finished_for, completed_with, none_answered, shared_answered, none_sent, shared_sent, owner_sent}
 use Rattle.chi_line.proofs.Frame.{IsCleanLane, Moves, Puts, moves_by, puts_set, puts_nothing, lanes_by, clean_by}
 use Rattle.chi_line.proofs.Asks.{none_in, left_in, left_out, same, apart}
 use Rattle.chi_line.proofs.CompleteLanes.{read_from_none}

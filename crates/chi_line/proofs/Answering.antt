@@ -1,5 +1,5 @@
 -- The completion that the last answer brings: to whom it goes, and the cell that it finds empty.
-use Rattle.std.proofs.Common.{◌≡◌, ℕ, zero, suc, ◌<◌, List, [], ◌∷◌, Bool, true, false, Option, Some, None, is_some, Result, Ok, Err, OnOk, length, get_or, set, refl, ap, subst, sym, ◌∙◌, if◌then◌else◌, arith}
+use Rattle.std.proofs.Common.{◌≡◌, ℕ, zero, suc, ◌<◌, List, [], ◌∷◌, Bool, true, false, Option, Some, None, is_some, Result, Ok, Err, OnOk, length, get_or, set, refl, ap, subst, ◌∙◌, if◌then◌else◌, arith}
 use Rattle.std.proofs.lemmas.List.{get_or-set_same}
 use Rattle.chi_flit.specs.declared.numbers.Agent.{Agent}
 use Rattle.chi_flit.specs.declared.numbers.Slot.{Slot}
@@ -25,7 +25,6 @@ use Rattle.chi_line.specs.LineState.{LineState}
 use Rattle.chi_line.specs.Kept.{snoops_for}
 use Rattle.chi_line.specs.Refused.{no_flit_unless}
 use Rattle.chi_line.specs.Step.{answered_by, where_some}
-use Rattle.chi_line.proofs.Finished.{answered_is}
 use Rattle.chi_line.specs.Snooped.{answer_channel, completion_put}
 use Rattle.chi_line.proofs.Sends.{completion_down}
 
@@ -110,7 +109,7 @@ answer_leaves part (Err refusal) o s agent new refused leaves = tt
 -- and the requesters stay
 answered_requesters : (s : LineState) (agent : Agent) (o : Option SnoopAnswer) → s.requesters ≡ (where_some s o (answered_by s agent)).requesters
 answered_requesters s agent None = refl
-answered_requesters s agent (Some answer) = sym (ap (λ (l : LineState). l.requesters) (answered_is s agent answer))
+answered_requesters s agent (Some answer) = refl
 
 pub requesters_stay : (result : Result Effect Refusal) (s : LineState) (agent : Agent) (o : Option SnoopAnswer) → OnOk result (s.requesters ≡ (where_some s o (answered_by s agent)).requesters)
 requesters_stay (Ok effect) s agent o = answered_requesters s agent o

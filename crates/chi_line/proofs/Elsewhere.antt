@@ -44,7 +44,6 @@ use Rattle.chi_line.specs.Step.{admitted_line, after_step, answer_in, answered_b
 use Rattle.chi_line.proofs.After.{flit_there, start_allowed}
 use Rattle.chi_line.proofs.Facts.{acked_for_ack}
 use Rattle.chi_line.proofs.Finds.{idle_is}
-use Rattle.chi_line.proofs.Finished.{answered_is, answered_parts}
 use Rattle.chi_line.proofs.Keeps.{not_served}
 use Rattle.chi_line.proofs.SnoopRows.{snooped_at, snooped_cells}
 use Rattle.chi_line.proofs.Wheres.{snooped_for}
@@ -289,7 +288,7 @@ taken_at flits n m answer low = ⊎_elim
     (cases_eq m n)
 
 pub answered_stays : (last : List ℕ) (s : LineState) (agent : Agent) (answer : SnoopAnswer) (m : ℕ) → m < 8 → Kept last s → Stays s (answered_by s agent answer) m
-answered_stays last s agent answer m low k = subst (λ (l : LineState). Stays s l m) (sym (answered_is s agent answer)) parts
+answered_stays last s agent answer m low k = parts
   where
     taken : List Cells
     taken = set s.flits agent.0 (emptied (cells_of s agent.0) (answer_channel answer))
@@ -303,7 +302,7 @@ answered_stays last s agent answer m low k = subst (λ (l : LineState). Stays s 
     cells : Answers s.home.serving m (get_or taken m no_flits) (get_or (completion_put taken (finished_sends_as s.home.serving home (data_to_send answer s.home.memory))) m no_flits)
     cells = put_elsewhere s.home.serving home (data_to_send answer s.home.memory) taken m (omega (arith, low, k.flits, length-set s.flits agent.0 (emptied (cells_of s agent.0) (answer_channel answer))))
 
-    parts : Stays s (answered_parts s agent answer) m
+    parts : Stays s (answered_by s agent answer) m
     parts = record {
       pending = refl;
       request = cells.request ∙ there.request;

@@ -1,22 +1,20 @@
 -- A line after an answer, by the home's part of it: what the home keeps, and the completion it sends.
 use Rattle.std.proofs.Common.{◌≡◌, ℕ, List, Bool, true, false, Option, Some, None, refl, if◌then◌else◌}
-use Rattle.std.specs.Prelude.{slice_set}
 use Rattle.chi_flit.specs.declared.numbers.Agent.{Agent}
 use Rattle.chi_flit.specs.declared.numbers.Slot.{Slot}
 use Rattle.chi_flit.specs.declared.snoop.Snoop.{Snoop}
 use Rattle.chi_flit.specs.Kind.{snoop_of}
 use Rattle.chi_filter.specs.Filter.{has_any, removed}
-use Rattle.chi_wires.specs.declared.cells.Cells.{Cells}
-use Rattle.chi_wires.specs.Cell.{emptied}
 use Rattle.chi_homeline.specs.declared.serving.Serving.{Serving}
 use Rattle.chi_homeline.specs.declared.serving.Serving.TheVariants.{Idle, Snooping, AwaitingCompAck, AwaitingWriteData}
 use Rattle.chi_homeline.specs.declared.serving.Completion.{Completion}
 use Rattle.chi_homeline.specs.declared.serving.SnoopAnswer.{SnoopAnswer}
 use Rattle.chi_homeline.specs.declared.serving.SnoopAnswer.TheVariants as answers
-use Rattle.chi_homeline.specs.Home.{Home, completed_by, completion_by, finished_as, finished_home, finished_sends, finished_sends_as, left_owner, left_shared, snoop_answered, snoop_answered_sends}
+use Rattle.chi_homeline.specs.Home.{Home, completed_by, completion_by, finished_as, finished_home, finished_sends, finished_sends_as, left_owner, left_shared}
 use Rattle.chi_line.specs.LineState.{LineState, cells_of}
-use Rattle.chi_line.specs.Snooped.{answer_channel, completion_put}
-use Rattle.chi_line.specs.Step.{answered_by, answered_line, completed_with, finished, finished_for}
+use Rattle.chi_line.specs.Snooped.{completion_put}
+use Rattle.chi_line.specs.Step.{answered_by}
+use Rattle.chi_line.proofs.Answered.{answered_case, answered_line, completed_with, finished, finished_for}
 
 -- a line after the home's part of a completion
 abbrev pub by_home : LineState → Home → Option Completion → LineState
@@ -43,14 +41,8 @@ finished_for_is s (AwaitingWriteData agent kind slot) words = refl
 pub finished_is : (s : LineState) (words : List ℕ) → finished s words ≡ by_home s (finished_home s.home) (finished_sends s.home words)
 finished_is s words = finished_for_is s s.home.serving words
 
--- what an answered line is: the answer is taken out of its cell, and then the completion is put
-abbrev pub taken_from_cells : LineState → Agent → SnoopAnswer → List Cells
-taken_from_cells s agent answer = slice_set s.flits agent.0 (emptied (cells_of s agent.0) (answer_channel answer))
-
-abbrev pub answered_parts : LineState → Agent → SnoopAnswer → LineState
-answered_parts s agent answer = record s { home = snoop_answered s.home agent answer; flits = completion_put (taken_from_cells s agent answer) (snoop_answered_sends s.home agent answer) }
-
-pub answered_is : (s : LineState) (agent : Agent) (answer : SnoopAnswer) → answered_by s agent answer ≡ answered_parts s agent answer
+-- what an answer leaves, answer by answer
+pub answered_is : (s : LineState) (agent : Agent) (answer : SnoopAnswer) → answered_case s agent answer ≡ answered_by s agent answer
 answered_is s agent answers.I =
     finished_is (answered_line s agent.0 s.home.memory (removed s.home.filter agent.0) (record (cells_of s agent.0) { rsp_up = None })) s.home.memory
 answered_is s agent answers.SC =

@@ -1,6 +1,6 @@
 -- The kinds that a line keeps of a slot's request have the credit types that they had: only an Issue gives a
 -- slot a kind.
-use Rattle.std.proofs.Common.{◌≡◌, ◌≢◌, ℕ, ◌<◌, List, Bool, true, false, ◌&&◌, ◌==◌, Option, Some, None, length, get_or, set, refl, sym, ◌∙◌, ap, subst, if◌then◌else◌, arith, get_or-set_same}
+use Rattle.std.proofs.Common.{◌≡◌, ◌≢◌, ℕ, ◌<◌, List, Bool, true, false, ◌&&◌, ◌==◌, Option, Some, None, length, get_or, set, refl, sym, ◌∙◌, ap, if◌then◌else◌, arith, get_or-set_same}
 use Rattle.chi_flit.specs.declared.numbers.Agent.{Agent}
 use Rattle.chi_flit.specs.declared.numbers.Slot.{Slot}
 use Rattle.chi_flit.specs.declared.kind.Kind.{Kind}
@@ -34,7 +34,6 @@ use Rattle.chi_line.specs.Step.{issued_slot, admitted_line, after_step, answer_i
 use Rattle.chi_line.specs.Types.{has_type, is_of_type, pending_kind_of, requested_kind_of, served_kind_of, waiting_kind_of}
 use Rattle.chi_line.proofs.Elsewhere.{Stays, answer_up, answered_stays, sent_request, started_waits}
 use Rattle.chi_line.proofs.Untouched.{Free, is_free}
-use Rattle.chi_line.proofs.Finished.{answered_is}
 
 -- a type that a kind has, or no kind
 abbrev Has : Profile → CreditType → Option Kind → Type 0
@@ -83,9 +82,7 @@ finished_kind profile ty (AwaitingWriteData agent kind own) home n slot is t = a
 
 answered_kind : (profile : Profile) (ty : CreditType) (s : LineState) (agent : Agent) (answer : SnoopAnswer) (n : ℕ) (slot : Slot) → Has profile ty (served_kind_of s.home.serving n slot)
     → Has profile ty (served_kind_of (answered_by s agent answer).home.serving n slot)
-answered_kind profile ty s agent answer n slot t =
-    subst (λ (l : LineState). Has profile ty (served_kind_of l.home.serving n slot)) (sym (answered_is s agent answer))
-    (finished_kind profile ty s.home.serving (answer_taken s.home agent answer) n slot refl t)
+answered_kind profile ty s agent answer n slot t = finished_kind profile ty s.home.serving (answer_taken s.home agent answer) n slot refl t
 
 written_kind : (profile : Profile) (ty : CreditType) (s : LineState) (m : ℕ) (kind : Kind) (there : Option DatUp) (n : ℕ) (slot : Slot) → Has profile ty (served_kind_of s.home.serving n slot)
     → Has profile ty (served_kind_of (data_written s m kind there).home.serving n slot)

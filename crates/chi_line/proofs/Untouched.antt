@@ -1,5 +1,5 @@
 -- A slot that isn't in use at a line comes into use there by an Issue alone.
-use Rattle.std.proofs.Common.{◌≡◌, ℕ, ◌<◌, List, Bool, true, false, ◌||◌, ◌==◌, Option, Some, None, length, get_or, set, refl, sym, ◌∙◌, ap, subst, if◌then◌else◌, arith, get_or-set_same}
+use Rattle.std.proofs.Common.{◌≡◌, ℕ, ◌<◌, List, Bool, true, false, ◌||◌, ◌==◌, Option, Some, None, length, get_or, set, refl, sym, ◌∙◌, ap, if◌then◌else◌, arith, get_or-set_same}
 use Rattle.chi_flit.specs.declared.numbers.Agent.{Agent}
 use Rattle.chi_flit.specs.declared.numbers.Slot.{Slot}
 use Rattle.chi_flit.specs.declared.kind.Kind.{Kind}
@@ -31,7 +31,6 @@ use Rattle.chi_line.specs.Refused.{step_refusal}
 use Rattle.chi_line.proofs.After.{start_allowed}
 use Rattle.chi_line.proofs.Elsewhere.{finished_serves, finished_waits, started_waits}
 use Rattle.chi_line.proofs.Finds.{idle_is}
-use Rattle.chi_line.proofs.Finished.{answered_is, answered_parts}
 
 -- none of the agent's requests at the line has the slot
 pub record Free (s : LineState) (n : ℕ) (slot : Slot) : Type 0 where
@@ -104,12 +103,12 @@ start_free s agent request slot low idle here free =
 
 -- RecvSnpResp
 answered_free : (s : LineState) (agent : Agent) (answer : SnoopAnswer) (slot : Slot) → Free s agent.0 slot → Free (answered_by s agent answer) agent.0 slot
-answered_free s agent answer slot free = subst (λ (l : LineState). Free l agent.0 slot) (sym (answered_is s agent answer)) parts
+answered_free s agent answer slot free = parts
   where
     home : Home
     home = answer_taken s.home agent answer
 
-    parts : Free (answered_parts s agent answer) agent.0 slot
+    parts : Free (answered_by s agent answer) agent.0 slot
     parts = record {
       pending = free.pending;
       waiting = ap (λ (l : List (Option Waiting)). is_slot (waiting_slot (get_or l agent.0 None)) slot) (finished_waits s.home.serving home) ∙ free.waiting;

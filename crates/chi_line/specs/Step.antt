@@ -1,7 +1,7 @@
 -- The actions on one line as functions: what each leaves, and its effect (docs/PROTOCOL.md, "The actions",
 -- "Start", "Answers of snooped agents", "Completion" and "Write data"). A case says what changes; all else
 -- stays.
-use Rattle.std.specs.Prelude.{ℕ, List, Bool, true, false, Option, Some, None, is_some, slice_set, ◌==◌, ◌||◌, nat_lt, if◌then◌else◌}
+use Rattle.std.specs.Prelude.{ℕ, List, Bool, true, false, Option, Some, None, slice_set, ◌==◌, ◌||◌, nat_lt, if◌then◌else◌}
 use Rattle.std.specs.List.{slice_index_or}
 use Rattle.chi_flit.specs.declared.numbers.Agent.{Agent}
 use Rattle.chi_flit.specs.declared.numbers.Line.{Line}
@@ -20,8 +20,6 @@ use Rattle.chi_flit.specs.declared.message.RspDown.TheVariants.{CompUC, CompI, C
 use Rattle.chi_flit.specs.declared.credit.Profile.{Profile}
 use Rattle.chi_flit.specs.declared.snoop.Snoop.{Snoop}
 use Rattle.chi_flit.specs.declared.state.State.{State}
-use Rattle.chi_flit.specs.Kind.{snoop_of}
-use Rattle.chi_filter.specs.Filter.{FilterState, has_any, removed}
 use Rattle.chi_flit.specs.Credit.{credit_type_of}
 use Rattle.chi_flit.specs.Message.{write_data_of}
 use Rattle.chi_flit.specs.Snoop.{answer_of}
@@ -33,7 +31,7 @@ use Rattle.chi_flit.specs.declared.refusal.Refusal.{Refusal}
 use Rattle.chi_journal.specs.declared.record.Record.{Record}
 use Rattle.chi_journal.specs.declared.record.Record.TheVariants as records
 use Rattle.chi_wires.specs.declared.cells.Cells.{Cells}
-use Rattle.chi_wires.specs.Cell.{no_flits, with_message}
+use Rattle.chi_wires.specs.Cell.{emptied, no_flits, with_message}
 use Rattle.chi_wires.specs.Wires.{row_of, with_snoops}
 use Rattle.chi_rnline.specs.declared.pending.Pending.{Pending}
 use Rattle.chi_rnline.specs.Rn.{Rn, cancelled, comp_received, dbid_received, dropped, evict_received, issued, received, request_message, resent, retry_received, snoop_received, stored, word_of}
@@ -44,8 +42,9 @@ use Rattle.chi_homeline.specs.declared.serving.SnoopAnswer.{SnoopAnswer}
 use Rattle.chi_homeline.specs.declared.serving.SnoopAnswer.TheVariants as answers
 use Rattle.chi_homeline.specs.declared.serving.Started.{Started}
 use Rattle.chi_homeline.specs.declared.serving.Started.TheVariants.{Sends, Evicted, Snoops}
-use Rattle.chi_homeline.specs.Home.{Home, acknowledged, admitted, answered, completed, completion_of, left_owner, left_shared, served_kind, served_slot, started, started_sends, waiting_of, written}
+use Rattle.chi_homeline.specs.Home.{Home, acknowledged, admitted, served_kind, served_slot, snoop_answered, snoop_answered_sends, started, started_sends, waiting_of, written}
 use Rattle.chi_line.specs.LineState.{LineState, rn_of, cells_of}
+use Rattle.chi_line.specs.Snooped.{answer_channel, completion_put}
 
 -- Issue: the request is pending, and in flight with AllowRetry
 abbrev pub issued_line : LineState → ℕ → Kind → Slot → LineState
@@ -117,45 +116,6 @@ dbid_received_line s n kind = record s { requesters = slice_set s.requesters n (
 abbrev pub written_line : LineState → ℕ → Kind → State → List ℕ → LineState
 written_line s n kind form words = record s { home = written s.home n kind form words; flits = slice_set s.flits n (record (cells_of s n) { dat_up = None }) }
 
--- Completion: the home completes, and what completes the request is in flight, with the data that is sent
-abbrev pub completed_with : LineState → Option Snoop → Agent → Slot → List ℕ → LineState
-completed_with s None agent slot sent = s
-completed_with s (Some snoop) agent slot sent = record s { home = completed s.home snoop agent slot; flits = slice_set s.flits agent.0 (with_message (cells_of s agent.0) (completion_of s.home snoop agent sent)) }
-
--- a request that is snooped for completes when no answer is awaited any more
-abbrev pub finished_for : LineState → Serving → List ℕ → LineState
-finished_for s Idle sent = s
-finished_for s (Snooping agent kind slot) sent = if has_any s.home.awaited then s else completed_with s (snoop_of kind) agent slot sent
-finished_for s (AwaitingCompAck agent slot) sent = s
-finished_for s (AwaitingWriteData agent kind slot) sent = s
-
-abbrev pub finished : LineState → List ℕ → LineState
-finished s sent = finished_for s s.home.serving sent
-
--- RecvSnpResp: an answer is taken; memory and filter are these after it
-abbrev pub answered_line : LineState → ℕ → List ℕ → FilterState → Cells → LineState
-answered_line s n memory filter cells = record s { home = answered s.home n memory filter; flits = slice_set s.flits n cells }
-
--- SnpResp_I, with memory as the data of a completion
-abbrev pub none_answered : LineState → ℕ → LineState
-none_answered s n = finished (answered_line s n s.home.memory (removed s.home.filter n) (record (cells_of s n) { rsp_up = None })) s.home.memory
-
--- SnpResp_SC
-abbrev pub shared_answered : LineState → ℕ → LineState
-shared_answered s n = finished (answered_line s n s.home.memory (left_shared s.home.filter n) (record (cells_of s n) { rsp_up = None })) s.home.memory
-
--- SnpRespData_I_PD: its data is the memory
-abbrev pub none_sent : LineState → ℕ → List ℕ → LineState
-none_sent s n words = finished (answered_line s n words (removed s.home.filter n) (record (cells_of s n) { dat_up = None })) words
-
--- SnpRespData_SC_PD
-abbrev pub shared_sent : LineState → ℕ → List ℕ → LineState
-shared_sent s n words = finished (answered_line s n words (left_shared s.home.filter n) (record (cells_of s n) { dat_up = None })) words
-
--- SnpRespData_SD: the memory stays, and the data is that of the completion
-abbrev pub owner_sent : LineState → Agent → List ℕ → LineState
-owner_sent s agent words = finished (answered_line s agent.0 s.home.memory (left_owner s.home.filter agent) (record (cells_of s agent.0) { dat_up = None })) words
-
 -- a step that takes something away: none where there is nothing
 abbrev pub where_some : {A : Type 0} → LineState → Option A → (A → LineState) → LineState
 where_some s None step = s
@@ -178,13 +138,10 @@ data_answer (Some (CopyBackWrData form words)) = None
 abbrev pub answer_in : Cells → Option SnoopAnswer
 answer_in cells = response_answer cells.rsp_up (data_answer cells.dat_up)
 
--- RecvSnpResp of each answer
+-- RecvSnpResp of an answer: it is out of its cell, the home has it, and where it was the last one the
+-- completion is in flight
 abbrev pub answered_by : LineState → Agent → SnoopAnswer → LineState
-answered_by s agent answers.I = none_answered s agent.0
-answered_by s agent answers.SC = shared_answered s agent.0
-answered_by s agent (answers.IPD words) = none_sent s agent.0 words
-answered_by s agent (answers.SCPD words) = shared_sent s agent.0 words
-answered_by s agent (answers.SD words) = owner_sent s agent words
+answered_by s agent answer = record s { home = snoop_answered s.home agent answer; flits = completion_put (slice_set s.flits agent.0 (emptied (cells_of s agent.0) (answer_channel answer))) (snoop_answered_sends s.home agent answer) }
 
 -- RecvComp of each completion
 abbrev pub completion_received : LineState → ℕ → Option RspDown → LineState

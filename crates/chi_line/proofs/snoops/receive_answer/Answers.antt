@@ -10,11 +10,9 @@ use Rattle.chi_wires.specs.Cell.{cell_of, emptied}
 use Rattle.chi_homeline.specs.declared.serving.Completion.{Completion}
 use Rattle.chi_homeline.specs.declared.serving.SnoopAnswer.{SnoopAnswer}
 use Rattle.chi_homeline.specs.Home.{snoop_answered, snoop_answered_sends}
-use Rattle.chi_line.specs.LineState.{LineState}
 use Rattle.chi_line.specs.Snooped.{answer_channel, completion_put}
-use Rattle.chi_line.specs.Step.{answer_in, line_of_parts}
+use Rattle.chi_line.specs.Step.{answer_in}
 use Rattle.chi_line.proofs.Answering.{Completes, answer_completes, data_stays, response_stays, same_down, put_in_row}
-use Rattle.chi_line.proofs.Finished.{answered_is}
 use Rattle.chi_line.proofs.snoops.receive_answer.Goals as goal
 
 pub put_completion-requires-clause-empty : goal.put_completion-requires-clause-empty
@@ -38,9 +36,7 @@ returns-clause-home g c = λ requesters answer here.
     let found : answer_in (flits_at c.args.wires.now c.args.row.0 c.args.agent.0) ≡ Some c.in_ok-answer.answer = search (rules, c.in_ok-answer.was, c.ok_or.ensures, c.answer_in.ensures, c.cells.ensures) in
     let named : is_named c.args.home.now.filter c.args.agent.0 ≡ true = c.requires.named (ap is_some found) in
     let same : c.in_ok-answer.answer ≡ answer = cc (found, here) in
-    let s : LineState = line_of_parts requesters c.args.home.now c.args.wires.now c.args.row.0 in
     c.snp_resp-completion.ensures.after named ∙ ap (λ (a : SnoopAnswer). snoop_answered c.args.home.now c.args.agent a) same
-    ∙ sym (ap (λ (l : LineState). l.home) (answered_is s c.args.agent answer))
 
 pub returns-clause-flits : goal.returns-clause-flits
 returns-clause-flits g c = λ requesters answer here.
@@ -50,7 +46,6 @@ returns-clause-flits g c = λ requesters answer here.
     let found : answer_in (flits_at w r n) ≡ Some c.in_ok-answer.answer = search (rules, c.in_ok-answer.was, c.ok_or.ensures, c.answer_in.ensures, c.cells.ensures) in
     let named : is_named c.args.home.now.filter n ≡ true = c.requires.named (ap is_some found) in
     let same : c.in_ok-answer.answer ≡ answer = cc (found, here) in
-    let s : LineState = line_of_parts requesters c.args.home.now w r in
     let cells : Cells = emptied (flits_at w r n) (answer_channel answer) in
     let taken : c.take.new.self ≡ set w r (set (row_of w r) n cells) =
     c.in_ok-take.ensures.ok ∙ ap (λ (ch : Channel). with_flits w r n (emptied (flits_at w r n) ch)) (c.channel_of.ensures ∙ ap answer_channel same) in
@@ -59,4 +54,3 @@ returns-clause-flits g c = λ requesters answer here.
     c.put_completion.ensures
     ∙ put_in_row w r c.take.new.self (set (row_of w r) n cells) c.snp_resp-completion.result c.requires.row taken
     ∙ ap (λ (o : Option Completion). set w r (completion_put (set (row_of w r) n cells) o)) sends
-    ∙ sym (ap (λ (l : LineState). set w r l.flits) (answered_is s c.args.agent answer))
