@@ -1,5 +1,6 @@
 //! The filter through its calls, against the values of `docs/PROTOCOL.md`, "The filter".
 
+use crate::told::same;
 use chi_filter::{Filter, has_any};
 use chi_flit::Agent;
 
@@ -14,12 +15,12 @@ const BOTH: [bool; 8] = [false, true, false, false, false, false, false, true];
 #[test]
 fn names_nobody_at_first(rt: HostRuntime) {
     let filter = Filter::new();
-    assert_eq!(rt; filter.named(), NOBODY);
-    assert_eq!(rt; filter.is_unique(), false);
-    assert_eq!(rt; filter.owner(), None);
-    assert_eq!(rt; filter.other_owner(Agent(0)), NOBODY);
-    assert_eq!(rt; has_any(&filter.named()), false);
-    assert_eq!(rt; has_any(&LAST), true);
+    same(&rt, filter.named(), NOBODY);
+    same(&rt, filter.is_unique(), false);
+    same(&rt, filter.owner(), None);
+    same(&rt, filter.other_owner(Agent(0)), NOBODY);
+    same(&rt, has_any(&filter.named()), false);
+    same(&rt, has_any(&LAST), true);
 }
 
 #[test]
@@ -27,20 +28,20 @@ fn keeps_the_flag_for_one_agent_alone(rt: HostRuntime) {
     let mut filter = Filter::new();
     // who is added first isn't alone by that
     filter.add(Agent(7));
-    assert_eq!(rt; filter.named(), LAST);
-    assert_eq!(rt; filter.is_unique(), false);
+    same(&rt, filter.named(), LAST);
+    same(&rt, filter.is_unique(), false);
     filter.only(Agent(7));
-    assert_eq!(rt; filter.named(), LAST);
-    assert_eq!(rt; filter.is_unique(), true);
+    same(&rt, filter.named(), LAST);
+    same(&rt, filter.is_unique(), true);
     // naming the same agent again changes nothing
     filter.add(Agent(7));
-    assert_eq!(rt; filter.is_unique(), true);
-    assert_eq!(rt; filter.others_than(Agent(7)), NOBODY);
-    assert_eq!(rt; filter.others_than(Agent(1)), LAST);
+    same(&rt, filter.is_unique(), true);
+    same(&rt, filter.others_than(Agent(7)), NOBODY);
+    same(&rt, filter.others_than(Agent(1)), LAST);
     filter.add(Agent(1));
-    assert_eq!(rt; filter.named(), BOTH);
-    assert_eq!(rt; filter.is_unique(), false);
-    assert_eq!(rt; filter.others_than(Agent(7)), SECOND);
+    same(&rt, filter.named(), BOTH);
+    same(&rt, filter.is_unique(), false);
+    same(&rt, filter.others_than(Agent(7)), SECOND);
 }
 
 #[test]
@@ -49,13 +50,13 @@ fn drops_the_flag_with_its_agent(rt: HostRuntime) {
     filter.only(Agent(1));
     // an agent that isn't named changes nothing
     filter.remove(Agent(7));
-    assert_eq!(rt; filter.named(), SECOND);
-    assert_eq!(rt; filter.is_unique(), true);
+    same(&rt, filter.named(), SECOND);
+    same(&rt, filter.is_unique(), true);
     filter.remove(Agent(1));
-    assert_eq!(rt; filter.named(), NOBODY);
-    assert_eq!(rt; filter.is_unique(), false);
+    same(&rt, filter.named(), NOBODY);
+    same(&rt, filter.is_unique(), false);
     filter.only(Agent(1));
     filter.share();
-    assert_eq!(rt; filter.named(), SECOND);
-    assert_eq!(rt; filter.is_unique(), false);
+    same(&rt, filter.named(), SECOND);
+    same(&rt, filter.is_unique(), false);
 }

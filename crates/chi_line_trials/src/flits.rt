@@ -1,11 +1,13 @@
 //! Each table and each text, against the values of `docs/PROTOCOL.md`.
 
+use crate::told::same;
 use chi_flit::{
     Agent, Channel, CompData, CreditType, DatUp, Data, Entry, Kind, Line, Msg, NO_DATA, NoMemory,
     Profile, Refusal, Request, RspDown, RspUp, Slot, Snoop, State, WordNo, answer, credit_type,
     write_data,
 };
 use std::fmt;
+use std::process::Abort;
 use std::test::Fail;
 
 /// Whether the value prints as this text.
@@ -35,6 +37,13 @@ const SNOOPS: [Snoop; 4] = [
 
 const WORDS: Data = [1, 2, 3, 4, 5, 6, 7, 8];
 
+/// Whether the kind needs each state, by the row.
+fn needs_by(rt: &impl Abort, kind: Kind, row: &[bool; 5]) {
+    for (state, want) in STATES.iter().zip(row.iter()) {
+        assert_eq!(rt; kind.needs(*state), *want, "{kind} in {state}");
+    }
+}
+
 #[test]
 fn kinds_need_their_states(rt: HostRuntime) {
     // by state: I, SC, UC, UD, SD
@@ -49,9 +58,7 @@ fn kinds_need_their_states(rt: HostRuntime) {
         [false, false, true, false, false],
     ];
     for (kind, row) in KINDS.iter().zip(needed.iter()) {
-        for (state, want) in STATES.iter().zip(row.iter()) {
-            assert_eq!(rt; kind.needs(*state), *want, "{kind} in {state}");
-        }
+        needs_by(&rt, *kind, row);
     }
 }
 
@@ -96,6 +103,13 @@ fn states_are_valid_unique_dirty(rt: HostRuntime) {
     }
 }
 
+/// What a copy in the state answers to each snoop, by the row.
+fn answers_by(rt: &impl Abort, state: State, row: &[(State, Msg); 4]) {
+    for (snoop, want) in SNOOPS.iter().zip(row.iter()) {
+        assert_eq!(rt; answer(state, *snoop, WORDS), *want, "{state} at {snoop}");
+    }
+}
+
 #[test]
 fn snoops_are_answered(rt: HostRuntime) {
     let none = (State::I, Msg::RspUp(RspUp::SnpRespI));
@@ -112,16 +126,14 @@ fn snoops_are_answered(rt: HostRuntime) {
         [owner, passed, lost, lost],
     ];
     for (state, row) in STATES.iter().zip(answers.iter()) {
-        for (snoop, want) in SNOOPS.iter().zip(row.iter()) {
-            assert_eq!(rt; answer(*state, *snoop, WORDS), *want, "{state} at {snoop}");
-        }
+        answers_by(&rt, *state, row);
     }
 }
 
 #[test]
 fn write_data_has_the_form_of_its_state(rt: HostRuntime) {
     let none = DatUp::CopyBackWrData(State::I, [0; 8]);
-    assert_eq!(rt; write_data(State::I, WORDS), none);
+    same(&rt, write_data(State::I, WORDS), none);
     for state in [State::SC, State::UC, State::UD, State::SD] {
         let sent = DatUp::CopyBackWrData(state, WORDS);
         assert_eq!(rt; write_data(state, WORDS), sent, "{state}");
@@ -129,7 +141,7 @@ fn write_data_has_the_form_of_its_state(rt: HostRuntime) {
 }
 
 #[test]
-fn words_print_their_names(rt: HostRuntime) -> Result<(), Fail> {
+fn kinds_print_their_names(rt: HostRuntime) -> Result<(), Fail> {
     let kinds = [
         "ReadNotSharedDirty",
         "ReadShared",
@@ -143,10 +155,20 @@ fn words_print_their_names(rt: HostRuntime) -> Result<(), Fail> {
     for (kind, text) in KINDS.iter().zip(kinds.iter()) {
         assert!(rt; prints(&rt, kind, *text)?);
     }
+    Ok(())
+}
+
+#[test]
+fn states_print_their_names(rt: HostRuntime) -> Result<(), Fail> {
     let states = ["I", "SC", "UC", "UD", "SD"];
     for (state, text) in STATES.iter().zip(states.iter()) {
         assert!(rt; prints(&rt, state, *text)?);
     }
+    Ok(())
+}
+
+#[test]
+fn channels_print_their_names(rt: HostRuntime) -> Result<(), Fail> {
     let channels = [
         (Channel::Req, "Req"),
         (Channel::Snp, "Snp"),
@@ -289,7 +311,7 @@ fn requests_print_kind_slot_and_attempt(rt: HostRuntime) -> Result<(), Fail> {
         };
         let message = Msg::Req(request);
         assert!(rt; prints(&rt, message, text)?);
-        assert_eq!(rt; message.channel(), Channel::Req);
+        same(&rt, message.channel(), Channel::Req);
     }
     Ok(())
 }
@@ -335,6 +357,6 @@ fn refusals_have_their_number_and_name(rt: HostRuntime) -> Result<(), Fail> {
     }
     let lack = NoMemory;
     assert!(rt; prints(&rt, lack, "NoMemory")?);
-    assert_eq!(rt; Refusal::from(lack), Refusal::NoMemory);
+    same(&rt, Refusal::from(lack), Refusal::NoMemory);
     Ok(())
 }

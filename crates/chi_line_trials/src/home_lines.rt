@@ -2,8 +2,10 @@
 
 ghost use Rattle.std.specs.Prelude.{◌<◌};
 
+use crate::told::same;
 use chi_flit::{Agent, CompData, Kind, Msg, NO_DATA, Refusal, RspDown, Slot, Snoop, State};
 use chi_homeline::{Completion, HomeLine, Serving, Started, Waiting};
+use std::process::Abort;
 
 const NOBODY: [bool; 8] = [false; 8];
 
@@ -44,78 +46,90 @@ fn names(home: &HomeLine) -> ([bool; 8], bool) {
     (home.filter().named(), home.filter().is_unique())
 }
 
-#[test]
-fn completes_a_read_and_waits_for_its_ack(rt: HostRuntime) {
-    let mut home = HomeLine::new();
-    assert_eq!(rt; home.memory(), NO_DATA);
-    assert_eq!(rt; starts(&mut home, 0), Err(Refusal::NotWaiting));
-
-    waits(&mut home, 0, Kind::ReadShared, 3);
-    waits(&mut home, 7, Kind::ReadUnique, 5);
-    assert_eq!(rt; home.waiting(Agent(0)), Some(request(Kind::ReadShared, 3)));
-    assert_eq!(rt; home.all_waiting()[7], Some(request(Kind::ReadUnique, 5)));
-
-    // nobody else is named: the copy is unique
-    assert_eq!(rt; starts(&mut home, 0), Ok(Started::Sends(data(true))));
-    assert_eq!(rt; home.waiting(Agent(0)), None);
-    assert_eq!(rt; names(&home), (FIRST, true));
-    let served = Serving::AwaitingCompAck {
-        agent: Agent(0),
-        slot: Slot(3),
-    };
-    assert_eq!(rt; home.serving(), served);
-
-    // no other start before the CompAck; who doesn't wait is told so first
-    assert_eq!(rt; starts(&mut home, 7), Err(Refusal::LineBusy));
-    assert_eq!(rt; starts(&mut home, 0), Err(Refusal::NotWaiting));
-    assert_eq!(rt; home.serving(), served);
-
-    // another agent's CompAck isn't awaited, nor is write data
-    assert_eq!(rt; home.ack(Agent(7)), None);
-    assert_eq!(rt; home.wr_data(Agent(0), State::UD, [1; 8]), None);
-    assert_eq!(rt; home.serving(), served);
-    assert_eq!(rt; home.ack(Agent(0)), Some(Slot(3)));
-    assert_eq!(rt; home.serving(), Serving::Idle);
-
-    // the holder is snooped, and the filter stays till it has answered
+/// The last agent's start snoops the first, the holder, and the filter stays till that has answered.
+fn snoops_the_holder(rt: &impl Abort, home: &mut HomeLine) {
     let snoops = Started::Snoops {
         snoop: Snoop::SnpUnique,
         agents: FIRST,
     };
-    assert_eq!(rt; starts(&mut home, 7), Ok(snoops));
-    assert_eq!(rt; home.awaited(), FIRST);
-    assert_eq!(rt; names(&home).0, FIRST);
-    assert_eq!(rt; starts(&mut home, 7), Err(Refusal::NotWaiting));
+    same(rt, starts(home, 7), Ok(snoops));
+    same(rt, home.awaited(), FIRST);
+    same(rt, names(home).0, FIRST);
+    same(rt, starts(home, 7), Err(Refusal::NotWaiting));
+}
+
+#[test]
+fn completes_a_read_and_waits_for_its_ack(rt: HostRuntime) {
+    let mut home = HomeLine::new();
+    same(&rt, home.memory(), NO_DATA);
+    same(&rt, starts(&mut home, 0), Err(Refusal::NotWaiting));
+
+    waits(&mut home, 0, Kind::ReadShared, 3);
+    waits(&mut home, 7, Kind::ReadUnique, 5);
+    same(
+        &rt,
+        home.waiting(Agent(0)),
+        Some(request(Kind::ReadShared, 3)),
+    );
+    same(
+        &rt,
+        home.all_waiting()[7],
+        Some(request(Kind::ReadUnique, 5)),
+    );
+
+    // nobody else is named: the copy is unique
+    same(&rt, starts(&mut home, 0), Ok(Started::Sends(data(true))));
+    same(&rt, home.waiting(Agent(0)), None);
+    same(&rt, names(&home), (FIRST, true));
+    let served = Serving::AwaitingCompAck {
+        agent: Agent(0),
+        slot: Slot(3),
+    };
+    same(&rt, home.serving(), served);
+
+    // no other start before the CompAck; who doesn't wait is told so first
+    same(&rt, starts(&mut home, 7), Err(Refusal::LineBusy));
+    same(&rt, starts(&mut home, 0), Err(Refusal::NotWaiting));
+    same(&rt, home.serving(), served);
+
+    // another agent's CompAck isn't awaited, nor is write data
+    same(&rt, home.ack(Agent(7)), None);
+    same(&rt, home.wr_data(Agent(0), State::UD, [1; 8]), None);
+    same(&rt, home.serving(), served);
+    same(&rt, home.ack(Agent(0)), Some(Slot(3)));
+    same(&rt, home.serving(), Serving::Idle);
+
+    snoops_the_holder(&rt, &mut home);
 }
 
 #[test]
 fn starts_evictions_and_copy_backs(rt: HostRuntime) {
     let mut home = HomeLine::new();
     waits(&mut home, 0, Kind::ReadUnique, 0);
-    assert_eq!(rt; starts(&mut home, 0), Ok(Started::Sends(data(true))));
+    same(&rt, starts(&mut home, 0), Ok(Started::Sends(data(true))));
     let served = Serving::AwaitingCompAck {
         agent: Agent(0),
         slot: Slot(0),
     };
-    assert_eq!(rt; home.serving(), served);
-    assert_eq!(rt; home.ack(Agent(0)), Some(Slot(0)));
+    same(&rt, home.serving(), served);
+    same(&rt, home.ack(Agent(0)), Some(Slot(0)));
 
     waits(&mut home, 0, Kind::Evict, 6);
-    assert_eq!(rt; starts(&mut home, 0), Ok(Started::Evicted(Slot(6))));
-    assert_eq!(rt; names(&home), (NOBODY, false));
-    assert_eq!(rt; home.serving(), Serving::Idle);
+    same(&rt, starts(&mut home, 0), Ok(Started::Evicted(Slot(6))));
+    same(&rt, names(&home), (NOBODY, false));
+    same(&rt, home.serving(), Serving::Idle);
 
     waits(&mut home, 7, Kind::WriteBackFull, 1);
     let dbid = Started::Sends(Msg::RspDown(RspDown::CompDBIDResp));
-    assert_eq!(rt; starts(&mut home, 7), Ok(dbid));
+    same(&rt, starts(&mut home, 7), Ok(dbid));
     let serving = Serving::AwaitingWriteData {
         agent: Agent(7),
         kind: Kind::WriteBackFull,
         slot: Slot(1),
     };
-    assert_eq!(rt; home.serving(), serving);
+    same(&rt, home.serving(), serving);
     waits(&mut home, 0, Kind::ReadShared, 2);
-    assert_eq!(rt; starts(&mut home, 0), Err(Refusal::LineBusy));
+    same(&rt, starts(&mut home, 0), Err(Refusal::LineBusy));
 }
 
 #[test]
@@ -123,6 +137,6 @@ fn completes_a_clean_unique_without_data(rt: HostRuntime) {
     let mut home = HomeLine::new();
     waits(&mut home, 7, Kind::CleanUnique, 4);
     let unique = Started::Sends(Msg::RspDown(RspDown::CompUC));
-    assert_eq!(rt; starts(&mut home, 7), Ok(unique));
-    assert_eq!(rt; names(&home), (LAST, true));
+    same(&rt, starts(&mut home, 7), Ok(unique));
+    same(&rt, names(&home), (LAST, true));
 }

@@ -13,4 +13,6 @@ mod journals;
 #[cfg(test)]
 mod requester_lines;
 #[cfg(test)]
+mod told;
+#[cfg(test)]
 mod wires;

@@ -1,11 +1,12 @@
 //! Command lines, good and bad, by `docs/PROTOCOL.md`, "The program".
 
+use crate::told::same;
 use chi_arguments::{ArgFault, Job, arguments};
 
 #[test]
 fn a_replay_has_its_path(rt: HostRuntime) {
     let words = ["chihome", "replay", "a.chi"];
-    assert_eq!(rt; arguments(rt.alloc(), &words), Ok(Job::Replay("a.chi")));
+    same(&rt, arguments(rt.alloc(), &words), Ok(Job::Replay("a.chi")));
 }
 
 /// What the words ask for, if not a replay.
@@ -113,6 +114,6 @@ fn asking_for_help_is_bad(rt: HostRuntime) {
 
 #[test]
 fn a_fault_has_its_status(rt: HostRuntime) {
-    assert_eq!(rt; ArgFault::Bad.status(), 4);
-    assert_eq!(rt; ArgFault::NoMemory.status(), 3);
+    same(&rt, ArgFault::Bad.status(), 4);
+    same(&rt, ArgFault::NoMemory.status(), 3);
 }

@@ -11,3 +11,5 @@ mod replays;
 mod scarce;
 #[cfg(test)]
 mod stops;
+#[cfg(test)]
+mod told;

@@ -1,5 +1,6 @@
 //! Replays from an input to an output, with too little memory and failing devices too.
 
+use crate::told::same;
 use bumpalo::Bump;
 use chi_devices::{FileInput, MemoryInput, MemoryOutput};
 use chi_replay::replay;
@@ -33,7 +34,7 @@ const TWO_COMMANDS_TEXT: &[u8] = b"ok free 1 1 hand 0 0 promised 0 0 owed 0 0\no
 fn the_first_path_is_answered(rt: HostRuntime) {
     let mut input = MemoryInput::new(FIRST_PATH, 10);
     let mut output = MemoryOutput::new(rt.alloc(), 1_000);
-    assert_eq!(rt; replay(rt.alloc(), &mut input, &mut output), Ok(()));
+    same(&rt, replay(rt.alloc(), &mut input, &mut output), Ok(()));
     assert!(rt; output.bytes() == FIRST_PATH_TEXT);
 }
 
@@ -41,7 +42,7 @@ fn the_first_path_is_answered(rt: HostRuntime) {
 fn dirty_data_is_handed_on_to_another_agent(rt: HostRuntime) {
     let mut input = MemoryInput::new(HANDED_ON, 10);
     let mut output = MemoryOutput::new(rt.alloc(), 1_000);
-    assert_eq!(rt; replay(rt.alloc(), &mut input, &mut output), Ok(()));
+    same(&rt, replay(rt.alloc(), &mut input, &mut output), Ok(()));
     assert!(rt; output.bytes() == HANDED_ON_TEXT);
 }
 
@@ -53,7 +54,7 @@ fn tells(rt: &(impl Abort + AllocGlobal), file: &[u8], line: &str) -> Result<(),
         Ok(()) => assert!(rt; false, "{line}"),
         Err(fault) => {
             let text = format!(in rt.alloc(); "{fault}")?;
-            assert_eq!(rt; text.as_str(), line);
+            same(rt, text.as_str(), line);
             assert_eq!(rt; fault.status(), 1, "{line}");
         }
     }
@@ -115,7 +116,7 @@ fn a_file_of_one_byte_too_many_is_too_large(rt: HostRuntime) -> Result<(), Alloc
     add_lines(&mut file, 174_754, b"see 0\n")?;
     add_lines(&mut file, 5, b"totals\n")?;
     add_lines(&mut file, 1, b"\n")?;
-    assert_eq!(rt; file.len(), 1_048_577);
+    same(&rt, file.len(), 1_048_577);
     tells(&rt, &file, "chihome: file too large")
 }
 
@@ -132,13 +133,13 @@ fn fails_at_each_write(rt: &(impl Abort + AllocGlobal), file: &[u8], text: &[u8]
     }
     let mut input = MemoryInput::new(file, 10);
     let mut output = MemoryOutput::new(rt.alloc(), text.len());
-    assert_eq!(rt; replay(rt.alloc(), &mut input, &mut output), Ok(()));
+    same(rt, replay(rt.alloc(), &mut input, &mut output), Ok(()));
     assert!(rt; output.bytes() == text);
 }
 
 #[test]
 fn an_output_that_fails_holds_a_beginning_of_the_text(rt: HostRuntime) {
-    assert_eq!(rt; TOTALS_TEXT.len(), 43);
+    same(&rt, TOTALS_TEXT.len(), 43);
     fails_at_each_write(&rt, TOTALS, TOTALS_TEXT);
     fails_at_each_write(&rt, TWO_COMMANDS, TWO_COMMANDS_TEXT);
 }
@@ -155,7 +156,7 @@ fn fails_at_each_read(rt: &(impl Abort + AllocGlobal), file: &[u8], text: &[u8])
     }
     let mut input = MemoryInput::new(file, 2);
     let mut output = MemoryOutput::new(rt.alloc(), 1_000);
-    assert_eq!(rt; replay(rt.alloc(), &mut input, &mut output), Ok(()));
+    same(rt, replay(rt.alloc(), &mut input, &mut output), Ok(()));
     assert!(rt; output.bytes() == text);
 }
 
@@ -171,13 +172,17 @@ fn a_file_is_replayed_and_a_missing_one_is_not(rt: HostRuntime) -> io::Result<()
     match FileInput::open(&rt, "two.chi") {
         Ok(mut input) => {
             let mut output = MemoryOutput::new(rt.alloc(), 1_000);
-            assert_eq!(rt; replay(rt.alloc(), &mut input, &mut output), Ok(()));
+            same(&rt, replay(rt.alloc(), &mut input, &mut output), Ok(()));
             assert!(rt; output.bytes() == TWO_COMMANDS_TEXT);
         }
         Err(fault) => assert_eq!(rt; fault, Fault::NoMemory, "it is there"),
     }
     fs::remove_file(&rt, "two.chi")?;
-    assert_eq!(rt; FileInput::open(&rt, "none.chi").err(), Some(Fault::Read));
+    same(
+        &rt,
+        FileInput::open(&rt, "none.chi").err(),
+        Some(Fault::Read),
+    );
     Ok(())
 }
 
@@ -211,8 +216,8 @@ fn is_answered<A: Allocator + Copy>(
             true
         }
         Err(fault) => {
-            assert_eq!(rt; fault, Fault::NoMemory);
-            assert_eq!(rt; fault.status(), 3);
+            same(rt, fault, Fault::NoMemory);
+            same(rt, fault.status(), 3);
             assert!(rt; output.bytes().is_empty());
             false
         }

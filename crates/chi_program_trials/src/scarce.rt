@@ -1,5 +1,6 @@
 //! A file that is read with too little memory, whichever allocation is the one that is refused.
 
+use crate::told::same;
 use bumpalo::Bump;
 use chi_devices::{MemoryInput, read_all};
 use chi_script::{Command, Fault, Script, read_file};
@@ -21,12 +22,12 @@ fn read<A: Allocator + Copy>(alloc: A) -> Result<Script<A>, Fault> {
 fn is_read<A: Allocator>(rt: &impl Abort, read: Result<Script<A>, Fault>) -> bool {
     match read {
         Ok(script) => {
-            assert_eq!(rt; script.commands.len(), 5);
-            assert_eq!(rt; script.commands.last(), Some(&Command::Totals));
+            same(rt, script.commands.len(), 5);
+            same(rt, script.commands.last(), Some(&Command::Totals));
             true
         }
         Err(fault) => {
-            assert_eq!(rt; fault, Fault::NoMemory);
+            same(rt, fault, Fault::NoMemory);
             false
         }
     }

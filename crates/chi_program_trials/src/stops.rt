@@ -1,5 +1,6 @@
 //! Each way in which the program stops, its line and its status.
 
+use crate::told::same;
 use chi_arguments::{ArgFault, arguments};
 use chi_program::Stop;
 use chi_script::Fault;
@@ -8,7 +9,7 @@ use std::alloc::AllocError;
 #[test]
 fn a_stop_is_a_line_and_a_status(rt: HostRuntime) -> Result<(), AllocError> {
     let bad = arguments(rt.alloc(), &["chihome", "replay"]).err();
-    assert_eq!(rt; bad, Some(ArgFault::Bad));
+    same(&rt, bad, Some(ArgFault::Bad));
     let stops = [
         (Stop::from(ArgFault::Bad), 4, "chihome: bad arguments"),
         (Stop::from(ArgFault::NoMemory), 3, "chihome: out of memory"),
@@ -19,7 +20,7 @@ fn a_stop_is_a_line_and_a_status(rt: HostRuntime) -> Result<(), AllocError> {
     ];
     for (stop, status, line) in stops {
         let text = format!(in rt.alloc(); "{stop}")?;
-        assert_eq!(rt; text.as_str(), line);
+        same(&rt, text.as_str(), line);
         assert_eq!(rt; stop.status(), status, "{line}");
     }
     Ok(())

@@ -16,6 +16,7 @@ pub enum Deed {
     Tend(CreditType),
 }
 
+/// What a call is answered.
 #[derive(Clone, Copy, Debug, PartialEq, Eq)]
 pub enum Answer {
     /// The entry's number.

@@ -34,6 +34,15 @@ fn copy_in(state: State) -> CopyView {
     }
 }
 
+/// An idle line that agent 0 alone holds, in UD.
+fn dirty_line() -> LineView {
+    let mut view = idle_line();
+    view.copies[0] = copy_in(State::UD);
+    view.named[0] = true;
+    view.unique = true;
+    view
+}
+
 fn request(kind: Kind) -> Option<Waiting> {
     Some(Waiting {
         kind,
@@ -75,11 +84,8 @@ fn prints_copies_and_names(rt: HostRuntime) -> Result<(), Fail> {
 }
 
 #[test]
-fn prints_what_is_served(rt: HostRuntime) -> Result<(), Fail> {
-    let mut view = idle_line();
-    view.copies[0] = copy_in(State::UD);
-    view.named[0] = true;
-    view.unique = true;
+fn prints_a_snoop_beside_a_request_that_waits(rt: HostRuntime) -> Result<(), Fail> {
+    let mut view = dirty_line();
     view.serving = Serving::Snooping {
         agent: Agent(1),
         kind: Kind::ReadUnique,
@@ -97,12 +103,17 @@ fn prints_what_is_served(rt: HostRuntime) -> Result<(), Fail> {
             "ok copies UD,I named 0 unique yes serving snooping 1 waiting 0 memory 0 0 0 0 0 0 0 0"
         )?
     );
+    Ok(())
+}
+
+#[test]
+fn prints_write_data_that_is_awaited(rt: HostRuntime) -> Result<(), Fail> {
+    let mut view = dirty_line();
     view.serving = Serving::AwaitingWriteData {
         agent: Agent(0),
         kind: Kind::WriteBackFull,
         slot: Slot(0),
     };
-    view.waiting[0] = None;
     let written = Shown {
         agents: 1,
         view: &view,

@@ -4,6 +4,7 @@ ghost use Rattle.std.specs.Prelude.{◌≡◌, ◌<◌, [], ◌∷◌, IfOk};
 ghost use Rattle.chi_tracker.specs.Views.{new_port};
 ghost use Rattle.chi_tracker.specs.Calls.{shape_of};
 
+use crate::told::same;
 use chi_credit::{Account, SlotRecord, SlotState};
 use chi_flit::{Agent, CreditType, Entry, Line, NoMemory, Slot};
 use chi_tracker::{Port, Released, Tracker};
@@ -64,26 +65,26 @@ fn seen_by(port: &Port) -> [u32; 4] {
 #[test]
 fn answered_and_then_finished(rt: HostRuntime) {
     let mut account = Account::new();
-    assert_eq!(rt; shown(&account, Slot(7)), FREE);
-    assert_eq!(rt; lowest_idle(&account), Some(Slot(0)));
+    same(&rt, shown(&account, Slot(7)), FREE);
+    same(&rt, lowest_idle(&account), Some(Slot(0)));
 
     account.open(Slot(0), Line(5), CreditType::T2);
     let sent = record(SlotState::Sent, CreditType::T2, false);
-    assert_eq!(rt; shown(&account, Slot(0)), sent);
-    assert_eq!(rt; shown(&account, Slot(1)), FREE);
-    assert_eq!(rt; lowest_idle(&account), Some(Slot(1)));
+    same(&rt, shown(&account, Slot(0)), sent);
+    same(&rt, shown(&account, Slot(1)), FREE);
+    same(&rt, lowest_idle(&account), Some(Slot(1)));
 
     account.admitted(Slot(0), Entry(9));
     let admitted = record(SlotState::Admitted(Entry(9)), CreditType::T2, false);
-    assert_eq!(rt; shown(&account, Slot(0)), admitted);
+    same(&rt, shown(&account, Slot(0)), admitted);
 
     account.answered(Slot(0));
     let answered = record(SlotState::Admitted(Entry(9)), CreditType::T2, true);
-    assert_eq!(rt; shown(&account, Slot(0)), answered);
+    same(&rt, shown(&account, Slot(0)), answered);
 
     assert_eq!(rt; account.finished(Slot(0)), Entry(9));
-    assert_eq!(rt; shown(&account, Slot(0)), FREE);
-    assert_eq!(rt; lowest_idle(&account), Some(Slot(0)));
+    same(&rt, shown(&account, Slot(0)), FREE);
+    same(&rt, lowest_idle(&account), Some(Slot(0)));
 }
 
 #[test]
@@ -95,10 +96,10 @@ fn finished_and_then_answered(rt: HostRuntime) {
     // an Evict is over at the home before its Comp_I is taken
     assert_eq!(rt; account.finished(Slot(7)), Entry(0));
     let closing = record(SlotState::Closing, CreditType::T0, false);
-    assert_eq!(rt; shown(&account, Slot(7)), closing);
+    same(&rt, shown(&account, Slot(7)), closing);
 
     account.answered(Slot(7));
-    assert_eq!(rt; shown(&account, Slot(7)), FREE);
+    same(&rt, shown(&account, Slot(7)), FREE);
 }
 
 #[test]
@@ -111,7 +112,7 @@ fn no_slot_is_idle(rt: HostRuntime) {
         assert_eq!(rt; idle, Slot(slot));
         account.open(idle, Line(slot), CreditType::T1);
     }
-    assert_eq!(rt; lowest_idle(&account), None);
+    same(&rt, lowest_idle(&account), None);
 }
 
 /// A tracker with an entry of each of types 0 and 1, and two ports, of requesters 0 and 1.
@@ -126,6 +127,18 @@ fn two_ports(alloc: Global) -> Result<(Tracker<Global>, Port, Port), NoMemory>
     Ok((tracker, zero, one))
 }
 
+/// The slot rides on one credit of type 0: that one alone isn't enough for another of the type.
+fn rides_on_one(rt: &impl Abort, account: &Account, slot: Slot)
+    requires { slot.0 < 8 }
+{
+    let riding = record(SlotState::Riding, CreditType::T0, false);
+    same(rt, shown(account, slot), riding);
+    same(rt, riding_count(account, CreditType::T0), 1);
+    same(rt, riding_count(account, CreditType::T1), 0);
+    same(rt, may_resend(account, CreditType::T0, 1), false);
+    same(rt, may_resend(account, CreditType::T1, 1), true);
+}
+
 #[test]
 fn resent_with_a_credit(rt: HostRuntime) -> Result<(), Fail> {
     let Ok((tracker, mut zero, mut one)) = two_ports(rt.alloc()) else {
@@ -138,34 +151,29 @@ fn resent_with_a_credit(rt: HostRuntime) -> Result<(), Fail> {
     one.owe(&tracker, CreditType::T0);
     account.refused(Slot(3));
     let refused = record(SlotState::Refused, CreditType::T0, false);
-    assert_eq!(rt; shown(&account, Slot(3)), refused);
+    same(&rt, shown(&account, Slot(3)), refused);
 
     account.retry_seen(Slot(3));
     let retried = record(SlotState::Retried, CreditType::T0, false);
-    assert_eq!(rt; shown(&account, Slot(3)), retried);
-    assert_eq!(rt; may_resend(&account, CreditType::T0, 0), false);
+    same(&rt, shown(&account, Slot(3)), retried);
+    same(&rt, may_resend(&account, CreditType::T0, 0), false);
     let released = zero.release(&tracker, Entry(0));
-    assert_eq!(rt; released, Released::Granted(Agent(1)));
+    same(&rt, released, Released::Granted(Agent(1)));
     assert_eq!(rt; one.see(&tracker), [1, 0, 0, 0]);
-    assert_eq!(rt; may_resend(&account, CreditType::T0, 1), true);
+    same(&rt, may_resend(&account, CreditType::T0, 1), true);
 
     account.resend(Slot(3));
-    let riding = record(SlotState::Riding, CreditType::T0, false);
-    assert_eq!(rt; shown(&account, Slot(3)), riding);
-    assert_eq!(rt; riding_count(&account, CreditType::T0), 1);
-    assert_eq!(rt; riding_count(&account, CreditType::T1), 0);
-    assert_eq!(rt; may_resend(&account, CreditType::T0, 1), false);
-    assert_eq!(rt; may_resend(&account, CreditType::T1, 1), true);
+    rides_on_one(&rt, &account, Slot(3));
 
     assert_eq!(rt; account.arrive(Slot(3), &tracker, &mut one), Entry(0));
     let admitted = record(SlotState::Admitted(Entry(0)), CreditType::T0, false);
-    assert_eq!(rt; shown(&account, Slot(3)), admitted);
-    assert_eq!(rt; seen_by(&one), [0; 4]);
-    assert_eq!(rt; owed(&one), [0; 4]);
+    same(&rt, shown(&account, Slot(3)), admitted);
+    same(&rt, seen_by(&one), [0; 4]);
+    same(&rt, owed(&one), [0; 4]);
 
     account.answered(Slot(3));
     let entry = account.finished(Slot(3));
-    assert_eq!(rt; shown(&account, Slot(3)), FREE);
+    same(&rt, shown(&account, Slot(3)), FREE);
     assert_eq!(rt; one.release(&tracker, entry), Released::Freed);
     Ok(())
 }
@@ -205,26 +213,26 @@ fn cancelled_and_given_back(rt: HostRuntime) -> Result<(), Fail> {
     account.retry_seen(Slot(2));
     account.cancel(Slot(2));
     let cancelled = record(SlotState::Cancelled, CreditType::T1, false);
-    assert_eq!(rt; shown(&account, Slot(2)), cancelled);
-    assert_eq!(rt; is_any_cancelled(&account, CreditType::T1), true);
-    assert_eq!(rt; is_any_cancelled(&account, CreditType::T0), false);
+    same(&rt, shown(&account, Slot(2)), cancelled);
+    same(&rt, is_any_cancelled(&account, CreditType::T1), true);
+    same(&rt, is_any_cancelled(&account, CreditType::T0), false);
 
     assert_eq!(rt;
         zero.release(&tracker, Entry(1)),
         Released::Granted(Agent(1))
     );
-    assert_eq!(rt; owed(&one), [0, 2, 0, 0]);
+    same(&rt, owed(&one), [0, 2, 0, 0]);
 
     // the lower slot is free; the credit goes round to the same requester, which is owed a second one
     let released = see_and_give_back(&rt, &mut account, &tracker, &mut one);
-    assert_eq!(rt; released, Released::Granted(Agent(1)));
-    assert_eq!(rt; shown(&account, Slot(2)), FREE);
-    assert_eq!(rt; shown(&account, Slot(6)), cancelled);
-    assert_eq!(rt; owed(&one), [0, 1, 0, 0]);
+    same(&rt, released, Released::Granted(Agent(1)));
+    same(&rt, shown(&account, Slot(2)), FREE);
+    same(&rt, shown(&account, Slot(6)), cancelled);
+    same(&rt, owed(&one), [0, 1, 0, 0]);
 
     let released = see_and_give_back(&rt, &mut account, &tracker, &mut one);
-    assert_eq!(rt; released, Released::Freed);
-    assert_eq!(rt; shown(&account, Slot(6)), FREE);
-    assert_eq!(rt; is_any_cancelled(&account, CreditType::T1), false);
+    same(&rt, released, Released::Freed);
+    same(&rt, shown(&account, Slot(6)), FREE);
+    same(&rt, is_any_cancelled(&account, CreditType::T1), false);
     Ok(())
 }

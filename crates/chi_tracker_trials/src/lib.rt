@@ -5,3 +5,5 @@
 mod accounts;
 #[cfg(test)]
 mod ports;
+#[cfg(test)]
+mod told;

@@ -12,10 +12,13 @@ use std::process::Abort;
 /// A line of slice 1.
 pub const LINE: Line = Line(5);
 
+/// The last agent of the node.
 pub const READER: Agent = Agent(7);
 
+/// The first agent of the node.
 pub const WRITER: Agent = Agent(0);
 
+/// A slot that is neither the first nor the last.
 pub const SLOT: Slot = Slot(3);
 
 const NO_CELLS: Cells = Cells {
@@ -42,6 +45,7 @@ pub const OPENING: LineView = LineView {
     last: NO_DATA,
 };
 
+/// The agent asks for the line by a request of the kind, in the slot.
 pub fn issue(agent: Agent, line: Line, kind: Kind, slot: Slot) -> Action {
     Action {
         agent,
@@ -50,6 +54,7 @@ pub fn issue(agent: Agent, line: Line, kind: Kind, slot: Slot) -> Action {
     }
 }
 
+/// The agent's step at `LINE`, as all below.
 pub fn at(agent: Agent, step: Step) -> Action {
     Action {
         agent,
@@ -58,18 +63,22 @@ pub fn at(agent: Agent, step: Step) -> Action {
     }
 }
 
+/// The home lets the agent's request in.
 pub fn admit(agent: Agent) -> Action {
     at(agent, Step::Admit)
 }
 
+/// The home starts the agent's request.
 pub fn start(agent: Agent) -> Action {
     at(agent, Step::Start)
 }
 
+/// The agent takes its data.
 pub fn data(agent: Agent) -> Action {
     at(agent, Step::RecvData)
 }
 
+/// The home takes the agent's CompAck.
 pub fn ack(agent: Agent) -> Action {
     at(agent, Step::RecvAck)
 }

@@ -1,7 +1,7 @@
 //! A slice takes no memory once it was made.
 
-use crate::moves::{LINE, answer, at, look, node, recorded};
-use crate::runs::{Move, SNOOP_CROSSES_WRITE_BACK};
+use crate::moves::{node, recorded};
+use crate::runs::{SNOOP_CROSSES_WRITE_BACK, plays};
 use chi_slice::Slice;
 use linked_list_allocator::LocalHeap;
 use std::alloc::{AllocError, Allocator, Global};
@@ -11,15 +11,6 @@ use std::process::Abort;
 fn slice_in<A: Allocator + Copy>(rt: &impl Abort, alloc: A) -> Slice<A> {
     let config = node(rt, 2, 1, 8);
     Slice::new(alloc, &config, 0).expect(rt, "memory for a slice")
-}
-
-/// The slice answers each move as it says.
-fn runs<A: Allocator>(rt: &impl Abort, slice: &mut Slice<A>, moves: &[Move]) {
-    for (agent, step, wanted) in moves {
-        let done = answer(slice, at(*agent, *step));
-        assert_eq!(rt; done, *wanted, "agent {agent} does {step:?}");
-        assert!(rt; look(slice, LINE).is_ok());
-    }
 }
 
 /// How much memory such a slice takes.
@@ -38,7 +29,7 @@ fn a_slice_runs_where_all_memory_is_used(rt: HostRuntime) -> Result<(), AllocErr
     assert_eq!(rt; heap.used(), size);
     assert!(rt; Box::new(&heap, 0u8).is_err());
     // loads, stores, snoops and write data
-    runs(&rt, &mut slice, &SNOOP_CROSSES_WRITE_BACK);
+    plays(&rt, &mut slice, &SNOOP_CROSSES_WRITE_BACK);
     assert_eq!(rt; recorded(&slice), 3);
     assert!(rt; Box::new(&heap, 0u8).is_err());
     Ok(())

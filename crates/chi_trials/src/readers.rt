@@ -20,13 +20,18 @@ fn has_its_own_lines(rt: HostRuntime) {
     let config = halves(&rt);
     let even = Slice::new(rt.alloc(), &config, 0).expect(&rt, "memory for a slice");
     let odd = Slice::new(rt.alloc(), &config, 1).expect(&rt, "memory for a slice");
-    for line in 0..5 {
-        has_line(&rt, &even, line, line % 2 == 0);
-        has_line(&rt, &odd, line, line % 2 == 1);
-    }
-    for line in [5, 6, 255] {
-        has_line(&rt, &even, line, false);
-        has_line(&rt, &odd, line, false);
+    for (line, in_even, in_odd) in [
+        (0, true, false),
+        (1, false, true),
+        (2, true, false),
+        (3, false, true),
+        (4, true, false),
+        (5, false, false),
+        (6, false, false),
+        (255, false, false),
+    ] {
+        has_line(&rt, &even, line, in_even);
+        has_line(&rt, &odd, line, in_odd);
     }
 }
 
@@ -46,6 +51,13 @@ fn is_pending(
     assert_eq!(rt; slice.pending(Agent(agent), line), wanted, "agent {agent}");
 }
 
+/// Agents and lines outside their ranges are refused.
+fn tells_no_slot_outside(rt: &impl Abort, slice: &Slice<Global>) {
+    for (agent, line) in [(2, 0), (255, 0), (0, 2), (0, 255)] {
+        is_pending(rt, slice, agent, Line(line), Err(Refusal::OutOfRange));
+    }
+}
+
 #[test]
 fn tells_the_pending_slot(rt: HostRuntime) {
     let mut slice = slice_of(&rt, rt.alloc(), 2, 2, 16);
@@ -61,9 +73,7 @@ fn tells_the_pending_slot(rt: HostRuntime) {
     // served still, and not pending any more
     does(&rt, &mut slice, 1, Step::RecvData);
     is_pending(&rt, &slice, 1, LINE, Ok(None));
-    for (agent, line) in [(2, 0), (255, 0), (0, 2), (0, 255)] {
-        is_pending(&rt, &slice, agent, Line(line), Err(Refusal::OutOfRange));
-    }
+    tells_no_slot_outside(&rt, &slice);
 }
 
 /// Of all types agent 1's slot has this one alone.

@@ -66,20 +66,31 @@ const OUTSIDE: [Step; 6] = [
     Step::Issue(Kind::ReadShared, Slot(255)),
 ];
 
+/// The step is refused to agents, and at lines, outside their ranges.
+fn refuses_outside(rt: &impl Abort, slice: &mut Slice<Global>, step: Step) {
+    for (agent, line) in [(7, 0), (255, 0), (0, 2), (0, 255), (7, 2)] {
+        let action = Action {
+            agent: Agent(agent),
+            line: Line(line),
+            step,
+        };
+        refuses(rt, slice, action, 10);
+    }
+}
+
 #[test]
-fn numbers_outside_their_ranges_come_first(rt: HostRuntime) {
+fn agents_and_lines_outside_their_ranges_come_first(rt: HostRuntime) {
     let mut slice = slice_of(&rt, rt.alloc(), 7, 2, 16);
     brings(&rt, &mut slice, State::UC);
     for step in STEPS {
-        for (agent, line) in [(7, 0), (255, 0), (0, 2), (0, 255), (7, 2)] {
-            let action = Action {
-                agent: Agent(agent),
-                line: Line(line),
-                step,
-            };
-            refuses(&rt, &mut slice, action, 10);
-        }
+        refuses_outside(&rt, &mut slice, step);
     }
+}
+
+#[test]
+fn words_and_slots_outside_their_ranges_come_first(rt: HostRuntime) {
+    let mut slice = slice_of(&rt, rt.alloc(), 7, 2, 16);
+    brings(&rt, &mut slice, State::UC);
     for step in OUTSIDE {
         refuses(&rt, &mut slice, at(0, step), 10);
     }
@@ -178,17 +189,27 @@ const BY_STATE: [Refused; 5] = [
     },
 ];
 
+/// Agent 0's copy isn't in a state for these steps.
+fn refuses_steps(rt: &impl Abort, slice: &mut Slice<Global>, steps: &[Step]) {
+    for step in steps {
+        refuses(rt, slice, at(0, *step), 2);
+    }
+}
+
+/// Agent 0's copy isn't in a state for requests of these kinds.
+fn refuses_kinds(rt: &impl Abort, slice: &mut Slice<Global>, kinds: &[Kind]) {
+    for kind in kinds {
+        refuses(rt, slice, at(0, Step::Issue(*kind, Slot(1))), 2);
+    }
+}
+
 #[test]
 fn a_copy_in_another_state_is_refused(rt: HostRuntime) {
     for refused in BY_STATE {
         let mut slice = slice_of(&rt, rt.alloc(), 3, 2, 16);
         brings(&rt, &mut slice, refused.state);
-        for step in refused.steps {
-            refuses(&rt, &mut slice, at(0, *step), 2);
-        }
-        for kind in refused.kinds {
-            refuses(&rt, &mut slice, at(0, Step::Issue(*kind, Slot(1))), 2);
-        }
+        refuses_steps(&rt, &mut slice, refused.steps);
+        refuses_kinds(&rt, &mut slice, refused.kinds);
     }
 }
 

@@ -2,7 +2,8 @@
 //! beginning of the worked runs.
 
 use crate::moves::{LINE, answer, at, look, slice_of};
-use crate::runs::{Move, RUNS};
+use crate::refusals::STEPS;
+use crate::runs::{Move, RUNS, Run};
 use chi_audit::check;
 use chi_flit::{Agent, Kind, Line, Slot, WordNo};
 use chi_slice::{Action, Slice, Step};
@@ -20,26 +21,12 @@ const KINDS: [Kind; 8] = [
     Kind::WriteEvictFull,
 ];
 
-/// The steps other than Issue, with words inside and outside their range.
-const STEPS: [Step; 18] = [
+/// Loads and stores beside those of `STEPS`, with words inside and outside their range.
+const WITH_WORDS: [Step; 4] = [
     Step::Load(WordNo(0)),
     Step::Load(WordNo(8)),
     Step::Store(WordNo(0), 1),
     Step::Store(WordNo(8), 1),
-    Step::Drop,
-    Step::Admit,
-    Step::Retry,
-    Step::RecvRetry,
-    Step::Resend,
-    Step::Cancel,
-    Step::Start,
-    Step::RecvSnp,
-    Step::RecvSnpResp,
-    Step::RecvData,
-    Step::RecvComp,
-    Step::RecvAck,
-    Step::RecvDbid,
-    Step::RecvWrData,
 ];
 
 /// A node, and the moves that were tried on its slice.
@@ -96,7 +83,7 @@ fn shows_the_same(rt: &impl Abort, slice: &Slice<Global>, other: &Slice<Global>,
     assert_eq!(rt; look(slice, line), look(other, line), "{line:?}");
 }
 
-/// Tries every step of an agent at a line, with slots inside and outside their range.
+/// Tries these steps of an agent at a line.
 fn tries_steps(
     rt: &impl Abort,
     alloc: Global,
@@ -104,28 +91,77 @@ fn tries_steps(
     left_alone: &Slice<Global>,
     agent: Agent,
     line: Line,
+    steps: &[Step],
 ) {
-    for step in STEPS {
+    for step in steps {
+        let action = Action {
+            agent,
+            line,
+            step: *step,
+        };
+        tries(rt, alloc, begun, left_alone, action);
+    }
+}
+
+/// Tries a request of each kind, in the slot, of an agent at a line.
+fn tries_requests(
+    rt: &impl Abort,
+    alloc: Global,
+    begun: Begun<'_>,
+    left_alone: &Slice<Global>,
+    agent: Agent,
+    line: Line,
+    slot: Slot,
+) {
+    for kind in KINDS {
+        let step = Step::Issue(kind, slot);
         let action = Action { agent, line, step };
         tries(rt, alloc, begun, left_alone, action);
     }
-    for kind in KINDS {
-        for slot in [0, 1, 8] {
-            let step = Step::Issue(kind, Slot(slot));
-            let action = Action { agent, line, step };
-            tries(rt, alloc, begun, left_alone, action);
-        }
+}
+
+/// Tries every step of an agent at a line, with words and slots inside and outside their ranges.
+fn tries_line(
+    rt: &impl Abort,
+    alloc: Global,
+    begun: Begun<'_>,
+    left_alone: &Slice<Global>,
+    agent: Agent,
+    line: Line,
+) {
+    tries_steps(rt, alloc, begun, left_alone, agent, line, &STEPS);
+    tries_steps(rt, alloc, begun, left_alone, agent, line, &WITH_WORDS);
+    for slot in [0, 1, 8] {
+        tries_requests(rt, alloc, begun, left_alone, agent, line, Slot(slot));
+    }
+}
+
+/// Tries every action of an agent, with lines inside and outside their range.
+fn tries_lines(
+    rt: &impl Abort,
+    alloc: Global,
+    begun: Begun<'_>,
+    left_alone: &Slice<Global>,
+    agent: Agent,
+) {
+    for line in 0..2 {
+        tries_line(rt, alloc, begun, left_alone, agent, Line(line));
     }
 }
 
 #[test]
 fn what_is_refused_changes_nothing(rt: HostRuntime) {
     for run in RUNS {
-        for length in 0..=run.moves.len() {
-            let moves = &run.moves[..length];
-            tries_all(&rt, rt.alloc(), run.agents, 1, moves);
-            tries_all(&rt, rt.alloc(), 3, 2, moves);
-        }
+        tries_beginnings(&rt, rt.alloc(), run);
+    }
+}
+
+/// Tries every action after each beginning of the run, in its own node and in a larger one.
+fn tries_beginnings(rt: &impl Abort, alloc: Global, run: Run) {
+    for length in 0..=run.moves.len() {
+        let moves = &run.moves[..length];
+        tries_all(rt, alloc, run.agents, 1, moves);
+        tries_all(rt, alloc, 3, 2, moves);
     }
 }
 
@@ -139,8 +175,6 @@ fn tries_all(rt: &impl Abort, alloc: Global, agents: u8, lines: u8, moves: &[Mov
     };
     let left_alone = begun.slice(rt, alloc);
     for agent in 0..3 {
-        for line in 0..2 {
-            tries_steps(rt, alloc, begun, &left_alone, Agent(agent), Line(line));
-        }
+        tries_lines(rt, alloc, begun, &left_alone, Agent(agent));
     }
 }

@@ -46,8 +46,15 @@ fn node_of_four(rt: &impl Abort) -> Config
     Config::four(2, 1, 1, [1, 1, 1, 1], 4).expect(rt, "sizes in their limits")
 }
 
-/// Agent 0's request of the kind is answered by a RetryAck of the type.
-fn is_retried_for(rt: &impl Abort, slice: &mut Slice<Global>, kind: Kind, ty: CreditType) {
+/// Agent 0's request of the kind, from the state, is answered by a RetryAck of the type.
+fn is_retried_for(
+    rt: &impl Abort,
+    slice: &mut Slice<Global>,
+    state: State,
+    kind: Kind,
+    ty: CreditType,
+) {
+    brings(rt, slice, state);
     does(rt, slice, 0, Step::Issue(kind, Slot(0)));
     does(rt, slice, 0, Step::Retry);
     let sent = view(rt, slice).flits[0].rsp_down;
@@ -57,12 +64,10 @@ fn is_retried_for(rt: &impl Abort, slice: &mut Slice<Global>, kind: Kind, ty: Cr
 #[test]
 fn a_retry_names_the_credit_type_of_the_kind(rt: HostRuntime) {
     for (kind, state, two, four) in TYPES {
-        let of_two = slice_of(&rt, rt.alloc(), 2, 1, 4);
+        let mut of_two = slice_of(&rt, rt.alloc(), 2, 1, 4);
+        is_retried_for(&rt, &mut of_two, state, kind, two);
         let config = node_of_four(&rt);
-        let of_four = Slice::new(rt.alloc(), &config, 0).expect(&rt, "memory for a slice");
-        for (mut slice, ty) in [(of_two, two), (of_four, four)] {
-            brings(&rt, &mut slice, state);
-            is_retried_for(&rt, &mut slice, kind, ty);
-        }
+        let mut of_four = Slice::new(rt.alloc(), &config, 0).expect(&rt, "memory for a slice");
+        is_retried_for(&rt, &mut of_four, state, kind, four);
     }
 }

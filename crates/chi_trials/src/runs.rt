@@ -9,7 +9,7 @@ use chi_slice::Step::{
     Start, Store,
 };
 use chi_slice::{Action, Effect, Slice};
-use std::alloc::Global;
+use std::alloc::{Allocator, Global};
 use std::process::Abort;
 
 /// An agent's step at line 0, and what it is answered.
@@ -131,14 +131,29 @@ pub const RUNS: [Run; 4] = [
     },
 ];
 
+/// The slice answers each move as it says, and its line is shown after it.
+pub fn plays<A: Allocator>(rt: &impl Abort, slice: &mut Slice<A>, moves: &[Move]) {
+    for (agent, step, wanted) in moves {
+        let done = answer(slice, at(*agent, *step));
+        assert_eq!(rt; done, *wanted, "agent {agent} does {step:?}");
+        assert!(rt; look(slice, LINE).is_ok());
+    }
+}
+
 #[test]
 fn every_move_is_answered_as_it_says(rt: HostRuntime) {
     for run in RUNS {
         let mut slice = slice_of(&rt, rt.alloc(), run.agents, 1, 8);
-        for (agent, step, wanted) in run.moves {
-            let done = answer(&mut slice, at(*agent, *step));
-            assert_eq!(rt; done, *wanted, "agent {agent} does {step:?}");
-        }
+        plays(&rt, &mut slice, run.moves);
+    }
+}
+
+/// Adds the actions of the moves.
+fn adds(rt: &impl Abort, actions: &mut Vec<Action>, moves: &[Move]) {
+    for (agent, step, _) in moves {
+        actions
+            .push(at(*agent, *step))
+            .expect(rt, "memory for actions");
     }
 }
 
@@ -146,11 +161,7 @@ fn every_move_is_answered_as_it_says(rt: HostRuntime) {
 fn actions_of(rt: &impl Abort, alloc: Global, run: Run, times: u8) -> Vec<Action> {
     let mut actions = Vec::new(alloc);
     for _ in 0..times {
-        for (agent, step, _) in run.moves {
-            actions
-                .push(at(*agent, *step))
-                .expect(rt, "memory for actions");
-        }
+        adds(rt, &mut actions, run.moves);
     }
     actions
 }

@@ -1,33 +1,10 @@
 //! Verdicts on plain data, against `docs/PROTOCOL.md`, "Coherence".
 
+use crate::four_slices::OPENING;
 use chi_audit::{check, check_slice};
 use chi_flit::{Action, Agent, DatUp, Kind, Line, NO_DATA, Slot, State, Step, WordNo};
-use chi_homeline::Serving;
-use chi_slice::{Config, CopyView, LineView, Slice};
-use chi_wires::Cells;
-
-const OPENING: LineView = LineView {
-    copies: [CopyView::NONE; 8],
-    pending: [None; 8],
-    memory: NO_DATA,
-    named: [false; 8],
-    unique: false,
-    owner: None,
-    serving: Serving::Idle,
-    awaited: [false; 8],
-    waiting: [None; 8],
-    flits: [NO_CELLS; 8],
-    last: NO_DATA,
-};
-
-const NO_CELLS: Cells = Cells {
-    req: None,
-    snp: None,
-    rsp_down: None,
-    dat_down: None,
-    rsp_up: None,
-    dat_up: None,
-};
+use chi_slice::{Config, LineView, Slice};
+use std::process::Abort;
 
 /// Two agents hold the line in these states, with its last values, and are named.
 fn held(first: State, second: State) -> LineView {
@@ -48,13 +25,18 @@ fn passes_copies_that_may_stand_together(rt: HostRuntime) {
     assert!(rt; check(&held(State::UD, State::I)));
 }
 
+/// No copy may stand beside a unique one, before it or after it.
+fn fails_beside(rt: &impl Abort, unique: State) {
+    for other in [State::SC, State::UC, State::UD, State::SD] {
+        assert!(rt; !check(&held(unique, other)));
+        assert!(rt; !check(&held(other, unique)));
+    }
+}
+
 #[test]
 fn fails_a_unique_copy_beside_another(rt: HostRuntime) {
     for unique in [State::UC, State::UD] {
-        for other in [State::SC, State::UC, State::UD, State::SD] {
-            assert!(rt; !check(&held(unique, other)));
-            assert!(rt; !check(&held(other, unique)));
-        }
+        fails_beside(&rt, unique);
     }
     assert!(rt; !check(&held(State::SD, State::SD)));
 }
