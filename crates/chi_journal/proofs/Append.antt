@@ -3,6 +3,7 @@ use Rattle.std.proofs.Common.{◌≡◌, ◌≢◌, ℕ, ◌+◌, ◌^◌, ◌<�
 use Rattle.std.proofs.lemmas.List.{get_or-set_same, get_or-set_other, length-set}
 use Rattle.std.proofs.lemmas.List.Elements.{filter-append}
 use Rattle.std.proofs.lemmas.List.Sums.{count_by-le-length, length-filter, sum_by-append}
+use Rattle.std.proofs.lemmas.Bool.{eqb-true, eq-eqb}
 use Rattle.chi_flit.specs.declared.numbers.Line.{Line}
 use Rattle.chi_flit.specs.declared.numbers.WordNo.{WordNo}
 use Rattle.chi_journal.specs.declared.record.Record.{Record}
@@ -62,9 +63,6 @@ legal_before before (first ∷ entries) entry =
 pub legal_with : (entries : List Record) (entry : Record) → IsLegal (entries ++ entry ∷ []) ↔ (IsLegal entries × IsLegalAfter entries entry)
 legal_with entries entry = legal_before [] entries entry
 
-are_same : (n m : ℕ) → (n == m) ≡ true → n ≡ m
-are_same n m test = grind arith
-
 are_apart : (n m : ℕ) → (n == m) ≡ false → m ≢ n
 are_apart n m test = grind arith
 
@@ -77,7 +75,7 @@ stored_row rows entries at word value is inside line below = go (at == line) ref
   where
     go : (b : Bool) → (at == line) ≡ b
         → words_of (slice_set rows at (slice_set (words_of rows at) word value)) line ≡ (if b then slice_set (last_words entries line) word value else last_words entries line)
-    go true e = subst (λ k. words_of (slice_set rows at (slice_set (words_of rows at) word value)) k ≡ slice_set (last_words entries k) word value) (are_same at line e) (get_or-set_same rows at (slice_set (words_of rows at) word value) [] inside ∙ ap (λ words. slice_set words word value) (is at inside))
+    go true e = subst (λ k. words_of (slice_set rows at (slice_set (words_of rows at) word value)) k ≡ slice_set (last_words entries k) word value) (eqb-true at line e) (get_or-set_same rows at (slice_set (words_of rows at) word value) [] inside ∙ ap (λ words. slice_set words word value) (is at inside))
     go false e = get_or-set_other rows at line (slice_set (words_of rows at) word value) [] (are_apart at line e) ∙ is line below
 
 -- the count of an agent's part after one record more
@@ -87,7 +85,7 @@ part_is : (parts : List ℕ) (entries : List Record) (entry : Record) (n : ℕ)
 part_is parts entries entry n eight low is own = go (is_record_of n entry) refl ∙ sym (part_len_with entries entry n)
   where
     go : (b : Bool) → is_record_of n entry ≡ b → get_or (part_counted parts (record_agent entry).0) n 0 ≡ length (part_of entries n) + cond b 1 0
-    go true e = subst (λ k. get_or (part_counted parts (record_agent entry).0) k 0 ≡ length (part_of entries k) + 1) (are_same (record_agent entry).0 n e) (get_or-set_same parts (record_agent entry).0 (get_or parts (record_agent entry).0 0 + 1) 0 (omega (arith, low, eight)) ∙ ap (λ k. k + 1) own)
+    go true e = subst (λ k. get_or (part_counted parts (record_agent entry).0) k 0 ≡ length (part_of entries k) + 1) (eqb-true (record_agent entry).0 n e) (get_or-set_same parts (record_agent entry).0 (get_or parts (record_agent entry).0 0 + 1) 0 (omega (arith, low, eight)) ∙ ap (λ k. k + 1) own)
     go false e = get_or-set_other parts (record_agent entry).0 n (get_or parts (record_agent entry).0 0 + 1) 0 (are_apart (record_agent entry).0 n e) ∙ is ∙ omega arith
 
 -- whether a list is legal after a load, by whether it was
@@ -103,10 +101,7 @@ along f g = (λ a. g.1 (f.0 a), λ c. f.1 (g.0 c))
 
 -- the test of a load's value
 tested : (value : ℕ) (words last : List ℕ) (word : ℕ) → words ≡ last → (value == get_or words word 0) ≡ true ↔ (value ≡ get_or last word 0)
-tested value words last word is = (λ e. are_same value (get_or words word 0) e ∙ ap (λ w. get_or w word 0) is, λ e. equal value (get_or words word 0) (e ∙ ap (λ w. get_or w word 0) (sym is)))
-  where
-    equal : (n m : ℕ) → n ≡ m → (n == m) ≡ true
-    equal n m e = grind arith
+tested value words last word is = (λ e. eqb-true value (get_or words word 0) e ∙ ap (λ w. get_or w word 0) is, λ e. eq-eqb value (get_or words word 0) (e ∙ ap (λ w. get_or w word 0) (sym is)))
 
 less_than : (n limit : ℕ) → n ≤ limit → (n == limit) ≡ false → n < limit
 less_than n limit fits not_full = grind arith
