@@ -32,7 +32,7 @@ pub before : (qs cs xs es : List Flit) → IsPermutation cs (xs ++ es) → IsPer
 before qs cs xs es h = subst (IsPermutation (cs ++ qs)) (append_assoc xs es qs) (IsPermutation-append_left qs cs (xs ++ es) h)
 
 -- the flit of a channel, if its cell is full
-abbrev part : Agent → Line → Cells → Channel → List Flit
+abbrev pub part : Agent → Line → Cells → Channel → List Flit
 part agent line cells channel = flit_of channel agent line (cell_of cells channel)
 
 -- an agent's flits are that of a channel, and those of the others

@@ -11,9 +11,7 @@ use Rattle.chi_wires.specs.declared.cells.Cells.{Cells}
 use Rattle.chi_wires.specs.Cell.{no_flits, cell_of}
 use Rattle.chi_wires.specs.Wires.{flits_at}
 use Rattle.chi_wires.specs.Flight.{Flit, flit_of, flits_of, flits_of_row, flits_of_rows, in_flight, is_at, channel_number}
-
-eqb_same : (n : ℕ) → (n == n) ≡ true
-eqb_same n = grind arith
+use Rattle.chi_wires.proofs.Moved.{part}
 
 -- flits of another cell
 apart : (channel ch : Channel) (agent a : Agent) (line l : Line) (cell : Option Msg)
@@ -29,10 +27,6 @@ here channel agent line None = refl
 here channel agent line (Some message) =
     let same : ((channel_number channel == channel_number channel) && ((agent.0 == agent.0) && (line.0 == line.0))) ≡ true = grind arith in
     ap (λ b. cond b (record { channel = channel; agent = agent; line = line; message = message } ∷ []) []) same
-
--- the flit of a channel, if its cell is full
-abbrev part : Agent → Line → Cells → Channel → List Flit
-part agent line cells channel = flit_of channel agent line (cell_of cells channel)
 
 -- the six parts of an agent's flits, each filtered
 six : (test : Flit → Bool) (agent : Agent) (line : Line) (cells : Cells) (a b c d e f : List Flit)
