@@ -11,7 +11,7 @@ wide n low = let e : length (only_set n) ≡ 8 = length-set nobody n true in ome
 pub has_one : (n : ℕ) → n < 8 → has_any (only_set n) ≡ true
 has_one n low = list_any_at (λ b. b) (only_set n) n false (wide n low) (get_or-set_same nobody n true false low)
 
-others_out : (n m : ℕ) → m < 8 → m ≢ n → is_in (only_set n) m ≡ false
+pub others_out : (n m : ℕ) → m < 8 → m ≢ n → is_in (only_set n) m ≡ false
 others_out n m low other = get_or-set_other nobody n m true false other ∙ get_or-replicate 8 m false false low
 
 -- who is in the set of one agent is that agent

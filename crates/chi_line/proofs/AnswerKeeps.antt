@@ -1,6 +1,6 @@
 -- Answers to snoops, and the completion that the last one brings, keep what a line keeps.
 use Rattle.std.proofs.Common.{◌≡◌, ◌≢◌, ℕ, ◌<◌, List, Bool, true, false, Option, Some, None, length, arith, refl, sym, subst, ap, ◌∙◌, ⊎_elim, if◌then◌else◌, ◌&&◌, inl, inr, ◌⊎◌}
-use Rattle.std.proofs.lemmas.Bool.{cases_eq}
+use Rattle.std.proofs.lemmas.Bool.{cases_eq, both_ways, false_from_ne_true}
 use Rattle.std.proofs.lemmas.List.{length-set, get_or_default}
 use Rattle.std.proofs.lemmas.List.Folds.{list_any_none}
 use Rattle.chi_flit.specs.declared.numbers.Agent.{Agent}
@@ -49,15 +49,11 @@ snooped_lanes last s is k = λ m at. subst (λ v. LaneKept v s.home.filter.uniqu
 nobody_in : (marks : List Bool) → length marks ≡ 8 → ((m : ℕ) → m < 8 → is_in marks m ≡ false) → has_any marks ≡ false
 nobody_in marks eight none = list_any_none (λ b. b) marks (λ m d at. get_or_default marks m d false at ∙ none m (omega (arith, at, eight)))
 
-not_true : (b : Bool) → (b ≡ true → ⊥) → b ≡ false
-not_true true never = absurd (never refl)
-not_true false never = refl
-
 -- where an awaited agent is flagged, nobody else is named
 alone_named : (last : List ℕ) (s : LineState) (n : ℕ) → AwaitsAnswer s n → Kept last s
     → s.home.filter.unique ≡ true → (m : ℕ) → m < 8 → m ≢ n → is_named s.home.filter m ≡ false
 alone_named last s n may k flag m at other =
-    not_true (is_named s.home.filter m) (λ named. other (k.flag_means_one flag m n at may.here named ((k.lanes n may.here).awaited_named may.awaited)))
+    false_from_ne_true (is_named s.home.filter m) (λ named. other (k.flag_means_one flag m n at may.here named ((k.lanes n may.here).awaited_named may.awaited)))
 
 none_other : (n m : ℕ) (marks : List Bool) → n < 8 → length marks ≡ 8 → (m ≢ n → is_in marks m ≡ false) → is_in (others_than n marks) m ≡ false
 none_other n m marks low eight other = ⊎_elim
@@ -96,9 +92,6 @@ record FilterLeft (f after : FilterState) (n : ℕ) : Type 0 where
   clear : after.unique ≡ false
   owner_stays : (m : ℕ) → m < 8 → m ≢ n → owned_by after.owner m ≡ owned_by f.owner m
 
-no_two : (b : Bool) → b ≡ false → b ≡ true → ⊥
-no_two b clear is = cc
-
 answered_moves : (last : List ℕ) (s : LineState) (n : ℕ) (memory : List ℕ) (after : FilterState) (c : Cells) → n < 8
     → FilterLeft s.home.filter after n → Kept last s
     → Moves s (answered_line s n memory after c) n (record (lane s n) { named = is_named after n; awaited = false; flits = c })
@@ -131,7 +124,7 @@ kept_answered last s n memory after c may fits own clean_memory k =
       in_range = k.in_range;
       lanes = λ m at. subst (λ v. LaneKept v after.unique after.owner last m (lane (answered_line s n memory after c) m)) (sym may.snooping.serving_is)
           (subst (λ u. LaneKept (Snooping agent kind slot) u after.owner last m (lane (answered_line s n memory after c) m)) (sym fits.clear) (lanes m at));
-      flag_means_one = λ flag. absurd (no_two after.unique fits.clear flag);
+      flag_means_one = λ flag. absurd (both_ways after.unique fits.clear flag);
       memory_last = clean_memory;
     }
 

@@ -1,6 +1,6 @@
 -- The completion that the last answer brings: to whom it goes, and the cell that it finds empty.
 use Rattle.std.proofs.Common.{◌≡◌, ℕ, zero, suc, ◌<◌, List, [], ◌∷◌, Bool, true, false, Option, Some, None, is_some, Result, Ok, Err, OnOk, length, get_or, set, refl, ap, subst, ◌∙◌, if◌then◌else◌, arith}
-use Rattle.std.proofs.lemmas.List.{get_or-set_same}
+use Rattle.std.proofs.lemmas.List.{get_or-set_same, set-set}
 use Rattle.chi_flit.specs.declared.numbers.Agent.{Agent}
 use Rattle.chi_flit.specs.declared.numbers.Slot.{Slot}
 use Rattle.chi_flit.specs.declared.kind.Kind.{Kind}
@@ -65,11 +65,6 @@ same_at f (x ∷ l) zero (suc m) c same = refl
 same_at f (x ∷ l) (suc n) zero c same = refl
 same_at f (x ∷ l) (suc n) (suc m) c same = same_at f l n m c same
 
-set_again : {X : Type 0} (l : List X) (n : ℕ) (a b : X) → set (set l n a) n b ≡ set l n b
-set_again [] n a b = refl
-set_again (x ∷ l) zero a b = refl
-set_again (x ∷ l) (suc n) a b = ap (λ k. x ∷ k) (set_again l n a b)
-
 -- taking an answer leaves the cells down
 pub response_stays : (answer : SnoopAnswer) (cells : Cells) → (emptied cells (answer_channel answer)).rsp_down ≡ cells.rsp_down
 response_stays answers.I cells = refl
@@ -95,7 +90,7 @@ pub put_in_row : (wires : List (List Cells)) (r : ℕ) (now : List (List Cells))
     → set now r (completion_put (row_of now r) completion) ≡ set wires r (completion_put row completion)
 put_in_row wires r now row completion low is =
     ap (λ (v : List (List Cells)). set v r (completion_put (row_of v r) completion)) is
-    ∙ (set_again wires r row _ ∙ ap (λ (l : List Cells). set wires r (completion_put l completion)) (get_or-set_same wires r row [] low))
+    ∙ (set-set wires r row _ ∙ ap (λ (l : List Cells). set wires r (completion_put l completion)) (get_or-set_same wires r row [] low))
 
 -- RecvSnpResp that isn't refused: its parts are those of the line that the answer leaves
 pub answer_leaves : {X : Type 0} (part : LineState → X) (result : Result Effect Refusal) (o : Option SnoopAnswer) (s : LineState) (agent : Agent) (new : X)

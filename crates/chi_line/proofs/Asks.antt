@@ -2,12 +2,13 @@
 use Rattle.std.specs.Prelude.{◌≡◌, ◌≢◌, ℕ, ◌<◌, List, length, Bool, true, false, ◌&&◌, ◌==◌, Option, Some, None, if◌then◌else◌}
 use Rattle.std.proofs.Common.{refl, sym, ◌∙◌, subst, arith}
 use Rattle.std.proofs.lemmas.List.{get_or-set_same, get_or-set_other, length-set, get_or-replicate}
-use Rattle.std.proofs.lemmas.Bool.{both_ways, and_parts}
+use Rattle.std.proofs.lemmas.Bool.{both_ways, and_parts, eqb-true}
 use Rattle.std.proofs.lemmas.List.Folds.{list_any_at}
 use Rattle.chi_flit.specs.declared.numbers.Agent.{Agent}
 use Rattle.chi_flit.specs.declared.snoop.Snoop.{Snoop}
 use Rattle.chi_flit.specs.declared.snoop.Snoop.TheVariants.{SnpShared, SnpNotSharedDirty, SnpUnique, SnpCleanInvalid}
 use Rattle.chi_filter.specs.Filter.{FilterState, nobody, only_set, is_in, has_any, others_than, is_named, owned_by, owner_set}
+use Rattle.chi_filter.proofs.Keeps.{others_out}
 use Rattle.chi_homeline.specs.Home.{asks, asks_shared}
 use Rattle.chi_line.specs.Kept.{shares, invalidates}
 
@@ -39,24 +40,15 @@ length-others n marks eight = length-set marks n false ∙ eight
 pub same : (n : ℕ) → (n == n) ≡ true
 same n = grind arith
 
-pub are_same : (n m : ℕ) → (n == m) ≡ true → n ≡ m
-are_same n m test = grind arith
-
 pub apart : (n m : ℕ) → m ≢ n → (n == m) ≡ false
 apart n m other = grind arith
-
-pub are_apart : (n m : ℕ) → (n == m) ≡ false → m ≢ n
-are_apart n m test = grind arith
-
-pub only_other : (n m : ℕ) → m < 8 → m ≢ n → is_in (only_set n) m ≡ false
-only_other n m low other = get_or-set_other nobody n m true false other ∙ get_or-replicate 8 m false false low
 
 pub only_itself : (n : ℕ) → n < 8 → is_in (only_set n) n ≡ true
 only_itself n low = get_or-set_same nobody n true false low
 
 -- who is in the set of one agent is that agent
 pub in_only : (n m : ℕ) → m < 8 → is_in (only_set n) m ≡ true → (n == m) ≡ true
-in_only n m low here = grind (arith, only_other)
+in_only n m low here = grind (arith, others_out)
 
 -- the owner's set
 pub owner_in : (owner : Option Agent) (m : ℕ) → m < 8 → is_in (owner_set owner) m ≡ true → owned_by owner m ≡ true
@@ -65,7 +57,7 @@ owner_in (Some agent) m low here = in_only agent.0 m low here
 
 pub in_owner : (owner : Option Agent) (m : ℕ) → m < 8 → owned_by owner m ≡ true → is_in (owner_set owner) m ≡ true
 in_owner None m low owns = grind arith
-in_owner (Some agent) m low owns = grind (arith, only_itself, are_same)
+in_owner (Some agent) m low owns = grind (arith, only_itself, eqb-true)
 
 pub length-owner_set : (owner : Option Agent) → length (owner_set owner) ≡ 8
 length-owner_set None = refl

@@ -2,7 +2,7 @@
 use Rattle.std.specs.Prelude.{◌≡◌, ◌≢◌, ℕ, ◌<◌, ◌≤◌, List, length, Bool, true, false, not, Some, None, get_or, slice_set}
 use Rattle.std.proofs.Common.{refl, sym, ◌∙◌, subst, ⊎_elim, arith}
 use Rattle.std.proofs.lemmas.List.{get_or-set_same, get_or-set_other, get_or-replicate, get_or_past, length-set}
-use Rattle.std.proofs.lemmas.Bool.{cases_lt, false≢true, true≢false, not-true}
+use Rattle.std.proofs.lemmas.Bool.{cases_lt, false≢true, true≢false, not-true, eqb-true}
 use Rattle.chi_flit.specs.declared.numbers.Agent.{Agent}
 use Rattle.chi_flit.specs.declared.numbers.Slot.{Slot}
 use Rattle.chi_flit.specs.declared.kind.Kind.{Kind}
@@ -19,7 +19,7 @@ use Rattle.chi_homeline.specs.Home.{completed, completed_filter, completes_uniqu
 use Rattle.chi_line.specs.LineState.{LineState, cells_of}
 use Rattle.chi_line.specs.Kept.{Kept, Lane, LaneKept, invalidates, is_read, lane}
 use Rattle.chi_line.proofs.Frame.{IsCleanLane, Puts, Moves, moves_by, puts_nothing, puts_set, nothing_waiting, lanes_by, clean_by}
-use Rattle.chi_line.proofs.Asks.{apart, same, are_same, in_only, none_in, left_in, length-others}
+use Rattle.chi_line.proofs.Asks.{apart, same, in_only, none_in, left_in, length-others}
 use Rattle.chi_line.proofs.CompleteLanes.{read_completes, clean_completes, no_owner, alone_other, shared_other, none_left, read_from_none}
 
 -- the line after a completion, with the data that is sent
@@ -150,7 +150,7 @@ completed_as unique s snoop agent slot sent = record s {
 
 -- the only one named
 only_one : (n a b : ℕ) → n < 8 → a < 8 → b < 8 → is_in (only_set n) a ≡ true → is_in (only_set n) b ≡ true → a ≡ b
-only_one n a b low below_a below_b in_a in_b = sym (are_same n a (in_only n a below_a in_a)) ∙ are_same n b (in_only n b below_b in_b)
+only_one n a b low below_a below_b in_a in_b = sym (eqb-true n a (in_only n a below_a in_a)) ∙ eqb-true n b (in_only n b below_b in_b)
 
 read_alone : (last : List ℕ) (s : LineState) (agent : Agent) (kind : Kind) (snoop : Snoop) (slot : Slot) (sent : List ℕ)
     → MayComplete last s agent kind snoop slot sent → Kept last s → is_read kind ≡ true

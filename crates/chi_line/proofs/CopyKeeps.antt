@@ -125,7 +125,7 @@ kept_comp_received last s n low here k =
     (awaits_ack s.home.serving n (comp_acked s.home.serving s.home.filter.unique s.home.filter.owner last n (lane s n) here (k.lanes n low))) k
 
 -- RecvDbid
-dbid_written : (serving : Serving) (unique : Bool) (owner : Option Agent) (last : List ℕ) (n : ℕ) (x : Lane)
+pub dbid_written : (serving : Serving) (unique : Bool) (owner : Option Agent) (last : List ℕ) (n : ℕ) (x : Lane)
     → x.flits.rsp_down ≡ Some CompDBIDResp → LaneKept serving unique owner last n x → writes_for serving n ≡ true
 dbid_written serving unique owner last n x here k = search (arith, k.one_write)
 

@@ -1,7 +1,7 @@
 -- An action leaves where the other agents' requests are.
 use Rattle.std.proofs.Common.{◌≡◌, ◌≢◌, ℕ, ◌<◌, List, Bool, true, false, ◌||◌, ◌==◌, Option, Some, None, length, get_or, set, refl, sym, ◌∙◌, ap, subst, if◌then◌else◌, arith, ◌⊎◌, inl, inr, ⊎_elim, get_or-set_same, get_or-set_other}
 use Rattle.std.proofs.lemmas.List.{length-set}
-use Rattle.std.proofs.lemmas.Bool.{cases_eq}
+use Rattle.std.proofs.lemmas.Bool.{cases_eq, or_left, or_right}
 use Rattle.chi_flit.specs.declared.numbers.Agent.{Agent}
 use Rattle.chi_flit.specs.declared.numbers.Slot.{Slot}
 use Rattle.chi_flit.specs.declared.kind.Kind.{Kind}
@@ -47,6 +47,7 @@ use Rattle.chi_line.proofs.Finds.{idle_is}
 use Rattle.chi_line.proofs.Keeps.{not_served}
 use Rattle.chi_line.proofs.SnoopRows.{snooped_at, snooped_cells}
 use Rattle.chi_line.proofs.Wheres.{snooped_for}
+use Rattle.chi_line.proofs.Asks.{apart as differ}
 
 -- where a request is at the home, no response to it shows
 true_last : (b : Bool) → b || true ≡ true
@@ -80,10 +81,11 @@ pub record Stays (s s' : LineState) (m : ℕ) : Type 0 where
   pub waiting : waiting_of s'.home m ≡ waiting_of s.home m
   pub served : slot_served_for s'.home.serving m ≡ slot_served_for s.home.serving m
 
-abbrev shown : Option Pending → Option Request → Option RspDown → Option Waiting → Option Slot → Seen
+-- what a line shows of an agent whose parts are written
+abbrev pub shown : Option Pending → Option Request → Option RspDown → Option Waiting → Option Slot → Seen
 shown p q r w v = record { pending = p; request = q; response = r; waiting = w; served = v }
 
-same_shown : (p p' : Option Pending) (q q' : Option Request) (r r' : Option RspDown) (w w' : Option Waiting) (v v' : Option Slot) → p ≡ p' → q ≡ q' → r ≡ r' → w ≡ w' → v ≡ v' → shown p q r w v ≡ shown p' q' r' w' v'
+pub same_shown : (p p' : Option Pending) (q q' : Option Request) (r r' : Option RspDown) (w w' : Option Waiting) (v v' : Option Slot) → p ≡ p' → q ≡ q' → r ≡ r' → w ≡ w' → v ≡ v' → shown p q r w v ≡ shown p' q' r' w' v'
 same_shown p p' q q' r r' w w' v v' ps qs rs ws vs = cc
 
 pub stays_where : (s s' : LineState) (m : ℕ) (slot : Slot) → Stays s s' m → where_at s' m slot ≡ where_at s m slot
@@ -123,9 +125,6 @@ nothing_written s m = stays_by s s m refl refl refl refl
 -- an agent that isn't served
 unserved : (b : Bool) (slot : Slot) → b ≡ false → (if b then Some slot else None) ≡ None
 unserved b slot apart = ap (λ (x : Bool). if x then Some slot else None) apart
-
-differ : (n m : ℕ) → m ≢ n → (n == m) ≡ false
-differ n m apart = grind arith
 
 -- Start
 started_serves : (kind : Kind) (o : Option Snoop) (home : Home) (agent : Agent) (slot : Slot) (m : ℕ) → m ≢ agent.0 → home.serving ≡ Idle → slot_served_for (started_as kind o home agent slot).serving m ≡ None
@@ -326,12 +325,6 @@ completion_elsewhere s n m (Some CompUC) apart = both_written s n m _ _ apart
 completion_elsewhere s n m (Some CompI) apart = both_written s n m _ _ apart
 completion_elsewhere s n m (Some CompDBIDResp) apart = nothing_written s m
 
-or_first : (a b : Bool) → a ≡ true → a || b ≡ true
-or_first a b h = grind (arith, h)
-
-or_second : (a b : Bool) → b ≡ true → a || b ≡ true
-or_second a b h = grind (arith, h)
-
 pub write_awaited : (serving : Serving) (unique : Bool) (owner : Option Agent) (last : List ℕ) (n : ℕ) (x : Lane) → is_write_data x.flits.dat_up ≡ true → LaneKept serving unique owner last n x → writes_for serving n ≡ true
 write_awaited serving unique owner last n x here k = search (arith, k.one_write)
 
@@ -348,7 +341,7 @@ written_elsewhere last s n m kind (Some (SnpRespDataIPD words)) low apart here k
 written_elsewhere last s n m kind (Some (SnpRespDataSCPD words)) low apart here k = nothing_written s m
 written_elsewhere last s n m kind (Some (SnpRespDataSD words)) low apart here k = nothing_written s m
 written_elsewhere last s n m kind (Some (CopyBackWrData form words)) low apart here k =
-    home_written s n m _ _ apart refl (ended_elsewhere s.home.serving n m apart (or_second (acks_for s.home.serving n) (writes_for s.home.serving n) (write_awaited s.home.serving s.home.filter.unique s.home.filter.owner last n (lane s n) (ap is_write_data here) (k.lanes n low))))
+    home_written s n m _ _ apart refl (ended_elsewhere s.home.serving n m apart (or_right (acks_for s.home.serving n) (writes_for s.home.serving n) (write_awaited s.home.serving s.home.filter.unique s.home.filter.owner last n (lane s n) (ap is_write_data here) (k.lanes n low))))
 
 pub stays_elsewhere : (c : Conditions) (last : List ℕ) (s : LineState) (agent : Agent) (step : Step) (m : ℕ) → agent.0 < 8 → m < 8 → m ≢ agent.0 → step_refusal c s agent step ≡ None → Kept last s
     → Stays s (after_step c.profile s agent step) m
@@ -375,7 +368,7 @@ stays_elsewhere c last s agent steps.RecvData m low at apart may k =
     stays_where_some s m (cells_of s agent.0).dat_down (received_line s agent.0) (λ message here. both_written s agent.0 m _ _ apart)
 stays_elsewhere c last s agent steps.RecvComp m low at apart may k = completion_elsewhere s agent.0 m (cells_of s agent.0).rsp_down apart
 stays_elsewhere c last s agent steps.RecvAck m low at apart may k =
-    home_written s agent.0 m _ _ apart refl (ended_elsewhere s.home.serving agent.0 m apart (or_first (acks_for s.home.serving agent.0) (writes_for s.home.serving agent.0)
+    home_written s agent.0 m _ _ apart refl (ended_elsewhere s.home.serving agent.0 m apart (or_left (acks_for s.home.serving agent.0) (writes_for s.home.serving agent.0)
     (acked_for_ack s.home.serving s.home.filter.unique s.home.filter.owner last agent.0 (lane s agent.0) (flit_there (is_ack (cells_of s agent.0).rsp_up) may) (k.lanes agent.0 low))))
 stays_elsewhere c last s agent steps.RecvDbid m low at apart may k =
     stays_where_some s m (rn_of s agent.0).pending (λ (request : Pending). dbid_received_line s agent.0 request.kind) (λ request here. both_written s agent.0 m _ _ apart)

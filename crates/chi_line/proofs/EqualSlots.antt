@@ -2,7 +2,7 @@
 use Rattle.std.proofs.Common.{◌≡◌, ℕ, ◌==◌, true, ap, arith}
 use Rattle.chi_flit.specs.declared.numbers.Slot.{Slot}
 
-abbrev slot_of : ℕ → Slot
+abbrev pub slot_of : ℕ → Slot
 slot_of k = record { 0 = k }
 
 pub same_slot : (x y : Slot) → (x.0 == y.0) ≡ true → x ≡ y

@@ -11,7 +11,7 @@ use Rattle.chi_rnline.specs.declared.pending.Phase.TheVariants.{Retried}
 use Rattle.chi_homeline.specs.declared.serving.Serving.{Serving}
 use Rattle.chi_line.specs.LineState.{LineState, rn_of, cells_of}
 use Rattle.chi_line.specs.Kept.{Lane, LaneKept, Kept, is_answer, is_retried, is_snoop_data, is_write_data, lane, snoops_for, writes_for}
-use Rattle.chi_line.proofs.CopyKeeps.{IsSnooping, is_snooping, AwaitsWrite, awaits_write, snoop_no_response, snoop_no_data, dbid_no_data}
+use Rattle.chi_line.proofs.CopyKeeps.{IsSnooping, is_snooping, AwaitsWrite, awaits_write, snoop_no_response, snoop_no_data, dbid_no_data, dbid_written}
 
 -- Retry: the RspDown cell
 request_alone : (serving : Serving) (unique : Bool) (owner : Option Agent) (last : List ℕ) (n : ℕ) (x : Lane)
@@ -84,10 +84,6 @@ pub comp_finds_empty : (last : List ℕ) (s : LineState) (n : ℕ) → n < 8 →
 comp_finds_empty last s n low k here = comp_no_response s.home.serving s.home.filter.unique s.home.filter.owner last n (lane s n) here (k.lanes n low)
 
 -- RecvDbid: the cell of the write data
-dbid_writes : (serving : Serving) (unique : Bool) (owner : Option Agent) (last : List ℕ) (n : ℕ) (x : Lane)
-    → x.flits.rsp_down ≡ Some CompDBIDResp → LaneKept serving unique owner last n x → writes_for serving n ≡ true
-dbid_writes serving unique owner last n x here k = search (arith, k.one_write)
-
 dbid_empty_by : (last : List ℕ) (s : LineState) (n : ℕ) → n < 8 → Kept last s
     → (cells_of s n).rsp_down ≡ Some CompDBIDResp → AwaitsWrite s.home.serving n → (cells_of s n).dat_up ≡ None
 dbid_empty_by last s n low k here is = dbid_no_data is.agent is.kind is.slot s.home.filter.unique s.home.filter.owner last n (lane s n) here
@@ -96,7 +92,7 @@ dbid_empty_by last s n low k here is = dbid_no_data is.agent is.kind is.slot s.h
 pub dbid_finds_empty : (last : List ℕ) (s : LineState) (n : ℕ) → n < 8 → Kept last s
     → (cells_of s n).rsp_down ≡ Some CompDBIDResp → (cells_of s n).dat_up ≡ None
 dbid_finds_empty last s n low k here = dbid_empty_by last s n low k here
-    (awaits_write s.home.serving n (dbid_writes s.home.serving s.home.filter.unique s.home.filter.owner last n (lane s n) here (k.lanes n low)))
+    (awaits_write s.home.serving n (dbid_written s.home.serving s.home.filter.unique s.home.filter.owner last n (lane s n) here (k.lanes n low)))
 
 -- the completion of a request that is snooped for: both cells down of its agent
 served_alone : (serving : Serving) (unique : Bool) (owner : Option Agent) (last : List ℕ) (n : ℕ) (x : Lane)

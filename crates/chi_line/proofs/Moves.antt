@@ -1,5 +1,6 @@
 -- Each step moves the request of one slot of its agent, or none, and leaves all others where they are.
 use Rattle.std.proofs.Common.{◌≡◌, ◌≢◌, ℕ, ◌<◌, List, Bool, true, false, ◌||◌, ◌==◌, Option, Some, None, is_some, length, get_or, set, refl, sym, ◌∙◌, ap, subst, if◌then◌else◌, arith, get_or-set_same}
+use Rattle.std.proofs.lemmas.Bool.{or_parts, or_right, or_left, or_from, eq-eqb}
 use Rattle.chi_flit.specs.declared.numbers.Agent.{Agent}
 use Rattle.chi_flit.specs.declared.numbers.Slot.{Slot}
 use Rattle.chi_flit.specs.declared.kind.Kind.{Kind}
@@ -41,7 +42,7 @@ use Rattle.chi_line.specs.Step.{issued_slot, acknowledged_line, admitted_line, a
 use Rattle.chi_line.specs.Places.{is_at_home, Seen, seen_of, where_in}
 use Rattle.chi_line.specs.Refused.{retry_refusal, step_refusal}
 use Rattle.chi_line.proofs.After.{IsRetried, IssueAllowed, cancel_allowed, dbid_there, flit_there, issue_allowed, names_used_slot, resend_allowed, retry_there}
-use Rattle.chi_line.proofs.Elsewhere.{SameCells, Stays, answer_up, answered_stays, sent_request, started_waits, stays_elsewhere, stays_where, write_awaited}
+use Rattle.chi_line.proofs.Elsewhere.{SameCells, Stays, answer_up, answered_stays, sent_request, started_waits, stays_elsewhere, stays_where, write_awaited, same_shown}
 use Rattle.chi_line.proofs.Facts.{acked_for_ack}
 use Rattle.chi_line.proofs.Finds.{idle_is}
 use Rattle.chi_line.proofs.EqualSlots.{same_slot}
@@ -50,14 +51,7 @@ use Rattle.chi_line.proofs.Sends.{CanStart, can_start}
 use Rattle.chi_line.proofs.Trails.{Trail, completed_trail, not_served, place_pending, requested_trail, responded_trail, retried_trail, waiting_trail}
 use Rattle.chi_line.proofs.Typed.{elsewhere_types, issued_types, own_types}
 use Rattle.chi_line.proofs.Untouched.{is_free}
-use Rattle.chi_line.proofs.Wheres.{acked_for, neither, waits_not, written_for}
-
--- what a line shows of an agent whose parts are written
-abbrev shown : Option Pending → Option Request → Option RspDown → Option Waiting → Option Slot → Seen
-shown p q r w v = record { pending = p; request = q; response = r; waiting = w; served = v }
-
-same_shown : (p p' : Option Pending) (q q' : Option Request) (r r' : Option RspDown) (w w' : Option Waiting) (v v' : Option Slot) → p ≡ p' → q ≡ q' → r ≡ r' → w ≡ w' → v ≡ v' → shown p q r w v ≡ shown p' q' r' w' v'
-same_shown p p' q q' r r' w w' v v' ps qs rs ws vs = cc
+use Rattle.chi_line.proofs.Wheres.{acked_for, waits_not, written_for}
 
 copy_seen : (s : LineState) (n : ℕ) (r : Rn) → n < length s.requesters → seen_of (record s { requesters = set s.requesters n r }) n ≡ record (seen_of s n) { pending = r.pending }
 copy_seen s n r low = ap (λ (x : Rn). record (seen_of s n) { pending = x.pending }) (get_or-set_same s.requesters n r no_line low)
@@ -99,25 +93,18 @@ none_is : {A : Type 0} (o : Option A) → is_some o ≡ false → o ≡ None
 none_is None h = refl
 none_is (Some a) h = absurd (cc (h))
 
-false_or : (a b : Bool) → a ≡ false → b ≡ false → a || b ≡ false
-false_or a b x y = rw (x, y) refl
-
-or_true : (a b : Bool) → b ≡ true → a || b ≡ true
-or_true true b h = refl
-or_true false b h = h
-
 -- a pending request that neither waits nor is served isn't at the home
 away_at : (last : List ℕ) (s : LineState) (n : ℕ) (requested responded retried : Bool) → Here last s n → Trail s.home.serving n (lane s n) requested false false responded retried
     → is_comp_unique (cells_of s n).rsp_down ≡ false → is_dbid (cells_of s n).rsp_down ≡ false
     → (slot : Slot) → is_slot (pending_slot (rn_of s n).pending) slot ≡ true → is_at_home (seen_of s n) slot ≡ false
 away_at last s n requested responded retried h t unique dbid slot is =
-    false_or _ _
+    or_from _ _
     (ap (λ (w : Option Waiting). is_slot (waiting_slot w) slot) (none_is (waiting_of s.home n) t.waiting))
     (not_served s.home.serving s.home.filter.unique s.home.filter.owner last n (lane s n) slot is t.unsnooped t.completion unique dbid h.lane_kept)
 
 -- one that is served is
 served_at : (s : LineState) (n : ℕ) → slot_served_for s.home.serving n ≡ pending_slot (rn_of s n).pending → (slot : Slot) → is_slot (pending_slot (rn_of s n).pending) slot ≡ true → is_at_home (seen_of s n) slot ≡ true
-served_at s n served slot is = or_true (is_slot (waiting_slot (waiting_of s.home n)) slot) (is_slot (slot_served_for s.home.serving n) slot) (ap (λ (o : Option Slot). is_slot o slot) served ∙ is)
+served_at s n served slot is = or_right (is_slot (waiting_slot (waiting_of s.home n)) slot) (is_slot (slot_served_for s.home.serving n) slot) (ap (λ (o : Option Slot). is_slot o slot) served ∙ is)
 
 -- what a step shows of its own agent
 abbrev Shows : LineState → LineState → ℕ → Option Slot → Option Where → Option Where → Type 0
@@ -136,7 +123,7 @@ issue_shows : (last : List ℕ) (s : LineState) (n : ℕ) (kind : Kind) (own : S
 issue_shows last s n kind own h none free =
     shows_by _ _ _ _ _ _
     (issue_seen (seen_of s n) kind own none
-    (λ slot is. subst (λ (x : Slot). is_at_home (seen_of s n) x ≡ false) (same_slot own slot is) (neither (is_slot (pending_slot (rn_of s n).pending) own) (is_at_home (seen_of s n) own) free).1))
+    (λ slot is. subst (λ (x : Slot). is_at_home (seen_of s n) x ≡ false) (same_slot own slot is) (or_parts (is_slot (pending_slot (rn_of s n).pending) own) (is_at_home (seen_of s n) own) free).1))
     (both_seen s n _ _ h.requesters h.flits)
 
 -- Admit
@@ -305,11 +292,8 @@ answer_shows last s agent (Some answer) low k =
     none_moved (seen_of s agent.0) (seen_of (answered_by s agent answer) agent.0) (λ slot. stays_where s (answered_by s agent answer) agent.0 slot (answered_stays last s agent answer agent.0 low k))
 
 -- Start: what the home sends to the agent leaves its request's cell
-itself : (n : ℕ) → (n == n) ≡ true
-itself n = grind arith
-
 served_own : (n : ℕ) (own : Slot) → (if n == n then Some own else None) ≡ Some own
-served_own n own = ap (λ (b : Bool). if b then Some own else None) (itself n)
+served_own n own = ap (λ (b : Bool). if b then Some own else None) (eq-eqb n n refl)
 
 -- a request that is taken up and served
 record TakenUp (s s' : LineState) (n : ℕ) (own : Slot) : Type 0 where
@@ -453,7 +437,7 @@ step_shows c last profile s agent steps.RecvComp h may free = comp_shows last s 
 step_shows c last profile s agent steps.RecvAck h may free = ack_shows last s agent.0 h (flit_there (is_ack (cells_of s agent.0).rsp_up) may)
 step_shows c last profile s agent steps.RecvDbid h may free =
     let there : (cells_of s agent.0).rsp_down ≡ Some CompDBIDResp = dbid_there (cells_of s agent.0).rsp_down (flit_there (is_dbid (cells_of s agent.0).rsp_down) may) in
-    dbid_shows last s agent.0 (rn_of s agent.0).pending h there (place_pending _ _ _ last agent.0 (lane s agent.0) (or_true (is_some (cells_of s agent.0).dat_down) (is_some (cells_of s agent.0).rsp_down) (ap is_some there)) h.lane_kept)
+    dbid_shows last s agent.0 (rn_of s agent.0).pending h there (place_pending _ _ _ last agent.0 (lane s agent.0) (or_right (is_some (cells_of s agent.0).dat_down) (is_some (cells_of s agent.0).rsp_down) (ap is_some there)) h.lane_kept)
 step_shows c last profile s agent steps.RecvWrData h may free =
     let data_there : is_write_data (cells_of s agent.0).dat_up ≡ true = flit_there (is_write_data (cells_of s agent.0).dat_up) may in
     wrdata_shows last s agent.0 (served_kind s.home.serving) h (written_kind s.home.serving agent.0 (write_awaited _ _ _ last agent.0 (lane s agent.0) data_there h.lane_kept)) data_there
@@ -481,16 +465,12 @@ served_there (Snooping agent kind slot) n here = absurd (cc (here))
 served_there (AwaitingCompAck agent slot) n here = refl
 served_there (AwaitingWriteData agent kind slot) n here = refl
 
-or_first : (a b : Bool) → a ≡ true → a || b ≡ true
-or_first true b h = refl
-or_first false b h = absurd (cc (h))
-
 -- what is on its way to an agent is for its pending request
 answered_there : (last : List ℕ) (s : LineState) (n : ℕ) → Here last s n → is_some (cells_of s n).dat_down || is_some (cells_of s n).rsp_down ≡ true → is_some (pending_slot (rn_of s n).pending) ≡ true
 answered_there last s n h here = slot_there (rn_of s n).pending (place_pending _ _ _ last n (lane s n) here h.lane_kept)
 
 response_there : (last : List ℕ) (s : LineState) (n : ℕ) (response : RspDown) → Here last s n → (cells_of s n).rsp_down ≡ Some response → is_some (pending_slot (rn_of s n).pending) ≡ true
-response_there last s n response h here = answered_there last s n h (or_true (is_some (cells_of s n).dat_down) (is_some (cells_of s n).rsp_down) (ap is_some here))
+response_there last s n response h here = answered_there last s n h (or_right (is_some (cells_of s n).dat_down) (is_some (cells_of s n).rsp_down) (ap is_some here))
 
 comp_there : (there : Option RspDown) → is_comp there ≡ true → is_some there ≡ true
 comp_there None h = absurd (cc (h))
@@ -511,14 +491,14 @@ moved_there c last s agent steps.Cancel h may moves = retried_there (rn_of s age
 moved_there c last s agent steps.Start h may moves = absurd (cc (moves))
 moved_there c last s agent steps.RecvSnp h may moves = absurd (cc (moves))
 moved_there c last s agent steps.RecvSnpResp h may moves = absurd (cc (moves))
-moved_there c last s agent steps.RecvData h may moves = answered_there last s agent.0 h (or_first (is_some (cells_of s agent.0).dat_down) (is_some (cells_of s agent.0).rsp_down) (flit_there (is_some (cells_of s agent.0).dat_down) may))
+moved_there c last s agent steps.RecvData h may moves = answered_there last s agent.0 h (or_left (is_some (cells_of s agent.0).dat_down) (is_some (cells_of s agent.0).rsp_down) (flit_there (is_some (cells_of s agent.0).dat_down) may))
 moved_there c last s agent steps.RecvComp h may moves =
-    answered_there last s agent.0 h (or_true (is_some (cells_of s agent.0).dat_down) (is_some (cells_of s agent.0).rsp_down) (comp_there (cells_of s agent.0).rsp_down (flit_there (is_comp (cells_of s agent.0).rsp_down) may)))
+    answered_there last s agent.0 h (or_right (is_some (cells_of s agent.0).dat_down) (is_some (cells_of s agent.0).rsp_down) (comp_there (cells_of s agent.0).rsp_down (flit_there (is_comp (cells_of s agent.0).rsp_down) may)))
 moved_there c last s agent steps.RecvAck h may moves =
-    served_there s.home.serving agent.0 (or_first (acks_for s.home.serving agent.0) (writes_for s.home.serving agent.0) (acked_for_ack _ _ _ last agent.0 (lane s agent.0) (flit_there (is_ack (cells_of s agent.0).rsp_up) may) h.lane_kept))
+    served_there s.home.serving agent.0 (or_left (acks_for s.home.serving agent.0) (writes_for s.home.serving agent.0) (acked_for_ack _ _ _ last agent.0 (lane s agent.0) (flit_there (is_ack (cells_of s agent.0).rsp_up) may) h.lane_kept))
 moved_there c last s agent steps.RecvDbid h may moves = response_there last s agent.0 CompDBIDResp h (dbid_there (cells_of s agent.0).rsp_down (flit_there (is_dbid (cells_of s agent.0).rsp_down) may))
 moved_there c last s agent steps.RecvWrData h may moves =
-    served_there s.home.serving agent.0 (or_true (acks_for s.home.serving agent.0) (writes_for s.home.serving agent.0) (write_awaited _ _ _ last agent.0 (lane s agent.0) (flit_there (is_write_data (cells_of s agent.0).dat_up) may) h.lane_kept))
+    served_there s.home.serving agent.0 (or_right (acks_for s.home.serving agent.0) (writes_for s.home.serving agent.0) (write_awaited _ _ _ last agent.0 (lane s agent.0) (flit_there (is_write_data (cells_of s agent.0).dat_up) may) h.lane_kept))
 
 -- the slot that an Issue names has the type of the kind that it names
 issued_there : (last : List ℕ) (profile : Profile) (s : LineState) (agent : Agent) (step : Step) (kind : Kind) (slot : Slot) → Here last s agent.0 → names_used_slot s agent.0 step ≡ false

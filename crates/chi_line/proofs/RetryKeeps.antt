@@ -1,6 +1,7 @@
 -- Store, Drop and the actions of the retry flow keep what a line keeps.
-use Rattle.std.proofs.Common.{◌≡◌, ℕ, ◌<◌, List, Bool, true, false, Some, None, set, arith, refl, sym, subst, ap, ◌∙◌}
+use Rattle.std.proofs.Common.{◌≡◌, ℕ, ◌<◌, List, Bool, true, false, Some, None, set, arith, sym, subst, ap, ◌∙◌}
 use Rattle.std.proofs.lemmas.List.{length-set}
+use Rattle.std.proofs.lemmas.Bool.{false_from_ne_true}
 use Rattle.chi_flit.specs.declared.credit.Profile.{Profile}
 use Rattle.chi_flit.specs.declared.credit.CreditType.{CreditType}
 use Rattle.chi_flit.specs.declared.state.State.{State}
@@ -32,10 +33,6 @@ kept_dropped last s n low none clean_copy k =
     (λ c. record { copy = clean_copy_not_dirty (rn_of s n).state clean_copy; on_its_way = c.on_its_way })
 
 -- Store: the last values are those with the word
-not_true : (b : Bool) → (b ≡ true → ⊥) → b ≡ false
-not_true true never = absurd (never refl)
-not_true false never = refl
-
 still_dirty : (a b : Bool) → a ≡ true → a ≡ false → b ≡ false
 still_dirty a b set clear = cc
 
@@ -57,7 +54,7 @@ kept_stored last s n word value low none alone k =
       lanes = lanes_by s _ s.home.serving s.home.filter.unique s.home.filter.owner (set last word value) n _ moves
           (store_lane s.home.serving s.home.filter.unique s.home.filter.owner last n (lane s n) word value none alone (k.lanes n low))
           (λ m at apart. store_other s.home.serving s.home.filter.unique s.home.filter.owner last (set last word value) m (lane s m)
-          (not_true (is_named s.home.filter m) (λ named. apart (k.flag_means_one flagged m n at low named named_here))) (k.lanes m at));
+          (false_from_ne_true (is_named s.home.filter m) (λ named. apart (k.flag_means_one flagged m n at low named named_here))) (k.lanes m at));
       flag_means_one = k.flag_means_one;
       memory_last = λ clean. absurd (dirty_now (lane (stored_line s n word value) n) (ap (λ (x : Lane). x.rn.state) moves.at) (clean n low));
     }

@@ -1,5 +1,7 @@
 -- How each step changes where a request is, by what a line shows of an agent before it and after it.
 use Rattle.std.proofs.Common.{◌≡◌, Bool, true, false, ◌||◌, ◌==◌, Option, Some, None, refl, sym, ◌∙◌, ap, if◌then◌else◌}
+use Rattle.std.proofs.lemmas.Bool.{or_right}
+use mathlib.Core.Bool.{or-false}
 use Rattle.chi_flit.specs.declared.numbers.Slot.{Slot}
 use Rattle.chi_flit.specs.declared.kind.Kind.{Kind}
 use Rattle.chi_flit.specs.declared.message.Request.{Request}
@@ -193,14 +195,10 @@ closed_seen x none here sent away = record {
 }
 
 -- RecvAck, RecvWrData
-or_true : (a b : Bool) → b ≡ true → a || b ≡ true
-or_true true b h = refl
-or_true false b h = h
-
 pub ended_seen : (x : Seen) → ((slot : Slot) → is_slot x.served slot ≡ true → is_slot (pending_slot x.pending) slot ≡ false) → ((slot : Slot) → is_slot x.served slot ≡ true → is_slot (waiting_slot x.waiting) slot ≡ false)
     → SeenMoved x (record x { served = None }) x.served (Some Answered) None
 ended_seen x apart unwaiting = record {
-  found = λ slot is. unasked_in x slot (apart slot is) ∙ ap (λ (b : Bool). if b then Some Answered else None) (or_true (is_slot (waiting_slot x.waiting) slot) (is_slot x.served slot) is);
+  found = λ slot is. unasked_in x slot (apart slot is) ∙ ap (λ (b : Bool). if b then Some Answered else None) (or_right (is_slot (waiting_slot x.waiting) slot) (is_slot x.served slot) is);
   left = λ slot is. unasked_in (record x { served = None }) slot (apart slot is) ∙ ap (λ (b : Bool). if b || false then Some Answered else None) (unwaiting slot is);
   stay = λ slot other. home_stays x x.waiting None slot (sym (ap (λ (b : Bool). is_slot (waiting_slot x.waiting) slot || b) other));
 }
@@ -223,14 +221,10 @@ evicted_seen x request here none unserved pending sent = record {
     own : (slot : Slot) → is_slot (Some request.slot) slot ≡ true → is_slot (pending_slot x.pending) slot ≡ true
     own slot is = pending_by (pending_slot x.pending) (Some request.slot) slot true pending is
 
-    or_false : (a : Bool) → a || false ≡ a
-    or_false true = refl
-    or_false false = refl
-
     waits : (slot : Slot) → is_at_home x slot ≡ is_slot (Some request.slot) slot
     waits slot =
         ap (λ (w : Option Waiting). is_slot (waiting_slot w) slot || is_slot x.served slot) here
-        ∙ (ap (λ (v : Option Slot). is_slot (Some request.slot) slot || is_slot v slot) unserved ∙ or_false (is_slot (Some request.slot) slot))
+        ∙ (ap (λ (v : Option Slot). is_slot (Some request.slot) slot || is_slot v slot) unserved ∙ or-false (is_slot (Some request.slot) slot))
 
 -- every other Start
 pub started_seen : (x : Seen) (request : Waiting) (response : Option RspDown) → x.waiting ≡ Some request → x.request ≡ None → x.served ≡ None → pending_slot x.pending ≡ Some request.slot → is_retried x.pending ≡ false
@@ -240,14 +234,10 @@ started_seen x request response here none unserved pending sent = none_moved x a
     after : Seen
     after = record x { waiting = None; response = response; served = Some request.slot }
 
-    or_false : (a : Bool) → a || false ≡ a
-    or_false true = refl
-    or_false false = refl
-
     waits : (slot : Slot) → is_at_home x slot ≡ is_slot (Some request.slot) slot
     waits slot =
         ap (λ (w : Option Waiting). is_slot (waiting_slot w) slot || is_slot x.served slot) here
-        ∙ (ap (λ (v : Option Slot). is_slot (Some request.slot) slot || is_slot v slot) unserved ∙ or_false (is_slot (Some request.slot) slot))
+        ∙ (ap (λ (v : Option Slot). is_slot (Some request.slot) slot || is_slot v slot) unserved ∙ or-false (is_slot (Some request.slot) slot))
 
     go : (slot : Slot) (b : Bool) → is_slot (Some request.slot) slot ≡ b → where_in after slot ≡ where_in x slot
     go slot true is =

@@ -23,6 +23,7 @@ use Rattle.chi_homeline.specs.declared.serving.Serving.TheVariants.{Idle, Snoopi
 use Rattle.chi_homeline.specs.declared.serving.Started.{Started}
 use Rattle.chi_homeline.specs.declared.serving.Started.TheVariants.{Sends, Evicted, Snoops}
 use Rattle.chi_homeline.specs.Home.{Home, asks, asks_shared, completes_unique, completed, completion_of, is_idle, started_as, started_sends_as, taken_up, waiting_of}
+use Rattle.chi_wires.proofs.Wide.{length-with_snoops}
 use Rattle.chi_line.specs.LineState.{LineState, cells_of}
 use Rattle.chi_line.specs.Step.{sent, started_line}
 use Rattle.chi_line.specs.Coherent.{IsClean, passes_dirty}
@@ -30,10 +31,11 @@ use Rattle.chi_line.specs.Kept.{Kept, Lane, LaneKept, allows, invalidates, lane}
 use Rattle.chi_line.proofs.Frame.{IsCleanLane, Moves, moves_by, puts_nothing, puts_set, nothing_waiting, lanes_by, clean_by, same_lane}
 use Rattle.chi_line.proofs.Finds.{idle_awaits_nobody, idle_is}
 use Rattle.chi_line.proofs.Asks.{AsksFit, asks_fit, apart, same, has_in, none_in, left_in, length-others, was_in}
-use Rattle.chi_line.proofs.SnoopRows.{snooped_at, snooped_cells, length-with_snoops}
+use Rattle.chi_line.proofs.SnoopRows.{snooped_at, snooped_cells}
 use Rattle.chi_line.proofs.StartLanes.{snooping_own, snooping_other, snooping_asked, asking_own, asking_other, writing_own, writing_other, evicting_own, evicting_other, idle_clean, idle_owner, none_clean}
 use Rattle.chi_line.proofs.CompleteLanes.{allows_read}
 use Rattle.chi_line.proofs.Completes.{MayComplete, completed_line, kept_completed}
+use Rattle.chi_line.proofs.WriteKeeps.{owned_elsewhere}
 
 -- an idle line at which the agent's request waits
 pub record MayStart (last : List ℕ) (s : LineState) (agent : Agent) (request : Waiting) : Type 0 where
@@ -244,10 +246,6 @@ leaves_owner : (owner : Option Agent) (owns : Bool) (n : ℕ) → owned_by owner
 leaves_owner owner true n is = grind (arith, is)
 leaves_owner owner false n is = grind (arith, is)
 
-keeps_owner : (owner : Option Agent) (n m : ℕ) → m ≢ n → owned_by (owner_without owner n) m ≡ owned_by owner m
-keeps_owner None n m other = refl
-keeps_owner (Some agent) n m other = grind (arith, other)
-
 allows_evict : (state : State) → allows Evict state ≡ true → state ≡ I
 allows_evict I fits = refl
 allows_evict SC fits = absurd (false≢true fits)
@@ -293,7 +291,7 @@ evicting_kept last s agent request may evicts =
           (λ flag named. and_from f.unique (has_any (others_than agent.0 f.named)) flag
           (has_in (others_than agent.0 f.named) m (length-others agent.0 f.named k.named) low (left_in agent.0 m f.named other ∙ named)))
           (λ flag. (and_parts f.unique (has_any (others_than agent.0 f.named)) flag).0)
-          (keeps_owner f.owner agent.0 m other) (idle_lanes last s agent request may m low)));
+          (owned_elsewhere f.owner agent.0 m other) (idle_lanes last s agent request may m low)));
       flag_means_one = λ flag a b below_a below_b in_a in_b. k.flag_means_one ((and_parts f.unique (has_any (others_than agent.0 f.named)) flag).0) a b below_a below_b
           (was_in agent.0 a f.named may.here k.named in_a) (was_in agent.0 b f.named may.here k.named in_b);
       memory_last = λ clean. k.memory_last (clean_by s s' agent.0 x moves may.here back clean);

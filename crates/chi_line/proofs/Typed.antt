@@ -1,6 +1,7 @@
 -- The kinds that a line keeps of a slot's request have the credit types that they had: only an Issue gives a
 -- slot a kind.
 use Rattle.std.proofs.Common.{◌≡◌, ◌≢◌, ℕ, ◌<◌, List, Bool, true, false, ◌&&◌, ◌==◌, Option, Some, None, length, get_or, set, refl, sym, ◌∙◌, ap, if◌then◌else◌, arith, get_or-set_same}
+use Rattle.std.proofs.lemmas.Bool.{and_parts, eq-eqb}
 use Rattle.chi_flit.specs.declared.numbers.Agent.{Agent}
 use Rattle.chi_flit.specs.declared.numbers.Slot.{Slot}
 use Rattle.chi_flit.specs.declared.kind.Kind.{Kind}
@@ -46,15 +47,11 @@ pub record Typed (profile : Profile) (ty : CreditType) (s : LineState) (n : ℕ)
   pub waiting : has_type profile ty (waiting_kind_of (waiting_of s.home n) slot) ≡ true
   pub served : has_type profile ty (served_kind_of s.home.serving n slot) ≡ true
 
-both : (a b : Bool) → (a && b) ≡ true → (a ≡ true) × (b ≡ true)
-both true b h = (refl, h)
-both false b h = absurd (cc (h))
-
 pub typed : (profile : Profile) (ty : CreditType) (s : LineState) (n : ℕ) (slot : Slot) → is_of_type profile ty s n slot ≡ true → Typed profile ty s n slot
 typed profile ty s n slot h =
-    let first = both (has_type profile ty (pending_kind_of (rn_of s n).pending slot)) _ h in
-    let second = both (has_type profile ty (requested_kind_of (cells_of s n).req slot)) _ first.1 in
-    let rest = both (has_type profile ty (waiting_kind_of (waiting_of s.home n) slot)) _ second.1 in
+    let first = and_parts (has_type profile ty (pending_kind_of (rn_of s n).pending slot)) _ h in
+    let second = and_parts (has_type profile ty (requested_kind_of (cells_of s n).req slot)) _ first.1 in
+    let rest = and_parts (has_type profile ty (waiting_kind_of (waiting_of s.home n) slot)) _ second.1 in
     record { pending = first.0; request = second.0; waiting = rest.0; served = rest.1 }
 
 all_of : (a b c d : Bool) → a ≡ true → b ≡ true → c ≡ true → d ≡ true → (a && (b && (c && d))) ≡ true
@@ -326,10 +323,7 @@ unused_serves profile ty (AwaitingWriteData agent kind own) n slot free = go (ag
     go false free = refl
 
 own_kind_has : (profile : Profile) (kind : Kind) (b : Bool) → Has profile (credit_type_of profile kind) (if b then Some kind else None)
-own_kind_has profile kind true = itself (credit_number (credit_type_of profile kind))
-  where
-    itself : (n : ℕ) → (n == n) ≡ true
-    itself n = grind arith
+own_kind_has profile kind true = eq-eqb (credit_number (credit_type_of profile kind)) (credit_number (credit_type_of profile kind)) refl
 own_kind_has profile kind false = refl
 
 pub issued_types : (profile : Profile) (s : LineState) (n : ℕ) (kind : Kind) (slot : Slot) → n < length s.requesters → n < length s.flits → Free s n slot

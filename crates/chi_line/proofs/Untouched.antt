@@ -1,5 +1,6 @@
 -- A slot that isn't in use at a line comes into use there by an Issue alone.
 use Rattle.std.proofs.Common.{◌≡◌, ℕ, ◌<◌, List, Bool, true, false, ◌||◌, ◌==◌, Option, Some, None, length, get_or, set, refl, sym, ◌∙◌, ap, if◌then◌else◌, arith, get_or-set_same}
+use Rattle.std.proofs.lemmas.Bool.{or_parts}
 use Rattle.chi_flit.specs.declared.numbers.Agent.{Agent}
 use Rattle.chi_flit.specs.declared.numbers.Slot.{Slot}
 use Rattle.chi_flit.specs.declared.kind.Kind.{Kind}
@@ -14,9 +15,8 @@ use Rattle.chi_flit.specs.declared.message.DatUp.TheVariants.{SnpRespDataIPD, Sn
 use Rattle.chi_flit.specs.Kind.{snoop_of, is_copy_back}
 use Rattle.chi_filter.specs.Filter.{has_any, removed}
 use Rattle.chi_wires.specs.declared.cells.Cells.{Cells}
-use Rattle.chi_rnline.specs.Rn.{Rn, in_phase, no_line}
+use Rattle.chi_rnline.specs.Rn.{Rn, no_line}
 use Rattle.chi_rnline.specs.declared.pending.Pending.{Pending}
-use Rattle.chi_rnline.specs.declared.pending.Phase.{Phase}
 use Rattle.chi_rnline.specs.declared.pending.Phase.TheVariants.{Sent, Retried}
 use Rattle.chi_homeline.specs.declared.serving.Waiting.{Waiting}
 use Rattle.chi_homeline.specs.declared.serving.Serving.{Serving}
@@ -31,6 +31,7 @@ use Rattle.chi_line.specs.Refused.{step_refusal}
 use Rattle.chi_line.proofs.After.{start_allowed}
 use Rattle.chi_line.proofs.Elsewhere.{finished_serves, finished_waits, started_waits}
 use Rattle.chi_line.proofs.Finds.{idle_is}
+use Rattle.chi_line.proofs.SeenMoves.{phase_slot}
 
 -- none of the agent's requests at the line has the slot
 pub record Free (s : LineState) (n : ℕ) (slot : Slot) : Type 0 where
@@ -38,14 +39,10 @@ pub record Free (s : LineState) (n : ℕ) (slot : Slot) : Type 0 where
   pub waiting : is_slot (waiting_slot (waiting_of s.home n)) slot ≡ false
   pub served : is_slot (slot_served_for s.home.serving n) slot ≡ false
 
-neither : (a b : Bool) → a || b ≡ false → (a ≡ false) × (b ≡ false)
-neither true b h = absurd (cc (h))
-neither false b h = (refl, h)
-
 pub is_free : (s : LineState) (n : ℕ) (slot : Slot) → line_uses s n slot ≡ false → Free s n slot
 is_free s n slot unused =
-    let parts = neither (is_slot (pending_slot (rn_of s n).pending) slot) _ unused in
-    let rest = neither (is_slot (waiting_slot (waiting_of s.home n)) slot) _ parts.1 in
+    let parts = or_parts (is_slot (pending_slot (rn_of s n).pending) slot) _ unused in
+    let rest = or_parts (is_slot (waiting_slot (waiting_of s.home n)) slot) _ parts.1 in
     record { pending = parts.0; waiting = rest.0; served = rest.1 }
 
 none_of : (a b c : Bool) → a ≡ false → b ≡ false → c ≡ false → a || (b || c) ≡ false
@@ -68,11 +65,6 @@ flits_free s n flits slot free = record { pending = free.pending; waiting = free
 home_free : (s : LineState) (n : ℕ) (home : Home) (flits : List Cells) (slot : Slot) → is_slot (waiting_slot (waiting_of home n)) slot ≡ false → is_slot (slot_served_for home.serving n) slot ≡ false
     → Free s n slot → Free (record s { home = home; flits = flits }) n slot
 home_free s n home flits slot w v free = record { pending = free.pending; waiting = w; served = v }
-
--- a change of the phase leaves the slot
-phase_slot : (phase : Phase) (p : Option Pending) → pending_slot (in_phase phase p) ≡ pending_slot p
-phase_slot phase None = refl
-phase_slot phase (Some request) = refl
 
 -- the slot of an agent that is served, or of none
 unserved : (b : Bool) (own slot : Slot) → is_slot (Some own) slot ≡ false → is_slot (if b then Some own else None) slot ≡ false

@@ -1,6 +1,6 @@
 -- RecvWrData keeps what a line keeps.
 use Rattle.std.proofs.Common.{◌≡◌, ◌≢◌, ℕ, ◌<◌, List, Bool, true, false, Option, Some, None, length, arith, refl, sym, subst, ap, ◌∙◌, ⊎_elim, if◌then◌else◌, ◌&&◌, set, not, inl, inr, ◌⊎◌}
-use Rattle.std.proofs.lemmas.Bool.{cases_eq}
+use Rattle.std.proofs.lemmas.Bool.{cases_eq, both_ways, and_from}
 use Rattle.std.proofs.lemmas.List.{length-set}
 use Rattle.chi_flit.specs.declared.numbers.Agent.{Agent}
 use Rattle.chi_flit.specs.declared.numbers.Slot.{Slot}
@@ -51,19 +51,13 @@ pub record FilterAfter (f after : FilterState) (n : ℕ) (valid : Bool) : Type 0
 and_first : (a b : Bool) → (a && b) ≡ true → a ≡ true
 and_first a b e = grind arith
 
-and_both : (a b : Bool) → a ≡ true → b ≡ true → (a && b) ≡ true
-and_both a b e h = grind arith
-
-not_both : (b : Bool) → b ≡ false → b ≡ true → ⊥
-not_both b clear is = cc
-
 pub removed_after : (f : FilterState) (n : ℕ) (valid : Bool) → n < 8 → length f.named ≡ 8 → valid ≡ false → FilterAfter f (removed f n) n valid
 removed_after f n valid low eight gone = record {
   eight = length-set f.named n false ∙ eight;
   puts = record { at = refl; others = λ m apart. left_in n m f.named apart };
-  named_stays = λ is. absurd (not_both valid gone is);
-  unique_stays = λ is. absurd (not_both valid gone is);
-  flag_stays = λ m at apart flag named. and_both f.unique (has_any (others_than n f.named)) flag
+  named_stays = λ is. absurd (both_ways valid gone is);
+  unique_stays = λ is. absurd (both_ways valid gone is);
+  flag_stays = λ m at apart flag named. and_from f.unique (has_any (others_than n f.named)) flag
       (has_in (others_than n f.named) m (length-set f.named n false ∙ eight) at (left_in n m f.named apart ∙ named));
   flag_back = λ flag. and_first f.unique (has_any (others_than n f.named)) flag;
   named_back = λ named. was_in n n f.named low eight named;
