@@ -1,6 +1,7 @@
 -- The completion that the last answer brings: to whom it goes, and the cell that it finds empty.
 use Rattle.std.proofs.Common.{◌≡◌, ℕ, zero, suc, ◌<◌, List, [], ◌∷◌, Bool, true, false, Option, Some, None, is_some, Result, Ok, Err, OnOk, length, get_or, set, refl, ap, subst, ◌∙◌, if◌then◌else◌, arith}
 use Rattle.std.proofs.lemmas.List.{get_or-set_same, set-set}
+use Rattle.std.proofs.lemmas.Bool.{eqb-true}
 use Rattle.chi_flit.specs.declared.numbers.Agent.{Agent}
 use Rattle.chi_flit.specs.declared.numbers.Slot.{Slot}
 use Rattle.chi_flit.specs.declared.kind.Kind.{Kind}
@@ -22,7 +23,7 @@ use Rattle.chi_homeline.specs.declared.serving.SnoopAnswer.{SnoopAnswer}
 use Rattle.chi_homeline.specs.declared.serving.SnoopAnswer.TheVariants as answers
 use Rattle.chi_homeline.specs.Home.{Home, completes_unique, completion_by, completion_of, finished_sends_as, snoop_answered_sends}
 use Rattle.chi_line.specs.LineState.{LineState}
-use Rattle.chi_line.specs.Kept.{snoops_for}
+use Rattle.chi_line.specs.Kept.{snoops_for, IsServedInRange}
 use Rattle.chi_line.specs.Refused.{no_flit_unless}
 use Rattle.chi_line.specs.Step.{answered_by, where_some}
 use Rattle.chi_line.specs.Snooped.{answer_channel, completion_put}
@@ -35,6 +36,13 @@ pub record Completes (serving : Serving) (c : Completion) : Type 0 where
 
 is_itself : (agent : Agent) (kind : Kind) (slot : Slot) → snoops_for (Snooping agent kind slot) agent.0 ≡ true
 is_itself agent kind slot = grind arith
+
+-- who is snooped for is one of the agents
+pub completes_low : (serving : Serving) (n : ℕ) → IsServedInRange serving → snoops_for serving n ≡ true → n < 8
+completes_low Idle n inside here = absurd (cc (here))
+completes_low (Snooping agent kind slot) n inside here = subst (λ (m : ℕ). m < 8) (eqb-true agent.0 n here) inside
+completes_low (AwaitingCompAck agent slot) n inside here = absurd (cc (here))
+completes_low (AwaitingWriteData agent kind slot) n inside here = absurd (cc (here))
 
 pub sends_completes : (serving : Serving) (home : Home) (words : List ℕ) (c : Completion) → finished_sends_as serving home words ≡ Some c → Completes serving c
 sends_completes Idle home words c h = absurd (cc (h))

@@ -12,8 +12,15 @@ use Rattle.chi_homeline.specs.declared.serving.SnoopAnswer.{SnoopAnswer}
 use Rattle.chi_homeline.specs.Home.{snoop_answered, snoop_answered_sends}
 use Rattle.chi_line.specs.Snooped.{answer_channel, completion_put}
 use Rattle.chi_line.specs.Step.{answer_in}
-use Rattle.chi_line.proofs.Answering.{Completes, answer_completes, data_stays, response_stays, same_down, put_in_row}
+use Rattle.chi_line.proofs.Answering.{Completes, answer_completes, data_stays, response_stays, same_down, put_in_row, completes_low}
 use Rattle.chi_line.proofs.snoops.receive_answer.Goals as goal
+
+pub put_completion-requires-clause-agent : goal.put_completion-requires-clause-agent
+put_completion-requires-clause-agent g c = λ some is.
+    let found : answer_in (flits_at c.args.wires.now c.args.row.0 c.args.agent.0) ≡ Some c.in_ok-answer.answer = search (rules, c.in_ok-answer.was, c.ok_or.ensures, c.answer_in.ensures, c.cells.ensures) in
+    let named : is_named c.args.home.now.filter c.args.agent.0 ≡ true = c.requires.named (ap is_some found) in
+    let to : Completes c.args.home.now.serving some = answer_completes c.args.home.now c.args.agent c.in_ok-answer.answer some (sym (c.snp_resp-completion.ensures.sends named) ∙ is) in
+    completes_low c.args.home.now.serving some.agent.0 c.requires.served to.agent
 
 pub put_completion-requires-clause-empty : goal.put_completion-requires-clause-empty
 put_completion-requires-clause-empty g c = λ some is.
