@@ -175,7 +175,7 @@ recorded_as s action effect is =
     ap (λ (e : Effect). done_record action.agent action.line action.step e) is ∙ record_is (line s action.line.0) action.agent action.line action.step
 
 -- the journal is full where a load or a store is refused for it
-not_full : (full : Bool) → full_if full ≡ None → full ≡ false
+pub not_full : (full : Bool) → full_if full ≡ None → full ≡ false
 not_full full h = grind (arith, h)
 
 room : (c : Conditions) (s : LineState) (agent : Agent) (l : Line) (step : Step) (log : Log) → c.journal_full ≡ is_full log → agent.0 < 8 → l.0 < log.lines → is_step_in_range step ≡ true

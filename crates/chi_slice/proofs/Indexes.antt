@@ -1,7 +1,7 @@
 -- An index of slots in which a slot has another place.
-use Rattle.std.proofs.Common.{◌≡◌, ◌≢◌, ℕ, ◌<◌, List, [], Bool, true, false, ◌&&◌, ◌==◌, nat_lt, Option, Some, None, length, get_or, set, refl, sym, ◌∙◌, ap, subst, if◌then◌else◌, arith, ⊎_elim, get_or-set_same, get_or-set_other}
+use Rattle.std.proofs.Common.{◌≡◌, ◌≢◌, ℕ, ◌<◌, List, [], Bool, true, false, ◌==◌, nat_lt, Option, Some, None, length, get_or, set, refl, sym, ◌∙◌, ap, subst, if◌then◌else◌, arith, ⊎_elim, get_or-set_same, get_or-set_other}
 use Rattle.std.proofs.lemmas.List.{length-set}
-use Rattle.std.proofs.lemmas.Bool.{cases_eq}
+use Rattle.std.proofs.lemmas.Bool.{cases_eq, and_from}
 use Rattle.chi_flit.specs.declared.numbers.Line.{Line}
 use Rattle.chi_flit.specs.declared.numbers.Slot.{Slot}
 use Rattle.chi_slice.specs.declared.places.Place.{Place}
@@ -16,10 +16,7 @@ pub record Wide (places : List (List (Option Place))) : Type 0 where
   pub slots : (n : ℕ) → n < 8 → length (get_or places n []) ≡ 8
 
 pub in_eight : (n : ℕ) (slot : Slot) → n < 8 → slot.0 < 8 → is_slot_of n slot ≡ true
-in_eight n slot low at = go (nat_lt n 8) (nat_lt slot.0 8) (grind (arith, low)) (grind (arith, at))
-  where
-    go : (a b : Bool) → a ≡ true → b ≡ true → (a && b) ≡ true
-    go a b x y = rw (x, y) refl
+in_eight n slot low at = and_from (nat_lt n 8) (nat_lt slot.0 8) (grind (arith, low)) (grind (arith, at))
 
 -- a place that is read within the eight of each
 pub place_read : (places : List (List (Option Place))) (n : ℕ) (slot : Slot) → n < 8 → slot.0 < 8 → place_of places n slot ≡ get_or (get_or places n []) slot.0 None

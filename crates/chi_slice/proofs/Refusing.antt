@@ -1,5 +1,6 @@
 -- Why an action would be refused, were the slot that an Issue names taken as well.
-use Rattle.std.proofs.Common.{◌≡◌, ℕ, List, Bool, true, false, ◌||◌, Option, Some, None, refl, sym, ◌∙◌, ap, get_or, if◌then◌else◌}
+use Rattle.std.proofs.Common.{◌≡◌, ℕ, List, Bool, true, false, ◌||◌, Option, Some, None, sym, ◌∙◌, ap, get_or, if◌then◌else◌}
+use mathlib.Core.Bool.{or-false}
 use Rattle.chi_flit.specs.declared.numbers.Agent.{Agent}
 use Rattle.chi_flit.specs.declared.action.Action.{Action}
 use Rattle.chi_flit.specs.declared.action.Step.{Step}
@@ -22,14 +23,10 @@ abbrev conditions : Bool → Bool → Profile → Conditions
 conditions used full profile = record { slot_used = used; journal_full = full; profile = profile }
 
 -- a slot that isn't taken leaves the refusal
-or_untaken : (b : Bool) → b || false ≡ b
-or_untaken true = refl
-or_untaken false = refl
-
 pub untaken_refused : (s : SliceState) (action : Action) → refused_with false s action ≡ refused s action
 untaken_refused s action =
     ap (λ (used : Bool). if is_in_range s action then line_refusal (conditions used (is_full s.journal) s.config.profile) (line s action.line.0) action else Some OutOfRange)
-    (or_untaken (is_slot_used s action.agent.0 action.step))
+    (or-false (is_slot_used s action.agent.0 action.step))
 
 -- what isn't refused with a slot taken isn't refused
 issue_untaken : (used taken : Bool) (other : Option Refusal) → (if used || taken then Some Pending else other) ≡ None → (if used then Some Pending else other) ≡ None

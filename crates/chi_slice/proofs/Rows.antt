@@ -1,5 +1,6 @@
 -- The row of a line that is in the slice.
 use Rattle.std.proofs.Common.{◌≡◌, ℕ, ◌+◌, ◌-◌, ◌*◌, ◌/◌, ◌%◌, ◌<◌, ◌≤◌, Bool, true, false, ◌&&◌, ◌||◌, ◌==◌, ◌≢◌, nat_le, nat_lt, refl, subst, sym, arith, ◌⊎◌, inl, inr, ⊎_elim, Option, Some, None, is_some, if◌then◌else◌}
+use Rattle.std.proofs.lemmas.Bool.{and_from, eqb-true, eq-eqb}
 use Rattle.chi_flit.specs.declared.action.Action.{Action}
 use Rattle.chi_slice.specs.Config.{Sizes, are_in_limits, is_between, is_slice_count}
 use Rattle.chi_slice.specs.Slice.{SliceState, SliceKept, are_in_range, is_in_range, is_line_in_range, row_count, row_of_line}
@@ -19,12 +20,9 @@ is_low a b h = grind (arith, h)
 pub at_most : (a b : ℕ) → nat_le a b ≡ true → a ≤ b
 at_most a b h = grind (arith, h)
 
-is_equal : (a b : ℕ) → (a == b) ≡ true → a ≡ b
-is_equal a b h = grind (arith, h)
-
 -- how many slices there may be
 counts : (n : ℕ) → is_slice_count n ≡ true → (n ≡ 1) ⊎ ((n ≡ 2) ⊎ ((n ≡ 4) ⊎ (n ≡ 8)))
-counts n h = ⊎_elim (λ e. inl (is_equal n 1 e)) (λ k. inr (⊎_elim (λ e. inl (is_equal n 2 e)) (λ m. inr (⊎_elim (λ e. inl (is_equal n 4 e)) (λ e. inr (is_equal n 8 e)) (either (n == 4) (n == 8) m))) (either (n == 2) (n == 4 || n == 8) k))) (either (n == 1) (n == 2 || (n == 4 || n == 8)) h)
+counts n h = ⊎_elim (λ e. inl (eqb-true n 1 e)) (λ k. inr (⊎_elim (λ e. inl (eqb-true n 2 e)) (λ m. inr (⊎_elim (λ e. inl (eqb-true n 4 e)) (λ e. inr (eqb-true n 8 e)) (either (n == 4) (n == 8) m))) (either (n == 2) (n == 4 || n == 8) k))) (either (n == 1) (n == 2 || (n == 4 || n == 8)) h)
 
 -- what the limits say of the numbers of agents, lines and slices
 pub record InLimits (config : Sizes) : Type 0 where
@@ -84,7 +82,7 @@ pub row_in_range : (s : SliceState) (l : ℕ) → are_in_limits s.config ≡ tru
 row_in_range s l config index h =
     let parts = both (nat_lt l s.config.lines) (l % s.config.slices == s.index) h in
     let limits = in_limits s.config config in
-    row_low l s.config.lines s.index s.config.slices (is_low l s.config.lines parts.0) (counts s.config.slices limits.count) index (is_equal (l % s.config.slices) s.index parts.1)
+    row_low l s.config.lines s.index s.config.slices (is_low l s.config.lines parts.0) (counts s.config.slices limits.count) index (eqb-true (l % s.config.slices) s.index parts.1)
 
 pub row_in_slice : (s : SliceState) (l : ℕ) → SliceKept s → is_line_in_range s l ≡ true → row_of_line s l < row_count s.config s.index
 row_in_slice s l k h = row_in_range s l k.config k.index h
@@ -161,7 +159,7 @@ rows_apart s l other k here there apart = λ (e : other / s.config.slices ≡ l 
     let a = both (nat_lt l s.config.lines) (l % s.config.slices == s.index) here in
     let b = both (nat_lt other s.config.lines) (other % s.config.slices == s.index) there in
     let limits = in_limits s.config k.config in
-    apart (apart_by l other s.config.slices (counts s.config.slices limits.count) s.index (is_equal (l % s.config.slices) s.index a.1) (is_equal (other % s.config.slices) s.index b.1) e)
+    apart (apart_by l other s.config.slices (counts s.config.slices limits.count) s.index (eqb-true (l % s.config.slices) s.index a.1) (eqb-true (other % s.config.slices) s.index b.1) e)
 
 -- an agent of the node is one of eight
 pub agent_low : (s : SliceState) (n l : ℕ) → SliceKept s → are_in_range s n l ≡ true → n < 8
@@ -188,12 +186,6 @@ line_of row lines index n = ⊎_elim
 lower : (a b : ℕ) → a < b → nat_lt a b ≡ true
 lower a b h = grind (arith, h)
 
-same_as : (a b : ℕ) → a ≡ b → (a == b) ≡ true
-same_as a b h = grind (arith, h)
-
-and_true : (a b : Bool) → a ≡ true → b ≡ true → (a && b) ≡ true
-and_true a b x y = rw (x, y) refl
-
 pub record RowLine (s : SliceState) (row : ℕ) : Type 0 where
   pub line : ℕ
   pub here : is_line_in_range s line ≡ true
@@ -205,6 +197,6 @@ row_line s row k low =
     let found : IsLineOf row s.config.lines s.index s.config.slices (row * s.config.slices + s.index) = line_of row s.config.lines s.index s.config.slices (counts s.config.slices limits.count) k.index limits.slices low in
     record {
       line = row * s.config.slices + s.index;
-      here = and_true (nat_lt (row * s.config.slices + s.index) s.config.lines) ((row * s.config.slices + s.index) % s.config.slices == s.index) (lower (row * s.config.slices + s.index) s.config.lines found.low) (same_as ((row * s.config.slices + s.index) % s.config.slices) s.index found.left);
+      here = and_from (nat_lt (row * s.config.slices + s.index) s.config.lines) ((row * s.config.slices + s.index) % s.config.slices == s.index) (lower (row * s.config.slices + s.index) s.config.lines found.low) (eq-eqb ((row * s.config.slices + s.index) % s.config.slices) s.index found.left);
       row_is = found.row_is;
     }

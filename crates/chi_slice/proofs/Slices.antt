@@ -2,6 +2,7 @@
 use Rattle.std.proofs.Common.{◌≡◌, ◌≢◌, ℕ, ◌/◌, ◌<◌, List, [], Bool, true, false, ◌==◌, Option, Some, None, refl, sym, ◌∙◌, ap, subst, length, replicate, arith, get_or-set_same, get_or-set_other}
 use Rattle.std.proofs.lemmas.List.{get_or-replicate}
 use Rattle.std.proofs.Math.ListN.{length-set, length-replicate}
+use Rattle.std.proofs.lemmas.Bool.{eqb-true, eqb-false}
 use Rattle.chi_flit.specs.Message.{no_words}
 use Rattle.chi_wires.specs.declared.cells.Cells.{Cells}
 use Rattle.chi_wires.specs.Cell.{no_flits}
@@ -26,12 +27,6 @@ made r h f = record { requesters = r; home = h; flits = f }
 -- lines of equal parts are equal
 pub same_line : (r r' : List Rn) (h h' : Home) (f f' : List Cells) → r ≡ r' → h ≡ h' → f ≡ f' → made r h f ≡ made r' h' f'
 same_line r r' h h' f f' rs hs fs = ap (λ (x : List Rn). made x h f) rs ∙ (ap (λ (x : Home). made r' x f) hs ∙ ap (λ (x : List Cells). made r' h' x) fs)
-
-apart_from : (a b : ℕ) → (a == b) ≡ false → a ≢ b
-apart_from a b h = λ (e : a ≡ b). grind (arith, h, e)
-
-equal_to : (a b : ℕ) → (a == b) ≡ true → a ≡ b
-equal_to a b h = grind (arith, h)
 
 opening_row : (rows row : ℕ) (config : Sizes) (index : ℕ) → row < rows → line_at (record { config = config; index = index; requesters = replicate rows (replicate 8 no_line); homes = replicate rows idle_home; wires = replicate rows (replicate 8 no_flits); journal = opening_log config.lines config.journal }) row ≡ opening_line
 opening_row rows row config index low =
@@ -138,7 +133,7 @@ kept_with_entry s l new entry here k kept fits = record {
         (subst (Kept (last_with l (last_of s l) entry)) (sym (line_at-with_line s (row_of_line s l) new row_low k)) kept)
 
     go : (b : Bool) → (other : ℕ) → (other == l) ≡ b → is_line_in_range s other ≡ true → Kept (last_of (with_entry s l new entry) other) (line (with_entry s l new entry) other)
-    go true other same inside = subst (λ (n : ℕ). Kept (last_of (with_entry s l new entry) n) (line (with_entry s l new entry) n)) (sym (equal_to other l same)) at_line
+    go true other same inside = subst (λ (n : ℕ). Kept (last_of (with_entry s l new entry) n) (line (with_entry s l new entry) n)) (sym (eqb-true other l same)) at_line
     go false other apart inside =
-        subst (λ (words : List ℕ). Kept words (line (with_entry s l new entry) other)) (sym (last_elsewhere s.journal entry l other fits (apart_from other l apart)))
-        (subst (Kept (last_of s other)) (sym (line_at-with_other s (row_of_line s l) (row_of_line s other) new (rows_apart s l other k here inside (apart_from other l apart)))) (k.lines other inside))
+        subst (λ (words : List ℕ). Kept words (line (with_entry s l new entry) other)) (sym (last_elsewhere s.journal entry l other fits (eqb-false other l apart)))
+        (subst (Kept (last_of s other)) (sym (line_at-with_other s (row_of_line s l) (row_of_line s other) new (rows_apart s l other k here inside (eqb-false other l apart)))) (k.lines other inside))

@@ -51,19 +51,19 @@ stays_unused : (s s' : LineState) (m : ℕ) (slot : Slot) → Stays s s' m → l
 stays_unused s s' m slot stays unused = rw (stays.pending, stays.waiting, stays.served) unused
 
 -- the line of an action, before it and after
-abbrev old_line : SliceState → Action → LineState
-old_line s action = line s action.line.0
+abbrev pub line_before : SliceState → Action → LineState
+line_before s action = line s action.line.0
 
-abbrev new_line : SliceState → Action → LineState
-new_line s action = after s.config.profile (old_line s action) action
+abbrev pub line_after : SliceState → Action → LineState
+line_after s action = after s.config.profile (line_before s action) action
 
-unused_after : (s : SliceState) (action : Action) (m : ℕ) (slot : Slot) → InRange s action → Kept (last_of s action.line.0) (old_line s action) → step_refusal (conditions_of s action) (old_line s action) action.agent action.step ≡ None
-    → m < 8 → 8 ≤ slot.0 → line_uses (old_line s action) m slot ≡ false → line_uses (new_line s action) m slot ≡ false
+unused_after : (s : SliceState) (action : Action) (m : ℕ) (slot : Slot) → InRange s action → Kept (last_of s action.line.0) (line_before s action) → step_refusal (conditions_of s action) (line_before s action) action.agent action.step ≡ None
+    → m < 8 → 8 ≤ slot.0 → line_uses (line_before s action) m slot ≡ false → line_uses (line_after s action) m slot ≡ false
 unused_after s action m slot inside k may low high unused = ⊎_elim
-    (λ (own : m ≡ action.agent.0). subst (λ (n : ℕ). line_uses (new_line s action) n slot ≡ false) (sym own)
-    (unused_stays (conditions_of s action) (last_of s action.line.0) (old_line s action) action.agent action.step slot inside.agent k may (named_low action.step slot inside.step high)
-    (subst (λ (n : ℕ). line_uses (old_line s action) n slot ≡ false) own unused)))
-    (λ (apart : m ≢ action.agent.0). stays_unused (old_line s action) (new_line s action) m slot (stays_elsewhere (conditions_of s action) (last_of s action.line.0) (old_line s action) action.agent action.step m inside.agent low apart may k) unused)
+    (λ (own : m ≡ action.agent.0). subst (λ (n : ℕ). line_uses (line_after s action) n slot ≡ false) (sym own)
+    (unused_stays (conditions_of s action) (last_of s action.line.0) (line_before s action) action.agent action.step slot inside.agent k may (named_low action.step slot inside.step high)
+    (subst (λ (n : ℕ). line_uses (line_before s action) n slot ≡ false) own unused)))
+    (λ (apart : m ≢ action.agent.0). stays_unused (line_before s action) (line_after s action) m slot (stays_elsewhere (conditions_of s action) (last_of s action.line.0) (line_before s action) action.agent action.step m inside.agent low apart may k) unused)
     (cases_eq m action.agent.0)
 
 abbrev Unused : SliceState → ℕ → Slot → ℕ → Type 0
@@ -75,10 +75,10 @@ slots_acted s action k numbers may =
     record {
       unused = λ m slot l low high there. ⊎_elim
           (λ (here : l ≡ action.line.0). subst (λ (x : ℕ). Unused (acted s action) m slot x) (sym here)
-          (ap (λ (x : LineState). line_uses x m slot) (line_at-with_line s (row_of_line s action.line.0) (new_line s action) inside.row k)
+          (ap (λ (x : LineState). line_uses x m slot) (line_at-with_line s (row_of_line s action.line.0) (line_after s action) inside.row k)
           ∙ unused_after s action m slot inside (k.lines action.line.0 inside.line) may.by_line low high (numbers.unused m slot action.line.0 low high inside.line)))
           (λ (other : l ≢ action.line.0).
-          ap (λ (x : LineState). line_uses x m slot) (line_at-with_other s (row_of_line s action.line.0) (row_of_line s l) (new_line s action) (rows_apart s action.line.0 l k inside.line there other))
+          ap (λ (x : LineState). line_uses x m slot) (line_at-with_other s (row_of_line s action.line.0) (row_of_line s l) (line_after s action) (rows_apart s action.line.0 l k inside.line there other))
           ∙ numbers.unused m slot l low high there)
           (cases_eq l action.line.0);
     }

@@ -1,5 +1,6 @@
 -- The credit type of a slot: only the line of its place keeps a kind of its request.
-use Rattle.std.proofs.Common.{◌≡◌, ℕ, ◌<◌, Bool, true, false, ◌&&◌, ◌==◌, nat_lt, List, Option, Some, None, refl, sym, ◌∙◌, ap, subst, if◌then◌else◌, arith}
+use Rattle.std.proofs.Common.{◌≡◌, ℕ, ◌<◌, Bool, true, false, ◌&&◌, ◌==◌, nat_lt, List, Option, Some, None, refl, sym, ◌∙◌, ap, subst, if◌then◌else◌}
+use Rattle.std.proofs.lemmas.Bool.{eqb-true}
 use Rattle.chi_flit.specs.declared.numbers.Slot.{Slot}
 use Rattle.chi_flit.specs.declared.kind.Kind.{Kind}
 use Rattle.chi_flit.specs.declared.credit.CreditType.{CreditType}
@@ -67,16 +68,13 @@ ShowsPlace s n slot place = (l : ℕ) → is_line_in_range s l ≡ true → wher
 abbrev pub HasType : SliceState → CreditType → ℕ → Slot → Type 0
 HasType s ty n slot = (l : ℕ) → is_line_in_range s l ≡ true → is_of_type s.config.profile ty (line s l) n slot ≡ true
 
-is_equal : (a b : ℕ) → (a == b) ≡ true → a ≡ b
-is_equal a b h = grind (arith, h)
-
 pub types_of : (s : SliceState) (ty : CreditType) (n : ℕ) (slot : Slot) (place : Option Place) → SliceKept s → n < 8 → ShowsPlace s n slot place → typed_at s ty n slot place ≡ true → HasType s ty n slot
 types_of s ty n slot None k low shows typed l here = unused_type s.config.profile ty (last_of s l) (line s l) n slot low (k.lines l here) (shows l here)
 types_of s ty n slot (Some place) k low shows typed l here = go (place.line.0 == l) refl
   where
     go : (b : Bool) → (place.line.0 == l) ≡ b → is_of_type s.config.profile ty (line s l) n slot ≡ true
     go true same =
-        subst (λ (m : ℕ). is_of_type s.config.profile ty (line s m) n slot ≡ true) (is_equal place.line.0 l same) typed
+        subst (λ (m : ℕ). is_of_type s.config.profile ty (line s m) n slot ≡ true) (eqb-true place.line.0 l same) typed
     go false other =
         unused_type s.config.profile ty (last_of s l) (line s l) n slot low (k.lines l here) (shows l here ∙ ap (λ (b : Bool). if b then Some place.at else None) other)
 
