@@ -1,3 +1,2 @@
-pub mod Below
 pub mod Shown
 pub mod Lines

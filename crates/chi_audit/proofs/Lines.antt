@@ -5,7 +5,7 @@ use Rattle.chi_slice.specs.Slice.{SliceState, is_line_in_range}
 use Rattle.chi_slice.proofs.Rows.{both}
 use Rattle.chi_audit.specs.Slices.{AreLinesCoherent, view_of}
 use Rattle.chi_audit.specs.Verdict.{IsCoherentView}
-use Rattle.chi_audit.proofs.Below.{AllBelow}
+use Rattle.chi_slice.proofs.Below.{AllBelow}
 
 abbrev IsLineCoherent : SliceState → ℕ → Type 0
 IsLineCoherent s l = is_line_in_range s l ≡ true → IsCoherentView (view_of s l)

@@ -4,7 +4,7 @@ use Rattle.chi_slice.specs.Config.{Sizes}
 use Rattle.chi_slice.specs.Slice.{is_line_in_range}
 use Rattle.chi_audit.specs.Slices.{view_of}
 use Rattle.chi_audit.specs.Verdict.{IsCoherentView}
-use Rattle.chi_audit.proofs.Below.{next_below, none_below}
+use Rattle.chi_slice.proofs.Below.{next_below, none_below}
 use Rattle.chi_audit.proofs.Lines.{all_lines}
 use Rattle.chi_audit.proofs.slices.are_lines_coherent.Goals as goal
 

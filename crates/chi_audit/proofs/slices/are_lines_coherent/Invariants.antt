@@ -4,7 +4,7 @@ use Rattle.std.specs.Prelude.{IsTrue}
 use Rattle.chi_slice.specs.Slice.{is_line_in_range}
 use Rattle.chi_audit.specs.Slices.{view_of}
 use Rattle.chi_audit.specs.Verdict.{IsCoherentView}
-use Rattle.chi_audit.proofs.Below.{AllBelow}
+use Rattle.chi_slice.proofs.Below.{AllBelow}
 use Rattle.chi_audit.proofs.slices.are_lines_coherent.Given as goal
 
 abbrev pub invariant-loop-line : goal.invariant-loop-line

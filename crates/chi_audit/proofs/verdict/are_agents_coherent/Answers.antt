@@ -1,7 +1,7 @@
 -- One agent after the other is tested.
 use Rattle.std.proofs.Common.{refl, arith}
 use Rattle.chi_audit.specs.Verdict.{IsAgentCoherent}
-use Rattle.chi_audit.proofs.Below.{all_below, next_below, none_below}
+use Rattle.chi_slice.proofs.Below.{all_below, next_below, none_below}
 use Rattle.chi_audit.proofs.verdict.are_agents_coherent.Goals as goal
 
 pub loop-agent-init : goal.loop-agent-init

@@ -2,7 +2,7 @@
 use Rattle.std.proofs.Common.{refl, arith}
 use Rattle.chi_line.specs.Coherent.{IsCleanAgent}
 use Rattle.chi_audit.specs.Verdict.{copy_of, flits_of}
-use Rattle.chi_audit.proofs.Below.{all_below, next_below, none_below}
+use Rattle.chi_slice.proofs.Below.{all_below, next_below, none_below}
 use Rattle.chi_audit.proofs.verdict.is_quiet.Goals as goal
 
 pub loop-agent-init : goal.loop-agent-init

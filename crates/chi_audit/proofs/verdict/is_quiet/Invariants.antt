@@ -3,7 +3,7 @@ use Rattle.std.proofs.Common.{◌↔◌}
 use Rattle.std.specs.Prelude.{IsTrue}
 use Rattle.chi_line.specs.Coherent.{IsCleanAgent}
 use Rattle.chi_audit.specs.Verdict.{copy_of, flits_of}
-use Rattle.chi_audit.proofs.Below.{AllBelow}
+use Rattle.chi_slice.proofs.Below.{AllBelow}
 use Rattle.chi_audit.proofs.verdict.is_quiet.Given as goal
 
 abbrev pub invariant-loop-agent : goal.invariant-loop-agent

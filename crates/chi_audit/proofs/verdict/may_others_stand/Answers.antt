@@ -1,7 +1,7 @@
 -- One agent after the other is tested.
 use Rattle.std.proofs.Common.{◌≢◌, refl, arith}
 use Rattle.chi_audit.specs.Verdict.{MayStandBeside, copy_of}
-use Rattle.chi_audit.proofs.Below.{all_below, next_below, none_below}
+use Rattle.chi_slice.proofs.Below.{all_below, next_below, none_below}
 use Rattle.chi_audit.proofs.verdict.may_others_stand.Goals as goal
 
 pub loop-other-init : goal.loop-other-init

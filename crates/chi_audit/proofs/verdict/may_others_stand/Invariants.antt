@@ -2,7 +2,7 @@
 use Rattle.std.proofs.Common.{◌↔◌, ◌≢◌}
 use Rattle.std.specs.Prelude.{IsTrue}
 use Rattle.chi_audit.specs.Verdict.{MayStandBeside, copy_of}
-use Rattle.chi_audit.proofs.Below.{AllBelow}
+use Rattle.chi_slice.proofs.Below.{AllBelow}
 use Rattle.chi_audit.proofs.verdict.may_others_stand.Given as goal
 
 abbrev pub invariant-loop-other : goal.invariant-loop-other
