@@ -19,6 +19,7 @@ pub mod CopyTables
 pub mod CopyKeeps
 pub mod WriteLanes
 pub mod WriteKeeps
+pub mod Answered
 pub mod AnswerKeeps
 pub mod MoreFinds
 pub mod Sends
