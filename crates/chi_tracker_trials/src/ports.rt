@@ -6,6 +6,7 @@ ghost use Rattle.chi_tracker.specs.Shape.{low, size};
 ghost use Rattle.chi_tracker.specs.Views.{has, new_port};
 ghost use Rattle.chi_tracker.specs.Calls.{shape_of};
 
+use crate::told::same;
 use arrayvec::ArrayVec;
 use chi_flit::{Agent, CreditType, Entry, NoMemory};
 use chi_tracker::{Counts, Credits, Port, Released, Totals, Tracker};
@@ -36,9 +37,10 @@ fn tend_grants(rt: HostRuntime) -> Result<(), Fail> {
     assert!(rt; zero.claim(&tracker, CreditType::T0) == Some(Entry(0)));
     one.owe(&tracker, CreditType::T0);
     zero.free(&tracker, Entry(0));
-    assert!(rt; one.tend(&tracker, CreditType::T0) == Some(Released::Granted(Agent(1))));
+    let granted = one.tend(&tracker, CreditType::T0);
+    same(&rt, granted, Some(Released::Granted(Agent(1))));
     assert!(rt; one.see(&tracker) == [1, 0, 0, 0]);
-    assert!(rt; one.spend(&tracker, CreditType::T0) == Entry(0));
+    same(&rt, one.spend(&tracker, CreditType::T0), Entry(0));
     Ok(())
 }
 
@@ -61,14 +63,21 @@ fn grant_and_spend(
     let claimed = zero.claim(tracker, ty);
     assert!(rt; claimed == Some(entry));
     one.owe(tracker, ty);
-    assert!(rt; zero.release(tracker, entry) == Released::Granted(Agent(1)));
+    same(
+        rt,
+        zero.release(tracker, entry),
+        Released::Granted(Agent(1)),
+    );
     let kind = ty.number() as usize;
     let seen = one.see(tracker);
     assert!(rt; seen[kind] == 1);
     let counts = tracker.glance();
-    assert!(rt; counts.promised[kind] == 1 && counts.hand == [0; 4] && counts.owed == [0; 4]);
+    same(rt, counts.promised[kind], 1);
+    same(rt, counts.hand, [0; 4]);
+    same(rt, counts.owed, [0; 4]);
     let spent = one.spend(tracker, ty);
-    assert!(rt; spent == entry && one.release(tracker, spent) == Released::Freed);
+    same(rt, spent, entry);
+    same(rt, one.release(tracker, spent), Released::Freed);
 }
 
 /// Ends a tracker of two ports.
@@ -88,7 +97,7 @@ fn an_entry_of_each_word(rt: HostRuntime) -> Result<(), Fail> {
         panic!(rt; "no memory");
     };
     grant_and_spend(&rt, &tracker, &mut zero, &mut one, CreditType::T0, Entry(0));
-    assert!(rt; one.due() == [0; 4]);
+    same(&rt, one.due(), [0; 4]);
     grant_and_spend(
         &rt,
         &tracker,
@@ -97,7 +106,7 @@ fn an_entry_of_each_word(rt: HostRuntime) -> Result<(), Fail> {
         CreditType::T1,
         Entry(64),
     );
-    assert!(rt; one.due() == [0; 4]);
+    same(&rt, one.due(), [0; 4]);
     grant_and_spend(
         &rt,
         &tracker,
@@ -106,7 +115,7 @@ fn an_entry_of_each_word(rt: HostRuntime) -> Result<(), Fail> {
         CreditType::T2,
         Entry(128),
     );
-    assert!(rt; one.due() == [0; 4]);
+    same(&rt, one.due(), [0; 4]);
     grant_and_spend(
         &rt,
         &tracker,
@@ -116,7 +125,8 @@ fn an_entry_of_each_word(rt: HostRuntime) -> Result<(), Fail> {
         Entry(192),
     );
     let totals = close_two(tracker, zero, one);
-    assert!(rt; totals.counts.free == [64; 4] && totals.counts.promised == [0; 4]);
+    same(&rt, totals.counts.free, [64; 4]);
+    same(&rt, totals.counts.promised, [0; 4]);
     Ok(())
 }
 
@@ -126,18 +136,21 @@ fn totals_are_those_of_what_was_done(rt: HostRuntime) -> Result<(), Fail> {
         panic!(rt; "no memory");
     };
     assert!(rt; zero.claim(&tracker, CreditType::T0) == Some(Entry(0)));
-    assert!(rt; zero.claim(&tracker, CreditType::T1) == Some(Entry(2)));
-    assert!(rt; zero.claim(&tracker, CreditType::T1).is_none());
+    same(&rt, zero.claim(&tracker, CreditType::T1), Some(Entry(2)));
+    same(&rt, zero.claim(&tracker, CreditType::T1), None);
     one.owe(&tracker, CreditType::T0);
     one.owe(&tracker, CreditType::T1);
-    assert!(rt; zero.release(&tracker, Entry(0)) == Released::Granted(Agent(1)));
+    let released = zero.release(&tracker, Entry(0));
+    same(&rt, released, Released::Granted(Agent(1)));
     let counts = Counts {
         free: [1, 0, 0, 1],
         hand: [0, 1, 0, 0],
         promised: [1, 0, 0, 0],
         owed: [0, 1, 0, 0],
     };
-    assert!(rt; tracker.glance() == counts && one.seen() == [0; 4] && one.due() == [1, 1, 0, 0]);
+    same(&rt, tracker.glance(), counts);
+    same(&rt, one.seen(), [0; 4]);
+    same(&rt, one.due(), [1, 1, 0, 0]);
     let totals = close_two(tracker, zero, one);
     let none = Credits::default();
     let due = Credits {
@@ -145,7 +158,8 @@ fn totals_are_those_of_what_was_done(rt: HostRuntime) -> Result<(), Fail> {
         owed: [0, 1, 0, 0],
         promised: [1, 0, 0, 0],
     };
-    assert!(rt; totals.counts == counts && totals.requesters.as_slice() == [none, due].as_slice());
+    same(&rt, totals.counts, counts);
+    same(&rt, totals.requesters.as_slice(), [none, due].as_slice());
     Ok(())
 }
 
@@ -157,12 +171,20 @@ fn a_credit_is_given_back(rt: HostRuntime) -> Result<(), Fail> {
     assert!(rt; zero.claim(&tracker, CreditType::T2) == Some(Entry(0)));
     one.owe(&tracker, CreditType::T2);
     zero.owe(&tracker, CreditType::T2);
-    assert!(rt; zero.release(&tracker, Entry(0)) == Released::Granted(Agent(0)));
+    let released = zero.release(&tracker, Entry(0));
+    same(&rt, released, Released::Granted(Agent(0)));
     assert!(rt; zero.see(&tracker) == [0, 0, 1, 0]);
-    assert!(rt; zero.give_back(&tracker, CreditType::T2) == Released::Granted(Agent(1)));
-    assert!(rt; zero.due() == [0; 4] && one.see(&tracker) == [0, 0, 1, 0]);
-    assert!(rt; one.tend(&tracker, CreditType::T2).is_none() && one.seen() == [0, 0, 1, 0]);
-    assert!(rt; one.give_back(&tracker, CreditType::T2) == Released::Freed);
+    let returned = zero.give_back(&tracker, CreditType::T2);
+    same(&rt, returned, Released::Granted(Agent(1)));
+    same(&rt, zero.due(), [0; 4]);
+    same(&rt, one.see(&tracker), [0, 0, 1, 0]);
+    same(&rt, one.tend(&tracker, CreditType::T2), None);
+    assert!(rt; one.seen() == [0, 0, 1, 0]);
+    same(
+        &rt,
+        one.give_back(&tracker, CreditType::T2),
+        Released::Freed,
+    );
     Ok(())
 }
 
@@ -210,10 +232,11 @@ fn one_port_fills_and_empties_a_tracker(rt: HostRuntime) -> Result<(), Fail> {
     };
     fill(&rt, &tracker, &mut zero);
     let full = tracker.glance();
-    assert!(rt; full.free == [0; 4] && full.hand == [64; 4]);
-    assert!(rt; zero.claim(&tracker, CreditType::T3).is_none());
+    same(&rt, full.free, [0; 4]);
+    same(&rt, full.hand, [64; 4]);
+    same(&rt, zero.claim(&tracker, CreditType::T3), None);
     empty(&tracker, &mut zero);
-    assert!(rt; close_two(tracker, zero, one).counts.free == [64; 4]);
+    same(&rt, close_two(tracker, zero, one).counts.free, [64; 4]);
     Ok(())
 }
 
