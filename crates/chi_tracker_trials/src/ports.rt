@@ -97,7 +97,7 @@ fn an_entry_of_each_word(rt: HostRuntime) -> Result<(), Fail> {
         panic!(rt; "no memory");
     };
     grant_and_spend(&rt, &tracker, &mut zero, &mut one, CreditType::T0, Entry(0));
-    same(&rt, one.due(), [0; 4]);
+    assert!(rt; one.due() == [0; 4]);
     grant_and_spend(
         &rt,
         &tracker,
@@ -106,7 +106,7 @@ fn an_entry_of_each_word(rt: HostRuntime) -> Result<(), Fail> {
         CreditType::T1,
         Entry(64),
     );
-    same(&rt, one.due(), [0; 4]);
+    assert!(rt; one.due() == [0; 4]);
     grant_and_spend(
         &rt,
         &tracker,
@@ -115,7 +115,7 @@ fn an_entry_of_each_word(rt: HostRuntime) -> Result<(), Fail> {
         CreditType::T2,
         Entry(128),
     );
-    same(&rt, one.due(), [0; 4]);
+    assert!(rt; one.due() == [0; 4]);
     grant_and_spend(
         &rt,
         &tracker,
@@ -171,20 +171,12 @@ fn a_credit_is_given_back(rt: HostRuntime) -> Result<(), Fail> {
     assert!(rt; zero.claim(&tracker, CreditType::T2) == Some(Entry(0)));
     one.owe(&tracker, CreditType::T2);
     zero.owe(&tracker, CreditType::T2);
-    let released = zero.release(&tracker, Entry(0));
-    same(&rt, released, Released::Granted(Agent(0)));
+    assert!(rt; zero.release(&tracker, Entry(0)) == Released::Granted(Agent(0)));
     assert!(rt; zero.see(&tracker) == [0, 0, 1, 0]);
-    let returned = zero.give_back(&tracker, CreditType::T2);
-    same(&rt, returned, Released::Granted(Agent(1)));
-    same(&rt, zero.due(), [0; 4]);
-    same(&rt, one.see(&tracker), [0, 0, 1, 0]);
-    same(&rt, one.tend(&tracker, CreditType::T2), None);
-    assert!(rt; one.seen() == [0, 0, 1, 0]);
-    same(
-        &rt,
-        one.give_back(&tracker, CreditType::T2),
-        Released::Freed,
-    );
+    assert!(rt; zero.give_back(&tracker, CreditType::T2) == Released::Granted(Agent(1)));
+    assert!(rt; zero.due() == [0; 4] && one.see(&tracker) == [0, 0, 1, 0]);
+    assert!(rt; one.tend(&tracker, CreditType::T2).is_none() && one.seen() == [0, 0, 1, 0]);
+    assert!(rt; one.give_back(&tracker, CreditType::T2) == Released::Freed);
     Ok(())
 }
 
@@ -234,7 +226,7 @@ fn one_port_fills_and_empties_a_tracker(rt: HostRuntime) -> Result<(), Fail> {
     let full = tracker.glance();
     same(&rt, full.free, [0; 4]);
     same(&rt, full.hand, [64; 4]);
-    same(&rt, zero.claim(&tracker, CreditType::T3), None);
+    assert!(rt; zero.claim(&tracker, CreditType::T3).is_none());
     empty(&tracker, &mut zero);
     same(&rt, close_two(tracker, zero, one).counts.free, [64; 4]);
     Ok(())
