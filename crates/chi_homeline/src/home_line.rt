@@ -194,7 +194,10 @@ impl HomeLine {
         ensures stays { acks_for self.old.serving agent.0 ≡ false → self.new ≡ self.old }
     {
         match self.serving {
-            Serving::AwaitingCompAck { agent: served, slot } if served.0 == agent.0 => {
+            Serving::AwaitingCompAck {
+                agent: served,
+                slot,
+            } if served.0 == agent.0 => {
                 self.serving = Serving::Idle;
                 Some(slot)
             }
@@ -339,7 +342,11 @@ impl HomeLine {
         ensures stays { writes_for self.old.serving agent.0 ≡ false → self.new ≡ self.old }
     {
         match self.serving {
-            Serving::AwaitingWriteData { agent: served, kind, slot } if served.0 == agent.0 => {
+            Serving::AwaitingWriteData {
+                agent: writer,
+                kind,
+                slot,
+            } if writer.0 == agent.0 => {
                 if form.is_dirty() {
                     self.memory = words;
                 }
