@@ -29,6 +29,11 @@ pub trait Input {
         ensures bytes { ReadConsumes (left self.old) (left self.new) result buffer.new }
         ensures ok { OnOk result (failures self.new ≡ failures self.old) }
         ensures err { OnErr result (failures self.new ≡ failures self.old + 1) };
+
+    /// How often a read failed.
+    /// Source: `docs/PROTOCOL.md`, "The program".
+    fn failures(&self) -> u64
+        ensures { result ≡ failures self.now };
 }
 
 /// What bytes are written to. It counts its failures, so that who called it can tell that it failed.
@@ -51,4 +56,9 @@ pub trait Output {
         ensures front { OnErr result (AppendsFront (written self.old) (written self.new) bytes.now) }
         ensures ok { OnOk result (failures self.new ≡ failures self.old) }
         ensures err { OnErr result (failures self.new ≡ failures self.old + 1) };
+
+    /// How often a write failed.
+    /// Source: `docs/PROTOCOL.md`, "The program".
+    fn failures(&self) -> u64
+        ensures { result ≡ failures self.now };
 }

@@ -1,6 +1,6 @@
 //! The program's own devices: a file that is read, and standard output.
 
-ghost use Rattle.std.specs.Prelude.{◌≡◌, ◌≤◌, length, IfOk, OnOk, OnErr};
+ghost use Rattle.std.specs.Prelude.{◌≡◌, ◌≢◌, ◌≤◌, length, IfOk, OnOk, OnErr};
 ghost use Rattle.std.specs.Io.KnownBytes.{Appends, ReadConsumes};
 ghost use Rattle.chi_devices.specs.Devices.{AppendsFront};
 
@@ -29,11 +29,19 @@ impl<F: Read> FileInput<F> {
     {
         match fs::open(rt, path) {
             Ok(file) => Ok(FileInput { file, failures: 0 }),
-            Err(error) => match error.kind() {
-                ErrorKind::OutOfMemory => Err(Fault::NoMemory),
-                _ => Err(Fault::Read),
-            },
+            Err(error) => Err(open_fault(error.kind())),
         }
+    }
+}
+
+/// The fault with which opening a file ends, by the kind of the system's error.
+fn open_fault(kind: ErrorKind) -> Fault
+    ensures memory { kind ≡ ErrorKind.OutOfMemory → result ≡ Fault.NoMemory }
+    ensures other { kind ≢ ErrorKind.OutOfMemory → result ≡ Fault.Read }
+{
+    match kind {
+        ErrorKind::OutOfMemory => Fault::NoMemory,
+        _ => Fault::Read,
     }
 }
 
@@ -50,6 +58,10 @@ impl<F: Read> Input for FileInput<F> {
                 Err(Failed)
             }
         }
+    }
+
+    fn failures(&self) -> u64 {
+        self.failures
     }
 }
 
@@ -103,6 +115,10 @@ impl<W: Write> Output for StandardOutput<W> {
             self.failures += 1;
         }
         done
+    }
+
+    fn failures(&self) -> u64 {
+        self.failures
     }
 }
 
@@ -161,8 +177,29 @@ mod tests {
         let mut buffer = [0; 4];
         assert_eq!(rt; input.read(&mut buffer), Ok(1));
         assert_eq!(rt; buffer, [b'a', 0, 0, 0]);
-        assert_eq!(rt; input.failures, 0);
+        assert_eq!(rt; input.failures(), 0);
         assert_eq!(rt; input.read(&mut buffer), Err(Failed));
-        assert_eq!(rt; input.failures, 1);
+        assert_eq!(rt; input.failures(), 1);
+    }
+
+    /// It takes each byte, and can't be flushed.
+    #[derive(Drop)]
+    struct Unflushed;
+
+    impl Write for Unflushed {
+        fn write(&mut self, bytes: &[u8]) -> io::Result<usize> {
+            Ok(bytes.len())
+        }
+
+        fn flush(&mut self) -> io::Result<()> {
+            Err(ErrorKind::Other.into())
+        }
+    }
+
+    #[test]
+    fn a_write_that_is_not_flushed_has_failed(rt: HostRuntime) {
+        let mut output = StandardOutput::new(Unflushed);
+        assert_eq!(rt; output.write_all(b"ok\n"), Err(Failed));
+        assert_eq!(rt; output.failures(), 1);
     }
 }

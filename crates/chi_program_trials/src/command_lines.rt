@@ -60,7 +60,7 @@ fn a_storm_with_other_options_or_numbers_is_bad(rt: HostRuntime) {
 }
 
 /// Other command lines than `replay FILE`.
-const BAD_REPLAYS: [&[&str]; 24] = [
+const BAD_REPLAYS: [&[&str]; 23] = [
     &[],
     &["chihome"],
     &["chihome", "replay"],
@@ -70,7 +70,6 @@ const BAD_REPLAYS: [&[&str]; 24] = [
     &["chihome", "replay", "--seed", "1", "a"],
     &["chihome", "replay", "-x"],
     &["chihome", "--file", "a"],
-    &["chihome", "storm", "a"],
     &["replay", "F"],
     &["chihome", ""],
     &["chihome", "Replay", "F"],

@@ -1,6 +1,6 @@
 -- Each atomic step is allowed: whatever the table is when its word changes, the port's new view keeps the rule.
-use Rattle.std.proofs.Common.{◌≡◌, ◌≢◌, ℕ, ◌+◌, ◌*◌, ◌/◌, ◌%◌, ◌^◌, ◌<◌, ◌≤◌, List, set, slice_index, bit_and, bit_or, Option, Some, None, IfSome, refl, sym, ap, ◌∙◌, subst, arith}
-use mathlib.Core.Option.{some, none}
+use Rattle.std.proofs.Common.{◌≡◌, ◌≢◌, ℕ, zero, suc, [], ◌∷◌, ◌+◌, ◌*◌, ◌/◌, ◌%◌, ◌^◌, ◌<◌, ◌≤◌, List, set, slice_index, slice_index_or, bit_and, bit_or, Option, Some, None, IfSome, refl, sym, ap, ◌∙◌, subst, arith}
+use mathlib.Core.Option.{some, none, some-ne-none}
 use mathlib.Core.Option as maybe
 use lib.ListN.{get_elem?}
 use lib.Seq.{set-get_or}
@@ -24,6 +24,12 @@ use Rattle.chi_tracker.proofs.Fitting.{claims_fit, frees_fit, settles_fit, paid,
 
 abbrev Homes : Type 0
 Homes = List (maybe.Option ℕ)
+
+-- the seat that did a step
+seat_here : (vs : List SeatView) (id : ℕ) (x y : PortView) → get_elem? vs id ≡ some (one x) → slice_index_or (set vs id (one y)) id (record { ports = [] }) ≡ one y
+seat_here [] id x y at = absurd (some-ne-none (one x) (sym at))
+seat_here (v ∷ vs) zero x y at = refl
+seat_here (v ∷ vs) (suc n) x y at = seat_here vs n x y at
 
 module _ (key : Shape) (slots id : ℕ) (m : Me ℕ SeatView) (alone : m ≡ solo (port_of m)) where
   abbrev x : PortView
@@ -133,6 +139,11 @@ module _ (key : Shape) (slots id : ℕ) (m : Me ℕ SeatView) (alone : m ≡ sol
               let q : (64 * k + i) / 64 ≡ k = omega arith in let q' : (64 * k + i) % 64 ≡ i = omega arith in
               let b : set_at x.seen (64 * k + i) ≡ bit_at (slice_index x.seen k) i = ap (λ z. bit_at (slice_index x.seen z) ((64 * k + i) % 64)) q ∙ ap (bit_at (slice_index x.seen k)) q' in
               let f : p_of ws x.who (64 * k + i) ≡ bit_at r i = ap (λ z. bit_at (slice_index ws (4 + 5 * x.who + z)) ((64 * k + i) % 64)) q ∙ ap (bit_at r) q' in omega arith,
+          (
+            record { words = set ws (4 + 5 * x.who + k) r; homes = homes; views = set vs id (one (views_word k r x)) },
+            subst (λ (z : Shape). TrackerRule z (record { words = set ws (4 + 5 * x.who + k) r; homes = homes; views = set vs id (one (views_word k r x)) })) (sym sound.shape_is) (loaded_o ws homes vs _ (4 + 5 * x.who + k) rule fits),
+            (id, seat_here vs id x (views_word k r x) at),
+          ),
         ),
       ))
 

@@ -98,16 +98,29 @@ seen_of p t = set_count p.seen (low p.shape t) (size p.shape t)
 abbrev pub IsLowestSeen : PortView → ℕ → ℕ → Type 0
 IsLowestSeen p t e = IsOf p.shape t e × (set_at p.seen e ≡ 1) × ((i : ℕ) → low p.shape t ≤ i → i < e → set_at p.seen i ≡ 0)
 
+-- a sweep of type t was opened and stands at requester m, where these bits are left; it came there only
+-- with no bit left at any requester before m
+abbrev pub stands_at : ℕ → ℕ → ℕ → PortView → PortView
+stands_at t m left p = record p { sweep = record { opened = p.sweep.opened + 1; kind = t; at = m; left = left } }
+
 -- a sweep of type t was opened, has looked at the first m requesters, and has no bit left
 abbrev pub swept_by : ℕ → ℕ → PortView → PortView
 swept_by t zero p = p
-swept_by t (suc m) p = record p { sweep = record { opened = p.sweep.opened + 1; kind = t; at = m; left = 0 } }
+swept_by t (suc m) p = stands_at t m 0 p
 
 -- a sweep of type t was opened, has looked at all requesters, and has no bit left
 abbrev pub swept_all : ℕ → PortView → PortView
-swept_all t p = record p { sweep = record { opened = p.sweep.opened + 1; kind = t; at = p.shape.agents - 1; left = 0 } }
+swept_all t p = stands_at t (p.shape.agents - 1) 0 p
 
--- the port's sweeps went on to s
+-- a sweep of type t was opened and has found an owed credit of the type at a requester
+pub record ShowsOwed (t : ℕ) (p q : PortView) : Type 0 where
+  pub at : ℕ
+  pub left : ℕ
+  pub near : at < p.shape.agents
+  pub shown : 0 < left
+  pub is : q ≡ stands_at t at left p
+
+-- the port's present sweep is s
 abbrev pub with_sweep : Sweep → PortView → PortView
 with_sweep s p = record p { sweep = s }
 
@@ -118,17 +131,19 @@ granted_to m e p = record p { hand = dropped p.hand e; duty = None; ended = was_
 abbrev pub freed_entry : ℕ → PortView → PortView
 freed_entry e p = record p { hand = dropped p.hand e; duty = None; ended = was_freed e }
 
--- How the release of entry e of type t ends: granted to a requester, after a settle of its place; or
--- freed, after a sweep of the type that has looked at every requester and has no bit left.
+-- How the release of entry e of type t ends: granted to a requester, of which a place was settled, in a
+-- sweep that stands there; or freed, after a sweep of the type that has looked at every requester and has
+-- no bit left.
 abbrev pub Ended : PortView → ℕ → ℕ → Released → PortView → Type 0
-Ended p t e (Granted m) q = (m.0 < p.shape.agents) × ((s : Sweep) × (q ≡ granted_to m.0 e (with_sweep s p)))
+Ended p t e (Granted m) q = (m.0 < p.shape.agents) × ((left : ℕ) × (q ≡ granted_to m.0 e (stands_at t m.0 left p)))
 Ended p t e Freed q = q ≡ freed_entry e (swept_all t p)
 
--- How a tend of type t ends: an entry was claimed in a scan and ended as in a release; or no requester
--- showed a bit of the type; or each entry of the type was found claimed.
+-- How a tend of type t ends: where a sweep showed an owed credit of the type, an entry was claimed in a
+-- scan and ended as in a release, or each entry of the type was found claimed; or no requester showed a
+-- bit of the type.
 abbrev pub Tended : PortView → ℕ → Option Released → PortView → Type 0
-Tended p t (Some released) q = (s : Sweep) × (e : ℕ) × IsOf p.shape t e × (has e p ≡ 0) × Ended (into_hand e (scanned t (e - low p.shape t) (with_sweep s p))) t e released q
-Tended p t None q = (q ≡ swept_all t p) ⊎ ((s : Sweep) × (q ≡ scanned t (size p.shape t) (with_sweep s p)))
+Tended p t (Some released) q = (x : PortView) × ShowsOwed t p x × ((e : ℕ) × IsOf p.shape t e × (has e p ≡ 0) × Ended (into_hand e (scanned t (e - low p.shape t) x)) t e released q)
+Tended p t None q = (q ≡ swept_all t p) ⊎ ((x : PortView) × ShowsOwed t p x × (q ≡ scanned t (size p.shape t) x))
 
 -- what a port knows of itself and of its credits is the same
 abbrev pub HasSameCredits : PortView → PortView → Type 0

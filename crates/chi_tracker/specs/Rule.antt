@@ -1,6 +1,6 @@
 -- The rule of the tracker: what holds between any two atomic steps, whichever ports do them
 -- (docs/PROTOCOL.md, "The rule between steps").
-use Rattle.std.specs.Prelude.{◌≡◌, ℕ, ◌+◌, ◌<◌, ◌≤◌, List, [], ◌∷◌, Option, Some, None, IfSome, length, slice_index, cond, ◌==◌}
+use Rattle.std.specs.Prelude.{◌≡◌, ℕ, ◌+◌, ◌<◌, ◌≤◌, List, [], ◌∷◌, Option, Some, None, IfSome, length, slice_index, slice_index_or, cond, ◌==◌}
 use Rattle.std.specs.Int.{bit_at}
 use Rattle.atomic_table.specs.Table.{State}
 use Rattle.chi_tracker.specs.declared.shape.Shape.{Shape}
@@ -69,3 +69,11 @@ pub record TrackerRule (key : Shape) (st : State ℕ SeatView) : Type 0 where
 -- the view of the first seat, which stands for all ports
 abbrev pub all_new : Shape → SeatView
 all_new s = record { ports = new_ports s 0 s.agents }
+
+-- the port has a seat of its own in this state
+abbrev pub HasSeat : PortView → State ℕ SeatView → Type 0
+HasSeat p st = (i : ℕ) × (slice_index_or st.views i (record { ports = [] }) ≡ record { ports = p ∷ [] })
+
+-- there is a state of the words and of all ports that keeps the rule, and in it this is a port's view
+abbrev pub IsOfRunning : PortView → Type 0
+IsOfRunning p = (st : State ℕ SeatView) × TrackerRule p.shape st × HasSeat p st

@@ -1,6 +1,6 @@
 -- The eight kinds of atomic step, each with its operation and its effect on the view of the port that
--- does it (docs/PROTOCOL.md, "Steps of the tracker"). A claim, a look, a spend and a settle have two
--- readings each, by what the step is for.
+-- does it (docs/PROTOCOL.md, "Steps of the tracker"). A look and a spend have two readings each, by what
+-- the step is for.
 use Rattle.std.specs.Prelude.{◌≡◌, ℕ, zero, suc, Bool, ◌+◌, ◌*◌, ◌/◌, ◌%◌, ◌^◌, ◌<◌, ◌≤◌, List, [], ◌∷◌, Option, Some, None, slice_index, slice_set, cond, ◌==◌, ◌&&◌}
 use Rattle.std.specs.Int.{bit_at}
 use Rattle.atomic_table.specs.Table.{Me, Step}
@@ -8,6 +8,7 @@ use Rattle.chi_tracker.specs.declared.shape.Shape.{Shape}
 use Rattle.chi_tracker.specs.declared.view.SeatView.{SeatView}
 use Rattle.chi_tracker.specs.Sums.{raised, with_bit, dropped, all_but, take_out}
 use Rattle.chi_tracker.specs.Shape.{low, owed_in}
+use Rattle.chi_tracker.specs.Rule.{IsOfRunning}
 use Rattle.chi_tracker.specs.Views.{Duty, End, was_freed, was_promised, Sweep, PortView, has, new_port}
 
 -- what a step is for, where its operand can't say it: a credit type, an entry, a requester, and a place
@@ -167,6 +168,7 @@ told_promise a st m r w = st.word ≡ 4 + 5 * a.agent + a.entry / 64 → st.firs
 abbrev pub told_see : Aim → Step ℕ → Me ℕ SeatView → ℕ → Me ℕ SeatView → Type 0
 told_see a st m r w = st.word ≡ 4 + 5 * (port_of m).who + a.bit
     → Becomes m w (views_word a.bit r) × ((i : ℕ) → i < 64 → bit_at (slice_index (port_of m).seen a.bit) i ≤ bit_at r i)
+    × IsOfRunning (port_of w)
 
 abbrev pub Spendable : Aim → Me ℕ SeatView → Type 0
 Spendable a m = (has a.entry (port_of m) ≡ 0)

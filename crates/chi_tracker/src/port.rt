@@ -6,6 +6,7 @@ ghost use Rattle.std.specs.Int.{bit_at};
 ghost use Rattle.chi_tracker.specs.Sums.{set_at, dropped};
 ghost use Rattle.chi_tracker.specs.Shape.{low, size, IsOf, IsShape};
 ghost use Rattle.chi_tracker.specs.Views.{has, new_port};
+ghost use Rattle.chi_tracker.specs.Rule.{IsOfRunning};
 ghost use Rattle.chi_tracker.specs.Steps.{solo, frees, spends, returns_credit};
 ghost use Rattle.chi_tracker.specs.Calls.{no_owner, scanned, into_hand, owed_one, saw_all, seen_of, IsLowestSeen, Ended, Tended, HasSameCredits, HasOneLess};
 
@@ -183,7 +184,8 @@ impl Port {
 
     /// Looks at what is promised to the port, one step on each of its four words, and answers the seen
     /// credits by type. A credit that was seen before is seen still. The port's hand, and what it has counted
-    /// of its credits, stay.
+    /// of its credits, stay. There is a state of the words and of all ports which keeps the tracker's rule and
+    /// in which this is the port's view: what `Law::place`, `Law::ledger` and `Law::knowledge` say holds of it.
     ///
     /// Condition: the port is one that this tracker gave.
     /// Source: `docs/PROTOCOL.md`, "Steps of the tracker", see.
@@ -193,6 +195,7 @@ impl Port {
         ensures port { self.new.port ≡ saw_all self.new.port.seen self.old.port }
         ensures more { (e : ℕ) → e < 256 → set_at self.old.port.seen e ≤ set_at self.new.port.seen e }
         ensures counts { (t : ℕ) → t < 4 → slice_index result t ≡ seen_of self.new.port t }
+        ensures running { IsOfRunning self.new.port }
     {
         let board = tracker.board();
         let Some(mut chair) = self.chair.take() else {
@@ -258,11 +261,12 @@ impl Port {
     /// freed.
     ///
     /// The contract says that the entry left the hand, and that it was promised to the requester that is
-    /// answered, which is one of the tracker's, or freed after a sweep of its type that this call opened and
-    /// that came to the last requester with no bit left. The port's other entries in hand and its credits
-    /// stay. That it was the first requester in rising order isn't in the contract. That a credit of the type
-    /// was owed to it isn't either, and follows from the law that each step keeps (`Law::ledger`): one more
-    /// promise to a requester is one less of the credits that were owed to it.
+    /// answered, which is one of the tracker's and the one that the sweep of its type stands at, which this
+    /// call opened: so each requester before it was looked at with no bit left. Or it was freed after such a
+    /// sweep came to the last requester with no bit left. The port's other entries in hand and its credits
+    /// stay. That a credit of the type was owed to the requester isn't in the contract, and follows from the
+    /// law that each step keeps (`Law::ledger`): one more promise to a requester is one less of the credits
+    /// that were owed to it.
     ///
     /// Conditions: the port is one that this tracker gave, and the entry is one of the tracker's and in its
     /// hand.
@@ -318,11 +322,11 @@ impl Port {
     /// Where a requester shows an owed credit of the type, claims an entry of the type and releases it.
     /// `None` where no credit of the type was seen owed, or each entry of the type was found claimed.
     ///
-    /// The contract says that an entry of the type, which wasn't in hand, was claimed in a scan of this call
-    /// and went where `release` says; or, with `None`, that a sweep of the type that this call opened came to
-    /// the last requester with no bit left, or that a scan of this call found each entry of the type claimed.
-    /// The port's hand and its credits are as they were. That a requester showed an owed credit before the
-    /// claim isn't in the contract.
+    /// The contract says that a sweep of the type that this call opened found an owed credit at a requester,
+    /// and an entry of the type, which wasn't in hand, was then claimed in a scan and went where `release`
+    /// says; or, with `None`, that such a sweep came to the last requester with no bit left, or that it found
+    /// an owed credit and a scan found each entry of the type claimed. The port's hand and its credits are as
+    /// they were.
     ///
     /// Conditions: the port is one that this tracker gave, and the type has entries.
     /// Source: `docs/PROTOCOL.md`, "Steps of the tracker", tend.

@@ -8,6 +8,7 @@ use chi_flit::Agent;
 pub enum Released {
     /// It was promised to this requester, for a credit that was owed to it.
     Granted(Agent),
-    /// No credit of its type was seen owed: it is free.
+    /// It is free: each requester was looked at, and of each credit of its type that a look showed owed, the
+    /// place was found clear afterwards, settled by another port.
     Freed,
 }

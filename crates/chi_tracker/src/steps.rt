@@ -6,6 +6,7 @@ ghost use Rattle.std.specs.Int.{bit_at};
 ghost use Rattle.chi_tracker.specs.Sums.{set_at};
 ghost use Rattle.chi_tracker.specs.Shape.{IsOf, owed_in};
 ghost use Rattle.chi_tracker.specs.Views.{has};
+ghost use Rattle.chi_tracker.specs.Rule.{IsOfRunning};
 ghost use Rattle.chi_tracker.specs.Steps.{solo, port_of, claims, frees, notes, first_clear, owes, sweeps, settles, duty_to, promises, views_word, spends, returns_credit};
 
 use crate::law::{Board, Chair};
@@ -201,6 +202,7 @@ fn see_as<T: Pick>(board: &Board, chair: &mut Chair, number: usize, part: usize)
     ensures table { chair.new.table_id ≡ chair.old.table_id }
     ensures view { chair.new.me ≡ solo (views_word part result (port_of chair.old.me)) }
     ensures more { (i : ℕ) → i < 64 → bit_at (slice_index (port_of chair.old.me).seen part) i ≤ bit_at result i }
+    ensures running { IsOfRunning (port_of chair.new.me) }
 {
     board.load::<See<T>>(chair, 4 + 5 * number + part)
 }
@@ -213,6 +215,7 @@ pub(crate) fn see_step(board: &Board, chair: &mut Chair, number: usize, part: us
     ensures table { chair.new.table_id ≡ chair.old.table_id }
     ensures view { chair.new.me ≡ solo (views_word part result (port_of chair.old.me)) }
     ensures more { (i : ℕ) → i < 64 → bit_at (slice_index (port_of chair.old.me).seen part) i ≤ bit_at result i }
+    ensures running { IsOfRunning (port_of chair.new.me) }
 {
     see_as::<Brand>(board, chair, number, part)
 }

@@ -1,10 +1,10 @@
 //! The sweep of the requesters for an owed credit of a type.
 
-ghost use Rattle.std.specs.Prelude.{◌≡◌, ◌+◌, ◌<◌, ◌*◌, ◌/◌, ◌≤◌, None, MatchBool, MatchOption};
+ghost use Rattle.std.specs.Prelude.{◌≡◌, ℕ, ◌+◌, ◌<◌, ◌*◌, ◌/◌, ◌≤◌, None, MatchBool, MatchOption};
 ghost use Rattle.chi_tracker.specs.Shape.{low, size, IsOf};
-ghost use Rattle.chi_tracker.specs.Views.{Sweep, has};
+ghost use Rattle.chi_tracker.specs.Views.{PortView, has};
 ghost use Rattle.chi_tracker.specs.Steps.{solo, port_of, byte_of, settles, promises};
-ghost use Rattle.chi_tracker.specs.Calls.{with_sweep, swept_all, granted_to, freed_entry, Ended, Tended};
+ghost use Rattle.chi_tracker.specs.Calls.{with_sweep, stands_at, swept_all, granted_to, freed_entry, Ended, ShowsOwed, Tended};
 
 use crate::law::{Board, Chair};
 use crate::marks::is_set;
@@ -54,7 +54,7 @@ fn settle_places(
     requires sweep { (port_of chair.old.me).sweep ≡ record { opened = (port_of chair.old.me).sweep.opened; kind = ty; at = agent; left = byte_of ty word } }
     requires range { (ty < 4) × (agent < (port_of chair.old.me).shape.agents) × (agent < 8) × (entry < 256) × IsOf (port_of chair.old.me).shape ty entry }
     ensures table { chair.new.table_id ≡ chair.old.table_id }
-    ensures view { MatchBool result ((s : Sweep) × (chair.new.me ≡ solo (granted_to agent entry (with_sweep s (port_of chair.old.me))))) (chair.new.me ≡ solo (with_sweep (record (port_of chair.old.me).sweep { left = 0 }) (port_of chair.old.me))) }
+    ensures view { MatchBool result ((left : ℕ) × (chair.new.me ≡ solo (granted_to agent entry (with_sweep (record (port_of chair.old.me).sweep { left = left }) (port_of chair.old.me))))) (chair.new.me ≡ solo (with_sweep (record (port_of chair.old.me).sweep { left = 0 }) (port_of chair.old.me))) }
 {
     for place in 8 * ty..8 * ty + 8 {
         if is_set(word, place) && settle_one(board, chair, agent, place, entry) {
@@ -77,7 +77,7 @@ fn settle_first(
     requires view { (chair.old.me ≡ solo (port_of chair.old.me)) × ((port_of chair.old.me).duty ≡ None) × (has entry (port_of chair.old.me) ≡ 1) }
     requires range { (ty < 4) × (agents ≡ (port_of chair.old.me).shape.agents) × (0 < agents) × (agents ≤ 8) × (entry < 256) × IsOf (port_of chair.old.me).shape ty entry }
     ensures table { chair.new.table_id ≡ chair.old.table_id }
-    ensures view { MatchOption result (chair.new.me ≡ solo (freed_entry entry (swept_all ty (port_of chair.old.me)))) (λ m. (m < agents) × ((s : Sweep) × (chair.new.me ≡ solo (granted_to m entry (with_sweep s (port_of chair.old.me)))))) }
+    ensures view { MatchOption result (chair.new.me ≡ solo (freed_entry entry (swept_all ty (port_of chair.old.me)))) (λ m. (m < agents) × ((left : ℕ) × (chair.new.me ≡ solo (granted_to m entry (stands_at ty m left (port_of chair.old.me)))))) }
 {
     for agent in 0..agents {
         let word = sweep_step(board, chair, ty, agent);
@@ -117,7 +117,7 @@ pub(crate) fn look_owed(board: &Board, chair: &mut Chair, ty: usize, agents: usi
     requires view { chair.old.me ≡ solo (port_of chair.old.me) }
     requires range { (ty < 4) × (agents ≡ (port_of chair.old.me).shape.agents) × (0 < agents) × (agents ≤ 8) }
     ensures table { chair.new.table_id ≡ chair.old.table_id }
-    ensures view { MatchBool result ((s : Sweep) × (chair.new.me ≡ solo (with_sweep s (port_of chair.old.me)))) (chair.new.me ≡ solo (swept_all ty (port_of chair.old.me))) }
+    ensures view { MatchBool result ((x : PortView) × (chair.new.me ≡ solo x) × ShowsOwed ty (port_of chair.old.me) x) (chair.new.me ≡ solo (swept_all ty (port_of chair.old.me))) }
 {
     for agent in 0..agents {
         let shown = sweep_step(board, chair, ty, agent);
