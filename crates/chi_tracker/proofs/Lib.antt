@@ -12,3 +12,4 @@ mod Keeping
 pub mod Sweeps
 mod Exactly
 pub mod Balance
+mod SweepLaws

@@ -1,8 +1,7 @@
 -- A sweep's looks, and the places that are left at one requester.
-use Rattle.std.proofs.Common.{◌≡◌, ℕ, zero, suc, ◌+◌, ◌-◌, ◌*◌, ◌/◌, ◌%◌, ◌^◌, ◌<◌, ◌≤◌, Bool, true, false, cond, eqb, ◌==◌, ◌&&◌, ⊎_elim, Option, Some, None, refl, sym, ap, ◌∙◌, subst, arith, eq-eqb, shr-shr, bit_and}
+use Rattle.std.proofs.Common.{◌≡◌, ℕ, zero, suc, ◌+◌, ◌-◌, ◌*◌, ◌/◌, ◌%◌, ◌^◌, ◌<◌, ◌≤◌, Bool, cond, eqb, ◌&&◌, ⊎_elim, Option, Some, None, refl, sym, ap, ◌∙◌, subst, arith, eq-eqb, shr-shr, bit_and}
 use mathlib.Core.Logic.{dite}
 use native.Mathlib.Decide.{ℕ_discrete}
-use Rattle.std.proofs.lemmas.Bool.Decides.{nat_tests}
 use Rattle.std.specs.Int.{bit_at}
 use Rattle.std.proofs.lemmas.Nat.{xor_lt, and_le_l}
 use Rattle.std.proofs.lemmas.Nat.Bits.{same_from_bits_below, bit_at-zero}
@@ -12,8 +11,8 @@ use Rattle.chi_tracker.specs.declared.view.SeatView.{SeatView}
 use Rattle.chi_tracker.specs.Sums.{dropped, with_bit}
 use Rattle.chi_tracker.specs.Views.{PortView, Sweep, has}
 use Rattle.chi_tracker.specs.Shape.{low}
-use Rattle.chi_tracker.specs.Steps.{solo, port_of, byte_of, goes_on, left_after, settles, sweeps}
-use Rattle.chi_tracker.specs.Calls.{with_sweep, stands_at, swept_by, into_hand, scanned, Ended, ShowsOwed, Tended, HasSameCredits}
+use Rattle.chi_tracker.specs.Steps.{solo, port_of, byte_of, left_after, settles}
+use Rattle.chi_tracker.specs.Calls.{with_sweep, into_hand, scanned, Ended, Tended, HasSameCredits}
 use Rattle.chi_tracker.specs.declared.released.Released.{Released}
 use Rattle.chi_tracker.specs.declared.released.Released.TheVariants.{Granted, Freed}
 use Rattle.chi_tracker.proofs.BitLaws.{dropped_here, dropped_else, with_else}
@@ -139,18 +138,3 @@ tended_hand p t (Some r) q h i =
     let e : ℕ = h.2.0 in let hand : h.0.hand ≡ p.hand = ap (λ z. z.hand) h.1.is in
     paid_hand p (into_hand e (scanned t (e - low p.shape t) h.0)) t e r q (ap (λ z. with_bit z e) hand) h.2.2 h.2.3 i
 tended_hand p t None q h i = ⊎_elim (λ is. ap (λ z. has i z) is) (λ s. ap (λ z. has i z) s.2 ∙ ap (λ z. has i z) s.1.is) h
-
--- a requester after the first
-past_first : (m : ℕ) → (suc m == 0) ≡ false
-past_first m = grind (arith, nat_tests)
-
-comes_on : (t m : ℕ) → ((suc m == m + 1) && ((t == t) && (0 == 0))) ≡ true
-comes_on t m = grind (arith, nat_tests)
-
--- a sweep that has no bit left comes to the next requester
-pub stands_next : (t m word : ℕ) (p : PortView) → sweeps t m word (swept_by t m p) ≡ stands_at t m (byte_of t word) p
-stands_next t zero word p = refl
-stands_next t (suc m) word p =
-    let n : ℕ = p.sweep.opened + 1 in let left : ℕ = byte_of t word in
-    ap (λ (z : Bool). with_sweep (record { opened = cond z (n + 1) n; kind = cond z t t; at = cond z 0 (cond (goes_on t (suc m) (swept_by t (suc m) p).sweep) (suc m) m); left = cond z left (cond (goes_on t (suc m) (swept_by t (suc m) p).sweep) left 0) }) p) (past_first m)
-    ∙ ap (λ (z : Bool). with_sweep (record { opened = n; kind = t; at = cond z (suc m) m; left = cond z left 0 }) p) (comes_on t m)
