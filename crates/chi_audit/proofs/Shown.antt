@@ -40,7 +40,7 @@ to_line s last eight c = record {
       ((c.agents n low).others m here (λ (e : m ≡ n). apart (sym e))).one_owner (state_at s last n eight low ∙ first) (state_at s last m eight here ∙ second));
 }
 
-to_view : (s : LineState) (last : List ℕ) → length s.requesters ≡ 8 → Coherent last s → IsCoherentView (shown s last)
+pub to_view : (s : LineState) (last : List ℕ) → length s.requesters ≡ 8 → Coherent last s → IsCoherentView (shown s last)
 to_view s last eight c = record {
   agents = λ n low. record {
     named = λ valid. c.named n low (subst (λ (v : State). is_valid v ≡ true) (state_at s last n eight low) valid);

@@ -10,12 +10,15 @@ use chi_flit::Line;
 use chi_slice::Slice;
 use std::alloc::Allocator;
 
-/// Whether each line of a slice is coherent by its plain data, and its journal is legal. Takes no memory.
+/// Whether each line of a slice is coherent by its plain data, and its journal is legal. The lines and the
+/// records are looked at, and the answer is true of every slice. Takes no memory.
 /// Source: `docs/PROTOCOL.md`, "Coherence" and "Replay files".
 pub fn check_slice<A: Allocator>(slice: &Slice<A>) -> bool
-    ensures { IsTrue result ↔ IsCoherentSlice slice.now }
+    ensures verdict { IsTrue result ↔ IsCoherentSlice slice.now }
+    ensures always { result ≡ true }
 {
-    are_lines_coherent(slice) && slice.journal().legal()
+    let journal = slice.journal();
+    are_lines_coherent(slice) && journal.legal()
 }
 
 /// Whether each line of a slice is coherent.
