@@ -8,7 +8,8 @@ use Rattle.chi_flit.specs.declared.snoop.Snoop.TheVariants.{SnpShared, SnpNotSha
 use Rattle.chi_flit.specs.declared.kind.Kind.{Kind}
 use Rattle.chi_flit.specs.declared.kind.Kind.TheVariants.{ReadNotSharedDirty, ReadShared, ReadUnique, CleanUnique, Evict, WriteBackFull, WriteCleanFull, WriteEvictFull}
 
--- whether a copy in the state may issue the kind; also whether a retried one may be resent
+-- whether a copy in the state may issue the kind; a copy-back, and no other kind, needs the state again where
+-- it is resent
 abbrev pub is_needed : Kind → State → Bool
 is_needed ReadNotSharedDirty I = true
 is_needed ReadNotSharedDirty _ = false

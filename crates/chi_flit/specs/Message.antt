@@ -32,7 +32,8 @@ channel_of (messages.DatUp response) = channels.DatUp
 abbrev pub no_words : List ℕ
 no_words = replicate 8 0
 
--- the write data of a copy in the state, with its data
+-- the write data of a copy: in the form of its state, with its words, or with 0 in each where there is no
+-- copy
 abbrev pub write_data_of : State → List ℕ → DatUp
 write_data_of UD words = CopyBackWrData UD words
 write_data_of SD words = CopyBackWrData SD words

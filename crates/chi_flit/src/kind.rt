@@ -46,7 +46,8 @@ impl Kind {
         }
     }
 
-    /// Whether a copy in `state` is in the state that this kind needs at its issue.
+    /// Whether a copy in `state` is in the state that this kind needs at its issue. A copy-back that was
+    /// retried needs it again where it is resent; no other kind does.
     /// Source: `docs/PROTOCOL.md`, "Kinds of request".
     pub fn needs(self, state: State) -> bool
         ensures { result ≡ is_needed self state }

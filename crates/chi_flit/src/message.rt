@@ -114,8 +114,8 @@ impl Msg {
     }
 }
 
-/// The write data that a copy in `state` with the data `words` sends: of the form of its state, with its
-/// data; all words are 0 where there is no copy.
+/// The write data that a copy in `state` with the data `words` sends: in the form of its state, with those
+/// words, or with 0 in each where there is no copy.
 /// Source: `docs/PROTOCOL.md`, "Write data".
 pub fn write_data(state: State, words: Data) -> DatUp
     ensures { result ≡ write_data_of state words }

@@ -13,8 +13,8 @@ use std::alloc::Allocator;
 use std::marker::Model;
 
 /// The loads and stores that were answered, in their order, up to a limit. Contracts see it as a `Log`:
-/// the records, the limit, and the number of lines. Each question takes the same time, however many
-/// records there are.
+/// the records, the limit, and the number of lines. No question walks over the records: how many there
+/// are of each sort, the last values and whether they are legal are kept beside them.
 /// Source: `docs/PROTOCOL.md`, "The journal and last values".
 #[derive(Drop)]
 pub struct Journal<A: Allocator> {

@@ -18,7 +18,7 @@ loop-slice-preserved g c =
     let stores : c.from-stores.result ≡ stores_of one.journal.entries = search (rules, c.from-stores.ensures, c.stores.ensures, c.journal-journal.ensures.journal) in
     let few_loads : c.from-loads.result < 4294967296 = omega arith in
     let few_stores : c.from-stores.result < 4294967296 = omega arith in
-    let verdict : IsTrue c.check_slice-coherent.result ↔ IsCoherentSlice one = search (rules, c.check_slice-coherent.ensures) in
+    let verdict : IsTrue c.check_slice-coherent.result ↔ IsCoherentSlice one = search (rules, c.check_slice-coherent.ensures.verdict) in
     let next = next_audited slices n c.loop-slice.loads c.loop-slice.stores c.from-loads.result c.from-stores.result c.loop-slice.coherent c.check_slice-coherent.result one c.loop-slice.invariant low
     (loads ∙ ap (λ (s : SliceState). loads_of s.journal.entries) here) few_loads
     (stores ∙ ap (λ (s : SliceState). stores_of s.journal.entries) here) few_stores
