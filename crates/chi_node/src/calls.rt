@@ -144,9 +144,31 @@ pub fn step_on<A: Allocator, B: Allocator>(
     ensures history { OnOk result (CountsStep slice.old slice.new action requester.old requester.new) }
 {
     let at = place_of_step(slice, requester, action)?;
+    Ok(advance(slice, tracker, requester, action, at))
+}
+
+/// The slice does its part of the step, and then the requester's account and port their part.
+fn advance<A: Allocator, B: Allocator>(
+    slice: &mut Slice<A>,
+    tracker: &Tracker<B>,
+    requester: &mut Requester,
+    action: Action,
+    at: Place,
+) -> Stepped
+    requires table { requester.old.table ≡ tracker.now.table }
+    requires agent { action.agent.0 ≡ requester.old.number }
+    requires step { is_own_step action.step ≡ true }
+    requires place { at ≡ place_at slice.old action }
+    requires can { CanStep slice.old requester.old action }
+    ensures steps { StepsTo slice.old slice.new action requester.old requester.new result }
+    ensures agreement { KeepsAgreement slice.old slice.new requester.old requester.new }
+    ensures same { IsSameRequester requester.old requester.new }
+    ensures slice { IsSameSlice slice.old slice.new }
+    ensures history { CountsStep slice.old slice.new action requester.old requester.new }
+{
     let effect = do_action(slice, action);
     let released = requester.finish(tracker, at, action.step, effect);
-    Ok(Stepped { effect, released })
+    Stepped { effect, released }
 }
 
 /// Where the step is done, of a requester that agrees.

@@ -1,5 +1,6 @@
-//! A requester: its port to the tracker of entries, and its account of the requests in its slots, kept
-//! together.
+//! Requesters and what they do at a node: a requester with its port to the tracker of entries and its
+//! account of the requests in its slots, the parts of a node in its opening state, whether a requester
+//! agrees with a slice, and arrivals and steps of a requester on a slice.
 //!
 //! Source: `docs/PROTOCOL.md`, "A requester and its calls".
 #![tactic(auto)]
