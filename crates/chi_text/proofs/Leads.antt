@@ -7,22 +7,17 @@ use Rattle.chi_tracker.specs.Views.{PortView}
 use Rattle.chi_system.specs.System.{SystemState, opening_system}
 use Rattle.chi_text.specs.Session.{machine_of, ports_of}
 use Rattle.chi_text.proofs.Openings.{opening_machine, opening_views}
-use Rattle.chi_text.specs.Turns.{Answer, Asks, Ends, Machine, Turn, opening, turn}
-use Rattle.chi_text.specs.Texts.{Allowed, IsText, Made, Plays, Says, made, opening_ports, text}
+use Rattle.chi_text.specs.Turns.{Answer, Machine, opening, turn}
+use Rattle.chi_text.specs.Texts.{Allowed, IsText, Made, Says, opening_ports, text}
+use Rattle.chi_text.proofs.Playing.{made_plays}
+use Rattle.chi_text.proofs.Audited.{audits_tell}
 
 abbrev pub LeadsOn : Sizes → List Command → List ℕ → Machine → List PortView → List Command → Type 0
 LeadsOn config all written m ports rest = (answers : List Answer) → Allowed m ports rest answers → IsText config all (written ++ text m rest answers)
 
--- a turn that was played is what the text makes of it, and leaves the later answers
-made_plays : (t : Turn) (old : List PortView) (mine later : List Answer) (said : List ℕ) (state : Machine) (new : List PortView) → Plays t old mine said state new → made t (mine ++ later) ≡ record { said = said; state = state; left = later }
-made_plays (Ends line m) old [] later said state new h = ap (λ (l : List ℕ). record { said = l; state = m; left = later }) (sym h.0) ∙ ap (λ (s : Machine). record { said = said; state = s; left = later }) (sym h.1)
-made_plays (Ends line m) old (answer ∷ answers) later said state new h = absurd h
-made_plays (Asks call next) old [] later said state new h = absurd h
-made_plays (Asks call next) old (answer ∷ answers) later said state new h = made_plays (next answer) h.0 answers later said state new h.2
-
 -- before the first command
 leads_from : (config : Sizes) (all : List Command) → LeadsOn config all [] (opening config) (opening_ports config) all
-leads_from config all = λ answers allowed. record { answers = answers; allowed = allowed; same = refl }
+leads_from config all = λ answers allowed. record { answers = answers; allowed = allowed; same = refl; audits = audits_tell (opening config) (opening_ports config) all answers allowed }
 
 pub leads_first : (config : Sizes) (all : List Command) (z : TableId) (y : SystemState) (written : List ℕ) → y ≡ opening_system config z → written ≡ [] → LeadsOn config all written (machine_of y) (ports_of y) all
 leads_first config all z y written is none =

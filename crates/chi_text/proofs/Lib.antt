@@ -1,3 +1,5 @@
+pub mod Playing
+pub mod Audited
 pub mod Leads
 pub mod Machines
 pub mod Seen

@@ -9,7 +9,6 @@ use Rattle.chi_flit.specs.declared.numbers.Line.{Line}
 use Rattle.chi_flit.specs.declared.numbers.Slot.{Slot}
 use Rattle.chi_flit.specs.declared.credit.CreditType.{CreditType}
 use Rattle.chi_flit.specs.declared.credit.CreditType.TheVariants.{T0, T1, T2, T3}
-use Rattle.chi_flit.specs.declared.credit.Profile.{Profile}
 use Rattle.chi_flit.specs.declared.action.Action.{Action}
 use Rattle.chi_flit.specs.declared.action.Step.{Step}
 use Rattle.chi_flit.specs.declared.action.Step.TheVariants as steps
@@ -45,10 +44,9 @@ use Rattle.chi_system.specs.Home.{HomeState, IsAudited, acted, line, loads_in, s
 use Rattle.chi_system.specs.System.{ArrivesIn, IsSystem, OthersStay, StepsIn, SystemState, arrive_refusal, requester_of, step_refusal}
 use Rattle.chi_reply.specs.Replies.{audit_text, reply_text, totals_text}
 use Rattle.chi_reply.specs.declared.replies.Reply.TheVariants as replies
-use Rattle.chi_reply.specs.declared.totals.Totals.{Totals}
 use Rattle.chi_text.specs.Ports.{Claims, Owes, Releases, Spends, seen_counts}
 use Rattle.chi_text.specs.Turns.{Claimed, Ends, Glanced, Judged, Machine, Owed, Spent, Turn, Went, act, act_refusal, acting, admitted, arrive, arriving, attempted, by_type, completing, credits_of, done, less_one, or_refused, slots_after, slots_of, with_action, with_arrival, with_credits, with_end, turn}
-use Rattle.chi_text.specs.Told.{arrival_reply, done_reply, step_reply}
+use Rattle.chi_text.specs.Told.{arrival_reply, done_reply, step_reply, totals_told}
 use Rattle.chi_text.specs.Session.{PlaysOn, SaysOn, machine_of, ports_of}
 use Rattle.chi_text.proofs.Machines.{at_port, at_port_again, credits_at, machine_after, machine_seen_same, ports_after, ports_same, slots_at}
 use Rattle.chi_text.proofs.Reasons.{act_same, arrives_low, few_there, steps_low}
@@ -299,9 +297,6 @@ pub record AreFours (counts : Counts) : Type 0 where
   pub promised : length counts.promised ≡ 4
   pub owed : length counts.owed ≡ 4
 
-abbrev pub totals_of : Counts → Profile → Totals
-totals_of counts profile = record { free = counts.free; hand = counts.hand; promised = counts.promised; owed = counts.owed; profile = profile }
-
 abbrev typed_counts : Counts → Counts
 typed_counts counts = record { free = by_type (typed counts.free); hand = by_type (typed counts.hand); promised = by_type (typed counts.promised); owed = by_type (typed counts.owed) }
 
@@ -312,11 +307,11 @@ counts_typed counts four =
     ∙ (ap (λ (n : List ℕ). record counts { free = by_type (typed counts.free); hand = by_type (typed counts.hand); promised = n }) (four_typed counts.promised four.promised)
     ∙ ap (λ (n : List ℕ). record (typed_counts counts) { owed = n }) (four_typed counts.owed four.owed)))
 
-pub glance_says : (y : SystemState) (counts : Counts) (before after : List ℕ) → AreFours counts → after ≡ before ++ (totals_text (totals_of counts y.home.config.profile) ++ (10 ∷ [])) → SaysOn (turn (machine_of y) commands.Totals) y y before after
+pub glance_says : (y : SystemState) (counts : Counts) (before after : List ℕ) → AreFours counts → after ≡ before ++ (totals_text (totals_told counts y.home.config.profile) ++ (10 ∷ [])) → SaysOn (turn (machine_of y) commands.Totals) y y before after
 glance_says y counts before after four h = (
   Glanced (typed counts.free) (typed counts.hand) (typed counts.promised) (typed counts.owed) ∷ [],
-  totals_text (totals_of counts y.home.config.profile),
-  (ports_of y, refl, (ap (λ (n : Counts). totals_text (totals_of n y.home.config.profile)) (counts_typed counts four), refl, refl)),
+  totals_text (totals_told counts y.home.config.profile),
+  (ports_of y, refl, (ap (λ (n : Counts). totals_text (totals_told n y.home.config.profile)) (counts_typed counts four), refl, refl)),
   h,
 )
 

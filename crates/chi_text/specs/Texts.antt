@@ -1,12 +1,16 @@
 -- The text of a list of commands, under the tracker's answers, and which answers are allowed
 -- (docs/PROTOCOL.md, "Replay files").
-use Rattle.std.specs.Prelude.{◌≡◌, ◌↔◌, ℕ, All, IsTrue, List, [], ◌∷◌, ◌++◌, Some, slice_get, slice_set}
+use Rattle.std.specs.Prelude.{◌≡◌, ◌⊎◌, ◌↔◌, ℕ, All, IsTrue, List, [], ◌∷◌, ◌++◌, Some, codes, slice_get, slice_set}
+use Rattle.std.specs.Fmt.{decimal}
 use Rattle.chi_flit.specs.declared.numbers.Agent.{Agent}
 use Rattle.chi_script.specs.declared.commands.Command.{Command}
+use Rattle.chi_script.specs.declared.commands.Command.TheVariants as commands
 use Rattle.chi_audit.specs.Slices.{IsCoherentSlice}
 use Rattle.chi_slice.specs.Config.{Sizes}
+use Rattle.chi_slice.specs.Slice.{SliceState}
 use Rattle.chi_tracker.specs.Views.{PortView, new_ports}
 use Rattle.chi_tracker.specs.Calls.{shape_of}
+use Rattle.chi_system.specs.Home.{loads_in, stores_in}
 use Rattle.chi_text.specs.Ports.{Claims, GivesBack, Owes, Releases, Sees, Spends, Tends}
 use Rattle.chi_text.specs.Turns.{Answer, Call, Claim, Claimed, GiveBack, Glance, Glanced, Judge, Judged, Owe, Owed, Release, See, Saw, Spend, Spent, Tend, Tended, Went, Turn, Asks, Ends, Machine, opening, turn}
 
@@ -67,8 +71,32 @@ Allowed m ports (command ∷ rest) answers = (mine later : List Answer) × (said
 abbrev pub opening_ports : Sizes → List PortView
 opening_ports config = new_ports (shape_of config.entries config.agents) 0 config.agents
 
--- bytes that are the text of the commands on a new node, under some allowed answers
+-- an audit's line: the loads and the stores in the journals of the slices, and a word
+abbrev pub audit_line : List SliceState → List ℕ → List ℕ
+audit_line slices word = codes "ok loads " ++ (decimal (loads_in slices) ++ (codes " stores " ++ (decimal (stores_in slices) ++ word)))
+
+-- what an audit of slices says: `coherent` exactly where each line of each slice is coherent and each
+-- journal is legal
+abbrev pub TellsSlices : List SliceState → List ℕ → Type 0
+TellsSlices slices said =
+    (All IsCoherentSlice slices × (said ≡ audit_line slices (codes " coherent")))
+    ⊎ ((All IsCoherentSlice slices → ⊥) × (said ≡ audit_line slices (codes " broken")))
+
+-- a command's line, where it is an audit, tells what the slices are
+abbrev pub Tells : Command → List SliceState → List ℕ → Type 0
+Tells commands.Audit slices said = TellsSlices slices said
+Tells other slices said = Unit {0}
+
+-- each audit among the commands tells what the slices are when its turn comes
+abbrev pub AuditsTell : Machine → List Command → List Answer → Type 0
+AuditsTell m [] answers = Unit {0}
+AuditsTell m (command ∷ rest) answers = Tells command m.home.slices (made (turn m command) answers).said
+    × AuditsTell (made (turn m command) answers).state rest (made (turn m command) answers).left
+
+-- bytes that are the text of the commands on a new node, under some allowed answers, and whose audits tell
+-- what the slices are
 pub record IsText (config : Sizes) (all : List Command) (bytes : List ℕ) : Type 0 where
   pub answers : List Answer
   pub allowed : Allowed (opening config) (opening_ports config) all answers
   pub same : bytes ≡ text (opening config) all answers
+  pub audits : AuditsTell (opening config) all answers

@@ -11,7 +11,9 @@ use chi_system::System;
 use std::alloc::Allocator;
 
 /// Plays the commands on a new node of that size, and answers the text of their answers, a line for each
-/// command: that of the table of the commands under answers that the tracker may give.
+/// command: that of the table of the commands under answers that the tracker may give. Each `audit` prints
+/// the loads and the stores in the journals of the slices as they are then, and `coherent` exactly where each
+/// of their lines is coherent and each journal is legal.
 ///
 /// Refused where memory runs out.
 /// Source: `docs/PROTOCOL.md`, "Replay files".

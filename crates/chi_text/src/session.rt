@@ -7,9 +7,9 @@ ghost use Rattle.chi_script.specs.declared.commands.Command.TheVariants as comma
 ghost use Rattle.chi_text.specs.Turns.{arrive as arrive_turn, turn};
 ghost use Rattle.chi_text.specs.Session.{PlaysOn, SaysOn, machine_of};
 
-use crate::told::{arrival_reply, give_back_reply, step_reply, tend_reply};
+use crate::told::{arrival_reply, give_back_reply, step_reply, tend_reply, totals_told};
 use chi_flit::{Action, Agent, CreditType, Line, NoMemory, Step};
-use chi_reply::{Audit, Credits, InFlight, Reply, Shown, Totals};
+use chi_reply::{Audit, Credits, InFlight, Reply, Shown};
 use chi_script::Command;
 use chi_system::System;
 use std::alloc::Allocator;
@@ -66,16 +66,8 @@ fn say_totals<A: Allocator, B: Allocator>(
     ensures { OnOk result (SaysOn (turn (machine_of system.now) commands.Totals) system.now system.now (string_bytes text.old) (string_bytes text.new)) }
 {
     let counts = system.glance();
-    let (free, hand) = (counts.free, counts.hand);
-    let (promised, owed) = (counts.promised, counts.owed);
     let profile = system.config().profile();
-    let totals = Totals {
-        free,
-        hand,
-        promised,
-        owed,
-        profile,
-    };
+    let totals = totals_told(counts, profile);
     writeln!(text, "{totals}")?;
     Ok(())
 }

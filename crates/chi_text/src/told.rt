@@ -1,12 +1,12 @@
 //! What is answered to each call of a node.
 
 ghost use Rattle.std.specs.Prelude.{◌≡◌};
-ghost use Rattle.chi_text.specs.Told.{arrival_reply, give_back_reply, step_reply, tend_reply};
+ghost use Rattle.chi_text.specs.Told.{arrival_reply, give_back_reply, step_reply, tend_reply, totals_told};
 
-use chi_flit::{Effect, Refusal};
+use chi_flit::{Effect, Profile, Refusal};
 use chi_node::{Arrived, Stepped};
-use chi_reply::Reply;
-use chi_tracker::Released;
+use chi_reply::{Reply, Totals};
+use chi_tracker::{Counts, Released};
 
 /// What is answered to an arrival.
 pub(crate) fn arrival_reply(arrived: Result<Arrived, Refusal>) -> Reply
@@ -59,5 +59,22 @@ pub(crate) fn tend_reply(tended: Result<Option<Released>, Refusal>) -> Reply
         Ok(Some(released)) => Reply::Paid(released),
         Ok(None) => Reply::Idle,
         Err(refusal) => Reply::Refused(refusal),
+    }
+}
+
+/// What is told of a glance: each number under its own name, of a node of the profile.
+pub(crate) fn totals_told(counts: Counts, profile: Profile) -> Totals
+    ensures { result ≡ totals_told counts profile }
+{
+    let free = counts.free;
+    let hand = counts.hand;
+    let promised = counts.promised;
+    let owed = counts.owed;
+    Totals {
+        free,
+        hand,
+        promised,
+        owed,
+        profile,
     }
 }

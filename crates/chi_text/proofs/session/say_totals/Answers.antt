@@ -4,7 +4,8 @@ use Rattle.chi_flit.specs.declared.credit.Profile.{Profile}
 use Rattle.chi_slice.specs.Config.{Sizes}
 use Rattle.chi_tracker.specs.declared.totals.Counts.{Counts}
 use Rattle.chi_reply.specs.Replies.{totals_text}
-use Rattle.chi_text.proofs.Turned.{AreFours, glance_says, totals_of}
+use Rattle.chi_text.proofs.Turned.{AreFours, glance_says}
+use Rattle.chi_text.specs.Told.{totals_told}
 use Rattle.chi_text.proofs.session.say_totals.Goals as goal
 
 pub returns : goal.returns
@@ -13,5 +14,5 @@ returns g c =
     let counts : Counts = c.glance-counts.result in
     let four : AreFours counts = record { free = omega arith; hand = omega arith; promised = omega arith; owed = omega arith } in
     let profile : c.profile-profile.result ≡ y.home.config.profile = c.profile-profile.ensures ∙ ap (λ (k : Sizes). k.profile) c.config.ensures.is in
-    let bytes : string_bytes c.writeln.new.self ≡ string_bytes c.args.text.now ++ (totals_text (totals_of counts c.profile-profile.result) ++ (10 ∷ [])) = search (rules, c.in_ok-writeln.ensures.bytes) in
-    glance_says y counts (string_bytes c.args.text.now) _ four (bytes ∙ ap (λ (p : Profile). string_bytes c.args.text.now ++ (totals_text (totals_of counts p) ++ (10 ∷ []))) profile)
+    let bytes : string_bytes c.writeln.new.self ≡ string_bytes c.args.text.now ++ (totals_text (totals_told counts c.profile-profile.result) ++ (10 ∷ [])) = search (rules, c.in_ok-writeln.ensures.bytes) in
+    glance_says y counts (string_bytes c.args.text.now) _ four (bytes ∙ ap (λ (p : Profile). string_bytes c.args.text.now ++ (totals_text (totals_told counts p) ++ (10 ∷ []))) profile)
