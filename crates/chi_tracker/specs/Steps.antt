@@ -140,44 +140,66 @@ spends t e p = record p { hand = with_bit p.hand e; seen = take_out p.seen e; sp
 abbrev pub returns_credit : ℕ → ℕ → PortView → PortView
 returns_credit t e p = record p { hand = with_bit p.hand e; seen = take_out p.seen e; returned = raised p.returned t }
 
--- What each step tells: its word and operand are those of its kind, and the view goes by its effect, `r`
--- being the word found. Beside it stands what the port learns of the whole.
-abbrev pub told_claim : Aim → Step ℕ → Me ℕ SeatView → ℕ → Me ℕ SeatView → Type 0
-told_claim a st m r w = st.word ≡ a.entry / 64 → st.first ≡ 2 ^ (a.entry % 64)
-    → Becomes m w (claims a.kind a.entry (bit_at r (a.entry % 64))) × (has a.entry (port_of m) ≤ bit_at r (a.entry % 64))
+-- The kinds of step, and there are no others. A look has two readings: one notes a clear place of the
+-- port's own, one sweeps what is owed to a requester. So has a spend: the credit counts as spent, or as
+-- returned.
+pub data Kind : Type 0 where
+  claim : Kind
+  free : Kind
+  note : Kind
+  owe : Kind
+  sweep : Kind
+  settle : Kind
+  promise : Kind
+  see : Kind
+  spend : Kind
+  give : Kind
 
-abbrev pub told_free : Aim → Step ℕ → Me ℕ SeatView → ℕ → Me ℕ SeatView → Type 0
-told_free a st m r w = st.word ≡ a.entry / 64 → st.first ≡ all_but (a.entry % 64) → Becomes m w (frees a.entry)
+-- the word that a step of a kind is done on by a port, and the step's operand
+abbrev pub IsOperation : Kind → Aim → PortView → Step ℕ → Type 0
+IsOperation claim a p st = (st.word ≡ a.entry / 64) × (st.first ≡ 2 ^ (a.entry % 64))
+IsOperation free a p st = (st.word ≡ a.entry / 64) × (st.first ≡ all_but (a.entry % 64))
+IsOperation note a p st = st.word ≡ 8 + 5 * p.who
+IsOperation owe a p st = (st.word ≡ 8 + 5 * p.who) × (st.first ≡ 2 ^ a.bit)
+IsOperation sweep a p st = st.word ≡ 8 + 5 * a.agent
+IsOperation settle a p st = (st.word ≡ 8 + 5 * a.agent) × (st.first ≡ all_but a.bit)
+IsOperation promise a p st = (st.word ≡ 4 + 5 * a.agent + a.entry / 64) × (st.first ≡ 2 ^ (a.entry % 64))
+IsOperation see a p st = st.word ≡ 4 + 5 * p.who + a.bit
+IsOperation spend a p st = (st.word ≡ 4 + 5 * p.who + a.entry / 64) × (st.first ≡ all_but (a.entry % 64))
+IsOperation give a p st = (st.word ≡ 4 + 5 * p.who + a.entry / 64) × (st.first ≡ all_but (a.entry % 64))
 
-abbrev pub told_look : Aim → Step ℕ → Me ℕ SeatView → ℕ → Me ℕ SeatView → Type 0
-told_look a st m r w = st.word ≡ 8 + 5 * (port_of m).who
-    → Becomes m w (notes a.kind r) × (owed_in a.kind r + slice_index (port_of m).spent a.kind + slice_index (port_of m).returned a.kind ≤ slice_index (port_of m).retries a.kind)
+-- what a step of a kind makes of the port's view, r being the word as it was found
+abbrev pub effect : Kind → Aim → ℕ → PortView → PortView
+effect claim a r = claims a.kind a.entry (bit_at r (a.entry % 64))
+effect free a r = frees a.entry
+effect note a r = notes a.kind r
+effect owe a r = owes
+effect sweep a r = sweeps a.kind a.agent r
+effect settle a r = settles a.entry a.agent a.bit (bit_at r a.bit)
+effect promise a r = promises
+effect see a r = views_word a.bit r
+effect spend a r = spends a.kind a.entry
+effect give a r = returns_credit a.kind a.entry
 
-abbrev pub told_owe : Aim → Step ℕ → Me ℕ SeatView → ℕ → Me ℕ SeatView → Type 0
-told_owe a st m r w = st.word ≡ 8 + 5 * (port_of m).who → st.first ≡ 2 ^ a.bit → Becomes m w owes
+-- a seen credit's entry isn't in hand, and a credit of its type is due
+abbrev pub Spendable : Aim → PortView → Type 0
+Spendable a p = (has a.entry p ≡ 0)
+    × (slice_index p.spent a.kind + slice_index p.returned a.kind < slice_index p.retries a.kind)
 
-abbrev pub told_sweep : Aim → Step ℕ → Me ℕ SeatView → ℕ → Me ℕ SeatView → Type 0
-told_sweep a st m r w = st.word ≡ 8 + 5 * a.agent → Becomes m w (sweeps a.kind a.agent r)
+-- what the port, which goes from p to q, learns of the whole
+abbrev pub Learns : Kind → Aim → ℕ → PortView → PortView → Type 0
+Learns claim a r p q = has a.entry p ≤ bit_at r (a.entry % 64)
+Learns free a r p q = Unit {0}
+Learns note a r p q = owed_in a.kind r + slice_index p.spent a.kind + slice_index p.returned a.kind ≤ slice_index p.retries a.kind
+Learns owe a r p q = Unit {0}
+Learns sweep a r p q = Unit {0}
+Learns settle a r p q = Unit {0}
+Learns promise a r p q = Unit {0}
+Learns see a r p q = ((i : ℕ) → i < 64 → bit_at (slice_index p.seen a.bit) i ≤ bit_at r i) × IsOfRunning q
+Learns spend a r p q = Spendable a p
+Learns give a r p q = Spendable a p
 
-abbrev pub told_settle : Aim → Step ℕ → Me ℕ SeatView → ℕ → Me ℕ SeatView → Type 0
-told_settle a st m r w = st.word ≡ 8 + 5 * a.agent → st.first ≡ all_but a.bit → Becomes m w (settles a.entry a.agent a.bit (bit_at r a.bit))
-
-abbrev pub told_promise : Aim → Step ℕ → Me ℕ SeatView → ℕ → Me ℕ SeatView → Type 0
-told_promise a st m r w = st.word ≡ 4 + 5 * a.agent + a.entry / 64 → st.first ≡ 2 ^ (a.entry % 64) → Becomes m w promises
-
-abbrev pub told_see : Aim → Step ℕ → Me ℕ SeatView → ℕ → Me ℕ SeatView → Type 0
-told_see a st m r w = st.word ≡ 4 + 5 * (port_of m).who + a.bit
-    → Becomes m w (views_word a.bit r) × ((i : ℕ) → i < 64 → bit_at (slice_index (port_of m).seen a.bit) i ≤ bit_at r i)
-    × IsOfRunning (port_of w)
-
-abbrev pub Spendable : Aim → Me ℕ SeatView → Type 0
-Spendable a m = (has a.entry (port_of m) ≡ 0)
-    × (slice_index (port_of m).spent a.kind + slice_index (port_of m).returned a.kind < slice_index (port_of m).retries a.kind)
-
-abbrev pub told_spend : Aim → Step ℕ → Me ℕ SeatView → ℕ → Me ℕ SeatView → Type 0
-told_spend a st m r w = st.word ≡ 4 + 5 * (port_of m).who + a.entry / 64 → st.first ≡ all_but (a.entry % 64)
-    → Becomes m w (spends a.kind a.entry) × Spendable a m
-
-abbrev pub told_return : Aim → Step ℕ → Me ℕ SeatView → ℕ → Me ℕ SeatView → Type 0
-told_return a st m r w = st.word ≡ 4 + 5 * (port_of m).who + a.entry / 64 → st.first ≡ all_but (a.entry % 64)
-    → Becomes m w (returns_credit a.kind a.entry) × Spendable a m
+-- What a step of a kind tells: where it is done on the kind's word and with its operand, the view goes by
+-- the kind's effect, and the port learns what the kind shows.
+abbrev pub told : Kind → Aim → Step ℕ → Me ℕ SeatView → ℕ → Me ℕ SeatView → Type 0
+told k a st m r w = IsOperation k a (port_of m) st → Becomes m w (effect k a r) × Learns k a r (port_of m) (port_of w)

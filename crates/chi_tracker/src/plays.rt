@@ -1,6 +1,6 @@
 //! What each atomic step tells its caller.
 
-ghost use Rattle.chi_tracker.specs.Steps.{Aim, no_aim, told_claim, told_free, told_look, told_owe, told_sweep, told_settle, told_promise, told_see, told_spend, told_return, one, first_port};
+ghost use Rattle.chi_tracker.specs.Steps.{Aim, Kind, no_aim, told, one, first_port, claim, free, note, owe, sweep, settle, promise, see, spend, give};
 ghost use Rattle.std.specs.Prelude.{◌≡◌, [], ◌++◌};
 ghost use Rattle.chi_tracker.specs.Calls.{rest_ports};
 
@@ -18,86 +18,101 @@ impl Pick for Brand {
     ghost aim = { no_aim };
 }
 
-/// A step that claims an entry: where its bit was clear the entry comes to hand, and where it was set the
-/// entry is found claimed.
+/// The kind of a step, one of those that `specs/Steps.antt` lists.
+/// Source: `docs/PROTOCOL.md`, "Steps of the tracker".
+pub trait Kinded {
+    ghost kind: { Kind };
+}
+
+/// An atomic step of a kind. It tells what the kind's operation and effect are, and no step of a port tells
+/// anything else.
+/// Source: `docs/PROTOCOL.md`, "Steps of the tracker".
+pub struct Atomic<K: Kinded, T: Pick>(PhantomData<K>, PhantomData<T>);
+
+impl<K: Kinded, T: Pick> Play<u8, SeatView> for Atomic<K, T> {
+    ghost then = { told K.kind T.aim };
+}
+
+/// Claims an entry: where its bit was clear the entry comes to hand, and where it was set the entry is found
+/// claimed.
 /// Source: `docs/PROTOCOL.md`, "Steps of the tracker", claim.
-pub struct Claim<T: Pick>(PhantomData<T>);
+pub struct Claim;
 
-impl<T: Pick> Play<u8, SeatView> for Claim<T> {
-    ghost then = { told_claim T.aim };
+impl Kinded for Claim {
+    ghost kind = { claim };
 }
 
-/// A step that frees an entry in hand.
+/// Frees an entry in hand.
 /// Source: `docs/PROTOCOL.md`, "Steps of the tracker", free.
-pub struct Free<T: Pick>(PhantomData<T>);
+pub struct Free;
 
-impl<T: Pick> Play<u8, SeatView> for Free<T> {
-    ghost then = { told_free T.aim };
+impl Kinded for Free {
+    ghost kind = { free };
 }
 
-/// A look at the port's own word of owed credits: the lowest clear place of a type is noted.
+/// Looks at the port's own word of owed credits: the lowest clear place of a type is noted.
 /// Source: `docs/PROTOCOL.md`, "Steps of the tracker", look.
-pub struct Look<T: Pick>(PhantomData<T>);
+pub struct Look;
 
-impl<T: Pick> Play<u8, SeatView> for Look<T> {
-    ghost then = { told_look T.aim };
+impl Kinded for Look {
+    ghost kind = { note };
 }
 
-/// A step that sets the noted place: one more credit is owed to the port's requester.
+/// Sets the noted place: one more credit is owed to the port's requester.
 /// Source: `docs/PROTOCOL.md`, "Steps of the tracker", owe.
-pub struct Owe<T: Pick>(PhantomData<T>);
+pub struct Owe;
 
-impl<T: Pick> Play<u8, SeatView> for Owe<T> {
-    ghost then = { told_owe T.aim };
+impl Kinded for Owe {
+    ghost kind = { owe };
 }
 
-/// A look at a requester's word of owed credits, in a sweep of a type.
+/// Looks at a requester's word of owed credits, in a sweep of a type.
 /// Source: `docs/PROTOCOL.md`, "Steps of the tracker", look.
-pub struct Sweeping<T: Pick>(PhantomData<T>);
+pub struct Sweeping;
 
-impl<T: Pick> Play<u8, SeatView> for Sweeping<T> {
-    ghost then = { told_sweep T.aim };
+impl Kinded for Sweeping {
+    ghost kind = { sweep };
 }
 
-/// A step that clears a place in a requester's word of owed credits: where its bit was set, an entry in hand
-/// comes under duty to the requester.
+/// Clears a place in a requester's word of owed credits: where its bit was set, an entry in hand comes under
+/// duty to the requester.
 /// Source: `docs/PROTOCOL.md`, "Steps of the tracker", settle.
-pub struct Settle<T: Pick>(PhantomData<T>);
+pub struct Settle;
 
-impl<T: Pick> Play<u8, SeatView> for Settle<T> {
-    ghost then = { told_settle T.aim };
+impl Kinded for Settle {
+    ghost kind = { settle };
 }
 
-/// A step that promises the entry under duty to the requester of the duty.
+/// Promises the entry under duty to the requester of the duty.
 /// Source: `docs/PROTOCOL.md`, "Steps of the tracker", promise.
-pub struct Promise<T: Pick>(PhantomData<T>);
+pub struct Promise;
 
-impl<T: Pick> Play<u8, SeatView> for Promise<T> {
-    ghost then = { told_promise T.aim };
+impl Kinded for Promise {
+    ghost kind = { promise };
 }
 
-/// A look at one of the four words of what is promised to the port's requester: all its bits are seen.
+/// Looks at one of the four words of what is promised to the port's requester: all its bits are seen.
 /// Source: `docs/PROTOCOL.md`, "Steps of the tracker", see.
-pub struct See<T: Pick>(PhantomData<T>);
+pub struct See;
 
-impl<T: Pick> Play<u8, SeatView> for See<T> {
-    ghost then = { told_see T.aim };
+impl Kinded for See {
+    ghost kind = { see };
 }
 
-/// A step that takes a seen credit's entry to hand: the credit is spent.
+/// Takes a seen credit's entry to hand: the credit is spent.
 /// Source: `docs/PROTOCOL.md`, "Steps of the tracker", spend.
-pub struct Spend<T: Pick>(PhantomData<T>);
+pub struct Spend;
 
-impl<T: Pick> Play<u8, SeatView> for Spend<T> {
-    ghost then = { told_spend T.aim };
+impl Kinded for Spend {
+    ghost kind = { spend };
 }
 
-/// A step that takes a seen credit's entry to hand: the credit is returned.
+/// Takes a seen credit's entry to hand: the credit is returned.
 /// Source: `docs/PROTOCOL.md`, "Steps of the tracker", spend.
-pub struct Return<T: Pick>(PhantomData<T>);
+pub struct Return;
 
-impl<T: Pick> Play<u8, SeatView> for Return<T> {
-    ghost then = { told_return T.aim };
+impl Kinded for Return {
+    ghost kind = { give };
 }
 
 /// A seat's first port goes to a seat of its own.

@@ -11,7 +11,9 @@ ghost use Rattle.chi_tracker.specs.Steps.{solo, port_of, claims, frees, notes, f
 
 use crate::law::{Board, Chair};
 use crate::marks::{bit, others};
-use crate::plays::{Claim, Free, Look, Owe, Pick, Promise, Return, See, Settle, Spend, Sweeping};
+use crate::plays::{
+    Atomic, Claim, Free, Look, Owe, Pick, Promise, Return, See, Settle, Spend, Sweeping,
+};
 use std::marker::Brand;
 
 fn claim_as<T: Pick>(board: &Board, chair: &mut Chair, ty: usize, entry: usize) -> u64
@@ -23,7 +25,7 @@ fn claim_as<T: Pick>(board: &Board, chair: &mut Chair, ty: usize, entry: usize) 
     ensures view { chair.new.me ≡ solo (claims ty entry (bit_at result (entry % 64)) (port_of chair.old.me)) }
     ensures held { has entry (port_of chair.old.me) ≤ bit_at result (entry % 64) }
 {
-    board.fetch_or::<Claim<T>>(chair, entry / 64, bit(entry % 64))
+    board.fetch_or::<Atomic<Claim, T>>(chair, entry / 64, bit(entry % 64))
 }
 
 /// Claims the entry in a scan of the type, and answers the word of C as it was.
@@ -46,7 +48,7 @@ fn free_as<T: Pick>(board: &Board, chair: &mut Chair, entry: usize)
     ensures table { chair.new.table_id ≡ chair.old.table_id }
     ensures view { chair.new.me ≡ solo (frees entry (port_of chair.old.me)) }
 {
-    board.fetch_and::<Free<T>>(chair, entry / 64, others(entry % 64));
+    board.fetch_and::<Atomic<Free, T>>(chair, entry / 64, others(entry % 64));
 }
 
 /// Frees an entry in hand.
@@ -70,7 +72,7 @@ fn look_as<T: Pick>(board: &Board, chair: &mut Chair, number: usize, ty: usize) 
     ensures view { chair.new.me ≡ solo (notes ty result (port_of chair.old.me)) }
     ensures few { (bit_at result (first_clear (8 * ty) result) ≡ 0) × (first_clear (8 * ty) result < 8 * ty + 8) }
 {
-    board.load::<Look<T>>(chair, 8 + 5 * number)
+    board.load::<Atomic<Look, T>>(chair, 8 + 5 * number)
 }
 
 /// Looks at the port's own word of owed credits for a place of the type, and answers the word.
@@ -94,7 +96,7 @@ fn owe_as<T: Pick>(board: &Board, chair: &mut Chair, number: usize, place: usize
     ensures table { chair.new.table_id ≡ chair.old.table_id }
     ensures view { chair.new.me ≡ solo (owes (port_of chair.old.me)) }
 {
-    board.fetch_or::<Owe<T>>(chair, 8 + 5 * number, bit(place));
+    board.fetch_or::<Atomic<Owe, T>>(chair, 8 + 5 * number, bit(place));
 }
 
 /// Sets the noted place: one more credit is owed.
@@ -116,7 +118,7 @@ fn sweep_as<T: Pick>(board: &Board, chair: &mut Chair, ty: usize, agent: usize) 
     ensures table { chair.new.table_id ≡ chair.old.table_id }
     ensures view { chair.new.me ≡ solo (sweeps ty agent result (port_of chair.old.me)) }
 {
-    board.load::<Sweeping<T>>(chair, 8 + 5 * agent)
+    board.load::<Atomic<Sweeping, T>>(chair, 8 + 5 * agent)
 }
 
 /// Looks at the credits owed to a requester in a sweep of the type, and answers the word.
@@ -145,7 +147,7 @@ fn settle_as<T: Pick>(
     ensures table { chair.new.table_id ≡ chair.old.table_id }
     ensures view { chair.new.me ≡ solo (settles entry agent place (bit_at result place) (port_of chair.old.me)) }
 {
-    board.fetch_and::<Settle<T>>(chair, 8 + 5 * agent, others(place))
+    board.fetch_and::<Atomic<Settle, T>>(chair, 8 + 5 * agent, others(place))
 }
 
 /// Tries to settle a place of the entry's type at a requester, and answers the word as it was.
@@ -174,7 +176,7 @@ fn promise_as<T: Pick>(board: &Board, chair: &mut Chair, agent: usize, place: us
     ensures table { chair.new.table_id ≡ chair.old.table_id }
     ensures view { chair.new.me ≡ solo (promises (port_of chair.old.me)) }
 {
-    board.fetch_or::<Promise<T>>(chair, 4 + 5 * agent + entry / 64, bit(entry % 64));
+    board.fetch_or::<Atomic<Promise, T>>(chair, 4 + 5 * agent + entry / 64, bit(entry % 64));
 }
 
 /// Promises the entry under duty, which settled that place, to the requester.
@@ -204,7 +206,7 @@ fn see_as<T: Pick>(board: &Board, chair: &mut Chair, number: usize, part: usize)
     ensures more { (i : ℕ) → i < 64 → bit_at (slice_index (port_of chair.old.me).seen part) i ≤ bit_at result i }
     ensures running { IsOfRunning (port_of chair.new.me) }
 {
-    board.load::<See<T>>(chair, 4 + 5 * number + part)
+    board.load::<Atomic<See, T>>(chair, 4 + 5 * number + part)
 }
 
 /// Looks at one of the four words of what is promised to the port, and answers it.
@@ -231,7 +233,7 @@ fn spend_as<T: Pick>(board: &Board, chair: &mut Chair, number: usize, ty: usize,
     ensures held { has entry (port_of chair.old.me) ≡ 0 }
     ensures due { slice_index (port_of chair.old.me).spent ty + slice_index (port_of chair.old.me).returned ty < slice_index (port_of chair.old.me).retries ty }
 {
-    board.fetch_and::<Spend<T>>(chair, 4 + 5 * number + entry / 64, others(entry % 64));
+    board.fetch_and::<Atomic<Spend, T>>(chair, 4 + 5 * number + entry / 64, others(entry % 64));
 }
 
 /// Spends a seen credit: its entry comes to hand.
@@ -259,7 +261,7 @@ fn return_as<T: Pick>(board: &Board, chair: &mut Chair, number: usize, ty: usize
     ensures held { has entry (port_of chair.old.me) ≡ 0 }
     ensures due { slice_index (port_of chair.old.me).spent ty + slice_index (port_of chair.old.me).returned ty < slice_index (port_of chair.old.me).retries ty }
 {
-    board.fetch_and::<Return<T>>(chair, 4 + 5 * number + entry / 64, others(entry % 64));
+    board.fetch_and::<Atomic<Return, T>>(chair, 4 + 5 * number + entry / 64, others(entry % 64));
 }
 
 /// Takes back the entry of a seen credit that is returned.
