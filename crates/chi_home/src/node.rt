@@ -1,0 +1,97 @@
+//! A node whose slices are behind locks.
+
+ghost use Rattle.std.specs.Prelude.{◌≡◌, IfOk};
+ghost use Rattle.chi_flit.specs.Refusal.{refusal_of};
+ghost use Rattle.chi_tracker.specs.Calls.{shape_of};
+ghost use Rattle.chi_node.specs.Parts.{opening_requesters};
+ghost use Rattle.chi_home.specs.Node.{line_refusal, AreOwn};
+
+use crate::closing::behind_locks;
+use arrayvec::ArrayVec;
+use chi_flit::{Line, NoMemory, Refusal};
+use chi_node::{Requester, parts};
+use chi_slice::{Config, Slice};
+use chi_tracker::Tracker;
+use std::alloc::Allocator;
+use std::marker::Model;
+use std::sync::{Mutex, MutexGuard, Wait};
+
+/// The slices of a node in rising order, each behind a lock of its own, and its tracker, which needs none.
+/// Contracts see it as a `NodeState`.
+///
+/// What a slice holds while nobody has its lock is known to no clause.
+/// Source: `docs/PROTOCOL.md`, "A requester and its calls".
+#[derive(Drop)]
+pub struct Node<A: Allocator> {
+    config: Config,
+    slices: Vec<Mutex<Slice<A>>, A>,
+    ended: Vec<Slice<A>, A>,
+    tracker: Tracker<A>,
+}
+
+impl<A: Allocator> Model for Node<A> {
+    ghost use Rattle.std.specs.Prelude.{◌≡◌, ◌<◌, ◌≤◌, [], vec_capacity, vec_len};
+    ghost use Rattle.chi_home.specs.Node.{NodeState, HasTypes};
+
+    ghost Value = { NodeState };
+
+    ghost view = { λ n. record { config = n.config; tracker = n.tracker } };
+
+    ghost invariant = { λ n. (vec_len n.slices ≡ n.config.slices) × (0 < n.config.slices) × (n.tracker.shape.agents ≡ n.config.agents) × HasTypes n.config n.tracker.shape × (n.ended.items ≡ []) × (n.config.slices ≤ vec_capacity n.ended) };
+}
+
+impl<A: Allocator + Copy> Node<A> {
+    /// A node of that size in its opening state, and its requesters in rising order. All memory that they
+    /// ever need is found here; refused where it runs out.
+    /// Source: `docs/PROTOCOL.md`, "A requester and its calls".
+    pub fn new(alloc: A, config: &Config) -> Result<(Node<A>, ArrayVec<Requester, 8>), NoMemory>
+        ensures config { IfOk result (λ made. made.0.config ≡ config.now) }
+        ensures tracker { IfOk result (λ made. made.0.tracker.shape ≡ shape_of config.now.entries config.now.agents) }
+        ensures requesters { IfOk result (λ made. made.1.items ≡ opening_requesters made.0.tracker.table made.0.tracker.shape config.now.agents) }
+        ensures own { IfOk result (λ made. AreOwn made.0 made.1.items) }
+    {
+        let (made, tracker, requesters) = parts(alloc, config)?;
+        let ended = Vec::with_capacity(alloc, made.len())?;
+        let slices = behind_locks(alloc, made)?;
+        let node = Node {
+            config: *config,
+            slices,
+            ended,
+            tracker,
+        };
+        Ok((node, requesters))
+    }
+}
+
+impl<A: Allocator> Node<A> {
+    /// The tracker of the node's requesters.
+    /// Source: `docs/PROTOCOL.md`, "Words of the tracker".
+    pub fn tracker(&self) -> &Tracker<A>
+        ensures { result.now ≡ self.now.tracker }
+    {
+        &self.tracker
+    }
+
+    /// The size of the node.
+    /// Source: `docs/PROTOCOL.md`, "Limits".
+    pub fn config(&self) -> &Config
+        ensures { result.now ≡ self.now.config }
+    {
+        &self.config
+    }
+
+    /// The slice of a line, for as long as the guard lives: what is seen in it stays until then. It may wait
+    /// for another thread that has the lock.
+    ///
+    /// Refused 10 (OutOfRange) exactly where the line is outside the node.
+    /// Source: `docs/PROTOCOL.md`, "A requester and its calls".
+    pub fn lock<R: Wait>(&self, rt: &R, line: Line) -> Result<MutexGuard<'_, Slice<A>>, Refusal>
+        ensures { refusal_of result ≡ line_refusal self.now line.0 }
+    {
+        if self.config.lines() <= line.0 {
+            return Err(Refusal::OutOfRange);
+        }
+        let place = usize::from(self.config.slice_of(line));
+        Ok(self.slices[place].lock(rt))
+    }
+}
