@@ -3,6 +3,7 @@
 //! Source: `docs/PROTOCOL.md`, "A requester and its calls".
 #![tactic(auto)]
 
+mod calls;
 mod closing;
 mod node;
 

@@ -1,15 +1,19 @@
 //! A node whose slices are behind locks.
 
-ghost use Rattle.std.specs.Prelude.{◌≡◌, IfOk};
+ghost use Rattle.std.specs.Prelude.{◌≡◌, IfOk, OnErr, Some, false, nat_lt, true};
 ghost use Rattle.chi_flit.specs.Refusal.{refusal_of};
+ghost use Rattle.chi_flit.specs.declared.refusal.Refusal.TheVariants.{OutOfRange};
 ghost use Rattle.chi_tracker.specs.Calls.{shape_of};
+ghost use Rattle.chi_node.specs.Calls.{is_own_step, IsSameRequester};
 ghost use Rattle.chi_node.specs.Parts.{opening_requesters};
-ghost use Rattle.chi_home.specs.Node.{line_refusal, AreOwn};
+ghost use Rattle.chi_home.specs.Node.{line_refusal, AreOwn, IsOwn};
+ghost use Rattle.chi_home.specs.Locked.{ArrivesLocked, StepsLocked};
 
+use crate::calls::{arrive_inside, step_inside};
 use crate::closing::behind_locks;
 use arrayvec::ArrayVec;
-use chi_flit::{Line, NoMemory, Refusal};
-use chi_node::{Requester, parts};
+use chi_flit::{Action, Line, NoMemory, Refusal};
+use chi_node::{Arrived, Requester, Stepped, parts};
 use chi_slice::{Config, Slice};
 use chi_tracker::Tracker;
 use std::alloc::Allocator;
@@ -93,5 +97,54 @@ impl<A: Allocator> Node<A> {
         }
         let place = usize::from(self.config.slice_of(line));
         Ok(self.slices[place].lock(rt))
+    }
+
+    /// The requester's request that is in flight at the line arrives at the home, under the lock of the
+    /// line's slice: what `arrive_on` of chi_node leaves, of the state that the slice has then. It may wait
+    /// for another thread that has the lock.
+    ///
+    /// Refused 10 (OutOfRange) where the line is outside the node, and as `arrive_on` refuses it; the
+    /// requester doesn't change then. Condition: the requester is the node's own.
+    /// Source: `docs/PROTOCOL.md`, "A requester and its calls", Arrival.
+    pub fn arrive<R: Wait>(
+        &self,
+        rt: &R,
+        requester: &mut Requester,
+        line: Line,
+    ) -> Result<Arrived, Refusal>
+        requires own { IsOwn self.now requester.old }
+        ensures outside { nat_lt line.0 self.now.config.lines ≡ false → refusal_of result ≡ Some OutOfRange }
+        ensures ok { IfOk result (λ arrived. ArrivesLocked self.now.config line requester.old requester.new arrived) }
+        ensures err { OnErr result (requester.new ≡ requester.old) }
+        ensures same { IsSameRequester requester.old requester.new }
+    {
+        let mut slice = self.lock(rt, line)?;
+        arrive_inside(&mut slice, &self.config, &self.tracker, requester, line)
+    }
+
+    /// The requester does an action other than Admit and Retry, under the lock of the line's slice: what
+    /// `step_on` of chi_node leaves, of the state that the slice has then. It may wait for another thread
+    /// that has the lock.
+    ///
+    /// Refused 10 (OutOfRange) where the line is outside the node, and as `step_on` refuses it; the requester
+    /// doesn't change then. Conditions: the requester is the node's own and the action's agent, and the step
+    /// is neither Admit nor Retry.
+    /// Source: `docs/PROTOCOL.md`, "A requester and its calls".
+    pub fn step<R: Wait>(
+        &self,
+        rt: &R,
+        requester: &mut Requester,
+        action: Action,
+    ) -> Result<Stepped, Refusal>
+        requires own { IsOwn self.now requester.old }
+        requires agent { action.agent.0 ≡ requester.old.number }
+        requires step { is_own_step action.step ≡ true }
+        ensures outside { nat_lt action.line.0 self.now.config.lines ≡ false → refusal_of result ≡ Some OutOfRange }
+        ensures ok { IfOk result (λ stepped. StepsLocked action requester.old requester.new stepped) }
+        ensures err { OnErr result (requester.new ≡ requester.old) }
+        ensures same { IsSameRequester requester.old requester.new }
+    {
+        let mut slice = self.lock(rt, action.line)?;
+        step_inside(&mut slice, &self.tracker, requester, action)
     }
 }
