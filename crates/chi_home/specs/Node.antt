@@ -1,11 +1,11 @@
 -- A node whose slices are behind locks, and the requesters that are its own (docs/PROTOCOL.md, "A requester and
 -- its calls").
-use Rattle.std.specs.Prelude.{◌≡◌, ℕ, ◌<◌, List, All, true, nat_lt, Option, Some, None, length, if◌then◌else◌}
+use Rattle.std.specs.Prelude.{◌≡◌, ℕ, ◌<◌, List, All, true, nat_lt, Option, Some, None, length, map, if◌then◌else◌}
 use Rattle.chi_flit.specs.declared.refusal.Refusal.{Refusal}
 use Rattle.chi_flit.specs.declared.refusal.Refusal.TheVariants.{OutOfRange}
 use Rattle.chi_tracker.specs.declared.shape.Shape.{Shape}
 use Rattle.chi_tracker.specs.Shape.{size}
-use Rattle.chi_tracker.specs.Calls.{Home}
+use Rattle.chi_tracker.specs.Calls.{Home, Owner}
 use Rattle.chi_slice.specs.Config.{Sizes}
 use Rattle.chi_node.specs.Parts.{is_of_profile}
 use Rattle.chi_node.specs.Requester.{RequesterState}
@@ -32,3 +32,7 @@ pub record IsOwn (n : NodeState) (r : RequesterState) : Type 0 where
 pub record AreOwn (n : NodeState) (rs : List RequesterState) : Type 0 where
   pub count : length rs ≡ n.tracker.shape.agents
   pub own : All (IsOwn n) rs
+
+-- the ports of requesters
+abbrev pub owners_of : List RequesterState → List Owner
+owners_of rs = map (λ r. record { table = r.table; port = r.port }) rs

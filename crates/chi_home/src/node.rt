@@ -1,21 +1,22 @@
 //! A node whose slices are behind locks.
 
-ghost use Rattle.std.specs.Prelude.{◌≡◌, IfOk, OnErr, Some, false, nat_lt, true};
+ghost use Rattle.std.specs.Prelude.{◌≡◌, IfOk, OnErr, Some, false, nat_lt, true, vec_len};
 ghost use Rattle.chi_flit.specs.Refusal.{refusal_of};
 ghost use Rattle.chi_flit.specs.declared.refusal.Refusal.TheVariants.{OutOfRange};
 ghost use Rattle.chi_tracker.specs.Calls.{shape_of};
+ghost use Rattle.chi_tracker.specs.Totals.{views_of, IsBalanced, IsClosed};
 ghost use Rattle.chi_node.specs.Calls.{is_own_step, IsSameRequester};
 ghost use Rattle.chi_node.specs.Parts.{opening_requesters};
-ghost use Rattle.chi_home.specs.Node.{line_refusal, AreOwn, IsOwn};
+ghost use Rattle.chi_home.specs.Node.{line_refusal, owners_of, AreOwn, IsOwn};
 ghost use Rattle.chi_home.specs.Locked.{ArrivesLocked, StepsLocked};
 
 use crate::calls::{arrive_inside, step_inside};
-use crate::closing::behind_locks;
+use crate::closing::{behind_locks, out_of_locks, ports_of};
 use arrayvec::ArrayVec;
 use chi_flit::{Action, Line, NoMemory, Refusal};
 use chi_node::{Arrived, Requester, Stepped, parts};
 use chi_slice::{Config, Slice};
-use chi_tracker::Tracker;
+use chi_tracker::{Totals, Tracker};
 use std::alloc::Allocator;
 use std::marker::Model;
 use std::sync::{Mutex, MutexGuard, Wait};
@@ -34,14 +35,14 @@ pub struct Node<A: Allocator> {
 }
 
 impl<A: Allocator> Model for Node<A> {
-    ghost use Rattle.std.specs.Prelude.{◌≡◌, ◌<◌, ◌≤◌, [], vec_capacity, vec_len};
+    ghost use Rattle.std.specs.Prelude.{◌≡◌, ◌<◌, ◌≤◌, vec_capacity, vec_len};
     ghost use Rattle.chi_home.specs.Node.{NodeState, HasTypes};
 
     ghost Value = { NodeState };
 
     ghost view = { λ n. record { config = n.config; tracker = n.tracker } };
 
-    ghost invariant = { λ n. (vec_len n.slices ≡ n.config.slices) × (0 < n.config.slices) × (n.tracker.shape.agents ≡ n.config.agents) × HasTypes n.config n.tracker.shape × (n.ended.items ≡ []) × (n.config.slices ≤ vec_capacity n.ended) };
+    ghost invariant = { λ n. (vec_len n.slices ≡ n.config.slices) × (0 < n.config.slices) × (n.tracker.shape.agents ≡ n.config.agents) × HasTypes n.config n.tracker.shape × (vec_len n.ended ≡ 0) × (n.config.slices ≤ vec_capacity n.ended) };
 }
 
 impl<A: Allocator + Copy> Node<A> {
@@ -146,5 +147,27 @@ impl<A: Allocator> Node<A> {
     {
         let mut slice = self.lock(rt, action.line)?;
         step_inside(&mut slice, &self.tracker, requester, action)
+    }
+
+    /// Ends the node: its slices in rising order, and what the words of its tracker hold then. With the views
+    /// of the requesters' ports the words keep the tracker's rule, no duty is open, and for each requester and
+    /// type what is due is what is owed and what is promised. No memory is taken, and nothing waited for.
+    ///
+    /// Condition: the requesters are all that `new` gave, in any order.
+    /// Source: `docs/PROTOCOL.md`, "Words of the tracker".
+    pub fn close(self, requesters: ArrayVec<Requester, 8>) -> (Vec<Slice<A>, A>, Totals)
+        requires { AreOwn self requesters.items }
+        ensures slices { vec_len result.0 ≡ self.config.slices }
+        ensures closed { IsClosed self.tracker.shape (views_of (owners_of requesters.items)) result.1.counts result.1.requesters.items }
+        ensures balanced { IsBalanced self.tracker.shape.agents result.1.requesters.items }
+    {
+        let Node {
+            config: _,
+            slices,
+            ended,
+            tracker,
+        } = self;
+        let totals = tracker.close(ports_of(requesters));
+        (out_of_locks(slices, ended), totals)
     }
 }

@@ -15,7 +15,7 @@ invariant_of-node g c =
       some_slice config c.parts.ensures.limits,
       ap (λ (z : Shape). z.agents) c.in_ok-made.ensures.tracker,
       has_types config c.in_ok-made.tracker.shape c.in_ok-made.ensures.types,
-      c.in_ok-ended.ensures.items,
+      c.in_ok-ended.ensures.len,
       omega (arith, room, count, c.len.ensures),
     )
 
