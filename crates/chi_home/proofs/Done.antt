@@ -1,5 +1,5 @@
 -- What a call did, of the slice that it was lent.
-use Rattle.std.proofs.Common.{◌≡◌, Option, Some, None, Result, Ok, Err, OnOk, inl, inr, refl}
+use Rattle.std.proofs.Common.{◌≡◌, Option, Some, None, Result, Ok, Err, OnOk, inl, inr}
 use Rattle.std.specs.Prelude.{IfOk}
 use Rattle.chi_flit.specs.Refusal.{refusal_of}
 use Rattle.chi_flit.specs.declared.action.Action.{Action}

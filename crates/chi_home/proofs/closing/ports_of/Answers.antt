@@ -1,5 +1,5 @@
 -- One port more in each turn.
-use Rattle.std.proofs.Common.{◌≡◌, ◌<◌, ◌++◌, List, length, sym, ◌∙◌, ap, arith}
+use Rattle.std.proofs.Common.{◌<◌, ◌++◌, List, length, sym, ap, arith}
 use Rattle.chi_tracker.specs.Calls.{Owner}
 use Rattle.chi_home.specs.Node.{owners_of}
 use Rattle.chi_home.proofs.Ports.{all_ports, next_port, owner_is}
