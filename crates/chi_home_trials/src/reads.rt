@@ -1,4 +1,4 @@
-//! A read under locks, from its issue to its end.
+//! A read under locks, from its issue to the end of the node.
 
 ghost use Rattle.std.specs.Prelude.{◌≡◌, true};
 ghost use Rattle.chi_slice.specs.Config.{two_types};
@@ -82,6 +82,8 @@ fn a_read_under_locks(rt: HostRuntime) {
     let mut requester = requesters.pop().expect(&rt, "a requester");
     reads(&rt, &node, &mut requester);
     assert_eq!(rt; requester.count(1), 1);
-    let slice = node.lock(&rt, LINE).expect(&rt, "a line of the node");
-    assert_eq!(rt; slice.journal().loads(), 1);
+    requesters.push(requester);
+    let (slices, totals) = node.close(requesters);
+    assert_eq!(rt; slices[1].journal().loads(), 1);
+    assert_eq!(rt; totals.counts.free, [1, 1, 0, 0]);
 }
