@@ -149,6 +149,15 @@ impl Requester {
         self.account.has_cancelled(ty) && self.can_resend(ty)
     }
 
+    /// The requester's port, with which its tracker is closed.
+    /// Source: `docs/PROTOCOL.md`, "Words of the tracker".
+    pub fn into_port(self) -> Port
+        ensures table { result.table ≡ self.table }
+        ensures view { result.port ≡ self.port }
+    {
+        self.port
+    }
+
     /// Looks at what is promised to the requester, one step on each of the four words, and answers the
     /// seen credits by type. Nothing but the port changes; the requester agrees with each slice that it
     /// agreed with.
