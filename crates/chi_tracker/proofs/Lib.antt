@@ -12,4 +12,4 @@ mod Keeping
 pub mod Sweeps
 mod Exactly
 pub mod Balance
-mod SweepLaws
+mod InOrder

@@ -1,6 +1,6 @@
--- What the rule means in literal words: Place, Ledger, and what a port knows; and what a sweep is
--- (docs/PROTOCOL.md, "Words of the tracker").
-use Rattle.std.specs.Prelude.{◌≡◌, ◌≢◌, ◌⊎◌, ℕ, ◌+◌, ◌/◌, ◌%◌, ◌<◌, List, [], ◌∷◌, ◌++◌, IfSome, length, slice_index, slice_index_or}
+-- What the rule means in literal words: Place, Ledger, and what a port knows (docs/PROTOCOL.md, "Words of
+-- the tracker").
+use Rattle.std.specs.Prelude.{◌≡◌, ◌≢◌, ◌⊎◌, ℕ, ◌+◌, ◌<◌, List, [], ◌∷◌, ◌++◌, IfSome, length, slice_index, slice_index_or}
 use Rattle.std.specs.Int.{bit_at}
 use Rattle.atomic_table.specs.Table.{State}
 use Rattle.chi_tracker.specs.declared.shape.Shape.{Shape}
@@ -8,9 +8,9 @@ use Rattle.chi_tracker.specs.declared.view.SeatView.{SeatView}
 use Rattle.chi_tracker.specs.Sums.{total, set_at}
 use Rattle.chi_tracker.specs.Shape.{low, IsOf, count_of, owed_in}
 use Rattle.chi_tracker.specs.Words.{c_of, p_of, o_of}
-use Rattle.chi_tracker.specs.Views.{PortView, Sweep, has, new_port}
+use Rattle.chi_tracker.specs.Views.{PortView, has, new_port}
 use Rattle.chi_tracker.specs.Rule.{duty_is}
-use Rattle.chi_tracker.specs.Steps.{byte_of, no_shape}
+use Rattle.chi_tracker.specs.Steps.{no_shape}
 
 -- the ports of all seats
 abbrev pub all_ports : List SeatView → List PortView
@@ -70,17 +70,3 @@ pub record Knows (s : Shape) (ws : List ℕ) (p : PortView) : Type 0 where
 
 abbrev pub AllKnow : Shape → State ℕ SeatView → Type 0
 AllKnow key st = (i : ℕ) → i < length (all_ports st.views) → Knows key st.words (port_at (all_ports st.views) i)
-
--- a look opened a sweep of type t at requester 0, whose bits of the type are left
-abbrev pub IsOpened : ℕ → ℕ → Sweep → Sweep → Type 0
-IsOpened t word s s' = s' ≡ record { opened = s.opened + 1; kind = t; at = 0; left = byte_of t word }
-
--- a look at requester m leaves a sweep as it is; or m is the next one, the sweep is of the type, no bit
--- was left, and now those of m are
-abbrev pub GoesOn : ℕ → ℕ → ℕ → Sweep → Sweep → Type 0
-GoesOn t m word s s' = (s' ≡ s) ⊎ ((m ≡ s.at + 1) × (s.kind ≡ t) × (s.left ≡ 0) × (s' ≡ record s { at = m; left = byte_of t word }))
-
--- a settle of place k % 8 of type k / 8 at requester m: a bit goes only where it is this place's, at the
--- requester and of the type of the sweep, and was found clear
-abbrev pub LosesFoundClear : ℕ → ℕ → ℕ → Sweep → Sweep → Type 0
-LosesFoundClear m k old s s' = (i : ℕ) → bit_at s'.left i ≢ bit_at s.left i → (old ≡ 0) × (s.at ≡ m) × (s.kind ≡ k / 8) × (i ≡ k % 8)

@@ -6,4 +6,5 @@ pub mod Rule
 pub mod Steps
 pub mod Calls
 pub mod Laws
+pub mod Sweeping
 pub mod Totals

@@ -17,13 +17,14 @@ impl TableRule<u8, SeatView, Shape> for Law {
 }
 
 impl Law {
-    ghost use Rattle.std.specs.Prelude.{◌≢◌, ℕ};
+    ghost use Rattle.std.specs.Prelude.{ℕ};
     ghost use Rattle.atomic_table.specs.Table.{State};
     ghost use Rattle.chi_tracker.specs.declared.shape.Shape.{Shape};
     ghost use Rattle.chi_tracker.specs.declared.view.SeatView.{SeatView};
-    ghost use Rattle.chi_tracker.specs.Laws.{Places, Ledgers, AllKnow, GoesOn, IsOpened, LosesFoundClear};
-    ghost use Rattle.chi_tracker.specs.Steps.{settles, swept};
-    ghost use Rattle.chi_tracker.specs.Views.{PortView, Sweep};
+    ghost use Rattle.std.specs.Prelude.{◌≢◌, List};
+    ghost use Rattle.chi_tracker.specs.Laws.{Places, Ledgers, AllKnow};
+    ghost use Rattle.chi_tracker.specs.Views.{PortView};
+    ghost use Rattle.chi_tracker.specs.Sweeping.{Act, port_after, IsInOrder};
 
     /// Between any two atomic steps each entry is free, in the hand of exactly one port, or promised to
     /// exactly one requester. Does nothing: its contract is the law.
@@ -47,16 +48,13 @@ impl Law {
         ensures { (key : Shape) (st : State ℕ SeatView) → TrackerRule key st → AllKnow key st }
     {}
 
-    /// What a sweep is. A look at requester 0 opens one, with the bits of its type that the look shows. It
-    /// goes on to the next requester alone, and only where no bit is left. A bit that is left goes only by a
-    /// settle of that very place which found it clear. So a sweep that came to the last requester with no bit
-    /// left has looked at each, and found clear whatever a look had shown. Does nothing: its contract is the
-    /// law.
-    /// Source: `docs/PROTOCOL.md`, "Words of the tracker".
+    /// Whatever looks and settles a port does, in whatever order: once they opened a sweep, each requester
+    /// before the one that the sweep stands at was looked at, and each place that the look showed set was
+    /// then found clear by a settle; where the sweep stands each such place is left or was found clear. Does
+    /// nothing: its contract is the law.
+    /// Source: `docs/PROTOCOL.md`, "Steps of the tracker", look and settle.
     pub fn sweep()
-        ensures opens { (t word : ℕ) (s : Sweep) → IsOpened t word s (swept t 0 word s) }
-        ensures goes_on { (t m word : ℕ) (s : Sweep) → m ≢ 0 → GoesOn t m word s (swept t m word s) }
-        ensures left { (e m k old : ℕ) (p : PortView) → LosesFoundClear m k old p.sweep (settles e m k old p).sweep }
+        ensures { (p : PortView) (acts : List Act) → (port_after p acts).sweep.opened ≢ p.sweep.opened → IsInOrder acts (port_after p acts).sweep }
     {}
 }
 
