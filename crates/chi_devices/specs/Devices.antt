@@ -1,6 +1,8 @@
 -- What a device did with bytes and with its count of failures (docs/PROTOCOL.md, "The program").
-use Rattle.std.specs.Prelude.{◌≡◌, ℕ, ◌+◌, List, Option, take}
+use Rattle.std.specs.Prelude.{◌≡◌, ℕ, ◌+◌, List, Option, take, ◌⊎◌}
 use Rattle.std.specs.Io.KnownBytes.{Appends}
+use Rattle.std.specs.declared.io.ErrorKind.{ErrorKind}
+use Rattle.std.specs.declared.io.ErrorKind.TheVariants as kinds
 use Rattle.chi_script.specs.declared.faults.Fault.{Fault}
 use Rattle.chi_script.specs.declared.faults.Fault.TheVariants.{NoMemory, BadHeader, BadCommand, MissingNewline, TooLarge, Read, Write}
 
@@ -17,3 +19,12 @@ CountsFault before after (BadCommand line) = ⊥
 CountsFault before after (MissingNewline line) = ⊥
 CountsFault before after TooLarge = ⊥
 CountsFault before after Write = ⊥
+
+-- the fault where a file can't be opened: want of memory, and Read for every other cause
+abbrev pub unopened_fault : ErrorKind → Fault
+unopened_fault kinds.OutOfMemory = NoMemory
+unopened_fault _ = Read
+
+-- one of these faults
+abbrev pub IsUnopened : Fault → Type 0
+IsUnopened fault = (fault ≡ Read) ⊎ (fault ≡ NoMemory)

@@ -18,6 +18,11 @@ pub trait Input {
     /// How often a read failed.
     ghost failures: { Self → ℕ };
 
+    /// How often a read failed.
+    /// Source: `docs/PROTOCOL.md`, "The program".
+    fn failures(&self) -> u64
+        ensures { result ≡ failures self.now };
+
     /// Reads bytes into the front of the buffer, and answers how many: 0 of a buffer with room only at the
     /// end. A read that fails takes no byte, and counts; where it succeeds the count of failures stays.
     ///
@@ -29,11 +34,6 @@ pub trait Input {
         ensures bytes { ReadConsumes (left self.old) (left self.new) result buffer.new }
         ensures ok { OnOk result (failures self.new ≡ failures self.old) }
         ensures err { OnErr result (failures self.new ≡ failures self.old + 1) };
-
-    /// How often a read failed.
-    /// Source: `docs/PROTOCOL.md`, "The program".
-    fn failures(&self) -> u64
-        ensures { result ≡ failures self.now };
 }
 
 /// What bytes are written to. It counts its failures, so that who called it can tell that it failed.
@@ -45,8 +45,13 @@ pub trait Output {
     /// How often a write failed.
     ghost failures: { Self → ℕ };
 
-    /// Writes all of the bytes. Where that fails it counts, and a front of them was written; where it
-    /// succeeds the count of failures stays.
+    /// How often a write failed.
+    /// Source: `docs/PROTOCOL.md`, "The program".
+    fn failures(&self) -> u64
+        ensures { result ≡ failures self.now };
+
+    /// Writes all of the bytes, and hands them on where the device keeps some back. Where that fails it
+    /// counts, and a front of them was written; where it succeeds the count of failures stays.
     ///
     /// Condition: the count of failures is below 2 ^ 64 - 1.
     /// Source: `docs/PROTOCOL.md`, "The program".
@@ -56,9 +61,4 @@ pub trait Output {
         ensures front { OnErr result (AppendsFront (written self.old) (written self.new) bytes.now) }
         ensures ok { OnOk result (failures self.new ≡ failures self.old) }
         ensures err { OnErr result (failures self.new ≡ failures self.old + 1) };
-
-    /// How often a write failed.
-    /// Source: `docs/PROTOCOL.md`, "The program".
-    fn failures(&self) -> u64
-        ensures { result ≡ failures self.now };
 }

@@ -1,6 +1,6 @@
 //! Devices over memory, which fail where they are told to.
 
-ghost use Rattle.std.specs.Prelude.{◌≡◌, ◌+◌, ◌^◌, ◌<◌, ◌≤◌, Some, [], length, IfOk, OnErr, OnOk};
+ghost use Rattle.std.specs.Prelude.{◌≡◌, ◌+◌, ◌^◌, ◌<◌, ◌≤◌, Some, [], length, IfOk, OnOk, OnErr};
 ghost use Rattle.std.specs.Io.KnownBytes.{Appends, ReadConsumes};
 ghost use Rattle.chi_devices.specs.Devices.{AppendsFront};
 
@@ -37,19 +37,21 @@ impl Input for MemoryInput<'_> {
 
     ghost failures = { λ input. input.failures };
 
-    /// Takes as many bytes as there are and as the buffer has room for. Each good read is one fewer that
-    /// succeeds; a read fails exactly where none is left.
-    ///
-    /// Condition: the count of failures is below 2 ^ 64 - 1.
-    /// Source: `docs/PROTOCOL.md`, "The program".
+    fn failures(&self) -> u64 {
+        self.failures
+    }
+
+    /// Reads as much as there is room for. Each read that succeeds is one fewer of the good ones, and one
+    /// fails only where none of them is left.
     fn read(&mut self, buffer: &mut [u8]) -> Result<usize, Failed>
         requires { self.old.failures + 1 < 2 ^ 64 }
         ensures bound { IfOk result (λ count. count ≤ length buffer.new) }
         ensures bytes { ReadConsumes (Some self.old.left.now) (Some self.new.left.now) result buffer.new }
         ensures ok { OnOk result (self.new.failures ≡ self.old.failures) }
         ensures err { OnErr result (self.new.failures ≡ self.old.failures + 1) }
-        ensures good_reads { OnOk result (self.new.good_reads + 1 ≡ self.old.good_reads) }
-        ensures no_more { OnErr result ((self.old.good_reads ≡ 0) × (self.new.good_reads ≡ 0)) }
+        ensures good { OnOk result (self.old.good_reads ≡ self.new.good_reads + 1) }
+        ensures none { OnErr result (self.old.good_reads ≡ 0) }
+        ensures stays { OnErr result (self.new.good_reads ≡ 0) }
     {
         if self.good_reads == 0 {
             self.failures += 1;
@@ -61,10 +63,6 @@ impl Input for MemoryInput<'_> {
         buffer[..count].copy_from_slice(front);
         self.left = rest;
         Ok(count)
-    }
-
-    fn failures(&self) -> u64 {
-        self.failures
     }
 }
 
@@ -78,8 +76,8 @@ pub struct MemoryOutput<A: Allocator> {
 }
 
 impl<A: Allocator> MemoryOutput<A> {
-    /// An output without a byte, which takes `room` bytes. A write of more fails, and so does one for which
-    /// memory runs out; after a write that failed there is no room.
+    /// An output without a byte, which takes `room` bytes and then fails. It fails too where memory for
+    /// them runs out. After a write that failed it takes no byte more.
     /// Source: `docs/PROTOCOL.md`, "The program".
     pub fn new(alloc: A, room: usize) -> MemoryOutput<A>
         ensures bytes { result.bytes.items ≡ [] }
@@ -107,32 +105,29 @@ impl<A: Allocator> Output for MemoryOutput<A> {
 
     ghost failures = { λ output. output.failures };
 
-    /// Keeps the bytes, as far as there is room. There is less room by the bytes that were written, and none
-    /// after a write that failed.
-    ///
-    /// Condition: the count of failures is below 2 ^ 64 - 1.
-    /// Source: `docs/PROTOCOL.md`, "The program".
+    fn failures(&self) -> u64 {
+        self.failures
+    }
+
+    /// Writes all of the bytes where there is room for them, and the room is less by so many then. After a
+    /// write that failed there is no room, and so nothing more can be written.
     fn write_all(&mut self, bytes: &[u8]) -> Result<(), Failed>
         requires { self.old.failures + 1 < 2 ^ 64 }
         ensures written { OnOk result (Appends (Some self.old.bytes.items) (Some self.new.bytes.items) bytes.now) }
         ensures front { OnErr result (AppendsFront (Some self.old.bytes.items) (Some self.new.bytes.items) bytes.now) }
         ensures ok { OnOk result (self.new.failures ≡ self.old.failures) }
         ensures err { OnErr result (self.new.failures ≡ self.old.failures + 1) }
-        ensures room { OnOk result (self.new.room + length bytes.now ≡ self.old.room) }
+        ensures room { OnOk result (self.old.room ≡ self.new.room + length bytes.now) }
         ensures full { OnErr result (self.new.room ≡ 0) }
     {
         let count = bytes.len().min(self.room);
         let kept = self.bytes.extend_from_slice(&bytes[..count]).is_ok();
         if !kept || count < bytes.len() {
-            self.failures += 1;
             self.room = 0;
+            self.failures += 1;
             return Err(Failed);
         }
         self.room -= count;
         Ok(())
-    }
-
-    fn failures(&self) -> u64 {
-        self.failures
     }
 }

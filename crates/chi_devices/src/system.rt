@@ -1,8 +1,8 @@
 //! The program's own devices: a file that is read, and standard output.
 
-ghost use Rattle.std.specs.Prelude.{◌≡◌, ◌≢◌, ◌≤◌, length, IfOk, OnOk, OnErr};
+ghost use Rattle.std.specs.Prelude.{◌≡◌, ◌≤◌, length, IfOk, IfErr, OnOk, OnErr};
 ghost use Rattle.std.specs.Io.KnownBytes.{Appends, ReadConsumes};
-ghost use Rattle.chi_devices.specs.Devices.{AppendsFront};
+ghost use Rattle.chi_devices.specs.Devices.{AppendsFront, IsUnopened, unopened_fault};
 
 use crate::devices::{Failed, Input, Output};
 use chi_script::Fault;
@@ -25,19 +25,20 @@ impl<F: Read> FileInput<F> {
     /// `NoMemory` where memory runs out, and `Read` where the file can't be opened for another cause.
     /// Source: `docs/PROTOCOL.md`, "The program".
     pub fn open<R: Files<File = F>>(rt: &R, path: &str) -> Result<FileInput<F>, Fault>
-        ensures { IfOk result (λ input. input.failures ≡ 0) }
+        ensures ok { IfOk result (λ input. input.failures ≡ 0) }
+        ensures err { IfErr result IsUnopened }
     {
         match fs::open(rt, path) {
             Ok(file) => Ok(FileInput { file, failures: 0 }),
-            Err(error) => Err(open_fault(error.kind())),
+            Err(error) => Err(unopened(error.kind())),
         }
     }
 }
 
-/// The fault with which opening a file ends, by the kind of the system's error.
-fn open_fault(kind: ErrorKind) -> Fault
-    ensures memory { kind ≡ ErrorKind.OutOfMemory → result ≡ Fault.NoMemory }
-    ensures other { kind ≢ ErrorKind.OutOfMemory → result ≡ Fault.Read }
+/// The fault where a file can't be opened for this cause.
+fn unopened(kind: ErrorKind) -> Fault
+    ensures fault { result ≡ unopened_fault kind }
+    ensures one { IsUnopened result }
 {
     match kind {
         ErrorKind::OutOfMemory => Fault::NoMemory,
@@ -50,6 +51,10 @@ impl<F: Read> Input for FileInput<F> {
 
     ghost failures = { λ input. input.failures };
 
+    fn failures(&self) -> u64 {
+        self.failures
+    }
+
     fn read(&mut self, buffer: &mut [u8]) -> Result<usize, Failed> {
         match read_once(&mut self.file, buffer) {
             Ok(count) => Ok(count),
@@ -58,10 +63,6 @@ impl<F: Read> Input for FileInput<F> {
                 Err(Failed)
             }
         }
-    }
-
-    fn failures(&self) -> u64 {
-        self.failures
     }
 }
 
@@ -109,16 +110,16 @@ impl<W: Write> Output for StandardOutput<W> {
 
     ghost failures = { λ output. output.failures };
 
+    fn failures(&self) -> u64 {
+        self.failures
+    }
+
     fn write_all(&mut self, bytes: &[u8]) -> Result<(), Failed> {
         let done = write_whole(&mut self.stream, bytes);
         if done.is_err() {
             self.failures += 1;
         }
         done
-    }
-
-    fn failures(&self) -> u64 {
-        self.failures
     }
 }
 
@@ -182,12 +183,15 @@ mod tests {
         assert_eq!(rt; input.failures(), 1);
     }
 
-    /// It takes each byte, and can't be flushed.
+    /// It takes each byte, and can't hand them on.
     #[derive(Drop)]
-    struct Unflushed;
+    struct Unflushed {
+        writes: u64,
+    }
 
     impl Write for Unflushed {
         fn write(&mut self, bytes: &[u8]) -> io::Result<usize> {
+            self.writes = self.writes.saturating_add(1);
             Ok(bytes.len())
         }
 
@@ -197,9 +201,17 @@ mod tests {
     }
 
     #[test]
-    fn a_write_that_is_not_flushed_has_failed(rt: HostRuntime) {
-        let mut output = StandardOutput::new(Unflushed);
+    fn what_is_written_is_flushed(rt: HostRuntime) {
+        let mut output = StandardOutput::new(Unflushed { writes: 0 });
         assert_eq!(rt; output.write_all(b"ok\n"), Err(Failed));
         assert_eq!(rt; output.failures(), 1);
+        assert_eq!(rt; output.stream.writes, 1);
+    }
+
+    #[test]
+    fn only_want_of_memory_is_told_so(rt: HostRuntime) {
+        assert_eq!(rt; unopened(ErrorKind::OutOfMemory), Fault::NoMemory);
+        assert_eq!(rt; unopened(ErrorKind::NotFound), Fault::Read);
+        assert_eq!(rt; unopened(ErrorKind::Other), Fault::Read);
     }
 }

@@ -48,15 +48,25 @@ fn an_output_takes_what_it_has_room_for(rt: HostRuntime) {
     assert_eq!(rt; output.write_all(text), Ok(()));
     assert!(rt; output.bytes() == text.as_slice());
     assert_eq!(rt; output.write_all(b"x"), Err(Failed));
-    assert_eq!(rt; output.failures(), 1);
 }
 
 #[test]
-fn nothing_is_written_after_a_write_that_failed(rt: HostRuntime) {
-    let mut output = MemoryOutput::new(rt.alloc(), 10);
-    assert_eq!(rt; output.write_all(b"twelve bytes"), Err(Failed));
-    assert_eq!(rt; output.write_all(b"x"), Err(Failed));
-    assert!(rt; output.bytes() == b"twelve byt".as_slice());
+fn after_a_write_that_failed_nothing_is_written(rt: HostRuntime) {
+    let mut output = MemoryOutput::new(rt.alloc(), 5);
+    assert_eq!(rt; output.write_all(b"refused"), Err(Failed));
+    assert_eq!(rt; output.write_all(b"ok"), Err(Failed));
+    assert!(rt; output.bytes() == b"refus".as_slice());
+    assert_eq!(rt; output.failures(), 2);
+}
+
+#[test]
+fn a_device_shows_how_often_it_failed(rt: HostRuntime) {
+    let mut input = MemoryInput::new(b"ok\n", 1);
+    let mut buffer = [0; 4];
+    assert_eq!(rt; input.read(&mut buffer), Ok(3));
+    assert_eq!(rt; input.failures(), 0);
+    assert_eq!(rt; input.read(&mut buffer), Err(Failed));
+    assert_eq!(rt; input.failures(), 1);
 }
 
 #[test]
@@ -67,7 +77,7 @@ fn a_file_is_read_and_a_missing_one_is_not(rt: HostRuntime) -> io::Result<()> {
             let bytes = read_all(rt.alloc(), &mut input).unwrap_or(Vec::new(rt.alloc()));
             assert!(rt; bytes.as_slice() == b"node 1 1 1 1 1 4\n".as_slice());
         }
-        Err(fault) => panic!(rt; "{fault}"),
+        Err(fault) => assert!(rt; false, "{fault}"),
     }
     fs::remove_file(&rt, "good.chi")?;
     assert_eq!(rt; FileInput::open(&rt, "none.chi").err(), Some(Fault::Read));

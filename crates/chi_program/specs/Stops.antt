@@ -23,7 +23,8 @@ abbrev pub end_status : {A : Type 0} → Result A Stop → ℕ
 end_status (Ok done) = 0
 end_status (Err stop) = stop_status stop
 
--- the statuses that a replay can end with
+-- the statuses that the program can end with: done, a faulty file or a device that failed, want of memory,
+-- and bad arguments
 abbrev pub statuses : List ℕ
 statuses = 0 ∷ 1 ∷ 3 ∷ 4 ∷ []
 

@@ -9,7 +9,7 @@ fn a_replay_has_its_path(rt: HostRuntime) {
     same(&rt, arguments(rt.alloc(), &words), Ok(Job::Replay("a.chi")));
 }
 
-/// What the words ask for, if not a replay.
+/// Why the words aren't followed, where they aren't.
 fn fault_of<'a>(rt: &HostRuntime, words: &'a [&'a str]) -> Option<ArgFault> {
     match arguments(rt.alloc(), words) {
         Ok(_) => None,

@@ -2,11 +2,12 @@
 
 use crate::told::same;
 use bumpalo::Bump;
-use chi_devices::{FileInput, MemoryInput, MemoryOutput};
+use chi_devices::{FileInput, MemoryInput, MemoryOutput, Output, StandardOutput};
 use chi_replay::replay;
 use chi_script::Fault;
 use linked_list_allocator::LocalHeap;
 use std::alloc::{AllocError, Allocator};
+use std::io::{ErrorKind, Write};
 use std::process::Abort;
 use std::{fs, io};
 
@@ -175,7 +176,7 @@ fn a_file_is_replayed_and_a_missing_one_is_not(rt: HostRuntime) -> io::Result<()
             same(&rt, replay(rt.alloc(), &mut input, &mut output), Ok(()));
             assert!(rt; output.bytes() == TWO_COMMANDS_TEXT);
         }
-        Err(fault) => panic!(rt; "{fault}"),
+        Err(fault) => assert!(rt; false, "{fault}"),
     }
     fs::remove_file(&rt, "two.chi")?;
     same(
@@ -184,6 +185,29 @@ fn a_file_is_replayed_and_a_missing_one_is_not(rt: HostRuntime) -> io::Result<()
         Some(Fault::Read),
     );
     Ok(())
+}
+
+/// A stream that takes each byte, and can't hand them on.
+#[derive(Drop)]
+struct Unflushed;
+
+impl Write for Unflushed {
+    fn write(&mut self, bytes: &[u8]) -> io::Result<usize> {
+        Ok(bytes.len())
+    }
+
+    fn flush(&mut self) -> io::Result<()> {
+        Err(ErrorKind::Other.into())
+    }
+}
+
+#[test]
+fn a_text_that_is_not_flushed_is_not_written(rt: HostRuntime) {
+    let mut input = MemoryInput::new(TOTALS, 10);
+    let mut output = StandardOutput::new(Unflushed);
+    let fault = replay(rt.alloc(), &mut input, &mut output).err();
+    same(&rt, fault, Some(Fault::Write));
+    same(&rt, output.failures(), 1);
 }
 
 /// A read from the request to its acknowledgement.

@@ -1,4 +1,4 @@
-//! A file that is read with too little memory, whichever allocation is the one that is refused.
+//! A file that is read on heaps and in budgets of many sizes, of which the least are too small.
 
 use crate::told::same;
 use bumpalo::Bump;
