@@ -1,3 +1,4 @@
 pub mod Shown
 pub mod Lines
 pub mod Always
+pub mod Audited

@@ -8,10 +8,10 @@ use Rattle.chi_tracker.specs.Calls.{shape_of}
 use Rattle.chi_slice.specs.Config.{Sizes, are_in_limits}
 use Rattle.chi_slice.specs.Slice.{SliceState, opening_slice}
 use Rattle.chi_slice.proofs.Rows.{InLimits, in_limits}
-use Rattle.chi_node.specs.Parts.{is_of_profile, opening_requesters, opening_slices}
+use Rattle.chi_node.specs.Parts.{HasTypes, is_of_profile, opening_requesters, opening_slices}
 use Rattle.chi_node.specs.Requester.{RequesterState, opening_requester}
 use Rattle.chi_node.proofs.Openings.{length_requesters}
-use Rattle.chi_home.specs.Node.{AreOwn, HasTypes, IsOwn, NodeState}
+use Rattle.chi_home.specs.Node.{AreOwn, IsOwn, NodeState}
 
 length_slices : (config : Sizes) (n : ℕ) → length (opening_slices config n) ≡ n
 length_slices config zero = refl

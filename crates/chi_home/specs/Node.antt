@@ -1,23 +1,16 @@
 -- A node whose slices are behind locks, and the requesters that are its own (docs/PROTOCOL.md, "A requester and
 -- its calls").
-use Rattle.std.specs.Prelude.{◌≡◌, ℕ, ◌<◌, List, All, true, nat_lt, Option, Some, None, length, map, if◌then◌else◌}
+use Rattle.std.specs.Prelude.{◌≡◌, ℕ, List, All, nat_lt, Option, Some, None, length, map, if◌then◌else◌}
 use Rattle.chi_flit.specs.declared.refusal.Refusal.{Refusal}
 use Rattle.chi_flit.specs.declared.refusal.Refusal.TheVariants.{OutOfRange}
-use Rattle.chi_tracker.specs.declared.shape.Shape.{Shape}
-use Rattle.chi_tracker.specs.Shape.{size}
 use Rattle.chi_tracker.specs.Calls.{Home, Owner}
 use Rattle.chi_slice.specs.Config.{Sizes}
-use Rattle.chi_node.specs.Parts.{is_of_profile}
 use Rattle.chi_node.specs.Requester.{RequesterState}
 
 -- the size of a node, and its tracker; what its slices hold is behind the locks
 pub record NodeState : Type 0 where
   pub config : Sizes
   pub tracker : Home
-
--- a tracker of this shape has entries of each type of the profile
-abbrev pub HasTypes : Sizes → Shape → Type 0
-HasTypes config shape = (t : ℕ) → t < 4 → is_of_profile config.profile t ≡ true → 0 < size shape t
 
 -- 10: the line is outside the node
 abbrev pub line_refusal : NodeState → ℕ → Option Refusal

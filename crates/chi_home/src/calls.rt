@@ -2,7 +2,7 @@
 
 ghost use Rattle.std.specs.Prelude.{◌≡◌, IfOk, OnErr, true};
 ghost use Rattle.chi_node.specs.Calls.{is_own_step, IsSameRequester};
-ghost use Rattle.chi_home.specs.Node.{HasTypes};
+ghost use Rattle.chi_node.specs.Parts.{HasTypes};
 ghost use Rattle.chi_home.specs.Locked.{ArrivesLocked, StepsLocked};
 
 use chi_flit::{Action, Line, Refusal};

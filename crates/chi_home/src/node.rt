@@ -6,7 +6,7 @@ ghost use Rattle.chi_flit.specs.declared.refusal.Refusal.TheVariants.{OutOfRange
 ghost use Rattle.chi_tracker.specs.Calls.{shape_of};
 ghost use Rattle.chi_tracker.specs.Totals.{views_of, IsBalanced, IsClosed};
 ghost use Rattle.chi_node.specs.Calls.{is_own_step, IsSameRequester};
-ghost use Rattle.chi_node.specs.Parts.{opening_requesters};
+ghost use Rattle.chi_node.specs.Parts.{opening_requesters, HasTypes};
 ghost use Rattle.chi_home.specs.Node.{line_refusal, owners_of, AreOwn, IsOwn};
 ghost use Rattle.chi_home.specs.Locked.{ArrivesLocked, StepsLocked};
 
@@ -36,7 +36,8 @@ pub struct Node<A: Allocator> {
 
 impl<A: Allocator> Model for Node<A> {
     ghost use Rattle.std.specs.Prelude.{◌≡◌, ◌<◌, ◌≤◌, vec_capacity, vec_len};
-    ghost use Rattle.chi_home.specs.Node.{NodeState, HasTypes};
+    ghost use Rattle.chi_node.specs.Parts.{HasTypes};
+    ghost use Rattle.chi_home.specs.Node.{NodeState};
 
     ghost Value = { NodeState };
 
@@ -77,10 +78,12 @@ impl<A: Allocator> Node<A> {
         &self.tracker
     }
 
-    /// The size of the node.
+    /// The size of the node. Whoever asks for it knows that the tracker has entries of each type of its
+    /// profile.
     /// Source: `docs/PROTOCOL.md`, "Limits".
     pub fn config(&self) -> &Config
-        ensures { result.now ≡ self.now.config }
+        ensures value { result.now ≡ self.now.config }
+        ensures types { HasTypes self.now.config self.now.tracker.shape }
     {
         &self.config
     }

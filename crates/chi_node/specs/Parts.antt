@@ -1,9 +1,10 @@
 -- The parts of a node in its opening state (docs/PROTOCOL.md, "A requester and its calls").
-use Rattle.std.specs.Prelude.{ℕ, ◌<◌, zero, suc, List, [], ◌∷◌, ◌++◌, Bool, nat_lt}
+use Rattle.std.specs.Prelude.{◌≡◌, ℕ, ◌<◌, zero, suc, List, [], ◌∷◌, ◌++◌, Bool, nat_lt, true}
 use Rattle.atomic_table.specs.Seated.{TableId}
 use Rattle.chi_flit.specs.declared.credit.Profile.{Profile}
 use Rattle.chi_flit.specs.declared.credit.Profile.TheVariants.{Two, Four}
 use Rattle.chi_tracker.specs.declared.shape.Shape.{Shape}
+use Rattle.chi_tracker.specs.Shape.{size}
 use Rattle.chi_slice.specs.Config.{Sizes}
 use Rattle.chi_slice.specs.Slice.{SliceState, opening_slice}
 use Rattle.chi_node.specs.Requester.{RequesterState, opening_requester}
@@ -23,6 +24,10 @@ opening_requesters table shape (suc n) = opening_requesters table shape n ++ ope
 abbrev pub is_of_profile : Profile → ℕ → Bool
 is_of_profile Two t = nat_lt t 2
 is_of_profile Four t = nat_lt t 4
+
+-- a tracker of this shape has entries of each type of the node's profile
+abbrev pub HasTypes : Sizes → Shape → Type 0
+HasTypes config shape = (t : ℕ) → t < 4 → is_of_profile config.profile t ≡ true → 0 < size shape t
 
 -- each requester of a node in its opening state agrees with each of its slices
 pub record AllAgree (config : Sizes) (table : TableId) (shape : Shape) : Type 0 where

@@ -1,6 +1,6 @@
 //! Whether a requester agrees with a slice.
 
-ghost use Rattle.std.specs.Prelude.{◌≡◌, ◌≤◌, ◌<◌, ◌↔◌, ℕ, IsTrue, length, slice_index, true};
+ghost use Rattle.std.specs.Prelude.{◌≡◌, ◌≤◌, ◌<◌, ◌↔◌, ℕ, All, IsTrue, length, slice_index, true};
 ghost use Rattle.chi_journal.specs.Journal.{part_of};
 ghost use Rattle.chi_credit.specs.Account.{slot_at};
 ghost use Rattle.chi_slice.specs.Slice.{SliceKept};
@@ -34,6 +34,18 @@ pub(crate) fn is_open<A: Allocator>(slice: &Slice<A>, requester: &Requester) -> 
     ensures requester { RequesterKept requester.now.port.shape.sizes requester.now }
 {
     has_count(slice, requester) && are_told(slice, requester)
+}
+
+/// Whether each of the requesters agrees with the slice. No memory is taken.
+/// Source: `docs/PROTOCOL.md`, "Agreement".
+pub fn agree_with<A: Allocator>(slice: &Slice<A>, requesters: &[Requester]) -> bool
+    ensures { IsTrue result ↔ All (Agree slice.now) requesters.now }
+{
+    let mut found = true;
+    for requester in requesters {
+        found &= agrees(slice, requester);
+    }
+    found
 }
 
 /// Whether the requester's count for the slice is the length of its part of the journal.

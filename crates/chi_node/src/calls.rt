@@ -1,15 +1,14 @@
 //! The calls for a whole requester on a slice: an arrival of its request, and a step.
 
-ghost use Rattle.std.specs.Prelude.{◌≡◌, ◌<◌, ℕ, None, true, IfOk, IsTrue, OnErr, OnOk, ◌↔◌};
+ghost use Rattle.std.specs.Prelude.{◌≡◌, ◌<◌, None, true, IfOk, IsTrue, OnErr, OnOk, ◌↔◌};
 ghost use Rattle.chi_flit.specs.Refusal.{refusal_of};
-ghost use Rattle.chi_tracker.specs.Shape.{size};
 ghost use Rattle.chi_slice.specs.Index.{SlotsInRange};
 ghost use Rattle.chi_slice.specs.Slice.{acted, line as line_of_slice, refused};
 ghost use Rattle.chi_line.specs.Step.{effect_of};
 ghost use Rattle.chi_credit.specs.Slot.{is_idle};
 ghost use Rattle.chi_node.specs.Agree.{Agree, KeepsAgreement};
 ghost use Rattle.chi_node.specs.Calls.{arrival_refusal, arrival_step, call_refusal, credit_refusal, is_own_step, is_slot_taken, place_at, wanted_credit, ArrivesOn, CanArriveOn, CanStep, CountsStep, IsSameRequester, IsSameSlice, OrNotOpen, StepsTo};
-ghost use Rattle.chi_node.specs.Parts.{is_of_profile};
+ghost use Rattle.chi_node.specs.Parts.{HasTypes};
 
 use crate::agree::is_open;
 use crate::answers::{Arrived, Stepped};
@@ -39,7 +38,7 @@ pub fn arrive_on<A: Allocator, B: Allocator>(
     line: Line,
 ) -> Result<Arrived, Refusal>
     requires table { requester.old.table ≡ tracker.now.table }
-    requires types { (t : ℕ) → t < 4 → is_of_profile slice.old.config.profile t ≡ true → 0 < size requester.old.port.shape t }
+    requires types { HasTypes slice.old.config requester.old.port.shape }
     ensures refusal { OrNotOpen (arrival_refusal slice.old requester.old.number line.0) (Agree slice.old requester.old) (refusal_of result) }
     ensures ok { IfOk result (λ arrived. ArrivesOn slice.old slice.new line requester.old requester.new arrived) }
     ensures err { OnErr result ((slice.new ≡ slice.old) × (requester.new ≡ requester.old)) }
@@ -79,7 +78,7 @@ fn admit<A: Allocator, B: Allocator>(
     request: Request,
 ) -> Arrived
     requires table { requester.old.table ≡ tracker.now.table }
-    requires types { (t : ℕ) → t < 4 → is_of_profile slice.old.config.profile t ≡ true → 0 < size requester.old.port.shape t }
+    requires types { HasTypes slice.old.config requester.old.port.shape }
     requires can { CanArriveOn slice.old requester.old line request }
     ensures arrives { ArrivesOn slice.old slice.new line requester.old requester.new result }
     ensures agreement { KeepsAgreement slice.old slice.new requester.old requester.new }

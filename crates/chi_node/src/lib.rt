@@ -14,7 +14,7 @@ mod opening;
 mod requester;
 mod steps;
 
-pub use agree::agrees;
+pub use agree::{agree_with, agrees};
 pub use answers::{Arrived, Stepped};
 pub use calls::{arrive_on, step_on};
 pub use opening::parts;

@@ -1,5 +1,6 @@
 -- The text of each answer of a replay, without the line feed that ends its line
--- (docs/PROTOCOL.md, "Replay files" and "Messages").
+-- (docs/PROTOCOL.md, "Replay files" and "Messages"), and what a storm
+-- prints as they do ("The output of a storm").
 use Rattle.std.specs.Prelude.{ℕ, List, [], ◌∷◌, ◌++◌, Bool, true, false, Option, Some, None, is_some, map, take, codes}
 use Rattle.std.specs.List.{filter, flat_map, range_with_len}
 use Rattle.std.specs.Fmt.{decimal}
@@ -123,13 +124,17 @@ counts_text profile counts = spaced decimal (take (type_count profile) counts)
 abbrev pub credits_text : Credits → List ℕ
 credits_text credits = codes "ok credits" ++ counts_text credits.profile credits.counts
 
--- `totals`
-abbrev pub totals_text : Totals → List ℕ
-totals_text totals =
-    codes "ok free" ++ (counts_text totals.profile totals.free
+-- the entries by type, and the owed credits
+abbrev pub holdings_text : Totals → List ℕ
+holdings_text totals =
+    codes "free" ++ (counts_text totals.profile totals.free
     ++ (codes " hand" ++ (counts_text totals.profile totals.hand
     ++ (codes " promised" ++ (counts_text totals.profile totals.promised
     ++ (codes " owed" ++ counts_text totals.profile totals.owed))))))
+
+-- `totals`
+abbrev pub totals_text : Totals → List ℕ
+totals_text totals = codes "ok " ++ holdings_text totals
 
 -- what an audit finds
 abbrev pub verdict_text : Bool → List ℕ

@@ -25,8 +25,9 @@ impl fmt::Display for Audit {
     }
 }
 
-/// The word for a verdict.
-fn verdict_word(coherent: bool) -> &'static str
+/// The word for a verdict: `coherent` or `broken`.
+/// Source: `docs/PROTOCOL.md`, "Replay files".
+pub fn verdict_word(coherent: bool) -> &'static str
     ensures { result.now ≡ verdict_text coherent }
 {
     if coherent { "coherent" } else { "broken" }

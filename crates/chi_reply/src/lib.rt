@@ -13,9 +13,9 @@ mod replies;
 mod shown;
 mod totals;
 
-pub use audits::Audit;
+pub use audits::{Audit, verdict_word};
 pub use credits::Credits;
 pub use flights::InFlight;
 pub use replies::Reply;
 pub use shown::Shown;
-pub use totals::Totals;
+pub use totals::{Holdings, Totals};

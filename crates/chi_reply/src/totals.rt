@@ -1,7 +1,7 @@
 //! The answer of `totals`.
 
 ghost use Rattle.std.specs.Prelude.{Some};
-ghost use Rattle.chi_reply.specs.Replies.{totals_text};
+ghost use Rattle.chi_reply.specs.Replies.{holdings_text, totals_text};
 
 use crate::numbers::{Counts, type_count};
 use chi_flit::Profile;
@@ -20,15 +20,30 @@ pub struct Totals {
     pub profile: Profile,
 }
 
+/// The same numbers, without the word that an answer begins with: the line of a storm.
+/// Source: `docs/PROTOCOL.md`, "The output of a storm".
+#[derive(Clone, Copy, Debug, PartialEq, Eq)]
+pub struct Holdings(pub Totals);
+
 impl fmt::Display for Totals {
     ghost output = { λ totals. Some (totals_text totals) };
 
     fn fmt<W: fmt::Write>(&self, f: &mut fmt::Formatter<W>) -> fmt::Result {
-        let types = type_count(self.profile);
-        let free = Counts(&self.free[..types]);
-        let hand = Counts(&self.hand[..types]);
-        let promised = Counts(&self.promised[..types]);
-        let owed = Counts(&self.owed[..types]);
-        write!(f, "ok free{free} hand{hand} promised{promised} owed{owed}")
+        let holdings = Holdings(*self);
+        write!(f, "ok {holdings}")
+    }
+}
+
+impl fmt::Display for Holdings {
+    ghost output = { λ holdings. Some (holdings_text holdings.0) };
+
+    fn fmt<W: fmt::Write>(&self, f: &mut fmt::Formatter<W>) -> fmt::Result {
+        let totals = self.0;
+        let types = type_count(totals.profile);
+        let free = Counts(&totals.free[..types]);
+        let hand = Counts(&totals.hand[..types]);
+        let promised = Counts(&totals.promised[..types]);
+        let owed = Counts(&totals.owed[..types]);
+        write!(f, "free{free} hand{hand} promised{promised} owed{owed}")
     }
 }

@@ -20,6 +20,7 @@ ghost use Rattle.chi_line.specs.View.{shown};
 ghost use Rattle.chi_slice.specs.Run.{IsRun};
 ghost use Rattle.chi_slice.specs.Slice.{acted, are_in_range, completes, conditions_of, conditions_with, flits_refusal, is_in_range, is_line_in_range, is_slot_used, last_of, line, line as line_of_slice, opening_slice, OtherLinesStay, Performed, SliceKept, recorded, refused, refused_with, row_count, row_of_line, run_after, run_done, uses, view_refusal};
 
+use crate::agent_line::AgentLine;
 use crate::config::Config;
 use crate::places::{Place, Places};
 use crate::records::{follow, is_step_in_range};
@@ -366,6 +367,29 @@ impl<A: Allocator> Slice<A> {
         }
         let row = self.row_of(line);
         Ok(self.wires.cells(agent, Line(row)))
+    }
+
+    /// What an agent has of a line, what is in flight between it and the home for the line, and the line at
+    /// the home: all of one look, and lent.
+    ///
+    /// Refused 10 (OutOfRange) exactly where the agent or the line is outside the node, or the line is in
+    /// another slice.
+    /// Source: `docs/PROTOCOL.md`, "One line".
+    pub fn agent_line(&self, agent: Agent, line: Line) -> Result<AgentLine<'_>, Refusal>
+        ensures copy { IfOk result (λ at. at.copy.now ≡ rn_of (line_of_slice self.now line.0) agent.0) }
+        ensures flits { IfOk result (λ at. at.flits.now ≡ cells_of (line_of_slice self.now line.0) agent.0) }
+        ensures home { IfOk result (λ at. at.home.now ≡ (line_of_slice self.now line.0).home) }
+        ensures refusal { refusal_of result ≡ flits_refusal self.now agent.0 line.0 }
+    {
+        if !self.are_in_range(agent, line) {
+            return Err(Refusal::OutOfRange);
+        }
+        let row = self.row_of(line);
+        Ok(AgentLine {
+            copy: &self.requesters[usize::from(row)][usize::from(agent.0)],
+            flits: self.wires.get(agent, Line(row)),
+            home: &self.homes[usize::from(row)],
+        })
     }
 
     /// Whether the line is one of this slice: a line `l` of the node is where `l mod slices` is its index.

@@ -1,10 +1,8 @@
 -- All slices of a node (docs/PROTOCOL.md, "Limits" and "The actions").
-use Rattle.std.specs.Prelude.{◌≡◌, ◌↔◌, ℕ, ◌%◌, ◌<◌, ◌≤◌, List, All, Bool, IsTrue, true, Option, length, slice_set, sum_by}
+use Rattle.std.specs.Prelude.{◌≡◌, ℕ, ◌%◌, ◌<◌, ◌≤◌, List, All, true, Option, length, slice_set}
 use Rattle.std.specs.List.{slice_index_or}
 use Rattle.chi_flit.specs.declared.action.Action.{Action}
 use Rattle.chi_flit.specs.declared.refusal.Refusal.{Refusal}
-use Rattle.chi_audit.specs.Slices.{IsCoherentSlice}
-use Rattle.chi_journal.specs.Journal.{loads_of, stores_of}
 use Rattle.chi_slice.specs.Config.{Sizes, are_in_limits}
 use Rattle.chi_line.specs.LineState.{LineState}
 use Rattle.chi_slice.specs.Slice.{SliceState, opening_slice}
@@ -49,13 +47,6 @@ view_refusal h l = slice.view_refusal (slice_of h l) l
 abbrev pub flits_refusal : HomeState → ℕ → ℕ → Option Refusal
 flits_refusal h n l = slice.flits_refusal (slice_of h l) n l
 
--- the loads and the stores in the journals of slices
-abbrev pub loads_in : List SliceState → ℕ
-loads_in slices = sum_by (λ s. loads_of s.journal.entries) slices
-
-abbrev pub stores_in : List SliceState → ℕ
-stores_in slices = sum_by (λ s. stores_of s.journal.entries) slices
-
 -- the sizes are in the limits, and there are as many slices as they say, at least one, each of a node of
 -- these sizes and with its place as its index
 pub record IsHome (h : HomeState) : Type 0 where
@@ -65,9 +56,3 @@ pub record IsHome (h : HomeState) : Type 0 where
   pub few : h.config.slices ≤ 64
   pub sizes : All (λ s. s.config ≡ h.config) h.slices
   pub indexes : (i : ℕ) → i < h.config.slices → (slice_at h i).index ≡ i
-
--- the loads and the stores of slices, and whether each slice is coherent
-pub record IsAudited (slices : List SliceState) (l s : ℕ) (verdict : Bool) : Type 0 where
-  pub loads : l ≡ loads_in slices
-  pub stores : s ≡ stores_in slices
-  pub coherent : IsTrue verdict ↔ All IsCoherentSlice slices

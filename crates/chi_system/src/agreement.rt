@@ -4,7 +4,7 @@ ghost use Rattle.std.specs.Prelude.{◌↔◌, All, IsTrue};
 ghost use Rattle.chi_node.specs.Agree.{Agree};
 ghost use Rattle.chi_system.specs.System.{AllAgree};
 
-use chi_node::{Requester, agrees};
+use chi_node::{Requester, agree_with};
 use chi_slice::Slice;
 use std::alloc::Allocator;
 
@@ -15,17 +15,6 @@ pub(crate) fn all_agree<A: Allocator>(slices: &[Slice<A>], requesters: &[Request
     let mut found = true;
     for slice in slices {
         found &= agree_with(slice, requesters);
-    }
-    found
-}
-
-/// Whether each requester agrees with a slice.
-fn agree_with<A: Allocator>(slice: &Slice<A>, requesters: &[Requester]) -> bool
-    ensures { IsTrue result ↔ All (Agree slice.now) requesters.now }
-{
-    let mut found = true;
-    for requester in requesters {
-        found &= agrees(slice, requester);
     }
     found
 }

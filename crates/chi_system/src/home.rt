@@ -1,20 +1,20 @@
 //! The slices of a node.
 
-ghost use Rattle.std.specs.Prelude.{◌≡◌, ◌<◌, ◌↔◌, ℕ, IfOk, IsTrue, OnOk, true};
+ghost use Rattle.std.specs.Prelude.{◌≡◌, ◌<◌, ◌↔◌, IfOk, IsTrue, OnOk, true};
 ghost use Rattle.chi_flit.specs.Refusal.{refusal_of};
-ghost use Rattle.chi_tracker.specs.Shape.{size};
 ghost use Rattle.chi_slice.specs.Config.{are_in_limits};
 ghost use Rattle.chi_slice.specs.Slice.{SliceState};
 ghost use Rattle.chi_line.specs.LineState.{cells_of};
 ghost use Rattle.chi_line.specs.View.{shown};
 ghost use Rattle.chi_node.specs.Calls.{is_own_step};
-ghost use Rattle.chi_node.specs.Parts.{is_of_profile, opening_slices};
-ghost use Rattle.chi_system.specs.Home.{IsAudited, IsHome, flits_refusal, index_of, last_of, line as line_of_home, opening_home, slice_of, view_refusal};
+ghost use Rattle.chi_node.specs.Parts.{HasTypes, opening_slices};
+ghost use Rattle.chi_audit.specs.Audits.{IsAudited};
+ghost use Rattle.chi_system.specs.Home.{IsHome, flits_refusal, index_of, last_of, line as line_of_home, opening_home, slice_of, view_refusal};
 ghost use Rattle.chi_system.specs.System.{AllAgree};
 ghost use Rattle.chi_system.specs.Visits.{ArrivalVisit, StepVisit};
 
 use crate::agreement::all_agree;
-use crate::audits::{Audit, audit_of};
+use chi_audit::{Audit, audit_of};
 use chi_flit::{Action, Agent, Line, Refusal};
 use chi_node::{Arrived, Requester, Stepped, arrive_on, step_on};
 use chi_slice::{Config, LineView, Slice};
@@ -80,7 +80,7 @@ impl<A: Allocator> Home<A> {
         line: Line,
     ) -> Result<Arrived, Refusal>
         requires table { requester.old.table ≡ tracker.now.table }
-        requires types { (t : ℕ) → t < 4 → is_of_profile self.old.config.profile t ≡ true → 0 < size requester.old.port.shape t }
+        requires types { HasTypes self.old.config requester.old.port.shape }
         ensures { (s : SliceState) × ArrivalVisit self.old self.new line s requester.old requester.new result }
     {
         let place = self.place_of(line);

@@ -4,9 +4,7 @@
 #![tactic(auto)]
 
 mod agreement;
-mod audits;
 mod home;
 mod system;
 
-pub use audits::Audit;
 pub use system::System;

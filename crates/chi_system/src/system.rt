@@ -1,26 +1,26 @@
 //! A node on one thread.
 
-ghost use Rattle.std.specs.Prelude.{◌≡◌, ◌<◌, ◌↔◌, ℕ, All, IfOk, IsTrue, None, OnErr, OnOk, Some, length, nat_lt, slice_set, true};
+ghost use Rattle.std.specs.Prelude.{◌≡◌, ◌<◌, ◌↔◌, All, IfOk, IsTrue, None, OnErr, OnOk, Some, length, nat_lt, slice_set, true};
 ghost use Rattle.std.specs.List.{slice_index_or};
 ghost use Rattle.atomic_table.specs.Seated.{TableId};
 ghost use Rattle.chi_flit.specs.Credit.{credit_number};
 ghost use Rattle.chi_flit.specs.Refusal.{refusal_of};
-ghost use Rattle.chi_tracker.specs.Shape.{size};
 ghost use Rattle.chi_slice.specs.Slice.{SliceState};
 ghost use Rattle.chi_line.specs.LineState.{cells_of};
 ghost use Rattle.chi_line.specs.Refused.{first_of};
 ghost use Rattle.chi_line.specs.View.{shown};
 ghost use Rattle.chi_node.specs.Calls.{is_own_step};
-ghost use Rattle.chi_node.specs.Parts.{is_of_profile};
+ghost use Rattle.chi_node.specs.Parts.{HasTypes};
 ghost use Rattle.chi_node.specs.Requester.{RequesterState, no_requester};
-ghost use Rattle.chi_system.specs.Home.{IsAudited, flits_refusal, last_of, line as line_of_home, view_refusal};
+ghost use Rattle.chi_audit.specs.Audits.{IsAudited};
+ghost use Rattle.chi_system.specs.Home.{flits_refusal, last_of, line as line_of_home, view_refusal};
 ghost use Rattle.chi_system.specs.Credits.{GiveBackTry, Sees, TendTry, typed_refusal};
 ghost use Rattle.chi_system.specs.Visits.{ArrivalVisit, StepVisit};
 ghost use Rattle.chi_system.specs.System.{agent_refusal, arrive_refusal, give_back_refusal, opening_system, step_refusal, tend_refusal, AllAgree, ArriveTry, ArrivesIn, GivesBackIn, IsSystem, SeesIn, StepTry, StepsIn, TendsIn};
 
-use crate::audits::Audit;
 use crate::home::Home;
 use arrayvec::ArrayVec;
+use chi_audit::Audit;
 use chi_flit::{Action, Agent, CreditType, Line, NoMemory, Refusal};
 use chi_node::{Arrived, Requester, Stepped, parts};
 use chi_slice::{Config, LineView};
@@ -288,7 +288,7 @@ fn arrive_at<A: Allocator>(
 ) -> Result<Arrived, Refusal>
     requires agent { agent.0 < length requesters.old }
     requires tables { All (λ r. r.table ≡ tracker.now.table) requesters.old }
-    requires types { All (λ r. (t : ℕ) → t < 4 → is_of_profile home.old.config.profile t ≡ true → 0 < size r.port.shape t) requesters.old }
+    requires types { All (λ r. HasTypes home.old.config r.port.shape) requesters.old }
     ensures { (r : RequesterState) × (requesters.new ≡ slice_set requesters.old agent.0 r) × ((s : SliceState) × ArrivalVisit home.old home.new line s (slice_index_or requesters.old agent.0 no_requester) r result) }
 {
     home.arrive(tracker, &mut requesters[usize::from(agent.0)], line)

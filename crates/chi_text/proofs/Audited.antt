@@ -6,7 +6,7 @@ use Rattle.chi_script.specs.declared.commands.Command.TheVariants.{Act, Arrive, 
 use Rattle.chi_slice.specs.Slice.{SliceState}
 use Rattle.chi_tracker.specs.Views.{PortView}
 use Rattle.chi_reply.specs.Replies.{audit_text}
-use Rattle.chi_system.specs.Home.{loads_in, stores_in}
+use Rattle.chi_audit.specs.Audits.{loads_in, stores_in}
 use Rattle.chi_text.specs.Turns.{Answer, Claimed, Glanced, Judged, Machine, Owed, Saw, Spent, Tended, Went, turn}
 use Rattle.chi_text.specs.Texts.{Allowed, AuditsTell, Made, Plays, Tells, TellsSlices}
 use Rattle.chi_text.proofs.Playing.{made_plays}

@@ -40,7 +40,8 @@ use Rattle.chi_node.specs.Arrives.{Arrives}
 use Rattle.chi_node.specs.Followed.{Completes, Finishes, at_pending, followed}
 use Rattle.chi_node.specs.Calls.{ArrivesAt, arrival_action, is_own_step, place_at}
 use Rattle.chi_script.specs.declared.commands.Command.TheVariants as commands
-use Rattle.chi_system.specs.Home.{HomeState, IsAudited, acted, line, loads_in, slice_of}
+use Rattle.chi_audit.specs.Audits.{IsAudited, loads_in}
+use Rattle.chi_system.specs.Home.{HomeState, acted, line, slice_of}
 use Rattle.chi_system.specs.System.{ArrivesIn, IsSystem, OthersStay, StepsIn, SystemState, arrive_refusal, requester_of, step_refusal}
 use Rattle.chi_reply.specs.Replies.{audit_text, reply_text, totals_text}
 use Rattle.chi_reply.specs.declared.replies.Reply.TheVariants as replies

@@ -10,7 +10,7 @@ use Rattle.chi_slice.specs.Config.{Sizes}
 use Rattle.chi_slice.specs.Slice.{SliceState}
 use Rattle.chi_tracker.specs.Views.{PortView, new_ports}
 use Rattle.chi_tracker.specs.Calls.{shape_of}
-use Rattle.chi_system.specs.Home.{loads_in, stores_in}
+use Rattle.chi_audit.specs.Audits.{loads_in, stores_in}
 use Rattle.chi_text.specs.Ports.{Claims, GivesBack, Owes, Releases, Sees, Spends, Tends}
 use Rattle.chi_text.specs.Turns.{Answer, Call, Claim, Claimed, GiveBack, Glance, Glanced, Judge, Judged, Owe, Owed, Release, See, Saw, Spend, Spent, Tend, Tended, Went, Turn, Asks, Ends, Machine, opening, turn}
 

@@ -35,7 +35,8 @@ use Rattle.chi_node.specs.Requester.{no_requester}
 use Rattle.chi_node.specs.Followed.{followed}
 use Rattle.chi_node.specs.Parts.{is_of_profile}
 use Rattle.chi_node.specs.Calls.{arrival_action, arrival_refusal, is_own_step, is_slot_taken, place_at, wanted_credit}
-use Rattle.chi_system.specs.Home.{HomeState, acted, flits_refusal, last_of, line, loads_in, opening_home, slice_of, stores_in, view_refusal}
+use Rattle.chi_audit.specs.Audits.{loads_in, stores_in}
+use Rattle.chi_system.specs.Home.{HomeState, acted, flits_refusal, last_of, line, opening_home, slice_of, view_refusal}
 use Rattle.chi_reply.specs.Replies.{audit_text, credits_text, flits_text, reply_text, shown_text, totals_text}
 use Rattle.chi_reply.specs.declared.replies.Reply.{Reply}
 use Rattle.chi_reply.specs.declared.replies.Reply.TheVariants as replies

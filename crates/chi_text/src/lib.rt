@@ -6,3 +6,4 @@ mod session;
 mod told;
 
 pub use runs::run;
+pub use told::totals_told;

@@ -63,7 +63,7 @@ pub(crate) fn tend_reply(tended: Result<Option<Released>, Refusal>) -> Reply
 }
 
 /// What is told of a glance: each number under its own name, of a node of the profile.
-pub(crate) fn totals_told(counts: Counts, profile: Profile) -> Totals
+pub fn totals_told(counts: Counts, profile: Profile) -> Totals
     ensures { result ≡ totals_told counts profile }
 {
     let free = counts.free;

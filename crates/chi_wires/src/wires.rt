@@ -57,7 +57,20 @@ impl<A: Allocator> Wires<A> {
         self.cells.len()
     }
 
-    /// What is in flight between the agent and the home for the line, counted from the first of these.
+    /// What is in flight between the agent and the home for the line, counted from the first of these; lent.
+    ///
+    /// Conditions: the agent's number is below 8, and the line below the number of lines.
+    /// Source: `docs/PROTOCOL.md`, "Messages".
+    pub fn get(&self, agent: Agent, line: Line) -> &Cells
+        requires agent { agent.0 < 8 }
+        requires line { line.0 < length self.now }
+        ensures { result.now ≡ flits_at self.now line.0 agent.0 }
+    {
+        let row = &self.cells[usize::from(line.0)];
+        &row[usize::from(agent.0)]
+    }
+
+    /// What is in flight between the agent and the home for the line, as `get` lends it.
     ///
     /// Conditions: the agent's number is below 8, and the line below the number of lines.
     /// Source: `docs/PROTOCOL.md`, "Messages".
@@ -66,8 +79,7 @@ impl<A: Allocator> Wires<A> {
         requires line { line.0 < length self.now }
         ensures { result ≡ flits_at self.now line.0 agent.0 }
     {
-        let row = &self.cells[usize::from(line.0)];
-        row[usize::from(agent.0)]
+        *self.get(agent, line)
     }
 
     /// What is in flight for the line, by agent.

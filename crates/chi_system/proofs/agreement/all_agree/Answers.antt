@@ -1,7 +1,7 @@
 -- One slice after the other is asked.
 use Rattle.std.proofs.Common.{◌≡◌, ◌<◌, All, get_or, length, arith, rules}
 use Rattle.chi_node.specs.Agree.{Agree}
-use Rattle.chi_system.proofs.Agreeing.{all_meet, next_meets}
+use Rattle.chi_slice.proofs.Meets.{all_meet, next_meets}
 use Rattle.chi_system.proofs.agreement.all_agree.Goals as goal
 
 pub loop-slice-preserved : goal.loop-slice-preserved

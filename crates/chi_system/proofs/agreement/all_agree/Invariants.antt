@@ -1,7 +1,7 @@
 -- So far each slice agrees, or not.
 use Rattle.std.specs.Prelude.{All}
 use Rattle.chi_node.specs.Agree.{Agree}
-use Rattle.chi_system.proofs.Agreeing.{MeetBelow}
+use Rattle.chi_slice.proofs.Meets.{MeetBelow}
 use Rattle.chi_system.proofs.agreement.all_agree.Given as goal
 
 abbrev pub invariant-loop-slice : goal.invariant-loop-slice

@@ -1,16 +1,9 @@
 -- A walk that tests one element of a list after the other.
 use Rattle.std.proofs.Common.{◌≡◌, ◌↔◌, ℕ, ◌+◌, ◌<◌, ◌≤◌, List, [], ◌∷◌, ◌++◌, Bool, true, false, ◌&&◌, All, get_or, take, length, refl, sym, subst, arith, length-append}
 use Rattle.std.specs.Prelude.{IsTrue}
+use Rattle.std.proofs.lemmas.Bool.{and_from, and_parts}
 use Rattle.std.proofs.lemmas.List.{get_or_append_left, get_or_push, take_all, take_more}
 use Rattle.std.proofs.lemmas.List.Elements.{All-nil, All-push}
-
-pub both_true : (a b : Bool) → IsTrue (a && b) → IsTrue a × IsTrue b
-both_true true b h = (refl, h)
-both_true false b h = absurd (cc (h))
-
-pub and_true : (a b : Bool) → IsTrue a → IsTrue b → IsTrue (a && b)
-and_true true b h g = g
-and_true false b h g = absurd (cc (h))
 
 -- all of a list and one more
 pub all_parts : {X : Type 0} (P : X → Type 0) (xs : List X) (x : X) → All P (xs ++ x ∷ []) → All P xs × P x
@@ -27,8 +20,8 @@ pub next_meets : {X : Type 0} (P : X → Type 0) (xs : List X) (n : ℕ) (x : X)
 next_meets P xs n x found here so_far low is verdict =
     let more = take_more xs n x low in
     let own : IsTrue here ↔ P (get_or xs n x) = subst (λ z. IsTrue here ↔ P z) is verdict in (
-      λ t. let both = both_true found here t in subst (All P) (sym more) (All-push P (take n xs) (get_or xs n x) (so_far.0 both.0) (own.0 both.1)),
-      λ all. let both = all_parts P (take n xs) (get_or xs n x) (subst (All P) more all) in and_true found here (so_far.1 both.0) (own.1 both.1),
+      λ t. let both = and_parts found here t in subst (All P) (sym more) (All-push P (take n xs) (get_or xs n x) (so_far.0 both.0) (own.0 both.1)),
+      λ all. let both = all_parts P (take n xs) (get_or xs n x) (subst (All P) more all) in and_from found here (so_far.1 both.0) (own.1 both.1),
     )
 
 pub all_meet : {X : Type 0} (P : X → Type 0) (xs : List X) (n : ℕ) (found : Bool) → MeetBelow P xs n found → length xs ≤ n → IsTrue found ↔ All P xs

@@ -4,8 +4,8 @@ use Rattle.std.specs.Prelude.{IsTrue}
 use Rattle.chi_audit.specs.Slices.{IsCoherentSlice}
 use Rattle.chi_journal.specs.Journal.{loads_of, stores_of}
 use Rattle.chi_slice.specs.Slice.{SliceState}
-use Rattle.chi_system.proofs.Audited.{next_audited}
-use Rattle.chi_system.proofs.audits.audit_of.Goals as goal
+use Rattle.chi_audit.proofs.Audited.{next_audited}
+use Rattle.chi_audit.proofs.audits.audit_of.Goals as goal
 
 pub loop-slice-preserved : goal.loop-slice-preserved
 loop-slice-preserved g c =

@@ -1,8 +1,8 @@
 -- One requester after the other is asked.
 use Rattle.std.proofs.Common.{◌≡◌, ◌<◌, get_or, length, arith, rules}
 use Rattle.chi_node.specs.Agree.{Agree}
-use Rattle.chi_system.proofs.Agreeing.{all_meet, next_meets}
-use Rattle.chi_system.proofs.agreement.agree_with.Goals as goal
+use Rattle.chi_slice.proofs.Meets.{all_meet, next_meets}
+use Rattle.chi_node.proofs.agree.agree_with.Goals as goal
 
 pub loop-requester-preserved : goal.loop-requester-preserved
 loop-requester-preserved g c =

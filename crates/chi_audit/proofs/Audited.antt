@@ -1,14 +1,15 @@
 -- What an audit finds of slices, one slice more at a time.
 use Rattle.std.proofs.Common.{◌≡◌, ◌↔◌, ℕ, ◌+◌, ◌*◌, ◌<◌, ◌≤◌, List, Bool, true, ◌&&◌, All, get_or, take, length, refl, sym, ◌∙◌, ap, subst, arith}
 use Rattle.std.specs.Prelude.{IsTrue}
+use Rattle.std.proofs.lemmas.Bool.{and_from, and_parts}
 use Rattle.std.proofs.lemmas.List.{take_all, take_more}
 use Rattle.std.proofs.lemmas.List.Elements.{All-nil, All-push}
 use Rattle.std.proofs.lemmas.List.Sums.{sum_by_more}
 use Rattle.chi_audit.specs.Slices.{IsCoherentSlice}
 use Rattle.chi_journal.specs.Journal.{loads_of, stores_of}
 use Rattle.chi_slice.specs.Slice.{SliceState}
-use Rattle.chi_system.proofs.Agreeing.{all_parts, and_true, both_true}
-use Rattle.chi_system.specs.Home.{IsAudited, loads_in, stores_in}
+use Rattle.chi_slice.proofs.Meets.{all_parts}
+use Rattle.chi_audit.specs.Audits.{IsAudited, loads_in, stores_in}
 
 -- of the first n slices, each of whose journals has fewer loads and stores than 2 ^ 32
 pub record AuditedBelow (slices : List SliceState) (n loads stores : ℕ) (coherent : Bool) : Type 0 where
@@ -33,8 +34,8 @@ next_audited slices n loads stores l s coherent here d k low l_is l_few s_is s_f
         loads = ap (λ m. m + l) k.found.loads ∙ (ap (λ m. loads_in (take n slices) + m) l_is ∙ sym (sum_by_more (λ (x : SliceState). loads_of x.journal.entries) slices n d low));
         stores = ap (λ m. m + s) k.found.stores ∙ (ap (λ m. stores_in (take n slices) + m) s_is ∙ sym (sum_by_more (λ (x : SliceState). stores_of x.journal.entries) slices n d low));
         coherent = (
-          λ t. let both = both_true coherent here t in subst (All IsCoherentSlice) (sym more) (All-push IsCoherentSlice (take n slices) (get_or slices n d) (k.found.coherent.0 both.0) (verdict.0 both.1)),
-          λ all. let both = all_parts IsCoherentSlice (take n slices) (get_or slices n d) (subst (All IsCoherentSlice) more all) in and_true coherent here (k.found.coherent.1 both.0) (verdict.1 both.1),
+          λ t. let both = and_parts coherent here t in subst (All IsCoherentSlice) (sym more) (All-push IsCoherentSlice (take n slices) (get_or slices n d) (k.found.coherent.0 both.0) (verdict.0 both.1)),
+          λ all. let both = all_parts IsCoherentSlice (take n slices) (get_or slices n d) (subst (All IsCoherentSlice) more all) in and_from coherent here (k.found.coherent.1 both.0) (verdict.1 both.1),
         );
       };
       few_loads = omega (arith, k.few_loads, l_few);

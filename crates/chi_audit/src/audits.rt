@@ -1,9 +1,9 @@
 //! What an audit finds.
 
 ghost use Rattle.std.specs.Prelude.{◌≤◌, length};
-ghost use Rattle.chi_system.specs.Home.{IsAudited};
+ghost use Rattle.chi_audit.specs.Audits.{IsAudited};
 
-use chi_audit::check_slice;
+use crate::slices::check_slice;
 use chi_slice::Slice;
 use std::alloc::Allocator;
 
@@ -18,7 +18,9 @@ pub struct Audit {
 }
 
 /// How many loads and stores the journals of slices have together, and whether each slice is coherent.
-pub(crate) fn audit_of<A: Allocator>(slices: &[Slice<A>]) -> Audit
+/// Takes no memory.
+/// Source: `docs/PROTOCOL.md`, "Replay files".
+pub fn audit_of<A: Allocator>(slices: &[Slice<A>]) -> Audit
     requires { length slices.now ≤ 64 }
     ensures { IsAudited slices.now result.loads result.stores result.coherent }
 {
