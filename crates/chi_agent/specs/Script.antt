@@ -1,0 +1,14 @@
+-- A script, and whose it is (docs/PROTOCOL.md, "A turn").
+use Rattle.std.specs.Prelude.{List, All}
+use Rattle.atomic_table.specs.Seated.{TableId}
+use Rattle.chi_flit.specs.declared.operation.Operation.{Operation}
+use Rattle.chi_tallies.specs.Tallies.{WriterState, IsFresh}
+
+-- what an agent is to do, and the writer of its tallies
+pub record ScriptState : Type 0 where
+  pub operations : List Operation
+  pub writer : WriterState
+
+-- the writers of the scripts are of these tallies, and have stored nothing
+abbrev pub AreFresh : List TableId → List ScriptState → Type 0
+AreFresh cells scripts = All (λ s. IsFresh cells s.writer) scripts

@@ -1,0 +1,13 @@
+-- So far the scripts of the first writers, and the writers of the others.
+use Rattle.std.proofs.Common.{◌≡◌, ◌+◌, All, length}
+use Rattle.chi_tallies.specs.Tallies.{IsFresh}
+use Rattle.chi_agent.specs.Script.{AreFresh}
+use Rattle.chi_agent_trials.proofs.bench.scripts_of.Given as goal
+
+abbrev pub invariant-loop-operations : goal.invariant-loop-operations
+invariant-loop-operations g l = record {
+  fresh : AreFresh l.fn.tallies l.scripts.items;
+  new : All (IsFresh l.fn.tallies) l.writers.items;
+  left : length l.writers.items + l.operations-index ≡ length l.fn.all;
+  made : length l.scripts.items ≡ l.operations-index;
+}

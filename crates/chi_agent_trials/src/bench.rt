@@ -1,0 +1,101 @@
+//! What the tests share: the scripts of agents, with the writers of their tallies.
+
+ghost use Rattle.std.specs.Prelude.{◌≡◌, ◌≤◌, All, length, map, vec_len};
+ghost use Rattle.chi_tallies.specs.Tallies.{cell_of, IsFresh};
+ghost use Rattle.chi_agent.specs.Script.{AreFresh};
+
+use chi_agent::Script;
+use chi_flit::{Line, Operation, Task, WordNo};
+use chi_tallies::{Tallies, Watcher, Writer, open_tallies};
+use std::alloc::Global;
+use std::process::Abort;
+
+/// An operation on a line.
+pub fn on(line: u8, task: Task) -> Operation {
+    Operation {
+        line: Line(line),
+        task,
+    }
+}
+
+/// What agent `own` of eight does: it stores to its line and writes it back, and loads and drops the next.
+fn neighbours(own: u8, next: u8) -> [Operation; 4] {
+    let value = u64::from(own).saturating_add(1);
+    [
+        on(own, Task::Store(WordNo(0), value)),
+        on(own, Task::WriteBack),
+        on(next, Task::Load(WordNo(0))),
+        on(next, Task::Drop),
+    ]
+}
+
+/// The scripts of eight agents.
+pub fn eight_scripts() -> [[Operation; 4]; 8] {
+    [
+        neighbours(0, 1),
+        neighbours(1, 2),
+        neighbours(2, 3),
+        neighbours(3, 4),
+        neighbours(4, 5),
+        neighbours(5, 6),
+        neighbours(6, 7),
+        neighbours(7, 0),
+    ]
+}
+
+/// A script of these operations.
+fn script_of(
+    rt: &impl Abort,
+    alloc: Global,
+    operations: &[Operation],
+    writer: Writer,
+) -> Script<Global>
+    ensures { result.writer ≡ writer }
+{
+    let mut list = Vec::new(alloc);
+    for operation in operations {
+        list.push(*operation).expect(rt, "memory for a script");
+    }
+    Script::new(list, writer)
+}
+
+/// A script for each writer.
+fn scripts_of<const N: usize>(
+    rt: &impl Abort,
+    alloc: Global,
+    tallies: &Tallies,
+    all: &[[Operation; N]],
+    mut writers: Vec<Writer>,
+) -> Vec<Script<Global>>
+    requires fresh { All (IsFresh tallies.now) writers.items }
+    requires count { length writers.items ≡ length all.now }
+    ensures fresh { AreFresh tallies.now result.items }
+    ensures count { vec_len result ≡ length all.now }
+{
+    let mut scripts = Vec::new(alloc);
+    for operations in all {
+        let script = script_of(rt, alloc, operations, writers.remove(0));
+        scripts.push(script).expect(rt, "memory for scripts");
+    }
+    scripts
+}
+
+/// Cells for tallies, the scripts with their writers, and who reads them.
+#[tactic(auto, using(crate::proofs::Scripts::as_many))]
+pub fn opened<const N: usize>(
+    rt: &impl Abort,
+    alloc: Global,
+    agents: u8,
+    all: &[[Operation; N]],
+) -> (Tallies, Vec<Script<Global>>, Watcher)
+    requires { length all.now ≡ agents }
+    ensures fresh { AreFresh result.0 result.1.items }
+    ensures count { vec_len result.1 ≡ agents }
+    ensures cells { length result.0 ≡ agents }
+    ensures watched { map cell_of result.2 ≡ result.0 }
+{
+    let made = open_tallies(alloc, agents);
+    let (tallies, writers, watcher) = made.expect(rt, "memory for tallies");
+    let scripts = scripts_of(rt, alloc, &tallies, all, writers);
+    (tallies, scripts, watcher)
+}

@@ -1,0 +1,124 @@
+//! A tally that is read while its agent is held at a gate.
+
+ghost use Rattle.std.specs.Prelude.{◌≡◌, ◌<◌, length, map, vec_len};
+ghost use Rattle.chi_slice.specs.Config.{two_types};
+ghost use Rattle.chi_home.specs.Node.{AreOwn};
+ghost use Rattle.chi_tallies.specs.Tallies.{cell_of};
+ghost use Rattle.chi_agent.specs.Script.{AreFresh};
+
+use crate::bench::{on, opened};
+use arrayvec::ArrayVec;
+use chi_agent::{Gate, Script, run_agents};
+use chi_flit::{Agent, Task, WordNo};
+use chi_home::Node;
+use chi_node::Requester;
+use chi_slice::Config;
+use chi_tallies::{Tallies, Tally, Watcher};
+use std::alloc::Global;
+use std::process::Abort;
+use std::sync::Wait;
+use std::sync::atomic::{AtomicBool, Ordering};
+use std::thread;
+use std::thread::Threads;
+use std::time::Clock;
+
+/// Holds an agent at its third turn until it is opened.
+#[derive(Drop)]
+struct Hold {
+    open: AtomicBool,
+}
+
+impl Gate for Hold {
+    fn pass(&self, _agent: Agent, turn: u64) {
+        if turn != 3 {
+            return;
+        }
+        for _ in 0..100_000_000u32 {
+            if self.open.load(Ordering::SeqCst) {
+                return;
+            }
+            thread::yield_now();
+        }
+    }
+}
+
+/// One requester and one line, with an entry of each of two types.
+fn sizes(rt: &impl Abort) -> Config
+    ensures { result ≡ two_types 1 1 1 1 1 4 }
+{
+    Config::new(1, 1, 1, 1, 1, 4).expect(rt, "sizes in their limits")
+}
+
+/// Reads the tally until the agent did two turns, and opens the gate.
+fn reads<R: Wait>(rt: &R, tallies: &Tallies, watcher: &mut Watcher, gate: &Hold) -> Tally
+    requires cells { map cell_of watcher.old ≡ tallies.now }
+    requires some { 0 < length tallies.now }
+{
+    let mut tally = Tally::default();
+    for _ in 0..100_000_000u32 {
+        tally = watcher.read(rt, tallies, 0);
+        if tally.turns >= 2 {
+            break;
+        }
+    }
+    gate.open.store(true, Ordering::SeqCst);
+    tally
+}
+
+/// Whether the agents ran, and the tally that was read meanwhile.
+fn runs_and_reads<R: Threads + Wait + Clock + Sync>(
+    rt: &R,
+    alloc: Global,
+    node: &Node<Global>,
+    tallies: &Tallies,
+    requesters: ArrayVec<Requester, 8>,
+    scripts: Vec<Script<Global>>,
+    watcher: Watcher,
+    gate: &Hold,
+) -> (bool, Tally)
+    requires own { AreOwn node.now requesters.items }
+    requires count { vec_len scripts ≡ node.now.tracker.shape.agents }
+    requires fresh { AreFresh tallies.now scripts.items }
+    requires cells { map cell_of watcher ≡ tallies.now }
+    requires some { 0 < length tallies.now }
+{
+    thread::join(
+        rt,
+        move || -> bool
+            requires own { AreOwn node.now requesters.items }
+            requires count { vec_len scripts ≡ node.now.tracker.shape.agents }
+            requires fresh { AreFresh tallies.now scripts.items }
+        {
+            let ran = run_agents(
+                rt, alloc, node, tallies, requesters, scripts, 1, 100_000, gate,
+            );
+            ran.is_ok()
+        },
+        move || -> Tally
+            requires cells { map cell_of watcher ≡ tallies.now }
+            requires some { 0 < length tallies.now }
+        {
+            let mut watcher = watcher;
+            reads(rt, tallies, &mut watcher, gate)
+        },
+    )
+}
+
+#[test]
+fn tally_read_while_held(rt: HostRuntime) {
+    let made = Node::new(rt.alloc(), &sizes(&rt));
+    let (node, requesters) = made.expect(&rt, "memory for a node");
+    let all = [[on(0, Task::Load(WordNo(0)))]];
+    let (tallies, scripts, watcher) = opened(&rt, rt.alloc(), 1, &all);
+    let gate = Hold {
+        open: AtomicBool::new(false),
+    };
+    let alloc = rt.alloc();
+    let (ran, tally) = runs_and_reads(
+        &rt, alloc, &node, &tallies, requesters, scripts, watcher, &gate,
+    );
+    assert!(rt; ran);
+    assert_eq!(rt; tally.turns, 2);
+    assert_eq!(rt; tally.loads, 0);
+    assert_eq!(rt; tally.stores, 0);
+}

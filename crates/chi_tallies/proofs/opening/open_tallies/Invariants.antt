@@ -1,0 +1,11 @@
+use Rattle.std.proofs.Common.{◌≡◌, length, map}
+use Rattle.std.specs.Prelude.{All}
+use Rattle.chi_tallies.specs.Tallies.{agent_of, numbers, unread, IsFresh}
+use Rattle.chi_tallies.proofs.opening.open_tallies.Given as goal
+
+abbrev pub invariant-loop-agent : goal.invariant-loop-agent
+invariant-loop-agent l =
+    (length l.cells.items ≡ l.agent)
+    × All (IsFresh (map (λ c. c.table.shared.table_id) l.cells.items)) l.writers.items
+    × (map agent_of l.writers.items ≡ numbers l.agent)
+    × (l.readers.items ≡ map unread (map (λ c. c.table.shared.table_id) l.cells.items))
