@@ -1,38 +1,76 @@
 -- What the words of a command line ask for, as clap reads them (docs/PROTOCOL.md, "The program").
-use Rattle.std.specs.Prelude.{◌≡◌, List, [], ◌∷◌, true, Option, Some, None, Result, Ok, Err, codes, if◌then◌else◌}
-use Rattle.std.specs.Option.{option_and_then}
+use Rattle.std.specs.Prelude.{◌≡◌, ℕ, List, [], ◌∷◌, true, Option, Some, None, Result, Ok, Err, codes, if◌then◌else◌}
+use Rattle.std.specs.Option.{option_and_then, option_map}
 use Rattle.std.specs.Str.{bytes_eq}
-use Rattle.clap.specs.Words.{App, Kinds, Row, Text, fault_of, first_of, new_app, new_rule, subcommand_of, with_rule, with_subcommand}
+use Rattle.clap.specs.Words.{App, Kinds, Row, Rule, Text, fault_of, first_of, new_app, new_rule, subcommand_of, with_rule, with_subcommand}
 use Rattle.clap.specs.Simple.{on_top}
 use Rattle.clap.specs.declared.builder.action.ArgAction.TheVariants.{Set}
+use Rattle.chi_script.specs.Words.{◌>>=◌}
+use Rattle.chi_arguments.specs.Options.{seed_of, turns_of}
 use Rattle.chi_arguments.specs.declared.faults.ArgFault.{ArgFault}
 use Rattle.chi_arguments.specs.declared.faults.ArgFault.TheVariants.{Bad, NoMemory}
 use Rattle.chi_arguments.specs.declared.jobs.Job.{Job}
-use Rattle.chi_arguments.specs.declared.jobs.Job.TheVariants.{Replay}
+use Rattle.chi_arguments.specs.declared.jobs.Job.TheVariants.{Replay, Storm}
 
--- `replay FILE`: the file is one word, and has to be there
+-- FILE: the file is one word, and has to be there
+abbrev pub file_rule : Rule
+file_rule = record (new_rule (codes "FILE")) { required = true; action = Some Set }
+
+-- --NAME VALUE: the option stands once at most
+abbrev pub option_rule : Text → Rule
+option_rule name = record (new_rule name) { long = Some name; action = Some Set }
+
+-- `replay FILE`
 abbrev pub replay_line : App
-replay_line = with_rule (new_app (codes "replay")) (record (new_rule (codes "FILE")) { required = true; action = Some Set })
+replay_line = with_rule (new_app (codes "replay")) file_rule
 
--- the program's command lines: `replay FILE`, and no other
+-- `storm FILE [--seed N] [--turns N]`
+abbrev pub storm_line : App
+storm_line = with_rule (with_rule (with_rule (new_app (codes "storm")) file_rule) (option_rule (codes "seed"))) (option_rule (codes "turns"))
+
+-- the program's command lines: these two, and no other
 abbrev pub command_lines : App
-command_lines = with_subcommand (on_top (λ s. record s { subcommand_required = true }) (new_app (codes "chihome"))) replay_line.top
+command_lines = with_subcommand (with_subcommand (on_top (λ s. record s { subcommand_required = true }) (new_app (codes "chihome"))) replay_line.top) storm_line.top
 
--- the path that stands behind `replay`
-abbrev pub path_behind : Text × List Row → Option Text
-path_behind (name, rows) = if bytes_eq name (codes "replay") then first_of (codes "FILE") rows else None
+-- what a command line asks for: the replay of a file, or a storm with its seed and its turns
+pub data Asked : Type 0 where
+  replay : Text → Asked
+  storm : Text → ℕ → ℕ → Asked
+
+-- behind `replay` stands the path
+abbrev pub replay_in : List Row → Option Asked
+replay_in rows = option_map replay (first_of (codes "FILE") rows)
+
+-- behind `storm` stand the path and the options
+abbrev pub storm_in : List Row → Option Asked
+storm_in rows = do
+  path ← first_of (codes "FILE") rows
+  seed ← seed_of (first_of (codes "seed") rows)
+  turns ← turns_of (first_of (codes "turns") rows)
+  Some (storm path seed turns)
+
+-- what a subcommand and what stands behind it ask for
+abbrev pub asked_behind : Text × List Row → Option Asked
+asked_behind (name, rows) =
+    if bytes_eq name (codes "replay") then replay_in rows else (
+    if bytes_eq name (codes "storm") then storm_in rows else None)
 
 -- the same, where the words have no fault
-abbrev pub path_if : Kinds → Option (Text × List Row) → Option Text
-path_if [] found = option_and_then path_behind found
-path_if (kind ∷ kinds) found = None
+abbrev pub asked_if : Kinds → Option (Text × List Row) → Option Asked
+asked_if [] found = option_and_then asked_behind found
+asked_if (kind ∷ kinds) found = None
 
--- the path of the file to be replayed, where the words are such a command line
-abbrev pub path_in : List Text → Option Text
-path_in words = path_if (fault_of command_lines words) (subcommand_of command_lines words)
+-- what the words ask for, where they are a command line of the program
+abbrev pub asked_in : List Text → Option Asked
+asked_in words = asked_if (fault_of command_lines words) (subcommand_of command_lines words)
 
--- the job has this path, and the words are bad where there is none; memory may run out at any words
-abbrev pub Asks : Option Text → Result Job ArgFault → Type 0
-Asks path (Ok (Replay file)) = path ≡ Some file.now
-Asks path (Err Bad) = path ≡ None
-Asks path (Err NoMemory) = Unit {0}
+-- a job, with its path as text
+abbrev pub asked_by : Job → Asked
+asked_by (Replay path) = replay path.now
+asked_by (Storm path seed turns) = storm path.now seed turns
+
+-- the job is what was asked for, and the words are bad where nothing is; memory may run out at any words
+abbrev pub Asks : Option Asked → Result Job ArgFault → Type 0
+Asks asked (Ok job) = asked ≡ Some (asked_by job)
+Asks asked (Err Bad) = asked ≡ None
+Asks asked (Err NoMemory) = Unit {0}

@@ -1,11 +1,12 @@
 //! What the program is asked to do.
 
-ghost use Rattle.std.specs.Prelude.{◌≡◌, IfOk, codes, map};
-ghost use Rattle.std.specs.Option.{option_and_then};
-ghost use Rattle.clap.specs.Words.{app_of, first_value, found_of, subcommand_rows_of};
-ghost use Rattle.chi_arguments.specs.CommandLines.{Asks, command_lines, path_behind, path_in};
+ghost use Rattle.std.specs.Prelude.{◌≡◌, IfOk, false, map};
+ghost use Rattle.std.specs.Option.{option_and_then, option_map};
+ghost use Rattle.clap.specs.Words.{app_of, first_of, found_of, rows_of, rule_of, subcommand_rows_of};
+ghost use Rattle.chi_arguments.specs.CommandLines.{Asks, asked_behind, asked_by, asked_in, command_lines, file_rule, option_rule, replay_in, storm_in};
 
 use crate::faults::ArgFault;
+use crate::options::{seed, turns};
 use clap::{Arg, ArgAction, ArgMatches, Command};
 use std::alloc::{AllocError, Global};
 
@@ -15,15 +16,25 @@ use std::alloc::{AllocError, Global};
 pub enum Job<'a> {
     /// `replay FILE`: runs the commands of the file at this path.
     Replay(&'a str),
+    /// `storm FILE [--seed N] [--turns N]`: runs the scripts of the file at this path in threads.
+    Storm {
+        path: &'a str,
+        /// What the agents' draws are made from; 1 where it isn't given.
+        seed: u64,
+        /// How many turns an agent takes at most, from 1 to 4,000,000,000; 10,000,000 where it isn't
+        /// given.
+        turns: u64,
+    },
 }
 
 /// What the words of a command line ask for; the first word is the program's own name.
 ///
-/// `Bad` where they are no command line of the program, and where they ask for help; `NoMemory` where
-/// memory runs out.
+/// `Bad` where they are no command line of the program, as where an option stands twice or its number
+/// is out of range or written otherwise than in a replay file, and where they ask for help; `NoMemory`
+/// where memory runs out.
 /// Source: `docs/PROTOCOL.md`, "The program".
 pub fn arguments<'a>(alloc: Global, words: &'a [&'a str]) -> Result<Job<'a>, ArgFault>
-    ensures { Asks (path_in (map (λ word. word.now) words.entry.now)) result }
+    ensures { Asks (asked_in (map (λ word. word.now) words.entry.now)) result }
 {
     let matches = command_line(alloc)?.try_get_matches_from(words)?;
     read_job(&matches)
@@ -32,36 +43,83 @@ pub fn arguments<'a>(alloc: Global, words: &'a [&'a str]) -> Result<Job<'a>, Arg
 /// The subcommand that replays a file.
 const REPLAY: &str = "replay";
 
+/// The subcommand that runs a storm.
+const STORM: &str = "storm";
+
 /// The argument that is a file's path.
 const FILE: &str = "FILE";
+
+/// The option that is a storm's seed.
+const SEED: &str = "seed";
+
+/// The option that says how many turns an agent takes at most.
+const TURNS: &str = "turns";
 
 /// The command lines of the program.
 fn command_line<'a>(alloc: Global) -> Result<Command<'a>, AllocError>
     ensures { IfOk result (λ command. app_of command ≡ command_lines) }
 {
-    let file = Arg::new(alloc, FILE).required(true).action(ArgAction::Set);
-    let replay = Command::new(alloc, REPLAY).arg(file)?;
+    let replay = Command::new(alloc, REPLAY).arg(file(alloc))?;
+    let storm = Command::new(alloc, STORM)
+        .arg(file(alloc))?
+        .arg(option(alloc, SEED))?
+        .arg(option(alloc, TURNS))?;
     Command::new(alloc, "chihome")
         .subcommand_required(true)
-        .subcommand(replay)
+        .subcommand(replay)?
+        .subcommand(storm)
+}
+
+/// The path of a file, which has to be given.
+fn file<'a>(alloc: Global) -> Arg<'a>
+    ensures rule { rule_of result ≡ file_rule }
+    ensures local { result.global ≡ false }
+{
+    Arg::new(alloc, FILE).required(true).action(ArgAction::Set)
+}
+
+/// An option of this name, which has one value where it is given.
+fn option<'a>(alloc: Global, name: &'a str) -> Arg<'a>
+    ensures rule { rule_of result ≡ option_rule name.entry.now }
+    ensures local { result.global ≡ false }
+{
+    Arg::new(alloc, name).long(name).action(ArgAction::Set)
 }
 
 /// The job of the subcommand that was read.
 fn read_job<'a>(matches: &ArgMatches<'a>) -> Result<Job<'a>, ArgFault>
-    ensures { Asks (option_and_then path_behind (subcommand_rows_of matches.now)) result }
+    ensures { Asks (option_and_then asked_behind (subcommand_rows_of matches.now)) result }
 {
     match matches.subcommand() {
         Some((REPLAY, replay)) => read_replay(replay),
+        Some((STORM, storm)) => read_storm(storm).ok_or(ArgFault::Bad),
         _ => Err(ArgFault::Bad),
     }
 }
 
 /// The job of `replay FILE`.
 fn read_replay<'a>(matches: &ArgMatches<'a>) -> Result<Job<'a>, ArgFault>
-    ensures { Asks (first_value (found_of matches.now) (codes "FILE")) result }
+    ensures { Asks (replay_in (rows_of (found_of matches.now))) result }
 {
-    match matches.get_str(FILE) {
+    match text_of(matches, FILE) {
         Some(path) => Ok(Job::Replay(path)),
         None => Err(ArgFault::Bad),
     }
+}
+
+/// The job of `storm FILE` and its options.
+fn read_storm<'a>(matches: &ArgMatches<'a>) -> Option<Job<'a>>
+    ensures { option_map asked_by result ≡ storm_in (rows_of (found_of matches.now)) }
+{
+    let path = text_of(matches, FILE)?;
+    let seed = seed(text_of(matches, SEED))?;
+    let turns = turns(text_of(matches, TURNS))?;
+    Some(Job::Storm { path, seed, turns })
+}
+
+/// The first text that was found for this name.
+fn text_of<'a>(matches: &ArgMatches<'a>, name: &str) -> Option<&'a str>
+    ensures { option_map (λ text. text.now) result ≡ first_of name.now (rows_of (found_of matches.now)) }
+{
+    matches.get_str(name)
 }

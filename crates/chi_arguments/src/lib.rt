@@ -5,6 +5,7 @@
 
 mod faults;
 mod jobs;
+mod options;
 
 pub use faults::ArgFault;
 pub use jobs::{Job, arguments};

@@ -71,8 +71,10 @@ fn read_commands<A: Allocator + Copy>(alloc: A, bytes: &[u8]) -> Result<Vec<Comm
     }
 }
 
-/// The header that a line is.
-fn header_in<A: Allocator>(alloc: A, line: &[u8]) -> Result<Header, Fault>
+/// The header that a line is, which is given without its line end. `BadHeader` where it is none within
+/// the limits, and `NoMemory` where memory runs out.
+/// Source: `docs/PROTOCOL.md`, "Replay files" and "Limits".
+pub fn header_in<A: Allocator>(alloc: A, line: &[u8]) -> Result<Header, Fault>
     ensures read { Gives (λ header. header) result (header_at line.now) }
     ensures kept { IfOk result (λ header. is_in_limits header ≡ true) }
 {
@@ -94,7 +96,8 @@ fn command_in<'a, A: Allocator>(
 }
 
 /// The bytes before the first line end, and those after it. `None` where there is no line end.
-fn first_line(bytes: &[u8]) -> Option<(&[u8], &[u8])>
+/// Source: `docs/PROTOCOL.md`, "Bytes, lines and numbers".
+pub fn first_line(bytes: &[u8]) -> Option<(&[u8], &[u8])>
     ensures some { IfSome result (λ parts. (lines_of bytes.now ≡ parts.0.now ∷ lines_of parts.1.now) × (length parts.1.now < length bytes.now)) }
     ensures none { IfNone result (lines_of bytes.now ≡ bytes.now ∷ []) }
 {

@@ -19,6 +19,7 @@ pub fn read_words<'a, A: Allocator>(
 }
 
 /// Whether a word is just this text.
+/// Source: `docs/PROTOCOL.md`, "Bytes, lines and numbers".
 pub fn is(word: &[u8], text: &str) -> bool
     ensures { result ≡ is_text word.now text.now }
 {

@@ -1,0 +1,198 @@
+-- A storm file is read from the one text of its header and its operations, and from that alone.
+use Rattle.std.proofs.Common.{◌≡◌, ℕ, ◌+◌, ◌<◌, ◌≤◌, ◌==◌, nat_lt, Bool, true, false, cond, List, [], ◌∷◌, ◌++◌, length, map, get_or, Option, Some, None, Result, Ok, Err, refl, sym, ap, subst, ◌∙◌, arith}
+use Rattle.std.specs.List.{All, join_with_byte}
+use Rattle.std.specs.Fmt.{decimal}
+use Rattle.std.proofs.lemmas.Bool.Decides.{nat_tests}
+use Rattle.std.proofs.lemmas.List.Elements.{All-nil, All-cons, All-head, All-tail}
+use Rattle.std.proofs.lemmas.List.Splits.{join_with_byte-slice_split}
+use Rattle.chi_flit.specs.declared.credit.Profile.{Profile}
+use Rattle.chi_flit.specs.declared.credit.Profile.TheVariants.{Two, Four}
+use Rattle.chi_flit.specs.declared.operation.Task.{Task}
+use Rattle.chi_flit.specs.declared.operation.Task.TheVariants.{Load, Share, Store, WriteBack, WriteClean, WriteEvict, Evict, Drop}
+use Rattle.chi_script.specs.declared.faults.Fault.{Fault}
+use Rattle.chi_script.specs.declared.faults.Fault.TheVariants.{BadHeader, BadCommand, MissingNewline, TooLarge}
+use Rattle.chi_script.specs.declared.headers.Header.{Header}
+use Rattle.chi_script.specs.Files.{◌>>=◌, or_fault, lines_of, header_at}
+use Rattle.chi_script.specs.Headers.{is_in_limits, IsInLimits}
+use Rattle.chi_script.specs.Spelling.{header_words, type_words}
+use Rattle.chi_script.specs.Words.{words_of}
+use Rattle.chi_script.proofs.HeaderLemmas.{header_line, header_line_again}
+use Rattle.chi_script.proofs.LimitLemmas.{each_few, limits_of}
+use Rattle.chi_script.proofs.LineLemmas.{parts_of}
+use Rattle.chi_storm_script.specs.declared.operations.Deed.{Deed}
+use Rattle.chi_storm_script.specs.Operations.{deed_of}
+use Rattle.chi_storm_script.specs.Spelling.{IsInRange, IsTaskInRange, IsStormFile, closed, deed_line, deed_words, storm_text, words_behind, verb_of}
+use Rattle.chi_storm_script.specs.Storms.{deed_at, deeds_of, storm_in, storm_of}
+use Rattle.chi_storm_script.proofs.LineEndLemmas.{no_end, no_ends, next_line, closed_again, decimal_no_end, line_plain}
+use Rattle.chi_storm_script.proofs.OperationLemmas.{line_read, line_again}
+use Rattle.chi_storm_script.proofs.StormLemmas.{good}
+
+bound : {A B : Type 0} (step : Result A Fault) (next : A → Result B Fault) (y : B) → (step >>= next) ≡ Ok y → (x : A) × (step ≡ Ok x) × (next x ≡ Ok y)
+bound (Ok x) next y e = (x, refl, e)
+bound (Err fault) next y e = cc
+
+found : {A : Type 0} (o : Option A) (fault : Fault) (x : A) → or_fault o fault ≡ Ok x → o ≡ Some x
+found None fault x e = cc
+found (Some y) fault x e = let same : y ≡ x = cc in ap Some same
+
+-- behind the last line end stands nothing
+last_read : (b : Bool) (n : ℕ) (deeds : List Deed) → cond b (Ok []) (Err (MissingNewline n)) ≡ Ok deeds → (b ≡ true) × ([] ≡ deeds)
+last_read true n deeds e = let same : [] ≡ deeds = cc in (refl, same)
+last_read false n deeds e = cc
+
+is_empty : (last : List ℕ) → (length last == 0) ≡ true → last ≡ []
+is_empty [] e = refl
+is_empty (b ∷ bs) e = absurd (let no : 1 ≤ 0 = grind (arith, nat_tests) in omega (arith, no))
+
+-- what lines that are read as operations are
+record AreRead (header : Header) (deeds : List Deed) (lines : List (List ℕ)) : Type 0 where
+  ranges : All (IsInRange header) deeds
+  text : join_with_byte 10 lines ≡ closed (map deed_line deeds)
+
+none_read : (header : Header) (last : List ℕ) (deeds : List Deed) → last ≡ [] → [] ≡ deeds → AreRead header deeds (last ∷ [])
+none_read header last deeds empty none = subst (λ (ds : List Deed). AreRead header ds (last ∷ [])) none (record { ranges = All-nil (IsInRange header); text = empty })
+
+one_more : (header : Header) (deed : Deed) (deeds all : List Deed) (line next : List ℕ) (rest : List (List ℕ)) → IsInRange header deed → line ≡ deed_line deed → AreRead header deeds (next ∷ rest) → deed ∷ deeds ≡ all → AreRead header all (line ∷ next ∷ rest)
+one_more header deed deeds all line next rest ranges is before same =
+    subst (λ (ds : List Deed). AreRead header ds (line ∷ next ∷ rest)) same (record {
+      ranges = All-cons (IsInRange header) deed deeds ranges before.ranges;
+      text = ap (λ (bytes : List ℕ). bytes ++ 10 ∷ join_with_byte 10 (next ∷ rest)) is ∙ ap (λ (bytes : List ℕ). deed_line deed ++ 10 ∷ bytes) before.text;
+    })
+
+deeds_read : (header : Header) (n : ℕ) (line : List ℕ) (rest : List (List ℕ)) (deeds : List Deed) → deeds_of header n (line ∷ rest) ≡ Ok deeds → AreRead header deeds (line ∷ rest)
+unfolding deeds_of
+deeds_read header n last [] deeds e =
+    let end = last_read (length last == 0) n deeds e in
+    none_read header last deeds (is_empty last end.0) end.1
+deeds_read header n line (next ∷ rest) deeds e =
+    let one = bound (deed_at header n line) (λ deed. deeds_of header (n + 1) (next ∷ rest) >>= λ ds. Ok (deed ∷ ds)) deeds e in
+    let more = bound (deeds_of header (n + 1) (next ∷ rest)) (λ ds. Ok (one.0 ∷ ds)) deeds one.2 in
+    let spelled = line_read header line one.0 (found (deed_of header (words_of line)) (BadCommand n) one.0 one.1) in
+    let same : one.0 ∷ more.0 ≡ deeds = let last = more.2 in cc in
+    one_more header one.0 more.0 deeds line next rest spelled.0 spelled.1 (deeds_read header (n + 1) next rest more.0 more.1) same
+
+-- no fault is a header with operations
+no_fault : (b : Bool) (f g : Fault) (x : Header × List Deed) → cond b (Err f) (Err g) ≡ Ok x → ⊥
+no_fault true f g x e = cc
+no_fault false f g x e = cc
+
+record IsRead (header : Header) (deeds : List Deed) (lines : List (List ℕ)) : Type 0 where
+  limits : is_in_limits header ≡ true
+  ranges : All (IsInRange header) deeds
+  text : join_with_byte 10 lines ≡ storm_text header deeds
+
+whole_read : (header other : Header) (deeds others : List Deed) (line next : List ℕ) (rest : List (List ℕ)) → is_in_limits header ≡ true → line ≡ join_with_byte 32 (header_words header) → AreRead header deeds (next ∷ rest) → ◌≡◌ {A = Header × List Deed} (header, deeds) (other, others) → IsRead other others (line ∷ next ∷ rest)
+whole_read header other deeds others line next rest limits is read same =
+    subst (λ (x : Header × List Deed). IsRead x.0 x.1 (line ∷ next ∷ rest)) same (record {
+      limits = limits;
+      ranges = read.ranges;
+      text = ap (λ (bytes : List ℕ). bytes ++ 10 ∷ join_with_byte 10 (next ∷ rest)) is ∙ ap (λ (bytes : List ℕ). join_with_byte 32 (header_words header) ++ 10 ∷ bytes) read.text;
+    })
+
+lines_read : (header : Header) (deeds : List Deed) (lines : List (List ℕ)) → storm_in lines ≡ Ok (header, deeds) → IsRead header deeds lines
+lines_read header deeds [] e = cc
+lines_read header deeds (last ∷ []) e = absurd (no_fault (length last == 0) BadHeader (MissingNewline 1) (header, deeds) e)
+lines_read header deeds (line ∷ next ∷ rest) e =
+    let first = bound (header_at line) (λ h. deeds_of h 2 (next ∷ rest) >>= λ ds. Ok (h, ds)) (header, deeds) e in
+    let more = bound (deeds_of first.0 2 (next ∷ rest)) (λ ds. Ok (first.0, ds)) (header, deeds) first.2 in
+    let spelled = header_line line first.0 (found _ BadHeader first.0 first.1) in
+    let same : ◌≡◌ {A = Header × List Deed} (first.0, more.0) (header, deeds) = let last = more.2 in cc in
+    whole_read first.0 header more.0 deeds line next rest spelled.0 spelled.1 (deeds_read first.0 2 next rest more.0 more.1) same
+
+-- a file that isn't too large
+fits : (b : Bool) (read : Result (Header × List Deed) Fault) (x : Header × List Deed) → cond b (Err TooLarge) read ≡ Ok x → (b ≡ false) × (read ≡ Ok x)
+fits true read x e = cc
+fits false read x e = (refl, e)
+
+not_above : (n : ℕ) → nat_lt 1048576 n ≡ false → n ≤ 1048576
+not_above n e = grind (arith, nat_tests)
+
+pub storm_read : (header : Header) (deeds : List Deed) (file : List ℕ) → storm_of file ≡ Ok (header, deeds) → IsStormFile header deeds file
+unfolding storm_of
+storm_read header deeds file e =
+    let size = fits (nat_lt 1048576 (length file)) (storm_in (lines_of file)) (header, deeds) e in
+    let read = lines_read header deeds (lines_of file) size.1 in
+    record { limits = read.limits; ranges = read.ranges; size = not_above (length file) size.0; text = sym (join_with_byte-slice_split 10 file) ∙ read.text }
+
+-- lines that something stands behind
+some_behind : (lines : List (List ℕ)) → (first : List ℕ) × (others : List (List ℕ)) × (lines ++ [] ∷ [] ≡ first ∷ others)
+some_behind [] = ([], [], refl)
+some_behind (line ∷ lines) = (line, lines ++ [] ∷ [], refl)
+
+one_line : (header : Header) (n : ℕ) (line : List ℕ) (lines : List (List ℕ)) → deeds_of header n (line ∷ lines ++ [] ∷ []) ≡ (deed_at header n line >>= λ deed. deeds_of header (n + 1) (lines ++ [] ∷ []) >>= λ deeds. Ok (deed ∷ deeds))
+unfolding deeds_of
+one_line header n line lines = let more = some_behind lines in rw more.2 refl
+
+deeds_again : (header : Header) (n : ℕ) (deeds : List Deed) → is_in_limits header ≡ true → All (IsInRange header) deeds → deeds_of header n (map deed_line deeds ++ [] ∷ []) ≡ Ok deeds
+unfolding deeds_of
+deeds_again header n [] limits ranges = refl
+deeds_again header n (deed ∷ deeds) limits ranges =
+    let read = line_again header (deed_line deed) deed limits (All-head (IsInRange header) deed deeds ranges, refl) in
+    let at : deed_at header n (deed_line deed) ≡ Ok deed = rw read refl in
+    let more = deeds_again header (n + 1) deeds limits (All-tail (IsInRange header) deed deeds ranges) in
+    one_line header n (deed_line deed) (map deed_line deeds) ∙ rw (at, more) refl
+
+-- no line of a file has a line end in it
+few_plain : (n : ℕ) → n ≤ 65536 → no_end (decimal n) ≡ true
+few_plain n few = decimal_no_end n (omega (arith, few))
+
+types_plain : (profile : Profile) (entries : List ℕ) (journal : ℕ) → ((i : ℕ) → get_or entries i 0 ≤ 65536) → journal ≤ 65536 → no_ends (type_words profile entries journal) ≡ true
+types_plain Two entries journal few late = rw (few_plain (get_or entries 0 0) (few 0), few_plain (get_or entries 1 0) (few 1), few_plain journal late) refl
+types_plain Four entries journal few late = rw (few_plain (get_or entries 0 0) (few 0), few_plain (get_or entries 1 0) (few 1), few_plain (get_or entries 2 0) (few 2), few_plain (get_or entries 3 0) (few 3), few_plain journal late) refl
+
+header_plain : (header : Header) → is_in_limits header ≡ true → no_end (join_with_byte 32 (header_words header)) ≡ true
+header_plain header e =
+    let l : IsInLimits header = limits_of header e in
+    let types = types_plain header.profile header.entries header.journal (λ i. omega (arith, each_few header e i)) l.journal.1 in
+    line_plain (header_words header) (rw (few_plain header.agents (omega (arith, l.agents.1)), few_plain header.lines (omega (arith, l.lines.1)), few_plain header.slices (omega (arith, l.slices.1)), types) refl)
+
+small_plain : (n : ℕ) → n < 8 → no_end (decimal n) ≡ true
+small_plain n few = decimal_no_end n (omega (arith, few))
+
+verb_plain : (task : Task) → no_end (verb_of task) ≡ true
+verb_plain (Load w) = refl
+verb_plain (Share w) = refl
+verb_plain (Store w v) = refl
+verb_plain WriteBack = refl
+verb_plain WriteClean = refl
+verb_plain WriteEvict = refl
+verb_plain Evict = refl
+verb_plain Drop = refl
+
+behind_plain : (task : Task) → IsTaskInRange task → no_ends (words_behind task) ≡ true
+behind_plain (Load w) is = rw (small_plain w.0 is) refl
+behind_plain (Share w) is = rw (small_plain w.0 is) refl
+behind_plain (Store w v) is = rw (small_plain w.0 is.0, decimal_no_end v is.1) refl
+behind_plain WriteBack is = refl
+behind_plain WriteClean is = refl
+behind_plain WriteEvict is = refl
+behind_plain Evict is = refl
+behind_plain Drop is = refl
+
+deed_plain : (header : Header) (deed : Deed) → is_in_limits header ≡ true → IsInRange header deed → no_end (deed_line deed) ≡ true
+deed_plain header deed limits is =
+    let l : IsInLimits header = limits_of header limits in
+    let agent = decimal_no_end deed.agent.0 (omega (arith, l.agents.1, is.agent)) in
+    let line = decimal_no_end deed.operation.line.0 (omega (arith, l.lines.1, is.line)) in
+    line_plain (deed_words deed) (rw (verb_plain deed.operation.task, agent, line, behind_plain deed.operation.task is.task) refl)
+
+deeds_plain : (header : Header) (deeds : List Deed) → is_in_limits header ≡ true → All (IsInRange header) deeds → no_ends (map deed_line deeds) ≡ true
+deeds_plain header [] limits ranges = refl
+deeds_plain header (deed ∷ deeds) limits ranges = rw (deed_plain header deed limits (All-head (IsInRange header) deed deeds ranges), deeds_plain header deeds limits (All-tail (IsInRange header) deed deeds ranges)) refl
+
+pub storm_again : (header : Header) (deeds : List Deed) (file : List ℕ) → IsStormFile header deeds file → storm_of file ≡ Ok (header, deeds)
+storm_again header deeds file is =
+    let line = join_with_byte 32 (header_words header) in
+    let rest = closed (map deed_line deeds) in
+    let first : lines_of file ≡ line ∷ lines_of rest = ap lines_of is.text ∙ next_line line rest (header_plain header is.limits) in
+    let read = header_line_again line header (is.limits, refl) in
+    let at : header_at line ≡ Ok header = rw read refl in
+    let all : deeds_of header 2 (lines_of rest) ≡ Ok deeds = ap (deeds_of header 2) (closed_again (map deed_line deeds) (deeds_plain header deeds is.limits is.ranges)) ∙ deeds_again header 2 deeds is.limits is.ranges in
+    good file line rest header deeds is.size first at all
+
+-- what a file is read as is within its ranges
+pub in_ranges : (header : Header) (deeds : List Deed) (rest : List ℕ) (n : ℕ) → deeds_of header n (lines_of rest) ≡ Ok deeds → All (IsInRange header) deeds
+in_ranges header deeds rest n e =
+    let more = parts_of (λ b. b == 10) rest in
+    let read : deeds_of header n (more.0 ∷ more.1) ≡ Ok deeds = ap (deeds_of header n) (sym more.2) ∙ e in
+    (deeds_read header n more.0 more.1 deeds read).ranges

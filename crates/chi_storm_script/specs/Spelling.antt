@@ -1,0 +1,70 @@
+-- How operations and storm files are written (docs/PROTOCOL.md, "Storm files"): apart from how they are
+-- read.
+use Rattle.std.specs.Prelude.{◌≡◌, ℕ, ◌^◌, ◌<◌, ◌≤◌, List, [], ◌∷◌, ◌++◌, length, map, codes, true}
+use Rattle.std.specs.List.{All, join_with_byte}
+use Rattle.std.specs.Fmt.{decimal}
+use Rattle.chi_flit.specs.declared.operation.Task.{Task}
+use Rattle.chi_flit.specs.declared.operation.Task.TheVariants.{Load, Share, Store, WriteBack, WriteClean, WriteEvict, Evict, Drop}
+use Rattle.chi_script.specs.declared.headers.Header.{Header}
+use Rattle.chi_script.specs.Headers.{is_in_limits}
+use Rattle.chi_script.specs.Spelling.{header_words}
+use Rattle.chi_storm_script.specs.declared.operations.Deed.{Deed}
+
+-- the first word
+abbrev pub verb_of : Task → List ℕ
+verb_of (Load w) = codes "load"
+verb_of (Share w) = codes "share"
+verb_of (Store w v) = codes "store"
+verb_of WriteBack = codes "writeback"
+verb_of WriteClean = codes "writeclean"
+verb_of WriteEvict = codes "writeevict"
+verb_of Evict = codes "evict"
+verb_of Drop = codes "drop"
+
+-- the words behind the agent and the line
+abbrev pub words_behind : Task → List (List ℕ)
+words_behind (Load w) = decimal w.0 ∷ []
+words_behind (Share w) = decimal w.0 ∷ []
+words_behind (Store w v) = decimal w.0 ∷ decimal v ∷ []
+words_behind _ = []
+
+-- the words of an operation
+abbrev pub deed_words : Deed → List (List ℕ)
+deed_words deed = verb_of deed.operation.task ∷ decimal deed.agent.0 ∷ decimal deed.operation.line.0 ∷ words_behind deed.operation.task
+
+-- the numbers of a task that are within their ranges
+abbrev pub IsTaskInRange : Task → Type 0
+IsTaskInRange (Load w) = w.0 < 8
+IsTaskInRange (Share w) = w.0 < 8
+IsTaskInRange (Store w v) = (w.0 < 8) × (v < 2 ^ 64)
+IsTaskInRange _ = Unit {0}
+
+-- the header has the agent and the line, and the task's numbers are within their ranges
+pub record IsInRange (header : Header) (deed : Deed) : Type 0 where
+  pub agent : deed.agent.0 < header.agents
+  pub line : deed.operation.line.0 < header.lines
+  pub task : IsTaskInRange deed.operation.task
+
+-- the one line of an operation, with one space between two words
+abbrev pub deed_line : Deed → List ℕ
+deed_line deed = join_with_byte 32 (deed_words deed)
+
+-- a line that is this operation, within the header's ranges
+abbrev pub IsDeedLine : Header → Deed → List ℕ → Type 0
+IsDeedLine header deed line = IsInRange header deed × (line ≡ deed_line deed)
+
+-- lines, with a line end behind each
+abbrev pub closed : List (List ℕ) → List ℕ
+closed [] = []
+closed (line ∷ lines) = line ++ 10 ∷ closed lines
+
+-- the bytes of a header and operations
+abbrev pub storm_text : Header → List Deed → List ℕ
+storm_text header deeds = closed (join_with_byte 32 (header_words header) ∷ map deed_line deeds)
+
+-- a file that is this header and these operations: within the limits, and each within the header's ranges
+pub record IsStormFile (header : Header) (deeds : List Deed) (file : List ℕ) : Type 0 where
+  pub limits : is_in_limits header ≡ true
+  pub ranges : All (IsInRange header) deeds
+  pub size : length file ≤ 1048576
+  pub text : file ≡ storm_text header deeds

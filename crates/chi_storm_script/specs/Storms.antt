@@ -1,0 +1,35 @@
+-- A storm file is a header and operations, or faulty: then its first faulty line is told
+-- (docs/PROTOCOL.md, "Storm files").
+use Rattle.std.specs.Prelude.{ℕ, ◌+◌, ◌==◌, nat_lt, List, [], ◌∷◌, Result, Ok, Err, length, if◌then◌else◌}
+use Rattle.chi_script.specs.declared.headers.Header.{Header}
+use Rattle.chi_script.specs.declared.faults.Fault.{Fault}
+use Rattle.chi_script.specs.declared.faults.Fault.TheVariants.{BadHeader, BadCommand, MissingNewline, TooLarge}
+use Rattle.chi_script.specs.Words.{words_of}
+use Rattle.chi_script.specs.Files.{◌>>=◌, or_fault, lines_of, header_at}
+use Rattle.chi_storm_script.specs.declared.operations.Deed.{Deed}
+use Rattle.chi_storm_script.specs.Operations.{deed_of}
+
+-- the operation that line n is
+abbrev pub deed_at : Header → ℕ → List ℕ → Result Deed Fault
+deed_at header n line = or_fault (deed_of header (words_of line)) (BadCommand n)
+
+-- the lines from line n on
+unfoldable pub deeds_of : Header → ℕ → List (List ℕ) → Result (List Deed) Fault
+deeds_of header n [] = Ok []
+deeds_of header n (last ∷ []) = if length last == 0 then Ok [] else Err (MissingNewline n)
+deeds_of header n (line ∷ next ∷ rest) = do
+  deed ← deed_at header n line
+  deeds ← deeds_of header (n + 1) (next ∷ rest)
+  Ok (deed ∷ deeds)
+
+abbrev pub storm_in : List (List ℕ) → Result (Header × List Deed) Fault
+storm_in [] = Err BadHeader
+storm_in (last ∷ []) = if length last == 0 then Err BadHeader else Err (MissingNewline 1)
+storm_in (line ∷ next ∷ rest) = do
+  header ← header_at line
+  deeds ← deeds_of header 2 (next ∷ rest)
+  Ok (header, deeds)
+
+-- a file's header and operations, or its first fault
+unfoldable pub storm_of : List ℕ → Result (Header × List Deed) Fault
+storm_of file = if nat_lt 1048576 (length file) then Err TooLarge else storm_in (lines_of file)
