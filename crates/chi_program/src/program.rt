@@ -3,17 +3,20 @@
 ghost use Rattle.std.specs.Prelude.{◌≡◌, Some, IfOk, IfErr, Contains, map, string_bytes};
 ghost use Rattle.std.specs.Vec.Iter.{into_iter_items};
 ghost use Rattle.chi_arguments.specs.declared.faults.ArgFault.{ArgFault};
-ghost use Rattle.chi_program.specs.declared.program.Stop.TheVariants.{Arguments, Replay};
+ghost use Rattle.chi_program.specs.declared.program.Stop.TheVariants.{Arguments, Run};
 ghost use Rattle.chi_program.specs.Stops.{end_status, statuses, stop_status, stop_text, words_fault};
 
 use chi_arguments::{ArgFault, Job, arguments};
 use chi_devices::{FileInput, StandardOutput};
 use chi_replay::replay;
 use chi_script::Fault;
+use chi_storm::storm;
 use std::alloc::Global;
 use std::env::Args;
 use std::io::ErrorKind;
-use std::rt::{Env, Files};
+use std::rt::{Clock, Env, Files};
+use std::sync::Wait;
+use std::thread::Threads;
 use std::{env, fmt, io};
 
 /// Why the program didn't do what it was asked for. Its text is the line on standard error.
@@ -22,8 +25,8 @@ use std::{env, fmt, io};
 pub enum Stop {
     /// The command line isn't followed.
     Arguments(ArgFault),
-    /// The replay found a fault.
-    Replay(Fault),
+    /// The replay or the storm found a fault.
+    Run(Fault),
 }
 
 impl Stop {
@@ -34,7 +37,7 @@ impl Stop {
     {
         match self {
             Stop::Arguments(fault) => fault.status(),
-            Stop::Replay(fault) => fault.status(),
+            Stop::Run(fault) => fault.status(),
         }
     }
 }
@@ -45,7 +48,7 @@ impl fmt::Display for Stop {
     fn fmt<W: fmt::Write>(&self, f: &mut fmt::Formatter<W>) -> fmt::Result {
         match self {
             Stop::Arguments(fault) => write!(f, "{fault}"),
-            Stop::Replay(fault) => write!(f, "{fault}"),
+            Stop::Run(fault) => write!(f, "{fault}"),
         }
     }
 }
@@ -59,28 +62,32 @@ impl From<ArgFault> for Stop {
 }
 
 impl From<Fault> for Stop {
-    ghost from_gives = { λ fault stop. stop ≡ Replay fault };
+    ghost from_gives = { λ fault stop. stop ≡ Run fault };
 
     fn from(fault: Fault) -> Stop {
-        Stop::Replay(fault)
+        Stop::Run(fault)
     }
 }
 
 /// Does what the command line asks for, and answers the exit status. A fault is one line on standard
-/// error.
+/// error. It may wait: a storm's agents run in threads.
 /// Source: `docs/PROTOCOL.md`, "The program".
-pub fn serve<R: Env + Files + AllocGlobal + Print + Eprint>(rt: &R) -> u8
+pub fn serve<R: Env + Files + AllocGlobal + Print + Eprint + Threads + Wait + Clock + Sync>(
+    rt: &R,
+) -> u8
     ensures { Contains statuses result }
 {
     told(rt, follow(rt))
 }
 
-/// The exit status of a run. A stop is told on standard error.
-fn told<R: Eprint>(rt: &R, done: Result<(), Stop>) -> u8
+/// The exit status of a run, which did all that it was asked for, or of a storm with a script that didn't
+/// finish. A stop is told on standard error.
+fn told<R: Eprint>(rt: &R, done: Result<bool, Stop>) -> u8
     ensures { result ≡ end_status done }
 {
     match done {
-        Ok(()) => 0,
+        Ok(true) => 0,
+        Ok(false) => 2,
         Err(stop) => {
             let _ = rt.eprintln(stop);
             stop.status()
@@ -88,8 +95,10 @@ fn told<R: Eprint>(rt: &R, done: Result<(), Stop>) -> u8
     }
 }
 
-/// Reads the command line, and does what it asks for.
-fn follow<R: Env + Files + AllocGlobal + Print>(rt: &R) -> Result<(), Stop> {
+/// Reads the command line, and does what it asks for: whether all of it was done.
+fn follow<R: Env + Files + AllocGlobal + Print + Threads + Wait + Clock + Sync>(
+    rt: &R,
+) -> Result<bool, Stop> {
     let texts = match env::args(rt) {
         Ok(given) => kept(rt.alloc(), given)?,
         Err(error) => return Err(Stop::Arguments(fault_of(error.kind()))),
@@ -97,6 +106,7 @@ fn follow<R: Env + Files + AllocGlobal + Print>(rt: &R) -> Result<(), Stop> {
     let words = words_of(rt.alloc(), &texts)?;
     match arguments(rt.alloc(), &words)? {
         Job::Replay(path) => Ok(replay_file(rt, path)?),
+        Job::Storm { path, seed, turns } => Ok(storm_file(rt, path, seed, turns)?),
     }
 }
 
@@ -126,9 +136,23 @@ fn fault_of(kind: ErrorKind) -> ArgFault
     }
 }
 
-/// Replays the file at the path to standard output.
-fn replay_file<R: Files + AllocGlobal + Print>(rt: &R, path: &str) -> Result<(), Fault> {
+/// Replays the file at the path to standard output; all was done where there was no fault.
+fn replay_file<R: Files + AllocGlobal + Print>(rt: &R, path: &str) -> Result<bool, Fault> {
     let mut input = FileInput::open(rt, path)?;
     let mut output = StandardOutput::new(io::writer(rt));
-    replay(rt.alloc(), &mut input, &mut output)
+    replay(rt.alloc(), &mut input, &mut output)?;
+    Ok(true)
+}
+
+/// Runs the storm of the file at the path, and writes to standard output what came of it; whether each
+/// agent's script finished.
+fn storm_file<R: Files + AllocGlobal + Print + Threads + Wait + Clock + Sync>(
+    rt: &R,
+    path: &str,
+    seed: u64,
+    turns: u64,
+) -> Result<bool, Fault> {
+    let mut input = FileInput::open(rt, path)?;
+    let mut output = StandardOutput::new(io::writer(rt));
+    storm(rt, rt.alloc(), &mut input, &mut output, seed, turns)
 }

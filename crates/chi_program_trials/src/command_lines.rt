@@ -1,19 +1,87 @@
 //! Command lines, good and bad, by `docs/PROTOCOL.md`, "The program".
 
-use crate::told::same;
 use chi_arguments::{ArgFault, Job, arguments};
+use std::alloc::Global;
+use std::process::Abort;
 
 #[test]
 fn a_replay_has_its_path(rt: HostRuntime) {
     let words = ["chihome", "replay", "a.chi"];
-    same(&rt, arguments(rt.alloc(), &words), Ok(Job::Replay("a.chi")));
+    assert!(rt; arguments(rt.alloc(), &words) == Ok(Job::Replay("a.chi")));
+}
+
+/// Command lines of a storm, each with its seed and its turns.
+const STORMS: [(&[&str], u64, u64); 9] = [
+    (&["chihome", "storm", "a.chi"], 1, 10_000_000),
+    (&["chihome", "storm", "a.chi", "--seed", "0"], 0, 10_000_000),
+    (&["chihome", "storm", "a.chi", "--turns", "1"], 1, 1),
+    (
+        &["chihome", "storm", "a.chi", "--seed", "7", "--turns", "20"],
+        7,
+        20,
+    ),
+    (
+        &["chihome", "storm", "a.chi", "--turns", "20", "--seed", "7"],
+        7,
+        20,
+    ),
+    (
+        &["chihome", "storm", "--seed", "7", "a.chi", "--turns", "20"],
+        7,
+        20,
+    ),
+    (
+        &["chihome", "storm", "--turns=20", "--seed=7", "a.chi"],
+        7,
+        20,
+    ),
+    (
+        &[
+            "chihome",
+            "storm",
+            "a.chi",
+            "--seed",
+            "18446744073709551615",
+        ],
+        u64::MAX,
+        10_000_000,
+    ),
+    (
+        &["chihome", "storm", "a.chi", "--turns", "4000000000"],
+        1,
+        4_000_000_000,
+    ),
+];
+
+#[test]
+fn a_storm_has_its_path_its_seed_and_its_turns(rt: HostRuntime) {
+    for (words, seed, turns) in &STORMS {
+        asks_for(&rt, words, *seed, *turns);
+    }
+}
+
+/// The words ask for a storm of `a.chi` with this seed and so many turns.
+fn asks_for<'a>(rt: &(impl Abort + AllocGlobal), words: &'a [&'a str], seed: u64, turns: u64) {
+    let path = "a.chi";
+    let job = Job::Storm { path, seed, turns };
+    assert!(rt; arguments(rt.alloc(), words) == Ok(job), "{words:?}");
 }
 
 /// Why the words aren't followed, where they aren't.
-fn fault_of<'a>(rt: &HostRuntime, words: &'a [&'a str]) -> Option<ArgFault> {
-    match arguments(rt.alloc(), words) {
+fn fault_of<'a>(alloc: Global, words: &'a [&'a str]) -> Option<ArgFault> {
+    match arguments(alloc, words) {
         Ok(_) => None,
         Err(fault) => Some(fault),
+    }
+}
+
+/// None of these command lines is followed.
+fn are_bad(rt: &(impl Abort + AllocGlobal), table: &[&[&str]]) {
+    for words in table {
+        assert!(rt;
+            fault_of(rt.alloc(), words) == Some(ArgFault::Bad),
+            "{words:?}"
+        );
     }
 }
 
@@ -54,9 +122,7 @@ const BAD_STORMS: [&[&str]; 27] = [
 
 #[test]
 fn a_storm_with_other_options_or_numbers_is_bad(rt: HostRuntime) {
-    for words in BAD_STORMS {
-        assert_eq!(rt; fault_of(&rt, words), Some(ArgFault::Bad), "{words:?}");
-    }
+    are_bad(&rt, &BAD_STORMS);
 }
 
 /// Other command lines than `replay FILE`.
@@ -88,9 +154,7 @@ const BAD_REPLAYS: [&[&str]; 23] = [
 
 #[test]
 fn a_replay_with_more_or_other_words_is_bad(rt: HostRuntime) {
-    for words in BAD_REPLAYS {
-        assert_eq!(rt; fault_of(&rt, words), Some(ArgFault::Bad), "{words:?}");
-    }
+    are_bad(&rt, &BAD_REPLAYS);
 }
 
 /// Command lines that ask for help or for a version.
@@ -106,13 +170,10 @@ const HELP: [&[&str]; 7] = [
 
 #[test]
 fn asking_for_help_is_bad(rt: HostRuntime) {
-    for words in HELP {
-        assert_eq!(rt; fault_of(&rt, words), Some(ArgFault::Bad), "{words:?}");
-    }
+    are_bad(&rt, &HELP);
 }
 
 #[test]
 fn a_fault_has_its_status(rt: HostRuntime) {
-    same(&rt, ArgFault::Bad.status(), 4);
-    same(&rt, ArgFault::NoMemory.status(), 3);
+    assert!(rt; ArgFault::Bad.status() == 4 && ArgFault::NoMemory.status() == 3);
 }

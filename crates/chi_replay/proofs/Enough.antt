@@ -14,21 +14,25 @@ text_of_known None bytes bytes_of (Ok text) front ok = tt
 text_of_known (Some file) bytes bytes_of (Ok text) front ok = record { header = ok.header; commands = ok.commands; good = sym (front_enough file) ∙ (sym (ap file_of front) ∙ ok.good); text = ok.text }
 text_of_known left bytes bytes_of (Err fault) front ok = ok
 
-known : (left : Option (List ℕ)) (bytes : List ℕ) (fault : Fault) → IfSome left (λ file. bytes ≡ take 1048577 file) → file_of bytes ≡ Err fault → IfSome left (λ file. file_of file ≡ Err fault)
-known None bytes fault front h = tt
-known (Some file) bytes fault front h = sym (front_enough file) ∙ (sym (ap file_of front) ∙ h)
+-- a file is read as its front is
+abbrev pub IsEnough : {F : Type 0} → (List ℕ → Result F Fault) → Type 0
+IsEnough read = (file : List ℕ) → read (take 1048577 file) ≡ read file
+
+known : {F : Type 0} (read : List ℕ → Result F Fault) → IsEnough read → (left : Option (List ℕ)) (bytes : List ℕ) (fault : Fault) → IfSome left (λ file. bytes ≡ take 1048577 file) → read bytes ≡ Err fault → IfSome left (λ file. read file ≡ Err fault)
+known read enough None bytes fault front h = tt
+known read enough (Some file) bytes fault front h = sym (enough file) ∙ (sym (ap read front) ∙ h)
 
 -- and so is its fault
-no_text : (left : Option (List ℕ)) (before after : ℕ) (bytes : List ℕ) (fault : Fault) → IfSome left (λ file. bytes ≡ take 1048577 file) → Fails fault (file_of bytes) → NoText left before after fault
-no_text left before after bytes NoMemory front h = tt
-no_text left before after bytes BadHeader front h = known left bytes BadHeader front h
-no_text left before after bytes (BadCommand line) front h = known left bytes (BadCommand line) front h
-no_text left before after bytes (MissingNewline line) front h = known left bytes (MissingNewline line) front h
-no_text left before after bytes TooLarge front h = known left bytes TooLarge front h
-no_text left before after bytes Read front h = absurd h
-no_text left before after bytes Write front h = absurd h
+no_text : {F : Type 0} (read : List ℕ → Result F Fault) → IsEnough read → (left : Option (List ℕ)) (before after : ℕ) (bytes : List ℕ) (fault : Fault) → IfSome left (λ file. bytes ≡ take 1048577 file) → Fails fault (read bytes) → NoText read left before after fault
+no_text read enough left before after bytes NoMemory front h = tt
+no_text read enough left before after bytes BadHeader front h = known read enough left bytes BadHeader front h
+no_text read enough left before after bytes (BadCommand line) front h = known read enough left bytes (BadCommand line) front h
+no_text read enough left before after bytes (MissingNewline line) front h = known read enough left bytes (MissingNewline line) front h
+no_text read enough left before after bytes TooLarge front h = known read enough left bytes TooLarge front h
+no_text read enough left before after bytes Read front h = absurd h
+no_text read enough left before after bytes Write front h = absurd h
 
-pub fault_of_known : {T : Type 0} (left : Option (List ℕ)) (before after : ℕ) (bytes : List ℕ) (result : Result T Fault) → IfSome left (λ file. bytes ≡ take 1048577 file)
-    → IfErr result (λ fault. Fails fault (file_of bytes)) → IfErr result (NoText left before after)
-fault_of_known left before after bytes (Ok text) front err = err
-fault_of_known left before after bytes (Err fault) front err = no_text left before after bytes fault front err
+pub fault_of_known : {T F : Type 0} (read : List ℕ → Result F Fault) → IsEnough read → (left : Option (List ℕ)) (before after : ℕ) (bytes : List ℕ) (result : Result T Fault) → IfSome left (λ file. bytes ≡ take 1048577 file)
+    → IfErr result (λ fault. Fails fault (read bytes)) → IfErr result (NoText read left before after)
+fault_of_known read enough left before after bytes (Ok text) front err = err
+fault_of_known read enough left before after bytes (Err fault) front err = no_text read enough left before after bytes fault front err

@@ -40,15 +40,16 @@ WritesText file old new = (text : List ℕ) × IsTextOf file text × Appends old
 abbrev pub WritesBeginning : List ℕ → Option (List ℕ) → Option (List ℕ) → Type 0
 WritesBeginning file old new = (text : List ℕ) × IsTextOf file text × AppendsFront old new text
 
--- why there is no text: the input failed, and counted it; memory ran out; or the file's first fault
-abbrev pub NoText : Option (List ℕ) → ℕ → ℕ → Fault → Type 0
-NoText file before after Read = after ≡ before + 1
-NoText file before after NoMemory = Unit {0}
-NoText file before after Write = ⊥
-NoText file before after BadHeader = IfSome file (λ bytes. file_of bytes ≡ Err BadHeader)
-NoText file before after (BadCommand line) = IfSome file (λ bytes. file_of bytes ≡ Err (BadCommand line))
-NoText file before after (MissingNewline line) = IfSome file (λ bytes. file_of bytes ≡ Err (MissingNewline line))
-NoText file before after TooLarge = IfSome file (λ bytes. file_of bytes ≡ Err TooLarge)
+-- why there is no text: the input failed, and counted it; memory ran out; or the first fault of the file,
+-- as it is read
+abbrev pub NoText : {F : Type 0} → (List ℕ → Result F Fault) → Option (List ℕ) → ℕ → ℕ → Fault → Type 0
+NoText read file before after Read = after ≡ before + 1
+NoText read file before after NoMemory = Unit {0}
+NoText read file before after Write = ⊥
+NoText read file before after BadHeader = IfSome file (λ bytes. read bytes ≡ Err BadHeader)
+NoText read file before after (BadCommand line) = IfSome file (λ bytes. read bytes ≡ Err (BadCommand line))
+NoText read file before after (MissingNewline line) = IfSome file (λ bytes. read bytes ≡ Err (MissingNewline line))
+NoText read file before after TooLarge = IfSome file (λ bytes. read bytes ≡ Err TooLarge)
 
 -- the answer is this fault, unless reading failed or memory ran out first
 abbrev pub Refuses : {A : Type 0} → Fault → Result A Fault → Type 0

@@ -3,4 +3,4 @@
 
 mod replays;
 
-pub use replays::replay;
+pub use replays::{config_of, replay};

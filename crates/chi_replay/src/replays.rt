@@ -29,7 +29,8 @@ fn sizes_in(header: &Header) -> Option<Config>
 }
 
 /// The sizes of a header, which are in the limits.
-fn config_of(header: &Header) -> Config
+/// Source: `docs/PROTOCOL.md`, "Limits".
+pub fn config_of(header: &Header) -> Config
     requires { is_in_limits header.now ≡ true }
     ensures { result ≡ node_sizes header.now }
 {
@@ -56,7 +57,7 @@ fn text_of<A: Allocator + Copy>(alloc: A, bytes: &[u8]) -> Result<String<A>, Fau
 fn text_of_input<A: Allocator + Copy, I: Input>(alloc: A, input: &mut I) -> Result<String<A>, Fault>
     requires { I.failures input.old + 1 < 2 ^ 64 }
     ensures ok { IfOk result (λ text. IfSome (I.left input.old) (λ file. IsTextOf file (string_bytes text))) }
-    ensures err { IfErr result (NoText (I.left input.old) (I.failures input.old) (I.failures input.new)) }
+    ensures err { IfErr result (NoText file_of (I.left input.old) (I.failures input.old) (I.failures input.new)) }
 {
     let bytes = read_all(alloc, input)?;
     text_of(alloc, &bytes)
@@ -81,7 +82,7 @@ pub fn replay<A: Allocator + Copy, I: Input, O: Output>(
     requires writes { O.failures output.old + 1 < 2 ^ 64 }
     ensures ok { OnOk result (IfSome (I.left input.old) (λ file. WritesText file (O.written output.old) (O.written output.new))) }
     ensures write { IsErrOf result Fault.Write → (O.failures output.new ≡ O.failures output.old + 1) × IfSome (I.left input.old) (λ file. WritesBeginning file (O.written output.old) (O.written output.new)) }
-    ensures err { IfErr result (λ fault. fault ≢ Fault.Write → NoText (I.left input.old) (I.failures input.old) (I.failures input.new) fault × Keeps (O.written output.old) (O.written output.new)) }
+    ensures err { IfErr result (λ fault. fault ≢ Fault.Write → NoText file_of (I.left input.old) (I.failures input.old) (I.failures input.new) fault × Keeps (O.written output.old) (O.written output.new)) }
     ensures faulty { IfSome (I.left input.old) (λ file. (fault : Fault) → file_of file ≡ Err fault → Refuses fault result × Keeps (O.written output.old) (O.written output.new)) }
 {
     let text = text_of_input(alloc, input)?;

@@ -1,4 +1,5 @@
-//! `chihome replay FILE` runs the commands of a file on one thread, and prints an answer for each.
+//! `chihome replay FILE` runs the commands of a file on one thread, and prints an answer for each;
+//! `chihome storm FILE` runs the scripts of a file in threads, and prints what came of them.
 #![tactic(auto)]
 
 use chi_program::serve;

@@ -1,0 +1,40 @@
+-- One script more, with its writer.
+use Rattle.std.proofs.Common.{◌≡◌, ℕ, zero, suc, length-append, ◌+◌, ◌<◌, List, [], ◌∷◌, ◌++◌, All, get_or, length, map, refl, sym, ◌∙◌, ap, subst, arith}
+use Rattle.std.specs.List.{remove}
+use Rattle.std.proofs.lemmas.List.{length-map, map-append}
+use Rattle.std.proofs.lemmas.List.Elements.{All-push, All-tail}
+use Rattle.chi_flit.specs.declared.operation.Operation.{Operation}
+use Rattle.chi_storm_script.specs.declared.operations.Deed.{Deed}
+use Rattle.atomic_table.specs.Seated.{TableId}
+use Rattle.chi_tallies.specs.Tallies.{IsFresh, WriterState, agent_of, numbers}
+use Rattle.chi_storm.specs.Scripts.{script_of, scripts_below}
+
+pub next_scripts : {S : Type 0} (op : S → List Operation) (deeds : List Deed) (n : ℕ) (xs ys : List S) (x : S) → map op xs ≡ scripts_below n deeds → ys ≡ xs ++ x ∷ [] → op x ≡ script_of n deeds
+    → map op ys ≡ scripts_below n deeds ++ script_of n deeds ∷ []
+next_scripts op deeds n xs ys x so_far push is = ap (map op) push ∙ (map-append op xs (x ∷ []) ∙ (ap (λ (os : List (List Operation)). os ++ op x ∷ []) so_far ∙ ap (λ (o : List Operation). scripts_below n deeds ++ o ∷ []) is))
+
+pub one_below : (n : ℕ) (deeds : List Deed) → scripts_below n deeds ++ script_of n deeds ∷ [] ≡ scripts_below (n + 1) deeds
+one_below n deeds =
+    let more : suc n ≡ n + 1 = omega arith in
+    sym (map-append (λ (agent : ℕ). script_of agent deeds) (numbers n) (n ∷ [])) ∙ ap (λ (m : ℕ). scripts_below m deeds) more
+
+pub next_fresh : {S : Type 0} (writer : S → WriterState) (cells : List TableId) (xs ys : List S) (x : S) → All (λ s. IsFresh cells (writer s)) xs → ys ≡ xs ++ x ∷ [] → IsFresh cells (writer x)
+    → All (λ s. IsFresh cells (writer s)) ys
+next_fresh {S} writer cells xs ys x so_far push new =
+    let P : S → Type 0 = λ s. IsFresh cells (writer s) in
+    subst (All P) (sym push) (All-push P xs x so_far new)
+
+pub left_new : (cells : List TableId) (xs ys : List WriterState) → All (IsFresh cells) xs → ys ≡ remove xs 0 → 0 < length xs → All (IsFresh cells) ys
+left_new cells [] ys all cut some = absurd (omega (arith, some))
+left_new cells (x ∷ xs) ys all cut some = subst (All (IsFresh cells)) (sym cut) (All-tail (IsFresh cells) x xs all)
+
+pub first_new : (cells : List TableId) (xs : List WriterState) (w : WriterState) → All (IsFresh cells) xs → 0 < length xs → w ≡ get_or xs 0 w → IsFresh cells w
+first_new cells xs w all some first = subst (IsFresh cells) (sym first) (all 0 w some)
+
+length_numbers : (n : ℕ) → length (numbers n) ≡ n
+length_numbers zero = refl
+length_numbers (suc n) = omega (arith, length-append (numbers n) (n ∷ []), length_numbers n)
+
+-- a writer for each agent
+pub as_many : (ws : List WriterState) (n : ℕ) → map agent_of ws ≡ numbers n → length ws ≡ n
+as_many ws n is = sym (length-map ws agent_of) ∙ (ap length is ∙ length_numbers n)

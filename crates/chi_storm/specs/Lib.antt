@@ -1,0 +1,4 @@
+pub mod Outcomes
+pub mod Scripts
+pub mod Verdicts
+pub mod Storms

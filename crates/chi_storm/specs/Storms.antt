@@ -1,0 +1,53 @@
+-- What a storm writes (docs/PROTOCOL.md, "Storm files" and "The output of a storm").
+use Rattle.std.specs.Prelude.{◌≡◌, ◌↔◌, ℕ, ◌+◌, List, Bool, IsTrue, Option, Ok}
+use Rattle.std.specs.Io.KnownBytes.{Appends, Keeps}
+use Rattle.chi_reports.specs.declared.reports.Report.{Report}
+use Rattle.chi_devices.specs.Devices.{AppendsFront}
+use Rattle.chi_script.specs.declared.headers.Header.{Header}
+use Rattle.chi_script.specs.declared.faults.Fault.{Fault}
+use Rattle.chi_script.specs.declared.faults.Fault.TheVariants.{NoMemory, Write}
+use Rattle.chi_slice.specs.Config.{Sizes}
+use Rattle.chi_node.specs.Requester.{RequesterState}
+use Rattle.chi_home.specs.Node.{AreOwn, NodeState}
+use Rattle.chi_storm_script.specs.declared.operations.Deed.{Deed}
+use Rattle.chi_storm_script.specs.Storms.{storm_of}
+use Rattle.chi_replay.specs.Replays.{node_sizes}
+use Rattle.chi_storm.specs.declared.outcome.Outcome.{Outcome}
+use Rattle.chi_storm.specs.Outcomes.{outcome_text}
+use Rattle.chi_storm.specs.Verdicts.{IsOutcome}
+
+-- what came of a node of this size, with the requesters that are its own, the reports of its agents and their
+-- refusals
+pub record ComesOf (config : Sizes) (o : Outcome) : Type 0 where
+  pub node : NodeState
+  pub requesters : List RequesterState
+  pub reports : List (Option Report)
+  pub not_open : List Bool
+  pub sizes : node.config ≡ config
+  pub own : AreOwn node requesters
+  pub outcome : IsOutcome node requesters reports not_open o
+
+-- a good file, and what came of a node of its header's size
+pub record IsStormOf (file : List ℕ) (o : Outcome) : Type 0 where
+  pub header : Header
+  pub deeds : List Deed
+  pub good : storm_of file ≡ Ok (header, deeds)
+  pub comes : ComesOf (node_sizes header) o
+
+-- the four lines of such an outcome were written, no more; whether each agent's script finished
+pub record WritesOutcome (file : List ℕ) (all : Bool) (old new : Option (List ℕ)) : Type 0 where
+  pub came : Outcome
+  pub storm : IsStormOf file came
+  pub finished : IsTrue all ↔ (came.finished ≡ came.agents)
+  pub written : Appends old new (outcome_text came)
+
+-- a beginning of them was written
+abbrev pub WritesFront : List ℕ → Option (List ℕ) → Option (List ℕ) → Type 0
+WritesFront file old new = (o : Outcome) × IsStormOf file o × AppendsFront old new (outcome_text o)
+
+-- why an outcome wasn't written: the output failed, and counted it, and a beginning was written; or memory ran
+-- out, and nothing was
+abbrev pub NotTold : Outcome → ℕ → ℕ → Option (List ℕ) → Option (List ℕ) → Fault → Type 0
+NotTold o before after old new Write = (after ≡ before + 1) × AppendsFront old new (outcome_text o)
+NotTold o before after old new NoMemory = Keeps old new
+NotTold o before after old new _ = ⊥

@@ -1,0 +1,74 @@
+//! The script of each agent, out of the operations of a file.
+
+ghost use Rattle.std.specs.Prelude.{◌≡◌, ◌==◌, All, IfOk, length, map, vec_capacity, vec_len};
+ghost use Rattle.chi_tallies.specs.Tallies.{IsFresh};
+ghost use Rattle.chi_agent.specs.Script.{AreFresh};
+ghost use Rattle.chi_storm.specs.Scripts.{deeds_of, script_of, scripts_below};
+
+use chi_agent::Script;
+use chi_flit::{NoMemory, Operation};
+use chi_storm_script::Deed;
+use chi_tallies::{Tallies, Writer};
+use std::alloc::{AllocError, Allocator, Global};
+
+/// Whether an operation is the agent's.
+fn is_of(deed: &Deed, agent: u8) -> bool
+    ensures { result ≡ (deed.now.agent.0 == agent) }
+{
+    deed.agent.0 == agent
+}
+
+/// How many of the file's operations are the agent's.
+fn count_of(deeds: &[Deed], agent: u8) -> usize
+    ensures { result ≡ length (deeds_of agent deeds.now) }
+{
+    let mut count = 0;
+    for deed in deeds {
+        if is_of(deed, agent) {
+            count += 1;
+        }
+    }
+    count
+}
+
+/// The script of the agent: its operations, in the order of the file. The list has room for no more.
+/// Refused where memory runs out.
+/// Source: `docs/PROTOCOL.md`, "Storm files".
+pub fn script_of<A: Allocator>(
+    alloc: A,
+    deeds: &[Deed],
+    agent: u8,
+) -> Result<Vec<Operation, A>, AllocError>
+    ensures script { IfOk result (λ script. script.items ≡ script_of agent deeds.now) }
+    ensures room { IfOk result (λ script. vec_capacity script ≡ length script.items) }
+{
+    let mut script = Vec::with_capacity(alloc, count_of(deeds, agent))?;
+    for deed in deeds {
+        if is_of(deed, agent) {
+            script.push_reserved(deed.operation);
+        }
+    }
+    Ok(script)
+}
+
+/// The scripts of the agents in rising order, each with its writer. Refused where memory runs out.
+pub(crate) fn scripts_of(
+    alloc: Global,
+    tallies: &Tallies,
+    deeds: &[Deed],
+    agents: u8,
+    mut writers: Vec<Writer>,
+) -> Result<Vec<Script<Global>>, NoMemory>
+    requires fresh { All (IsFresh tallies.now) writers.items }
+    requires count { length writers.items ≡ agents }
+    ensures scripts { IfOk result (λ scripts. map (λ s. s.operations) scripts.items ≡ scripts_below agents deeds.now) }
+    ensures fresh { IfOk result (λ scripts. AreFresh tallies.now scripts.items) }
+    ensures count { IfOk result (λ scripts. vec_len scripts ≡ agents) }
+{
+    let mut scripts = Vec::with_capacity(alloc, usize::from(agents))?;
+    for agent in 0..agents {
+        let script = script_of(alloc, deeds, agent)?;
+        scripts.push_reserved(Script::new(script, writers.remove(0)));
+    }
+    Ok(scripts)
+}

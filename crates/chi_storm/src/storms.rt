@@ -1,0 +1,135 @@
+//! From the bytes of a file of scripts to the four lines that are written.
+
+ghost use Rattle.std.specs.Prelude.{◌≡◌, ◌≢◌, ◌↔◌, ◌+◌, ◌^◌, ◌<◌, Err, IfOk, IfErr, IfSome, IsErrOf, IsTrue};
+ghost use Rattle.std.specs.Io.KnownBytes.{Appends, Keeps};
+ghost use Rattle.chi_script.specs.Faults.{Fails};
+ghost use Rattle.chi_script.specs.declared.faults.Fault.{Fault};
+ghost use Rattle.chi_storm_script.specs.Storms.{storm_of};
+ghost use Rattle.chi_replay.specs.Replays.{NoText, Refuses};
+ghost use Rattle.chi_storm.specs.Outcomes.{outcome_text};
+ghost use Rattle.chi_storm.specs.Storms.{ComesOf, IsStormOf, NotTold, WritesFront, WritesOutcome};
+
+use crate::outcome::Outcome;
+use crate::scripts::scripts_of;
+use crate::verdict::outcome_of;
+use chi_agent::{Ended, OpenGate, run_agents};
+use chi_devices::{Failed, Input, Output, read_all};
+use chi_flit::NoMemory;
+use chi_home::Node;
+use chi_replay::config_of;
+use chi_script::Fault;
+use chi_slice::Config;
+use chi_storm_script::{Deed, Storm, read_storm};
+use chi_tallies::open_tallies;
+use std::alloc::Global;
+use std::sync::Wait;
+use std::thread::Threads;
+use std::time::Clock;
+
+/// What comes of a node of that size whose agents run the scripts, in threads. It may wait. Refused where
+/// memory runs out.
+#[tactic(auto, using(crate::proofs::Written::as_many))]
+fn outcome_on<R: Threads + Wait + Clock + Sync>(
+    rt: &R,
+    alloc: Global,
+    config: &Config,
+    deeds: &[Deed],
+    seed: u64,
+    turns: u64,
+) -> Result<Outcome, NoMemory>
+    ensures { IfOk result (ComesOf config.now) }
+{
+    let (node, requesters) = Node::new(alloc, config)?;
+    let agents = config.agents();
+    let (cells, writers, _watcher) = open_tallies(alloc, agents)?;
+    let scripts = scripts_of(alloc, &cells, deeds, agents, writers)?;
+    let ended = run_agents(
+        rt, alloc, &node, &cells, requesters, scripts, seed, turns, &OpenGate,
+    )?;
+    let Ended {
+        requesters,
+        not_open,
+        gathered,
+        ..
+    } = ended;
+    let not_open = not_open.as_slice();
+    Ok(outcome_of(rt, node, requesters, &gathered.reports, not_open))
+}
+
+/// What comes of a file, whose bytes these are; else its first fault, or want of memory.
+fn outcome_in<R: Threads + Wait + Clock + Sync>(
+    rt: &R,
+    alloc: Global,
+    bytes: &[u8],
+    seed: u64,
+    turns: u64,
+) -> Result<Outcome, Fault>
+    ensures ok { IfOk result (IsStormOf bytes.now) }
+    ensures err { IfErr result (λ fault. Fails fault (storm_of bytes.now)) }
+{
+    let Storm { header, deeds, .. } = read_storm(alloc, bytes)?;
+    let config = config_of(&header);
+    match outcome_on(rt, alloc, &config, &deeds, seed, turns) {
+        Ok(outcome) => Ok(outcome),
+        Err(_) => Err(Fault::NoMemory),
+    }
+}
+
+/// The same of an input's bytes; `Read` where reading them failed.
+fn outcome_of_input<R: Threads + Wait + Clock + Sync, I: Input>(
+    rt: &R,
+    alloc: Global,
+    input: &mut I,
+    seed: u64,
+    turns: u64,
+) -> Result<Outcome, Fault>
+    requires { I.failures input.old + 1 < 2 ^ 64 }
+    ensures ok { IfOk result (λ outcome. IfSome (I.left input.old) (λ file. IsStormOf file outcome)) }
+    ensures err { IfErr result (NoText storm_of (I.left input.old) (I.failures input.old) (I.failures input.new)) }
+{
+    let bytes = read_all(alloc, input)?;
+    outcome_in(rt, alloc, &bytes, seed, turns)
+}
+
+/// Writes what came of a storm, and answers whether each agent's script finished.
+fn told<O: Output>(alloc: Global, outcome: Outcome, output: &mut O) -> Result<bool, Fault>
+    requires { O.failures output.old + 1 < 2 ^ 64 }
+    ensures ok { IfOk result (λ all. (IsTrue all ↔ (outcome.finished ≡ outcome.agents)) × Appends (O.written output.old) (O.written output.new) (outcome_text outcome)) }
+    ensures err { IfErr result (NotTold outcome (O.failures output.old) (O.failures output.new) (O.written output.old) (O.written output.new)) }
+{
+    let text = format!(in alloc; "{outcome}")?;
+    match output.write_all(text.as_bytes()) {
+        Ok(()) => Ok(outcome.finished == outcome.agents),
+        Err(Failed) => Err(Fault::Write),
+    }
+}
+
+/// Runs the scripts of the file that the input has, each agent's in a thread of its own, with draws from this
+/// seed and at most so many turns an agent, and writes what came of it. It may wait.
+///
+/// At `Ok` the input was a good file, and the four lines of its storm were written, no more; it is true
+/// exactly where each agent's script finished. Where the file is faulty nothing is written, and the fault is
+/// that of its first faulty line, or `TooLarge`, unless `Read` or `NoMemory` came first; `NoMemory` is also
+/// the answer where a thread can't be started. `Read` and `Write` come only where that device counted a
+/// failure. After `Write` a beginning of the four lines was written; after any other fault nothing was.
+///
+/// Conditions: the counts of failures of the input and of the output are below 2 ^ 64 - 1.
+/// Source: `docs/PROTOCOL.md`, "Storm files", "The output of a storm" and "The program".
+pub fn storm<R: Threads + Wait + Clock + Sync, I: Input, O: Output>(
+    rt: &R,
+    alloc: Global,
+    input: &mut I,
+    output: &mut O,
+    seed: u64,
+    turns: u64,
+) -> Result<bool, Fault>
+    requires reads { I.failures input.old + 1 < 2 ^ 64 }
+    requires writes { O.failures output.old + 1 < 2 ^ 64 }
+    ensures ok { IfOk result (λ all. IfSome (I.left input.old) (λ file. WritesOutcome file all (O.written output.old) (O.written output.new))) }
+    ensures write { IsErrOf result Fault.Write → (O.failures output.new ≡ O.failures output.old + 1) × IfSome (I.left input.old) (λ file. WritesFront file (O.written output.old) (O.written output.new)) }
+    ensures err { IfErr result (λ fault. fault ≢ Fault.Write → NoText storm_of (I.left input.old) (I.failures input.old) (I.failures input.new) fault × Keeps (O.written output.old) (O.written output.new)) }
+    ensures faulty { IfSome (I.left input.old) (λ file. (fault : Fault) → storm_of file ≡ Err fault → Refuses fault result × Keeps (O.written output.old) (O.written output.new)) }
+{
+    let outcome = outcome_of_input(rt, alloc, input, seed, turns)?;
+    told(alloc, outcome, output)
+}

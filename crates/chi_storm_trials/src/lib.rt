@@ -1,0 +1,13 @@
+//! Tests of storms: the four lines of files of scripts, with devices that fail too.
+//!
+//! Source: `docs/PROTOCOL.md`, "Storm files" and "The output of a storm".
+#![tactic(auto)]
+
+#[cfg(test)]
+mod devices;
+#[cfg(test)]
+mod scripts;
+#[cfg(test)]
+mod storms;
+#[cfg(test)]
+mod told;

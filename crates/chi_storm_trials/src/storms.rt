@@ -1,0 +1,78 @@
+//! The four lines of storms.
+
+use crate::told::same;
+use chi_devices::{MemoryInput, MemoryOutput};
+use chi_storm::storm;
+use std::process::Abort;
+use std::sync::Wait;
+use std::thread::Threads;
+use std::time::Clock;
+
+/// The file has these lines, whether all of its scripts finished being the answer.
+fn ends(
+    rt: &(impl Abort + AllocGlobal + Threads + Wait + Clock + Sync),
+    file: &[u8],
+    seed: u64,
+    text: &[u8],
+    all: bool,
+) {
+    let mut input = MemoryInput::new(file, 1_000);
+    let mut output = MemoryOutput::new(rt.alloc(), 1_000);
+    let done = storm(rt, rt.alloc(), &mut input, &mut output, seed, 10_000_000);
+    same(rt, done, Ok(all));
+    assert!(rt; output.bytes() == text);
+}
+
+/// Eight agents, each of which stores to a line, writes it back, and loads and drops its neighbour's.
+const EIGHT_AGENTS: &[u8] =
+    b"node 8 8 8 1 1 16\nstore 0 0 0 1\nwriteback 0 0\nload 0 1 0\ndrop 0 1\nstore 1 1 0 2\nwriteback 1 1\nload 1 2 0\ndrop 1 2\nstore 2 2 0 3\nwriteback 2 2\nload 2 3 0\ndrop 2 3\nstore 3 3 0 4\nwriteback 3 3\nload 3 4 0\ndrop 3 4\nstore 4 4 0 5\nwriteback 4 4\nload 4 5 0\ndrop 4 5\nstore 5 5 0 6\nwriteback 5 5\nload 5 6 0\ndrop 5 6\nstore 6 6 0 7\nwriteback 6 6\nload 6 7 0\ndrop 6 7\nstore 7 7 0 8\nwriteback 7 7\nload 7 0 0\ndrop 7 0\n";
+
+const EIGHT_AGENTS_TEXT: &[u8] =
+    b"agents 8 finished 8\nloads 8 stores 8\nfree 1 1 hand 0 0 promised 0 0 owed 0 0\nverdict coherent\n";
+
+#[test]
+fn eight_agents_finish_with_any_seed(rt: HostRuntime) {
+    for seed in 1..=20 {
+        ends(&rt, EIGHT_AGENTS, seed, EIGHT_AGENTS_TEXT, true);
+    }
+}
+
+/// The journal has room for one record, and the script has two.
+const FULL_JOURNAL: &[u8] = b"node 1 1 1 1 1 1\nstore 0 0 0 1\nload 0 0 0\n";
+
+const FULL_JOURNAL_TEXT: &[u8] =
+    b"agents 1 finished 0\nloads 0 stores 1\nfree 1 1 hand 0 0 promised 0 0 owed 0 0\nverdict coherent\n";
+
+/// Each operation once, of two agents and four credit types, so that each copy-back finds the state that it
+/// needs or is skipped.
+const EACH_OPERATION: &[u8] =
+    b"node 2 2 1 1 1 1 1 16\nload 0 0 0\nshare 0 1 0\nstore 0 0 1 5\nwriteclean 0 0\nwriteevict 0 0\nstore 0 1 2 6\nwriteback 0 1\nload 0 1 2\nevict 0 1\nload 0 0 1\ndrop 0 0\nshare 1 0 1\nstore 1 1 0 7\nwriteclean 1 1\nevict 1 1\n";
+
+const EACH_OPERATION_TEXT: &[u8] =
+    b"agents 2 finished 2\nloads 5 stores 3\nfree 1 1 1 1 hand 0 0 0 0 promised 0 0 0 0 owed 0 0 0 0\nverdict coherent\n";
+
+/// Eight agents that all want one line, with one entry of each type.
+const ONE_LINE: &[u8] =
+    b"node 8 1 1 1 1 32\nstore 0 0 0 1\nload 0 0 0\nstore 1 0 1 1\nload 1 0 1\nstore 2 0 2 1\nload 2 0 2\nstore 3 0 3 1\nload 3 0 3\nstore 4 0 4 1\nload 4 0 4\nstore 5 0 5 1\nload 5 0 5\nstore 6 0 6 1\nload 6 0 6\nstore 7 0 7 1\nload 7 0 7\n";
+
+const ONE_LINE_TEXT: &[u8] =
+    b"agents 8 finished 8\nloads 8 stores 8\nfree 1 1 hand 0 0 promised 0 0 owed 0 0\nverdict coherent\n";
+
+/// No script at all.
+const NO_SCRIPT: &[u8] = b"node 2 2 1 1 1 16\n";
+
+const NO_SCRIPT_TEXT: &[u8] =
+    b"agents 2 finished 2\nloads 0 stores 0\nfree 1 1 hand 0 0 promised 0 0 owed 0 0\nverdict coherent\n";
+
+#[test]
+fn storms_end_with_their_lines(rt: HostRuntime) {
+    let storms: [(&[u8], &[u8], bool); 4] = [
+        (FULL_JOURNAL, FULL_JOURNAL_TEXT, false),
+        (EACH_OPERATION, EACH_OPERATION_TEXT, true),
+        (ONE_LINE, ONE_LINE_TEXT, true),
+        (NO_SCRIPT, NO_SCRIPT_TEXT, true),
+    ];
+    for (file, text, all) in storms {
+        ends(&rt, file, 7, text, all);
+    }
+}
