@@ -13,9 +13,14 @@ fn lends_each_slice<R: Abort + Wait>(rt: &R, node: &Node<Global>) {
         let Ok(slice) = node.lock(rt, Line(line)) else {
             panic!(rt; "line {line} has no slice");
         };
-        assert_eq!(rt; slice.index(), line % 2);
+        assert!(rt; slice.index() == line % 2);
     }
     assert!(rt; node.lock(rt, Line(5)).is_err());
+}
+
+/// Whether the node has five lines, and all entries of its tracker are free.
+fn is_new(node: &Node<Global>) -> bool {
+    node.config().lines() == 5 && node.tracker().glance().free == [2, 1, 0, 0]
 }
 
 #[test]
@@ -24,13 +29,11 @@ fn a_new_node_is_closed(rt: HostRuntime) {
     let made = Node::new(rt.alloc(), &config);
     let (node, requesters) = made.expect(&rt, "memory for a node");
     lends_each_slice(&rt, &node);
-    assert_eq!(rt; node.config().lines(), 5);
-    assert_eq!(rt; node.tracker().glance().free, [2, 1, 0, 0]);
+    assert!(rt; is_new(&node));
     let (slices, totals) = node.close(requesters);
-    assert_eq!(rt; slices.len(), 2);
+    assert!(rt; slices.len() == 2);
     for (place, slice) in slices.iter().enumerate() {
-        assert_eq!(rt; usize::from(slice.index()), place);
+        assert!(rt; usize::from(slice.index()) == place);
     }
-    assert_eq!(rt; totals.counts.free, [2, 1, 0, 0]);
-    assert_eq!(rt; totals.requesters.len(), 3);
+    assert!(rt; totals.counts.free == [2, 1, 0, 0] && totals.requesters.len() == 3);
 }

@@ -53,19 +53,16 @@ fn reads<R: Abort + Wait>(rt: &R, node: &Node<Global>, requester: &mut Requester
     requires own { IsOwn node.now requester.old }
     ensures own { IsOwn node.now requester.new }
 {
-    assert_eq!(rt; comes(rt, node, requester), Err(Refusal::NoFlit));
+    assert!(rt; comes(rt, node, requester) == Err(Refusal::NoFlit));
     let issue = Step::Issue(Kind::ReadUnique, Slot(4));
-    assert_eq!(rt; does(rt, node, requester, issue), Ok(Effect::Nothing));
+    assert!(rt; does(rt, node, requester, issue) == Ok(Effect::Nothing));
     assert!(rt; comes(rt, node, requester).is_ok());
-    assert_eq!(rt; does(rt, node, requester, Step::Start), Ok(Effect::Nothing));
-    assert_eq!(rt;
-        does(rt, node, requester, Step::RecvData),
-        Ok(Effect::Nothing)
-    );
+    assert!(rt; does(rt, node, requester, Step::Start) == Ok(Effect::Nothing));
+    assert!(rt; does(rt, node, requester, Step::RecvData) == Ok(Effect::Nothing));
     let load = Step::Load(WordNo(0));
-    assert_eq!(rt; does(rt, node, requester, load), Ok(Effect::Value(0)));
+    assert!(rt; does(rt, node, requester, load) == Ok(Effect::Value(0)));
     let end = does(rt, node, requester, Step::RecvAck);
-    assert_eq!(rt; end, Ok(Effect::Completed(Slot(4))));
+    assert!(rt; end == Ok(Effect::Completed(Slot(4))));
 }
 
 /// A node of one requester, four lines in two slices, and an entry of each of two types.
@@ -81,9 +78,9 @@ fn a_read_under_locks(rt: HostRuntime) {
     let (node, mut requesters) = made.expect(&rt, "memory for a node");
     let mut requester = requesters.pop().expect(&rt, "a requester");
     reads(&rt, &node, &mut requester);
-    assert_eq!(rt; requester.count(1), 1);
+    assert!(rt; requester.count(1) == 1);
     requesters.push(requester);
     let (slices, totals) = node.close(requesters);
-    assert_eq!(rt; slices[1].journal().loads(), 1);
-    assert_eq!(rt; totals.counts.free, [1, 1, 0, 0]);
+    assert!(rt; slices[1].journal().loads() == 1);
+    assert!(rt; totals.counts.free == [1, 1, 0, 0]);
 }

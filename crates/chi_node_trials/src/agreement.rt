@@ -2,6 +2,7 @@
 
 use crate::bench::{Answer, Bench, Call};
 use chi_flit::{Effect, Kind, Line, Refusal, Slot, Step, WordNo};
+use std::process::Abort;
 
 const LINE: Line = Line(1);
 
@@ -21,15 +22,20 @@ const REFUSED: [(Call, Refusal); 5] = [
     (Call::Arrives(LINE), Refusal::NoFlit),
 ];
 
+/// The requesters don't agree with the slice, and the call is refused.
+fn is_refused(rt: &impl Abort, far: &mut Bench, call: Call, refusal: Refusal) {
+    assert!(rt; !far.agree());
+    assert!(rt; far.call(1, call) == Answer::Refused(refusal), "{call:?}");
+}
+
 #[test]
 fn a_requester_of_another_node_is_refused(rt: HostRuntime) {
     let mut bench = Bench::new(&rt, rt.alloc());
     let issue = Call::Does(LINE, Step::Issue(Kind::ReadShared, Slot(4)));
     let issued = bench.call(1, issue);
-    assert_eq!(rt; issued, Answer::Done(Effect::Nothing, None));
+    assert!(rt; issued == Answer::Done(Effect::Nothing, None));
     let mut far = bench.beside(Bench::new(&rt, rt.alloc()));
     for (call, refusal) in REFUSED {
-        assert!(rt; !far.agree());
-        assert_eq!(rt; far.call(1, call), Answer::Refused(refusal), "{call:?}");
+        is_refused(&rt, &mut far, call, refusal);
     }
 }

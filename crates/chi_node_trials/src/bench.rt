@@ -212,7 +212,7 @@ impl Bench {
 pub fn plays(rt: &impl Abort, bench: &mut Bench, moves: &[Move]) {
     for (agent, call, wanted) in moves {
         let found = bench.call(*agent, *call);
-        assert_eq!(rt; found, *wanted, "requester {agent}: {call:?}");
+        assert!(rt; found == *wanted, "requester {agent}: {call:?}: {found:?}");
         assert!(rt; bench.agree(), "after requester {agent}: {call:?}");
     }
 }

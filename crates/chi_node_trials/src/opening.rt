@@ -15,20 +15,20 @@ pub const FREE: SlotRecord = SlotRecord {
     answered: false,
 };
 
-/// The requester has that number, and has done nothing yet.
-fn is_new(rt: &impl Abort, requester: &Requester, number: usize) {
-    assert_eq!(rt; usize::from(requester.number().0), number);
-    assert_eq!(rt; requester.slot(Slot(7)), FREE);
-    assert_eq!(rt; requester.lowest_idle(), Some(Slot(0)));
-    assert_eq!(rt; requester.seen(), [0; 4]);
-    assert_eq!(rt; requester.count(7), 0);
+/// Whether the requester has that number, and has done nothing yet.
+fn is_new(requester: &Requester, number: usize) -> bool {
+    usize::from(requester.number().0) == number
+        && requester.slot(Slot(7)) == FREE
+        && requester.lowest_idle() == Some(Slot(0))
+        && requester.seen() == [0; 4]
+        && requester.count(7) == 0
 }
 
 /// The slices have rising numbers, and the requester agrees with each.
 fn agrees_with(rt: &impl Abort, requester: &Requester, slices: &[Slice<Global>]) {
     for (place, slice) in slices.iter().enumerate() {
-        assert_eq!(rt; usize::from(slice.index()), place);
-        assert!(rt; agrees(slice, requester), "slice {place}");
+        let found = usize::from(slice.index());
+        assert!(rt; found == place && agrees(slice, requester), "slice {place}");
     }
 }
 
@@ -37,10 +37,9 @@ fn the_parts_of_a_node(rt: HostRuntime) {
     let config = Config::new(3, 4, 2, 2, 1, 16).expect(&rt, "sizes in their limits");
     let made = parts(rt.alloc(), &config);
     let (slices, _tracker, requesters) = made.expect(&rt, "memory for a node");
-    assert_eq!(rt; slices.len(), 2);
-    assert_eq!(rt; requesters.len(), 3);
+    assert!(rt; slices.len() == 2 && requesters.len() == 3);
     for (number, requester) in requesters.as_slice().iter().enumerate() {
-        is_new(&rt, requester, number);
+        assert!(rt; is_new(requester, number), "requester {number}");
         agrees_with(&rt, requester, &slices);
     }
 }

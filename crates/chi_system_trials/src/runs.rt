@@ -16,7 +16,7 @@ use chi_tracker::Released::{Freed, Granted};
 use std::alloc::Global;
 
 /// An agent's call, at a line if it is of one, and what it is answered.
-type Move = (u8, u8, Deed, Answer);
+pub type Move = (u8, u8, Deed, Answer);
 
 /// A ReadUnique takes the line from under a waiting WriteBackFull, whose data then changes nothing.
 const SNOOP_CROSSES_WRITE_BACK: [Move; 20] = [
@@ -172,7 +172,7 @@ const RUNS: [((u8, u8, u16, u16), &[Move]); 5] = [
 ];
 
 /// The first call that is answered otherwise, or after which a requester doesn't agree.
-fn first_wrong(system: &mut System<Global>, moves: &[Move]) -> Option<Move> {
+pub fn first_wrong(system: &mut System<Global>, moves: &[Move]) -> Option<Move> {
     for (agent, line, deed, answer) in moves {
         let told = play(system, *agent, *line, *deed);
         if told != *answer || !system.agrees() {
@@ -187,7 +187,7 @@ fn every_requester_agrees_after_each_call(rt: HostRuntime) {
     for ((agents, lines, t0, t1), moves) in RUNS {
         let config = Config::new(agents, lines, 1, t0, t1, 8).expect(&rt, "sizes in their limits");
         let mut system = System::new(rt.alloc(), &config).expect(&rt, "memory for a node");
-        assert_eq!(rt; first_wrong(&mut system, moves), None);
-        assert!(rt; system.audit().coherent);
+        let wrong = first_wrong(&mut system, moves);
+        assert!(rt; wrong.is_none() && system.audit().coherent, "{wrong:?}");
     }
 }

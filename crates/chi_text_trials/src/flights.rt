@@ -4,7 +4,6 @@ use crate::prints::prints;
 use chi_flit::{CompData, DatUp, Kind, NO_DATA, Request, RspDown, RspUp, Slot, Snoop};
 use chi_reply::InFlight;
 use chi_wires::Cells;
-use std::test::Fail;
 
 const REQUEST: Request = Request {
     kind: Kind::ReadNotSharedDirty,
@@ -18,39 +17,40 @@ const DATA: CompData = CompData {
 };
 
 #[test]
-fn prints_a_flit(rt: HostRuntime) -> Result<(), Fail> {
+fn prints_a_flit(rt: HostRuntime) {
     let mut cells = Cells::new();
-    assert!(rt; prints(&rt, InFlight(&cells), "ok none")?);
+    prints(&rt, rt.alloc(), InFlight(&cells), "ok none");
     cells.req = Some(REQUEST);
-    assert!(rt; prints(&rt, InFlight(&cells), "ok ReadNotSharedDirty/2/credit")?);
+    prints(
+        &rt,
+        rt.alloc(),
+        InFlight(&cells),
+        "ok ReadNotSharedDirty/2/credit",
+    );
     cells.req = None;
     cells.dat_up = Some(DatUp::SnpRespDataSCPD(NO_DATA));
-    assert!(rt; prints(&rt, InFlight(&cells), "ok SnpRespData_SC_PD")?);
-    Ok(())
+    prints(&rt, rt.alloc(), InFlight(&cells), "ok SnpRespData_SC_PD");
 }
 
 #[test]
-fn prints_flits_by_channel(rt: HostRuntime) -> Result<(), Fail> {
+fn prints_flits_by_channel(rt: HostRuntime) {
     let mut cells = Cells::new();
     cells.dat_up = Some(DatUp::SnpRespDataSD(NO_DATA));
     cells.rsp_up = Some(RspUp::CompAck);
     cells.dat_down = Some(DATA);
     cells.snp = Some(Snoop::SnpUnique);
-    assert!(rt;
-        prints(
-            &rt,
-            InFlight(&cells),
-            "ok SnpUnique CompData_UC CompAck SnpRespData_SD"
-        )?
+    prints(
+        &rt,
+        rt.alloc(),
+        InFlight(&cells),
+        "ok SnpUnique CompData_UC CompAck SnpRespData_SD",
     );
     cells.rsp_down = Some(RspDown::CompI);
     cells.req = Some(REQUEST);
-    assert!(rt;
-        prints(
-            &rt,
-            InFlight(&cells),
-            "ok ReadNotSharedDirty/2/credit SnpUnique Comp_I CompData_UC CompAck SnpRespData_SD"
-        )?
+    prints(
+        &rt,
+        rt.alloc(),
+        InFlight(&cells),
+        "ok ReadNotSharedDirty/2/credit SnpUnique Comp_I CompData_UC CompAck SnpRespData_SD",
     );
-    Ok(())
 }

@@ -5,26 +5,37 @@ use chi_script::{
     Command, Fault, Header, MOST_BYTES, commands_are_lines, front_is_enough, headers_are_lines,
     number, numbers_are_decimal, read_command, read_file, read_header, small,
 };
-use std::alloc::AllocError;
+use std::alloc::{AllocError, Global};
+use std::process::Abort;
 
 /// The header of six numbers that stands before the commands of most tests.
 const HEADER: &[u8] = b"node 2 4 1 1 1 4\n";
 
 /// What reading a file answers, without the commands.
-fn fault_of(rt: &HostRuntime, bytes: &[u8]) -> Option<Fault> {
-    match read_file(rt.alloc(), bytes) {
+fn fault_of(alloc: Global, bytes: &[u8]) -> Option<Fault> {
+    match read_file(alloc, bytes) {
         Ok(_) => None,
         Err(fault) => Some(fault),
     }
 }
 
+/// Reading the file has that fault, or none.
+fn faults(rt: &impl Abort, alloc: Global, file: &[u8], wanted: Option<Fault>) {
+    assert!(rt; fault_of(alloc, file) == wanted, "{file:?}");
+}
+
 /// What one line, which is given without its end, is as line 2 of a file.
-fn line_two(rt: &HostRuntime, line: &[u8]) -> Result<Option<Command>, Fault> {
-    let mut file = Vec::from_slice(rt.alloc(), HEADER)?;
+fn line_two(alloc: Global, line: &[u8]) -> Result<Option<Command>, Fault> {
+    let mut file = Vec::from_slice(alloc, HEADER)?;
     file.extend_from_slice(line)?;
     file.push(b'\n')?;
-    let script = read_file(rt.alloc(), &file)?;
+    let script = read_file(alloc, &file)?;
     Ok(script.commands.first().copied())
+}
+
+/// One line, which is given without its end, is read so.
+fn reads(rt: &impl Abort, alloc: Global, line: &[u8], wanted: Result<Option<Command>, Fault>) {
+    assert!(rt; line_two(alloc, line) == wanted, "{line:?}");
 }
 
 /// A command that is one step of agent 1 on line 3.
@@ -49,7 +60,7 @@ fn a_good_file_is_its_header_and_its_commands(rt: HostRuntime) -> Result<(), Fau
         journal: 65_536,
         profile: Profile::Two,
     };
-    assert_eq!(rt; script.header, header);
+    assert!(rt; script.header == header);
     let commands = [
         act(Step::Issue(Kind::ReadNotSharedDirty, Slot(7))),
         Command::Arrive {
@@ -67,58 +78,58 @@ fn a_good_file_is_its_header_and_its_commands(rt: HostRuntime) -> Result<(), Fau
         Command::Totals,
         Command::Audit,
     ];
-    assert_eq!(rt; script.commands.as_slice(), commands.as_slice());
+    assert!(rt; script.commands.as_slice() == commands.as_slice());
     Ok(())
 }
 
-#[test]
-fn each_action_is_a_line(rt: HostRuntime) -> Result<(), Fault> {
-    let lines: [(&[u8], Step); 18] = [
-        (b"load 1 3 0", Step::Load(WordNo(0))),
-        (b"load 1 3 256", Step::Load(WordNo(255))),
-        (b"store 1 3 0 0", Step::Store(WordNo(0), 0)),
-        (b"store 1 3 7 256", Step::Store(WordNo(7), 256)),
-        (
-            b"store 1 3 1000 18446744073709551615",
-            Step::Store(WordNo(255), 18_446_744_073_709_551_615),
-        ),
-        (b"drop 1 3", Step::Drop),
-        (b"issue 1 3 Evict 256", Step::Issue(Kind::Evict, Slot(255))),
-        (b"start 1 3", Step::Start),
-        (b"snp 1 3", Step::RecvSnp),
-        (b"snpresp 1 3", Step::RecvSnpResp),
-        (b"retryack 1 3", Step::RecvRetry),
-        (b"resend 1 3", Step::Resend),
-        (b"cancel 1 3", Step::Cancel),
-        (b"data 1 3", Step::RecvData),
-        (b"comp 1 3", Step::RecvComp),
-        (b"ack 1 3", Step::RecvAck),
-        (b"dbid 1 3", Step::RecvDbid),
-        (b"wrdata 1 3", Step::RecvWrData),
-    ];
-    for (line, step) in lines {
-        assert_eq!(rt; line_two(&rt, line)?, Some(act(step)), "{line:?}");
-    }
-    Ok(())
-}
+const ACTIONS: [(&[u8], Step); 18] = [
+    (b"load 1 3 0", Step::Load(WordNo(0))),
+    (b"load 1 3 256", Step::Load(WordNo(255))),
+    (b"store 1 3 0 0", Step::Store(WordNo(0), 0)),
+    (b"store 1 3 7 256", Step::Store(WordNo(7), 256)),
+    (
+        b"store 1 3 1000 18446744073709551615",
+        Step::Store(WordNo(255), 18_446_744_073_709_551_615),
+    ),
+    (b"drop 1 3", Step::Drop),
+    (b"issue 1 3 Evict 256", Step::Issue(Kind::Evict, Slot(255))),
+    (b"start 1 3", Step::Start),
+    (b"snp 1 3", Step::RecvSnp),
+    (b"snpresp 1 3", Step::RecvSnpResp),
+    (b"retryack 1 3", Step::RecvRetry),
+    (b"resend 1 3", Step::Resend),
+    (b"cancel 1 3", Step::Cancel),
+    (b"data 1 3", Step::RecvData),
+    (b"comp 1 3", Step::RecvComp),
+    (b"ack 1 3", Step::RecvAck),
+    (b"dbid 1 3", Step::RecvDbid),
+    (b"wrdata 1 3", Step::RecvWrData),
+];
 
 #[test]
-fn each_kind_is_named(rt: HostRuntime) -> Result<(), Fault> {
-    let lines: [(&[u8], Kind); 8] = [
-        (b"issue 1 3 ReadNotSharedDirty 0", Kind::ReadNotSharedDirty),
-        (b"issue 1 3 ReadShared 0", Kind::ReadShared),
-        (b"issue 1 3 ReadUnique 0", Kind::ReadUnique),
-        (b"issue 1 3 CleanUnique 0", Kind::CleanUnique),
-        (b"issue 1 3 Evict 0", Kind::Evict),
-        (b"issue 1 3 WriteBackFull 0", Kind::WriteBackFull),
-        (b"issue 1 3 WriteCleanFull 0", Kind::WriteCleanFull),
-        (b"issue 1 3 WriteEvictFull 0", Kind::WriteEvictFull),
-    ];
-    for (line, kind) in lines {
-        let issue = act(Step::Issue(kind, Slot(0)));
-        assert_eq!(rt; line_two(&rt, line)?, Some(issue), "{line:?}");
+fn each_action_is_a_line(rt: HostRuntime) {
+    for (line, step) in &ACTIONS {
+        reads(&rt, rt.alloc(), line, Ok(Some(act(*step))));
     }
-    Ok(())
+}
+
+const KINDS: [(&[u8], Kind); 8] = [
+    (b"issue 1 3 ReadNotSharedDirty 0", Kind::ReadNotSharedDirty),
+    (b"issue 1 3 ReadShared 0", Kind::ReadShared),
+    (b"issue 1 3 ReadUnique 0", Kind::ReadUnique),
+    (b"issue 1 3 CleanUnique 0", Kind::CleanUnique),
+    (b"issue 1 3 Evict 0", Kind::Evict),
+    (b"issue 1 3 WriteBackFull 0", Kind::WriteBackFull),
+    (b"issue 1 3 WriteCleanFull 0", Kind::WriteCleanFull),
+    (b"issue 1 3 WriteEvictFull 0", Kind::WriteEvictFull),
+];
+
+#[test]
+fn each_kind_is_named(rt: HostRuntime) {
+    for (line, kind) in &KINDS {
+        let issue = act(Step::Issue(*kind, Slot(0)));
+        reads(&rt, rt.alloc(), line, Ok(Some(issue)));
+    }
 }
 
 const OTHER_LINES: [&[u8]; 48] = [
@@ -174,79 +185,95 @@ const OTHER_LINES: [&[u8]; 48] = [
 
 #[test]
 fn other_lines_are_no_commands(rt: HostRuntime) {
-    for line in OTHER_LINES {
-        assert_eq!(rt; line_two(&rt, line), Err(Fault::BadCommand(2)), "{line:?}");
+    for line in &OTHER_LINES {
+        reads(&rt, rt.alloc(), line, Err(Fault::BadCommand(2)));
     }
 }
 
+const AGENT: Agent = Agent(1);
+
+const CREDIT: Option<CreditType> = Some(CreditType::T2);
+
+const CREDITS: [(&[u8], Command); 6] = [
+    (b"see 1", Command::See { agent: AGENT }),
+    (b"see 256", Command::See { agent: Agent(255) }),
+    (
+        b"giveback 1 2",
+        Command::GiveBack {
+            agent: AGENT,
+            credit: CREDIT,
+        },
+    ),
+    (
+        b"giveback 1 4",
+        Command::GiveBack {
+            agent: AGENT,
+            credit: None,
+        },
+    ),
+    (
+        b"tend 1 2",
+        Command::Tend {
+            agent: AGENT,
+            credit: CREDIT,
+        },
+    ),
+    (
+        b"tend 1 256",
+        Command::Tend {
+            agent: AGENT,
+            credit: None,
+        },
+    ),
+];
+
 #[test]
-fn credits_have_commands(rt: HostRuntime) -> Result<(), Fault> {
-    let agent = Agent(1);
-    let credit = Some(CreditType::T2);
-    let lines: [(&[u8], Command); 6] = [
-        (b"see 1", Command::See { agent }),
-        (b"see 256", Command::See { agent: Agent(255) }),
-        (b"giveback 1 2", Command::GiveBack { agent, credit }),
-        (
-            b"giveback 1 4",
-            Command::GiveBack {
-                agent,
-                credit: None,
-            },
-        ),
-        (b"tend 1 2", Command::Tend { agent, credit }),
-        (
-            b"tend 1 256",
-            Command::Tend {
-                agent,
-                credit: None,
-            },
-        ),
-    ];
-    for (line, command) in lines {
-        assert_eq!(rt; line_two(&rt, line)?, Some(command), "{line:?}");
+fn credits_have_commands(rt: HostRuntime) {
+    for (line, command) in &CREDITS {
+        reads(&rt, rt.alloc(), line, Ok(Some(*command)));
     }
-    Ok(())
 }
+
+const HEADERS: [&[u8]; 10] = [
+    b"node 1 1 1 1 1 4\n",
+    b"node 2 8 1 1 1 4\n",
+    b"node 7 64 1 32 32 65536\n",
+    b"node 8 1 1 1 1 1\n",
+    b"node 2 8 2 1 1 4\n",
+    b"node 2 8 4 1 1 4\n",
+    b"node 2 8 8 1 1 4\n",
+    b"node 1 1 1 1 1 1 1 4\n",
+    b"node 8 64 8 64 64 64 64 65536\n",
+    b"node 2 8 2 253 1 1 1 4\n",
+];
 
 #[test]
 fn headers_of_both_forms_are_read(rt: HostRuntime) {
-    let headers: [&[u8]; 10] = [
-        b"node 1 1 1 1 1 4\n",
-        b"node 2 8 1 1 1 4\n",
-        b"node 7 64 1 32 32 65536\n",
-        b"node 8 1 1 1 1 1\n",
-        b"node 2 8 2 1 1 4\n",
-        b"node 2 8 4 1 1 4\n",
-        b"node 2 8 8 1 1 4\n",
-        b"node 1 1 1 1 1 1 1 4\n",
-        b"node 8 64 8 64 64 64 64 65536\n",
-        b"node 2 8 2 253 1 1 1 4\n",
-    ];
-    for file in headers {
-        assert_eq!(rt; fault_of(&rt, file), None, "{file:?}");
+    for file in &HEADERS {
+        faults(&rt, rt.alloc(), file, None);
     }
 }
 
+const OTHER_HEADERS: [&[u8]; 13] = [
+    b"node 0 8 1 1 1 4\n",
+    b"node 9 8 1 1 1 4\n",
+    b"node 257 8 1 1 1 4\n",
+    b"node 2 8 0 1 1 4\n",
+    b"node 2 8 3 1 1 4\n",
+    b"node 2 8 16 1 1 4\n",
+    b"node 2 7 8 1 1 4\n",
+    b"node 2 8 1 1 1 0 1 4\n",
+    b"node 2 8 1 1 1 1 0 4\n",
+    b"node 2 8 1 254 1 1 1 4\n",
+    b"node 2 8 1 1 1 1 1 0\n",
+    b"node 2 8 1 1 1 1 4\n",
+    b"node 2 8 1 1 1 1 1 1 4\n",
+];
+
 #[test]
 fn other_headers_are_bad(rt: HostRuntime) {
-    let headers: [&[u8]; 13] = [
-        b"node 0 8 1 1 1 4\n",
-        b"node 9 8 1 1 1 4\n",
-        b"node 257 8 1 1 1 4\n",
-        b"node 2 8 0 1 1 4\n",
-        b"node 2 8 3 1 1 4\n",
-        b"node 2 8 16 1 1 4\n",
-        b"node 2 7 8 1 1 4\n",
-        b"node 2 8 1 1 1 0 1 4\n",
-        b"node 2 8 1 1 1 1 0 4\n",
-        b"node 2 8 1 254 1 1 1 4\n",
-        b"node 2 8 1 1 1 1 1 0\n",
-        b"node 2 8 1 1 1 1 4\n",
-        b"node 2 8 1 1 1 1 1 1 4\n",
-    ];
-    for file in headers {
-        assert_eq!(rt; fault_of(&rt, file), Some(Fault::BadHeader), "{file:?}");
+    for file in &OTHER_HEADERS {
+        faults(&rt, rt.alloc(), file, Some(Fault::BadHeader));
     }
 }
 
@@ -293,63 +320,61 @@ const FAULTY_FILES: [(&[u8], Fault); 25] = [
 
 #[test]
 fn the_first_fault_is_told(rt: HostRuntime) {
-    for (file, fault) in FAULTY_FILES {
-        assert_eq!(rt; fault_of(&rt, file), Some(fault), "{file:?}");
+    for (file, fault) in &FAULTY_FILES {
+        faults(&rt, rt.alloc(), file, Some(*fault));
     }
 }
 
 #[test]
 fn the_largest_number_is_read(rt: HostRuntime) {
     let file = b"node 1 1 1 1 1 1\nshow 18446744073709551615\n";
-    assert_eq!(rt; fault_of(&rt, file), None);
-    assert_eq!(rt;
-        number(b"18446744073709551615"),
-        Some(18_446_744_073_709_551_615)
-    );
-    assert_eq!(rt; small(b"254"), Some(254));
-    assert_eq!(rt; small(b"-1"), None);
+    faults(&rt, rt.alloc(), file, None);
+    assert!(rt; number(b"18446744073709551615") == Some(18_446_744_073_709_551_615));
+    assert!(rt; small(b"254") == Some(254) && small(b"-1").is_none());
 }
 
 #[test]
 fn a_file_above_the_limit_is_too_large(rt: HostRuntime) -> Result<(), AllocError> {
     let mut file = Vec::from_slice(rt.alloc(), b"node 1 1 1 1 1 1\n")?;
     file.resize(MOST_BYTES, b' ')?;
-    assert_eq!(rt; fault_of(&rt, &file), Some(Fault::MissingNewline(2)));
+    faults(&rt, rt.alloc(), &file, Some(Fault::MissingNewline(2)));
     file.push(b' ')?;
-    assert_eq!(rt; fault_of(&rt, &file), Some(Fault::TooLarge));
+    faults(&rt, rt.alloc(), &file, Some(Fault::TooLarge));
     Ok(())
 }
 
+/// Each fault, its status and its line.
+const FAULTS: [(Fault, u8, &str); 7] = [
+    (Fault::NoMemory, 3, "chihome: out of memory"),
+    (Fault::BadHeader, 1, "chihome: line 1: bad header"),
+    (Fault::BadCommand(2), 1, "chihome: line 2: bad command"),
+    (
+        Fault::MissingNewline(30),
+        1,
+        "chihome: line 30: missing newline",
+    ),
+    (Fault::TooLarge, 1, "chihome: file too large"),
+    (Fault::Read, 1, "chihome: cannot read"),
+    (Fault::Write, 1, "chihome: cannot write"),
+];
+
 #[test]
-fn a_fault_is_a_line_and_a_status(rt: HostRuntime) -> Result<(), AllocError> {
-    let lines = [
-        (Fault::NoMemory, 3, "chihome: out of memory"),
-        (Fault::BadHeader, 1, "chihome: line 1: bad header"),
-        (Fault::BadCommand(2), 1, "chihome: line 2: bad command"),
-        (
-            Fault::MissingNewline(30),
-            1,
-            "chihome: line 30: missing newline",
-        ),
-        (Fault::TooLarge, 1, "chihome: file too large"),
-        (Fault::Read, 1, "chihome: cannot read"),
-        (Fault::Write, 1, "chihome: cannot write"),
-    ];
-    for (fault, status, line) in lines {
-        assert_eq!(rt; fault.status(), status);
-        let text = format!(in rt.alloc(); "{fault}")?;
-        assert_eq!(rt; text.as_str(), line);
+fn a_fault_is_a_line_and_a_status(rt: HostRuntime) {
+    for (fault, status, line) in &FAULTS {
+        is_told(&rt, rt.alloc(), fault, *status, line);
     }
-    Ok(())
+}
+
+/// The fault has that status and that line.
+fn is_told(rt: &impl Abort, alloc: Global, fault: &Fault, status: u8, line: &str) {
+    let text = format!(in alloc; "{fault}").expect(rt, "memory for a line");
+    assert!(rt; fault.status() == status && text.as_str() == line, "{line}");
 }
 
 #[test]
 fn words_are_read_alone(rt: HostRuntime) {
     let command: [&[u8]; 2] = [b"show", b"1"];
-    assert_eq!(rt;
-        read_command(&command),
-        Some(Command::Show { line: Line(1) })
-    );
+    assert!(rt; read_command(&command) == Some(Command::Show { line: Line(1) }));
     let header: [&[u8]; 7] = [b"node", b"1", b"1", b"1", b"1", b"1", b"1"];
     assert!(rt; read_header(&header).is_some());
     numbers_are_decimal();

@@ -6,7 +6,6 @@ use chi_homeline::{Serving, Waiting};
 use chi_line::{CopyView, LineView};
 use chi_reply::Shown;
 use chi_wires::Cells;
-use std::test::Fail;
 
 const NOBODY: [bool; 8] = [false; 8];
 
@@ -51,18 +50,17 @@ fn request(kind: Kind) -> Option<Waiting> {
 }
 
 #[test]
-fn prints_copies_and_names(rt: HostRuntime) -> Result<(), Fail> {
+fn prints_copies_and_names(rt: HostRuntime) {
     let mut view = idle_line();
     let nothing = Shown {
         agents: 1,
         view: &view,
     };
-    assert!(rt;
-        prints(
-            &rt,
-            nothing,
-            "ok copies I named - unique no serving none waiting - memory 0 0 0 0 0 0 0 0"
-        )?
+    prints(
+        &rt,
+        rt.alloc(),
+        nothing,
+        "ok copies I named - unique no serving none waiting - memory 0 0 0 0 0 0 0 0",
     );
     view.copies[0] = copy_in(State::SD);
     view.copies[1] = copy_in(State::SC);
@@ -73,18 +71,16 @@ fn prints_copies_and_names(rt: HostRuntime) -> Result<(), Fail> {
         agents: 3,
         view: &view,
     };
-    assert!(rt;
-        prints(
-            &rt,
-            shared,
-            "ok copies SD,SC,I named 0,1 unique no serving none waiting - memory 0 0 0 7 0 0 0 0"
-        )?
+    prints(
+        &rt,
+        rt.alloc(),
+        shared,
+        "ok copies SD,SC,I named 0,1 unique no serving none waiting - memory 0 0 0 7 0 0 0 0",
     );
-    Ok(())
 }
 
 #[test]
-fn prints_a_snoop_beside_a_request_that_waits(rt: HostRuntime) -> Result<(), Fail> {
+fn prints_a_snoop_beside_a_request_that_waits(rt: HostRuntime) {
     let mut view = dirty_line();
     view.serving = Serving::Snooping {
         agent: Agent(1),
@@ -96,18 +92,16 @@ fn prints_a_snoop_beside_a_request_that_waits(rt: HostRuntime) -> Result<(), Fai
         agents: 2,
         view: &view,
     };
-    assert!(rt;
-        prints(
-            &rt,
-            snooping,
-            "ok copies UD,I named 0 unique yes serving snooping 1 waiting 0 memory 0 0 0 0 0 0 0 0"
-        )?
+    prints(
+        &rt,
+        rt.alloc(),
+        snooping,
+        "ok copies UD,I named 0 unique yes serving snooping 1 waiting 0 memory 0 0 0 0 0 0 0 0",
     );
-    Ok(())
 }
 
 #[test]
-fn prints_write_data_that_is_awaited(rt: HostRuntime) -> Result<(), Fail> {
+fn prints_write_data_that_is_awaited(rt: HostRuntime) {
     let mut view = dirty_line();
     view.serving = Serving::AwaitingWriteData {
         agent: Agent(0),
@@ -118,18 +112,16 @@ fn prints_write_data_that_is_awaited(rt: HostRuntime) -> Result<(), Fail> {
         agents: 1,
         view: &view,
     };
-    assert!(rt;
-        prints(
-            &rt,
-            written,
-            "ok copies UD named 0 unique yes serving wrdata 0 waiting - memory 0 0 0 0 0 0 0 0"
-        )?
+    prints(
+        &rt,
+        rt.alloc(),
+        written,
+        "ok copies UD named 0 unique yes serving wrdata 0 waiting - memory 0 0 0 0 0 0 0 0",
     );
-    Ok(())
 }
 
 #[test]
-fn prints_all_eight_agents(rt: HostRuntime) -> Result<(), Fail> {
+fn prints_all_eight_agents(rt: HostRuntime) {
     let mut view = idle_line();
     view.copies[5] = copy_in(State::UC);
     view.copies[7] = copy_in(State::SC);
@@ -147,12 +139,10 @@ fn prints_all_eight_agents(rt: HostRuntime) -> Result<(), Fail> {
         agents: 8,
         view: &view,
     };
-    assert!(rt;
-        prints(
-            &rt,
-            eight,
-            "ok copies I,I,I,I,I,UC,I,SC named 5,7 unique no serving compack 5 waiting 2,6,7 memory 1 2 3 4 5 6 7 18446744073709551615"
-        )?
+    prints(
+        &rt,
+        rt.alloc(),
+        eight,
+        "ok copies I,I,I,I,I,UC,I,SC named 5,7 unique no serving compack 5 waiting 2,6,7 memory 1 2 3 4 5 6 7 18446744073709551615",
     );
-    Ok(())
 }

@@ -3,10 +3,9 @@
 use crate::prints::prints;
 use chi_flit::Profile;
 use chi_reply::Totals;
-use std::test::Fail;
 
 #[test]
-fn prints_two_types(rt: HostRuntime) -> Result<(), Fail> {
+fn prints_two_types(rt: HostRuntime) {
     let totals = Totals {
         free: [0, 1, 0, 0],
         hand: [2, 1, 0, 0],
@@ -14,12 +13,16 @@ fn prints_two_types(rt: HostRuntime) -> Result<(), Fail> {
         owed: [6, 0, 0, 0],
         profile: Profile::Two,
     };
-    assert!(rt; prints(&rt, totals, "ok free 0 1 hand 2 1 promised 1 0 owed 6 0")?);
-    Ok(())
+    prints(
+        &rt,
+        rt.alloc(),
+        totals,
+        "ok free 0 1 hand 2 1 promised 1 0 owed 6 0",
+    );
 }
 
 #[test]
-fn prints_four_types(rt: HostRuntime) -> Result<(), Fail> {
+fn prints_four_types(rt: HostRuntime) {
     let totals = Totals {
         free: [62, 0, 2, 1],
         hand: [1, 1, 0, 0],
@@ -27,12 +30,10 @@ fn prints_four_types(rt: HostRuntime) -> Result<(), Fail> {
         owed: [0, 0, 0, 0],
         profile: Profile::Four,
     };
-    assert!(rt;
-        prints(
-            &rt,
-            totals,
-            "ok free 62 0 2 1 hand 1 1 0 0 promised 0 0 0 0 owed 0 0 0 0"
-        )?
+    prints(
+        &rt,
+        rt.alloc(),
+        totals,
+        "ok free 62 0 2 1 hand 1 1 0 0 promised 0 0 0 0 owed 0 0 0 0",
     );
-    Ok(())
 }

@@ -2,9 +2,10 @@
 
 ghost use Rattle.std.specs.Prelude.{◌≡◌};
 
+use crate::moves::{answer, look};
 use chi_flit::{Agent, Kind, Line, NO_DATA, Refusal, Slot};
 use chi_homeline::Serving;
-use chi_slice::{Action, Config, CopyView, Effect, LineView, Slice, Step};
+use chi_slice::{Action, Config, CopyView, Effect, LineView, Place, Slice, Step, Where};
 use chi_wires::Cells;
 use std::alloc::Global;
 use std::process::Abort;
@@ -102,7 +103,13 @@ pub fn answered(
     action: Action,
     wanted: Result<Effect, Refusal>,
 ) {
-    assert_eq!(rt; slice.act(action), wanted, "{action:?}");
+    let done = answer(slice, action);
+    assert!(rt; done == wanted, "{action:?}: {done:?}");
+}
+
+/// What the slice says that the action would complete.
+fn completes(slice: &Slice<Global>, action: Action) -> Option<Slot> {
+    slice.completes(action)
 }
 
 /// The slot that the action would complete.
@@ -112,28 +119,123 @@ pub fn would_complete(
     action: Action,
     wanted: Option<Slot>,
 ) {
-    assert_eq!(rt; slice.completes(action), wanted, "{action:?}");
+    assert!(rt; completes(slice, action) == wanted, "{action:?}");
 }
 
 /// What is shown of a line.
 pub fn shows(rt: &impl Abort, slice: &Slice<Global>, line: Line, wanted: LineView) {
-    assert_eq!(rt; slice.view(line), Ok(wanted), "{line:?}");
+    assert!(rt; look(slice, line) == Ok(wanted), "{line:?}");
 }
 
-/// The slice does all of these, and none completes a request.
-pub fn does_all(rt: &impl Abort, slice: &mut Slice<Global>, actions: &[Action]) {
-    for action in actions {
-        answered(rt, slice, *action, Ok(Effect::Nothing));
+/// Where the slice finds the agent's slot.
+fn place_of(slice: &Slice<Global>, agent: Agent, slot: Slot) -> Option<Place> {
+    slice.place(agent, slot)
+}
+
+/// Where the agent's slot is found.
+pub fn is_placed(
+    rt: &impl Abort,
+    slice: &Slice<Global>,
+    agent: Agent,
+    slot: Slot,
+    wanted: Option<Place>,
+) {
+    assert!(rt;
+        place_of(slice, agent, slot) == wanted,
+        "{agent:?} {slot:?}"
+    );
+}
+
+/// An agent's step at a line, and why it is refused.
+pub type Refused = (Agent, Line, Step, Refusal);
+
+/// All these are refused, and `LINE` is shown as before.
+fn refuses_all(rt: &impl Abort, slice: &mut Slice<Global>, table: &[Refused]) {
+    let before = look(slice, LINE);
+    for (agent, line, step, refusal) in table {
+        let action = Action {
+            agent: *agent,
+            line: *line,
+            step: *step,
+        };
+        answered(rt, slice, action, Err(*refusal));
+    }
+    assert!(rt; look(slice, LINE) == before);
+}
+
+/// One part of a test.
+#[derive(Clone, Copy)]
+pub enum Part {
+    /// The agent does these steps at `LINE`, and none completes a request.
+    Does(Agent, &'static [Step]),
+    /// The agent's step at `LINE` would complete the slot, and does.
+    Completes(Agent, Step, Slot),
+    /// The agent's step would complete nothing, and completes nothing.
+    Goes(Agent, Line, Step),
+    /// The agent's step at `LINE` would complete nothing.
+    WouldGo(Agent, Step),
+    /// All these are refused, and `LINE` is shown as before.
+    Refuses(&'static [Refused]),
+    /// The agent's slot is found at the line.
+    Is(Agent, Slot, Line, Where),
+    /// The agent's slot isn't in use.
+    IsFree(Agent, Slot),
+    /// The line is shown as nothing was asked of it.
+    Opening(Line),
+}
+
+/// The agent does these steps at `LINE`.
+fn does_steps(rt: &impl Abort, slice: &mut Slice<Global>, agent: Agent, steps: &[Step]) {
+    for step in steps {
+        answered(rt, slice, at(agent, *step), Ok(Effect::Nothing));
     }
 }
 
-/// The reader reads the line into the slot, by a request of the kind; nobody is snooped.
-pub fn reads(rt: &impl Abort, slice: &mut Slice<Global>, kind: Kind, slot: Slot) {
-    let read = issue(READER, LINE, kind, slot);
-    does_all(
-        rt,
-        slice,
-        &[read, admit(READER), start(READER), data(READER)],
-    );
-    answered(rt, slice, ack(READER), Ok(Effect::Completed(slot)));
+/// The action would complete the slot, and does.
+fn completes_it(rt: &impl Abort, slice: &mut Slice<Global>, action: Action, slot: Slot) {
+    would_complete(rt, slice, action, Some(slot));
+    answered(rt, slice, action, Ok(Effect::Completed(slot)));
 }
+
+/// The action would complete nothing, and completes nothing.
+pub fn goes(rt: &impl Abort, slice: &mut Slice<Global>, action: Action) {
+    would_complete(rt, slice, action, None);
+    answered(rt, slice, action, Ok(Effect::Nothing));
+}
+
+/// The slice does this part.
+pub fn plays(rt: &impl Abort, slice: &mut Slice<Global>, part: Part) {
+    match part {
+        Part::Does(agent, steps) => does_steps(rt, slice, agent, steps),
+        Part::Completes(agent, step, slot) => completes_it(rt, slice, at(agent, step), slot),
+        Part::Goes(agent, line, step) => goes(rt, slice, Action { agent, line, step }),
+        Part::WouldGo(agent, step) => would_complete(rt, slice, at(agent, step), None),
+        Part::Refuses(table) => refuses_all(rt, slice, table),
+        Part::Is(agent, slot, line, at) => {
+            is_placed(rt, slice, agent, slot, Some(Place { line, at }));
+        }
+        Part::IsFree(agent, slot) => is_placed(rt, slice, agent, slot, None),
+        Part::Opening(line) => shows(rt, slice, line, OPENING),
+    }
+}
+
+/// The slice does all these parts, one after the other.
+pub fn plays_all(rt: &impl Abort, slice: &mut Slice<Global>, parts: &[Part]) {
+    for part in parts {
+        plays(rt, slice, *part);
+    }
+}
+
+/// What the reader does to read `LINE` by a ReadUnique into slot 0, where nobody is snooped.
+pub const READ_UNIQUE: [Part; 2] = [
+    Part::Does(
+        READER,
+        &[
+            Step::Issue(Kind::ReadUnique, Slot(0)),
+            Step::Admit,
+            Step::Start,
+            Step::RecvData,
+        ],
+    ),
+    Part::Completes(READER, Step::RecvAck, Slot(0)),
+];

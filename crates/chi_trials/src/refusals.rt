@@ -2,30 +2,45 @@
 //! changed by it.
 
 use crate::moves::{
-    LINE, answer, answers, asks, at, brings, does, look, reads, recorded, slice_of, takes_data,
-    waits,
+    LINE, answer, answers, asks, at, brings, does, look, recorded, slice_of, takes_data, waits,
 };
-use chi_flit::{Agent, Kind, Line, Slot, State, WordNo};
-use chi_slice::{Action, Slice, Step};
+use chi_flit::{Agent, Kind, Line, Refusal, Slot, State, WordNo};
+use chi_slice::{Action, LineView, Slice, Step};
 use std::alloc::Global;
 use std::process::Abort;
 
-/// The slice says that it would refuse the action with this number, and does so.
-fn is_refused(rt: &impl Abort, slice: &mut Slice<Global>, action: Action, number: u8) {
-    let told = slice.refusal(action, false).map(|refusal| refusal.number());
-    assert_eq!(rt; told, Some(number), "{action:?}");
-    let refusal = answer(slice, action).err().map(|refusal| refusal.number());
-    assert_eq!(rt; refusal, Some(number), "{action:?}");
+/// What is shown of both lines, and how many records there are.
+type Seen = (Result<LineView, Refusal>, Result<LineView, Refusal>, usize);
+
+/// Both lines as they are shown, and the count of the records.
+fn seen(slice: &Slice<Global>) -> Seen {
+    (look(slice, LINE), look(slice, Line(1)), recorded(slice))
+}
+
+/// The number with which the slice says that it would refuse the action.
+fn told(slice: &Slice<Global>, action: Action) -> Option<u8> {
+    slice.refusal(action, false).map(|refusal| refusal.number())
+}
+
+/// The number with which the slice refuses the action.
+fn met(slice: &mut Slice<Global>, action: Action) -> Option<u8> {
+    answer(slice, action).err().map(|refusal| refusal.number())
+}
+
+/// Whether the slice says that it would refuse the action with this number, does so, and is left as it was.
+fn is_refused(slice: &mut Slice<Global>, action: Action, number: u8) -> bool {
+    let before = seen(slice);
+    told(slice, action) == Some(number)
+        && met(slice, action) == Some(number)
+        && seen(slice) == before
 }
 
 /// The slice refuses the action with this number, and is left as it was.
 fn refuses(rt: &impl Abort, slice: &mut Slice<Global>, action: Action, number: u8) {
-    let (here, there) = (look(slice, LINE), look(slice, Line(1)));
-    let length = recorded(slice);
-    is_refused(rt, slice, action, number);
-    assert_eq!(rt; look(slice, LINE), here);
-    assert_eq!(rt; look(slice, Line(1)), there);
-    assert_eq!(rt; recorded(slice), length);
+    assert!(rt;
+        is_refused(slice, action, number),
+        "{action:?} with {number}"
+    );
 }
 
 /// All these are refused at line 0.
@@ -66,12 +81,15 @@ const OUTSIDE: [Step; 6] = [
     Step::Issue(Kind::ReadShared, Slot(255)),
 ];
 
+/// Agents and lines of which one or both are outside their ranges.
+const FAR: [(u8, u8); 5] = [(7, 0), (255, 0), (0, 2), (0, 255), (7, 2)];
+
 /// The step is refused to agents, and at lines, outside their ranges.
 fn refuses_outside(rt: &impl Abort, slice: &mut Slice<Global>, step: Step) {
-    for (agent, line) in [(7, 0), (255, 0), (0, 2), (0, 255), (7, 2)] {
+    for (agent, line) in &FAR {
         let action = Action {
-            agent: Agent(agent),
-            line: Line(line),
+            agent: Agent(*agent),
+            line: Line(*line),
             step,
         };
         refuses(rt, slice, action, 10);
@@ -82,8 +100,8 @@ fn refuses_outside(rt: &impl Abort, slice: &mut Slice<Global>, step: Step) {
 fn agents_and_lines_outside_their_ranges_come_first(rt: HostRuntime) {
     let mut slice = slice_of(&rt, rt.alloc(), 7, 2, 16);
     brings(&rt, &mut slice, State::UC);
-    for step in STEPS {
-        refuses_outside(&rt, &mut slice, step);
+    for step in &STEPS {
+        refuses_outside(&rt, &mut slice, *step);
     }
 }
 
@@ -91,33 +109,33 @@ fn agents_and_lines_outside_their_ranges_come_first(rt: HostRuntime) {
 fn words_and_slots_outside_their_ranges_come_first(rt: HostRuntime) {
     let mut slice = slice_of(&rt, rt.alloc(), 7, 2, 16);
     brings(&rt, &mut slice, State::UC);
-    for step in OUTSIDE {
-        refuses(&rt, &mut slice, at(0, step), 10);
+    for step in &OUTSIDE {
+        refuses(&rt, &mut slice, at(0, *step), 10);
     }
 }
 
+const AT_FIRST: [(u8, Step, u8); 16] = [
+    (0, Step::Load(WordNo(0)), 2),
+    (0, Step::Store(WordNo(0), 1), 2),
+    (0, Step::Drop, 2),
+    (0, Step::Admit, 7),
+    (0, Step::Retry, 7),
+    (0, Step::RecvRetry, 7),
+    (0, Step::Resend, 4),
+    (0, Step::Cancel, 4),
+    (0, Step::Start, 6),
+    (0, Step::RecvSnp, 7),
+    (0, Step::RecvSnpResp, 7),
+    (0, Step::RecvData, 7),
+    (0, Step::RecvComp, 7),
+    (0, Step::RecvAck, 7),
+    (0, Step::RecvDbid, 7),
+    (0, Step::RecvWrData, 7),
+];
+
 #[test]
 fn nothing_is_there_at_first(rt: HostRuntime) {
-    let mut slice = slice_of(&rt, rt.alloc(), 3, 2, 16);
-    let table = [
-        (0, Step::Load(WordNo(0)), 2),
-        (0, Step::Store(WordNo(0), 1), 2),
-        (0, Step::Drop, 2),
-        (0, Step::Admit, 7),
-        (0, Step::Retry, 7),
-        (0, Step::RecvRetry, 7),
-        (0, Step::Resend, 4),
-        (0, Step::Cancel, 4),
-        (0, Step::Start, 6),
-        (0, Step::RecvSnp, 7),
-        (0, Step::RecvSnpResp, 7),
-        (0, Step::RecvData, 7),
-        (0, Step::RecvComp, 7),
-        (0, Step::RecvAck, 7),
-        (0, Step::RecvDbid, 7),
-        (0, Step::RecvWrData, 7),
-    ];
-    refuses_all(&rt, &mut slice, &table);
+    refuses_all(&rt, &mut slice_of(&rt, rt.alloc(), 3, 2, 16), &AT_FIRST);
 }
 
 /// What a copy's state refuses.
@@ -203,38 +221,46 @@ fn refuses_kinds(rt: &impl Abort, slice: &mut Slice<Global>, kinds: &[Kind]) {
     }
 }
 
+/// A copy in the state refuses these, in a slice of its own.
+fn refuses_by_state(rt: &impl Abort, alloc: Global, refused: Refused) {
+    let mut slice = slice_of(rt, alloc, 3, 2, 16);
+    brings(rt, &mut slice, refused.state);
+    refuses_steps(rt, &mut slice, refused.steps);
+    refuses_kinds(rt, &mut slice, refused.kinds);
+}
+
 #[test]
 fn a_copy_in_another_state_is_refused(rt: HostRuntime) {
     for refused in BY_STATE {
-        let mut slice = slice_of(&rt, rt.alloc(), 3, 2, 16);
-        brings(&rt, &mut slice, refused.state);
-        refuses_steps(&rt, &mut slice, refused.steps);
-        refuses_kinds(&rt, &mut slice, refused.kinds);
+        refuses_by_state(&rt, rt.alloc(), refused);
     }
+}
+
+/// What a pending request refuses in any state.
+const WHILE_PENDING: [(u8, Step, u8); 7] = [
+    (0, Step::Store(WordNo(0), 1), 3),
+    (0, Step::Drop, 3),
+    (0, Step::Issue(Kind::ReadShared, Slot(1)), 3),
+    (0, Step::Issue(Kind::Evict, Slot(1)), 3),
+    (0, Step::Issue(Kind::WriteBackFull, Slot(1)), 3),
+    (0, Step::Resend, 4),
+    (0, Step::Cancel, 4),
+];
+
+/// A request of the kind is pending, from the state.
+fn refuses_pending(rt: &impl Abort, alloc: Global, state: State, kind: Kind) {
+    let mut slice = slice_of(rt, alloc, 3, 2, 16);
+    brings(rt, &mut slice, state);
+    does(rt, &mut slice, 0, Step::Issue(kind, Slot(0)));
+    refuses_all(rt, &mut slice, &WHILE_PENDING);
 }
 
 #[test]
 fn a_pending_request_is_refused_before_the_state(rt: HostRuntime) {
-    for (state, kind) in [
-        (State::I, Kind::ReadUnique),
-        (State::SC, Kind::CleanUnique),
-        (State::UC, Kind::WriteEvictFull),
-        (State::UD, Kind::WriteBackFull),
-    ] {
-        let mut slice = slice_of(&rt, rt.alloc(), 3, 2, 16);
-        brings(&rt, &mut slice, state);
-        does(&rt, &mut slice, 0, Step::Issue(kind, Slot(0)));
-        let table = [
-            (0, Step::Store(WordNo(0), 1), 3),
-            (0, Step::Drop, 3),
-            (0, Step::Issue(Kind::ReadShared, Slot(1)), 3),
-            (0, Step::Issue(Kind::Evict, Slot(1)), 3),
-            (0, Step::Issue(Kind::WriteBackFull, Slot(1)), 3),
-            (0, Step::Resend, 4),
-            (0, Step::Cancel, 4),
-        ];
-        refuses_all(&rt, &mut slice, &table);
-    }
+    refuses_pending(&rt, rt.alloc(), State::I, Kind::ReadUnique);
+    refuses_pending(&rt, rt.alloc(), State::SC, Kind::CleanUnique);
+    refuses_pending(&rt, rt.alloc(), State::UC, Kind::WriteEvictFull);
+    refuses_pending(&rt, rt.alloc(), State::UD, Kind::WriteBackFull);
 }
 
 /// Slot 0 of agent 0 is in use at line 1, for a request of any kind.
@@ -272,52 +298,89 @@ const SLOT_0: [(Step, bool); 19] = [
     (Step::Issue(Kind::ReadShared, Slot(0)), true),
 ];
 
-#[test]
-fn a_slot_stays_in_use_until_both_sides_are_done(rt: HostRuntime) {
-    let mut slice = slice_of(&rt, rt.alloc(), 1, 2, 16);
-    for (step, in_use) in SLOT_0 {
-        does(&rt, &mut slice, 0, step);
-        if in_use {
-            keeps_slot(&rt, &mut slice);
-        }
+/// Agent 0 does the step, and its slot 0 is in use after it or not.
+fn uses(rt: &impl Abort, slice: &mut Slice<Global>, step: Step, in_use: bool) {
+    does(rt, slice, 0, step);
+    if in_use {
+        keeps_slot(rt, slice);
     }
 }
 
 #[test]
-fn a_full_journal_is_refused_last(rt: HostRuntime) {
-    let mut slice = slice_of(&rt, rt.alloc(), 2, 2, 1);
-    brings(&rt, &mut slice, State::UD);
-    let full = [
+fn a_slot_stays_in_use_until_both_sides_are_done(rt: HostRuntime) {
+    let mut slice = slice_of(&rt, rt.alloc(), 1, 2, 16);
+    for (step, in_use) in &SLOT_0 {
+        uses(&rt, &mut slice, *step, *in_use);
+    }
+}
+
+/// One part of a test at line 0.
+#[derive(Clone, Copy)]
+enum Part {
+    /// Agent 0's copy comes to be in the state.
+    Brings(State),
+    /// The agent does the step, which isn't refused.
+    Does(u8, Step),
+    /// All these are refused.
+    Refuses(&'static [(u8, Step, u8)]),
+    /// Of the steps that take a flit none but these is there for the agent.
+    TakesOnly(u8, &'static [Step]),
+    /// The agent's request of the kind, in slot 0, waits at the home.
+    Waits(u8, Kind),
+    /// It is started as well.
+    Asks(u8, Kind),
+    /// The agent is snooped, and the home takes its answer.
+    Answers(u8),
+    /// The agent takes its data, and the home its CompAck.
+    TakesData(u8),
+}
+
+/// The slice does this part.
+fn plays(rt: &impl Abort, slice: &mut Slice<Global>, part: Part) {
+    match part {
+        Part::Brings(state) => brings(rt, slice, state),
+        Part::Does(agent, step) => does(rt, slice, agent, step),
+        Part::Refuses(table) => refuses_all(rt, slice, table),
+        Part::TakesOnly(agent, steps) => takes_only(rt, slice, agent, steps),
+        Part::Waits(agent, kind) => waits(rt, slice, agent, kind),
+        Part::Asks(agent, kind) => asks(rt, slice, agent, kind),
+        Part::Answers(agent) => answers(rt, slice, agent),
+        Part::TakesData(agent) => takes_data(rt, slice, agent),
+    }
+}
+
+/// The slice does all these parts, one after the other.
+fn plays_all(rt: &impl Abort, slice: &mut Slice<Global>, parts: &[Part]) {
+    for part in parts {
+        plays(rt, slice, *part);
+    }
+}
+
+const FULL_JOURNAL: [Part; 4] = [
+    Part::Brings(State::UD),
+    Part::Refuses(&[
         (0, Step::Load(WordNo(3)), 1),
         (0, Step::Store(WordNo(3), 8), 1),
         (1, Step::Load(WordNo(3)), 2),
         (1, Step::Store(WordNo(3), 8), 2),
-    ];
-    refuses_all(&rt, &mut slice, &full);
-    does(
-        &rt,
-        &mut slice,
-        0,
-        Step::Issue(Kind::WriteBackFull, Slot(0)),
-    );
-    let pending = [
+    ]),
+    Part::Does(0, Step::Issue(Kind::WriteBackFull, Slot(0))),
+    Part::Refuses(&[
         (0, Step::Load(WordNo(3)), 1),
         (0, Step::Store(WordNo(3), 8), 3),
-    ];
-    refuses_all(&rt, &mut slice, &pending);
-}
+    ]),
+];
 
 #[test]
-fn a_resent_request_has_to_be_let_in(rt: HostRuntime) {
-    let mut slice = slice_of(&rt, rt.alloc(), 2, 2, 16);
-    does(&rt, &mut slice, 0, Step::Issue(Kind::ReadShared, Slot(0)));
-    refuses_all(
-        &rt,
-        &mut slice,
-        &[(0, Step::RecvRetry, 7), (1, Step::Admit, 7)],
-    );
-    does(&rt, &mut slice, 0, Step::Retry);
-    let answered = [
+fn a_full_journal_is_refused_last(rt: HostRuntime) {
+    plays_all(&rt, &mut slice_of(&rt, rt.alloc(), 2, 2, 1), &FULL_JOURNAL);
+}
+
+const RESENT: [Part; 10] = [
+    Part::Does(0, Step::Issue(Kind::ReadShared, Slot(0))),
+    Part::Refuses(&[(0, Step::RecvRetry, 7), (1, Step::Admit, 7)]),
+    Part::Does(0, Step::Retry),
+    Part::Refuses(&[
         (0, Step::Admit, 7),
         (0, Step::Retry, 7),
         (0, Step::Resend, 4),
@@ -325,23 +388,22 @@ fn a_resent_request_has_to_be_let_in(rt: HostRuntime) {
         (0, Step::RecvComp, 7),
         (0, Step::RecvDbid, 7),
         (1, Step::RecvRetry, 7),
-    ];
-    refuses_all(&rt, &mut slice, &answered);
-    does(&rt, &mut slice, 0, Step::RecvRetry);
-    refuses_all(
-        &rt,
-        &mut slice,
-        &[(0, Step::RecvRetry, 7), (0, Step::Cancel, 2)],
-    );
-    does(&rt, &mut slice, 0, Step::Resend);
-    let resent = [
+    ]),
+    Part::Does(0, Step::RecvRetry),
+    Part::Refuses(&[(0, Step::RecvRetry, 7), (0, Step::Cancel, 2)]),
+    Part::Does(0, Step::Resend),
+    Part::Refuses(&[
         (0, Step::Retry, 9),
         (0, Step::Resend, 4),
         (0, Step::Cancel, 4),
-    ];
-    refuses_all(&rt, &mut slice, &resent);
-    does(&rt, &mut slice, 0, Step::Admit);
-    refuses_all(&rt, &mut slice, &[(0, Step::Admit, 7), (0, Step::Retry, 7)]);
+    ]),
+    Part::Does(0, Step::Admit),
+    Part::Refuses(&[(0, Step::Admit, 7), (0, Step::Retry, 7)]),
+];
+
+#[test]
+fn a_resent_request_has_to_be_let_in(rt: HostRuntime) {
+    plays_all(&rt, &mut slice_of(&rt, rt.alloc(), 2, 2, 16), &RESENT);
 }
 
 /// Agent 0's copy-back was retried, and its copy is in the state that it needs.
@@ -352,53 +414,68 @@ fn retries(rt: &impl Abort, slice: &mut Slice<Global>, state: State, kind: Kind)
     }
 }
 
+/// Agent 2's read takes the copy out of the state that the retried copy-back needs, which is cancelled then.
+fn is_cancelled(rt: &impl Abort, alloc: Global, state: State, kind: Kind, taken: Kind) {
+    let mut slice = slice_of(rt, alloc, 3, 2, 16);
+    retries(rt, &mut slice, state, kind);
+    refuses(rt, &mut slice, at(0, Step::Cancel), 2);
+    asks(rt, &mut slice, 2, taken);
+    plays_all(rt, &mut slice, &CANCELLED);
+}
+
+const CANCELLED: [Part; 4] = [
+    Part::Does(0, Step::RecvSnp),
+    Part::Refuses(&[(0, Step::Resend, 2)]),
+    Part::Does(0, Step::Cancel),
+    Part::Refuses(&[(0, Step::Cancel, 4), (0, Step::Resend, 4)]),
+];
+
+const CROSSED: [(State, Kind, Kind); 4] = [
+    (State::UD, Kind::WriteBackFull, Kind::ReadUnique),
+    (State::UD, Kind::WriteCleanFull, Kind::ReadNotSharedDirty),
+    (State::SD, Kind::WriteBackFull, Kind::ReadNotSharedDirty),
+    (State::UC, Kind::WriteEvictFull, Kind::ReadShared),
+];
+
 #[test]
 fn a_retried_copy_back_is_sent_or_cancelled(rt: HostRuntime) {
-    for (state, kind, taken) in [
-        (State::UD, Kind::WriteBackFull, Kind::ReadUnique),
-        (State::UD, Kind::WriteCleanFull, Kind::ReadNotSharedDirty),
-        (State::SD, Kind::WriteBackFull, Kind::ReadNotSharedDirty),
-        (State::UC, Kind::WriteEvictFull, Kind::ReadShared),
-    ] {
-        let mut slice = slice_of(&rt, rt.alloc(), 3, 2, 16);
-        retries(&rt, &mut slice, state, kind);
-        refuses(&rt, &mut slice, at(0, Step::Cancel), 2);
-        asks(&rt, &mut slice, 2, taken);
-        does(&rt, &mut slice, 0, Step::RecvSnp);
-        refuses(&rt, &mut slice, at(0, Step::Resend), 2);
-        does(&rt, &mut slice, 0, Step::Cancel);
-        let over = [(0, Step::Cancel, 4), (0, Step::Resend, 4)];
-        refuses_all(&rt, &mut slice, &over);
+    for (state, kind, taken) in &CROSSED {
+        is_cancelled(&rt, rt.alloc(), *state, *kind, *taken);
     }
 }
 
+const BUSY: Part = Part::Refuses(&[
+    (0, Step::Start, 5),
+    (1, Step::Start, 6),
+    (2, Step::Start, 6),
+]);
+
+const WRITING: Part = Part::Refuses(&[
+    (2, Step::Start, 5),
+    (0, Step::Start, 6),
+    (1, Step::Start, 6),
+]);
+
+const STARTS: [Part; 14] = [
+    Part::Brings(State::UD),
+    Part::Waits(1, Kind::ReadShared),
+    Part::Waits(0, Kind::WriteBackFull),
+    Part::Refuses(&[(2, Step::Start, 6)]),
+    Part::Does(1, Step::Start),
+    BUSY,
+    Part::Answers(0),
+    BUSY,
+    Part::TakesData(1),
+    Part::Waits(2, Kind::ReadShared),
+    Part::Does(0, Step::Start),
+    WRITING,
+    Part::Does(0, Step::RecvDbid),
+    WRITING,
+];
+
 #[test]
 fn a_start_needs_a_waiting_request_and_an_idle_line(rt: HostRuntime) {
-    let mut slice = slice_of(&rt, rt.alloc(), 3, 2, 16);
-    brings(&rt, &mut slice, State::UD);
-    waits(&rt, &mut slice, 1, Kind::ReadShared);
-    waits(&rt, &mut slice, 0, Kind::WriteBackFull);
-    let busy = [
-        (0, Step::Start, 5),
-        (1, Step::Start, 6),
-        (2, Step::Start, 6),
-    ];
-    refuses(&rt, &mut slice, at(2, Step::Start), 6);
-    does(&rt, &mut slice, 1, Step::Start);
-    refuses_all(&rt, &mut slice, &busy);
-    answers(&rt, &mut slice, 0);
-    refuses_all(&rt, &mut slice, &busy);
-    takes_data(&rt, &mut slice, 1);
-    waits(&rt, &mut slice, 2, Kind::ReadShared);
-    does(&rt, &mut slice, 0, Step::Start);
-    let writing = [
-        (2, Step::Start, 5),
-        (0, Step::Start, 6),
-        (1, Step::Start, 6),
-    ];
-    refuses_all(&rt, &mut slice, &writing);
-    does(&rt, &mut slice, 0, Step::RecvDbid);
-    refuses_all(&rt, &mut slice, &writing);
+    plays_all(&rt, &mut slice_of(&rt, rt.alloc(), 3, 2, 16), &STARTS);
 }
 
 /// Each step that takes a flit, refused where no such flit is in flight for the agent.
@@ -411,61 +488,66 @@ fn takes_only(rt: &impl Abort, slice: &mut Slice<Global>, agent: u8, taking: &[S
     }
 }
 
+const READS: [Part; 24] = [
+    Part::Does(0, Step::Issue(Kind::ReadUnique, Slot(0))),
+    Part::TakesOnly(0, &[Step::Admit, Step::Retry]),
+    Part::Does(0, Step::Admit),
+    Part::TakesOnly(0, &[]),
+    Part::Does(0, Step::Start),
+    Part::TakesOnly(0, &[Step::RecvData]),
+    Part::Does(0, Step::RecvData),
+    Part::TakesOnly(0, &[Step::RecvAck]),
+    Part::TakesOnly(1, &[]),
+    Part::Does(0, Step::RecvAck),
+    Part::Asks(1, Kind::ReadShared),
+    Part::TakesOnly(0, &[Step::RecvSnp]),
+    Part::Does(0, Step::RecvSnp),
+    Part::TakesOnly(0, &[Step::RecvSnpResp]),
+    Part::TakesOnly(1, &[]),
+    Part::Does(0, Step::RecvSnpResp),
+    Part::TakesData(1),
+    Part::Asks(0, Kind::CleanUnique),
+    Part::Answers(1),
+    Part::TakesOnly(0, &[Step::RecvComp]),
+    Part::Does(0, Step::RecvComp),
+    Part::TakesOnly(0, &[Step::RecvAck]),
+    Part::Does(0, Step::RecvAck),
+    Part::TakesOnly(0, &[]),
+];
+
 #[test]
 fn a_flit_is_taken_by_its_own_action_alone(rt: HostRuntime) {
-    let mut slice = slice_of(&rt, rt.alloc(), 2, 2, 16);
-    does(&rt, &mut slice, 0, Step::Issue(Kind::ReadUnique, Slot(0)));
-    takes_only(&rt, &mut slice, 0, &[Step::Admit, Step::Retry]);
-    does(&rt, &mut slice, 0, Step::Admit);
-    takes_only(&rt, &mut slice, 0, &[]);
-    does(&rt, &mut slice, 0, Step::Start);
-    takes_only(&rt, &mut slice, 0, &[Step::RecvData]);
-    does(&rt, &mut slice, 0, Step::RecvData);
-    takes_only(&rt, &mut slice, 0, &[Step::RecvAck]);
-    takes_only(&rt, &mut slice, 1, &[]);
-    does(&rt, &mut slice, 0, Step::RecvAck);
-    asks(&rt, &mut slice, 1, Kind::ReadShared);
-    takes_only(&rt, &mut slice, 0, &[Step::RecvSnp]);
-    does(&rt, &mut slice, 0, Step::RecvSnp);
-    takes_only(&rt, &mut slice, 0, &[Step::RecvSnpResp]);
-    takes_only(&rt, &mut slice, 1, &[]);
-    does(&rt, &mut slice, 0, Step::RecvSnpResp);
-    takes_data(&rt, &mut slice, 1);
-    asks(&rt, &mut slice, 0, Kind::CleanUnique);
-    answers(&rt, &mut slice, 1);
-    takes_only(&rt, &mut slice, 0, &[Step::RecvComp]);
-    does(&rt, &mut slice, 0, Step::RecvComp);
-    takes_only(&rt, &mut slice, 0, &[Step::RecvAck]);
+    plays_all(&rt, &mut slice_of(&rt, rt.alloc(), 2, 2, 16), &READS);
 }
+
+const WRITES: [Part; 24] = [
+    Part::Brings(State::UD),
+    Part::Does(0, Step::Issue(Kind::WriteCleanFull, Slot(0))),
+    Part::Does(0, Step::Retry),
+    Part::TakesOnly(0, &[Step::RecvRetry]),
+    Part::Does(0, Step::RecvRetry),
+    Part::Does(0, Step::Resend),
+    Part::Does(0, Step::Admit),
+    Part::Does(0, Step::Start),
+    Part::TakesOnly(0, &[Step::RecvDbid]),
+    Part::Does(0, Step::RecvDbid),
+    Part::TakesOnly(0, &[Step::RecvWrData]),
+    Part::Does(0, Step::RecvWrData),
+    Part::Does(0, Step::Store(WordNo(3), 8)),
+    Part::Asks(1, Kind::ReadNotSharedDirty),
+    Part::Does(0, Step::RecvSnp),
+    Part::TakesOnly(0, &[Step::RecvSnpResp]),
+    Part::Does(0, Step::RecvSnpResp),
+    Part::TakesData(1),
+    Part::Asks(0, Kind::Evict),
+    Part::TakesOnly(0, &[Step::RecvComp]),
+    Part::Does(0, Step::RecvComp),
+    Part::Asks(0, Kind::ReadShared),
+    Part::TakesData(0),
+    Part::TakesOnly(0, &[]),
+];
 
 #[test]
 fn data_and_late_completions_are_taken_by_their_own_action_alone(rt: HostRuntime) {
-    let mut slice = slice_of(&rt, rt.alloc(), 2, 2, 16);
-    brings(&rt, &mut slice, State::UD);
-    does(
-        &rt,
-        &mut slice,
-        0,
-        Step::Issue(Kind::WriteCleanFull, Slot(0)),
-    );
-    does(&rt, &mut slice, 0, Step::Retry);
-    takes_only(&rt, &mut slice, 0, &[Step::RecvRetry]);
-    for step in [Step::RecvRetry, Step::Resend, Step::Admit, Step::Start] {
-        does(&rt, &mut slice, 0, step);
-    }
-    takes_only(&rt, &mut slice, 0, &[Step::RecvDbid]);
-    does(&rt, &mut slice, 0, Step::RecvDbid);
-    takes_only(&rt, &mut slice, 0, &[Step::RecvWrData]);
-    does(&rt, &mut slice, 0, Step::RecvWrData);
-    does(&rt, &mut slice, 0, Step::Store(WordNo(3), 8));
-    asks(&rt, &mut slice, 1, Kind::ReadNotSharedDirty);
-    does(&rt, &mut slice, 0, Step::RecvSnp);
-    takes_only(&rt, &mut slice, 0, &[Step::RecvSnpResp]);
-    does(&rt, &mut slice, 0, Step::RecvSnpResp);
-    takes_data(&rt, &mut slice, 1);
-    asks(&rt, &mut slice, 0, Kind::Evict);
-    takes_only(&rt, &mut slice, 0, &[Step::RecvComp]);
-    does(&rt, &mut slice, 0, Step::RecvComp);
-    reads(&rt, &mut slice, 0, Kind::ReadShared);
-    takes_only(&rt, &mut slice, 0, &[]);
+    plays_all(&rt, &mut slice_of(&rt, rt.alloc(), 2, 2, 16), &WRITES);
 }

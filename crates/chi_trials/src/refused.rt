@@ -66,21 +66,26 @@ fn tries(
     action: Action,
 ) {
     let mut slice = begun.slice(rt, alloc);
-    let answered = answer(&mut slice, action);
-    assert!(rt; is_coherent(&slice, LINE), "{action:?}");
-    assert!(rt; is_coherent(&slice, Line(1)), "{action:?}");
-    if answered.is_ok() {
-        return;
-    }
-    shows_the_same(rt, &slice, left_alone, LINE);
-    shows_the_same(rt, &slice, left_alone, Line(1));
-    let records = slice.journal().records();
-    assert_eq!(rt; records, left_alone.journal().records(), "{action:?}");
+    let done = answer(&mut slice, action).is_ok();
+    assert!(rt; is_well(&slice), "{action:?}");
+    assert!(rt; done || are_the_same(&slice, left_alone), "{action:?}");
 }
 
-/// Both slices show the same of the line.
-fn shows_the_same(rt: &impl Abort, slice: &Slice<Global>, other: &Slice<Global>, line: Line) {
-    assert_eq!(rt; look(slice, line), look(other, line), "{line:?}");
+/// Whether both lines are coherent.
+fn is_well(slice: &Slice<Global>) -> bool {
+    is_coherent(slice, LINE) && is_coherent(slice, Line(1))
+}
+
+/// Whether both slices show the same, and have the same journal.
+fn are_the_same(slice: &Slice<Global>, other: &Slice<Global>) -> bool {
+    shows_the_same(slice, other, LINE)
+        && shows_the_same(slice, other, Line(1))
+        && slice.journal().records() == other.journal().records()
+}
+
+/// Whether both slices show the same of the line.
+fn shows_the_same(slice: &Slice<Global>, other: &Slice<Global>, line: Line) -> bool {
+    look(slice, line) == look(other, line)
 }
 
 /// Tries these steps of an agent at a line.

@@ -2,33 +2,36 @@
 
 ghost use Rattle.std.specs.Prelude.{◌≡◌};
 
-use crate::moves::{answer, at, brings, does, slice_of, view};
+use crate::moves::{brings, does, slice_of, view};
+use crate::runs::{Move, plays};
 use chi_flit::CreditType::{self, T0, T1, T2, T3};
 use chi_flit::{Kind, Refusal, RspDown, Slot, State};
 use chi_slice::{Config, Effect, Slice, Step};
 use std::alloc::Global;
 use std::process::Abort;
 
+const MUST_ACCEPT: [Move; 6] = [
+    (
+        0,
+        Step::Issue(Kind::ReadNotSharedDirty, Slot(0)),
+        Ok(Effect::Nothing),
+    ),
+    (0, Step::Retry, Ok(Effect::Nothing)),
+    (0, Step::RecvRetry, Ok(Effect::Nothing)),
+    (0, Step::Resend, Ok(Effect::Nothing)),
+    (0, Step::Retry, Err(Refusal::MustAccept)),
+    (0, Step::Admit, Ok(Effect::Nothing)),
+];
+
 #[test]
 fn a_resent_request_must_be_accepted(rt: HostRuntime) {
-    let mut slice = slice_of(&rt, rt.alloc(), 1, 1, 4);
-    for step in [
-        Step::Issue(Kind::ReadNotSharedDirty, Slot(0)),
-        Step::Retry,
-        Step::RecvRetry,
-        Step::Resend,
-    ] {
-        let done = answer(&mut slice, at(0, step));
-        assert_eq!(rt; done, Ok(Effect::Nothing), "{step:?}");
-    }
-    let refused = answer(&mut slice, at(0, Step::Retry));
-    assert_eq!(rt; refused, Err(Refusal::MustAccept));
-    let done = answer(&mut slice, at(0, Step::Admit));
-    assert_eq!(rt; done, Ok(Effect::Nothing));
+    plays(&rt, &mut slice_of(&rt, rt.alloc(), 1, 1, 4), &MUST_ACCEPT);
 }
 
 /// Each kind, a state in which it may be issued, and its credit type among two and among four.
-const TYPES: [(Kind, State, CreditType, CreditType); 8] = [
+type Typed = (Kind, State, CreditType, CreditType);
+
+const TYPES: [Typed; 8] = [
     (Kind::ReadNotSharedDirty, State::I, T0, T0),
     (Kind::ReadShared, State::I, T0, T0),
     (Kind::ReadUnique, State::I, T0, T2),
@@ -57,17 +60,27 @@ fn is_retried_for(
     brings(rt, slice, state);
     does(rt, slice, 0, Step::Issue(kind, Slot(0)));
     does(rt, slice, 0, Step::Retry);
-    let sent = view(rt, slice).flits[0].rsp_down;
-    assert_eq!(rt; sent, Some(RspDown::RetryAck(ty)), "{kind:?}");
+    assert!(rt; sent(rt, slice) == Some(RspDown::RetryAck(ty)), "{kind:?}");
+}
+
+/// What is on its way to agent 0 as a response.
+fn sent(rt: &impl Abort, slice: &Slice<Global>) -> Option<RspDown> {
+    view(rt, slice).flits[0].rsp_down
+}
+
+/// The kind's retry in a node of two credit types, and in one of four.
+fn are_retried_for(rt: &impl Abort, alloc: Global, typed: Typed) {
+    let (kind, state, two, four) = typed;
+    let mut of_two = slice_of(rt, alloc, 2, 1, 4);
+    is_retried_for(rt, &mut of_two, state, kind, two);
+    let config = node_of_four(rt);
+    let mut of_four = Slice::new(alloc, &config, 0).expect(rt, "memory for a slice");
+    is_retried_for(rt, &mut of_four, state, kind, four);
 }
 
 #[test]
 fn a_retry_names_the_credit_type_of_the_kind(rt: HostRuntime) {
-    for (kind, state, two, four) in TYPES {
-        let mut of_two = slice_of(&rt, rt.alloc(), 2, 1, 4);
-        is_retried_for(&rt, &mut of_two, state, kind, two);
-        let config = node_of_four(&rt);
-        let mut of_four = Slice::new(rt.alloc(), &config, 0).expect(&rt, "memory for a slice");
-        is_retried_for(&rt, &mut of_four, state, kind, four);
+    for typed in TYPES {
+        are_retried_for(&rt, rt.alloc(), typed);
     }
 }

@@ -20,6 +20,8 @@ pub type Move = (u8, Step, Result<Effect, Refusal>);
 pub struct Run {
     pub agents: u8,
     pub moves: &'static [Move],
+    /// How many of the moves are done.
+    pub done: usize,
 }
 
 const FREE: Result<Effect, Refusal> = Ok(Completed(Slot(0)));
@@ -116,35 +118,56 @@ pub const RUNS: [Run; 4] = [
     Run {
         agents: 2,
         moves: &DIRTY_DATA_HANDED_ON,
+        done: 14,
     },
     Run {
         agents: 2,
         moves: &SNOOP_CROSSES_WRITE_BACK,
+        done: 20,
     },
     Run {
         agents: 1,
         moves: &STORE_BEHIND_WRITE_CLEAN,
+        done: 12,
     },
     Run {
         agents: 3,
         moves: &SHARED_DIRTY_OWNER,
+        done: 21,
     },
 ];
 
 /// The slice answers each move as it says, and its line is shown after it.
 pub fn plays<A: Allocator>(rt: &impl Abort, slice: &mut Slice<A>, moves: &[Move]) {
     for (agent, step, wanted) in moves {
-        let done = answer(slice, at(*agent, *step));
-        assert_eq!(rt; done, *wanted, "agent {agent} does {step:?}");
-        assert!(rt; look(slice, LINE).is_ok());
+        answers(rt, slice, at(*agent, *step), *wanted);
     }
+}
+
+/// The action is answered so, and the line is shown after it.
+fn answers<A: Allocator>(
+    rt: &impl Abort,
+    slice: &mut Slice<A>,
+    action: Action,
+    wanted: Result<Effect, Refusal>,
+) {
+    let done = answer(slice, action);
+    assert!(rt;
+        done == wanted && look(slice, LINE).is_ok(),
+        "{action:?}: {done:?}"
+    );
+}
+
+/// Plays the run on a slice of its own.
+fn plays_run(rt: &impl Abort, alloc: Global, run: Run) {
+    let mut slice = slice_of(rt, alloc, run.agents, 1, 8);
+    plays(rt, &mut slice, run.moves);
 }
 
 #[test]
 fn every_move_is_answered_as_it_says(rt: HostRuntime) {
     for run in RUNS {
-        let mut slice = slice_of(&rt, rt.alloc(), run.agents, 1, 8);
-        plays(&rt, &mut slice, run.moves);
+        plays_run(&rt, rt.alloc(), run);
     }
 }
 
@@ -182,11 +205,24 @@ fn done_by(slice: &mut Slice<Global>, actions: &[Action]) -> usize {
     slice.run(actions)
 }
 
-/// Both slices show the same, and have the same journal.
-fn are_alike(rt: &impl Abort, one: &Slice<Global>, other: &Slice<Global>) {
-    assert_eq!(rt; look(one, LINE), look(other, LINE));
-    let records = one.journal().records();
-    assert_eq!(rt; records, other.journal().records());
+/// Whether both slices show the same, and have the same journal.
+fn are_alike(one: &Slice<Global>, other: &Slice<Global>) -> bool {
+    look(one, LINE) == look(other, LINE) && one.journal().records() == other.journal().records()
+}
+
+/// The actions at once do as many, and leave the slice as the other is, on which they were tried one by one.
+fn does_alike(
+    rt: &impl Abort,
+    slice: &mut Slice<Global>,
+    one_by_one: &Slice<Global>,
+    actions: &[Action],
+    done: usize,
+) {
+    let found = done_by(slice, actions);
+    assert!(rt;
+        found == done && are_alike(slice, one_by_one),
+        "{found} done"
+    );
 }
 
 /// The actions at once and one by one: as many are done, some are not, and the slices are alike.
@@ -195,25 +231,34 @@ fn runs_alike(rt: &impl Abort, alloc: Global, run: Run, actions: &[Action]) {
     let mut one_by_one = slice_of(rt, alloc, run.agents, 1, 8);
     let done = in_turn(rt, alloc, &mut one_by_one, actions);
     assert!(rt; done < actions.len());
-    assert_eq!(rt; done_by(&mut at_once, actions), done);
-    are_alike(rt, &at_once, &one_by_one);
-    assert_eq!(rt; done_by(&mut at_once, &[]), 0);
-    are_alike(rt, &at_once, &one_by_one);
+    does_alike(rt, &mut at_once, &one_by_one, actions, done);
+    does_alike(rt, &mut at_once, &one_by_one, &[], 0);
+}
+
+/// The run's actions, twice over, leave at once what they leave in turn.
+fn runs_twice(rt: &impl Abort, alloc: Global, run: Run) {
+    let actions = actions_of(rt, alloc, run, 2);
+    runs_alike(rt, alloc, run, &actions);
 }
 
 #[test]
 fn a_run_leaves_what_its_actions_leave_in_turn(rt: HostRuntime) {
     for run in RUNS {
-        let actions = actions_of(&rt, rt.alloc(), run, 2);
-        runs_alike(&rt, rt.alloc(), run, &actions);
+        runs_twice(&rt, rt.alloc(), run);
     }
+}
+
+/// The run counts what it does.
+fn counts(rt: &impl Abort, alloc: Global, run: Run) {
+    let actions = actions_of(rt, alloc, run, 1);
+    let mut slice = slice_of(rt, alloc, run.agents, 1, 8);
+    let done = done_by(&mut slice, &actions);
+    assert!(rt; done == run.done, "{done} done");
 }
 
 #[test]
 fn a_run_counts_what_was_done(rt: HostRuntime) {
-    for (run, wanted) in [(RUNS[0], 14), (RUNS[1], 20), (RUNS[2], 12), (RUNS[3], 21)] {
-        let actions = actions_of(&rt, rt.alloc(), run, 1);
-        let mut slice = slice_of(&rt, rt.alloc(), run.agents, 1, 8);
-        assert_eq!(rt; done_by(&mut slice, &actions), wanted);
+    for run in RUNS {
+        counts(&rt, rt.alloc(), run);
     }
 }

@@ -1,13 +1,15 @@
 //! Each part of a line that is shown, after the actions of a few requests.
 
 use crate::four_slices::{
-    LINE, OPENING, READER, SLOT, WRITER, ack, admit, answered, data, does_all, issue, reads, shows,
-    slice_one, start, would_complete,
+    LINE, OPENING, Part, READER, SLOT, WRITER, admit, data, goes, issue, plays, plays_all, shows,
+    slice_one, start,
 };
 use chi_flit::{CompData, Kind, Line, NO_DATA, Request, RspDown, RspUp, Slot, Snoop, State};
 use chi_homeline::{Serving, Waiting};
 use chi_rnline::{Pending, Phase};
-use chi_slice::{Effect, LineView};
+use chi_slice::{Action, LineView, Slice, Step};
+use std::alloc::Global;
+use std::process::Abort;
 
 /// A request that is pending and wasn't retried.
 fn sent(kind: Kind, slot: Slot) -> Option<Pending> {
@@ -73,23 +75,27 @@ fn with_copy(kind: Kind) -> LineView {
     line
 }
 
+/// The action completes nothing, and the line is shown so after it.
+fn goes_to(rt: &impl Abort, slice: &mut Slice<Global>, action: Action, line: LineView) {
+    goes(rt, slice, action);
+    shows(rt, slice, LINE, line);
+}
+
 #[test]
 fn a_read_of_a_line_that_nobody_holds(rt: HostRuntime) {
     let kind = Kind::ReadNotSharedDirty;
     let mut slice = slice_one(&rt, rt.alloc());
     shows(&rt, &slice, LINE, OPENING);
-    for (action, line) in [
-        (issue(READER, LINE, kind, SLOT), with_request(kind)),
-        (admit(READER), with_waiting(kind)),
-        (start(READER), with_data(kind)),
-        (data(READER), with_ack(kind)),
-    ] {
-        would_complete(&rt, &slice, action, None);
-        does_all(&rt, &mut slice, &[action]);
-        shows(&rt, &slice, LINE, line);
-    }
-    would_complete(&rt, &slice, ack(READER), Some(SLOT));
-    answered(&rt, &mut slice, ack(READER), Ok(Effect::Completed(SLOT)));
+    let asked = issue(READER, LINE, kind, SLOT);
+    goes_to(&rt, &mut slice, asked, with_request(kind));
+    goes_to(&rt, &mut slice, admit(READER), with_waiting(kind));
+    goes_to(&rt, &mut slice, start(READER), with_data(kind));
+    goes_to(&rt, &mut slice, data(READER), with_ack(kind));
+    plays(
+        &rt,
+        &mut slice,
+        Part::Completes(READER, Step::RecvAck, SLOT),
+    );
     shows(&rt, &slice, LINE, with_copy(kind));
     shows(&rt, &slice, Line(9), OPENING);
 }
@@ -107,20 +113,35 @@ fn with_evicted() -> LineView {
     line
 }
 
+/// What the reader does to read the line into the slot, where nobody is snooped.
+const READ: [Part; 2] = [
+    Part::Does(
+        READER,
+        &[
+            Step::Issue(Kind::ReadUnique, SLOT),
+            Step::Admit,
+            Step::Start,
+            Step::RecvData,
+        ],
+    ),
+    Part::Completes(READER, Step::RecvAck, SLOT),
+];
+
+const EVICT: [Part; 3] = [
+    Part::Does(
+        WRITER,
+        &[Step::Issue(Kind::ReadUnique, Slot(0)), Step::Admit],
+    ),
+    Part::Does(READER, &[Step::Issue(Kind::Evict, SLOT), Step::Admit]),
+    Part::WouldGo(WRITER, Step::Start),
+];
+
 #[test]
 fn an_evict_beside_a_request_that_waits(rt: HostRuntime) {
     let mut slice = slice_one(&rt, rt.alloc());
-    reads(&rt, &mut slice, Kind::ReadUnique, SLOT);
-    let write = issue(WRITER, LINE, Kind::ReadUnique, Slot(0));
-    let evict = issue(READER, LINE, Kind::Evict, SLOT);
-    does_all(
-        &rt,
-        &mut slice,
-        &[write, admit(WRITER), evict, admit(READER)],
-    );
-    would_complete(&rt, &slice, start(READER), Some(SLOT));
-    would_complete(&rt, &slice, start(WRITER), None);
-    answered(&rt, &mut slice, start(READER), Ok(Effect::Completed(SLOT)));
+    plays_all(&rt, &mut slice, &READ);
+    plays_all(&rt, &mut slice, &EVICT);
+    plays(&rt, &mut slice, Part::Completes(READER, Step::Start, SLOT));
     shows(&rt, &slice, LINE, with_evicted());
 }
 
@@ -141,11 +162,30 @@ fn with_snoop() -> LineView {
     line
 }
 
+const SNOOP: [Part; 3] = [
+    Part::Does(
+        READER,
+        &[
+            Step::Issue(Kind::ReadShared, SLOT),
+            Step::Admit,
+            Step::Start,
+            Step::RecvData,
+        ],
+    ),
+    Part::Completes(READER, Step::RecvAck, SLOT),
+    Part::Does(
+        WRITER,
+        &[
+            Step::Issue(Kind::ReadUnique, Slot(0)),
+            Step::Admit,
+            Step::Start,
+        ],
+    ),
+];
+
 #[test]
 fn a_snoop_of_the_one_holder(rt: HostRuntime) {
     let mut slice = slice_one(&rt, rt.alloc());
-    reads(&rt, &mut slice, Kind::ReadShared, SLOT);
-    let write = issue(WRITER, LINE, Kind::ReadUnique, Slot(0));
-    does_all(&rt, &mut slice, &[write, admit(WRITER), start(WRITER)]);
+    plays_all(&rt, &mut slice, &SNOOP);
     shows(&rt, &slice, LINE, with_snoop());
 }

@@ -20,7 +20,9 @@ const PASSED_ON: Msg = Msg::DatUp(DatUp::SnpRespDataSCPD(STORED));
 const GIVEN_UP: Msg = Msg::DatUp(DatUp::SnpRespDataIPD(STORED));
 
 /// The copy's state, the snoop, the state after it and the answer.
-const ANSWERS: [(State, Snoop, State, Msg); 18] = [
+type Row = (State, Snoop, State, Msg);
+
+const ANSWERS: [Row; 18] = [
     (State::I, Snoop::SnpShared, State::I, NO_COPY),
     (State::UC, Snoop::SnpShared, State::SC, CLEAN),
     (State::UD, Snoop::SnpShared, State::SD, OWNED),
@@ -101,40 +103,47 @@ fn after_snoop(before: LineView, left: State, answer: Msg) -> LineView {
     line
 }
 
+/// Agent 0's copy answers the snoop by the table, in a slice of its own.
+fn answers_by_table(rt: &impl Abort, alloc: Global, row: Row) {
+    let (found, snoop, left, answer) = row;
+    let mut slice = slice_of(rt, alloc, 3, 1, 16);
+    meets(rt, &mut slice, found, snoop);
+    let before = view(rt, &slice);
+    assert!(rt; is_met(&before, found, snoop), "{snoop:?} at {found:?}");
+    does(rt, &mut slice, 0, Step::RecvSnp);
+    let wanted = after_snoop(before, left, answer);
+    assert!(rt; view(rt, &slice) == wanted, "{snoop:?} at {found:?}");
+    does(rt, &mut slice, 0, Step::RecvSnpResp);
+}
+
 #[test]
 fn each_state_answers_each_snoop_by_the_table(rt: HostRuntime) {
-    for (found, snoop, left, answer) in ANSWERS {
-        let mut slice = slice_of(&rt, rt.alloc(), 3, 1, 16);
-        meets(&rt, &mut slice, found, snoop);
-        let before = view(&rt, &slice);
-        is_met(&rt, before, found, snoop);
-        does(&rt, &mut slice, 0, Step::RecvSnp);
-        let after = view(&rt, &slice);
-        assert_eq!(rt;
-            after,
-            after_snoop(before, left, answer),
-            "{snoop:?} at {found:?}"
-        );
-        does(&rt, &mut slice, 0, Step::RecvSnpResp);
+    for row in ANSWERS {
+        answers_by_table(&rt, rt.alloc(), row);
     }
 }
 
-/// Agent 0's copy is in the state, and the snoop is on its way to it, as the line is shown.
-fn is_met(rt: &impl Abort, line: LineView, found: State, snoop: Snoop) {
-    assert_eq!(rt; line.copies[0].state, found, "before {snoop:?}");
-    assert_eq!(rt; line.flits[0].snp, Some(snoop), "at {found:?}");
+/// Whether agent 0's copy is in the state, and the snoop on its way to it, as the line is shown.
+fn is_met(line: &LineView, found: State, snoop: Snoop) -> bool {
+    line.copies[0].state == found && line.flits[0].snp == Some(snoop)
+}
+
+/// Whether only the reader is answered, by data that leaves it no unique copy.
+fn is_shared(line: &LineView) -> bool {
+    let sent = line.flits[2].dat_down.map(|data| data.unique);
+    line.flits[0].snp.is_none() && line.flits[1].snp.is_none() && sent == Some(false)
+}
+
+/// A read of the kind beside clean holders snoops none of them.
+fn leaves_alone(rt: &impl Abort, alloc: Global, kind: Kind) {
+    let mut slice = slice_of(rt, alloc, 3, 1, 16);
+    brings(rt, &mut slice, State::SC);
+    asks(rt, &mut slice, 2, kind);
+    assert!(rt; is_shared(&view(rt, &slice)), "{kind:?}");
 }
 
 #[test]
 fn reads_that_share_leave_clean_holders_alone(rt: HostRuntime) {
-    for kind in [Kind::ReadShared, Kind::ReadNotSharedDirty] {
-        let mut slice = slice_of(&rt, rt.alloc(), 3, 1, 16);
-        brings(&rt, &mut slice, State::SC);
-        asks(&rt, &mut slice, 2, kind);
-        let shown = view(&rt, &slice);
-        assert_eq!(rt; shown.flits[0].snp, None);
-        assert_eq!(rt; shown.flits[1].snp, None);
-        let sent = shown.flits[2].dat_down.map(|data| data.unique);
-        assert_eq!(rt; sent, Some(false));
-    }
+    leaves_alone(&rt, rt.alloc(), Kind::ReadShared);
+    leaves_alone(&rt, rt.alloc(), Kind::ReadNotSharedDirty);
 }

@@ -1,9 +1,11 @@
 //! Verdicts on plain data, against `docs/PROTOCOL.md`, "Coherence".
 
 use crate::four_slices::OPENING;
+use crate::moves::{does, slice_of, view};
 use chi_audit::{check, check_slice};
-use chi_flit::{Action, Agent, DatUp, Kind, Line, NO_DATA, Slot, State, Step, WordNo};
+use chi_flit::{DatUp, Kind, NO_DATA, Slot, State, Step, WordNo};
 use chi_slice::{Config, LineView, Slice};
+use std::alloc::Global;
 use std::process::Abort;
 
 /// Two agents hold the line in these states, with its last values, and are named.
@@ -16,20 +18,28 @@ fn held(first: State, second: State) -> LineView {
     view
 }
 
+/// Whether the copies may stand together.
+fn passes(rt: &impl Abort, first: State, second: State, wanted: bool) {
+    assert!(rt;
+        check(&held(first, second)) == wanted,
+        "{first:?} and {second:?}"
+    );
+}
+
 #[test]
 fn passes_copies_that_may_stand_together(rt: HostRuntime) {
     assert!(rt; check(&OPENING));
-    assert!(rt; check(&held(State::SC, State::SC)));
-    assert!(rt; check(&held(State::SC, State::SD)));
-    assert!(rt; check(&held(State::I, State::UC)));
-    assert!(rt; check(&held(State::UD, State::I)));
+    passes(&rt, State::SC, State::SC, true);
+    passes(&rt, State::SC, State::SD, true);
+    passes(&rt, State::I, State::UC, true);
+    passes(&rt, State::UD, State::I, true);
 }
 
 /// No copy may stand beside a unique one, before it or after it.
 fn fails_beside(rt: &impl Abort, unique: State) {
     for other in [State::SC, State::UC, State::UD, State::SD] {
-        assert!(rt; !check(&held(unique, other)));
-        assert!(rt; !check(&held(other, unique)));
+        passes(rt, unique, other, false);
+        passes(rt, other, unique, false);
     }
 }
 
@@ -38,7 +48,7 @@ fn fails_a_unique_copy_beside_another(rt: HostRuntime) {
     for unique in [State::UC, State::UD] {
         fails_beside(&rt, unique);
     }
-    assert!(rt; !check(&held(State::SD, State::SD)));
+    passes(&rt, State::SD, State::SD, false);
 }
 
 #[test]
@@ -78,25 +88,27 @@ fn lets_memory_wait_for_dirty_data(rt: HostRuntime) {
     assert!(rt; !check(&on_its_way));
 }
 
+/// A read and a store.
+const STORES: [Step; 6] = [
+    Step::Issue(Kind::ReadUnique, Slot(0)),
+    Step::Admit,
+    Step::Start,
+    Step::RecvData,
+    Step::RecvAck,
+    Step::Store(WordNo(2), 5),
+];
+
+/// Agent 1 does the step, and line 0 and the slice pass.
+fn passes_after(rt: &impl Abort, slice: &mut Slice<Global>, step: Step) {
+    does(rt, slice, 1, step);
+    assert!(rt; check(&view(rt, slice)) && check_slice(slice), "{step:?}");
+}
+
 #[test]
 fn passes_what_a_slice_shows(rt: HostRuntime) {
-    let config = Config::new(2, 1, 1, 1, 1, 4).expect(&rt, "sizes in their limits");
-    let mut slice = Slice::new(rt.alloc(), &config, 0).expect(&rt, "memory for a slice");
-    let (agent, line) = (Agent(1), Line(0));
-    let steps = [
-        Step::Issue(Kind::ReadUnique, Slot(0)),
-        Step::Admit,
-        Step::Start,
-        Step::RecvData,
-        Step::RecvAck,
-        Step::Store(WordNo(2), 5),
-    ];
-    for step in steps {
-        let done = slice.act(Action { agent, line, step });
-        assert!(rt; done.is_ok());
-        let view = slice.view(line).expect(&rt, "a line of the slice");
-        assert!(rt; check(&view));
-        assert!(rt; check_slice(&slice));
+    let mut slice = slice_of(&rt, rt.alloc(), 2, 1, 4);
+    for step in &STORES {
+        passes_after(&rt, &mut slice, *step);
     }
 }
 

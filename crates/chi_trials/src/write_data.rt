@@ -119,16 +119,21 @@ fn is_asked_for_data(
     does(rt, slice, 0, Step::Start);
 }
 
+/// Whether agent 0's copy is in the state, and the memory has what such a copy leaves it.
+fn is_ready(line: &LineView, form: State) -> bool {
+    let memory = if form.is_dirty() { NO_DATA } else { STORED };
+    line.copies[0].state == form && line.memory == memory
+}
+
 /// Agent 0 sends its write data by the table.
 fn sends(rt: &impl Abort, slice: &mut Slice<Global>, form: State, left: State) {
     let before = view(rt, slice);
-    assert_eq!(rt; before.copies[0].state, form);
-    assert_eq!(rt;
-        before.memory,
-        if form.is_dirty() { NO_DATA } else { STORED }
-    );
+    assert!(rt; is_ready(&before, form), "{form:?}");
     does(rt, slice, 0, Step::RecvDbid);
-    assert_eq!(rt; view(rt, slice), after_dbid(before, form, left));
+    assert!(rt;
+        view(rt, slice) == after_dbid(before, form, left),
+        "{form:?}"
+    );
 }
 
 /// The line once agent 0 sent its write data.
@@ -160,18 +165,29 @@ fn after_write_data(before: LineView, named: &[usize], unique: bool) -> LineView
 fn takes(rt: &impl Abort, slice: &mut Slice<Global>, named: &[usize], unique: bool) {
     let before = view(rt, slice);
     let done = answer(slice, at(0, Step::RecvWrData));
-    assert_eq!(rt; done, Ok(Effect::Completed(Slot(0))));
-    assert_eq!(rt; view(rt, slice), after_write_data(before, named, unique));
+    assert!(rt; done == Ok(Effect::Completed(Slot(0))), "{done:?}");
+    assert!(rt; view(rt, slice) == after_write_data(before, named, unique));
+}
+
+/// A copy-back by its row, in a slice of its own.
+fn is_by_table(rt: &impl Abort, alloc: Global, row: CopyBack) {
+    let (kind, held, crossed_by, form, left, named, unique) = row;
+    let mut slice = slice_of(rt, alloc, 3, 1, 16);
+    is_asked_for_data(rt, &mut slice, kind, held, crossed_by);
+    sends(rt, &mut slice, form, left);
+    takes(rt, &mut slice, named, unique);
 }
 
 #[test]
 fn each_state_sends_its_form_of_write_data(rt: HostRuntime) {
-    for (kind, held, crossed_by, form, left, named, unique) in COPY_BACKS {
-        let mut slice = slice_of(&rt, rt.alloc(), 3, 1, 16);
-        is_asked_for_data(&rt, &mut slice, kind, held, crossed_by);
-        sends(&rt, &mut slice, form, left);
-        takes(&rt, &mut slice, named, unique);
+    for row in COPY_BACKS {
+        is_by_table(&rt, rt.alloc(), row);
     }
+}
+
+/// Whether agent 0's copy is dirty, and the memory has older words than it.
+fn is_older(line: &LineView) -> bool {
+    line.copies[0].state == UD && line.last == [0, 0, 0, 9, 0, 0, 0, 0] && line.memory == STORED
 }
 
 #[test]
@@ -181,8 +197,5 @@ fn a_store_behind_the_write_data_leaves_it_older(rt: HostRuntime) {
     does(&rt, &mut slice, 0, Step::RecvDbid);
     does(&rt, &mut slice, 0, Step::Store(WordNo(3), 9));
     takes(&rt, &mut slice, &[0], true);
-    let line = view(&rt, &slice);
-    assert_eq!(rt; line.copies[0].state, UD);
-    assert_eq!(rt; line.last, [0, 0, 0, 9, 0, 0, 0, 0]);
-    assert_eq!(rt; line.memory, STORED);
+    assert!(rt; is_older(&view(&rt, &slice)));
 }
