@@ -1,11 +1,13 @@
 //! What the tests share: the scripts of agents, with the writers of their tallies.
 
 ghost use Rattle.std.specs.Prelude.{◌≡◌, ◌≤◌, All, length, map, vec_len};
+ghost use Rattle.chi_slice.specs.Config.{two_types};
 ghost use Rattle.chi_tallies.specs.Tallies.{cell_of, IsFresh};
 ghost use Rattle.chi_agent.specs.Script.{AreFresh};
 
 use chi_agent::Script;
 use chi_flit::{Line, Operation, Task, WordNo};
+use chi_slice::Config;
 use chi_tallies::{Tallies, Watcher, Writer, open_tallies};
 use std::alloc::Global;
 use std::process::Abort;
@@ -16,6 +18,13 @@ pub fn on(line: u8, task: Task) -> Operation {
         line: Line(line),
         task,
     }
+}
+
+/// Eight requesters and eight lines, each in a slice of its own, with an entry of each of two types.
+pub fn eight_sizes(rt: &impl Abort) -> Config
+    ensures { result ≡ two_types 8 8 8 1 1 16 }
+{
+    Config::new(8, 8, 8, 1, 1, 16).expect(rt, "sizes in their limits")
 }
 
 /// What agent `own` of eight does: it stores to its line and writes it back, and loads and drops the next.

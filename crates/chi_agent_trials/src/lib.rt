@@ -5,8 +5,24 @@
 #[cfg(test)]
 mod bench;
 #[cfg(test)]
+mod crossing;
+#[cfg(test)]
 mod gates;
+#[cfg(test)]
+mod guests;
+#[cfg(test)]
+mod isolation;
+#[cfg(test)]
+mod plays;
+#[cfg(test)]
+mod reports;
+#[cfg(test)]
+mod sights;
 #[cfg(test)]
 mod tallies;
 #[cfg(test)]
+mod tellers;
+#[cfg(test)]
 mod watched;
+#[cfg(test)]
+mod windows;

@@ -1,24 +1,15 @@
 //! What is read of the tallies of agents that have ended.
 
 ghost use Rattle.std.specs.Prelude.{◌≡◌, ◌<◌, length, map};
-ghost use Rattle.chi_slice.specs.Config.{two_types};
 ghost use Rattle.chi_tallies.specs.Tallies.{cell_of};
 
-use crate::bench::{eight_scripts, opened};
+use crate::bench::{eight_scripts, eight_sizes, opened};
 use chi_agent::{OpenGate, run_agents};
 use chi_home::Node;
 use chi_reports::{Gathered, Report};
-use chi_slice::Config;
 use chi_tallies::{Tallies, Watcher};
 use std::process::Abort;
 use std::sync::Wait;
-
-/// Eight requesters and eight lines, each in a slice of its own, with an entry of each of two types.
-fn sizes(rt: &impl Abort) -> Config
-    ensures { result ≡ two_types 8 8 8 1 1 16 }
-{
-    Config::new(8, 8, 8, 1, 1, 16).expect(rt, "sizes in their limits")
-}
 
 /// The agent's report says that it finished, and its tally has the loads and the stores of the report.
 fn matches<R: Abort + Wait>(
@@ -56,7 +47,7 @@ fn all_match<R: Abort + Wait>(rt: &R, tallies: &Tallies, watcher: &mut Watcher, 
 
 #[test]
 fn tallies_match_reports(rt: HostRuntime) {
-    let made = Node::new(rt.alloc(), &sizes(&rt));
+    let made = Node::new(rt.alloc(), &eight_sizes(&rt));
     let (node, requesters) = made.expect(&rt, "memory for a node");
     let (tallies, scripts, mut watcher) = opened(&rt, rt.alloc(), 8, &eight_scripts());
     let gate = OpenGate;

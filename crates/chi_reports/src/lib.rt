@@ -7,8 +7,6 @@ mod boxes;
 mod gathering;
 mod reports;
 mod rule;
-#[cfg(test)]
-mod tests;
 mod views;
 
 pub use boxes::{Inbox, Outbox, open_boxes};

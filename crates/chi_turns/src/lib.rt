@@ -8,12 +8,8 @@ mod choice;
 mod deliveries;
 mod operations;
 mod player;
-#[cfg(test)]
-mod plays;
 mod retries;
 mod sight;
-#[cfg(test)]
-mod tests;
 mod tries;
 
 pub use choice::{Call, Choice};

@@ -1,6 +1,8 @@
+//! A report that is sent, and gathered.
+
 ghost use Rattle.std.specs.Prelude.{◌≡◌};
 
-use super::*;
+use chi_reports::{Report, gather, open_boxes};
 use std::alloc::AllocError;
 
 /// The report of an agent.

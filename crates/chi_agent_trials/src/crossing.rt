@@ -1,0 +1,117 @@
+//! A snoop that crosses a write-back, done call by call under locks.
+
+ghost use Rattle.std.specs.Prelude.{◌≡◌};
+ghost use Rattle.chi_slice.specs.Config.{two_types};
+
+use crate::guests::{Guest, guests_of};
+use crate::sights::Sights;
+use chi_flit::Kind::{ReadUnique, WriteBackFull};
+use chi_flit::Step::{
+    self, Issue, Load, RecvAck, RecvData, RecvDbid, RecvSnp, RecvSnpResp, RecvWrData, Start, Store,
+};
+use chi_flit::{Effect, Entry, Line, Slot, State, WordNo};
+use chi_home::Node;
+use chi_homeline::Serving;
+use chi_node::{Arrived, Stepped};
+use chi_slice::{Config, LineView};
+use chi_tracker::Released;
+use std::process::Abort;
+use std::sync::Wait;
+
+const LINE: Line = Line(0);
+
+/// A call of an agent, with its answer.
+#[derive(Clone, Copy)]
+enum Call {
+    Comes(Entry),
+    Does(Step, Stepped),
+}
+
+const NOTHING: Stepped = Stepped {
+    effect: Effect::Nothing,
+    released: None,
+};
+
+const FREED: Stepped = Stepped {
+    effect: Effect::Completed(Slot(0)),
+    released: Some(Released::Freed),
+};
+
+const VALUE: Stepped = Stepped {
+    effect: Effect::Value(9),
+    released: None,
+};
+
+/// A ReadUnique takes the line from under a waiting WriteBackFull, whose data then changes nothing.
+const CALLS: [(u8, Call); 20] = [
+    (0, Call::Does(Issue(ReadUnique, Slot(0)), NOTHING)),
+    (0, Call::Comes(Entry(0))),
+    (0, Call::Does(Start, NOTHING)),
+    (0, Call::Does(RecvData, NOTHING)),
+    (0, Call::Does(RecvAck, FREED)),
+    (0, Call::Does(Store(WordNo(0), 5), NOTHING)),
+    (0, Call::Does(Issue(WriteBackFull, Slot(0)), NOTHING)),
+    (0, Call::Comes(Entry(2))),
+    (1, Call::Does(Issue(ReadUnique, Slot(0)), NOTHING)),
+    (1, Call::Comes(Entry(0))),
+    (1, Call::Does(Start, NOTHING)),
+    (0, Call::Does(RecvSnp, NOTHING)),
+    (0, Call::Does(RecvSnpResp, NOTHING)),
+    (1, Call::Does(RecvData, NOTHING)),
+    (1, Call::Does(RecvAck, FREED)),
+    (1, Call::Does(Store(WordNo(0), 9), NOTHING)),
+    (0, Call::Does(Start, NOTHING)),
+    (0, Call::Does(RecvDbid, NOTHING)),
+    (0, Call::Does(RecvWrData, FREED)),
+    (1, Call::Does(Load(WordNo(0)), VALUE)),
+];
+
+/// Two requesters on one line, with two entries of type 0 and one of type 1.
+fn sizes(rt: &impl Abort) -> Config
+    ensures { result ≡ two_types 2 1 1 2 1 8 }
+{
+    Config::new(2, 1, 1, 2, 1, 8).expect(rt, "sizes in their limits")
+}
+
+/// The call is answered as it says.
+fn plays<R: Abort + Wait>(rt: &R, guest: &mut Guest<'_>, call: Call) {
+    match call {
+        Call::Comes(entry) => {
+            let came = guest.arrives(rt, LINE);
+            assert_eq!(rt; came, Ok(Arrived::Admitted(entry)));
+        }
+        Call::Does(step, wanted) => {
+            let done = guest.does(rt, LINE, step);
+            assert_eq!(rt; done, Ok(wanted), "{step:?}");
+        }
+    }
+}
+
+/// The reader has the line to itself, nobody is served or waits, and memory has what was handed on.
+fn ends(rt: &impl Abort, view: &LineView) {
+    let mut named = [false; 8];
+    named[1] = true;
+    assert_eq!(rt; view.copies[0].state, State::I);
+    assert_eq!(rt; view.copies[1].state, State::UD);
+    assert_eq!(rt; view.copies[1].words, [9, 0, 0, 0, 0, 0, 0, 0]);
+    assert_eq!(rt; view.named, named);
+    assert!(rt; view.unique);
+    assert_eq!(rt; view.serving, Serving::Idle);
+    assert_eq!(rt; view.waiting, [None; 8]);
+    assert_eq!(rt; view.memory, [5, 0, 0, 0, 0, 0, 0, 0]);
+}
+
+#[test]
+fn a_call_changes_nothing_but_its_line(rt: HostRuntime) {
+    let made = Node::new(rt.alloc(), &sizes(&rt));
+    let (node, requesters) = made.expect(&rt, "memory for a node");
+    let mut guests = guests_of(&rt, rt.alloc(), &node, requesters);
+    let mut sights = Sights::new(&rt, rt.alloc(), &node);
+    for (agent, call) in CALLS {
+        assert!(rt; usize::from(agent) < guests.len());
+        plays(&rt, &mut guests[usize::from(agent)], call);
+        sights.follow(&rt, LINE);
+    }
+    ends(&rt, &sights.view(&rt, LINE));
+    assert_eq!(rt; sights.recorded(), 3);
+}

@@ -1,0 +1,107 @@
+//! What the lines of a node show while nobody has a lock: it changes by what is done between two looks alone.
+
+use chi_flit::Line;
+use chi_home::Node;
+use chi_journal::Record;
+use chi_slice::{LineView, Slice};
+use std::alloc::Global;
+use std::process::Abort;
+use std::sync::Wait;
+
+/// What was shown of a line, and the journal of its slice, which has no other line.
+#[derive(Drop)]
+struct Sight {
+    line: Line,
+    view: LineView,
+    records: Vec<Record>,
+}
+
+/// What a line shows.
+fn look(rt: &impl Abort, slice: &Slice<Global>, line: Line) -> LineView {
+    slice.view(line).expect(rt, "the line is in its slice")
+}
+
+impl Sight {
+    /// What the line shows of a slice in which nothing was loaded or stored.
+    fn new(rt: &impl Abort, alloc: Global, slice: &Slice<Global>, line: Line) -> Sight {
+        assert!(rt; slice.journal().records().is_empty());
+        Sight {
+            line,
+            view: look(rt, slice, line),
+            records: Vec::new(alloc),
+        }
+    }
+
+    /// The journal begins with what it was before; the answer is whether it has a record more, of which there
+    /// is one at most.
+    fn has_grown(&mut self, rt: &impl Abort, slice: &Slice<Global>) -> bool {
+        let records = slice.journal().records();
+        let before = self.records.len();
+        assert!(rt; before <= records.len());
+        assert!(rt; records[..before] == self.records[..]);
+        let new = &records[before..];
+        assert!(rt; new.len() <= 1);
+        for record in new {
+            self.records.push(*record).expect(rt, "memory for a record");
+        }
+        !new.is_empty()
+    }
+
+    /// Whether the line shows something else than before.
+    fn has_moved(&mut self, rt: &impl Abort, slice: &Slice<Global>) -> bool {
+        let view = look(rt, slice, self.line);
+        let moved = view != self.view;
+        self.view = view;
+        moved
+    }
+}
+
+/// What all lines of a node show, each of which is in a slice of its own.
+#[derive(Drop)]
+pub struct Sights<'n> {
+    node: &'n Node<Global>,
+    all: Vec<Sight>,
+}
+
+impl<'n> Sights<'n> {
+    /// What they show in the opening state.
+    pub fn new<R: Abort + Wait>(rt: &R, alloc: Global, node: &'n Node<Global>) -> Sights<'n> {
+        assert_eq!(rt; node.config().lines(), node.config().slices());
+        let mut all = Vec::new(alloc);
+        for line in 0..node.config().lines() {
+            let slice = node.lock(rt, Line(line)).expect(rt, "a line of the node");
+            let sight = Sight::new(rt, alloc, &slice, Line(line));
+            all.push(sight).expect(rt, "memory for a line");
+        }
+        Sights { node, all }
+    }
+
+    /// Every slice is locked. The one of this line alone may have changed since the look before, and its
+    /// journal may have a record more.
+    pub fn follow<R: Abort + Wait>(&mut self, rt: &R, line: Line) {
+        for sight in self.all.iter_mut() {
+            let slice = self
+                .node
+                .lock(rt, sight.line)
+                .expect(rt, "a line of the node");
+            let grown = sight.has_grown(rt, &slice);
+            let moved = sight.has_moved(rt, &slice);
+            assert!(rt; sight.line == line || !grown && !moved);
+        }
+    }
+
+    /// How many loads and stores there are.
+    pub fn recorded(&self) -> usize {
+        let mut count = 0usize;
+        for sight in self.all.iter() {
+            count = count.saturating_add(sight.records.len());
+        }
+        count
+    }
+
+    /// What a line shows.
+    pub fn view(&self, rt: &impl Abort, line: Line) -> LineView {
+        let sight = self.all.get(usize::from(line.0));
+        sight.expect(rt, "a line of the node").view
+    }
+}
