@@ -7,8 +7,6 @@ mod opening;
 mod rule;
 mod tallies;
 mod tally;
-#[cfg(test)]
-mod tests;
 mod view;
 mod watcher;
 mod writer;
