@@ -88,7 +88,10 @@ completed_filter false f n = added (shared f) n
 
 -- Completion: the filter is as above, and the CompAck is awaited
 abbrev pub completed : Home → Snoop → Agent → Slot → Home
-completed home snoop agent slot = record home { filter = completed_filter (completes_unique snoop home.filter agent.0) home.filter agent.0; serving = AwaitingCompAck agent slot }
+completed home snoop agent slot = record home {
+  filter = completed_filter (completes_unique snoop home.filter agent.0) home.filter agent.0;
+  serving = AwaitingCompAck agent slot;
+}
 
 -- the message of a completion, with the data that is sent: a CleanUnique, served by SnpCleanInvalid, has none
 abbrev pub completion_message : Snoop → Bool → List ℕ → Msg
@@ -279,4 +282,8 @@ written_filter false f n = record f { owner = owner_without f.owner n }
 
 -- RecvWrData of a request of the kind: dirty data becomes the memory, and the line is idle
 abbrev pub written : Home → ℕ → Kind → State → List ℕ → Home
-written home n kind form words = record home { memory = if is_dirty form then words else home.memory; filter = written_filter (leaves kind form) home.filter n; serving = Idle }
+written home n kind form words = record home {
+  memory = if is_dirty form then words else home.memory;
+  filter = written_filter (leaves kind form) home.filter n;
+  serving = Idle;
+}

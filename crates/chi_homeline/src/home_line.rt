@@ -7,10 +7,11 @@ ghost use Rattle.chi_filter.specs.Filter.{is_named};
 ghost use Rattle.chi_homeline.specs.Home.{Home, acknowledged, acks_for, admitted, answer_taken, asks, completed, completes_unique, completion_message, data_to_send, finished_home, finished_sends, idle_home, leaves, served, served_kind, served_sends, served_slot, snoop_answered, snoop_answered_sends, start_refusal, started, started_as, started_sends, started_with, waiting_of, writes_for, written};
 ghost use Rattle.chi_flit.specs.declared.kind.Kind.{Kind};
 ghost use Rattle.chi_flit.specs.declared.numbers.Slot.{Slot};
+ghost use Rattle.chi_homeline.specs.declared.serving.Completion.{Completion};
 ghost use Rattle.chi_homeline.specs.declared.serving.Waiting.{Waiting};
 ghost use Rattle.chi_homeline.specs.declared.serving.Started.TheVariants.{Sends};
 
-use crate::serving::{Begun, Completion, Serving, SnoopAnswer, Started, Waiting};
+use crate::serving::{Begun, Completion, Serving, SnoopAnswer, Waiting};
 use chi_filter::{Filter, has_any};
 use chi_flit::{Agent, CompData, Data, Kind, Msg, NO_DATA, Refusal, RspDown, Slot, Snoop, State};
 use std::marker::Model;
@@ -77,7 +78,7 @@ impl HomeLine {
         Ok(request)
     }
 
-    /// The refusal that `start` would answer.
+    /// The refusal that `begin` would answer.
     ///
     /// Conditions: the agent's number is below 8.
     /// Source: `docs/PROTOCOL.md`, "Start".
@@ -89,25 +90,8 @@ impl HomeLine {
     }
 
     /// Begins to serve the agent's waiting request, which waits no more; the memory and the other
-    /// requests that wait stay. Answers what is to be sent.
-    ///
-    /// Refused 6 (NotWaiting) where the agent doesn't wait, then 5 (LineBusy) where the line is served;
-    /// nothing changes then. Conditions: the agent's number is below 8.
-    /// Source: `docs/PROTOCOL.md`, "Start".
-    pub fn start(&mut self, agent: Agent) -> Result<Started, Refusal>
-        requires { agent.0 < 8 }
-        ensures refusal { refusal_of result ≡ start_refusal self.old agent.0 }
-        ensures sends { IfOk result (λ sent. (request : Waiting) → waiting_of self.old agent.0 ≡ Some request → sent ≡ started_sends self.old agent request) }
-        ensures ok { IfOk result (λ _. (request : Waiting) → waiting_of self.old agent.0 ≡ Some request → self.new ≡ started self.old agent request) }
-        ensures err { OnErr result (self.new ≡ self.old) }
-    {
-        let begun = self.begin(agent)?;
-        Ok(started_with(begun, self.memory))
-    }
-
-    /// Begins to serve the agent's waiting request as `start` does; the memory and the other requests
-    /// that wait stay. Answers what is to be sent, where the memory is the data of a completion: so
-    /// whoever sends it needn't copy that twice.
+    /// requests that wait stay. Answers what is to be sent, where the memory is the data of a completion:
+    /// so whoever sends it needn't copy that twice.
     ///
     /// Refused 6 (NotWaiting) where the agent doesn't wait, then 5 (LineBusy) where the line is served;
     /// nothing changes then. Conditions: the agent's number is below 8.
@@ -115,8 +99,10 @@ impl HomeLine {
     pub fn begin(&mut self, agent: Agent) -> Result<Begun, Refusal>
         requires { agent.0 < 8 }
         ensures refusal { refusal_of result ≡ start_refusal self.old agent.0 }
-        ensures sends { IfOk result (λ begun. (request : Waiting) → waiting_of self.old agent.0 ≡ Some request → started_with begun self.old.memory ≡ started_sends self.old agent request) }
-        ensures ok { IfOk result (λ _. (request : Waiting) → waiting_of self.old agent.0 ≡ Some request → self.new ≡ started self.old agent request) }
+        ensures sends { IfOk result (λ begun. (request : Waiting) → waiting_of self.old agent.0 ≡ Some request
+            → started_with begun self.old.memory ≡ started_sends self.old agent request) }
+        ensures ok { IfOk result (λ _. (request : Waiting) → waiting_of self.old agent.0 ≡ Some request
+            → self.new ≡ started self.old agent request) }
         ensures memory { IfOk result (λ _. self.new.memory ≡ self.old.memory) }
         ensures err { OnErr result (self.new ≡ self.old) }
     {
@@ -269,8 +255,11 @@ impl HomeLine {
     /// Source: `docs/PROTOCOL.md`, "Answers of snooped agents".
     pub fn snp_resp(&mut self, agent: Agent, answer: SnoopAnswer) -> Option<Completion>
         requires { agent.0 < 8 }
-        ensures sends { is_named self.old.filter agent.0 ≡ true → result ≡ snoop_answered_sends self.old agent answer }
-        ensures after { is_named self.old.filter agent.0 ≡ true → self.new ≡ snoop_answered self.old agent answer }
+        ensures sends { is_named self.old.filter agent.0 ≡ true
+            → result ≡ snoop_answered_sends self.old agent answer }
+        ensures agent { (completion : Completion) → result ≡ Some completion → completion.agent.0 < 8 }
+        ensures after { is_named self.old.filter agent.0 ≡ true
+            → self.new ≡ snoop_answered self.old agent answer }
         ensures nothing { is_named self.old.filter agent.0 ≡ false → result ≡ None }
         ensures stays { is_named self.old.filter agent.0 ≡ false → self.new ≡ self.old }
     {
@@ -315,6 +304,7 @@ impl HomeLine {
     /// completion.
     fn finish(&mut self, sent: Data) -> Option<Completion>
         ensures sends { result ≡ finished_sends self.old sent }
+        ensures agent { (completion : Completion) → result ≡ Some completion → completion.agent.0 < 8 }
         ensures after { self.new ≡ finished_home self.old }
     {
         let Serving::Snooping { agent, kind, slot } = self.serving else {
@@ -338,7 +328,8 @@ impl HomeLine {
         requires { agent.0 < 8 }
         ensures answers { is_some result ≡ writes_for self.old.serving agent.0 }
         ensures slot { (slot : Slot) → result ≡ Some slot → served_slot self.old.serving ≡ Some slot }
-        ensures after { (kind : Kind) → writes_for self.old.serving agent.0 ≡ true → served_kind self.old.serving ≡ Some kind → self.new ≡ written self.old agent.0 kind form words }
+        ensures after { (kind : Kind) → writes_for self.old.serving agent.0 ≡ true
+            → served_kind self.old.serving ≡ Some kind → self.new ≡ written self.old agent.0 kind form words }
         ensures stays { writes_for self.old.serving agent.0 ≡ false → self.new ≡ self.old }
     {
         match self.serving {
@@ -427,22 +418,6 @@ fn completion_begun(snoop: Snoop, unique: bool) -> Begun
     match snoop {
         Snoop::SnpNotSharedDirty | Snoop::SnpShared | Snoop::SnpUnique => Begun::Data { unique },
         Snoop::SnpCleanInvalid => Begun::Unique,
-    }
-}
-
-/// What a start sends, with the memory as the data of a completion.
-fn started_with(begun: Begun, memory: Data) -> Started
-    ensures { result ≡ started_with begun memory }
-{
-    match begun {
-        Begun::Data { unique } => Started::Sends(Msg::DatDown(CompData {
-            unique,
-            words: memory,
-        })),
-        Begun::Unique => Started::Sends(Msg::RspDown(RspDown::CompUC)),
-        Begun::WriteData => Started::Sends(Msg::RspDown(RspDown::CompDBIDResp)),
-        Begun::Evicted(slot) => Started::Evicted(slot),
-        Begun::Snoops { snoop, agents } => Started::Snoops { snoop, agents },
     }
 }
 

@@ -1,6 +1,5 @@
 -- Every action that isn't refused keeps what a line keeps.
-use Rattle.std.proofs.Common.{◌≡◌, ℕ, ◌<◌, ◌==◌, List, Bool, true, false, Option, Some, None, is_some, arith, refl, sym, ap, subst, if◌then◌else◌}
-use Rattle.std.proofs.Math.ListN.{set}
+use Rattle.std.proofs.Common.{◌≡◌, ℕ, ◌<◌, List, Bool, true, false, Option, Some, None, is_some, arith, refl, sym, ap, subst, if◌then◌else◌}
 use Rattle.chi_flit.specs.declared.numbers.Agent.{Agent}
 use Rattle.chi_flit.specs.declared.numbers.Line.{Line}
 use Rattle.chi_flit.specs.declared.kind.Kind.{Kind}
@@ -22,17 +21,17 @@ use Rattle.chi_flit.specs.State.{is_unique}
 use Rattle.chi_journal.specs.declared.record.Record.{Record}
 use Rattle.chi_journal.specs.Journal.{words_after}
 use Rattle.chi_rnline.specs.declared.pending.Pending.{Pending}
-use Rattle.chi_rnline.specs.declared.pending.Phase.{Phase}
-use Rattle.chi_rnline.specs.declared.pending.Phase.TheVariants.{Sent, Retried}
-use Rattle.chi_rnline.specs.Rn.{Rn, cancel_refusal, cancel_refusal_in, drop_refusal, is_clean_copy, issue_refusal, may_resend, resend_refusal, resend_refusal_in, store_refusal}
+use Rattle.chi_rnline.specs.declared.pending.Phase.TheVariants.{Retried}
+use Rattle.chi_rnline.specs.Rn.{Rn, cancel_refusal_in, drop_refusal, is_clean_copy, issue_refusal, resend_refusal, resend_refusal_in, store_refusal}
 use Rattle.chi_homeline.specs.declared.serving.SnoopAnswer.{SnoopAnswer}
 use Rattle.chi_homeline.specs.declared.serving.SnoopAnswer.TheVariants as answers
 use Rattle.chi_homeline.specs.Home.{Home, is_idle, served_kind, start_refusal, waiting_of}
 use Rattle.chi_line.specs.declared.act.Conditions.{Conditions}
 use Rattle.chi_line.specs.LineState.{LineState, rn_of, cells_of}
 use Rattle.chi_line.specs.Kept.{Kept, kind_of}
-use Rattle.chi_line.specs.Step.{after, after_step, admitted_line, answer_in, answered_by, completion_received, data_answer, data_written, dbid_received_line, is_ack, is_comp, is_dbid, is_retry, is_write_data, line_uses, received_line, record_of, resent_line, response_answer, retried_line, snooped_line, started_line, step_record, where_some}
-use Rattle.chi_line.specs.Refused.{first_of, full_if, line_refusal, no_flit_unless, step_refusal}
+use Rattle.chi_line.specs.Step.{after, after_step, admitted_line, answer_in, answered_by, completion_received, data_answer, data_written, dbid_received_line, is_ack, is_dbid, is_retry, line_uses, received_line, record_of, resent_line, response_answer, retried_line, snooped_line, started_line, step_record, where_some}
+use Rattle.chi_line.specs.Types.{pending_credit}
+use Rattle.chi_line.specs.Refused.{credit_refusal, first_of, full_if, line_refusal, no_flit_unless, step_refusal}
 use Rattle.chi_line.proofs.Asks.{same}
 use Rattle.chi_line.proofs.Keeps.{kept_issued, kept_admitted, kept_received, kept_acknowledged}
 use Rattle.chi_line.proofs.Starts.{kept_started}
@@ -94,6 +93,11 @@ pub record IsRetried (pending : Option Pending) : Type 0 where
 pub resend_allowed : (state : State) (pending : Option Pending) → resend_refusal_in state pending ≡ None → IsRetried pending
 resend_allowed state None allowed = absurd (cc (allowed))
 resend_allowed state (Some request) allowed = record { request = request; is = refl; phase = grind arith }
+
+pub may_resend : (c : Conditions) (s : LineState) (agent : Agent) → step_refusal c s agent steps.Resend ≡ None → IsRetried (rn_of s agent.0).pending
+may_resend c s agent allowed =
+    let rn = rn_of s agent.0 in
+    resend_allowed rn.state rn.pending (neither (resend_refusal rn) (credit_refusal c.credits (pending_credit c.profile rn.pending)) allowed).0
 
 pub cancel_allowed : (state : State) (pending : Option Pending) → cancel_refusal_in state pending ≡ None → IsRetried pending
 cancel_allowed state None allowed = absurd (cc (allowed))
@@ -214,7 +218,7 @@ kept_step c last s agent line steps.RecvRetry low allowed free k =
     let there = retry_there (cells_of s agent.0).rsp_down (flit_there (is_retry (cells_of s agent.0).rsp_down) allowed) in
     kept_retry_received last s agent.0 there.0 low there.1 k
 kept_step c last s agent line steps.Resend low allowed free k =
-    let may : IsRetried (rn_of s agent.0).pending = resend_allowed (rn_of s agent.0).state (rn_of s agent.0).pending allowed in
+    let may : IsRetried (rn_of s agent.0).pending = may_resend c s agent allowed in
     subst (λ (p : Option Pending). Kept last (where_some s p (resent_line s agent.0))) (sym may.is)
     (kept_resent last s agent.0 may.request low may.is may.phase k)
 kept_step c last s agent line steps.Cancel low allowed free k =

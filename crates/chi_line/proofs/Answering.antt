@@ -1,32 +1,29 @@
--- The completion that the last answer brings: to whom it goes, and the cell that it finds empty.
-use Rattle.std.proofs.Common.{◌≡◌, ℕ, zero, suc, ◌<◌, List, [], ◌∷◌, Bool, true, false, Option, Some, None, is_some, Result, Ok, Err, OnOk, length, get_or, set, refl, ap, subst, ◌∙◌, if◌then◌else◌, arith}
-use Rattle.std.proofs.lemmas.List.{get_or-set_same, set-set}
-use Rattle.std.proofs.lemmas.Bool.{eqb-true}
+-- The completion that the last answer brings: to whom it goes, the cell that it finds empty, and that no flit
+-- is lost or made.
+use Rattle.std.proofs.Common.{◌≡◌, ◌++◌, ℕ, zero, suc, List, [], ◌∷◌, Bool, true, false, Option, Some, None, get_or, set, refl, sym, subst, ◌∙◌, if◌then◌else◌, arith}
+use Rattle.std.specs.List.Sorted.{IsPermutation}
 use Rattle.chi_flit.specs.declared.numbers.Agent.{Agent}
 use Rattle.chi_flit.specs.declared.numbers.Slot.{Slot}
 use Rattle.chi_flit.specs.declared.kind.Kind.{Kind}
 use Rattle.chi_flit.specs.declared.snoop.Snoop.{Snoop}
-use Rattle.chi_flit.specs.declared.action.Effect.{Effect}
-use Rattle.chi_flit.specs.declared.refusal.Refusal.{Refusal}
-use Rattle.chi_flit.specs.Refusal.{refusal_of}
 use Rattle.chi_flit.specs.Kind.{snoop_of}
 use Rattle.chi_flit.specs.Message.{channel_of}
 use Rattle.chi_filter.specs.Filter.{has_any}
 use Rattle.chi_wires.specs.declared.cells.Cells.{Cells}
 use Rattle.chi_wires.specs.Cell.{cell_of, emptied, no_flits}
-use Rattle.chi_wires.specs.Wires.{flits_at, row_of, with_flits}
-use Rattle.chi_rnline.specs.Rn.{Rn}
+use Rattle.chi_wires.specs.Flits.{cells_at}
+use Rattle.chi_wires.specs.Flight.{in_flight}
+use Rattle.chi_wires.proofs.Moved.{taken_sent}
 use Rattle.chi_homeline.specs.declared.serving.Completion.{Completion}
 use Rattle.chi_homeline.specs.declared.serving.Serving.{Serving}
 use Rattle.chi_homeline.specs.declared.serving.Serving.TheVariants.{Idle, Snooping, AwaitingCompAck, AwaitingWriteData}
 use Rattle.chi_homeline.specs.declared.serving.SnoopAnswer.{SnoopAnswer}
 use Rattle.chi_homeline.specs.declared.serving.SnoopAnswer.TheVariants as answers
 use Rattle.chi_homeline.specs.Home.{Home, completes_unique, completion_by, completion_of, finished_sends_as, snoop_answered_sends}
-use Rattle.chi_line.specs.LineState.{LineState}
-use Rattle.chi_line.specs.Kept.{snoops_for, IsServedInRange}
-use Rattle.chi_line.specs.Refused.{no_flit_unless}
-use Rattle.chi_line.specs.Step.{answered_by, where_some}
-use Rattle.chi_line.specs.Snooped.{answer_channel, completion_put}
+use Rattle.chi_line.specs.LineState.{LineState, cells_of}
+use Rattle.chi_line.specs.Kept.{snoops_for}
+use Rattle.chi_line.specs.Snooped.{answer_channel}
+use Rattle.chi_line.specs.Traffic.{answer_flit, answered_flits, completion_flits, flit_on}
 use Rattle.chi_line.proofs.Sends.{completion_down}
 
 -- a completion goes to the agent that is snooped for, in one of the cells down
@@ -36,13 +33,6 @@ pub record Completes (serving : Serving) (c : Completion) : Type 0 where
 
 is_itself : (agent : Agent) (kind : Kind) (slot : Slot) → snoops_for (Snooping agent kind slot) agent.0 ≡ true
 is_itself agent kind slot = grind arith
-
--- who is snooped for is one of the agents
-pub completes_low : (serving : Serving) (n : ℕ) → IsServedInRange serving → snoops_for serving n ≡ true → n < 8
-completes_low Idle n inside here = absurd (cc (here))
-completes_low (Snooping agent kind slot) n inside here = subst (λ (m : ℕ). m < 8) (eqb-true agent.0 n here) inside
-completes_low (AwaitingCompAck agent slot) n inside here = absurd (cc (here))
-completes_low (AwaitingWriteData agent kind slot) n inside here = absurd (cc (here))
 
 pub sends_completes : (serving : Serving) (home : Home) (words : List ℕ) (c : Completion) → finished_sends_as serving home words ≡ Some c → Completes serving c
 sends_completes Idle home words c h = absurd (cc (h))
@@ -88,32 +78,27 @@ data_stays (answers.IPD words) cells = refl
 data_stays (answers.SCPD words) cells = refl
 data_stays (answers.SD words) cells = refl
 
-pub same_down : {X : Type 0} (f : Cells → X) (wires : List (List Cells)) (r n m : ℕ) (c : Cells) → r < length wires → f c ≡ f (flits_at wires r n)
-    → f (flits_at (with_flits wires r n c) r m) ≡ f (flits_at wires r m)
-same_down f wires r n m c low same =
-    ap (λ row. f (get_or row m no_flits)) (get_or-set_same wires r (set (row_of wires r) n c) [] low) ∙ same_at f (row_of wires r) n m c same
+-- the completion finds its cell empty, once the answer is taken
+pub completion_finds_empty : (s : LineState) (agent : Agent) (answer : SnoopAnswer) (flits : List Cells) (completion : Completion)
+    → flits ≡ set s.flits agent.0 (emptied (cells_of s agent.0) (answer_channel answer))
+    → snoop_answered_sends s.home agent answer ≡ Some completion
+    → ((other : ℕ) → snoops_for s.home.serving other ≡ true → ((cells_of s other).rsp_down ≡ None) × ((cells_of s other).dat_down ≡ None))
+    → cell_of (cells_at flits completion.agent.0) (channel_of completion.message) ≡ None
+completion_finds_empty s agent answer flits completion taken sends down =
+    let to : Completes s.home.serving completion = answer_completes s.home agent answer completion sends in
+    let n = completion.agent.0 in
+    let empty = down n to.agent in
+    let left = emptied (cells_of s agent.0) (answer_channel answer) in
+    subst (λ (v : List Cells). cell_of (cells_at v n) (channel_of completion.message) ≡ None) (sym taken)
+    (to.down (cells_at (set s.flits agent.0 left) n)
+    (same_at (λ cells. cells.rsp_down) s.flits agent.0 n left (response_stays answer _) ∙ empty.0)
+    (same_at (λ cells. cells.dat_down) s.flits agent.0 n left (data_stays answer _) ∙ empty.1))
 
--- a completion put into a row that was written before
-pub put_in_row : (wires : List (List Cells)) (r : ℕ) (now : List (List Cells)) (row : List Cells) (completion : Option Completion) → r < length wires → now ≡ set wires r row
-    → set now r (completion_put (row_of now r) completion) ≡ set wires r (completion_put row completion)
-put_in_row wires r now row completion low is =
-    ap (λ (v : List (List Cells)). set v r (completion_put (row_of v r) completion)) is
-    ∙ (set-set wires r row _ ∙ ap (λ (l : List Cells). set wires r (completion_put l completion)) (get_or-set_same wires r row [] low))
-
--- RecvSnpResp that isn't refused: its parts are those of the line that the answer leaves
-pub answer_leaves : {X : Type 0} (part : LineState → X) (result : Result Effect Refusal) (o : Option SnoopAnswer) (s : LineState) (agent : Agent) (new : X)
-    → refusal_of result ≡ no_flit_unless (is_some o)
-    → OnOk result ((requesters : List Rn) (answer : SnoopAnswer) → o ≡ Some answer → new ≡ part (answered_by (record s { requesters = requesters }) agent answer))
-    → OnOk result (new ≡ part (where_some s o (answered_by s agent)))
-answer_leaves part (Ok effect) None s agent new refused leaves = absurd (cc (refused))
-answer_leaves part (Ok effect) (Some answer) s agent new refused leaves = leaves s.requesters answer refl
-answer_leaves part (Err refusal) o s agent new refused leaves = tt
-
--- and the requesters stay
-answered_requesters : (s : LineState) (agent : Agent) (o : Option SnoopAnswer) → s.requesters ≡ (where_some s o (answered_by s agent)).requesters
-answered_requesters s agent None = refl
-answered_requesters s agent (Some answer) = refl
-
-pub requesters_stay : (result : Result Effect Refusal) (s : LineState) (agent : Agent) (o : Option SnoopAnswer) → OnOk result (s.requesters ≡ (where_some s o (answered_by s agent)).requesters)
-requesters_stay (Ok effect) s agent o = answered_requesters s agent o
-requesters_stay (Err refusal) s agent o = tt
+-- an answer is taken, and then a completion, if it brings one, is sent
+pub answer_balances : (s : LineState) (agent : Agent) (o : Option SnoopAnswer) (answer : SnoopAnswer) (between new : List Cells) → o ≡ Some answer
+    → IsPermutation (flit_on s agent (answer_channel answer) ++ in_flight between) (in_flight s.flits)
+    → IsPermutation (in_flight new) (completion_flits (snoop_answered_sends s.home agent answer) ++ in_flight between)
+    → IsPermutation (answer_flit s agent o ++ in_flight new) (answered_flits s.home agent o ++ in_flight s.flits)
+answer_balances s agent o answer between new is takes sends =
+    subst (λ (v : Option SnoopAnswer). IsPermutation (answer_flit s agent v ++ in_flight new) (answered_flits s.home agent v ++ in_flight s.flits)) (sym is)
+    (taken_sent _ _ _ _ _ takes sends)

@@ -1,5 +1,5 @@
 -- Steps that touch one agent's lane: what every line keeps needs to be shown of that lane alone.
-use Rattle.std.proofs.Common.{◌≡◌, ◌≢◌, ℕ, ◌<◌, List, Bool, false, Option, None, length, get_or, set, sym, subst, ap, refl, ◌∙◌, ⊎_elim, arith}
+use Rattle.std.proofs.Common.{◌≡◌, ◌≢◌, ℕ, ◌<◌, List, Bool, false, Option, None, length, get_or, set, sym, subst, refl, ◌∙◌, ⊎_elim, arith}
 use Rattle.std.proofs.lemmas.List.{get_or-set_same, get_or-set_other, length-set}
 use Rattle.std.proofs.lemmas.Bool.{cases_eq}
 use Rattle.chi_flit.specs.declared.numbers.Agent.{Agent}
@@ -8,7 +8,6 @@ use Rattle.chi_wires.specs.Cell.{no_flits}
 use Rattle.chi_rnline.specs.Rn.{Rn, no_line}
 use Rattle.chi_homeline.specs.declared.serving.Waiting.{Waiting}
 use Rattle.chi_homeline.specs.declared.serving.Serving.{Serving}
-use Rattle.chi_homeline.specs.Home.{Home}
 use Rattle.chi_line.specs.LineState.{LineState}
 use Rattle.chi_line.specs.Coherent.{IsClean, IsCleanAgent}
 use Rattle.chi_line.specs.Kept.{Lane, LaneKept, Kept, lane}
@@ -23,9 +22,6 @@ puts_set d l n a low = record { at = get_or-set_same l n a d low; others = λ m 
 
 pub puts_nothing : {A : Type 0} (d : A) (l : List A) (n : ℕ) → Puts d l l n (get_or l n d)
 puts_nothing d l n = record { at = refl; others = λ m other. refl }
-
-pub puts_same : {A : Type 0} (d : A) (l l' : List A) (n : ℕ) → l' ≡ l → Puts d l l' n (get_or l n d)
-puts_same d l l' n same = record { at = ap (λ k. get_or k n d) same; others = λ m other. ap (λ k. get_or k m d) same }
 
 abbrev pub nothing_waiting : Option Waiting
 nothing_waiting = None
@@ -75,17 +71,6 @@ moves_requester last s n r c low k = moves_by s _ n _
     (puts_nothing false s.home.filter.named n)
     (puts_nothing false s.home.awaited n)
     (puts_nothing nothing_waiting s.home.waiting n)
-
--- also with any memory, flag, owner and serving, which aren't in a lane: home is any home with the same lists
-pub moves_home_flits : (last : List ℕ) (s : LineState) (n : ℕ) (c : Cells) (home : Home) → n < 8 → Kept last s
-    → home.filter.named ≡ s.home.filter.named → home.awaited ≡ s.home.awaited → home.waiting ≡ s.home.waiting
-    → Moves s (record s { home = home; flits = set s.flits n c }) n (record (lane s n) { flits = c })
-moves_home_flits last s n c home low k same_named same_awaited same_waiting = moves_by s _ n _
-    (puts_nothing no_line s.requesters n)
-    (puts_set no_flits s.flits n c (within n _ low k.flits))
-    (puts_same false s.home.filter.named _ n same_named)
-    (puts_same false s.home.awaited _ n same_awaited)
-    (puts_same nothing_waiting s.home.waiting _ n same_waiting)
 
 -- the lanes after a step, out of n's new lane and the old lanes of others beside what the home is now
 pub lanes_by : (s s' : LineState) (serving : Serving) (unique : Bool) (owner : Option Agent) (last : List ℕ) (n : ℕ) (x : Lane)

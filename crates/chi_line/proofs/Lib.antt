@@ -21,7 +21,6 @@ pub mod WriteLanes
 pub mod WriteKeeps
 pub mod Answered
 pub mod AnswerKeeps
-pub mod MoreFinds
 pub mod Sends
 pub mod Steps
 pub mod Views
@@ -34,6 +33,6 @@ pub mod SeenMoves
 pub mod Trails
 pub mod TableRows
 pub mod Typed
+pub mod MoveLaw
 pub mod Moves
 pub mod EqualSlots
-pub mod Leaves

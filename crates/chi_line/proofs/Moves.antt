@@ -36,12 +36,13 @@ use Rattle.chi_line.specs.declared.seen.Where.{Where}
 use Rattle.chi_line.specs.declared.seen.Where.TheVariants as places
 use Rattle.chi_line.specs.LineState.{LineState, rn_of, cells_of}
 use Rattle.chi_line.specs.Kept.{Kept, LaneKept, is_comp_unique, is_retried, is_retried_phase, lane}
-use Rattle.chi_line.specs.Moves.{Moved, always_moves, completed_from, completed_to, flit_at, if_moved, issued_kind, moved_from, moved_slot, moved_to, requested_slot}
+use Rattle.chi_line.specs.Moves.{completed_to, if_moved, moved_slot, moved_to, requested_slot}
+use Rattle.chi_line.proofs.MoveLaw.{Moved, always_moves, completed_from, flit_at, issued_kind, moved_from}
 use Rattle.chi_line.specs.Types.{is_of_type}
 use Rattle.chi_line.specs.Step.{issued_slot, acknowledged_line, admitted_line, after_step, answer_in, answered_by, cancelled_line, completed_effect, completed_slot, completion_received, data_written, dbid_received_line, dropped_line, is_ack, is_comp, is_dbid, is_retry, is_slot, is_write_data, issued_line, line_uses, pending_slot, received_line, resent_line, retried_line, retry_received_line, sent, slot_served_for, snooped_line, started_effect, started_line, stored_line, waiting_effect, waiting_slot, where_some, written_line}
 use Rattle.chi_line.specs.Places.{is_at_home, Seen, seen_of, where_in}
 use Rattle.chi_line.specs.Refused.{retry_refusal, step_refusal}
-use Rattle.chi_line.proofs.After.{IsRetried, IssueAllowed, cancel_allowed, dbid_there, flit_there, issue_allowed, names_used_slot, resend_allowed, retry_there}
+use Rattle.chi_line.proofs.After.{IsRetried, IssueAllowed, cancel_allowed, dbid_there, flit_there, issue_allowed, names_used_slot, may_resend, retry_there}
 use Rattle.chi_line.proofs.Elsewhere.{SameCells, Stays, answer_up, answered_stays, sent_request, started_waits, stays_elsewhere, stays_where, write_awaited, same_shown}
 use Rattle.chi_line.proofs.Facts.{acked_for_ack}
 use Rattle.chi_line.proofs.Finds.{idle_is}
@@ -425,7 +426,7 @@ step_shows c last profile s agent steps.Retry h may free = retry_shows profile l
 step_shows c last profile s agent steps.RecvRetry h may free =
     let there = retry_there (cells_of s agent.0).rsp_down (flit_there (is_retry (cells_of s agent.0).rsp_down) may) in
     retried_shows last s agent.0 there.0 h there.1
-step_shows c last profile s agent steps.Resend h may free = resend_shows last s agent.0 (rn_of s agent.0).pending h refl (resend_allowed (rn_of s agent.0).state (rn_of s agent.0).pending may)
+step_shows c last profile s agent steps.Resend h may free = resend_shows last s agent.0 (rn_of s agent.0).pending h refl (may_resend c s agent may)
 step_shows c last profile s agent steps.Cancel h may free = cancel_shows last s agent.0 h (cancel_allowed (rn_of s agent.0).state (rn_of s agent.0).pending may)
 step_shows c last profile s agent steps.Start h may free =
     let can : CanStart s.home agent.0 = can_start s.home agent.0 may in
@@ -486,7 +487,7 @@ moved_there c last s agent steps.Retry h may moves = retry_slot_there (cells_of 
 moved_there c last s agent steps.RecvRetry h may moves =
     let there = retry_there (cells_of s agent.0).rsp_down (flit_there (is_retry (cells_of s agent.0).rsp_down) may) in
     response_there last s agent.0 (RetryAck there.0) h there.1
-moved_there c last s agent steps.Resend h may moves = retried_there (rn_of s agent.0).pending (resend_allowed (rn_of s agent.0).state (rn_of s agent.0).pending may)
+moved_there c last s agent steps.Resend h may moves = retried_there (rn_of s agent.0).pending (may_resend c s agent may)
 moved_there c last s agent steps.Cancel h may moves = retried_there (rn_of s agent.0).pending (cancel_allowed (rn_of s agent.0).state (rn_of s agent.0).pending may)
 moved_there c last s agent steps.Start h may moves = absurd (cc (moves))
 moved_there c last s agent steps.RecvSnp h may moves = absurd (cc (moves))
@@ -525,33 +526,15 @@ issued_there last profile s agent steps.RecvAck kind slot h free is same = absur
 issued_there last profile s agent steps.RecvDbid kind slot h free is same = absurd (cc (is))
 issued_there last profile s agent steps.RecvWrData kind slot h free is same = absurd (cc (is))
 
--- a refusal doesn't depend on the profile
-refusal_for : (c : Conditions) (profile : Profile) (s : LineState) (agent : Agent) (step : Step) → step_refusal (record c { profile = profile }) s agent step ≡ step_refusal c s agent step
-refusal_for c profile s agent (steps.Load word) = refl
-refusal_for c profile s agent (steps.Store word value) = refl
-refusal_for c profile s agent steps.Drop = refl
-refusal_for c profile s agent (steps.Issue kind slot) = refl
-refusal_for c profile s agent steps.Admit = refl
-refusal_for c profile s agent steps.Retry = refl
-refusal_for c profile s agent steps.RecvRetry = refl
-refusal_for c profile s agent steps.Resend = refl
-refusal_for c profile s agent steps.Cancel = refl
-refusal_for c profile s agent steps.Start = refl
-refusal_for c profile s agent steps.RecvSnp = refl
-refusal_for c profile s agent steps.RecvSnpResp = refl
-refusal_for c profile s agent steps.RecvData = refl
-refusal_for c profile s agent steps.RecvComp = refl
-refusal_for c profile s agent steps.RecvAck = refl
-refusal_for c profile s agent steps.RecvDbid = refl
-refusal_for c profile s agent steps.RecvWrData = refl
-
 -- the other agents' slots
-elsewhere : (c : Conditions) (last : List ℕ) (profile : Profile) (s : LineState) (agent : Agent) (step : Step) (n : ℕ) → agent.0 < 8 → Kept last s → step_refusal c s agent step ≡ None → n < 8 → n ≢ agent.0 → Stays s (after_step profile s agent step) n
-elsewhere c last profile s agent step n low k may at apart = stays_elsewhere (record c { profile = profile }) last s agent step n low at apart (refusal_for c profile s agent step ∙ may) k
+elsewhere : (c : Conditions) (last : List ℕ) (s : LineState) (agent : Agent) (step : Step) (n : ℕ) → agent.0 < 8 → Kept last s → step_refusal c s agent step ≡ None → n < 8 → n ≢ agent.0
+    → Stays s (after_step c.profile s agent step) n
+elsewhere c last s agent step n low k may at apart = stays_elsewhere c last s agent step n low at apart may k
 
-pub moves : (c : Conditions) (last : List ℕ) (profile : Profile) (s : LineState) (agent : Agent) (step : Step) → agent.0 < 8 → Kept last s → step_refusal c s agent step ≡ None → names_used_slot s agent.0 step ≡ false
-    → Moved profile s agent step
-moves c last profile s agent step low k may free =
+pub moves : (c : Conditions) (last : List ℕ) (s : LineState) (agent : Agent) (step : Step) → agent.0 < 8 → Kept last s → step_refusal c s agent step ≡ None → names_used_slot s agent.0 step ≡ false
+    → Moved c.profile s agent step
+moves c last s agent step low k may free =
+    let profile = c.profile in
     let h : Here last s agent.0 = here_of last s agent.0 low k in
     let shows : Shows s (after_step profile s agent step) agent.0 (moved_slot s agent step) (moved_from s agent step) (moved_to s agent step) = step_shows c last profile s agent step h may free in
     record {
@@ -559,8 +542,8 @@ moves c last profile s agent step low k may free =
       found = shows.found;
       left = shows.left;
       stay = shows.stay;
-      others = λ n slot at apart. stays_where s (after_step profile s agent step) n slot (elsewhere c last profile s agent step n low k may at apart);
+      others = λ n slot at apart. stays_where s (after_step profile s agent step) n slot (elsewhere c last s agent step n low k may at apart);
       types = λ slot ty other is. own_types profile last s agent step slot ty low k other is;
-      other_types = λ n slot ty at apart is. elsewhere_types profile s agent step n slot ty apart (elsewhere c last profile s agent step n low k may at apart) is;
+      other_types = λ n slot ty at apart is. elsewhere_types profile s agent step n slot ty apart (elsewhere c last s agent step n low k may at apart) is;
       issued_type = λ kind slot is same. issued_there last profile s agent step kind slot h free is same;
     }

@@ -16,7 +16,7 @@ use Rattle.chi_homeline.specs.declared.serving.Waiting.{Waiting}
 use Rattle.chi_line.specs.declared.seen.Where.{Where}
 use Rattle.chi_line.specs.declared.seen.Where.TheVariants.{Sent, Refused, Retried, Riding, Admitted, Answered, Closing}
 use Rattle.chi_line.specs.Kept.{is_retried, is_retried_phase}
-use Rattle.chi_line.specs.Moves.{flit_at}
+use Rattle.chi_line.proofs.MoveLaw.{flit_at}
 use Rattle.chi_line.specs.Places.{is_at_home, phase_at, Seen, sent_at, unasked_at, where_by, where_in}
 use Rattle.chi_line.specs.Step.{is_slot, pending_slot, waiting_slot}
 

@@ -1,15 +1,11 @@
 -- What a start that isn't refused finds, and on which channels it sends.
-use Rattle.std.proofs.Common.{◌≡◌, ℕ, Bool, true, false, Option, Some, None, List, [], refl, ap, ◌∙◌, subst, is_some, if◌then◌else◌, rules, arith}
+use Rattle.std.proofs.Common.{◌≡◌, ℕ, Bool, true, false, Option, Some, None, List, refl, ap, ◌∙◌, is_some, if◌then◌else◌, rules}
 use Rattle.chi_flit.specs.declared.numbers.Agent.{Agent}
-use Rattle.chi_flit.specs.declared.numbers.Slot.{Slot}
-use Rattle.chi_flit.specs.declared.kind.Kind.{Kind}
 use Rattle.chi_flit.specs.declared.snoop.Snoop.{Snoop}
 use Rattle.chi_flit.specs.declared.snoop.Snoop.TheVariants.{SnpShared, SnpNotSharedDirty, SnpUnique, SnpCleanInvalid}
 use Rattle.chi_flit.specs.declared.action.Effect.TheVariants.{Nothing}
-use Rattle.chi_flit.specs.declared.message.RspDown.TheVariants.{CompI, CompUC, CompDBIDResp}
-use Rattle.chi_flit.specs.declared.message.Msg.{Msg}
+use Rattle.chi_flit.specs.declared.message.RspDown.TheVariants.{CompDBIDResp}
 use Rattle.chi_flit.specs.declared.message.Msg.TheVariants as messages
-use Rattle.chi_flit.specs.declared.refusal.Refusal.{Refusal}
 use Rattle.chi_flit.specs.declared.refusal.Refusal.TheVariants.{LineBusy, NotWaiting}
 use Rattle.chi_flit.specs.Message.{channel_of}
 use Rattle.chi_flit.specs.Kind.{snoop_of, is_copy_back}
@@ -17,10 +13,9 @@ use Rattle.chi_filter.specs.Filter.{has_any}
 use Rattle.chi_wires.specs.declared.cells.Cells.{Cells}
 use Rattle.chi_wires.specs.Cell.{cell_of}
 use Rattle.chi_homeline.specs.declared.serving.Waiting.{Waiting}
-use Rattle.chi_homeline.specs.declared.serving.Started.{Started}
 use Rattle.chi_homeline.specs.declared.serving.Started.TheVariants.{Sends, Evicted, Snoops}
 use Rattle.chi_line.specs.Step.{evicted_if, started_effect, waiting_effect, completed_slot, slot_unless}
-use Rattle.chi_homeline.specs.Home.{Home, asks, completes_unique, completion_message, completion_of, is_idle, served_sends, start_refusal, started_sends, started_sends_as, waiting_of}
+use Rattle.chi_homeline.specs.Home.{Home, asks, completion_message, completion_of, is_idle, served_sends, start_refusal, started_sends, started_sends_as, waiting_of}
 
 -- a request waits, and the line is idle
 pub record CanStart (home : Home) (n : ℕ) : Type 0 where

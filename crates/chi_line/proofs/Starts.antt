@@ -16,14 +16,13 @@ use Rattle.chi_flit.specs.Kind.{snoop_of, is_copy_back}
 use Rattle.chi_filter.specs.Filter.{FilterState, is_in, has_any, others_than, is_named, owned_by, owner_without, removed}
 use Rattle.chi_wires.specs.declared.cells.Cells.{Cells}
 use Rattle.chi_wires.specs.Cell.{no_flits}
-use Rattle.chi_wires.specs.Wires.{with_snoops}
+use Rattle.chi_wires.specs.Flits.{with_snoops}
 use Rattle.chi_rnline.specs.Rn.{no_line}
 use Rattle.chi_homeline.specs.declared.serving.Waiting.{Waiting}
 use Rattle.chi_homeline.specs.declared.serving.Serving.TheVariants.{Idle, Snooping, AwaitingWriteData}
 use Rattle.chi_homeline.specs.declared.serving.Started.{Started}
 use Rattle.chi_homeline.specs.declared.serving.Started.TheVariants.{Sends, Evicted, Snoops}
 use Rattle.chi_homeline.specs.Home.{Home, asks, asks_shared, completes_unique, completed, completion_of, is_idle, started_as, started_sends_as, taken_up, waiting_of}
-use Rattle.chi_wires.proofs.Wide.{length-with_snoops}
 use Rattle.chi_line.specs.LineState.{LineState, cells_of}
 use Rattle.chi_line.specs.Step.{sent, started_line}
 use Rattle.chi_line.specs.Coherent.{IsClean, passes_dirty}
@@ -31,7 +30,7 @@ use Rattle.chi_line.specs.Kept.{Kept, Lane, LaneKept, allows, invalidates, lane}
 use Rattle.chi_line.proofs.Frame.{IsCleanLane, Moves, moves_by, puts_nothing, puts_set, nothing_waiting, lanes_by, clean_by, same_lane}
 use Rattle.chi_line.proofs.Finds.{idle_awaits_nobody, idle_is}
 use Rattle.chi_line.proofs.Asks.{AsksFit, asks_fit, apart, same, has_in, none_in, left_in, length-others, was_in}
-use Rattle.chi_line.proofs.SnoopRows.{snooped_at, snooped_cells}
+use Rattle.chi_line.proofs.SnoopRows.{length-with_snoops, snooped_at, snooped_cells}
 use Rattle.chi_line.proofs.StartLanes.{snooping_own, snooping_other, snooping_asked, asking_own, asking_other, writing_own, writing_other, evicting_own, evicting_other, idle_clean, idle_owner, none_clean}
 use Rattle.chi_line.proofs.CompleteLanes.{allows_read}
 use Rattle.chi_line.proofs.Completes.{MayComplete, completed_line, kept_completed}

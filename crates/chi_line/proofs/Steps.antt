@@ -1,16 +1,13 @@
 -- An action that isn't refused is a step of its line.
-use Rattle.std.proofs.Common.{◌≡◌, ℕ, ◌<◌, List, Bool, true, false, Option, Some, None, is_some, refl, sym, ◌∙◌, ap, arith, rules, ◌⊎◌, inl, inr, ⊎_elim}
+use Rattle.std.proofs.Common.{◌≡◌, ℕ, ◌<◌, List, true, Option, Some, None, is_some, refl, ◌∙◌, ap, ◌⊎◌, inl, inr, ⊎_elim}
+use Rattle.std.proofs.lemmas.Bool.{eqb-true}
 use Rattle.chi_flit.specs.declared.numbers.Agent.{Agent}
 use Rattle.chi_flit.specs.declared.numbers.Line.{Line}
 use Rattle.chi_flit.specs.declared.numbers.Slot.{Slot}
-use Rattle.chi_flit.specs.declared.credit.CreditType.{CreditType}
 use Rattle.chi_flit.specs.declared.kind.Kind.{Kind}
 use Rattle.chi_flit.specs.declared.state.State.{State}
-use Rattle.chi_flit.specs.declared.action.Action.{Action}
 use Rattle.chi_flit.specs.declared.action.Step.{Step}
 use Rattle.chi_flit.specs.declared.action.Step.TheVariants as steps
-use Rattle.chi_flit.specs.declared.action.Effect.{Effect}
-use Rattle.chi_flit.specs.declared.action.Effect.TheVariants.{Nothing, Completed}
 use Rattle.chi_flit.specs.declared.message.Request.{Request}
 use Rattle.chi_flit.specs.declared.message.RspUp.{RspUp}
 use Rattle.chi_flit.specs.declared.message.RspUp.TheVariants.{SnpRespI, SnpRespSC, CompAck}
@@ -22,16 +19,15 @@ use Rattle.chi_rnline.specs.declared.pending.Pending.{Pending}
 use Rattle.chi_homeline.specs.declared.serving.Serving.{Serving}
 use Rattle.chi_homeline.specs.declared.serving.Serving.TheVariants.{Idle, Snooping, AwaitingCompAck, AwaitingWriteData}
 use Rattle.chi_homeline.specs.declared.serving.Waiting.{Waiting}
-use Rattle.chi_homeline.specs.Home.{acks_for, served_kind, served_slot, started_sends, waiting_of, writes_for}
+use Rattle.chi_homeline.specs.Home.{acks_for, served_kind, served_slot, writes_for}
 use Rattle.chi_line.specs.declared.act.Conditions.{Conditions}
 use Rattle.chi_line.specs.LineState.{LineState, rn_of, cells_of}
-use Rattle.chi_line.specs.Step.{admitted_line, after_step, answer_in, answered_by, comp_received_line, completed_effect, completion_received, data_written, dbid_received_line, evict_received_line, is_ack, is_comp, is_dbid, is_retry, is_write_data, received_line, resent_line, retried_line, snooped_line, started_effect, started_line, step_effect, step_record, waiting_effect, where_some, written_line}
-use Rattle.chi_line.specs.Refused.{line_refusal, no_flit_unless, retry_refusal, step_refusal}
+use Rattle.chi_line.specs.Step.{admitted_line, after_step, answer_in, answered_by, completed_effect, completion_received, data_written, dbid_received_line, is_ack, is_comp, is_dbid, is_retry, is_write_data, received_line, resent_line, retried_line, snooped_line, started_line, step_effect, step_record, waiting_effect, where_some}
+use Rattle.chi_line.specs.Refused.{retry_refusal, step_refusal}
 use Rattle.chi_line.specs.Kept.{Kept}
 use Rattle.chi_line.specs.LineStep.{StepOf}
-use Rattle.chi_line.proofs.After.{IsRetried, dbid_there, flit_there, resend_allowed, retry_there}
-use Rattle.chi_line.proofs.Finds.{acknowledge_is_awaited}
-use Rattle.chi_line.proofs.MoreFinds.{response_finds_pending, write_is_awaited}
+use Rattle.chi_line.proofs.After.{IsRetried, dbid_there, flit_there, may_resend, retry_there}
+use Rattle.chi_line.proofs.Finds.{acknowledge_is_awaited, response_finds_pending, write_is_awaited}
 use Rattle.chi_line.proofs.Sends.{CanStart, can_start}
 
 -- where there is something, a step that takes it is the step of what is there
@@ -44,18 +40,18 @@ pub request_there : (there : Option Request) → retry_refusal there ≡ None �
 request_there None h = absurd (cc (h))
 request_there (Some request) h = refl
 
--- a request that is served has a slot, and with write data that is awaited a kind
-awaited_slot : (serving : Serving) (n : ℕ) → acks_for serving n ≡ true → (slot : Slot) × (served_slot serving ≡ Some slot) × (completed_effect (served_slot serving) ≡ Completed slot)
-awaited_slot Idle n h = absurd (cc (h))
-awaited_slot (Snooping agent kind slot) n h = absurd (cc (h))
-awaited_slot (AwaitingCompAck agent slot) n h = (slot, refl, refl)
-awaited_slot (AwaitingWriteData agent kind slot) n h = absurd (cc (h))
+-- the request whose CompAck, or write data, is awaited
+awaited_ack : (serving : Serving) (agent : Agent) → acks_for serving agent.0 ≡ true → (slot : Slot) × (serving ≡ AwaitingCompAck agent slot)
+awaited_ack Idle agent h = absurd (cc (h))
+awaited_ack (Snooping served kind slot) agent h = absurd (cc (h))
+awaited_ack (AwaitingCompAck served slot) agent h = (slot, ap (λ (n : ℕ). AwaitingCompAck (record { 0 = n }) slot) (eqb-true served.0 agent.0 h))
+awaited_ack (AwaitingWriteData served kind slot) agent h = absurd (cc (h))
 
-written_slot : (serving : Serving) (n : ℕ) → writes_for serving n ≡ true → (slot : Slot) × (served_slot serving ≡ Some slot) × (completed_effect (served_slot serving) ≡ Completed slot) × (kind : Kind) × (served_kind serving ≡ Some kind)
-written_slot Idle n h = absurd (cc (h))
-written_slot (Snooping agent kind slot) n h = absurd (cc (h))
-written_slot (AwaitingCompAck agent slot) n h = absurd (cc (h))
-written_slot (AwaitingWriteData agent kind slot) n h = (slot, refl, refl, kind, refl)
+awaited_write : (serving : Serving) (agent : Agent) → writes_for serving agent.0 ≡ true → (slot : Slot) × (kind : Kind) × (serving ≡ AwaitingWriteData agent kind slot)
+awaited_write Idle agent h = absurd (cc (h))
+awaited_write (Snooping served kind slot) agent h = absurd (cc (h))
+awaited_write (AwaitingCompAck served slot) agent h = absurd (cc (h))
+awaited_write (AwaitingWriteData served kind slot) agent h = (slot, kind, ap (λ (n : ℕ). AwaitingWriteData (record { 0 = n }) kind slot) (eqb-true served.0 agent.0 h))
 
 ack_there : (there : Option RspUp) → is_ack there ≡ true → there ≡ Some CompAck
 ack_there None h = absurd (cc (h))
@@ -93,7 +89,7 @@ step_after c last s agent line steps.RecvRetry low allowed k =
     let there = retry_there (cells_of s agent.0).rsp_down (flit_there (is_retry (cells_of s agent.0).rsp_down) allowed) in
     (there.0, there.1, (refl, refl, refl))
 step_after c last s agent line steps.Resend low allowed k =
-    let may : IsRetried (rn_of s agent.0).pending = resend_allowed (rn_of s agent.0).state (rn_of s agent.0).pending allowed in
+    let may : IsRetried (rn_of s agent.0).pending = may_resend c s agent allowed in
     (may.request, may.is, (refl, refl, ap (λ (p : Option Pending). where_some s p (resent_line s agent.0)) may.is))
 step_after c last s agent line steps.Cancel low allowed k = (refl, refl, refl)
 step_after c last s agent line steps.Start low allowed k =
@@ -114,27 +110,26 @@ step_after c last s agent line steps.RecvComp low allowed k = ⊎_elim
     (comp_there (cells_of s agent.0).rsp_down (flit_there (is_comp (cells_of s agent.0).rsp_down) allowed))
 step_after c last s agent line steps.RecvAck low allowed k =
     let here = flit_there (is_ack (cells_of s agent.0).rsp_up) allowed in
-    let t = awaited_slot s.home.serving agent.0 (acknowledge_is_awaited last s agent.0 low k here) in
-    (ack_there (cells_of s agent.0).rsp_up here, (t.0, t.1, t.2, refl, refl))
+    let t = awaited_ack s.home.serving agent (acknowledge_is_awaited last s agent.0 low k here) in
+    (t.0, t.1, ack_there (cells_of s agent.0).rsp_up here, (ap (λ (v : Serving). completed_effect (served_slot v)) t.1, refl, refl))
 step_after c last s agent line steps.RecvDbid low allowed k =
     let here = dbid_there (cells_of s agent.0).rsp_down (flit_there (is_dbid (cells_of s agent.0).rsp_down) allowed) in
     let t = taken s (rn_of s agent.0).pending (λ (request : Pending). dbid_received_line s agent.0 request.kind) (response_finds_pending last s agent.0 CompDBIDResp low k here) in
     (t.0, t.1, here, (refl, refl, t.2))
 step_after c last s agent line steps.RecvWrData low allowed k =
     let here = flit_there (is_write_data (cells_of s agent.0).dat_up) allowed in
-    let t = written_slot s.home.serving agent.0 (write_is_awaited last s agent.0 low k here) in
+    let t = awaited_write s.home.serving agent (write_is_awaited last s agent.0 low k here) in
     let sent = write_there (cells_of s agent.0).dat_up here in (
-      t.3,
+      t.0,
+      t.1,
       sent.0,
       sent.1,
-      t.4,
+      t.2,
       sent.2,
       (
-        t.0,
-        t.1,
-        t.2,
+        ap (λ (v : Serving). completed_effect (served_slot v)) t.2,
         refl,
-        ap (λ (v : Option Kind). where_some s v (λ (kind : Kind). data_written s agent.0 kind (cells_of s agent.0).dat_up)) t.4
-            ∙ ap (data_written s agent.0 t.3) sent.2,
+        ap (λ (v : Serving). where_some s (served_kind v) (λ (kind : Kind). data_written s agent.0 kind (cells_of s agent.0).dat_up)) t.2
+            ∙ ap (data_written s agent.0 t.1) sent.2,
       ),
     )

@@ -31,10 +31,10 @@ use Rattle.chi_homeline.specs.declared.serving.SnoopAnswer.{SnoopAnswer}
 use Rattle.chi_homeline.specs.Home.{Home, acknowledged, admitted, answer_taken, asks, completed, completed_by, finished_as, served_kind, started_as, taken_up, waiting_of, written}
 use Rattle.chi_line.specs.LineState.{LineState, rn_of, cells_of}
 use Rattle.chi_line.specs.Kept.{Kept}
-use Rattle.chi_line.specs.Step.{issued_slot, admitted_line, after_step, answer_in, answered_by, completion_received, data_written, dbid_received_line, is_slot, issued_line, line_uses, pending_slot, received_line, resent_line, retried_line, slot_served_for, snooped_line, started_line, waiting_slot, where_some}
+use Rattle.chi_line.specs.Step.{issued_slot, admitted_line, after_step, answer_in, answered_by, completion_received, data_written, dbid_received_line, is_slot, issued_line, received_line, resent_line, retried_line, slot_served_for, snooped_line, started_line, waiting_slot, where_some}
 use Rattle.chi_line.specs.Types.{has_type, is_of_type, pending_kind_of, requested_kind_of, served_kind_of, waiting_kind_of}
 use Rattle.chi_line.proofs.Elsewhere.{Stays, answer_up, answered_stays, sent_request, started_waits}
-use Rattle.chi_line.proofs.Untouched.{Free, is_free}
+use Rattle.chi_line.proofs.Untouched.{Free}
 
 -- a type that a kind has, or no kind
 abbrev Has : Profile → CreditType → Option Kind → Type 0
@@ -96,11 +96,6 @@ completion_kind profile ty s m (Some (RetryAck credit)) n slot t = t
 completion_kind profile ty s m (Some CompUC) n slot t = t
 completion_kind profile ty s m (Some CompI) n slot t = t
 completion_kind profile ty s m (Some CompDBIDResp) n slot t = t
-
--- a start serves its agent's request, of the kind that waited
-own_kind : (profile : Profile) (ty : CreditType) (a b : Bool) (kind : Kind) → Has profile ty (if b then Some kind else None) → Has profile ty (if a && b then Some kind else None)
-own_kind profile ty true b kind t = t
-own_kind profile ty false b kind t = refl
 
 started_kind : (profile : Profile) (ty : CreditType) (kind : Kind) (o : Option Snoop) (home : Home) (agent : Agent) (own : Slot) (n : ℕ) (slot : Slot)
     → (agent.0 ≡ n → Has profile ty (waiting_kind_of (Some (record { kind = kind; slot = own })) slot)) → Has profile ty (served_kind_of home.serving n slot)
@@ -335,25 +330,4 @@ issued_types profile s n kind slot low flits free =
       request = ap (λ (x : Cells). has_type profile (credit_type_of profile kind) (requested_kind_of x.req slot)) (get_or-set_same s.flits n _ no_flits flits) ∙ own_kind_has profile kind (slot.0 == slot.0);
       waiting = unused_waits profile (credit_type_of profile kind) (waiting_of s.home n) slot free.waiting;
       served = unused_serves profile (credit_type_of profile kind) s.home.serving n slot free.served;
-    })
-
--- a slot that isn't in use at a line has every type there
-unused_asks : (profile : Profile) (ty : CreditType) (q : Option Request) (pending : Option Slot) (slot : Slot) → ((r : Request) → q ≡ Some r → pending ≡ Some r.slot) → is_slot pending slot ≡ false → Has profile ty (requested_kind_of q slot)
-unused_asks profile ty None pending slot fits free = refl
-unused_asks profile ty (Some request) pending slot fits free =
-    other_kind profile ty request.kind (request.slot.0 == slot.0) (sym (ap (λ (o : Option Slot). is_slot o slot) (fits request refl)) ∙ free)
-
-unused_pends : (profile : Profile) (ty : CreditType) (p : Option Pending) (slot : Slot) → is_slot (pending_slot p) slot ≡ false → Has profile ty (pending_kind_of p slot)
-unused_pends profile ty None slot free = refl
-unused_pends profile ty (Some request) slot free = other_kind profile ty request.kind (request.slot.0 == slot.0) free
-
-pub unused_types : (profile : Profile) (ty : CreditType) (last : List ℕ) (s : LineState) (n : ℕ) (slot : Slot) → n < 8 → Kept last s → line_uses s n slot ≡ false → is_of_type profile ty s n slot ≡ true
-unused_types profile ty last s n slot low k unused =
-    let free : Free s n slot = is_free s n slot unused in
-    of_type profile ty s n slot
-    (record {
-      pending = unused_pends profile ty (rn_of s n).pending slot free.pending;
-      request = unused_asks profile ty (cells_of s n).req (pending_slot (rn_of s n).pending) slot (k.lanes n low).request_slot free.pending;
-      waiting = unused_waits profile ty (waiting_of s.home n) slot free.waiting;
-      served = unused_serves profile ty s.home.serving n slot free.served;
     })

@@ -1,8 +1,6 @@
 -- Arrays that show a list place by place.
-use Rattle.std.proofs.Common.{◌≡◌, ℕ, ◌+◌, ◌<◌, ◌≤◌, List, map, length, get_or, refl, sym, ◌∙◌, ap, subst, arith, get_or-set_same, get_or-set_other}
-use Rattle.std.proofs.lemmas.List.{ext_get_or, get_or_read, length-map, get_or-map}
-use Rattle.std.proofs.Math.ListN.{set, length-set}
-use borrow.Author.Count.{below_more}
+use Rattle.std.proofs.Common.{◌≡◌, ℕ, ◌<◌, ◌≤◌, List, map, length, get_or, sym, ◌∙◌, subst, arith}
+use Rattle.std.proofs.lemmas.List.{ext_get_or, length-map, get_or-map}
 
 -- the places below n show the list's elements, seen by f
 pub record ShowsBelow {X Y : Type 0} (f : X → Y) (d : X) (e : Y) (xs : List X) (ys : List Y) (n : ℕ) : Type 0 where

@@ -128,13 +128,6 @@ shows_used s n slot at shows = go (line_uses s n slot) refl
     go true is = refl
     go false is = absurd (cc (shows, unused_shows s n slot is))
 
-pub used_shows : (s : LineState) (last : List ℕ) (n : ℕ) (slot : Slot) → n < 8 → Kept last s → line_uses s n slot ≡ true → is_some (where_at s n slot) ≡ true
-used_shows s last n slot low k used = go (where_at s n slot) refl
-  where
-    go : (o : Option Where) → where_at s n slot ≡ o → is_some o ≡ true
-    go (Some at) shows = refl
-    go None none = absurd (cc (used, shows_unused s last n slot low k none))
-
 -- what waits is pending
 pub waits_not : (waiting : Option Waiting) (pending : Option Slot) (slot : Slot) → ((q : Waiting) → waiting ≡ Some q → pending ≡ Some q.slot) → is_slot pending slot ≡ false → is_slot (waiting_slot waiting) slot ≡ false
 waits_not None pending slot fits other = refl

@@ -13,7 +13,7 @@ use Rattle.chi_filter.specs.Filter.{owned_by}
 use Rattle.chi_homeline.specs.declared.serving.Serving.{Serving}
 use Rattle.chi_homeline.specs.declared.serving.Serving.TheVariants.{Idle, Snooping, AwaitingWriteData}
 use Rattle.chi_line.specs.Coherent.{IsCleanAgent, passes_dirty}
-use Rattle.chi_line.specs.Kept.{Lane, LaneKept, invalidates, is_answer, is_snoop_data, shares}
+use Rattle.chi_line.specs.Kept.{Lane, LaneKept, invalidates, shares}
 
 -- RecvWrData: named and flag may end where no copy is left
 pub write_lane : (agent : Agent) (kind : Kind) (slot : Slot) (unique unique' : Bool) (owner owner' : Option Agent) (last : List ℕ) (n : ℕ) (x : Lane) (form : State) (words : List ℕ) (named : Bool)
@@ -125,12 +125,3 @@ quiet_shared agent kind slot owner last n x done unowned k = record {
   copy = unowned_clean agent kind slot owner last n x done unowned k;
   on_its_way = nothing_on_its_way agent kind slot false owner last n x done k;
 }
-
--- whose answers are awaited, and in flight
-pub rsp_awaited : (agent : Agent) (kind : Kind) (slot : Slot) (unique : Bool) (owner : Option Agent) (last : List ℕ) (n : ℕ) (x : Lane)
-    → is_answer x.flits.rsp_up ≡ true → LaneKept (Snooping agent kind slot) unique owner last n x → x.awaited ≡ true
-rsp_awaited agent kind slot unique owner last n x here k = search (arith, k.one_answer)
-
-pub data_awaited : (agent : Agent) (kind : Kind) (slot : Slot) (unique : Bool) (owner : Option Agent) (last : List ℕ) (n : ℕ) (x : Lane)
-    → is_snoop_data x.flits.dat_up ≡ true → LaneKept (Snooping agent kind slot) unique owner last n x → x.awaited ≡ true
-data_awaited agent kind slot unique owner last n x here k = search (arith, k.one_answer)

@@ -176,7 +176,13 @@ pub record Lane : Type 0 where
   pub waiting : Option Waiting
 
 abbrev pub lane : LineState → ℕ → Lane
-lane s n = record { rn = rn_of s n; flits = cells_of s n; named = is_named s.home.filter n; awaited = is_in s.home.awaited n; waiting = waiting_of s.home n }
+lane s n = record {
+  rn = rn_of s n;
+  flits = cells_of s n;
+  named = is_named s.home.filter n;
+  awaited = is_in s.home.awaited n;
+  waiting = waiting_of s.home n;
+}
 
 -- what the lane of agent n keeps
 pub record LaneKept (serving : Serving) (unique : Bool) (owner : Option Agent) (last : List ℕ) (n : ℕ) (x : Lane) : Type 0 where
@@ -186,7 +192,9 @@ pub record LaneKept (serving : Serving) (unique : Bool) (owner : Option Agent) (
   pub unique_flagged : is_unique x.rn.state ≡ true → unique ≡ true
   pub kind_fits : (k : Kind) → kind_of x.rn.pending ≡ Some k → allows k x.rn.state ≡ true
   -- a pending request is in one place, or retried, and what is there is that request
-  pub one_place : bit (is_some x.flits.req) + bit (is_some x.waiting) + bit (snoops_for serving n) + bit (is_some x.flits.dat_down) + bit (is_some x.flits.rsp_down) + bit (is_retried x.rn.pending) ≡ bit (is_some x.rn.pending)
+  pub one_place : bit (is_some x.flits.req) + bit (is_some x.waiting) + bit (snoops_for serving n)
+      + bit (is_some x.flits.dat_down) + bit (is_some x.flits.rsp_down) + bit (is_retried x.rn.pending)
+      ≡ bit (is_some x.rn.pending)
   pub request_kind : (q : Request) → x.flits.req ≡ Some q → kind_of x.rn.pending ≡ Some q.kind
   pub request_slot : (q : Request) → x.flits.req ≡ Some q → pending_slot x.rn.pending ≡ Some q.slot
   pub waiting_kind : (q : Waiting) → x.waiting ≡ Some q → kind_of x.rn.pending ≡ Some q.kind
@@ -225,18 +233,23 @@ pub record LaneKept (serving : Serving) (unique : Bool) (owner : Option Agent) (
   pub answer_not_dirty : x.flits.rsp_up ≡ Some SnpRespSC → is_dirty x.rn.state ≡ false
   pub answer_shared : x.flits.rsp_up ≡ Some SnpRespSC → shares (snoop_out serving) ≡ true
   pub invalid_data : (words : List ℕ) → x.flits.dat_up ≡ Some (SnpRespDataIPD words) → (x.rn.state ≡ I) × (words ≡ last)
-  pub clean_data : (words : List ℕ) → x.flits.dat_up ≡ Some (SnpRespDataSCPD words) → (is_unique x.rn.state ≡ false) × (is_dirty x.rn.state ≡ false) × (shares (snoop_out serving) ≡ true) × (words ≡ last)
-  pub dirty_data : (words : List ℕ) → x.flits.dat_up ≡ Some (SnpRespDataSD words) → (x.rn.state ≡ SD) × (snoop_out serving ≡ Some SnpShared) × (words ≡ last)
+  pub clean_data : (words : List ℕ) → x.flits.dat_up ≡ Some (SnpRespDataSCPD words)
+      → (is_unique x.rn.state ≡ false) × (is_dirty x.rn.state ≡ false) × (shares (snoop_out serving) ≡ true) × (words ≡ last)
+  pub dirty_data : (words : List ℕ) → x.flits.dat_up ≡ Some (SnpRespDataSD words)
+      → (x.rn.state ≡ SD) × (snoop_out serving ≡ Some SnpShared) × (words ≡ last)
   -- dirty data and write data
   pub dirty_named : passes_dirty x.flits.dat_up ≡ true → x.named ≡ true
-  pub write_last : (form : State) (words : List ℕ) → x.flits.dat_up ≡ Some (CopyBackWrData form words) → is_dirty form ≡ true → is_unique_dirty x.rn.state ≡ false → words ≡ last
+  pub write_last : (form : State) (words : List ℕ) → x.flits.dat_up ≡ Some (CopyBackWrData form words)
+      → is_dirty form ≡ true → is_unique_dirty x.rn.state ≡ false → words ≡ last
   pub write_not_shared_dirty : is_write_data x.flits.dat_up ≡ true → is_shared_dirty x.rn.state ≡ false
   pub write_gone : (k : Kind) → is_write_data x.flits.dat_up ≡ true → served_kind serving ≡ Some k → gives_up k ≡ true → x.rn.state ≡ I
   pub write_none : (words : List ℕ) → x.flits.dat_up ≡ Some (CopyBackWrData I words) → x.rn.state ≡ I
   -- the owner
   pub flag_no_owner : unique ≡ true → owned_by owner n ≡ false
-  pub owner_holds : owned_by owner n ≡ true → is_shared_dirty x.rn.state ≡ false → bit (is_answer x.flits.rsp_up) + bit (is_snoop_data x.flits.dat_up) + bit (is_shared_dirty_write x.flits.dat_up) ≡ 1
-  pub shared_dirty_owned : x.rn.state ≡ SD → owned_by owner n ≡ false → is_comp_unique x.flits.rsp_down ≡ false → is_shared_dirty_data x.flits.dat_up ≡ true
+  pub owner_holds : owned_by owner n ≡ true → is_shared_dirty x.rn.state ≡ false
+      → bit (is_answer x.flits.rsp_up) + bit (is_snoop_data x.flits.dat_up) + bit (is_shared_dirty_write x.flits.dat_up) ≡ 1
+  pub shared_dirty_owned : x.rn.state ≡ SD → owned_by owner n ≡ false → is_comp_unique x.flits.rsp_down ≡ false
+      → is_shared_dirty_data x.flits.dat_up ≡ true
 
 -- what a line keeps; last are the values last stored to its words
 pub record Kept (last : List ℕ) (s : LineState) : Type 0 where
@@ -247,5 +260,6 @@ pub record Kept (last : List ℕ) (s : LineState) : Type 0 where
   pub waiting : length s.home.waiting ≡ 8
   pub in_range : IsServedInRange s.home.serving
   pub lanes : (n : ℕ) → n < 8 → LaneKept s.home.serving s.home.filter.unique s.home.filter.owner last n (lane s n)
-  pub flag_means_one : s.home.filter.unique ≡ true → (n m : ℕ) → n < 8 → m < 8 → is_named s.home.filter n ≡ true → is_named s.home.filter m ≡ true → n ≡ m
+  pub flag_means_one : s.home.filter.unique ≡ true → (n m : ℕ) → n < 8 → m < 8
+      → is_named s.home.filter n ≡ true → is_named s.home.filter m ≡ true → n ≡ m
   pub memory_last : IsClean s → s.home.memory ≡ last

@@ -10,3 +10,4 @@ pub mod Places
 pub mod Table
 pub mod Types
 pub mod Moves
+pub mod Traffic

@@ -1,13 +1,11 @@
 -- One line of a slice by itself (docs/PROTOCOL.md, "One line"): each requester's copy and pending
 -- request, what the home keeps, and what is in flight to and from each requester.
-use Rattle.std.specs.Prelude.{ℕ, List, Bool, Option, Some, None, replicate}
+use Rattle.std.specs.Prelude.{ℕ, List, replicate}
 use Rattle.std.specs.List.{slice_index_or}
-use Rattle.chi_filter.specs.Filter.{is_in}
 use Rattle.chi_wires.specs.declared.cells.Cells.{Cells}
 use Rattle.chi_wires.specs.Cell.{no_flits}
 use Rattle.chi_rnline.specs.Rn.{Rn, no_line}
-use Rattle.chi_homeline.specs.declared.serving.Waiting.{Waiting}
-use Rattle.chi_homeline.specs.Home.{Home, idle_home, waiting_of}
+use Rattle.chi_homeline.specs.Home.{Home, idle_home}
 
 pub record LineState : Type 0 where
   pub requesters : List Rn

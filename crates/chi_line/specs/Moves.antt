@@ -1,24 +1,16 @@
--- Which slot's request a step moves, from where to where, and that it leaves all other slots where they are
--- (docs/PROTOCOL.md, "Agreement" and "The actions").
-use Rattle.std.specs.Prelude.{◌≡◌, ◌≢◌, ℕ, ◌<◌, Bool, true, false, Option, Some, None, is_some, if◌then◌else◌}
+-- Which slot's request a step moves, and where to (docs/PROTOCOL.md, "Agreement" and "The actions").
+use Rattle.std.specs.Prelude.{Option, Some, None}
 use Rattle.chi_flit.specs.declared.numbers.Agent.{Agent}
 use Rattle.chi_flit.specs.declared.numbers.Slot.{Slot}
-use Rattle.chi_flit.specs.declared.kind.Kind.{Kind}
-use Rattle.chi_flit.specs.declared.action.Action.{Action}
 use Rattle.chi_flit.specs.declared.action.Step.{Step}
 use Rattle.chi_flit.specs.declared.action.Step.TheVariants as steps
-use Rattle.chi_flit.specs.declared.credit.CreditType.{CreditType}
-use Rattle.chi_flit.specs.declared.credit.Profile.{Profile}
 use Rattle.chi_flit.specs.declared.message.Request.{Request}
 use Rattle.chi_flit.specs.declared.message.RspDown.{RspDown}
 use Rattle.chi_flit.specs.declared.message.RspDown.TheVariants.{RetryAck, CompUC, CompI, CompDBIDResp}
-use Rattle.chi_flit.specs.Credit.{credit_type_of}
 use Rattle.chi_line.specs.declared.seen.Where.{Where}
 use Rattle.chi_line.specs.declared.seen.Where.TheVariants.{Sent, Refused, Retried, Riding, Admitted, Answered, Closing}
 use Rattle.chi_line.specs.LineState.{LineState, rn_of, cells_of}
-use Rattle.chi_line.specs.Step.{after, after_step, completed_slot, is_slot, pending_slot, step_effect, issued_slot}
-use Rattle.chi_line.specs.Places.{where_at}
-use Rattle.chi_line.specs.Types.{is_of_type}
+use Rattle.chi_line.specs.Step.{completed_slot, pending_slot, step_effect}
 
 -- the slot of a request in flight
 abbrev pub requested_slot : Option Request → Option Slot
@@ -45,44 +37,12 @@ moved_slot s agent steps.RecvAck = completed_slot (step_effect s agent steps.Rec
 moved_slot s agent steps.RecvDbid = pending_slot (rn_of s agent.0).pending
 moved_slot s agent steps.RecvWrData = completed_slot (step_effect s agent steps.RecvWrData)
 
--- the steps that move a request whenever they are done
-abbrev pub always_moves : Step → Bool
-always_moves (steps.Load word) = false
-always_moves (steps.Store word value) = false
-always_moves steps.Drop = false
-always_moves (steps.Issue kind slot) = true
-always_moves steps.Admit = true
-always_moves steps.Retry = true
-always_moves steps.RecvRetry = true
-always_moves steps.Resend = true
-always_moves steps.Cancel = true
-always_moves steps.Start = false
-always_moves steps.RecvSnp = false
-always_moves steps.RecvSnpResp = false
-always_moves steps.RecvData = true
-always_moves steps.RecvComp = true
-always_moves steps.RecvAck = true
-always_moves steps.RecvDbid = true
-always_moves steps.RecvWrData = true
-
--- where a request in flight is
-abbrev pub flit_at : Option Request → Option Where
-flit_at None = None
-flit_at (Some request) = if request.allow_retry then Some Sent else Some Riding
-
 -- where a request is if there is one
 abbrev pub if_moved : Option Slot → Where → Option Where
 if_moved None at = None
 if_moved (Some slot) at = Some at
 
--- RecvComp: Comp_UC answers a request that is at the home, and Comp_I ends one that is closing
-abbrev pub completed_from : Option RspDown → Option Where
-completed_from None = None
-completed_from (Some (RetryAck ty)) = None
-completed_from (Some CompUC) = Some Admitted
-completed_from (Some CompI) = Some Closing
-completed_from (Some CompDBIDResp) = None
-
+-- RecvComp: a request that Comp_UC answers is at the home, and Comp_I ends its request
 abbrev pub completed_to : Option RspDown → Option Where
 completed_to None = None
 completed_to (Some (RetryAck ty)) = None
@@ -90,27 +50,7 @@ completed_to (Some CompUC) = Some Answered
 completed_to (Some CompI) = None
 completed_to (Some CompDBIDResp) = None
 
--- where the moved request is before the step
-abbrev pub moved_from : LineState → Agent → Step → Option Where
-moved_from s agent (steps.Load word) = None
-moved_from s agent (steps.Store word value) = None
-moved_from s agent steps.Drop = None
-moved_from s agent (steps.Issue kind slot) = None
-moved_from s agent steps.Admit = flit_at (cells_of s agent.0).req
-moved_from s agent steps.Retry = Some Sent
-moved_from s agent steps.RecvRetry = Some Refused
-moved_from s agent steps.Resend = Some Retried
-moved_from s agent steps.Cancel = Some Retried
-moved_from s agent steps.Start = if_moved (moved_slot s agent steps.Start) Admitted
-moved_from s agent steps.RecvSnp = None
-moved_from s agent steps.RecvSnpResp = None
-moved_from s agent steps.RecvData = Some Admitted
-moved_from s agent steps.RecvComp = completed_from (cells_of s agent.0).rsp_down
-moved_from s agent steps.RecvAck = Some Answered
-moved_from s agent steps.RecvDbid = Some Admitted
-moved_from s agent steps.RecvWrData = Some Answered
-
--- and after it
+-- where the moved request is after the step
 abbrev pub moved_to : LineState → Agent → Step → Option Where
 moved_to s agent (steps.Load word) = None
 moved_to s agent (steps.Store word value) = None
@@ -129,36 +69,3 @@ moved_to s agent steps.RecvComp = completed_to (cells_of s agent.0).rsp_down
 moved_to s agent steps.RecvAck = None
 moved_to s agent steps.RecvDbid = Some Answered
 moved_to s agent steps.RecvWrData = None
-
--- the kind of the request that a step issues
-abbrev pub issued_kind : Step → Option Kind
-issued_kind (steps.Load word) = None
-issued_kind (steps.Store word value) = None
-issued_kind steps.Drop = None
-issued_kind (steps.Issue kind slot) = Some kind
-issued_kind steps.Admit = None
-issued_kind steps.Retry = None
-issued_kind steps.RecvRetry = None
-issued_kind steps.Resend = None
-issued_kind steps.Cancel = None
-issued_kind steps.Start = None
-issued_kind steps.RecvSnp = None
-issued_kind steps.RecvSnpResp = None
-issued_kind steps.RecvData = None
-issued_kind steps.RecvComp = None
-issued_kind steps.RecvAck = None
-issued_kind steps.RecvDbid = None
-issued_kind steps.RecvWrData = None
-
--- what a step that isn't refused does to the requests that a line shows: it moves one of its agent's slots or
--- none, and the kinds that the line keeps have the credit types that they had
-pub record Moved (profile : Profile) (s : LineState) (agent : Agent) (step : Step) : Type 0 where
-  pub there : always_moves step ≡ true → is_some (moved_slot s agent step) ≡ true
-  pub found : (slot : Slot) → is_slot (moved_slot s agent step) slot ≡ true → where_at s agent.0 slot ≡ moved_from s agent step
-  pub left : (slot : Slot) → is_slot (moved_slot s agent step) slot ≡ true → where_at (after_step profile s agent step) agent.0 slot ≡ moved_to s agent step
-  pub stay : (slot : Slot) → is_slot (moved_slot s agent step) slot ≡ false → where_at (after_step profile s agent step) agent.0 slot ≡ where_at s agent.0 slot
-  pub others : (n : ℕ) (slot : Slot) → n < 8 → n ≢ agent.0 → where_at (after_step profile s agent step) n slot ≡ where_at s n slot
-  -- an Issue alone gives its slot a kind
-  pub types : (slot : Slot) (ty : CreditType) → is_slot (issued_slot step) slot ≡ false → is_of_type profile ty s agent.0 slot ≡ true → is_of_type profile ty (after_step profile s agent step) agent.0 slot ≡ true
-  pub other_types : (n : ℕ) (slot : Slot) (ty : CreditType) → n < 8 → n ≢ agent.0 → is_of_type profile ty s n slot ≡ true → is_of_type profile ty (after_step profile s agent step) n slot ≡ true
-  pub issued_type : (kind : Kind) (slot : Slot) → issued_kind step ≡ Some kind → is_slot (issued_slot step) slot ≡ true → is_of_type profile (credit_type_of profile kind) (after_step profile s agent step) agent.0 slot ≡ true

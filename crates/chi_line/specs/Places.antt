@@ -25,7 +25,13 @@ pub record Seen : Type 0 where
 
 -- what it shows of the agent n
 abbrev pub seen_of : LineState → ℕ → Seen
-seen_of s n = record { pending = (rn_of s n).pending; request = (cells_of s n).req; response = (cells_of s n).rsp_down; waiting = waiting_of s.home n; served = slot_served_for s.home.serving n }
+seen_of s n = record {
+  pending = (rn_of s n).pending;
+  request = (cells_of s n).req;
+  response = (cells_of s n).rsp_down;
+  waiting = waiting_of s.home n;
+  served = slot_served_for s.home.serving n;
+}
 
 -- whether the slot waits or is served at the home
 abbrev pub is_at_home : Seen → Slot → Bool

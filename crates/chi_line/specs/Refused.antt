@@ -1,20 +1,24 @@
 -- Why an action is refused (docs/PROTOCOL.md, "The actions" and "Refusals"): for each, the first number of
 -- its row whose condition holds.
-use Rattle.std.specs.Prelude.{Bool, Option, Some, None, is_some, if◌then◌else◌}
+use Rattle.std.specs.Prelude.{List, Bool, false, Option, Some, None, is_some, if◌then◌else◌}
+use Rattle.std.specs.List.{slice_index_or}
 use Rattle.chi_flit.specs.declared.numbers.Agent.{Agent}
 use Rattle.chi_flit.specs.declared.numbers.Slot.{Slot}
 use Rattle.chi_flit.specs.declared.action.Action.{Action}
 use Rattle.chi_flit.specs.declared.action.Step.{Step}
 use Rattle.chi_flit.specs.declared.action.Step.TheVariants as steps
+use Rattle.chi_flit.specs.declared.credit.CreditType.{CreditType}
 use Rattle.chi_flit.specs.declared.message.Request.{Request}
 use Rattle.chi_flit.specs.declared.refusal.Refusal.{Refusal}
 use Rattle.chi_flit.specs.declared.refusal.Refusal.TheVariants as refusals
-use Rattle.chi_rnline.specs.Rn.{cancel_refusal, drop_refusal, issue_refusal, load_refusal, resend_refusal, store_refusal}
+use Rattle.chi_flit.specs.Credit.{credit_number}
+use Rattle.chi_rnline.specs.Rn.{Rn, cancel_refusal, drop_refusal, issue_refusal, load_refusal, resend_refusal, store_refusal}
 use Rattle.chi_wires.specs.declared.cells.Cells.{Cells}
 use Rattle.chi_homeline.specs.Home.{Home, served_slot, start_refusal, waiting_of}
 use Rattle.chi_line.specs.declared.act.Conditions.{Conditions}
 use Rattle.chi_line.specs.LineState.{LineState, rn_of, cells_of}
 use Rattle.chi_line.specs.Step.{answer_in, completed_effect, is_ack, is_comp, is_dbid, is_retry, is_write_data, slot_unless, waiting_effect}
+use Rattle.chi_line.specs.Types.{pending_credit}
 
 -- the first refusal, else the second
 abbrev pub first_of : Option Refusal → Option Refusal → Option Refusal
@@ -32,6 +36,14 @@ abbrev pub retry_refusal : Option Request → Option Refusal
 retry_refusal None = Some refusals.NoFlit
 retry_refusal (Some request) = if request.allow_retry then None else Some refusals.MustAccept
 
+-- Resend: the copy's refusal, then 12 where there is no credit of the request's type
+abbrev pub credit_refusal : List Bool → Option CreditType → Option Refusal
+credit_refusal credits None = None
+credit_refusal credits (Some ty) = if slice_index_or credits (credit_number ty) false then None else Some refusals.NoCredit
+
+abbrev pub resend_step_refusal : Conditions → Rn → Option Refusal
+resend_step_refusal c rn = first_of (resend_refusal rn) (credit_refusal c.credits (pending_credit c.profile rn.pending))
+
 -- why an action of an agent is refused, its numbers being in range
 abbrev pub step_refusal : Conditions → LineState → Agent → Step → Option Refusal
 step_refusal c s agent (steps.Load word) = first_of (load_refusal (rn_of s agent.0)) (full_if c.journal_full)
@@ -41,7 +53,7 @@ step_refusal c s agent (steps.Issue kind slot) = if c.slot_used then Some refusa
 step_refusal c s agent steps.Admit = no_flit_unless (is_some (cells_of s agent.0).req)
 step_refusal c s agent steps.Retry = retry_refusal (cells_of s agent.0).req
 step_refusal c s agent steps.RecvRetry = no_flit_unless (is_retry (cells_of s agent.0).rsp_down)
-step_refusal c s agent steps.Resend = resend_refusal (rn_of s agent.0)
+step_refusal c s agent steps.Resend = resend_step_refusal c (rn_of s agent.0)
 step_refusal c s agent steps.Cancel = cancel_refusal (rn_of s agent.0)
 step_refusal c s agent steps.Start = start_refusal s.home agent.0
 step_refusal c s agent steps.RecvSnp = no_flit_unless (is_some (cells_of s agent.0).snp)

@@ -32,9 +32,9 @@ use Rattle.chi_journal.specs.declared.record.Record.{Record}
 use Rattle.chi_journal.specs.declared.record.Record.TheVariants as records
 use Rattle.chi_wires.specs.declared.cells.Cells.{Cells}
 use Rattle.chi_wires.specs.Cell.{emptied, no_flits, with_message}
-use Rattle.chi_wires.specs.Wires.{row_of, with_snoops}
+use Rattle.chi_wires.specs.Flits.{with_snoops}
 use Rattle.chi_rnline.specs.declared.pending.Pending.{Pending}
-use Rattle.chi_rnline.specs.Rn.{Rn, cancelled, comp_received, dbid_received, dropped, evict_received, issued, received, request_message, resent, retry_received, snoop_received, stored, word_of}
+use Rattle.chi_rnline.specs.Rn.{cancelled, comp_received, dbid_received, dropped, evict_received, issued, received, request_message, resent, retry_received, snoop_received, stored, word_of}
 use Rattle.chi_homeline.specs.declared.serving.Serving.{Serving}
 use Rattle.chi_homeline.specs.declared.serving.Serving.TheVariants.{Idle, Snooping, AwaitingCompAck, AwaitingWriteData}
 use Rattle.chi_homeline.specs.declared.serving.Waiting.{Waiting}
@@ -48,11 +48,17 @@ use Rattle.chi_line.specs.Snooped.{answer_channel, completion_put}
 
 -- Issue: the request is pending, and in flight with AllowRetry
 abbrev pub issued_line : LineState → ℕ → Kind → Slot → LineState
-issued_line s n kind slot = record s { requesters = slice_set s.requesters n (issued (rn_of s n) kind slot); flits = slice_set s.flits n (with_message (cells_of s n) (request_message kind slot true)) }
+issued_line s n kind slot = record s {
+  requesters = slice_set s.requesters n (issued (rn_of s n) kind slot);
+  flits = slice_set s.flits n (with_message (cells_of s n) (request_message kind slot true));
+}
 
 -- Admit: the request that was in flight waits
 abbrev pub admitted_line : LineState → ℕ → Request → LineState
-admitted_line s n request = record s { home = admitted s.home n (record { kind = request.kind; slot = request.slot }); flits = slice_set s.flits n (record (cells_of s n) { req = None }) }
+admitted_line s n request = record s {
+  home = admitted s.home n (record { kind = request.kind; slot = request.slot });
+  flits = slice_set s.flits n (record (cells_of s n) { req = None });
+}
 
 -- what a start leaves in flight
 abbrev pub sent : List Cells → ℕ → Started → List Cells
@@ -66,7 +72,10 @@ started_line s agent request = record s { home = started s.home agent request; f
 
 -- RecvData: the copy is the message's, nothing is pending, and CompAck is in flight
 abbrev pub received_line : LineState → ℕ → CompData → LineState
-received_line s n message = record s { requesters = slice_set s.requesters n (received (rn_of s n) message); flits = slice_set s.flits n (record (cells_of s n) { dat_down = None; rsp_up = Some CompAck }) }
+received_line s n message = record s {
+  requesters = slice_set s.requesters n (received (rn_of s n) message);
+  flits = slice_set s.flits n (record (cells_of s n) { dat_down = None; rsp_up = Some CompAck });
+}
 
 -- RecvAck: the CompAck is taken, and the line is idle
 abbrev pub acknowledged_line : LineState → ℕ → LineState
@@ -82,15 +91,23 @@ dropped_line s n = record s { requesters = slice_set s.requesters n (dropped (rn
 
 -- Retry: the request is taken, and RetryAck of its credit type is in flight
 abbrev pub retried_line : Profile → LineState → ℕ → Request → LineState
-retried_line profile s n request = record s { flits = slice_set s.flits n (record (cells_of s n) { req = None; rsp_down = Some (RetryAck (credit_type_of profile request.kind)) }) }
+retried_line profile s n request = record s {
+  flits = slice_set s.flits n (record (cells_of s n) { req = None; rsp_down = Some (RetryAck (credit_type_of profile request.kind)) });
+}
 
 -- RecvRetry: the request is in phase Retried
 abbrev pub retry_received_line : LineState → ℕ → LineState
-retry_received_line s n = record s { requesters = slice_set s.requesters n (retry_received (rn_of s n)); flits = slice_set s.flits n (record (cells_of s n) { rsp_down = None }) }
+retry_received_line s n = record s {
+  requesters = slice_set s.requesters n (retry_received (rn_of s n));
+  flits = slice_set s.flits n (record (cells_of s n) { rsp_down = None });
+}
 
 -- Resend: the request is in flight without AllowRetry
 abbrev pub resent_line : LineState → ℕ → Pending → LineState
-resent_line s n request = record s { requesters = slice_set s.requesters n (resent (rn_of s n)); flits = slice_set s.flits n (with_message (cells_of s n) (request_message request.kind request.slot false)) }
+resent_line s n request = record s {
+  requesters = slice_set s.requesters n (resent (rn_of s n));
+  flits = slice_set s.flits n (with_message (cells_of s n) (request_message request.kind request.slot false));
+}
 
 -- Cancel: nothing is pending
 abbrev pub cancelled_line : LineState → ℕ → LineState
@@ -98,19 +115,31 @@ cancelled_line s n = record s { requesters = slice_set s.requesters n (cancelled
 
 -- RecvSnp: the snoop is taken, and its answer is in flight
 abbrev pub snooped_line : LineState → ℕ → Snoop → LineState
-snooped_line s n snoop = record s { requesters = slice_set s.requesters n (snoop_received (rn_of s n) snoop); flits = slice_set s.flits n (with_message (record (cells_of s n) { snp = None }) (answer_of (rn_of s n).state snoop (rn_of s n).words).1) }
+snooped_line s n snoop = record s {
+  requesters = slice_set s.requesters n (snoop_received (rn_of s n) snoop);
+  flits = slice_set s.flits n (with_message (record (cells_of s n) { snp = None }) (answer_of (rn_of s n).state snoop (rn_of s n).words).1);
+}
 
 -- RecvComp of Comp_UC: CompAck is in flight
 abbrev pub comp_received_line : LineState → ℕ → LineState
-comp_received_line s n = record s { requesters = slice_set s.requesters n (comp_received (rn_of s n)); flits = slice_set s.flits n (record (cells_of s n) { rsp_down = None; rsp_up = Some CompAck }) }
+comp_received_line s n = record s {
+  requesters = slice_set s.requesters n (comp_received (rn_of s n));
+  flits = slice_set s.flits n (record (cells_of s n) { rsp_down = None; rsp_up = Some CompAck });
+}
 
 -- RecvComp of Comp_I
 abbrev pub evict_received_line : LineState → ℕ → LineState
-evict_received_line s n = record s { requesters = slice_set s.requesters n (evict_received (rn_of s n)); flits = slice_set s.flits n (record (cells_of s n) { rsp_down = None }) }
+evict_received_line s n = record s {
+  requesters = slice_set s.requesters n (evict_received (rn_of s n));
+  flits = slice_set s.flits n (record (cells_of s n) { rsp_down = None });
+}
 
 -- RecvDbid of a request of the kind: the write data is in flight
 abbrev pub dbid_received_line : LineState → ℕ → Kind → LineState
-dbid_received_line s n kind = record s { requesters = slice_set s.requesters n (dbid_received (rn_of s n) kind); flits = slice_set s.flits n (record (cells_of s n) { rsp_down = None; dat_up = Some (write_data_of (rn_of s n).state (rn_of s n).words) }) }
+dbid_received_line s n kind = record s {
+  requesters = slice_set s.requesters n (dbid_received (rn_of s n) kind);
+  flits = slice_set s.flits n (record (cells_of s n) { rsp_down = None; dat_up = Some (write_data_of (rn_of s n).state (rn_of s n).words) });
+}
 
 -- RecvWrData of a request of the kind: the data is taken, and the line is idle
 abbrev pub written_line : LineState → ℕ → Kind → State → List ℕ → LineState
@@ -141,7 +170,10 @@ answer_in cells = response_answer cells.rsp_up (data_answer cells.dat_up)
 -- RecvSnpResp of an answer: it is out of its cell, the home has it, and where it was the last one the
 -- completion is in flight
 abbrev pub answered_by : LineState → Agent → SnoopAnswer → LineState
-answered_by s agent answer = record s { home = snoop_answered s.home agent answer; flits = completion_put (slice_set s.flits agent.0 (emptied (cells_of s agent.0) (answer_channel answer))) (snoop_answered_sends s.home agent answer) }
+answered_by s agent answer = record s {
+  home = snoop_answered s.home agent answer;
+  flits = completion_put (slice_set s.flits agent.0 (emptied (cells_of s agent.0) (answer_channel answer))) (snoop_answered_sends s.home agent answer);
+}
 
 -- RecvComp of each completion
 abbrev pub completion_received : LineState → ℕ → Option RspDown → LineState
@@ -247,13 +279,11 @@ slot_served_for (Snooping agent kind slot) n = if agent.0 == n then Some slot el
 slot_served_for (AwaitingCompAck agent slot) n = if agent.0 == n then Some slot else None
 slot_served_for (AwaitingWriteData agent kind slot) n = if agent.0 == n then Some slot else None
 
--- a line of its parts, out of wires that have a row for it
-abbrev pub line_of_parts : List Rn → Home → List (List Cells) → ℕ → LineState
-line_of_parts requesters home wires row = record { requesters = requesters; home = home; flits = row_of wires row }
-
 -- whether the agent's slot is in use at the line
 abbrev pub line_uses : LineState → ℕ → Slot → Bool
-line_uses s n slot = is_slot (pending_slot (rn_of s n).pending) slot || (is_slot (waiting_slot (waiting_of s.home n)) slot || is_slot (slot_served_for s.home.serving n) slot)
+line_uses s n slot =
+    is_slot (pending_slot (rn_of s n).pending) slot
+    || (is_slot (waiting_slot (waiting_of s.home n)) slot || is_slot (slot_served_for s.home.serving n) slot)
 
 -- whether a cell has a CompAck
 abbrev pub is_ack : Option RspUp → Bool

@@ -16,7 +16,8 @@ use Rattle.chi_line.specs.Kept.{is_retried, kind_of}
 
 -- the agent's request of the slot is in flight, with AllowRetry or without
 abbrev pub IsInFlight : Bool → LineState → ℕ → Slot → Type 0
-IsInFlight allow_retry s n slot = (request : Request) × ((cells_of s n).req ≡ Some request) × (request.slot ≡ slot) × (request.allow_retry ≡ allow_retry)
+IsInFlight allow_retry s n slot =
+    (request : Request) × ((cells_of s n).req ≡ Some request) × (request.slot ≡ slot) × (request.allow_retry ≡ allow_retry)
 
 -- the agent's pending request has the slot
 abbrev pub IsPending : LineState → ℕ → Slot → Type 0
@@ -45,7 +46,9 @@ IsAt s n slot Closing = IsPending s n slot × (kind_of (rn_of s n).pending ≡ S
 
 -- nothing of the slot: no pending request, none at the home and none in flight has it
 abbrev pub HasNothing : LineState → ℕ → Slot → Type 0
-HasNothing s n slot = (pending_slot (rn_of s n).pending ≢ Some slot) × (IsAtHome s n slot → ⊥) × ((request : Request) → (cells_of s n).req ≡ Some request → request.slot ≢ slot)
+HasNothing s n slot =
+    (pending_slot (rn_of s n).pending ≢ Some slot) × (IsAtHome s n slot → ⊥)
+    × ((request : Request) → (cells_of s n).req ≡ Some request → request.slot ≢ slot)
 
 -- where the slot is found, or that nothing of it is
 abbrev pub IsFound : LineState → ℕ → Slot → Option Where → Type 0

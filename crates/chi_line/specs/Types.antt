@@ -40,7 +40,11 @@ served_kind_of (AwaitingWriteData agent kind own) n slot = if agent.0 == n && ow
 
 -- whether the slot of agent n has the credit type wherever the line still keeps the kind of its request
 abbrev pub is_of_type : Profile → CreditType → LineState → ℕ → Slot → Bool
-is_of_type profile ty s n slot = has_type profile ty (pending_kind_of (rn_of s n).pending slot) && (has_type profile ty (requested_kind_of (cells_of s n).req slot) && (has_type profile ty (waiting_kind_of (waiting_of s.home n) slot) && has_type profile ty (served_kind_of s.home.serving n slot)))
+is_of_type profile ty s n slot =
+    has_type profile ty (pending_kind_of (rn_of s n).pending slot)
+    && (has_type profile ty (requested_kind_of (cells_of s n).req slot)
+    && (has_type profile ty (waiting_kind_of (waiting_of s.home n) slot)
+    && has_type profile ty (served_kind_of s.home.serving n slot)))
 
 -- the credit type of a request that is pending
 abbrev pub pending_credit : Profile → Option Pending → Option CreditType

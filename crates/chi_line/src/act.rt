@@ -1,24 +1,16 @@
-//! The actions on one row of a slice: the requesters of a line, its home, and the wires.
+//! The actions on a line.
 
-ghost use Rattle.std.specs.Prelude.{◌≡◌, ℕ, List, ◌<◌, true, length, slice_set, IfOk, OnOk, OnErr};
+ghost use Rattle.std.specs.Prelude.{◌≡◌, ℕ, List, ◌<◌, true, IfOk, OnOk, OnErr};
 ghost use Rattle.chi_flit.specs.Refusal.{refusal_of};
 ghost use Rattle.chi_line.specs.Kept.{Kept};
 ghost use Rattle.chi_line.specs.Refused.{line_refusal};
-ghost use Rattle.chi_line.specs.Step.{after, effect_of, is_step_in_range, line_of_parts};
+ghost use Rattle.chi_line.specs.Step.{after, effect_of, is_step_in_range};
+ghost use Rattle.chi_line.specs.Traffic.{KeepsFlits};
 
-use crate::completions::{
-    receive_ack, receive_comp, receive_data, receive_dbid, receive_write_data,
-};
-use crate::copies::{drop_clean, load, store};
-use crate::requests::{admit, cancel, issue, receive_retry, resend, retry, start};
-use crate::snoops::{receive_answer, receive_snoop};
-use chi_flit::{Action, Effect, Line, Profile, Refusal, Step};
-use chi_homeline::HomeLine;
-use chi_rnline::RnLine;
-use chi_wires::Wires;
-use std::alloc::Allocator;
+use crate::line::Line;
+use chi_flit::{Action, Effect, Profile, Refusal, Step};
 
-/// What an action needs to know of its slice beside its line.
+/// What an action needs to know beside its line.
 /// Source: `docs/DECISIONS.md`, "The slice", Conditions.
 #[derive(Clone, Copy, Debug, PartialEq, Eq)]
 pub struct Conditions {
@@ -26,61 +18,51 @@ pub struct Conditions {
     pub slot_used: bool,
     /// Whether the journal holds exactly its limit.
     pub journal_full: bool,
+    /// Whether a Resend has a credit of its type, by the type's number.
+    pub credits: [bool; 4],
     pub profile: Profile,
 }
 
-/// Does an action on a line, out of its parts: the requesters' sides, the home, and the row of the wires.
-/// The flits of all other rows stay. Answers the action's effect.
-///
-/// Refused in the order of the action's row, but never 10; nothing changes then.
-///
-/// Conditions: the agent's number is below 8, the row is one of the wires' lines, the step's numbers are
-/// in their ranges, and the line keeps what "What a line keeps" says, for some values last stored to its
-/// words.
-/// Source: `docs/PROTOCOL.md`, "The actions" and "What a line keeps".
-pub fn act_on<A: Allocator>(
-    requesters: &mut [RnLine; 8],
-    home: &mut HomeLine,
-    wires: &mut Wires<A>,
-    row: Line,
-    conditions: Conditions,
-    action: Action,
-) -> Result<Effect, Refusal>
-    requires agent { action.agent.0 < 8 }
-    requires row { row.0 < length wires.old }
-    requires step { is_step_in_range action.step ≡ true }
-    requires kept { (last : List ℕ) × Kept last (line_of_parts requesters.old home.old wires.old row.0) }
-    ensures refusal { refusal_of result ≡ line_refusal conditions (line_of_parts requesters.old home.old wires.old row.0) action }
-    ensures effect { IfOk result (λ effect. effect ≡ effect_of (line_of_parts requesters.old home.old wires.old row.0) action) }
-    ensures requesters { OnOk result (requesters.new ≡ (after conditions.profile (line_of_parts requesters.old home.old wires.old row.0) action).requesters) }
-    ensures home { OnOk result (home.new ≡ (after conditions.profile (line_of_parts requesters.old home.old wires.old row.0) action).home) }
-    ensures flits { OnOk result (wires.new ≡ slice_set wires.old row.0 (after conditions.profile (line_of_parts requesters.old home.old wires.old row.0) action).flits) }
-    ensures copies_stay { OnErr result (requesters.new ≡ requesters.old) }
-    ensures home_stays { OnErr result (home.new ≡ home.old) }
-    ensures flits_stay { OnErr result (wires.new ≡ wires.old) }
-{
-    let agent = action.agent;
-    let full = conditions.journal_full;
-    match action.step {
-        Step::Load(word) => load(requesters, agent, word, full),
-        Step::Store(word, value) => store(requesters, agent, word, value, full),
-        Step::Drop => drop_clean(requesters, agent),
-        Step::Issue(kind, slot) => {
-            let used = conditions.slot_used;
-            issue(requesters, wires, row, agent, kind, slot, used)
+impl Line {
+    /// Does an action on the line. Answers the action's effect.
+    ///
+    /// No flit is lost or made: those in flight after the action, with the one that it took, are those before
+    /// with those that it sent.
+    ///
+    /// Refused in the order of the action's row, but never 10; nothing changes then.
+    ///
+    /// Conditions: the agent's number is below 8, the step's numbers are in their ranges, and the line keeps
+    /// what "What a line keeps" says, for some values last stored to its words.
+    /// Source: `docs/PROTOCOL.md`, "The actions", "Messages" and "What a line keeps".
+    pub fn act(&mut self, conditions: Conditions, action: Action) -> Result<Effect, Refusal>
+        requires agent { action.agent.0 < 8 }
+        requires step { is_step_in_range action.step ≡ true }
+        requires kept { (last : List ℕ) × Kept last self.old }
+        ensures refusal { refusal_of result ≡ line_refusal conditions self.old action }
+        ensures effect { IfOk result (λ effect. effect ≡ effect_of self.old action) }
+        ensures after { OnOk result (self.new ≡ after conditions.profile self.old action) }
+        ensures flits { OnOk result (KeepsFlits conditions.profile self.old action self.new) }
+        ensures err { OnErr result (self.new ≡ self.old) }
+    {
+        let agent = action.agent;
+        match action.step {
+            Step::Load(word) => self.load(agent, word, conditions.journal_full),
+            Step::Store(word, value) => self.store(agent, word, value, conditions.journal_full),
+            Step::Drop => self.drop_clean(agent),
+            Step::Issue(kind, slot) => self.issue(agent, kind, slot, conditions.slot_used),
+            Step::Admit => self.admit(agent),
+            Step::Retry => self.retry(agent, conditions.profile),
+            Step::RecvRetry => self.receive_retry(agent),
+            Step::Resend => self.resend(agent, conditions),
+            Step::Cancel => self.cancel(agent),
+            Step::Start => self.start(agent),
+            Step::RecvSnp => self.receive_snoop(agent),
+            Step::RecvSnpResp => self.receive_answer(agent),
+            Step::RecvData => self.receive_data(agent),
+            Step::RecvComp => self.receive_comp(agent),
+            Step::RecvAck => self.receive_ack(agent),
+            Step::RecvDbid => self.receive_dbid(agent),
+            Step::RecvWrData => self.receive_write_data(agent),
         }
-        Step::Admit => admit(home, wires, row, agent),
-        Step::Retry => retry(wires, row, agent, conditions.profile),
-        Step::RecvRetry => receive_retry(requesters, wires, row, agent),
-        Step::Resend => resend(requesters, wires, row, agent),
-        Step::Cancel => cancel(requesters, agent),
-        Step::Start => start(home, wires, row, agent),
-        Step::RecvSnp => receive_snoop(requesters, wires, row, agent),
-        Step::RecvSnpResp => receive_answer(home, wires, row, agent),
-        Step::RecvData => receive_data(requesters, wires, row, agent),
-        Step::RecvComp => receive_comp(requesters, wires, row, agent),
-        Step::RecvAck => receive_ack(home, wires, row, agent),
-        Step::RecvDbid => receive_dbid(requesters, wires, row, agent),
-        Step::RecvWrData => receive_write_data(home, wires, row, agent),
     }
 }

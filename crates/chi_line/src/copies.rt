@@ -1,77 +1,92 @@
 //! The actions of a requester's copy alone: they send nothing.
 
-ghost use Rattle.std.specs.Prelude.{◌≡◌, ◌<◌, IfOk, OnOk, OnErr, slice_index_or, slice_set};
+ghost use Rattle.std.specs.Prelude.{◌≡◌, ◌<◌, IfOk, OnOk, OnErr};
 ghost use Rattle.chi_flit.specs.Refusal.{refusal_of};
 ghost use Rattle.chi_flit.specs.declared.action.Effect.TheVariants.{Nothing, Value};
-ghost use Rattle.chi_rnline.specs.Rn.{drop_refusal, dropped, load_refusal, no_line, store_refusal, stored, word_of};
+ghost use Rattle.chi_rnline.specs.Rn.{cancel_refusal, drop_refusal, load_refusal, store_refusal, word_of};
+ghost use Rattle.chi_line.specs.LineState.{rn_of};
 ghost use Rattle.chi_line.specs.Refused.{first_of, full_if};
+ghost use Rattle.chi_line.specs.Step.{cancelled_line, dropped_line, stored_line};
 
+use crate::line::Line;
+use crate::refusals::why_no_store;
 use chi_flit::{Agent, Effect, Refusal, WordNo};
-use chi_rnline::RnLine;
 
-/// Load: the value of a word of the agent's copy. The journal takes a record of it.
-///
-/// Refused 2 (WrongState) where there is no copy, then 1 (JournalFull) where the journal is `full`.
-/// Source: `docs/PROTOCOL.md`, "The actions", Load.
-pub fn load(
-    requesters: &[RnLine; 8],
-    agent: Agent,
-    word: WordNo,
-    full: bool,
-) -> Result<Effect, Refusal>
-    requires agent { agent.0 < 8 }
-    requires word { word.0 < 8 }
-    ensures refusal { refusal_of result ≡ first_of (load_refusal (slice_index_or requesters.now agent.0 no_line)) (full_if full) }
-    ensures effect { IfOk result (λ effect. effect ≡ Value (word_of (slice_index_or requesters.now agent.0 no_line) word.0)) }
-{
-    let value = requesters[usize::from(agent.0)].load(word)?;
-    if full {
-        return Err(Refusal::JournalFull);
+impl Line {
+    /// Load: the value of a word of the agent's copy. The journal takes a record of it.
+    ///
+    /// Refused 2 (WrongState) where there is no copy, then 1 (JournalFull) where the journal is `full`.
+    /// Source: `docs/PROTOCOL.md`, "The actions", Load.
+    pub(crate) fn load(&self, agent: Agent, word: WordNo, full: bool) -> Result<Effect, Refusal>
+        requires agent { agent.0 < 8 }
+        requires word { word.0 < 8 }
+        ensures refusal { refusal_of result ≡ first_of (load_refusal (rn_of self.now agent.0)) (full_if full) }
+        ensures effect { IfOk result (λ effect. effect ≡ Value (word_of (rn_of self.now agent.0) word.0)) }
+    {
+        let value = self.requesters[usize::from(agent.0)].load(word)?;
+        if full {
+            return Err(Refusal::JournalFull);
+        }
+        Ok(Effect::Value(value))
     }
-    Ok(Effect::Value(value))
-}
 
-/// Store: the word of the agent's copy has the value. The journal takes a record of it.
-///
-/// Refused 3 (Pending) where a request is pending, then 2 (WrongState) where the copy isn't unique, then
-/// 1 (JournalFull) where the journal is `full`; nothing changes then.
-/// Source: `docs/PROTOCOL.md`, "The actions", Store.
-pub fn store(
-    requesters: &mut [RnLine; 8],
-    agent: Agent,
-    word: WordNo,
-    value: u64,
-    full: bool,
-) -> Result<Effect, Refusal>
-    requires agent { agent.0 < 8 }
-    requires word { word.0 < 8 }
-    ensures refusal { refusal_of result ≡ first_of (store_refusal (slice_index_or requesters.old agent.0 no_line)) (full_if full) }
-    ensures effect { IfOk result (λ effect. effect ≡ Nothing) }
-    ensures copy { OnOk result (requesters.new ≡ slice_set requesters.old agent.0 (stored (slice_index_or requesters.old agent.0 no_line) word.0 value)) }
-    ensures copies_stay { OnErr result (requesters.new ≡ requesters.old) }
-{
-    if let Some(refusal) = requesters[usize::from(agent.0)].why_no_store() {
-        return Err(refusal);
+    /// Store: the word of the agent's copy has the value. The journal takes a record of it.
+    ///
+    /// Refused 3 (Pending) where a request is pending, then 2 (WrongState) where the copy isn't unique, then
+    /// 1 (JournalFull) where the journal is `full`; nothing changes then.
+    /// Source: `docs/PROTOCOL.md`, "The actions", Store.
+    #[tactic(auto, using(crate::proofs::After::neither))]
+    pub(crate) fn store(
+        &mut self,
+        agent: Agent,
+        word: WordNo,
+        value: u64,
+        full: bool,
+    ) -> Result<Effect, Refusal>
+        requires agent { agent.0 < 8 }
+        requires word { word.0 < 8 }
+        ensures refusal { refusal_of result ≡ first_of (store_refusal (rn_of self.old agent.0)) (full_if full) }
+        ensures effect { IfOk result (λ effect. effect ≡ Nothing) }
+        ensures after { OnOk result (self.new ≡ stored_line self.old agent.0 word.0 value) }
+        ensures err { OnErr result (self.new ≡ self.old) }
+    {
+        let copy = &mut self.requesters[usize::from(agent.0)];
+        if let Some(refusal) = why_no_store(copy, full) {
+            return Err(refusal);
+        }
+        copy.store(word, value);
+        Ok(Effect::Nothing)
     }
-    if full {
-        return Err(Refusal::JournalFull);
-    }
-    requesters[usize::from(agent.0)].store(word, value)?;
-    Ok(Effect::Nothing)
-}
 
-/// Drop: the agent's copy is given up, and nobody is told.
-///
-/// Refused 3 (Pending) where a request is pending, then 2 (WrongState) where the copy isn't clean; nothing
-/// changes then.
-/// Source: `docs/PROTOCOL.md`, "The actions", Drop.
-pub fn drop_clean(requesters: &mut [RnLine; 8], agent: Agent) -> Result<Effect, Refusal>
-    requires { agent.0 < 8 }
-    ensures refusal { refusal_of result ≡ drop_refusal (slice_index_or requesters.old agent.0 no_line) }
-    ensures effect { IfOk result (λ effect. effect ≡ Nothing) }
-    ensures copy { OnOk result (requesters.new ≡ slice_set requesters.old agent.0 (dropped (slice_index_or requesters.old agent.0 no_line))) }
-    ensures copies_stay { OnErr result (requesters.new ≡ requesters.old) }
-{
-    requesters[usize::from(agent.0)].drop_clean()?;
-    Ok(Effect::Nothing)
+    /// Drop: the agent's copy is given up, and nobody is told.
+    ///
+    /// Refused 3 (Pending) where a request is pending, then 2 (WrongState) where the copy isn't clean;
+    /// nothing changes then.
+    /// Source: `docs/PROTOCOL.md`, "The actions", Drop.
+    pub(crate) fn drop_clean(&mut self, agent: Agent) -> Result<Effect, Refusal>
+        requires { agent.0 < 8 }
+        ensures refusal { refusal_of result ≡ drop_refusal (rn_of self.old agent.0) }
+        ensures effect { IfOk result (λ effect. effect ≡ Nothing) }
+        ensures after { OnOk result (self.new ≡ dropped_line self.old agent.0) }
+        ensures err { OnErr result (self.new ≡ self.old) }
+    {
+        self.requesters[usize::from(agent.0)].drop_clean()?;
+        Ok(Effect::Nothing)
+    }
+
+    /// Cancel: the agent's retried copy-back is given up; nothing is pending.
+    ///
+    /// Refused 4 (NothingPending) where no request is in phase Retried, then 2 (WrongState) where it may
+    /// still be sent; nothing changes then.
+    /// Source: `docs/PROTOCOL.md`, "The actions", Cancel.
+    pub(crate) fn cancel(&mut self, agent: Agent) -> Result<Effect, Refusal>
+        requires { agent.0 < 8 }
+        ensures refusal { refusal_of result ≡ cancel_refusal (rn_of self.old agent.0) }
+        ensures effect { IfOk result (λ effect. effect ≡ Nothing) }
+        ensures after { OnOk result (self.new ≡ cancelled_line self.old agent.0) }
+        ensures err { OnErr result (self.new ≡ self.old) }
+    {
+        self.requesters[usize::from(agent.0)].cancel()?;
+        Ok(Effect::Nothing)
+    }
 }

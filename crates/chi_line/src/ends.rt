@@ -3,40 +3,45 @@
 ghost use Rattle.std.specs.Prelude.{◌≡◌, ◌<◌};
 ghost use Rattle.chi_flit.specs.Kind.{is_copy_back, snoop_of};
 ghost use Rattle.chi_homeline.specs.Home.{served_slot, start_refusal, waiting_of};
+ghost use Rattle.chi_line.specs.LineState.{cells_of};
 ghost use Rattle.chi_line.specs.Refused.{completed_at, no_flit_unless};
 ghost use Rattle.chi_line.specs.Step.{completed_effect, evicted_if, is_ack, is_write_data, slot_unless, waiting_effect};
 
+use crate::line::Line;
 use chi_flit::{Agent, DatUp, RspUp, Slot, Step};
 use chi_homeline::{HomeLine, Serving, Waiting};
 use chi_wires::Cells;
 
-/// The slot of the request that a step of the agent would complete, by the home's part of the line and
-/// the agent's flits; `None` where the step would be refused, or completes nothing.
-///
-/// Conditions: the agent's number is below 8.
-/// Source: `docs/PROTOCOL.md`, "The actions".
-pub fn completed_at(home: &HomeLine, cells: Cells, agent: Agent, step: Step) -> Option<Slot>
-    requires { agent.0 < 8 }
-    ensures { result ≡ completed_at home.now cells agent step }
-{
-    match step {
-        Step::Start => evicted_slot(home, agent),
-        Step::RecvAck => acknowledged_slot(home, cells),
-        Step::RecvWrData => written_slot(home, cells),
-        Step::Load(_)
-        | Step::Store(_, _)
-        | Step::Drop
-        | Step::Issue(_, _)
-        | Step::Admit
-        | Step::Retry
-        | Step::RecvRetry
-        | Step::Resend
-        | Step::Cancel
-        | Step::RecvSnp
-        | Step::RecvSnpResp
-        | Step::RecvData
-        | Step::RecvComp
-        | Step::RecvDbid => None,
+impl Line {
+    /// The slot of the request that a step of the agent would complete; `None` where the step would be
+    /// refused, or completes nothing.
+    ///
+    /// Conditions: the agent's number is below 8.
+    /// Source: `docs/PROTOCOL.md`, "The actions".
+    pub fn completed(&self, agent: Agent, step: Step) -> Option<Slot>
+        requires { agent.0 < 8 }
+        ensures { result ≡ completed_at self.now.home (cells_of self.now agent.0) agent step }
+    {
+        let cells = &self.flits[usize::from(agent.0)];
+        match step {
+            Step::Start => evicted_slot(&self.home, agent),
+            Step::RecvAck => acknowledged_slot(&self.home, cells),
+            Step::RecvWrData => written_slot(&self.home, cells),
+            Step::Load(_)
+            | Step::Store(_, _)
+            | Step::Drop
+            | Step::Issue(_, _)
+            | Step::Admit
+            | Step::Retry
+            | Step::RecvRetry
+            | Step::Resend
+            | Step::Cancel
+            | Step::RecvSnp
+            | Step::RecvSnpResp
+            | Step::RecvData
+            | Step::RecvComp
+            | Step::RecvDbid => None,
+        }
     }
 }
 
@@ -44,7 +49,8 @@ pub fn completed_at(home: &HomeLine, cells: Cells, agent: Agent, step: Step) -> 
 /// line.
 fn evicted_slot(home: &HomeLine, agent: Agent) -> Option<Slot>
     requires { agent.0 < 8 }
-    ensures { result ≡ slot_unless (start_refusal home.now agent.0) (waiting_effect home.now agent (waiting_of home.now agent.0)) }
+    ensures { result
+        ≡ slot_unless (start_refusal home.now agent.0) (waiting_effect home.now agent (waiting_of home.now agent.0)) }
 {
     let request = home.waiting(agent)?;
     match home.serving() {
@@ -66,8 +72,9 @@ pub fn evicted(request: Waiting) -> Option<Slot>
 }
 
 /// The slot that the CompAck among these cells would complete.
-fn acknowledged_slot(home: &HomeLine, cells: Cells) -> Option<Slot>
-    ensures { result ≡ slot_unless (no_flit_unless (is_ack cells.rsp_up)) (completed_effect (served_slot home.now.serving)) }
+fn acknowledged_slot(home: &HomeLine, cells: &Cells) -> Option<Slot>
+    ensures { result
+        ≡ slot_unless (no_flit_unless (is_ack cells.now.rsp_up)) (completed_effect (served_slot home.now.serving)) }
 {
     match cells.rsp_up {
         Some(RspUp::CompAck) => served_slot(home.serving()),
@@ -76,8 +83,10 @@ fn acknowledged_slot(home: &HomeLine, cells: Cells) -> Option<Slot>
 }
 
 /// The slot that the write data among these cells would complete.
-fn written_slot(home: &HomeLine, cells: Cells) -> Option<Slot>
-    ensures { result ≡ slot_unless (no_flit_unless (is_write_data cells.dat_up)) (completed_effect (served_slot home.now.serving)) }
+fn written_slot(home: &HomeLine, cells: &Cells) -> Option<Slot>
+    ensures { result
+        ≡ slot_unless (no_flit_unless (is_write_data cells.now.dat_up))
+        (completed_effect (served_slot home.now.serving)) }
 {
     match cells.dat_up {
         Some(DatUp::CopyBackWrData(..)) => served_slot(home.serving()),

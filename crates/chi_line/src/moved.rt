@@ -1,19 +1,19 @@
 //! Which request a step moves, and where to.
 
-ghost use Rattle.std.specs.Prelude.{◌≡◌, ◌<◌, None, Some, length};
+ghost use Rattle.std.specs.Prelude.{◌≡◌, ◌<◌, None, Some};
 ghost use Rattle.chi_line.specs.Moves.{completed_to, if_moved, moved_slot, moved_to, requested_slot};
 ghost use Rattle.chi_line.specs.declared.seen.Where.TheVariants.{Closing};
-ghost use Rattle.chi_line.specs.Step.{completed_effect, completed_slot, line_of_parts, pending_slot, waiting_effect};
+ghost use Rattle.chi_line.specs.Step.{completed_effect, completed_slot, pending_slot, waiting_effect};
 ghost use Rattle.chi_homeline.specs.Home.{served_slot, waiting_of};
 
 use crate::ends::{evicted, served_slot};
+use crate::line::Line;
 use crate::seen::Where;
 use crate::slots::pending_slot;
-use chi_flit::{Agent, Line, Request, RspDown, Slot, Step};
+use chi_flit::{Agent, Request, RspDown, Slot, Step};
 use chi_homeline::{HomeLine, Serving};
 use chi_rnline::RnLine;
-use chi_wires::{Cells, Wires};
-use std::alloc::Allocator;
+use chi_wires::Cells;
 
 /// What a step does to a request of its agent.
 /// Source: `docs/PROTOCOL.md`, "Agreement".
@@ -25,39 +25,34 @@ pub struct Move {
     pub to: Option<Where>,
 }
 
-/// The request of the agent that a step moves where it isn't refused, and where to, by the parts of a
-/// line before the step.
-///
-/// Conditions: the agent's number is below 8, and the row is one of the wires' lines.
-/// Source: `docs/PROTOCOL.md`, "Agreement".
-pub fn move_of<A: Allocator>(
-    requesters: &[RnLine; 8],
-    home: &HomeLine,
-    wires: &Wires<A>,
-    row: Line,
-    agent: Agent,
-    step: Step,
-) -> Move
-    requires agent { agent.0 < 8 }
-    requires row { row.0 < length wires.now }
-    ensures slot { result.slot ≡ moved_slot (line_of_parts requesters.now home.now wires.now row.0) agent step }
-    ensures to { result.to ≡ moved_to (line_of_parts requesters.now home.now wires.now row.0) agent step }
-{
-    let copy = &requesters[usize::from(agent.0)];
-    match step {
-        Step::Load(_) | Step::Store(_, _) | Step::Drop | Step::RecvSnp | Step::RecvSnpResp => {
-            ends(None)
+impl Line {
+    /// The request of the agent that a step moves where it isn't refused, and where to, by the line before
+    /// the step.
+    ///
+    /// Conditions: the agent's number is below 8.
+    /// Source: `docs/PROTOCOL.md`, "Agreement".
+    pub fn move_of(&self, agent: Agent, step: Step) -> Move
+        requires { agent.0 < 8 }
+        ensures slot { result.slot ≡ moved_slot self.now agent step }
+        ensures to { result.to ≡ moved_to self.now agent step }
+    {
+        let copy = &self.requesters[usize::from(agent.0)];
+        let cells = &self.flits[usize::from(agent.0)];
+        match step {
+            Step::Load(_) | Step::Store(_, _) | Step::Drop | Step::RecvSnp | Step::RecvSnpResp => {
+                ends(None)
+            }
+            Step::Issue(_, slot) => goes(Some(slot), Where::Sent),
+            Step::Admit => request_goes(cells, Where::Admitted),
+            Step::Retry => request_goes(cells, Where::Refused),
+            Step::RecvRetry => pending_goes(copy, Where::Retried),
+            Step::Resend => pending_goes(copy, Where::Riding),
+            Step::Cancel => ends(pending_slot(copy.pending())),
+            Step::Start => closes(evicted_slot(&self.home, agent)),
+            Step::RecvData | Step::RecvDbid => pending_goes(copy, Where::Answered),
+            Step::RecvComp => completes(copy, cells),
+            Step::RecvAck | Step::RecvWrData => ends(finished_slot(self.home.serving())),
         }
-        Step::Issue(_, slot) => goes(Some(slot), Where::Sent),
-        Step::Admit => request_goes(wires.cells(agent, row), Where::Admitted),
-        Step::Retry => request_goes(wires.cells(agent, row), Where::Refused),
-        Step::RecvRetry => pending_goes(copy, Where::Retried),
-        Step::Resend => pending_goes(copy, Where::Riding),
-        Step::Cancel => ends(pending_slot(copy.pending())),
-        Step::Start => closes(evicted_slot(home, agent)),
-        Step::RecvData | Step::RecvDbid => pending_goes(copy, Where::Answered),
-        Step::RecvComp => completes(copy, wires.cells(agent, row)),
-        Step::RecvAck | Step::RecvWrData => ends(finished_slot(home.serving())),
     }
 }
 
@@ -70,8 +65,8 @@ fn goes(slot: Option<Slot>, at: Where) -> Move
 }
 
 /// The request among these cells, which is left there.
-fn request_goes(cells: Cells, at: Where) -> Move
-    ensures slot { result.slot ≡ requested_slot cells.req }
+fn request_goes(cells: &Cells, at: Where) -> Move
+    ensures slot { result.slot ≡ requested_slot cells.now.req }
     ensures to { result.to ≡ Some at }
 {
     goes(requested_slot(cells.req), at)
@@ -86,9 +81,9 @@ fn pending_goes(copy: &RnLine, at: Where) -> Move
 }
 
 /// The copy's pending request, which takes the completion among these cells.
-fn completes(copy: &RnLine, cells: Cells) -> Move
+fn completes(copy: &RnLine, cells: &Cells) -> Move
     ensures slot { result.slot ≡ pending_slot copy.now.pending }
-    ensures to { result.to ≡ completed_to cells.rsp_down }
+    ensures to { result.to ≡ completed_to cells.now.rsp_down }
 {
     Move {
         slot: pending_slot(copy.pending()),

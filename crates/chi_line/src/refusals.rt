@@ -1,56 +1,48 @@
 //! Why an action is refused, found without doing it.
 
-ghost use Rattle.std.specs.Prelude.{◌≡◌, ◌<◌, Some, length, if◌then◌else◌};
+ghost use Rattle.std.specs.Prelude.{◌≡◌, ◌<◌, Some, if◌then◌else◌, IfOk};
+ghost use Rattle.chi_flit.specs.Refusal.{refusal_of};
 ghost use Rattle.chi_flit.specs.declared.refusal.Refusal.TheVariants as refusals;
 ghost use Rattle.chi_rnline.specs.Rn.{issue_refusal, load_refusal, store_refusal};
-ghost use Rattle.chi_line.specs.Refused.{first_of, full_if, line_refusal, no_flit_unless, retry_refusal};
-ghost use Rattle.chi_line.specs.Step.{is_ack, is_comp, is_dbid, is_retry, is_write_data, line_of_parts};
+ghost use Rattle.chi_line.specs.Refused.{first_of, full_if, line_refusal, no_flit_unless, resend_step_refusal, retry_refusal};
+ghost use Rattle.chi_line.specs.Step.{is_ack, is_comp, is_dbid, is_retry, is_write_data};
 
 use crate::act::Conditions;
+use crate::line::Line;
 use crate::snoops::answer_in;
-use chi_flit::{Action, DatUp, Kind, Line, Refusal, Request, RspDown, RspUp, Step};
-use chi_homeline::HomeLine;
-use chi_rnline::RnLine;
-use chi_wires::Wires;
-use std::alloc::Allocator;
+use chi_flit::{Action, DatUp, Kind, Refusal, Request, RspDown, RspUp, Step, credit_type};
+use chi_rnline::{Pending, RnLine};
 
-/// Why `act_on` would refuse the action on a line of these parts, its numbers being in their ranges;
-/// `None` where it wouldn't.
-///
-/// Conditions: the agent's number is below 8, and the row is one of the wires' lines.
-/// Source: `docs/PROTOCOL.md`, "The actions".
-pub fn refusal_on<A: Allocator>(
-    requesters: &[RnLine; 8],
-    home: &HomeLine,
-    wires: &Wires<A>,
-    row: Line,
-    conditions: Conditions,
-    action: Action,
-) -> Option<Refusal>
-    requires agent { action.agent.0 < 8 }
-    requires row { row.0 < length wires.now }
-    ensures { result ≡ line_refusal conditions (line_of_parts requesters.now home.now wires.now row.0) action }
-{
-    let copy = &requesters[usize::from(action.agent.0)];
-    let cells = wires.cells(action.agent, row);
-    match action.step {
-        Step::Load(_) => why_no_load(copy, conditions.journal_full),
-        Step::Store(_, _) => why_no_store(copy, conditions.journal_full),
-        Step::Drop => copy.why_no_drop(),
-        Step::Issue(kind, _) => why_no_issue(copy, kind, conditions.slot_used),
-        Step::Admit => no_flit_unless(cells.req.is_some()),
-        Step::Retry => why_no_retry(cells.req),
-        Step::RecvRetry => no_flit_unless(is_retry(cells.rsp_down)),
-        Step::Resend => copy.why_no_resend(),
-        Step::Cancel => copy.why_no_cancel(),
-        Step::Start => home.why_no_start(action.agent),
-        Step::RecvSnp => no_flit_unless(cells.snp.is_some()),
-        Step::RecvSnpResp => no_flit_unless(answer_in(cells).is_some()),
-        Step::RecvData => no_flit_unless(cells.dat_down.is_some()),
-        Step::RecvComp => no_flit_unless(is_comp(cells.rsp_down)),
-        Step::RecvAck => no_flit_unless(is_ack(cells.rsp_up)),
-        Step::RecvDbid => no_flit_unless(is_dbid(cells.rsp_down)),
-        Step::RecvWrData => no_flit_unless(is_write_data(cells.dat_up)),
+impl Line {
+    /// Why `act` would refuse the action, its numbers being in their ranges; `None` where it wouldn't.
+    ///
+    /// Conditions: the agent's number is below 8.
+    /// Source: `docs/PROTOCOL.md`, "The actions".
+    pub fn refusal(&self, conditions: Conditions, action: Action) -> Option<Refusal>
+        requires { action.agent.0 < 8 }
+        ensures { result ≡ line_refusal conditions self.now action }
+    {
+        let copy = &self.requesters[usize::from(action.agent.0)];
+        let cells = &self.flits[usize::from(action.agent.0)];
+        match action.step {
+            Step::Load(_) => why_no_load(copy, conditions.journal_full),
+            Step::Store(_, _) => why_no_store(copy, conditions.journal_full),
+            Step::Drop => copy.why_no_drop(),
+            Step::Issue(kind, _) => why_no_issue(copy, kind, conditions.slot_used),
+            Step::Admit => no_flit_unless(cells.req.is_some()),
+            Step::Retry => why_no_retry(cells.req),
+            Step::RecvRetry => no_flit_unless(is_retry(cells.rsp_down)),
+            Step::Resend => to_resend(copy, conditions).err(),
+            Step::Cancel => copy.why_no_cancel(),
+            Step::Start => self.home.why_no_start(action.agent),
+            Step::RecvSnp => no_flit_unless(cells.snp.is_some()),
+            Step::RecvSnpResp => no_flit_unless(answer_in(cells).is_some()),
+            Step::RecvData => no_flit_unless(cells.dat_down.is_some()),
+            Step::RecvComp => no_flit_unless(is_comp(cells.rsp_down)),
+            Step::RecvAck => no_flit_unless(is_ack(cells.rsp_up)),
+            Step::RecvDbid => no_flit_unless(is_dbid(cells.rsp_down)),
+            Step::RecvWrData => no_flit_unless(is_write_data(cells.dat_up)),
+        }
     }
 }
 
@@ -65,13 +57,26 @@ fn why_no_load(copy: &RnLine, full: bool) -> Option<Refusal>
 }
 
 /// The refusal of a Store: the copy's, then that of a full journal.
-fn why_no_store(copy: &RnLine, full: bool) -> Option<Refusal>
+pub(crate) fn why_no_store(copy: &RnLine, full: bool) -> Option<Refusal>
     ensures { result ≡ first_of (store_refusal copy.now) (full_if full) }
 {
     match copy.why_no_store() {
         Some(refusal) => Some(refusal),
         None => full_if(full),
     }
+}
+
+/// The request that a Resend would send: refused by the copy, then where there is no credit of its type.
+pub(crate) fn to_resend(copy: &RnLine, conditions: Conditions) -> Result<Pending, Refusal>
+    ensures refusal { refusal_of result ≡ resend_step_refusal conditions copy.now }
+    ensures request { IfOk result (λ request. copy.now.pending ≡ Some request) }
+{
+    let request = copy.to_resend()?;
+    let credit = credit_type(conditions.profile, request.kind);
+    if !conditions.credits[usize::from(credit.number())] {
+        return Err(Refusal::NoCredit);
+    }
+    Ok(request)
 }
 
 /// The refusal of an Issue: that of a slot that is used, then the copy's.

@@ -1,88 +1,83 @@
 //! The actions of snoops: an agent answers one, and the home takes the answer.
 
-ghost use Rattle.std.specs.Prelude.{◌≡◌, ◌<◌, ℕ, List, true, None, Some, is_some, length, slice_index_or, slice_set, IfOk, OnOk, OnErr};
+ghost use Rattle.std.specs.List.Sorted.{IsPermutation};
+ghost use Rattle.std.specs.Prelude.{◌≡◌, ◌<◌, ℕ, true, None, Some, is_some, IfOk, OnOk, OnErr, [], ◌++◌};
 ghost use Rattle.chi_flit.specs.Message.{channel_of};
 ghost use Rattle.chi_flit.specs.Refusal.{refusal_of};
-ghost use Rattle.chi_flit.specs.Snoop.{answer_of};
 ghost use Rattle.chi_flit.specs.declared.action.Effect.TheVariants.{Nothing};
-ghost use Rattle.chi_flit.specs.declared.snoop.Snoop.{Snoop};
+ghost use Rattle.chi_flit.specs.declared.message.Channel.TheVariants as channels;
 ghost use Rattle.chi_filter.specs.Filter.{is_named};
-ghost use Rattle.chi_wires.specs.Wires.{flits_at, row_of, with_flits};
-ghost use Rattle.chi_wires.specs.Cell.{cell_of, with_message};
-ghost use Rattle.chi_rnline.specs.Rn.{Rn, no_line, snoop_received};
-ghost use Rattle.chi_homeline.specs.Home.{IsServedInRange};
+ghost use Rattle.chi_wires.specs.Cell.{cell_of};
+ghost use Rattle.chi_wires.specs.Flight.{flit_of, in_flight};
+ghost use Rattle.chi_wires.specs.Flits.{cells_at};
 ghost use Rattle.chi_homeline.specs.declared.serving.Completion.{Completion};
-ghost use Rattle.chi_homeline.specs.declared.serving.SnoopAnswer.{SnoopAnswer};
 ghost use Rattle.chi_line.specs.Kept.{snoops_for};
+ghost use Rattle.chi_line.specs.LineState.{cells_of, rn_of};
 ghost use Rattle.chi_line.specs.Refused.{no_flit_unless};
 ghost use Rattle.chi_line.specs.Snooped.{answer_channel, completion_put};
-ghost use Rattle.chi_line.specs.Step.{answer_in, answered_by, data_answer, line_of_parts};
+ghost use Rattle.chi_line.specs.Step.{answer_in, answered_by, data_answer, snooped_line, where_some};
+ghost use Rattle.chi_line.specs.Traffic.{Balances, answer_flit, answered_flits, completion_flits, flit_on, snoop_answer};
 
-use chi_flit::{Agent, Channel, DatUp, Effect, Line, Refusal, RspUp};
-use chi_homeline::{Completion, HomeLine, SnoopAnswer};
-use chi_rnline::RnLine;
-use chi_wires::{Cells, Wires};
-use std::alloc::Allocator;
+use crate::line::Line;
+use chi_flit::{Agent, Channel, DatUp, Effect, Refusal, RspUp};
+use chi_homeline::{Completion, SnoopAnswer};
+use chi_wires::{Cells, clear, exchange, put};
 
-/// RecvSnp: the agent takes its snoop, and the answer of its copy is in flight.
-///
-/// Refused 7 (NoFlit) where no snoop is in flight; nothing changes then.
-/// Source: `docs/PROTOCOL.md`, "Answers to snoops".
-pub fn receive_snoop<A: Allocator>(
-    requesters: &mut [RnLine; 8],
-    wires: &mut Wires<A>,
-    row: Line,
-    agent: Agent,
-) -> Result<Effect, Refusal>
-    requires agent { agent.0 < 8 }
-    requires row { row.0 < length wires.old }
-    requires empty { is_some (flits_at wires.old row.0 agent.0).snp ≡ true → ((flits_at wires.old row.0 agent.0).rsp_up ≡ None) × ((flits_at wires.old row.0 agent.0).dat_up ≡ None) }
-    ensures refusal { refusal_of result ≡ no_flit_unless (is_some (flits_at wires.old row.0 agent.0).snp) }
-    ensures effect { IfOk result (λ effect. effect ≡ Nothing) }
-    ensures copy { OnOk result ((snoop : Snoop) → (flits_at wires.old row.0 agent.0).snp ≡ Some snoop → requesters.new ≡ slice_set requesters.old agent.0 (snoop_received (slice_index_or requesters.old agent.0 no_line) snoop)) }
-    ensures flits { OnOk result ((snoop : Snoop) → (flits_at wires.old row.0 agent.0).snp ≡ Some snoop → wires.new ≡ with_flits wires.old row.0 agent.0 (with_message (record (flits_at wires.old row.0 agent.0) { snp = None }) (answer_of (slice_index_or requesters.old agent.0 no_line).state snoop (slice_index_or requesters.old agent.0 no_line).words).1)) }
-    ensures copies_stay { OnErr result (requesters.new ≡ requesters.old) }
-    ensures flits_stay { OnErr result (wires.new ≡ wires.old) }
-{
-    let snoop = wires.cells(agent, row).snp.ok_or(Refusal::NoFlit)?;
-    let answer = requesters[usize::from(agent.0)].snooped(snoop);
-    wires.exchange(agent, row, Channel::Snp, answer);
-    Ok(Effect::Nothing)
-}
+impl Line {
+    /// RecvSnp: the agent takes its snoop, and the answer of its copy is in flight.
+    ///
+    /// Refused 7 (NoFlit) where no snoop is in flight; nothing changes then.
+    /// Source: `docs/PROTOCOL.md`, "Answers to snoops".
+    pub(crate) fn receive_snoop(&mut self, agent: Agent) -> Result<Effect, Refusal>
+        requires agent { agent.0 < 8 }
+        requires empty { is_some (cells_of self.old agent.0).snp ≡ true
+            → ((cells_of self.old agent.0).rsp_up ≡ None) × ((cells_of self.old agent.0).dat_up ≡ None) }
+        ensures refusal { refusal_of result ≡ no_flit_unless (is_some (cells_of self.old agent.0).snp) }
+        ensures effect { IfOk result (λ effect. effect ≡ Nothing) }
+        ensures after { OnOk result (self.new
+            ≡ where_some self.old (cells_of self.old agent.0).snp (snooped_line self.old agent.0)) }
+        ensures flits { OnOk result (Balances (flit_on self.old agent channels.Snp)
+            (flit_of agent (snoop_answer (rn_of self.old agent.0) (cells_of self.old agent.0).snp)) self.old self.new) }
+        ensures err { OnErr result (self.new ≡ self.old) }
+    {
+        let cells = &self.flits[usize::from(agent.0)];
+        let snoop = cells.snp.ok_or(Refusal::NoFlit)?;
+        let answer = self.requesters[usize::from(agent.0)].snooped(snoop);
+        exchange(&mut self.flits, agent, Channel::Snp, answer);
+        Ok(Effect::Nothing)
+    }
 
-/// RecvSnpResp: the home takes the agent's answer to its snoop. Where it is the last one, the completion
-/// that it brings is in flight at once.
-///
-/// Refused 7 (NoFlit) where no answer is in flight; nothing changes then.
-/// Source: `docs/PROTOCOL.md`, "Answers of snooped agents".
-pub fn receive_answer<A: Allocator>(
-    home: &mut HomeLine,
-    wires: &mut Wires<A>,
-    row: Line,
-    agent: Agent,
-) -> Result<Effect, Refusal>
-    requires agent { agent.0 < 8 }
-    requires row { row.0 < length wires.old }
-    requires named { is_some (answer_in (flits_at wires.old row.0 agent.0)) ≡ true → is_named home.old.filter agent.0 ≡ true }
-    requires served { IsServedInRange home.old.serving }
-    requires down { (other : ℕ) → snoops_for home.old.serving other ≡ true → ((flits_at wires.old row.0 other).rsp_down ≡ None) × ((flits_at wires.old row.0 other).dat_down ≡ None) }
-    ensures refusal { refusal_of result ≡ no_flit_unless (is_some (answer_in (flits_at wires.old row.0 agent.0))) }
-    ensures effect { IfOk result (λ effect. effect ≡ Nothing) }
-    ensures home { OnOk result ((requesters : List Rn) (answer : SnoopAnswer) → answer_in (flits_at wires.old row.0 agent.0) ≡ Some answer → home.new ≡ (answered_by (line_of_parts requesters home.old wires.old row.0) agent answer).home) }
-    ensures flits { OnOk result ((requesters : List Rn) (answer : SnoopAnswer) → answer_in (flits_at wires.old row.0 agent.0) ≡ Some answer → wires.new ≡ slice_set wires.old row.0 (answered_by (line_of_parts requesters home.old wires.old row.0) agent answer).flits) }
-    ensures home_stays { OnErr result (home.new ≡ home.old) }
-    ensures flits_stay { OnErr result (wires.new ≡ wires.old) }
-{
-    let answer = answer_in(wires.cells(agent, row)).ok_or(Refusal::NoFlit)?;
-    wires.take(channel_of(answer), agent, row)?;
-    let completion = home.snp_resp(agent, answer);
-    put_completion(wires, row, completion);
-    Ok(Effect::Nothing)
+    /// RecvSnpResp: the home takes the agent's answer to its snoop. Where it is the last one, the completion
+    /// that it brings is in flight at once.
+    ///
+    /// Refused 7 (NoFlit) where no answer is in flight; nothing changes then.
+    /// Source: `docs/PROTOCOL.md`, "Answers of snooped agents".
+    pub(crate) fn receive_answer(&mut self, agent: Agent) -> Result<Effect, Refusal>
+        requires agent { agent.0 < 8 }
+        requires named { is_some (answer_in (cells_of self.old agent.0)) ≡ true
+            → is_named self.old.home.filter agent.0 ≡ true }
+        requires down { (other : ℕ) → snoops_for self.old.home.serving other ≡ true
+            → ((cells_of self.old other).rsp_down ≡ None) × ((cells_of self.old other).dat_down ≡ None) }
+        ensures refusal { refusal_of result ≡ no_flit_unless (is_some (answer_in (cells_of self.old agent.0))) }
+        ensures effect { IfOk result (λ effect. effect ≡ Nothing) }
+        ensures after { OnOk result (self.new
+            ≡ where_some self.old (answer_in (cells_of self.old agent.0)) (answered_by self.old agent)) }
+        ensures flits { OnOk result (Balances (answer_flit self.old agent (answer_in (cells_of self.old agent.0)))
+            (answered_flits self.old.home agent (answer_in (cells_of self.old agent.0))) self.old self.new) }
+        ensures err { OnErr result (self.new ≡ self.old) }
+    {
+        let cells = &self.flits[usize::from(agent.0)];
+        let answer = answer_in(cells).ok_or(Refusal::NoFlit)?;
+        clear(&mut self.flits, agent, channel_of(&answer));
+        let completion = self.home.snp_resp(agent, answer);
+        put_completion(&mut self.flits, completion);
+        Ok(Effect::Nothing)
+    }
 }
 
 /// The answer to a snoop among these cells.
-pub fn answer_in(cells: Cells) -> Option<SnoopAnswer>
-    ensures { result ≡ answer_in cells }
+pub(crate) fn answer_in(cells: &Cells) -> Option<SnoopAnswer>
+    ensures { result ≡ answer_in cells.now }
 {
     match cells.rsp_up {
         Some(RspUp::SnpRespI) => Some(SnoopAnswer::I),
@@ -104,8 +99,8 @@ fn data_answer(response: Option<DatUp>) -> Option<SnoopAnswer>
 }
 
 /// The channel of an answer.
-fn channel_of(answer: SnoopAnswer) -> Channel
-    ensures { result ≡ answer_channel answer }
+fn channel_of(answer: &SnoopAnswer) -> Channel
+    ensures { result ≡ answer_channel answer.now }
 {
     match answer {
         SnoopAnswer::I | SnoopAnswer::SC => Channel::RspUp,
@@ -114,13 +109,14 @@ fn channel_of(answer: SnoopAnswer) -> Channel
 }
 
 /// Puts the completion, if there is one, whose cell must be empty.
-fn put_completion<A: Allocator>(wires: &mut Wires<A>, row: Line, completion: Option<Completion>)
-    requires row { row.0 < length wires.old }
+fn put_completion(flits: &mut [Cells; 8], completion: Option<Completion>)
     requires agent { (some : Completion) → completion ≡ Some some → some.agent.0 < 8 }
-    requires empty { (some : Completion) → completion ≡ Some some → cell_of (flits_at wires.old row.0 some.agent.0) (channel_of some.message) ≡ None }
-    ensures { wires.new ≡ slice_set wires.old row.0 (completion_put (row_of wires.old row.0) completion) }
+    requires empty { (some : Completion) → completion ≡ Some some
+        → cell_of (cells_at flits.old some.agent.0) (channel_of some.message) ≡ None }
+    ensures after { flits.new ≡ completion_put flits.old completion }
+    ensures adds { IsPermutation (in_flight flits.new) (completion_flits completion ++ in_flight flits.old) }
 {
     if let Some(completion) = completion {
-        wires.put(completion.agent, row, completion.message);
+        put(flits, completion.agent, completion.message);
     }
 }

@@ -1,14 +1,12 @@
 //! The credit type of a slot at a line, by the kind of its request that the line keeps.
 
-ghost use Rattle.std.specs.Prelude.{◌≡◌, ◌<◌, length};
-ghost use Rattle.chi_line.specs.Step.{line_of_parts};
+ghost use Rattle.std.specs.Prelude.{◌≡◌, ◌<◌};
 ghost use Rattle.chi_line.specs.Types.{has_type, is_of_type, pending_credit, pending_kind_of, requested_kind_of, served_kind_of, waiting_kind_of};
 
-use chi_flit::{Agent, CreditType, Kind, Line, Profile, Request, Slot, credit_type};
-use chi_homeline::{HomeLine, Serving, Waiting};
-use chi_rnline::{Pending, RnLine};
-use chi_wires::Wires;
-use std::alloc::Allocator;
+use crate::line::Line;
+use chi_flit::{Agent, CreditType, Kind, Profile, Request, Slot, credit_type};
+use chi_homeline::{Serving, Waiting};
+use chi_rnline::Pending;
 
 /// A slot of an agent, and the credit type that it is said to have.
 /// Source: `docs/PROTOCOL.md`, "Agreement".
@@ -19,33 +17,35 @@ pub struct TypedSlot {
     pub credit: CreditType,
 }
 
-/// Whether the slot has its credit type wherever the parts of a line still keep the kind of its request.
-///
-/// Conditions: the agent's number is below 8, and the row is one of the wires' lines.
-/// Source: `docs/PROTOCOL.md`, "Agreement".
-pub fn is_of_type<A: Allocator>(
-    requesters: &[RnLine; 8],
-    home: &HomeLine,
-    wires: &Wires<A>,
-    row: Line,
-    profile: Profile,
-    typed: TypedSlot,
-) -> bool
-    requires agent { typed.agent.0 < 8 }
-    requires row { row.0 < length wires.now }
-    ensures { result ≡ is_of_type profile typed.credit (line_of_parts requesters.now home.now wires.now row.0) typed.agent.0 typed.slot }
-{
-    let TypedSlot {
-        agent,
-        slot,
-        credit,
-    } = typed;
-    let pending = requesters[usize::from(agent.0)].pending();
-    let request = wires.cells(agent, row).req;
-    has_type(profile, credit, pending_kind_of(pending, slot))
-        && has_type(profile, credit, requested_kind_of(request, slot))
-        && has_type(profile, credit, waiting_kind_of(home.waiting(agent), slot))
-        && has_type(profile, credit, served_kind_of(home.serving(), agent, slot))
+impl Line {
+    /// Whether the slot has its credit type wherever the line still keeps the kind of its request.
+    ///
+    /// Conditions: the agent's number is below 8.
+    /// Source: `docs/PROTOCOL.md`, "Agreement".
+    pub fn is_of_type(&self, profile: Profile, typed: TypedSlot) -> bool
+        requires { typed.agent.0 < 8 }
+        ensures { result ≡ is_of_type profile typed.credit self.now typed.agent.0 typed.slot }
+    {
+        let TypedSlot {
+            agent,
+            slot,
+            credit,
+        } = typed;
+        let pending = self.requesters[usize::from(agent.0)].pending();
+        let cells = &self.flits[usize::from(agent.0)];
+        has_type(profile, credit, pending_kind_of(pending, slot))
+            && has_type(profile, credit, requested_kind_of(cells.req, slot))
+            && has_type(
+                profile,
+                credit,
+                waiting_kind_of(self.home.waiting(agent), slot),
+            )
+            && has_type(
+                profile,
+                credit,
+                served_kind_of(self.home.serving(), agent, slot),
+            )
+    }
 }
 
 /// Whether a kind that is kept, if there is one, has the credit type.

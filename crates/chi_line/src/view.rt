@@ -3,10 +3,12 @@
 ghost use Rattle.std.specs.Prelude.{◌≡◌, map};
 ghost use Rattle.chi_line.specs.View.{copy_shown, pending_shown, shown};
 
+use crate::line::Line;
 use chi_flit::{Agent, Data, NO_DATA, State};
-use chi_homeline::{HomeLine, Serving, Waiting};
+use chi_homeline::{Serving, Waiting};
 use chi_rnline::{Pending, RnLine};
 use chi_wires::Cells;
+
 /// One requester's copy of a line: its data means nothing in state `I`.
 /// Source: `docs/PROTOCOL.md`, "One line".
 #[derive(Clone, Copy, Debug, PartialEq, Eq)]
@@ -52,24 +54,27 @@ impl CopyView {
     };
 }
 
-/// A line's parts, as plain data; last are the values last stored to its words.
-/// Source: `docs/PROTOCOL.md`, "One line" and "The journal and last values".
-pub fn view_of(requesters: &[RnLine; 8], home: &HomeLine, flits: [Cells; 8], last: Data) -> LineView
-    ensures { result ≡ shown (record { requesters = requesters.now; home = home.now; flits = flits }) last }
-{
-    let filter = home.filter();
-    LineView {
-        copies: copies_of(requesters),
-        pending: pending_of(requesters),
-        memory: home.memory(),
-        named: filter.named(),
-        unique: filter.is_unique(),
-        owner: filter.owner(),
-        serving: home.serving(),
-        awaited: home.awaited(),
-        waiting: home.all_waiting(),
-        flits,
-        last,
+impl Line {
+    /// The line as plain data; last are the values last stored to its words.
+    /// Source: `docs/PROTOCOL.md`, "One line" and "The journal and last values".
+    pub fn view(&self, last: Data) -> LineView
+        ensures { result ≡ shown self.now last }
+    {
+        let home = &self.home;
+        let filter = home.filter();
+        LineView {
+            copies: copies_of(&self.requesters),
+            pending: pending_of(&self.requesters),
+            memory: home.memory(),
+            named: filter.named(),
+            unique: filter.is_unique(),
+            owner: filter.owner(),
+            serving: home.serving(),
+            awaited: home.awaited(),
+            waiting: home.all_waiting(),
+            flits: self.flits,
+            last,
+        }
     }
 }
 

@@ -3,8 +3,8 @@
 ghost use Rattle.std.specs.Prelude.{◌<◌};
 
 use crate::told::same;
-use chi_flit::{Agent, CompData, Kind, Msg, NO_DATA, Refusal, RspDown, Slot, Snoop, State};
-use chi_homeline::{Completion, HomeLine, Serving, Started, Waiting};
+use chi_flit::{Agent, Kind, NO_DATA, Refusal, Slot, Snoop, State};
+use chi_homeline::{Begun, HomeLine, Serving, Waiting};
 use std::process::Abort;
 
 const NOBODY: [bool; 8] = [false; 8];
@@ -20,18 +20,11 @@ fn request(kind: Kind, slot: u8) -> Waiting {
     }
 }
 
-fn data(unique: bool) -> Msg {
-    Msg::DatDown(CompData {
-        unique,
-        words: NO_DATA,
-    })
-}
-
 /// What the start of the agent's request answers.
-fn starts(home: &mut HomeLine, agent: u8) -> Result<Started, Refusal>
+fn starts(home: &mut HomeLine, agent: u8) -> Result<Begun, Refusal>
     requires { agent < 8 }
 {
-    home.start(Agent(agent))
+    home.begin(Agent(agent))
 }
 
 /// The agent's request of this kind and slot waits from now on.
@@ -48,7 +41,7 @@ fn names(home: &HomeLine) -> ([bool; 8], bool) {
 
 /// The last agent's start snoops the first, the holder, and the filter stays till that has answered.
 fn snoops_the_holder(rt: &impl Abort, home: &mut HomeLine) {
-    let snoops = Started::Snoops {
+    let snoops = Begun::Snoops {
         snoop: Snoop::SnpUnique,
         agents: FIRST,
     };
@@ -78,7 +71,7 @@ fn completes_a_read_and_waits_for_its_ack(rt: HostRuntime) {
     );
 
     // nobody else is named: the copy is unique
-    same(&rt, starts(&mut home, 0), Ok(Started::Sends(data(true))));
+    same(&rt, starts(&mut home, 0), Ok(Begun::Data { unique: true }));
     same(&rt, home.waiting(Agent(0)), None);
     same(&rt, names(&home), (FIRST, true));
     let served = Serving::AwaitingCompAck {
@@ -106,7 +99,7 @@ fn completes_a_read_and_waits_for_its_ack(rt: HostRuntime) {
 fn starts_evictions_and_copy_backs(rt: HostRuntime) {
     let mut home = HomeLine::new();
     waits(&mut home, 0, Kind::ReadUnique, 0);
-    same(&rt, starts(&mut home, 0), Ok(Started::Sends(data(true))));
+    same(&rt, starts(&mut home, 0), Ok(Begun::Data { unique: true }));
     let served = Serving::AwaitingCompAck {
         agent: Agent(0),
         slot: Slot(0),
@@ -115,13 +108,12 @@ fn starts_evictions_and_copy_backs(rt: HostRuntime) {
     same(&rt, home.ack(Agent(0)), Some(Slot(0)));
 
     waits(&mut home, 0, Kind::Evict, 6);
-    same(&rt, starts(&mut home, 0), Ok(Started::Evicted(Slot(6))));
+    same(&rt, starts(&mut home, 0), Ok(Begun::Evicted(Slot(6))));
     same(&rt, names(&home), (NOBODY, false));
     same(&rt, home.serving(), Serving::Idle);
 
     waits(&mut home, 7, Kind::WriteBackFull, 1);
-    let dbid = Started::Sends(Msg::RspDown(RspDown::CompDBIDResp));
-    same(&rt, starts(&mut home, 7), Ok(dbid));
+    same(&rt, starts(&mut home, 7), Ok(Begun::WriteData));
     let serving = Serving::AwaitingWriteData {
         agent: Agent(7),
         kind: Kind::WriteBackFull,
@@ -136,7 +128,6 @@ fn starts_evictions_and_copy_backs(rt: HostRuntime) {
 fn completes_a_clean_unique_without_data(rt: HostRuntime) {
     let mut home = HomeLine::new();
     waits(&mut home, 7, Kind::CleanUnique, 4);
-    let unique = Started::Sends(Msg::RspDown(RspDown::CompUC));
-    same(&rt, starts(&mut home, 7), Ok(unique));
+    same(&rt, starts(&mut home, 7), Ok(Begun::Unique));
     same(&rt, names(&home), (LAST, true));
 }

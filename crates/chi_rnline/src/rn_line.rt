@@ -170,7 +170,8 @@ impl RnLine {
         Ok(self.words[usize::from(word.0)])
     }
 
-    /// The refusal that `store` would answer.
+    /// Why the copy may not be stored to: 3 (Pending) where a request is pending, then 2 (WrongState) where
+    /// it isn't `UC` or `UD`; `None` where it may.
     /// Source: `docs/PROTOCOL.md`, "The actions", Store.
     pub fn why_no_store(&self) -> Option<Refusal>
         ensures { result ≡ store_refusal self.now }
@@ -184,21 +185,15 @@ impl RnLine {
 
     /// Stores the value: the word of the copy has it, and the copy is `UD`; the other words stay.
     ///
-    /// Refused 3 (Pending) where a request is pending, then 2 (WrongState) where the copy isn't `UC` or
-    /// `UD`; nothing changes then. Conditions: the word is below 8.
+    /// Conditions: the word is below 8, and `why_no_store` names no refusal.
     /// Source: `docs/PROTOCOL.md`, "The actions", Store.
-    pub fn store(&mut self, word: WordNo, value: u64) -> Result<(), Refusal>
-        requires { word.0 < 8 }
-        ensures refusal { refusal_of result ≡ store_refusal self.old }
-        ensures ok { IfOk result (λ _. self.new ≡ stored self.old word.0 value) }
-        ensures err { OnErr result (self.new ≡ self.old) }
+    pub fn store(&mut self, word: WordNo, value: u64)
+        requires word { word.0 < 8 }
+        requires allowed { store_refusal self.old ≡ None }
+        ensures { self.new ≡ stored self.old word.0 value }
     {
-        if let Some(refusal) = self.why_no_store() {
-            return Err(refusal);
-        }
         self.words[usize::from(word.0)] = value;
         self.state = State::UD;
-        Ok(())
     }
 
     /// The refusal that `drop_clean` would answer.
@@ -257,7 +252,11 @@ impl RnLine {
     }
 
     /// The request that may be sent again.
-    fn to_resend(&self) -> Result<Pending, Refusal>
+    ///
+    /// Refused 4 (NothingPending) where no request is in phase Retried, then 2 (WrongState) where it is a
+    /// copy-back and the copy isn't in its needed state.
+    /// Source: `docs/PROTOCOL.md`, "The actions", Resend.
+    pub fn to_resend(&self) -> Result<Pending, Refusal>
         ensures refusal { refusal_of result ≡ resend_refusal self.now }
         ensures request { IfOk result (λ request. self.now.pending ≡ Some request) }
     {
@@ -275,7 +274,7 @@ impl RnLine {
         }
     }
 
-    /// The refusal that `resend` would answer.
+    /// The refusal that `to_resend` would answer.
     /// Source: `docs/PROTOCOL.md`, "The actions", Resend.
     pub fn why_no_resend(&self) -> Option<Refusal>
         ensures { result ≡ resend_refusal self.now }
@@ -283,29 +282,28 @@ impl RnLine {
         self.to_resend().err()
     }
 
-    /// Sends a retried request again, with a credit: it is in phase Sent, and the copy stays. Answers the
+    /// Sends the pending request again, with a credit: it is in phase Sent, and the copy stays. Answers the
     /// request that is to be put, without AllowRetry.
     ///
-    /// Refused 4 (NothingPending) where no request is in phase Retried, then 2 (WrongState) where it is a
-    /// copy-back and the copy isn't in its needed state; nothing changes then.
+    /// Conditions: the request is the one that `to_resend` answers.
     /// Source: `docs/PROTOCOL.md`, "The actions", Resend.
-    pub fn resend(&mut self) -> Result<Msg, Refusal>
-        ensures refusal { refusal_of result ≡ resend_refusal self.old }
-        ensures message { IfOk result (λ message. (request : Pending) → self.old.pending ≡ Some request → message ≡ request_message request.kind request.slot false) }
-        ensures ok { IfOk result (λ _. self.new ≡ resent self.old) }
-        ensures err { OnErr result (self.new ≡ self.old) }
+    pub fn resend(&mut self, request: Pending) -> Msg
+        requires allowed { resend_refusal self.old ≡ None }
+        requires pending { self.old.pending ≡ Some request }
+        ensures message { result ≡ request_message request.kind request.slot false }
+        ensures after { self.new ≡ resent self.old }
     {
-        let Pending { kind, slot, .. } = self.to_resend()?;
+        let Pending { kind, slot, .. } = request;
         self.pending = Some(Pending {
             kind,
             slot,
             phase: Phase::Sent,
         });
-        Ok(Msg::Req(Request {
+        Msg::Req(Request {
             kind,
             slot,
             allow_retry: false,
-        }))
+        })
     }
 
     /// The refusal that `cancel` would answer.

@@ -1,4 +1,3 @@
 pub mod Marked
 pub mod Moved
-pub mod Wide
 pub mod Once

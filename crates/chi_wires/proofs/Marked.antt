@@ -3,7 +3,7 @@ use Rattle.std.proofs.Common.{◌≡◌, ℕ, ◌+◌, ◌<◌, suc, zero, List,
 use Rattle.chi_flit.specs.declared.snoop.Snoop.{Snoop}
 use Rattle.chi_wires.specs.declared.cells.Cells.{Cells}
 use Rattle.chi_wires.specs.Cell.{no_flits}
-use Rattle.chi_wires.specs.Wires.{with_snoops}
+use Rattle.chi_wires.specs.Flits.{with_snoops}
 
 -- the row where one more agent is looked at
 abbrev pub with_one_more : Bool → Snoop → List Cells → ℕ → List Cells

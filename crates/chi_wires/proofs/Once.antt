@@ -1,95 +1,76 @@
--- At each place at most one flit is in flight: that of its cell.
+-- On each channel at most one flit is in flight to or from an agent: that of its cell.
 use Rattle.std.proofs.Common.{◌≡◌, ℕ, ◌+◌, ◌<◌, suc, zero, Bool, true, false, ◌&&◌, ◌==◌, cond, List, [], ◌∷◌, ◌++◌, Option, Some, None, get_or, refl, sym, ap, ap₂, ◌∙◌, subst, append-nil, arith}
 use Rattle.std.specs.List.{filter}
 use Rattle.std.proofs.lemmas.List.Elements.{filter-append}
 use Rattle.chi_flit.specs.declared.numbers.Agent.{Agent}
-use Rattle.chi_flit.specs.declared.numbers.Line.{Line}
 use Rattle.chi_flit.specs.declared.message.Channel.{Channel}
 use Rattle.chi_flit.specs.declared.message.Channel.TheVariants as channels
 use Rattle.chi_flit.specs.declared.message.Msg.{Msg}
+use Rattle.chi_flit.specs.declared.message.Msg.TheVariants as messages
 use Rattle.chi_wires.specs.declared.cells.Cells.{Cells}
-use Rattle.chi_wires.specs.Cell.{no_flits, cell_of}
-use Rattle.chi_wires.specs.Wires.{flits_at}
-use Rattle.chi_wires.specs.Flight.{Flit, flit_of, flits_of, flits_of_row, flits_of_rows, in_flight, is_at, channel_number}
+use Rattle.chi_wires.specs.Cell.{no_flits, cell_of, message_if}
+use Rattle.chi_wires.specs.Flits.{cells_at}
+use Rattle.chi_wires.specs.Flight.{Flit, flit, flit_of, flits_of, flits_from, in_flight, is_at, channel_number}
 use Rattle.chi_wires.proofs.Moved.{part}
 
--- flits of another cell
-apart : (channel ch : Channel) (agent a : Agent) (line l : Line) (cell : Option Msg)
-    → ((channel_number ch == channel_number channel) && ((a.0 == agent.0) && (l.0 == line.0))) ≡ false
-    → filter (is_at channel agent line) (flit_of ch a l cell) ≡ []
-apart channel ch agent a line l None other = refl
-apart channel ch agent a line l (Some message) other = ap (λ b. cond b (record { channel = ch; agent = a; line = l; message = message } ∷ []) []) other
+-- a cell whose messages all pass a test, or all fail it
+held : {A : Type 0} (as_message : A → Msg) (test : Flit → Bool) (b : Bool) (agent : Agent) → ((x : A) → test (flit agent (as_message x)) ≡ b) → (cell : Option A)
+    → filter test (flit_of agent (message_if as_message cell)) ≡ cond b (flit_of agent (message_if as_message cell)) []
+held as_message test true agent is None = refl
+held as_message test false agent is None = refl
+held as_message test b agent is (Some x) = ap (λ v. cond v (flit agent (as_message x) ∷ []) []) (is x)
 
--- the flit of this cell
-here : (channel : Channel) (agent : Agent) (line : Line) (cell : Option Msg)
-    → filter (is_at channel agent line) (flit_of channel agent line cell) ≡ flit_of channel agent line cell
-here channel agent line None = refl
-here channel agent line (Some message) =
-    let same : ((channel_number channel == channel_number channel) && ((agent.0 == agent.0) && (line.0 == line.0))) ≡ true = grind arith in
-    ap (λ b. cond b (record { channel = channel; agent = agent; line = line; message = message } ∷ []) []) same
+-- whether flits of this channel, of an agent that is asked for or not, are at the place
+abbrev here : Channel → Bool → Channel → Bool
+here channel b ch = (channel_number ch == channel_number channel) && b
+
+-- the flit of each cell of an agent
+part_found : (channel : Channel) (agent a : Agent) (b : Bool) → (a.0 == agent.0) ≡ b → (cells : Cells) (ch : Channel)
+    → filter (is_at channel agent) (part a cells ch) ≡ cond (here channel b ch) (part a cells ch) []
+part_found channel agent a b is cells channels.Req = held messages.Req (is_at channel agent) (here channel b channels.Req) a (λ x. ap (λ v. here channel v channels.Req) is) cells.req
+part_found channel agent a b is cells channels.Snp = held messages.Snp (is_at channel agent) (here channel b channels.Snp) a (λ x. ap (λ v. here channel v channels.Snp) is) cells.snp
+part_found channel agent a b is cells channels.RspDown = held messages.RspDown (is_at channel agent) (here channel b channels.RspDown) a (λ x. ap (λ v. here channel v channels.RspDown) is) cells.rsp_down
+part_found channel agent a b is cells channels.DatDown = held messages.DatDown (is_at channel agent) (here channel b channels.DatDown) a (λ x. ap (λ v. here channel v channels.DatDown) is) cells.dat_down
+part_found channel agent a b is cells channels.RspUp = held messages.RspUp (is_at channel agent) (here channel b channels.RspUp) a (λ x. ap (λ v. here channel v channels.RspUp) is) cells.rsp_up
+part_found channel agent a b is cells channels.DatUp = held messages.DatUp (is_at channel agent) (here channel b channels.DatUp) a (λ x. ap (λ v. here channel v channels.DatUp) is) cells.dat_up
 
 -- the six parts of an agent's flits, each filtered
-six : (test : Flit → Bool) (agent : Agent) (line : Line) (cells : Cells) (a b c d e f : List Flit)
-    → filter test (part agent line cells channels.Req) ≡ a → filter test (part agent line cells channels.Snp) ≡ b
-    → filter test (part agent line cells channels.RspDown) ≡ c → filter test (part agent line cells channels.DatDown) ≡ d
-    → filter test (part agent line cells channels.RspUp) ≡ e → filter test (part agent line cells channels.DatUp) ≡ f
-    → filter test (flits_of agent line cells) ≡ a ++ (b ++ (c ++ (d ++ (e ++ f))))
-six test agent line cells a b c d e f ha hb hc hd he hf =
-    let p = part agent line cells in
-    filter-append test (p channels.Req) _ ∙ ap₂ (λ x y. x ++ y) ha
-    (filter-append test (p channels.Snp) _ ∙ ap₂ (λ x y. x ++ y) hb
-    (filter-append test (p channels.RspDown) _ ∙ ap₂ (λ x y. x ++ y) hc
-    (filter-append test (p channels.DatDown) _ ∙ ap₂ (λ x y. x ++ y) hd
-    (filter-append test (p channels.RspUp) (p channels.DatUp) ∙ ap₂ (λ x y. x ++ y) he hf))))
+six : (test : Flit → Bool) (agent : Agent) (cells : Cells) (found : Channel → List Flit) → ((ch : Channel) → filter test (part agent cells ch) ≡ found ch)
+    → filter test (flits_of agent cells) ≡ found channels.Req ++ (found channels.Snp ++ (found channels.RspDown ++ (found channels.DatDown ++ (found channels.RspUp ++ found channels.DatUp))))
+six test agent cells found is =
+    let p = part agent cells in
+    filter-append test (p channels.Req) _ ∙ ap₂ (λ x y. x ++ y) (is channels.Req)
+    (filter-append test (p channels.Snp) _ ∙ ap₂ (λ x y. x ++ y) (is channels.Snp)
+    (filter-append test (p channels.RspDown) _ ∙ ap₂ (λ x y. x ++ y) (is channels.RspDown)
+    (filter-append test (p channels.DatDown) _ ∙ ap₂ (λ x y. x ++ y) (is channels.DatDown)
+    (filter-append test (p channels.RspUp) (p channels.DatUp) ∙ ap₂ (λ x y. x ++ y) (is channels.RspUp) (is channels.DatUp)))))
 
--- the flits of another agent, or at another line
-pub cells_apart : (channel : Channel) (agent a : Agent) (line l : Line) (cells : Cells) → ((a.0 == agent.0) && (l.0 == line.0)) ≡ false
-    → filter (is_at channel agent line) (flits_of a l cells) ≡ []
-cells_apart channel agent a line l cells other =
-    let away : (ch : Channel) → ((channel_number ch == channel_number channel) && ((a.0 == agent.0) && (l.0 == line.0))) ≡ false = λ ch. grind (arith, other) in
-    let gone : (ch : Channel) → filter (is_at channel agent line) (flit_of ch a l (cell_of cells ch)) ≡ [] = λ ch. apart channel ch agent a line l (cell_of cells ch) (away ch) in
-    six (is_at channel agent line) a l cells [] [] [] [] [] [] (gone channels.Req) (gone channels.Snp) (gone channels.RspDown) (gone channels.DatDown) (gone channels.RspUp) (gone channels.DatUp)
+-- the flits of an agent that is asked for, or not
+cells_found : (channel : Channel) (agent a : Agent) (b : Bool) → (a.0 == agent.0) ≡ b → (cells : Cells)
+    → filter (is_at channel agent) (flits_of a cells) ≡ cond b (part a cells channel) []
+cells_found channel agent a b is cells =
+    six (is_at channel agent) a cells (λ ch. cond (here channel b ch) (part a cells ch) []) (part_found channel agent a b is cells) ∙ alone channel
+  where
+    alone : (channel : Channel)
+        → cond (here channel b channels.Req) (part a cells channels.Req) [] ++ (cond (here channel b channels.Snp) (part a cells channels.Snp) [] ++ (cond (here channel b channels.RspDown) (part a cells channels.RspDown) [] ++ (cond (here channel b channels.DatDown) (part a cells channels.DatDown) [] ++ (cond (here channel b channels.RspUp) (part a cells channels.RspUp) [] ++ cond (here channel b channels.DatUp) (part a cells channels.DatUp) []))))
+        ≡ cond b (part a cells channel) []
+    alone channels.Req = append-nil (cond b (part a cells channels.Req) [])
+    alone channels.Snp = append-nil (cond b (part a cells channels.Snp) [])
+    alone channels.RspDown = append-nil (cond b (part a cells channels.RspDown) [])
+    alone channels.DatDown = append-nil (cond b (part a cells channels.DatDown) [])
+    alone channels.RspUp = append-nil (cond b (part a cells channels.RspUp) [])
+    alone channels.DatUp = refl
 
--- a flit of another channel
-gone : (channel : Channel) (agent : Agent) (line : Line) (cells : Cells) (ch : Channel) → (channel_number ch == channel_number channel) ≡ false
-    → filter (is_at channel agent line) (part agent line cells ch) ≡ []
-gone channel agent line cells ch other =
-    apart channel ch agent agent line line (cell_of cells ch) (ap (λ b. b && ((agent.0 == agent.0) && (line.0 == line.0))) other)
+-- agents that all come later
+none_after : (channel : Channel) (agent : Agent) (first : ℕ) (flits : List Cells) → agent.0 < first
+    → filter (is_at channel agent) (flits_from first flits) ≡ []
+none_after channel agent first [] later = refl
+none_after channel agent first (cells ∷ flits) later =
+    filter-append (is_at channel agent) (flits_of (record { 0 = first }) cells) (flits_from (first + 1) flits)
+    ∙ ap₂ (λ x y. x ++ y) (cells_found channel agent (record { 0 = first }) false (grind (arith, later)) cells)
+    (none_after channel agent (first + 1) flits (omega (arith, later)))
 
--- the flits of this agent at this line
-cells_here : (channel : Channel) (agent : Agent) (line : Line) (cells : Cells)
-    → filter (is_at channel agent line) (flits_of agent line cells) ≡ flit_of channel agent line (cell_of cells channel)
-cells_here channels.Req agent line cells =
-    let away = gone channels.Req agent line cells in
-    six (is_at channels.Req agent line) agent line cells (part agent line cells channels.Req) [] [] [] [] []
-    (here channels.Req agent line (cell_of cells channels.Req)) (away channels.Snp refl) (away channels.RspDown refl) (away channels.DatDown refl) (away channels.RspUp refl) (away channels.DatUp refl)
-    ∙ append-nil (part agent line cells channels.Req)
-cells_here channels.Snp agent line cells =
-    let away = gone channels.Snp agent line cells in
-    six (is_at channels.Snp agent line) agent line cells [] (part agent line cells channels.Snp) [] [] [] []
-    (away channels.Req refl) (here channels.Snp agent line (cell_of cells channels.Snp)) (away channels.RspDown refl) (away channels.DatDown refl) (away channels.RspUp refl) (away channels.DatUp refl)
-    ∙ append-nil (part agent line cells channels.Snp)
-cells_here channels.RspDown agent line cells =
-    let away = gone channels.RspDown agent line cells in
-    six (is_at channels.RspDown agent line) agent line cells [] [] (part agent line cells channels.RspDown) [] [] []
-    (away channels.Req refl) (away channels.Snp refl) (here channels.RspDown agent line (cell_of cells channels.RspDown)) (away channels.DatDown refl) (away channels.RspUp refl) (away channels.DatUp refl)
-    ∙ append-nil (part agent line cells channels.RspDown)
-cells_here channels.DatDown agent line cells =
-    let away = gone channels.DatDown agent line cells in
-    six (is_at channels.DatDown agent line) agent line cells [] [] [] (part agent line cells channels.DatDown) [] []
-    (away channels.Req refl) (away channels.Snp refl) (away channels.RspDown refl) (here channels.DatDown agent line (cell_of cells channels.DatDown)) (away channels.RspUp refl) (away channels.DatUp refl)
-    ∙ append-nil (part agent line cells channels.DatDown)
-cells_here channels.RspUp agent line cells =
-    let away = gone channels.RspUp agent line cells in
-    six (is_at channels.RspUp agent line) agent line cells [] [] [] [] (part agent line cells channels.RspUp) []
-    (away channels.Req refl) (away channels.Snp refl) (away channels.RspDown refl) (away channels.DatDown refl) (here channels.RspUp agent line (cell_of cells channels.RspUp)) (away channels.DatUp refl)
-    ∙ append-nil (part agent line cells channels.RspUp)
-cells_here channels.DatUp agent line cells =
-    let away = gone channels.DatUp agent line cells in
-    six (is_at channels.DatUp agent line) agent line cells [] [] [] [] [] (part agent line cells channels.DatUp)
-    (away channels.Req refl) (away channels.Snp refl) (away channels.RspDown refl) (away channels.DatDown refl) (away channels.RspUp refl) (here channels.DatUp agent line (cell_of cells channels.DatUp))
-
--- where nothing is, nothing is on the channel
+-- nothing is on a channel where nothing is
 nothing : (channel : Channel) → cell_of no_flits channel ≡ None
 nothing channels.Req = refl
 nothing channels.Snp = refl
@@ -98,66 +79,22 @@ nothing channels.DatDown = refl
 nothing channels.RspUp = refl
 nothing channels.DatUp = refl
 
--- a row whose agents all come later
-row_after : (channel : Channel) (agent : Agent) (line l : Line) (first : ℕ) (row : List Cells) → agent.0 < first
-    → filter (is_at channel agent line) (flits_of_row first l row) ≡ []
-row_after channel agent line l first [] later = refl
-row_after channel agent line l first (cells ∷ row) later =
-    filter-append (is_at channel agent line) (flits_of (record { 0 = first }) l cells) (flits_of_row (first + 1) l row)
-    ∙ ap₂ (λ x y. x ++ y) (cells_apart channel agent (record { 0 = first }) line l cells (grind (arith, later)))
-    (row_after channel agent line l (first + 1) row (omega (arith, later)))
-
--- the row of another line
-row_apart : (channel : Channel) (agent : Agent) (line l : Line) (first : ℕ) (row : List Cells) → (l.0 == line.0) ≡ false
-    → filter (is_at channel agent line) (flits_of_row first l row) ≡ []
-row_apart channel agent line l first [] other = refl
-row_apart channel agent line l first (cells ∷ row) other =
-    filter-append (is_at channel agent line) (flits_of (record { 0 = first }) l cells) (flits_of_row (first + 1) l row)
-    ∙ ap₂ (λ x y. x ++ y) (cells_apart channel agent (record { 0 = first }) line l cells (grind (arith, other)))
-    (row_apart channel agent line l (first + 1) row other)
-
--- the row of this line
-row_here : (channel : Channel) (agent : Agent) (line : Line) (n first : ℕ) (row : List Cells) → agent.0 ≡ first + n
-    → filter (is_at channel agent line) (flits_of_row first line row) ≡ flit_of channel agent line (cell_of (get_or row n no_flits) channel)
-row_here channel agent line n first [] is = sym (ap (flit_of channel agent line) (nothing channel))
-row_here channel agent line zero first (cells ∷ row) is =
+once_from : (channel : Channel) (agent : Agent) (n first : ℕ) (flits : List Cells) → agent.0 ≡ first + n
+    → filter (is_at channel agent) (flits_from first flits) ≡ flit_of agent (cell_of (get_or flits n no_flits) channel)
+once_from channel agent n first [] is = sym (ap (flit_of agent) (nothing channel))
+once_from channel agent zero first (cells ∷ flits) is =
     let same : first ≡ agent.0 = omega (arith, is) in
-    filter-append (is_at channel agent line) (flits_of (record { 0 = first }) line cells) (flits_of_row (first + 1) line row)
+    filter-append (is_at channel agent) (flits_of (record { 0 = first }) cells) (flits_from (first + 1) flits)
     ∙ (ap₂ (λ x y. x ++ y)
-    (subst (λ k. filter (is_at channel agent line) (flits_of (record { 0 = k }) line cells) ≡ flit_of channel agent line (cell_of cells channel)) (sym same) (cells_here channel agent line cells))
-    (row_after channel agent line line (first + 1) row (omega (arith, is)))
-    ∙ append-nil (part agent line cells channel))
-row_here channel agent line (suc n) first (cells ∷ row) is =
-    filter-append (is_at channel agent line) (flits_of (record { 0 = first }) line cells) (flits_of_row (first + 1) line row)
-    ∙ ap₂ (λ x y. x ++ y) (cells_apart channel agent (record { 0 = first }) line line cells (grind (arith, is)))
-    (row_here channel agent line n (first + 1) row (omega (arith, is)))
-
--- rows of later lines
-rows_after : (channel : Channel) (agent : Agent) (line : Line) (first : ℕ) (rows : List (List Cells)) → line.0 < first
-    → filter (is_at channel agent line) (flits_of_rows first rows) ≡ []
-rows_after channel agent line first [] later = refl
-rows_after channel agent line first (row ∷ rows) later =
-    filter-append (is_at channel agent line) (flits_of_row 0 (record { 0 = first }) row) (flits_of_rows (first + 1) rows)
-    ∙ ap₂ (λ x y. x ++ y) (row_apart channel agent line (record { 0 = first }) 0 row (grind (arith, later)))
-    (rows_after channel agent line (first + 1) rows (omega (arith, later)))
-
--- all rows
-rows_here : (channel : Channel) (agent : Agent) (line : Line) (n first : ℕ) (rows : List (List Cells)) → line.0 ≡ first + n
-    → filter (is_at channel agent line) (flits_of_rows first rows) ≡ flit_of channel agent line (cell_of (get_or (get_or rows n []) agent.0 no_flits) channel)
-rows_here channel agent line n first [] is = sym (ap (flit_of channel agent line) (nothing channel))
-rows_here channel agent line zero first (row ∷ rows) is =
-    let same : first ≡ line.0 = omega (arith, is) in
-    filter-append (is_at channel agent line) (flits_of_row 0 (record { 0 = first }) row) (flits_of_rows (first + 1) rows)
-    ∙ (ap₂ (λ x y. x ++ y)
-    (subst (λ k. filter (is_at channel agent line) (flits_of_row 0 (record { 0 = k }) row) ≡ flit_of channel agent line (cell_of (get_or row agent.0 no_flits) channel)) (sym same) (row_here channel agent line agent.0 0 row (omega arith)))
-    (rows_after channel agent line (first + 1) rows (omega (arith, is)))
-    ∙ append-nil (flit_of channel agent line (cell_of (get_or row agent.0 no_flits) channel)))
-rows_here channel agent line (suc n) first (row ∷ rows) is =
-    filter-append (is_at channel agent line) (flits_of_row 0 (record { 0 = first }) row) (flits_of_rows (first + 1) rows)
-    ∙ ap₂ (λ x y. x ++ y) (row_apart channel agent line (record { 0 = first }) 0 row (grind (arith, is)))
-    (rows_here channel agent line n (first + 1) rows (omega (arith, is)))
+    (subst (λ k. filter (is_at channel agent) (flits_of (record { 0 = k }) cells) ≡ part agent cells channel) (sym same) (cells_found channel agent agent true (grind arith) cells))
+    (none_after channel agent (first + 1) flits (omega (arith, is)))
+    ∙ append-nil (part agent cells channel))
+once_from channel agent (suc n) first (cells ∷ flits) is =
+    filter-append (is_at channel agent) (flits_of (record { 0 = first }) cells) (flits_from (first + 1) flits)
+    ∙ ap₂ (λ x y. x ++ y) (cells_found channel agent (record { 0 = first }) false (grind (arith, is)) cells)
+    (once_from channel agent n (first + 1) flits (omega (arith, is)))
 
 -- what is in flight at a place is its cell's message, once
-pub once : (wires : List (List Cells)) (channel : Channel) (agent : Agent) (line : Line)
-    → filter (is_at channel agent line) (in_flight wires) ≡ flit_of channel agent line (cell_of (flits_at wires line.0 agent.0) channel)
-once wires channel agent line = rows_here channel agent line line.0 0 wires (omega arith)
+pub once : (flits : List Cells) (agent : Agent) (channel : Channel)
+    → filter (is_at channel agent) (in_flight flits) ≡ flit_of agent (cell_of (cells_at flits agent.0) channel)
+once flits agent channel = once_from channel agent agent.0 0 flits (omega arith)

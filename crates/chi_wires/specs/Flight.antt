@@ -1,60 +1,53 @@
--- The flits in flight as a multiset: the list of the full cells, in some order (docs/PROTOCOL.md, "Messages").
+-- The flits in flight at a line as a multiset: the list of the full cells, in some order (docs/PROTOCOL.md,
+-- "Messages").
 use Rattle.std.specs.Prelude.{ℕ, ◌+◌, List, [], ◌∷◌, ◌++◌, Bool, true, false, Option, Some, None, ◌==◌, ◌&&◌}
 use Rattle.chi_flit.specs.declared.numbers.Agent.{Agent}
-use Rattle.chi_flit.specs.declared.numbers.Line.{Line}
 use Rattle.chi_flit.specs.declared.snoop.Snoop.{Snoop}
 use Rattle.chi_flit.specs.declared.message.Channel.{Channel}
 use Rattle.chi_flit.specs.declared.message.Channel.TheVariants.{Req, Snp, RspDown, DatDown, RspUp, DatUp}
 use Rattle.chi_flit.specs.declared.message.Msg.{Msg}
 use Rattle.chi_flit.specs.declared.message.Msg.TheVariants as messages
+use Rattle.chi_flit.specs.Message.{channel_of}
 use Rattle.chi_wires.specs.declared.cells.Cells.{Cells}
 use Rattle.chi_wires.specs.Cell.{cell_of}
 
--- a message in flight, and the place where it is
+-- a message on its way between an agent and the home
 pub record Flit : Type 0 where
-  pub channel : Channel
   pub agent : Agent
-  pub line : Line
   pub message : Msg
 
-abbrev pub flit : Channel → Agent → Line → Msg → Flit
-flit channel agent line message = record { channel = channel; agent = agent; line = line; message = message }
+abbrev pub flit : Agent → Msg → Flit
+flit agent message = record { agent = agent; message = message }
 
--- the flit of a cell, if the cell is full
-abbrev pub flit_of : Channel → Agent → Line → Option Msg → List Flit
-flit_of channel agent line None = []
-flit_of channel agent line (Some message) = flit channel agent line message ∷ []
+-- the flit of a message, if there is one
+abbrev pub flit_of : Agent → Option Msg → List Flit
+flit_of agent None = []
+flit_of agent (Some message) = flit agent message ∷ []
 
--- the flits of one agent at one line
-abbrev pub flits_of : Agent → Line → Cells → List Flit
-flits_of agent line cells =
-    flit_of Req agent line (cell_of cells Req)
-    ++ (flit_of Snp agent line (cell_of cells Snp)
-    ++ (flit_of RspDown agent line (cell_of cells RspDown)
-    ++ (flit_of DatDown agent line (cell_of cells DatDown)
-    ++ (flit_of RspUp agent line (cell_of cells RspUp)
-    ++ flit_of DatUp agent line (cell_of cells DatUp)))))
+-- the flits of one agent
+abbrev pub flits_of : Agent → Cells → List Flit
+flits_of agent cells =
+    flit_of agent (cell_of cells Req)
+    ++ (flit_of agent (cell_of cells Snp)
+    ++ (flit_of agent (cell_of cells RspDown)
+    ++ (flit_of agent (cell_of cells DatDown)
+    ++ (flit_of agent (cell_of cells RspUp)
+    ++ flit_of agent (cell_of cells DatUp)))))
 
--- the flits of a row, whose first agent has this number
-abbrev pub flits_of_row : ℕ → Line → List Cells → List Flit
-flits_of_row agent line [] = []
-flits_of_row agent line (cells ∷ row) = flits_of (record { 0 = agent }) line cells ++ flits_of_row (agent + 1) line row
-
--- the flits of these rows, whose first line has this number
-abbrev pub flits_of_rows : ℕ → List (List Cells) → List Flit
-flits_of_rows line [] = []
-flits_of_rows line (row ∷ rows) = flits_of_row 0 (record { 0 = line }) row ++ flits_of_rows (line + 1) rows
+-- the flits of these agents, of which the first has this number
+abbrev pub flits_from : ℕ → List Cells → List Flit
+flits_from agent [] = []
+flits_from agent (cells ∷ flits) = flits_of (record { 0 = agent }) cells ++ flits_from (agent + 1) flits
 
 -- all flits in flight
-abbrev pub in_flight : List (List Cells) → List Flit
-in_flight wires = flits_of_rows 0 wires
+abbrev pub in_flight : List Cells → List Flit
+in_flight flits = flits_from 0 flits
 
 -- a snoop to each marked agent, of which the first has this number
-abbrev pub snoop_flits : ℕ → Line → List Bool → Snoop → List Flit
-snoop_flits agent line [] snoop = []
-snoop_flits agent line (true ∷ agents) snoop =
-    flit Snp (record { 0 = agent }) line (messages.Snp snoop) ∷ snoop_flits (agent + 1) line agents snoop
-snoop_flits agent line (false ∷ agents) snoop = snoop_flits (agent + 1) line agents snoop
+abbrev pub snoop_flits : ℕ → List Bool → Snoop → List Flit
+snoop_flits agent [] snoop = []
+snoop_flits agent (true ∷ agents) snoop = flit (record { 0 = agent }) (messages.Snp snoop) ∷ snoop_flits (agent + 1) agents snoop
+snoop_flits agent (false ∷ agents) snoop = snoop_flits (agent + 1) agents snoop
 
 abbrev pub channel_number : Channel → ℕ
 channel_number Req = 0
@@ -64,7 +57,6 @@ channel_number DatDown = 3
 channel_number RspUp = 4
 channel_number DatUp = 5
 
--- whether the flit is at this place
-abbrev pub is_at : Channel → Agent → Line → Flit → Bool
-is_at channel agent line flit =
-    (channel_number flit.channel == channel_number channel) && ((flit.agent.0 == agent.0) && (flit.line.0 == line.0))
+-- whether the flit is on this channel, to or from this agent
+abbrev pub is_at : Channel → Agent → Flit → Bool
+is_at channel agent flit = (channel_number (channel_of flit.message) == channel_number channel) && (flit.agent.0 == agent.0)

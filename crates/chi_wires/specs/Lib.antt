@@ -1,3 +1,3 @@
 pub mod Cell
-pub mod Wires
+pub mod Flits
 pub mod Flight

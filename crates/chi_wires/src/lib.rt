@@ -1,10 +1,10 @@
-//! The flits in flight of the lines of one slice: one cell for each channel, agent and line.
+//! The flits in flight at one line: one cell for each channel and agent.
 //!
 //! Source: Arm IHI 0050 B, chapter 2, and `docs/PROTOCOL.md`, "Messages".
 #![tactic(auto)]
 
 mod cells;
-mod wires;
+mod flits;
 
 pub use cells::Cells;
-pub use wires::Wires;
+pub use flits::{cells_of, clear, exchange, put, put_data, put_snoops};

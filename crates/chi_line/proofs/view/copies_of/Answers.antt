@@ -1,5 +1,4 @@
 -- After eight turns each place is shown.
-use Rattle.std.proofs.Common.{None}
 use Rattle.chi_rnline.specs.Rn.{no_line}
 use Rattle.chi_line.specs.View.{copy_shown}
 use Rattle.chi_line.proofs.Views.{shows_all}

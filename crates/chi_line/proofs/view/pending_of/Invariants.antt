@@ -1,5 +1,5 @@
 -- So far each place shows its agent's line.
-use Rattle.std.proofs.Common.{◌≡◌, ℕ, ◌<◌, None, length, get_or}
+use Rattle.std.proofs.Common.{None}
 use Rattle.chi_rnline.specs.Rn.{no_line}
 use Rattle.chi_line.specs.View.{pending_shown}
 use Rattle.chi_line.proofs.Views.{ShowsBelow}

@@ -1,0 +1,79 @@
+//! A line: the requesters' sides of it, the home's, and what is in flight between them.
+
+ghost use Rattle.std.specs.List.{filter};
+ghost use Rattle.std.specs.Prelude.{◌≡◌, ◌<◌, []};
+ghost use Rattle.chi_flit.specs.declared.message.Channel.{Channel};
+ghost use Rattle.chi_wires.specs.Cell.{cell_of};
+ghost use Rattle.chi_wires.specs.Flight.{flit_of, in_flight, is_at};
+ghost use Rattle.chi_line.specs.LineState.{cells_of, opening_line, rn_of};
+
+use chi_flit::Agent;
+use chi_homeline::HomeLine;
+use chi_rnline::RnLine;
+use chi_wires::Cells;
+use std::marker::Model;
+
+/// One line: what each of the eight requesters and the home keep of it, and what is in flight between them.
+/// Contracts see it as a `LineState`.
+/// Source: `docs/PROTOCOL.md`, "One line".
+#[derive(Drop)]
+pub struct Line {
+    pub(crate) requesters: [RnLine; 8],
+    pub(crate) home: HomeLine,
+    pub(crate) flits: [Cells; 8],
+}
+
+impl Model for Line {
+    ghost use Rattle.chi_line.specs.LineState.{LineState};
+
+    ghost Value = { LineState };
+
+    ghost view = { λ line. record { requesters = line.requesters; home = line.home; flits = line.flits } };
+}
+
+impl Line {
+    /// A line whose memory is 0, with no copies, and nothing pending, waiting, served or in flight.
+    /// Source: `docs/PROTOCOL.md`, "One line".
+    pub fn new() -> Line
+        ensures opening { result ≡ opening_line }
+        ensures none { in_flight result.flits ≡ [] }
+    {
+        Line {
+            requesters: [RnLine::new(); 8],
+            home: HomeLine::new(),
+            flits: [Cells::new(); 8],
+        }
+    }
+
+    /// The agent's copy and pending request, lent.
+    ///
+    /// Conditions: the agent's number is below 8.
+    /// Source: `docs/PROTOCOL.md`, "One line".
+    pub fn copy(&self, agent: Agent) -> &RnLine
+        requires { agent.0 < 8 }
+        ensures { result.now ≡ rn_of self.now agent.0 }
+    {
+        &self.requesters[usize::from(agent.0)]
+    }
+
+    /// What is in flight to and from the agent, lent: at most one flit on each channel.
+    ///
+    /// Conditions: the agent's number is below 8.
+    /// Source: `docs/PROTOCOL.md`, "Messages".
+    pub fn flits(&self, agent: Agent) -> &Cells
+        requires { agent.0 < 8 }
+        ensures cells { result.now ≡ cells_of self.now agent.0 }
+        ensures once { (channel : Channel)
+            → filter (is_at channel agent) (in_flight self.now.flits) ≡ flit_of agent (cell_of result.now channel) }
+    {
+        chi_wires::cells_of(&self.flits, agent)
+    }
+
+    /// What the home keeps of the line, lent.
+    /// Source: `docs/PROTOCOL.md`, "One line".
+    pub fn home(&self) -> &HomeLine
+        ensures { result.now ≡ self.now.home }
+    {
+        &self.home
+    }
+}
