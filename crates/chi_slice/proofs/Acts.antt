@@ -1,9 +1,11 @@
 -- A slice keeps what it keeps through an action on one of its lines.
-use Rattle.std.proofs.Common.{◌≡◌, ℕ, ◌<◌, List, [], Bool, true, false, Option, Some, None, if◌then◌else◌, Result, Ok, Err, IfOk, OnOk, OnErr, refl, sym, ◌∙◌, ap, subst, get_or, length, arith}
-use Rattle.std.proofs.lemmas.List.{get_or_read, set-get_or}
+use Rattle.std.proofs.Common.{◌≡◌, ℕ, ◌<◌, List, Bool, true, false, Option, Some, None, if◌then◌else◌, refl, sym, ◌∙◌, ap, subst, get_or, length, replicate, arith}
+use Rattle.std.proofs.lemmas.List.{get_or_read}
+use Rattle.std.proofs.lemmas.List.Folds.{list_any_at}
 use Rattle.std.proofs.Math.ListN.{set}
 use Rattle.chi_flit.specs.declared.numbers.Agent.{Agent}
 use Rattle.chi_flit.specs.declared.numbers.Line.{Line}
+use Rattle.chi_flit.specs.declared.numbers.Slot.{Slot}
 use Rattle.chi_flit.specs.declared.action.Action.{Action}
 use Rattle.chi_flit.specs.declared.action.Step.{Step}
 use Rattle.chi_flit.specs.declared.action.Step.TheVariants as steps
@@ -11,41 +13,40 @@ use Rattle.chi_flit.specs.declared.action.Effect.{Effect}
 use Rattle.chi_flit.specs.declared.action.Effect.TheVariants.{Nothing, Value}
 use Rattle.chi_flit.specs.declared.refusal.Refusal.{Refusal}
 use Rattle.chi_flit.specs.declared.refusal.Refusal.TheVariants.{OutOfRange}
-use Rattle.chi_flit.specs.Refusal.{refusal_of}
 use Rattle.chi_flit.specs.State.{is_valid}
+use Rattle.chi_flit.specs.declared.credit.Profile.{Profile}
+use Rattle.chi_journal.specs.declared.record.Record.{Record}
 use Rattle.chi_journal.specs.Journal.{Log, is_full, last_words}
-use Rattle.chi_wires.specs.declared.cells.Cells.{Cells}
-use Rattle.chi_wires.specs.Wires.{flits_at}
-use Rattle.chi_rnline.specs.Rn.{Rn, load_refusal, store_refusal, word_of}
-use Rattle.chi_homeline.specs.Home.{Home, idle_home}
+use Rattle.chi_rnline.specs.Rn.{load_refusal, store_refusal, word_of}
 use Rattle.chi_line.specs.declared.act.Conditions.{Conditions}
-use Rattle.chi_line.specs.LineState.{LineState, cells_of, rn_of}
-use Rattle.chi_line.specs.Step.{after, effect_of, is_step_in_range, line_of_parts, record_of, slot_unless, step_effect, step_record}
+use Rattle.chi_line.specs.LineState.{LineState, cells_of, opening_line, rn_of}
+use Rattle.chi_line.specs.Step.{after, effect_of, is_step_in_range, line_uses, record_of, slot_unless, step_effect, step_record}
 use Rattle.chi_line.specs.Refused.{completed_at, full_if, line_refusal, step_refusal}
-use Rattle.chi_slice.specs.Recorded.{CanAppend, done_record, record_by}
 use Rattle.chi_line.specs.Kept.{Kept}
-use Rattle.chi_slice.specs.Slice.{SliceState, SliceKept, OtherLinesStay, acted, completes, conditions_of, is_in_range, is_slot_used, last_of, line, line_at, Performed, recorded, refused, row_count, row_of_line}
 use Rattle.chi_line.specs.LineStep.{LineStep}
-use Rattle.chi_line.proofs.After.{kept_after, names_used_slot, neither}
-use Rattle.chi_slice.proofs.Rows.{InRange, in_range, rows_apart}
+use Rattle.chi_line.specs.Traffic.{KeepsFlits}
+use Rattle.chi_line.proofs.After.{issue_allowed, kept_after, names_used_slot, neither}
 use Rattle.chi_line.proofs.Steps.{step_after}
-use Rattle.chi_slice.proofs.Slices.{FitsLine, kept_with_entry, line_at-with_line, line_at-with_other, same_line}
-use Rattle.chi_slice.proofs.Uses.{unused_at}
+use Rattle.chi_slice.specs.declared.terms.Terms.{Terms}
+use Rattle.chi_slice.specs.Recorded.{CanAppend, done_record, record_by}
+use Rattle.chi_slice.specs.Slice.{IsBalanced, IsStep, OtherLinesStay, SliceKept, SliceState, acted, completes, conditions_of, conditions_under, entry_of, is_in_range, is_slot_used, last_of, line, line_at, range_refusal, recorded, refused, refused_under, row_count, row_of_line, uses}
+use Rattle.chi_slice.proofs.Refusing.{allowed_alone}
+use Rattle.chi_slice.proofs.Rows.{InRange, in_range, rows_apart}
+use Rattle.chi_slice.proofs.Slices.{FitsLine, kept_with_entry, line_at-with_line, line_at-with_other}
 
--- the parts that are read out of a row are the line of that row
-pub parts_are : (s : SliceState) (row : ℕ) (copies : List Rn) (home : Home) → SliceKept s → row < row_count s.config s.index
-    → copies ≡ get_or s.requesters row copies → home ≡ get_or s.homes row home → line_of_parts copies home s.wires row ≡ line_at s row
-parts_are s row copies home k low at_copies at_home =
-    let r : row < length s.requesters = subst (λ (n : ℕ). row < n) (sym k.requesters) low in
-    let h : row < length s.homes = subst (λ (n : ℕ). row < n) (sym k.homes) low in
-    same_line _ _ _ _ _ _ (get_or_read _ _ _ r at_copies []) (get_or_read _ _ _ h at_home idle_home) refl
+-- a slot that is in use nowhere in the slice isn't in use at the line in a row
+pub unused_at : (s : SliceState) (n : ℕ) (slot : Slot) (row : ℕ) → uses s n slot ≡ false → row < length s.lines → line_uses (line_at s row) n slot ≡ false
+unused_at s n slot row free low = go (line_uses (line_at s row) n slot) refl
+  where
+    go : (b : Bool) → line_uses (line_at s row) n slot ≡ b → line_uses (line_at s row) n slot ≡ false
+    go true used = absurd (cc (list_any_at (λ l. line_uses l n slot) s.lines row opening_line low used, free))
+    go false unused = unused
 
--- a slot that is in use nowhere in the slice isn't in use at the line
 pub free_at : (s : SliceState) (row n : ℕ) (step : Step) → SliceKept s → row < row_count s.config s.index → is_slot_used s n step ≡ false → names_used_slot (line_at s row) n step ≡ false
 free_at s row n (steps.Load word) k low free = refl
 free_at s row n (steps.Store word value) k low free = refl
 free_at s row n steps.Drop k low free = refl
-free_at s row n (steps.Issue kind slot) k low free = unused_at (length s.homes) s.requesters s.homes n slot free row (subst (λ (m : ℕ). row < m) (sym k.homes) low)
+free_at s row n (steps.Issue kind slot) k low free = unused_at s n slot row free (subst (λ (m : ℕ). row < m) (sym k.rows) low)
 free_at s row n steps.Admit k low free = refl
 free_at s row n steps.Retry k low free = refl
 free_at s row n steps.RecvRetry k low free = refl
@@ -66,26 +67,6 @@ valid_word last s n word low k allowed =
     let valid : is_valid (rn_of s n).state ≡ true = grind (arith, allowed) in
     ap (λ (words : List ℕ). get_or words word 0) ((k.lanes n low).holder_last valid)
 
--- the record of a step fits its line
-pub fits_line : (c : Conditions) (log : Log) (s : LineState) (agent : Agent) (l : Line) (step : Step) → agent.0 < 8 → step_refusal c s agent step ≡ None → Kept (last_words log.entries l.0) s → FitsLine log l.0 (step_record s agent l step)
-fits_line c log s agent l (steps.Load word) low allowed k = (refl, valid_word (last_words log.entries l.0) s agent.0 word.0 low k (neither (load_refusal (rn_of s agent.0)) (full_if c.journal_full) allowed).0)
-fits_line c log s agent l (steps.Store word value) low allowed k = (refl, tt)
-fits_line c log s agent l steps.Drop low allowed k = tt
-fits_line c log s agent l (steps.Issue kind slot) low allowed k = tt
-fits_line c log s agent l steps.Admit low allowed k = tt
-fits_line c log s agent l steps.Retry low allowed k = tt
-fits_line c log s agent l steps.RecvRetry low allowed k = tt
-fits_line c log s agent l steps.Resend low allowed k = tt
-fits_line c log s agent l steps.Cancel low allowed k = tt
-fits_line c log s agent l steps.Start low allowed k = tt
-fits_line c log s agent l steps.RecvSnp low allowed k = tt
-fits_line c log s agent l steps.RecvSnpResp low allowed k = tt
-fits_line c log s agent l steps.RecvData low allowed k = tt
-fits_line c log s agent l steps.RecvComp low allowed k = tt
-fits_line c log s agent l steps.RecvAck low allowed k = tt
-fits_line c log s agent l steps.RecvDbid low allowed k = tt
-fits_line c log s agent l steps.RecvWrData low allowed k = tt
-
 -- an action that isn't refused is in range, and not refused by its line
 pub record Allowed (s : SliceState) (action : Action) : Type 0 where
   pub inside : is_in_range s action ≡ true
@@ -98,57 +79,79 @@ allowed s action h = go (is_in_range s action) refl h
     go true is h = record { inside = is; by_line = h }
     go false is h = absurd (cc (h))
 
+-- the slot that it names, if it names one, is in use nowhere in the slice
+idle_step : (s : SliceState) (full : Bool) (credits : List Bool) (profile : Profile) (l : LineState) (agent : Agent) (step : Step)
+    → step_refusal (record { slot_used = is_slot_used s agent.0 step; journal_full = full; credits = credits; profile = profile }) l agent step ≡ None → is_slot_used s agent.0 step ≡ false
+idle_step s full credits profile l agent (steps.Load word) may = refl
+idle_step s full credits profile l agent (steps.Store word value) may = refl
+idle_step s full credits profile l agent steps.Drop may = refl
+idle_step s full credits profile l agent (steps.Issue kind slot) may = (issue_allowed (uses s agent.0 slot) (rn_of l agent.0) kind may).idle_slot
+idle_step s full credits profile l agent steps.Admit may = refl
+idle_step s full credits profile l agent steps.Retry may = refl
+idle_step s full credits profile l agent steps.RecvRetry may = refl
+idle_step s full credits profile l agent steps.Resend may = refl
+idle_step s full credits profile l agent steps.Cancel may = refl
+idle_step s full credits profile l agent steps.Start may = refl
+idle_step s full credits profile l agent steps.RecvSnp may = refl
+idle_step s full credits profile l agent steps.RecvSnpResp may = refl
+idle_step s full credits profile l agent steps.RecvData may = refl
+idle_step s full credits profile l agent steps.RecvComp may = refl
+idle_step s full credits profile l agent steps.RecvAck may = refl
+idle_step s full credits profile l agent steps.RecvDbid may = refl
+idle_step s full credits profile l agent steps.RecvWrData may = refl
+
+pub named_idle : (s : SliceState) (action : Action) → Allowed s action → is_slot_used s action.agent.0 action.step ≡ false
+named_idle s action may = idle_step s (is_full s.journal) (replicate 4 true) s.config.profile (line s action.line.0) action.agent action.step may.by_line
+
+-- so it isn't in use at the line
+pub names_unused : (s : SliceState) (action : Action) → SliceKept s → Allowed s action → names_used_slot (line s action.line.0) action.agent.0 action.step ≡ false
+names_unused s action k may = free_at s (row_of_line s action.line.0) action.agent.0 action.step k (in_range s action k may.inside).row (named_idle s action may)
+
+-- the journal is full where a load or a store is refused for it
+not_full : (full : Bool) → full_if full ≡ None → full ≡ false
+not_full full h = grind (arith, h)
+
+-- the record of a step is of its line, legal after those that are there, and the journal has room for it
+abbrev Fits : Log → ℕ → Option Record → Type 0
+Fits log l entry = FitsLine log l entry × CanAppend log entry
+
+step_fits : (c : Conditions) (log : Log) (s : LineState) (agent : Agent) (l : Line) (step : Step) → agent.0 < 8 → l.0 < log.lines → is_step_in_range step ≡ true → c.journal_full ≡ is_full log
+    → step_refusal c s agent step ≡ None → Kept (last_words log.entries l.0) s → Fits log l.0 (step_record s agent l step)
+step_fits c log s agent l (steps.Load word) low below inside full may k =
+    let by = neither (load_refusal (rn_of s agent.0)) (full_if c.journal_full) may in
+    ((refl, valid_word (last_words log.entries l.0) s agent.0 word.0 low k by.0), (low, below, grind (arith, inside), sym full ∙ not_full c.journal_full by.1))
+step_fits c log s agent l (steps.Store word value) low below inside full may k =
+    let by = neither (store_refusal (rn_of s agent.0)) (full_if c.journal_full) may in
+    ((refl, tt), (low, below, grind (arith, inside), sym full ∙ not_full c.journal_full by.1))
+step_fits c log s agent l steps.Drop low below inside full may k = (tt, tt)
+step_fits c log s agent l (steps.Issue kind slot) low below inside full may k = (tt, tt)
+step_fits c log s agent l steps.Admit low below inside full may k = (tt, tt)
+step_fits c log s agent l steps.Retry low below inside full may k = (tt, tt)
+step_fits c log s agent l steps.RecvRetry low below inside full may k = (tt, tt)
+step_fits c log s agent l steps.Resend low below inside full may k = (tt, tt)
+step_fits c log s agent l steps.Cancel low below inside full may k = (tt, tt)
+step_fits c log s agent l steps.Start low below inside full may k = (tt, tt)
+step_fits c log s agent l steps.RecvSnp low below inside full may k = (tt, tt)
+step_fits c log s agent l steps.RecvSnpResp low below inside full may k = (tt, tt)
+step_fits c log s agent l steps.RecvData low below inside full may k = (tt, tt)
+step_fits c log s agent l steps.RecvComp low below inside full may k = (tt, tt)
+step_fits c log s agent l steps.RecvAck low below inside full may k = (tt, tt)
+step_fits c log s agent l steps.RecvDbid low below inside full may k = (tt, tt)
+step_fits c log s agent l steps.RecvWrData low below inside full may k = (tt, tt)
+
+pub entry_fits : (s : SliceState) (action : Action) → SliceKept s → Allowed s action → Fits s.journal action.line.0 (entry_of s action)
+entry_fits s action k may =
+    let inside : InRange s action = in_range s action k may.inside in
+    step_fits (conditions_of s action) s.journal (line s action.line.0) action.agent action.line action.step inside.agent (subst (λ (n : ℕ). action.line.0 < n) (sym k.journal_lines) inside.low) inside.step refl
+    may.by_line (k.lines action.line.0 inside.line)
+
 -- an action that isn't refused keeps what a slice keeps
 pub kept_acted : (s : SliceState) (action : Action) → SliceKept s → Allowed s action → SliceKept (acted s action)
 kept_acted s action k may =
     let inside : InRange s action = in_range s action k may.inside in
-    let old : LineState = line s action.line.0 in
-    let kept : Kept (last_of s action.line.0) old = k.lines action.line.0 inside.line in
-    kept_with_entry s action.line.0 (after s.config.profile old action) (record_of old action) inside.line k
-    (kept_after (conditions_of s action) (last_of s action.line.0) old action inside.agent may.by_line (free_at s (row_of_line s action.line.0) action.agent.0 action.step k inside.row) kept)
-    (fits_line (conditions_of s action) s.journal old action.agent action.line action.step inside.agent may.by_line kept)
-
--- what the call on a line's parts is given, and what it leaves; the journal then follows the result
-pub record ActsOn (s : SliceState) (action : Action) (copies : List Rn) (home : Home) (result : Result Effect Refusal) (copies' : List Rn) (home' : Home) (wires' : List (List Cells)) : Type 0 where
-  pub inside : is_in_range s action ≡ true
-  pub at_copies : copies ≡ get_or s.requesters (row_of_line s action.line.0) copies
-  pub at_home : home ≡ get_or s.homes (row_of_line s action.line.0) home
-  pub refusal : refusal_of result ≡ line_refusal (conditions_of s action) (line_of_parts copies home s.wires (row_of_line s action.line.0)) action
-  pub effect : IfOk result (λ effect. effect ≡ effect_of (line_of_parts copies home s.wires (row_of_line s action.line.0)) action)
-  pub copies_after : OnOk result (copies' ≡ (after s.config.profile (line_of_parts copies home s.wires (row_of_line s action.line.0)) action).requesters)
-  pub home_after : OnOk result (home' ≡ (after s.config.profile (line_of_parts copies home s.wires (row_of_line s action.line.0)) action).home)
-  pub wires_after : OnOk result (wires' ≡ set s.wires (row_of_line s action.line.0) (after s.config.profile (line_of_parts copies home s.wires (row_of_line s action.line.0)) action).flits)
-  pub copies_stay : OnErr result (copies' ≡ copies)
-  pub home_stays : OnErr result (home' ≡ home)
-  pub wires_stay : OnErr result (wires' ≡ s.wires)
-
--- the parts of the call are the action's line
-pub line_is : (s : SliceState) (action : Action) (copies : List Rn) (home : Home) → SliceKept s → is_in_range s action ≡ true
-    → copies ≡ get_or s.requesters (row_of_line s action.line.0) copies → home ≡ get_or s.homes (row_of_line s action.line.0) home
-    → line_of_parts copies home s.wires (row_of_line s action.line.0) ≡ line s action.line.0
-line_is s action copies home k inside at_copies at_home = parts_are s (row_of_line s action.line.0) copies home k (in_range s action k inside).row at_copies at_home
-
--- so they keep what a line keeps
-pub parts_kept : (s : SliceState) (action : Action) (copies : List Rn) (home : Home) → SliceKept s → is_in_range s action ≡ true
-    → copies ≡ get_or s.requesters (row_of_line s action.line.0) copies → home ≡ get_or s.homes (row_of_line s action.line.0) home
-    → Kept (last_of s action.line.0) (line_of_parts copies home s.wires (row_of_line s action.line.0))
-parts_kept s action copies home k inside at_copies at_home =
-    subst (Kept (last_of s action.line.0)) (sym (line_is s action copies home k inside at_copies at_home)) (k.lines action.line.0 (in_range s action k inside).line)
-
--- what the result of a call means for the slice
-pub record Called (s : SliceState) (action : Action) (result : Result Effect Refusal) : Type 0 where
-  pub refusal : refusal_of result ≡ refused s action
-  pub effect : IfOk result (λ effect. effect ≡ effect_of (line s action.line.0) action)
-
-pub called : (s : SliceState) (action : Action) (copies : List Rn) (home : Home) (result : Result Effect Refusal) (copies' : List Rn) (home' : Home) (wires' : List (List Cells))
-    → SliceKept s → ActsOn s action copies home result copies' home' wires' → Called s action result
-called s action copies home result copies' home' wires' k acts =
-    let same : line_of_parts copies home s.wires (row_of_line s action.line.0) ≡ line s action.line.0 = line_is s action copies home k acts.inside acts.at_copies acts.at_home in
-    record {
-      refusal = subst (λ (b : Bool). refusal_of result ≡ (if b then line_refusal (conditions_of s action) (line s action.line.0) action else Some OutOfRange)) (sym acts.inside)
-          (subst (λ (l : LineState). refusal_of result ≡ line_refusal (conditions_of s action) l action) same acts.refusal);
-      effect = subst (λ (l : LineState). IfOk result (λ effect. effect ≡ effect_of l action)) same acts.effect;
-    }
+    kept_with_entry s action.line.0 (after s.config.profile (line s action.line.0) action) (entry_of s action) inside.line k
+    (kept_after (conditions_of s action) (last_of s action.line.0) (line s action.line.0) action inside.agent may.by_line (λ free. names_unused s action k may) (k.lines action.line.0 inside.line))
+    (entry_fits s action k may).0
 
 -- the record of a step by its effect is the step's record
 record_is : (s : LineState) (agent : Agent) (l : Line) (step : Step) → done_record agent l step (step_effect s agent step) ≡ step_record s agent l step
@@ -170,212 +173,113 @@ record_is s agent l steps.RecvAck = refl
 record_is s agent l steps.RecvDbid = refl
 record_is s agent l steps.RecvWrData = refl
 
-recorded_as : (s : SliceState) (action : Action) (effect : Effect) → effect ≡ effect_of (line s action.line.0) action → record_by action (Ok effect) ≡ record_of (line s action.line.0) action
-recorded_as s action effect is =
-    ap (λ (e : Effect). done_record action.agent action.line action.step e) is ∙ record_is (line s action.line.0) action.agent action.line action.step
+recorded_as : (s : LineState) (action : Action) (effect : Effect) → effect ≡ effect_of s action → record_by action effect ≡ record_of s action
+recorded_as s action effect is = ap (record_by action) is ∙ record_is s action.agent action.line action.step
 
--- the journal is full where a load or a store is refused for it
-pub not_full : (full : Bool) → full_if full ≡ None → full ≡ false
-not_full full h = grind (arith, h)
-
-room : (c : Conditions) (s : LineState) (agent : Agent) (l : Line) (step : Step) (log : Log) → c.journal_full ≡ is_full log → agent.0 < 8 → l.0 < log.lines → is_step_in_range step ≡ true
-    → step_refusal c s agent step ≡ None → CanAppend log (step_record s agent l step)
-room c s agent l (steps.Load word) log full low below inside may = (low, below, grind (arith, inside), sym full ∙ not_full c.journal_full (neither (load_refusal (rn_of s agent.0)) (full_if c.journal_full) may).1)
-room c s agent l (steps.Store word value) log full low below inside may = (low, below, grind (arith, inside), sym full ∙ not_full c.journal_full (neither (store_refusal (rn_of s agent.0)) (full_if c.journal_full) may).1)
-room c s agent l steps.Drop log full low below inside may = tt
-room c s agent l (steps.Issue kind slot) log full low below inside may = tt
-room c s agent l steps.Admit log full low below inside may = tt
-room c s agent l steps.Retry log full low below inside may = tt
-room c s agent l steps.RecvRetry log full low below inside may = tt
-room c s agent l steps.Resend log full low below inside may = tt
-room c s agent l steps.Cancel log full low below inside may = tt
-room c s agent l steps.Start log full low below inside may = tt
-room c s agent l steps.RecvSnp log full low below inside may = tt
-room c s agent l steps.RecvSnpResp log full low below inside may = tt
-room c s agent l steps.RecvData log full low below inside may = tt
-room c s agent l steps.RecvComp log full low below inside may = tt
-room c s agent l steps.RecvAck log full low below inside may = tt
-room c s agent l steps.RecvDbid log full low below inside may = tt
-room c s agent l steps.RecvWrData log full low below inside may = tt
-
--- the journal has room for what a call is recorded as
-pub room_by_call : (s : SliceState) (action : Action) (result : Result Effect Refusal) → SliceKept s → Called s action result → CanAppend s.journal (record_by action result)
-room_by_call s action (Err refusal) k by = tt
-room_by_call s action (Ok effect) k by =
-    let may : Allowed s action = allowed s action (sym by.refusal) in
-    let inside : InRange s action = in_range s action k may.inside in
-    subst (CanAppend s.journal) (sym (recorded_as s action effect by.effect))
-    (room (conditions_of s action) (line s action.line.0) action.agent action.line action.step s.journal refl inside.agent (subst (λ (n : ℕ). action.line.0 < n) (sym k.journal_lines) inside.low) inside.step may.by_line)
-
--- the slice with the parts put back, and the journal that followed
-abbrev pub put_back : SliceState → Action → List Rn → Home → List (List Cells) → Log → SliceState
-put_back s action copies home wires journal = record s { requesters = set s.requesters (row_of_line s action.line.0) copies; homes = set s.homes (row_of_line s action.line.0) home; wires = wires; journal = journal }
-
-same_slice : (s : SliceState) (action : Action) (r r' : List Rn) (h h' : Home) (w w' : List (List Cells)) (j j' : Log) → r ≡ r' → h ≡ h' → w ≡ w' → j ≡ j' → put_back s action r h w j ≡ put_back s action r' h' w' j'
-same_slice s action r r' h h' w w' j j' rs hs ws js =
-    ap (λ (x : List Rn). put_back s action x h w j) rs ∙ (ap (λ (x : Home). put_back s action r' x w j) hs ∙ (ap (λ (x : List (List Cells)). put_back s action r' h' x j) ws ∙ ap (λ (x : Log). put_back s action r' h' w' x) js))
-
-pub left_by_call : (s : SliceState) (action : Action) (copies : List Rn) (home : Home) (effect : Effect) (copies' : List Rn) (home' : Home) (wires' : List (List Cells))
-    → SliceKept s → ActsOn s action copies home (Ok effect) copies' home' wires' → put_back s action copies' home' wires' (recorded s.journal (record_by action (Ok effect))) ≡ acted s action
-left_by_call s action copies home effect copies' home' wires' k acts =
-    let same : line_of_parts copies home s.wires (row_of_line s action.line.0) ≡ line s action.line.0 = line_is s action copies home k acts.inside acts.at_copies acts.at_home in
-    let by : Called s action (Ok effect) = called s action copies home (Ok effect) copies' home' wires' k acts in
-    same_slice s action _ _ _ _ _ _ _ _
-    (acts.copies_after ∙ ap (λ (l : LineState). (after s.config.profile l action).requesters) same)
-    (acts.home_after ∙ ap (λ (l : LineState). (after s.config.profile l action).home) same)
-    (acts.wires_after ∙ ap (λ (l : LineState). set s.wires (row_of_line s action.line.0) (after s.config.profile l action).flits) same)
-    (ap (recorded s.journal) (recorded_as s action effect by.effect))
-
-pub stays_by_call : (s : SliceState) (action : Action) (copies : List Rn) (home : Home) (refusal : Refusal) (copies' : List Rn) (home' : Home) (wires' : List (List Cells))
-    → ActsOn s action copies home (Err refusal) copies' home' wires' → put_back s action copies' home' wires' (recorded s.journal (record_by action (Err refusal))) ≡ s
-stays_by_call s action copies home refusal copies' home' wires' acts =
-    same_slice s action _ _ _ _ _ _ _ _ (acts.copies_stay ∙ acts.at_copies) (acts.home_stays ∙ acts.at_home) acts.wires_stay refl ∙ unchanged
-  where
-    unchanged : put_back s action (get_or s.requesters (row_of_line s action.line.0) copies) (get_or s.homes (row_of_line s action.line.0) home) s.wires s.journal ≡ s
-    unchanged = ap (λ (rs : List (List Rn)). record s { requesters = rs; homes = set s.homes (row_of_line s action.line.0) (get_or s.homes (row_of_line s action.line.0) home) }) (set-get_or s.requesters (row_of_line s action.line.0) copies) ∙ ap (λ (hs : List Home). record s { homes = hs }) (set-get_or s.homes (row_of_line s action.line.0) home)
-
-pub kept_by_call : (s : SliceState) (action : Action) (copies : List Rn) (home : Home) (result : Result Effect Refusal) (copies' : List Rn) (home' : Home) (wires' : List (List Cells)) (journal' : Log)
-    → SliceKept s → ActsOn s action copies home result copies' home' wires' → journal' ≡ recorded s.journal (record_by action result)
-    → SliceKept (put_back s action copies' home' wires' journal')
-kept_by_call s action copies home (Ok effect) copies' home' wires' journal' k acts follows =
-    let by : Called s action (Ok effect) = called s action copies home (Ok effect) copies' home' wires' k acts in
-    subst (λ (j : Log). SliceKept (put_back s action copies' home' wires' j)) (sym follows)
-    (subst SliceKept (sym (left_by_call s action copies home effect copies' home' wires' k acts)) (kept_acted s action k (allowed s action (sym by.refusal))))
-kept_by_call s action copies home (Err refusal) copies' home' wires' journal' k acts follows =
-    subst (λ (j : Log). SliceKept (put_back s action copies' home' wires' j)) (sym follows)
-    (subst SliceKept (sym (stays_by_call s action copies home refusal copies' home' wires' acts)) k)
-
--- an action that was tried is a step of the line that it is on
-pub acted_step : (s new : SliceState) (action : Action) (result : Result Effect Refusal) → SliceKept s → Called s action result → OnOk result (new ≡ acted s action)
-    → IfOk result (λ effect. LineStep s.config.profile (line s action.line.0) action effect (record_of (line s action.line.0) action) (line new action.line.0))
-acted_step s new action (Err refusal) k by new_is = new_is
-acted_step s new action (Ok effect) k by new_is =
-    let may : Allowed s action = allowed s action (sym by.refusal) in
+-- an action that is done takes its line by its step
+pub acted_step : (s : SliceState) (action : Action) → SliceKept s → Allowed s action → IsStep s action (effect_of (line s action.line.0) action) (acted s action)
+acted_step s action k may =
     let inside : InRange s action = in_range s action k may.inside in
     let old : LineState = line s action.line.0 in
-    let step : LineStep s.config.profile old action (effect_of old action) (record_of old action) (after s.config.profile old action) =
-    step_after (conditions_of s action) (last_of s action.line.0) old action.agent action.line action.step inside.agent may.by_line (k.lines action.line.0 inside.line) in
-    let there : line new action.line.0 ≡ after s.config.profile old action = ap (λ (v : SliceState). line v action.line.0) new_is ∙ line_at-with_line s (row_of_line s action.line.0) (after s.config.profile old action) inside.row k in
-    subst (λ (e : Effect). LineStep s.config.profile old action e (record_of old action) (line new action.line.0)) (sym by.effect)
-    (subst (λ (l : LineState). LineStep s.config.profile old action (effect_of old action) (record_of old action) l) (sym there) step)
+    subst (λ (l : LineState). LineStep s.config.profile old action (effect_of old action) (entry_of s action) l) (sym (line_at-with_line s (row_of_line s action.line.0) (after s.config.profile old action) inside.row k))
+    (step_after (conditions_of s action) (last_of s action.line.0) old action.agent action.line action.step inside.agent may.by_line (k.lines action.line.0 inside.line))
 
 -- and leaves the other lines as they were
-pub acted_others : (s new : SliceState) (action : Action) (result : Result Effect Refusal) → SliceKept s → Called s action result → OnOk result (new ≡ acted s action) → OnOk result (OtherLinesStay s new action.line.0)
-acted_others s new action (Err refusal) k by new_is = new_is
-acted_others s new action (Ok effect) k by new_is = λ other there apart.
-    let may : Allowed s action = allowed s action (sym by.refusal) in
+pub acted_others : (s : SliceState) (action : Action) → SliceKept s → Allowed s action → OtherLinesStay s (acted s action) action.line.0
+acted_others s action k may = λ other there apart.
     let inside : InRange s action = in_range s action k may.inside in
-    ap (λ (v : SliceState). line v other) new_is ∙ line_at-with_other s (row_of_line s action.line.0) (row_of_line s other) (after s.config.profile (line s action.line.0) action) (rows_apart s action.line.0 other k inside.line there apart)
+    line_at-with_other s (row_of_line s action.line.0) (row_of_line s other) (after s.config.profile (line s action.line.0) action) (rows_apart s action.line.0 other k inside.line there apart)
 
--- what a call means where the slice is now, and how the journal follows
-pub record Outcome (now s : SliceState) (action : Action) (place : ℕ) (result : Result Effect Refusal) (copies' : List Rn) (home' : Home) (wires' : List (List Cells)) : Type 0 where
-  pub room : CanAppend s.journal (record_by action result)
-  pub kept : (journal' : Log) → journal' ≡ recorded s.journal (record_by action result) → SliceKept (record s { requesters = set s.requesters place copies'; homes = set s.homes place home'; wires = wires'; journal = journal' })
-  pub performed : (journal' : Log) → journal' ≡ recorded s.journal (record_by action result) → Performed now action result (record s { requesters = set s.requesters place copies'; homes = set s.homes place home'; wires = wires'; journal = journal' })
+-- an action whose numbers aren't refused is in range
+pub inside_of : (s : SliceState) (action : Action) → None ≡ range_refusal s action → is_in_range s action ≡ true
+inside_of s action h = go (is_in_range s action) refl h
+  where
+    go : (b : Bool) → is_in_range s action ≡ b → None ≡ (if b then None else Some OutOfRange) → is_in_range s action ≡ true
+    go true is h = is
+    go false is h = absurd (cc (h))
 
-pub after_call : (s : SliceState) (action : Action) (copies : List Rn) (home : Home) (result : Result Effect Refusal) (copies' : List Rn) (home' : Home) (wires' : List (List Cells)) (journal' : Log)
-    → SliceKept s → ActsOn s action copies home result copies' home' wires' → journal' ≡ recorded s.journal (record_by action result)
-    → OnOk result (put_back s action copies' home' wires' journal' ≡ acted s action)
-after_call s action copies home (Ok effect) copies' home' wires' journal' k acts follows =
-    ap (put_back s action copies' home' wires') follows ∙ left_by_call s action copies home effect copies' home' wires' k acts
-after_call s action copies home (Err refusal) copies' home' wires' journal' k acts follows = acts.copies_after
+-- one whose numbers are refused is refused, whatever its line says
+pub out_refused : (terms : Terms) (s : SliceState) (action : Action) (refusal : Refusal) → Some refusal ≡ range_refusal s action → Some refusal ≡ refused_under terms s action
+out_refused terms s action refusal h = go (is_in_range s action) h
+  where
+    go : (b : Bool) → Some refusal ≡ (if b then None else Some OutOfRange) → Some refusal ≡ (if b then line_refusal (conditions_under terms s action) (line s action.line.0) action else Some OutOfRange)
+    go true h = absurd (cc (h))
+    go false h = h
 
-pub unchanged_call : (s : SliceState) (action : Action) (copies : List Rn) (home : Home) (result : Result Effect Refusal) (copies' : List Rn) (home' : Home) (wires' : List (List Cells)) (journal' : Log)
-    → ActsOn s action copies home result copies' home' wires' → journal' ≡ recorded s.journal (record_by action result)
-    → OnErr result (put_back s action copies' home' wires' journal' ≡ s)
-unchanged_call s action copies home (Ok effect) copies' home' wires' journal' acts follows = acts.copies_stay
-unchanged_call s action copies home (Err refusal) copies' home' wires' journal' acts follows =
-    ap (put_back s action copies' home' wires') follows ∙ stays_by_call s action copies home refusal copies' home' wires' acts
+-- an action that is in range, with its line out of its row, and what it has to know of the slice beside it
+pub record Ready (s : SliceState) (terms : Terms) (action : Action) (row : ℕ) (conditions : Conditions) (at : LineState) : Type 0 where
+  pub kept : SliceKept s
+  pub inside : is_in_range s action ≡ true
+  pub row_is : row ≡ row_of_line s action.line.0
+  pub conditions_is : conditions ≡ conditions_under terms s action
+  pub line_is : at ≡ line s action.line.0
 
-outcome_of : (s : SliceState) (action : Action) (copies : List Rn) (home : Home) (result : Result Effect Refusal) (copies' : List Rn) (home' : Home) (wires' : List (List Cells))
-    → SliceKept s → ActsOn s action copies home result copies' home' wires' → Outcome s s action (row_of_line s action.line.0) result copies' home' wires'
-outcome_of s action copies home result copies' home' wires' k acts =
-    let by : Called s action result = called s action copies home result copies' home' wires' k acts in
-    record {
-      room = room_by_call s action result k by;
-      kept = λ journal' follows. kept_by_call s action copies home result copies' home' wires' journal' k acts follows;
-      performed = λ journal' follows. record {
-        refusal = by.refusal;
-        effect = by.effect;
-        after = after_call s action copies home result copies' home' wires' journal' k acts follows;
-        err = unchanged_call s action copies home result copies' home' wires' journal' acts follows;
-        kept = k;
-      };
-    }
+-- what was looked up in the slice as it is now, and read out of its parts
+pub ready : {s : SliceState} {row : ℕ} {conditions : Conditions} {at : LineState} (now : SliceState) (terms : Terms) (action : Action) → SliceKept s → s ≡ now → None ≡ range_refusal now action → row ≡ row_of_line now action.line.0
+    → conditions ≡ conditions_under terms now action → at ≡ get_or s.lines row at → Ready s terms action row conditions at
+ready {s} {row} {conditions} {at} now terms action k same inside row_is conditions_is read =
+    subst (λ (v : SliceState). None ≡ range_refusal v action → row ≡ row_of_line v action.line.0 → conditions ≡ conditions_under terms v action → Ready s terms action row conditions at) same
+    (λ inside row_is conditions_is.
+    let here : is_in_range s action ≡ true = inside_of s action inside in
+    let low : row < length s.lines = omega (arith, (in_range s action k here).row, k.rows, row_is) in
+    record { kept = k; inside = here; row_is = row_is; conditions_is = conditions_is; line_is = get_or_read _ _ _ low read opening_line ∙ ap (line_at s) row_is })
+    inside row_is conditions_is
 
--- the call as it is made: with the row, its place and the conditions that were looked up
-pub record Call (s : SliceState) (action : Action) (row place : ℕ) (conditions : Conditions) (copies : List Rn) (home : Home) (result : Result Effect Refusal) (copies' : List Rn) (home' : Home) (wires' : List (List Cells)) : Type 0 where
-  pub at_copies : copies ≡ get_or s.requesters place copies
-  pub at_home : home ≡ get_or s.homes place home
-  pub refusal : refusal_of result ≡ line_refusal conditions (line_of_parts copies home s.wires row) action
-  pub effect : IfOk result (λ effect. effect ≡ effect_of (line_of_parts copies home s.wires row) action)
-  pub copies_after : OnOk result (copies' ≡ (after conditions.profile (line_of_parts copies home s.wires row) action).requesters)
-  pub home_after : OnOk result (home' ≡ (after conditions.profile (line_of_parts copies home s.wires row) action).home)
-  pub wires_after : OnOk result (wires' ≡ set s.wires row (after conditions.profile (line_of_parts copies home s.wires row) action).flits)
-  pub copies_stay : OnErr result (copies' ≡ copies)
-  pub home_stays : OnErr result (home' ≡ home)
-  pub wires_stay : OnErr result (wires' ≡ s.wires)
+-- the line keeps what a line keeps
+pub line_kept : {s : SliceState} {terms : Terms} {action : Action} {row : ℕ} {conditions : Conditions} {at : LineState} → Ready s terms action row conditions at → (last : List ℕ) × Kept last at
+line_kept {s} {terms} {action} r = (last_of s action.line.0, subst (Kept (last_of s action.line.0)) (sym r.line_is) (r.kept.lines action.line.0 (in_range s action r.kept r.inside).line))
 
--- what was looked up in the slice as it is now
-pub record LookedUp (now s : SliceState) (action : Action) (row place : ℕ) (conditions : Conditions) : Type 0 where
-  pub same : s ≡ now
-  pub inside : true ≡ is_in_range now action
-  pub row_is : row ≡ row_of_line now action.line.0
-  pub place_is : place ≡ row
-  pub conditions_is : conditions ≡ conditions_of now action
+-- what refuses the action on its line refuses it
+pub refused_here : {s : SliceState} {terms : Terms} {action : Action} {row : ℕ} {conditions : Conditions} {at : LineState} → Ready s terms action row conditions at → line_refusal conditions at action ≡ refused_under terms s action
+refused_here {s} {terms} {action} {row} {conditions} {at} r =
+    ap (λ (x : Conditions). line_refusal x at action) r.conditions_is
+    ∙ (ap (λ (l : LineState). line_refusal (conditions_under terms s action) l action) r.line_is
+    ∙ ap (λ (b : Bool). if b then line_refusal (conditions_under terms s action) (line s action.line.0) action else Some OutOfRange) (sym r.inside))
 
-pub acts_of : (s : SliceState) (action : Action) (copies : List Rn) (home : Home) (result : Result Effect Refusal) (copies' : List Rn) (home' : Home) (wires' : List (List Cells))
-    → is_in_range s action ≡ true → Call s action (row_of_line s action.line.0) (row_of_line s action.line.0) (conditions_of s action) copies home result copies' home' wires' → ActsOn s action copies home result copies' home' wires'
-acts_of s action copies home result copies' home' wires' inside call = record {
-  inside = inside;
-  at_copies = call.at_copies;
-  at_home = call.at_home;
-  refusal = call.refusal;
-  effect = call.effect;
-  copies_after = call.copies_after;
-  home_after = call.home_after;
-  wires_after = call.wires_after;
-  copies_stay = call.copies_stay;
-  home_stays = call.home_stays;
-  wires_stay = call.wires_stay;
-}
+pub refused_now : {now s : SliceState} {terms : Terms} {action : Action} {row : ℕ} {conditions : Conditions} {at : LineState} → s ≡ now → Ready s terms action row conditions at → line_refusal conditions at action ≡ refused_under terms now action
+refused_now {now} {s} {terms} {action} same r = refused_here r ∙ ap (λ (v : SliceState). refused_under terms v action) same
 
-abbrev Ends : SliceState → Action → List Rn → Home → Result Effect Refusal → List Rn → Home → List (List Cells) → SliceState → ℕ → ℕ → Conditions → Type 0
-Ends s action copies home result copies' home' wires' now row place conditions =
-    true ≡ is_in_range now action → Call s action row place conditions copies home result copies' home' wires' → Outcome now s action place result copies' home' wires'
+-- an action that its line doesn't refuse is allowed by the slice alone
+pub allowed_here : {s : SliceState} {terms : Terms} {action : Action} {row : ℕ} {conditions : Conditions} {at : LineState} → Ready s terms action row conditions at → None ≡ line_refusal conditions at action → Allowed s action
+allowed_here {s} {terms} {action} r may = allowed s action (allowed_alone terms s action (sym (may ∙ refused_here r)))
 
-pub outcome : (now s : SliceState) (action : Action) (row place : ℕ) (conditions : Conditions) (copies : List Rn) (home : Home) (result : Result Effect Refusal) (copies' : List Rn) (home' : Home) (wires' : List (List Cells))
-    → SliceKept s → LookedUp now s action row place conditions → Call s action row place conditions copies home result copies' home' wires' → Outcome now s action place result copies' home' wires'
-outcome now s action row place conditions copies home result copies' home' wires' k looked call =
-    let E : SliceState → ℕ → ℕ → Conditions → Type 0 = Ends s action copies home result copies' home' wires' in
-    let base : E s (row_of_line s action.line.0) (row_of_line s action.line.0) (conditions_of s action) =
-    λ inside call. outcome_of s action copies home result copies' home' wires' k (acts_of s action copies home result copies' home' wires' (sym inside) call) in
-    let moved : E now (row_of_line now action.line.0) (row_of_line now action.line.0) (conditions_of now action) =
-    subst (λ (v : SliceState). E v (row_of_line v action.line.0) (row_of_line v action.line.0) (conditions_of v action)) looked.same base in
-    subst (λ (p : ℕ). E now row p conditions) (sym looked.place_is)
-    (subst (λ (r : ℕ). E now r r conditions) (sym looked.row_is)
-    (subst (λ (x : Conditions). E now (row_of_line now action.line.0) (row_of_line now action.line.0) x) (sym looked.conditions_is) moved)) looked.inside call
+-- the record of its effect is that of the action
+entry_here : {s : SliceState} {terms : Terms} {action : Action} {row : ℕ} {conditions : Conditions} {at : LineState} (effect : Effect) → Ready s terms action row conditions at → effect ≡ effect_of at action → record_by action effect ≡ entry_of s action
+entry_here {s} {terms} {action} {row} {conditions} {at} effect r is = recorded_as at action effect is ∙ ap (λ (l : LineState). record_of l action) r.line_is
 
--- the row that was looked up is one of the slice's
-pub row_low : (now s : SliceState) (action : Action) (row count : ℕ) → SliceKept s → s ≡ now → true ≡ is_in_range now action → row ≡ row_of_line now action.line.0 → count ≡ row_count s.config s.index → row < count
-row_low now s action row count k same inside row_is count_is =
-    subst (λ (c : ℕ). row < c) (sym count_is)
-    (subst (λ (r : ℕ). r < row_count s.config s.index) (sym row_is)
-    (subst (λ (v : SliceState). true ≡ is_in_range v action → row_of_line v action.line.0 < row_count s.config s.index) same (λ (h : true ≡ is_in_range s action). (in_range s action k (sym h)).row) inside))
+-- the journal has room for it
+pub room_for : {s : SliceState} {terms : Terms} {action : Action} {row : ℕ} {conditions : Conditions} {at : LineState} {effect : Effect} → Ready s terms action row conditions at → None ≡ line_refusal conditions at action → effect ≡ effect_of at action
+    → CanAppend s.journal (record_by action effect)
+room_for {s} {terms} {action} {row} {conditions} {at} {effect} r may is = subst (CanAppend s.journal) (sym (entry_here effect r is)) (entry_fits s action r.kept (allowed_here r may)).1
 
-abbrev Starts : SliceState → Action → List Rn → Home → SliceState → ℕ → ℕ → Type 0
-Starts s action copies home now row place =
-    true ≡ is_in_range now action → copies ≡ get_or s.requesters place copies → home ≡ get_or s.homes place home → Kept (last_of s action.line.0) (line_of_parts copies home s.wires row)
+-- what the call on the line gives and leaves, where it isn't refused
+pub record Call (conditions : Conditions) (action : Action) (at at' : LineState) (effect : Effect) : Type 0 where
+  pub refusal : None ≡ line_refusal conditions at action
+  pub effect_is : effect ≡ effect_of at action
+  pub after_is : at' ≡ after conditions.profile at action
+  pub flits : KeepsFlits conditions.profile at action at'
 
--- what the call on a line's parts needs
-pub kept_parts : (now s : SliceState) (action : Action) (row place : ℕ) (conditions : Conditions) (copies : List Rn) (home : Home)
-    → SliceKept s → LookedUp now s action row place conditions → copies ≡ get_or s.requesters place copies → home ≡ get_or s.homes place home
-    → (last : List ℕ) × Kept last (line_of_parts copies home s.wires row)
-kept_parts now s action row place conditions copies home k looked at_copies at_home =
-    let S : SliceState → ℕ → ℕ → Type 0 = Starts s action copies home in
-    let base : S s (row_of_line s action.line.0) (row_of_line s action.line.0) = λ inside a h. parts_kept s action copies home k (sym inside) a h in
-    let moved : S now (row_of_line now action.line.0) (row_of_line now action.line.0) = subst (λ (v : SliceState). S v (row_of_line v action.line.0) (row_of_line v action.line.0)) looked.same base in
-    (last_of s action.line.0, subst (λ (p : ℕ). S now row p) (sym looked.place_is) (subst (λ (r : ℕ). S now r r) (sym looked.row_is) moved) looked.inside at_copies at_home)
+line_left : {s : SliceState} {terms : Terms} {action : Action} {row : ℕ} {conditions : Conditions} {at at' : LineState} → at' ≡ after conditions.profile at action → Ready s terms action row conditions at
+    → at' ≡ after s.config.profile (line s action.line.0) action
+line_left {s} {terms} {action} {row} {conditions} {at} is r = is ∙ (ap (λ (x : Conditions). after x.profile at action) r.conditions_is ∙ ap (λ (l : LineState). after s.config.profile l action) r.line_is)
+
+-- the line that it leaves, with the journal and its record, are what the action leaves
+pub changed : {s : SliceState} {terms : Terms} {action : Action} {row : ℕ} {conditions : Conditions} {at at' : LineState} {effect : Effect} (journal' : Log) → Ready s terms action row conditions at
+    → Call conditions action at at' effect → journal' ≡ recorded s.journal (record_by action effect) → record s { lines = set s.lines row at'; journal = journal' } ≡ acted s action
+changed {s} {terms} {action} {row} {conditions} {at} {at'} {effect} journal' r call noted =
+    ap (λ (n : ℕ). record s { lines = set s.lines n at'; journal = journal' }) r.row_is
+    ∙ (ap (λ (l : LineState). record s { lines = set s.lines (row_of_line s action.line.0) l; journal = journal' }) (line_left call.after_is r)
+    ∙ ap (λ (log : Log). record s { lines = set s.lines (row_of_line s action.line.0) (after s.config.profile (line s action.line.0) action); journal = log }) (noted ∙ ap (recorded s.journal) (entry_here effect r call.effect_is)))
+
+-- no flit is lost or made
+pub balanced : {s : SliceState} {terms : Terms} {action : Action} {row : ℕ} {conditions : Conditions} {at at' : LineState} {effect : Effect} → Ready s terms action row conditions at → Call conditions action at at' effect → IsBalanced s action (acted s action)
+balanced {s} {terms} {action} {row} {conditions} {at} {at'} r call =
+    let left : LineState = after s.config.profile (line s action.line.0) action in
+    let there : at' ≡ line (acted s action) action.line.0 =
+    line_left call.after_is r ∙ sym (line_at-with_line s (row_of_line s action.line.0) left (in_range s action r.kept r.inside).row r.kept) in
+    subst (λ (x : Conditions). KeepsFlits x.profile (line s action.line.0) action (line (acted s action) action.line.0)) r.conditions_is
+    (subst (λ (l : LineState). KeepsFlits conditions.profile l action (line (acted s action) action.line.0)) r.line_is
+    (subst (KeepsFlits conditions.profile at action) there call.flits))
 
 -- what an action would complete: only the steps that complete something have an effect with a slot
 no_slot : (refusal : Option Refusal) → slot_unless refusal Nothing ≡ None
@@ -405,28 +309,8 @@ completed_here c s agent steps.RecvAck = refl
 completed_here c s agent steps.RecvDbid = no_slot (step_refusal c s agent steps.RecvDbid)
 completed_here c s agent steps.RecvWrData = refl
 
-completes_at : (s : SliceState) (action : Action) (home : Home) → SliceKept s → is_in_range s action ≡ true → home ≡ get_or s.homes (row_of_line s action.line.0) home
-    → completed_at home (flits_at s.wires (row_of_line s action.line.0) action.agent.0) action.agent action.step ≡ completes s action
-completes_at s action home k inside at_home =
-    let h : row_of_line s action.line.0 < length s.homes = subst (λ (n : ℕ). row_of_line s action.line.0 < n) (sym k.homes) (in_range s action k inside).row in
-    ap (λ (x : Home). completed_at x (flits_at s.wires (row_of_line s action.line.0) action.agent.0) action.agent action.step) (get_or_read _ _ _ h at_home idle_home)
-    ∙ (sym (completed_here (conditions_of s action) (line s action.line.0) action.agent action.step)
-    ∙ ap (λ (b : Bool). slot_unless (if b then line_refusal (conditions_of s action) (line s action.line.0) action else Some OutOfRange) (effect_of (line s action.line.0) action)) (sym inside))
-
-abbrev Reads : SliceState → Action → Home → SliceState → ℕ → ℕ → Type 0
-Reads s action home now row place =
-    true ≡ is_in_range now action → home ≡ get_or s.homes place home → completed_at home (flits_at s.wires row action.agent.0) action.agent action.step ≡ completes now action
-
--- an action that is out of range completes nothing
-pub out_completes : (s : SliceState) (action : Action) → false ≡ is_in_range s action → None ≡ completes s action
-out_completes s action out =
-    ap (λ (b : Bool). slot_unless (if b then line_refusal (conditions_of s action) (line s action.line.0) action else Some OutOfRange) (effect_of (line s action.line.0) action)) out
-
--- what was looked up and read out of a row says what an action would complete
-pub completes_read : (now s : SliceState) (action : Action) (row place : ℕ) (home : Home) → SliceKept s → s ≡ now → true ≡ is_in_range now action → row ≡ row_of_line now action.line.0 → place ≡ row
-    → home ≡ get_or s.homes place home → completed_at home (flits_at s.wires row action.agent.0) action.agent action.step ≡ completes now action
-completes_read now s action row place home k same inside row_is place_is at_home =
-    let R : SliceState → ℕ → ℕ → Type 0 = Reads s action home in
-    let base : R s (row_of_line s action.line.0) (row_of_line s action.line.0) = λ inside h. completes_at s action home k (sym inside) h in
-    let moved : R now (row_of_line now action.line.0) (row_of_line now action.line.0) = subst (λ (v : SliceState). R v (row_of_line v action.line.0) (row_of_line v action.line.0)) same base in
-    subst (λ (p : ℕ). R now row p) (sym place_is) (subst (λ (r : ℕ). R now r r) (sym row_is) moved) inside at_home
+-- the line's slot is the slice's
+pub completes_at : (s : SliceState) (action : Action) → is_in_range s action ≡ true → completed_at (line s action.line.0).home (cells_of (line s action.line.0) action.agent.0) action.agent action.step ≡ completes s action
+completes_at s action inside =
+    sym (completed_here (conditions_of s action) (line s action.line.0) action.agent action.step)
+    ∙ ap (λ (b : Bool). slot_unless (if b then line_refusal (conditions_of s action) (line s action.line.0) action else Some OutOfRange) (effect_of (line s action.line.0) action)) (sym inside)

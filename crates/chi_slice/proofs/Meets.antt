@@ -1,9 +1,9 @@
 -- A walk that tests one element of a list after the other.
-use Rattle.std.proofs.Common.{◌≡◌, ◌↔◌, ℕ, ◌+◌, ◌<◌, ◌≤◌, List, [], ◌∷◌, ◌++◌, Bool, true, false, ◌&&◌, All, get_or, take, length, refl, sym, subst, arith, length-append}
+use Rattle.std.proofs.Common.{◌≡◌, ◌↔◌, ℕ, ◌+◌, ◌<◌, ◌≤◌, List, [], ◌∷◌, ◌++◌, Bool, ◌&&◌, All, get_or, take, length, refl, sym, subst, arith, length-append}
 use Rattle.std.specs.Prelude.{IsTrue}
 use Rattle.std.proofs.lemmas.Bool.{and_from, and_parts}
 use Rattle.std.proofs.lemmas.List.{get_or_append_left, get_or_push, take_all, take_more}
-use Rattle.std.proofs.lemmas.List.Elements.{All-nil, All-push}
+use Rattle.std.proofs.lemmas.List.Elements.{All-push}
 
 -- all of a list and one more
 pub all_parts : {X : Type 0} (P : X → Type 0) (xs : List X) (x : X) → All P (xs ++ x ∷ []) → All P xs × P x
@@ -12,9 +12,6 @@ all_parts P xs x all = (λ k d low. subst P (get_or_append_left xs (x ∷ []) d 
 -- whether the first n elements meet a condition
 abbrev pub MeetBelow : {X : Type 0} → (X → Type 0) → List X → ℕ → Bool → Type 0
 MeetBelow P xs n found = IsTrue found ↔ All P (take n xs)
-
-pub none_meet : {X : Type 0} (P : X → Type 0) (xs : List X) → MeetBelow P xs 0 true
-none_meet P xs = (λ t. All-nil P, λ all. refl)
 
 pub next_meets : {X : Type 0} (P : X → Type 0) (xs : List X) (n : ℕ) (x : X) (found here : Bool) → MeetBelow P xs n found → n < length xs → x ≡ get_or xs n x → IsTrue here ↔ P x → MeetBelow P xs (n + 1) (found && here)
 next_meets P xs n x found here so_far low is verdict =

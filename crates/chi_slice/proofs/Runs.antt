@@ -7,9 +7,8 @@ use Rattle.chi_flit.specs.declared.action.Action.{Action}
 use Rattle.chi_flit.specs.declared.action.Effect.{Effect}
 use Rattle.chi_flit.specs.declared.refusal.Refusal.{Refusal}
 use Rattle.chi_flit.specs.Refusal.{refusal_of}
-use Rattle.chi_line.specs.Step.{effect_of, record_of}
-use Rattle.chi_line.specs.LineStep.{LineStep}
-use Rattle.chi_slice.specs.Slice.{SliceState, OtherLinesStay, acted, done_if, line, recorded, refused, run_after, run_done, tried, tried_as}
+use Rattle.chi_line.specs.Step.{effect_of}
+use Rattle.chi_slice.specs.Slice.{IsBalanced, IsStep, OtherLinesStay, SliceState, acted, done_if, entry_of, line, recorded, refused, run_after, run_done, tried, tried_as}
 use Rattle.chi_slice.specs.Run.{IsDone, IsRun, IsTried}
 
 -- after the first i actions the slice is s, and done of them were done
@@ -25,8 +24,9 @@ runs_start s actions = record { after = refl; count = omega arith; few = omega a
 -- what a call of act says of an action that was tried
 pub record Answered (s s' : SliceState) (action : Action) (result : Result Effect Refusal) : Type 0 where
   pub refusal : refusal_of result ≡ refused s action
-  pub step : IfOk result (λ effect. LineStep s.config.profile (line s action.line.0) action effect (record_of (line s action.line.0) action) (line s' action.line.0))
-  pub journal : OnOk result (s'.journal ≡ recorded s.journal (record_of (line s action.line.0) action))
+  pub step : IfOk result (λ effect. IsStep s action effect s')
+  pub journal : OnOk result (s'.journal ≡ recorded s.journal (entry_of s action))
+  pub flits : OnOk result (IsBalanced s action s')
   pub others : OnOk result (OtherLinesStay s s' action.line.0)
   pub effect : IfOk result (λ effect. effect ≡ effect_of (line s action.line.0) action)
   pub after : OnOk result (s' ≡ acted s action)
@@ -35,9 +35,8 @@ pub record Answered (s s' : SliceState) (action : Action) (result : Result Effec
 -- so it is a step of a run
 step_of_run : (s s' : SliceState) (action : Action) (result : Result Effect Refusal) → Answered s s' action result → IsTried (refused s action) s action s'
 step_of_run s s' action (Ok effect) by =
-    let step : LineStep s.config.profile (line s action.line.0) action (effect_of (line s action.line.0) action) (record_of (line s action.line.0) action) (line s' action.line.0) =
-    subst (λ (e : Effect). LineStep s.config.profile (line s action.line.0) action e (record_of (line s action.line.0) action) (line s' action.line.0)) by.effect by.step in
-    let done : IsDone s action s' = record { step = step; journal = by.journal; others = by.others; config = ap (λ (v : SliceState). v.config) by.after; index = ap (λ (v : SliceState). v.index) by.after } in
+    let step : IsStep s action (effect_of (line s action.line.0) action) s' = subst (λ (e : Effect). IsStep s action e s') by.effect by.step in
+    let done : IsDone s action s' = record { step = step; flits = by.flits; journal = by.journal; others = by.others; config = ap (λ (v : SliceState). v.config) by.after; index = ap (λ (v : SliceState). v.index) by.after } in
     subst (λ (r : Option Refusal). IsTried r s action s') by.refusal done
 step_of_run s s' action (Err refusal) by = subst (λ (r : Option Refusal). IsTried r s action s') by.refusal by.err
 
@@ -83,7 +82,7 @@ runs_end old s actions done i high on =
     let count : run_done s (drop i actions) ≡ 0 = ap (run_done s) none in
     (sym ran ∙ on.after, omega (arith, count, on.count), on.leads s (subst (λ (rows : List Action). IsRun s rows s) (sym none) refl))
 
-tried_keeps : (refusal : Option Refusal) (old : SliceState) (action : Action) (new : SliceState) → IsTried refusal old action new → (new.config ≡ old.config) × (new.index ≡ old.index)
+pub tried_keeps : (refusal : Option Refusal) (old : SliceState) (action : Action) (new : SliceState) → IsTried refusal old action new → (new.config ≡ old.config) × (new.index ≡ old.index)
 tried_keeps None old action new done = (done.config, done.index)
 tried_keeps (Some refusal) old action new same = (ap (λ (v : SliceState). v.config) same, ap (λ (v : SliceState). v.index) same)
 

@@ -1,13 +1,9 @@
 -- What a slice keeps: in the opening state, and where one line of it is replaced.
-use Rattle.std.proofs.Common.{◌≡◌, ◌≢◌, ℕ, ◌/◌, ◌<◌, List, [], Bool, true, false, ◌==◌, Option, Some, None, refl, sym, ◌∙◌, ap, subst, length, replicate, arith, get_or-set_same, get_or-set_other}
+use Rattle.std.proofs.Common.{◌≡◌, ◌≢◌, ℕ, ◌/◌, ◌<◌, List, Bool, true, false, ◌==◌, Option, Some, None, refl, sym, ◌∙◌, subst, replicate, arith, get_or-set_same, get_or-set_other}
 use Rattle.std.proofs.lemmas.List.{get_or-replicate}
 use Rattle.std.proofs.Math.ListN.{length-set, length-replicate}
 use Rattle.std.proofs.lemmas.Bool.{eqb-true, eqb-false}
 use Rattle.chi_flit.specs.Message.{no_words}
-use Rattle.chi_wires.specs.declared.cells.Cells.{Cells}
-use Rattle.chi_wires.specs.Cell.{no_flits}
-use Rattle.chi_rnline.specs.Rn.{Rn, no_line}
-use Rattle.chi_homeline.specs.Home.{Home, idle_home}
 use Rattle.chi_slice.specs.Config.{Sizes, are_in_limits}
 use Rattle.chi_line.specs.LineState.{LineState, opening_line}
 use Rattle.chi_line.specs.Kept.{Kept}
@@ -16,62 +12,54 @@ use Rattle.chi_journal.specs.declared.record.Record.TheVariants.{Load, Store}
 use Rattle.chi_journal.specs.Record.{record_line}
 use Rattle.chi_journal.specs.Journal.{IsLegal, IsLegalAfter, Log, last_words, opening_log, words_after}
 use Rattle.chi_journal.proofs.Append.{last_words_with, legal_with}
-use Rattle.chi_slice.specs.Slice.{SliceState, SliceKept, is_line_in_range, last_of, line, line_at, recorded, row_count, row_of_line, with_line}
+use Rattle.chi_slice.specs.Slice.{SliceKept, SliceState, is_line_in_range, last_of, line, line_at, opening_slice, recorded, row_count, row_of_line, slice_of, with_line}
 use Rattle.chi_line.proofs.After.{last_with}
 use Rattle.chi_line.proofs.Opening.{opening_kept}
 use Rattle.chi_slice.proofs.Rows.{row_in_range, rows_apart}
 
-abbrev pub made : List Rn → Home → List Cells → LineState
-made r h f = record { requesters = r; home = h; flits = f }
+-- each line of an opening slice is in the opening state
+pub opening_row : (config : Sizes) (index row : ℕ) → row < row_count config index → line_at (opening_slice config index) row ≡ opening_line
+opening_row config index row low = get_or-replicate (row_count config index) row opening_line opening_line low
 
--- lines of equal parts are equal
-pub same_line : (r r' : List Rn) (h h' : Home) (f f' : List Cells) → r ≡ r' → h ≡ h' → f ≡ f' → made r h f ≡ made r' h' f'
-same_line r r' h h' f f' rs hs fs = ap (λ (x : List Rn). made x h f) rs ∙ (ap (λ (x : Home). made r' x f) hs ∙ ap (λ (x : List Cells). made r' h' x) fs)
+pub opening_at : (config : Sizes) (index l : ℕ) → are_in_limits config ≡ true → index < config.slices → is_line_in_range (opening_slice config index) l ≡ true → line (opening_slice config index) l ≡ opening_line
+opening_at config index l limits inside here = opening_row config index (l / config.slices) (row_in_range (opening_slice config index) l limits inside here)
 
-opening_row : (rows row : ℕ) (config : Sizes) (index : ℕ) → row < rows → line_at (record { config = config; index = index; requesters = replicate rows (replicate 8 no_line); homes = replicate rows idle_home; wires = replicate rows (replicate 8 no_flits); journal = opening_log config.lines config.journal }) row ≡ opening_line
-opening_row rows row config index low =
-    same_line _ _ _ _ _ _ (get_or-replicate rows row (replicate 8 no_line) [] low) (get_or-replicate rows row idle_home idle_home low) (get_or-replicate rows row (replicate 8 no_flits) [] low)
-
-abbrev opened : Sizes → ℕ → SliceState
-opened config index = record { config = config; index = index; requesters = replicate (row_count config index) (replicate 8 no_line); homes = replicate (row_count config index) idle_home; wires = replicate (row_count config index) (replicate 8 no_flits); journal = opening_log config.lines config.journal }
-
-opening_of : (config : Sizes) (index : ℕ) → are_in_limits config ≡ true → index < config.slices → SliceKept (record { config = config; index = index; requesters = replicate (row_count config index) (replicate 8 no_line); homes = replicate (row_count config index) idle_home; wires = replicate (row_count config index) (replicate 8 no_flits); journal = opening_log config.lines config.journal })
+opening_of : (config : Sizes) (index : ℕ) → are_in_limits config ≡ true → index < config.slices → SliceKept (opening_slice config index)
 opening_of config index limits inside = record {
   config = limits;
   index = inside;
-  requesters = length-replicate _ _;
-  homes = length-replicate _ _;
-  wires = length-replicate _ _;
-  lines = λ l here. subst (Kept no_words) (sym (opening_row (row_count config index) (l / config.slices) config index (row_in_range (opened config index) l limits inside here))) opening_kept;
+  rows = length-replicate _ _;
+  lines = λ l here. subst (Kept no_words) (sym (opening_at config index l limits inside here)) opening_kept;
   journal_lines = refl;
   journal_limit = refl;
   legal = tt;
 }
 
 -- the opening state of a slice
-pub opening_slice_kept : (config : Sizes) (index : ℕ) (requesters : List (List Rn)) (homes : List Home) (wires : List (List Cells)) (journal : Log) → are_in_limits config ≡ true → index < config.slices
-    → requesters ≡ replicate (row_count config index) (replicate 8 no_line) → homes ≡ replicate (row_count config index) idle_home → wires ≡ replicate (row_count config index) (replicate 8 no_flits)
-    → journal ≡ opening_log config.lines config.journal
-    → SliceKept (record { config = config; index = index; requesters = requesters; homes = homes; wires = wires; journal = journal })
-opening_slice_kept config index requesters homes wires journal limits inside r h w j =
-    subst (λ (rs : List (List Rn)). SliceKept (record { config = config; index = index; requesters = rs; homes = homes; wires = wires; journal = journal })) (sym r)
-    (subst (λ (hs : List Home). SliceKept (record (opened config index) { homes = hs; wires = wires; journal = journal })) (sym h)
-    (subst (λ (ws : List (List Cells)). SliceKept (record (opened config index) { wires = ws; journal = journal })) (sym w)
-    (subst (λ (log : Log). SliceKept (record (opened config index) { journal = log })) (sym j)
-    (opening_of config index limits inside))))
+pub opening_slice_kept : (config : Sizes) (index : ℕ) (lines : List LineState) (journal : Log) → are_in_limits config ≡ true → index < config.slices
+    → lines ≡ replicate (row_count config index) opening_line → journal ≡ opening_log config.lines config.journal → SliceKept (slice_of config index lines journal)
+opening_slice_kept config index lines journal limits inside ls j =
+    subst (λ (xs : List LineState). SliceKept (slice_of config index xs journal)) (sym ls)
+    (subst (λ (log : Log). SliceKept (record (opening_slice config index) { journal = log })) (sym j) (opening_of config index limits inside))
 
 -- the line that was put into a row
 pub line_at-with_line : (s : SliceState) (row : ℕ) (new : LineState) → row < row_count s.config s.index → SliceKept s → line_at (with_line s row new) row ≡ new
-line_at-with_line s row new low k =
-    let r : row < length s.requesters = subst (λ (n : ℕ). row < n) (sym k.requesters) low in
-    let h : row < length s.homes = subst (λ (n : ℕ). row < n) (sym k.homes) low in
-    let w : row < length s.wires = subst (λ (n : ℕ). row < n) (sym k.wires) low in
-    same_line _ _ _ _ _ _ (get_or-set_same s.requesters row new.requesters [] r) (get_or-set_same s.homes row new.home idle_home h) (get_or-set_same s.wires row new.flits [] w)
+line_at-with_line s row new low k = get_or-set_same s.lines row new opening_line (subst (λ (n : ℕ). row < n) (sym k.rows) low)
 
 -- the other lines
 pub line_at-with_other : (s : SliceState) (row other : ℕ) (new : LineState) → other ≢ row → line_at (with_line s row new) other ≡ line_at s other
-line_at-with_other s row other new apart =
-    same_line _ _ _ _ _ _ (get_or-set_other s.requesters row other new.requesters [] apart) (get_or-set_other s.homes row other new.home idle_home apart) (get_or-set_other s.wires row other new.flits [] apart)
+line_at-with_other s row other new apart = get_or-set_other s.lines row other new opening_line apart
+
+-- what holds of the line that was put, and of the others as they were, holds of all lines
+pub all_with : (s : SliceState) (l : ℕ) (new : LineState) (P : ℕ → LineState → Type 0) → SliceKept s → is_line_in_range s l ≡ true → P l new → ((other : ℕ) → is_line_in_range s other ≡ true → other ≢ l → P other (line s other))
+    → (other : ℕ) → is_line_in_range s other ≡ true → P other (line (with_line s (row_of_line s l) new) other)
+all_with s l new P k here put stay other there = go (other == l) refl
+  where
+    go : (b : Bool) → (other == l) ≡ b → P other (line (with_line s (row_of_line s l) new) other)
+    go true same = subst (λ (m : ℕ). P m (line (with_line s (row_of_line s l) new) m)) (sym (eqb-true other l same)) (subst (P l) (sym (line_at-with_line s (row_of_line s l) new (row_in_range s l k.config k.index here) k)) put)
+    go false other_line =
+        let apart : other ≢ l = eqb-false other l other_line in
+        subst (P other) (sym (line_at-with_other s (row_of_line s l) (row_of_line s other) new (rows_apart s l other k here there apart))) (stay other there apart)
 
 -- a record of another line leaves the values last stored to a line
 words_elsewhere : (l : ℕ) (words : List ℕ) (entry : Record) → ((record_line entry).0 == l) ≡ false → words_after l words entry ≡ words
@@ -115,25 +103,11 @@ pub kept_with_entry : (s : SliceState) (l : ℕ) (new : LineState) (entry : Opti
 kept_with_entry s l new entry here k kept fits = record {
   config = k.config;
   index = k.index;
-  requesters = simp length-set k.requesters;
-  homes = simp length-set k.homes;
-  wires = simp length-set k.wires;
-  lines = λ other inside. go (other == l) other refl inside;
+  rows = simp length-set k.rows;
+  lines = all_with s l new (λ other x. Kept (last_of (with_entry s l new entry) other) x) k here
+      (subst (λ (words : List ℕ). Kept words new) (sym (last_recorded s.journal entry l)) kept)
+      (λ other there apart. subst (λ (words : List ℕ). Kept words (line s other)) (sym (last_elsewhere s.journal entry l other fits apart)) (k.lines other there));
   journal_lines = lines_recorded s.journal entry ∙ k.journal_lines;
   journal_limit = limit_recorded s.journal entry ∙ k.journal_limit;
   legal = legal_recorded s.journal entry l fits k.legal;
 }
-  where
-    row_low : row_of_line s l < row_count s.config s.index
-    row_low = row_in_range s l k.config k.index here
-
-    at_line : Kept (last_of (with_entry s l new entry) l) (line (with_entry s l new entry) l)
-    at_line =
-        subst (λ (words : List ℕ). Kept words (line (with_entry s l new entry) l)) (sym (last_recorded s.journal entry l))
-        (subst (Kept (last_with l (last_of s l) entry)) (sym (line_at-with_line s (row_of_line s l) new row_low k)) kept)
-
-    go : (b : Bool) → (other : ℕ) → (other == l) ≡ b → is_line_in_range s other ≡ true → Kept (last_of (with_entry s l new entry) other) (line (with_entry s l new entry) other)
-    go true other same inside = subst (λ (n : ℕ). Kept (last_of (with_entry s l new entry) n) (line (with_entry s l new entry) n)) (sym (eqb-true other l same)) at_line
-    go false other apart inside =
-        subst (λ (words : List ℕ). Kept words (line (with_entry s l new entry) other)) (sym (last_elsewhere s.journal entry l other fits (eqb-false other l apart)))
-        (subst (Kept (last_of s other)) (sym (line_at-with_other s (row_of_line s l) (row_of_line s other) new (rows_apart s l other k here inside (eqb-false other l apart)))) (k.lines other inside))

@@ -1,5 +1,5 @@
 -- No slot of a number above 7 is in use: in the opening state, and after every action that isn't refused.
-use Rattle.std.proofs.Common.{◌≡◌, ◌≢◌, ℕ, ◌<◌, ◌≤◌, true, false, None, ◌==◌, nat_lt, refl, sym, ◌∙◌, ap, subst, arith, ⊎_elim}
+use Rattle.std.proofs.Common.{◌≡◌, ◌≢◌, ℕ, ◌<◌, ◌≤◌, true, false, None, ◌==◌, nat_lt, refl, sym, subst, arith, ⊎_elim}
 use Rattle.std.proofs.lemmas.List.{get_or-replicate}
 use Rattle.std.proofs.lemmas.Bool.{cases_eq}
 use Rattle.chi_flit.specs.declared.numbers.Slot.{Slot}
@@ -11,13 +11,13 @@ use Rattle.chi_line.specs.LineState.{LineState, opening_line}
 use Rattle.chi_line.specs.Kept.{Kept}
 use Rattle.chi_line.specs.Step.{after, is_slot, is_step_in_range, line_uses, issued_slot}
 use Rattle.chi_line.specs.Refused.{step_refusal}
-use Rattle.chi_slice.specs.Slice.{SliceState, SliceKept, acted, conditions_of, last_of, line, row_of_line}
+use Rattle.chi_slice.specs.Slice.{SliceState, SliceKept, acted, conditions_of, last_of, line}
 use Rattle.chi_slice.specs.Index.{SlotsInRange}
 use Rattle.chi_slice.proofs.Acts.{Allowed}
 use Rattle.chi_line.proofs.Elsewhere.{Stays, stays_elsewhere}
 use Rattle.chi_line.proofs.Frame.{nothing_waiting}
-use Rattle.chi_slice.proofs.Rows.{InRange, in_range, rows_apart}
-use Rattle.chi_slice.proofs.Slices.{line_at-with_line, line_at-with_other}
+use Rattle.chi_slice.proofs.Rows.{InRange, in_range}
+use Rattle.chi_slice.proofs.Slices.{all_with}
 use Rattle.chi_line.proofs.Untouched.{unused_stays}
 
 pub opening_unused : (n : ℕ) (slot : Slot) → n < 8 → line_uses opening_line n slot ≡ false
@@ -66,19 +66,11 @@ unused_after s action m slot inside k may low high unused = ⊎_elim
     (λ (apart : m ≢ action.agent.0). stays_unused (line_before s action) (line_after s action) m slot (stays_elsewhere (conditions_of s action) (last_of s action.line.0) (line_before s action) action.agent action.step m inside.agent low apart may k) unused)
     (cases_eq m action.agent.0)
 
-abbrev Unused : SliceState → ℕ → Slot → ℕ → Type 0
-Unused s m slot l = line_uses (line s l) m slot ≡ false
-
 pub slots_acted : (s : SliceState) (action : Action) → SliceKept s → SlotsInRange s → Allowed s action → SlotsInRange (acted s action)
 slots_acted s action k numbers may =
     let inside : InRange s action = in_range s action k may.inside in
     record {
-      unused = λ m slot l low high there. ⊎_elim
-          (λ (here : l ≡ action.line.0). subst (λ (x : ℕ). Unused (acted s action) m slot x) (sym here)
-          (ap (λ (x : LineState). line_uses x m slot) (line_at-with_line s (row_of_line s action.line.0) (line_after s action) inside.row k)
-          ∙ unused_after s action m slot inside (k.lines action.line.0 inside.line) may.by_line low high (numbers.unused m slot action.line.0 low high inside.line)))
-          (λ (other : l ≢ action.line.0).
-          ap (λ (x : LineState). line_uses x m slot) (line_at-with_other s (row_of_line s action.line.0) (row_of_line s l) (line_after s action) (rows_apart s action.line.0 l k inside.line there other))
-          ∙ numbers.unused m slot l low high there)
-          (cases_eq l action.line.0);
+      unused = λ m slot l low high there. all_with s action.line.0 (line_after s action) (λ l x. line_uses x m slot ≡ false) k inside.line
+          (unused_after s action m slot inside (k.lines action.line.0 inside.line) may.by_line low high (numbers.unused m slot action.line.0 low high inside.line))
+          (λ other here apart. numbers.unused m slot other low high here) l there;
     }

@@ -1,5 +1,5 @@
 -- The credit type of a slot: only the line of its place keeps a kind of its request.
-use Rattle.std.proofs.Common.{◌≡◌, ℕ, ◌<◌, Bool, true, false, ◌&&◌, ◌==◌, nat_lt, List, Option, Some, None, refl, sym, ◌∙◌, ap, subst, if◌then◌else◌}
+use Rattle.std.proofs.Common.{◌≡◌, ℕ, ◌<◌, Bool, true, false, ◌&&◌, ◌==◌, List, Option, Some, None, refl, sym, ◌∙◌, ap, subst, if◌then◌else◌}
 use Rattle.std.proofs.lemmas.Bool.{eqb-true}
 use Rattle.chi_flit.specs.declared.numbers.Slot.{Slot}
 use Rattle.chi_flit.specs.declared.kind.Kind.{Kind}
@@ -15,11 +15,11 @@ use Rattle.chi_slice.specs.declared.places.Place.{Place}
 use Rattle.chi_line.specs.LineState.{LineState, rn_of, cells_of}
 use Rattle.chi_line.specs.Kept.{Kept, LaneKept, lane}
 use Rattle.chi_line.specs.Step.{is_slot, pending_slot, slot_served_for, waiting_slot}
-use Rattle.chi_slice.specs.Slice.{SliceState, SliceKept, is_line_in_range, last_of, line}
-use Rattle.chi_slice.specs.Index.{at_line, is_slot_of, typed_at}
+use Rattle.chi_slice.specs.Slice.{SliceState, SliceKept, last_of, line}
+use Rattle.chi_slice.specs.Index.{HasType, IsInside, IsShown, is_slot_of, typed_at}
 use Rattle.chi_line.specs.Places.{where_at}
 use Rattle.chi_line.specs.Types.{has_type, is_of_type, pending_kind_of, requested_kind_of, served_kind_of, waiting_kind_of}
-use Rattle.chi_slice.proofs.Rows.{both, is_low}
+use Rattle.chi_slice.proofs.Indexes.{IsSlotOf, is_slot_number}
 use Rattle.chi_line.proofs.Untouched.{Free, is_free}
 use Rattle.chi_line.proofs.Wheres.{shows_unused}
 
@@ -62,13 +62,7 @@ unused_type profile ty last s n slot low k none =
     (unserved profile ty s.home.serving n slot free.served)
 
 -- the type at the place is the type at every line
-abbrev pub ShowsPlace : SliceState → ℕ → Slot → Option Place → Type 0
-ShowsPlace s n slot place = (l : ℕ) → is_line_in_range s l ≡ true → where_at (line s l) n slot ≡ at_line place l
-
-abbrev pub HasType : SliceState → CreditType → ℕ → Slot → Type 0
-HasType s ty n slot = (l : ℕ) → is_line_in_range s l ≡ true → is_of_type s.config.profile ty (line s l) n slot ≡ true
-
-pub types_of : (s : SliceState) (ty : CreditType) (n : ℕ) (slot : Slot) (place : Option Place) → SliceKept s → n < 8 → ShowsPlace s n slot place → typed_at s ty n slot place ≡ true → HasType s ty n slot
+pub types_of : (s : SliceState) (ty : CreditType) (n : ℕ) (slot : Slot) (place : Option Place) → SliceKept s → n < 8 → IsShown s n slot place → typed_at s ty n slot place ≡ true → HasType s ty n slot
 types_of s ty n slot None k low shows typed l here = unused_type s.config.profile ty (last_of s l) (line s l) n slot low (k.lines l here) (shows l here)
 types_of s ty n slot (Some place) k low shows typed l here = go (place.line.0 == l) refl
   where
@@ -78,25 +72,16 @@ types_of s ty n slot (Some place) k low shows typed l here = go (place.line.0 ==
     go false other =
         unused_type s.config.profile ty (last_of s l) (line s l) n slot low (k.lines l here) (shows l here ∙ ap (λ (b : Bool). if b then Some place.at else None) other)
 
-pub types_at : (s : SliceState) (ty : CreditType) (n : ℕ) (slot : Slot) (place : Option Place) → ((there : Place) → place ≡ Some there → is_line_in_range s there.line.0 ≡ true) → HasType s ty n slot → typed_at s ty n slot place ≡ true
-types_at s ty n slot None inside types = refl
-types_at s ty n slot (Some place) inside types = types place.line.0 (inside place refl)
-
 -- a slot with a place is one of the eight
-pub record IsSlotOf (n : ℕ) (slot : Slot) : Type 0 where
-  pub agent : n < 8
-  pub number : slot.0 < 8
-
 pub slot_inside : (n : ℕ) (slot : Slot) (o : Option Place) (there : Place) → (is_slot_of n slot ≡ false → o ≡ None) → o ≡ Some there → IsSlotOf n slot
 slot_inside n slot o there outside some = go (is_slot_of n slot) refl
   where
     go : (b : Bool) → is_slot_of n slot ≡ b → IsSlotOf n slot
-    go true inside = let parts = both (nat_lt n 8) (nat_lt slot.0 8) inside in record { agent = is_low n 8 parts.0; number = is_low slot.0 8 parts.1 }
+    go true inside = is_slot_number n slot inside
     go false other = absurd (cc (outside other, some))
 
 -- a slot has the type at its place where it has it at every line, or has no place
-pub typed_if : (s : SliceState) (ty : CreditType) (n : ℕ) (slot : Slot) (place : Option Place) (typed : Bool) → typed ≡ typed_at s ty n slot place → ((there : Place) → place ≡ Some there → is_line_in_range s there.line.0 ≡ true)
-    → ((l : ℕ) → is_line_in_range s l ≡ true → is_of_type s.config.profile ty (line s l) n slot ≡ true) → typed ≡ true
+pub typed_if : (s : SliceState) (ty : CreditType) (n : ℕ) (slot : Slot) (place : Option Place) (typed : Bool) → typed ≡ typed_at s ty n slot place → IsInside s place → HasType s ty n slot → typed ≡ true
 typed_if s ty n slot None typed is here all = is
 typed_if s ty n slot (Some there) typed is here all = is ∙ all there.line.0 (here there refl)
 

@@ -11,11 +11,16 @@ pub record Sizes : Type 0 where
   pub journal : ℕ
   pub profile : Profile
 
+-- the sizes of these numbers
+abbrev pub sizes_of : ℕ → ℕ → ℕ → List ℕ → ℕ → Profile → Sizes
+sizes_of agents lines slices entries journal profile =
+    record { agents = agents; lines = lines; slices = slices; entries = entries; journal = journal; profile = profile }
+
 abbrev pub two_types : ℕ → ℕ → ℕ → ℕ → ℕ → ℕ → Sizes
-two_types agents lines slices t0 t1 journal = record { agents = agents; lines = lines; slices = slices; entries = t0 ∷ t1 ∷ 0 ∷ 0 ∷ []; journal = journal; profile = Two }
+two_types agents lines slices t0 t1 journal = sizes_of agents lines slices (t0 ∷ t1 ∷ 0 ∷ 0 ∷ []) journal Two
 
 abbrev pub four_types : ℕ → ℕ → ℕ → List ℕ → ℕ → Sizes
-four_types agents lines slices entries journal = record { agents = agents; lines = lines; slices = slices; entries = entries; journal = journal; profile = Four }
+four_types agents lines slices entries journal = sizes_of agents lines slices entries journal Four
 
 abbrev pub is_between : ℕ → ℕ → ℕ → Bool
 is_between low high n = nat_le low n && nat_le n high
@@ -31,7 +36,9 @@ are_entries Four (t0 ∷ t1 ∷ t2 ∷ t3 ∷ []) = nat_le 1 t0 && (nat_le 1 t1 
 are_entries profile entries = false
 
 abbrev pub are_in_limits : Sizes → Bool
-are_in_limits c = is_between 1 8 c.agents && (is_between 1 64 c.lines && (is_slice_count c.slices && (nat_le c.slices c.lines && (is_between 1 65536 c.journal && are_entries c.profile c.entries))))
+are_in_limits c =
+    is_between 1 8 c.agents
+    && (is_between 1 64 c.lines && (is_slice_count c.slices && (nat_le c.slices c.lines && (is_between 1 65536 c.journal && are_entries c.profile c.entries))))
 
 -- the sizes, where they are in the limits
 abbrev pub config_if : Sizes → Option Sizes

@@ -4,4 +4,6 @@ pub mod Slice
 pub mod Run
 pub mod Index
 pub mod Table
-pub mod SliceMoves
+pub mod Coherence
+pub mod Verdict
+pub mod Audits

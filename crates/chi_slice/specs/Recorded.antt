@@ -1,5 +1,5 @@
--- The record of an action that was tried (docs/PROTOCOL.md, "The actions", Load and Store).
-use Rattle.std.specs.Prelude.{◌≡◌, ◌<◌, false, Option, Some, None, Result, Ok, Err}
+-- The record of an action that was done (docs/PROTOCOL.md, "The actions", Load and Store).
+use Rattle.std.specs.Prelude.{◌≡◌, ◌<◌, false, Option, Some, None}
 use Rattle.chi_flit.specs.declared.numbers.Agent.{Agent}
 use Rattle.chi_flit.specs.declared.numbers.Line.{Line}
 use Rattle.chi_flit.specs.declared.numbers.WordNo.{WordNo}
@@ -8,7 +8,6 @@ use Rattle.chi_flit.specs.declared.action.Step.{Step}
 use Rattle.chi_flit.specs.declared.action.Step.TheVariants as steps
 use Rattle.chi_flit.specs.declared.action.Effect.{Effect}
 use Rattle.chi_flit.specs.declared.action.Effect.TheVariants.{Nothing, Value, Completed}
-use Rattle.chi_flit.specs.declared.refusal.Refusal.{Refusal}
 use Rattle.chi_journal.specs.declared.record.Record.{Record}
 use Rattle.chi_journal.specs.declared.record.Record.TheVariants as records
 use Rattle.chi_journal.specs.Record.{record_agent, record_line, record_word}
@@ -40,10 +39,8 @@ done_record agent line steps.RecvAck effect = None
 done_record agent line steps.RecvDbid effect = None
 done_record agent line steps.RecvWrData effect = None
 
--- a refused action has none
-abbrev pub record_by : Action → Result Effect Refusal → Option Record
-record_by action (Ok effect) = done_record action.agent action.line action.step effect
-record_by action (Err refusal) = None
+abbrev pub record_by : Action → Effect → Option Record
+record_by action effect = done_record action.agent action.line action.step effect
 
 -- a record, if there is one, has its numbers in their ranges, and the journal has room for it
 abbrev pub CanAppend : Log → Option Record → Type 0

@@ -9,4 +9,5 @@ use Rattle.chi_slice.specs.Index.{at_line}
 
 -- of each line of the slice the place says that the slot is there, or nothing, exactly where the table says so
 abbrev pub IsByTable : SliceState → ℕ → Slot → Option Place → Type 0
-IsByTable s n slot place = (l : ℕ) (found : Option Where) → is_line_in_range s l ≡ true → (at_line place l ≡ found) ↔ IsFound (line s l) n slot found
+IsByTable s n slot place =
+    (l : ℕ) (found : Option Where) → is_line_in_range s l ≡ true → (at_line place l ≡ found) ↔ IsFound (line s l) n slot found

@@ -22,13 +22,13 @@ pub struct Config {
 
 impl Model for Config {
     ghost use Rattle.std.specs.Prelude.{◌≡◌, true};
-    ghost use Rattle.chi_slice.specs.Config.{Sizes, are_in_limits};
+    ghost use Rattle.chi_slice.specs.Config.{Sizes, are_in_limits, sizes_of};
 
     ghost Value = { Sizes };
 
-    ghost view = { λ c. record { agents = c.agents; lines = c.lines; slices = c.slices; entries = c.entries; journal = c.journal; profile = c.profile } };
+    ghost view = { λ c. sizes_of c.agents c.lines c.slices c.entries c.journal c.profile };
 
-    ghost invariant = { λ c. are_in_limits (record { agents = c.agents; lines = c.lines; slices = c.slices; entries = c.entries; journal = c.journal; profile = c.profile }) ≡ true };
+    ghost invariant = { λ c. are_in_limits (sizes_of c.agents c.lines c.slices c.entries c.journal c.profile) ≡ true };
 
     ghost inverse = { λ c. record { agents = c.agents; lines = c.lines; slices = c.slices; entries = c.entries; journal = c.journal; profile = c.profile } };
 }

@@ -1,16 +1,24 @@
-//! The protocol: a slice of the home's lines, and the journal of what its copies answered.
+//! The protocol: a slice of the home's lines, the journal of what its copies answered, and the verdicts on
+//! them.
 #![tactic(auto)]
 
 mod agent_line;
+mod audits;
 mod config;
+mod laws;
 mod places;
 mod records;
-mod row;
 mod slice;
+mod terms;
+mod verdict;
 
 pub use agent_line::AgentLine;
+pub use audits::{Audit, audit_of, check_slice};
 pub use chi_flit::{Action, Effect, Step};
 pub use chi_line::{CopyView, LineView, Where};
 pub use config::Config;
+pub use laws::only_room_and_slots_join_lines;
 pub use places::Place;
 pub use slice::Slice;
+pub use terms::{Done, Terms};
+pub use verdict::check;

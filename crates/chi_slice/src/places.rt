@@ -1,7 +1,7 @@
 //! An index of the slots in use: where each agent's requests are.
 
 ghost use Rattle.std.specs.Prelude.{◌≡◌, ◌<◌, is_some};
-ghost use Rattle.chi_slice.specs.Index.{moved_in, no_places, place_of, with_place};
+ghost use Rattle.chi_slice.specs.Index.{moved_in, no_places, place_number, place_of, with_place};
 
 use chi_flit::{Agent, Line, Slot};
 use chi_line::{Move, Where};
@@ -15,19 +15,29 @@ pub struct Place {
     pub at: Where,
 }
 
-/// For each agent and slot, the place of the slot's request.
+/// For each slot of each agent, by their numbers, the place of its request.
 #[derive(Drop)]
 pub struct Places {
-    by_agent: [[Option<Place>; 8]; 8],
+    by_slot: [Option<Place>; 64],
 }
 
 impl Model for Places {
     ghost use Rattle.std.specs.Prelude.{List, Option};
     ghost use Rattle.chi_slice.specs.declared.places.Place.{Place};
 
-    ghost Value = { List (List (Option Place)) };
+    ghost Value = { List (Option Place) };
 
-    ghost view = { λ places. places.by_agent };
+    ghost view = { λ places. places.by_slot };
+}
+
+/// The number of an agent's slot among those of all agents.
+fn place_number(agent: Agent, slot: Slot) -> usize
+    requires agent { agent.0 < 8 }
+    requires slot { slot.0 < 8 }
+    ensures number { result ≡ place_number agent.0 slot }
+    ensures low { result < 64 }
+{
+    usize::from(agent.0) * 8 + usize::from(slot.0)
 }
 
 impl Places {
@@ -36,7 +46,7 @@ impl Places {
         ensures { result ≡ no_places }
     {
         Places {
-            by_agent: [[None; 8]; 8],
+            by_slot: [None; 64],
         }
     }
 
@@ -45,8 +55,7 @@ impl Places {
         ensures { result ≡ place_of self.now agent.0 slot }
     {
         if agent.0 < 8 && slot.0 < 8 {
-            let row = &self.by_agent[usize::from(agent.0)];
-            row[usize::from(slot.0)]
+            self.by_slot[place_number(agent, slot)]
         } else {
             None
         }
@@ -58,8 +67,7 @@ impl Places {
         requires slot { slot.0 < 8 }
         ensures { result ≡ is_some (place_of self.now agent.0 slot) }
     {
-        let row = &self.by_agent[usize::from(agent.0)];
-        row[usize::from(slot.0)].is_some()
+        self.by_slot[place_number(agent, slot)].is_some()
     }
 
     /// Gives an agent's slot this place, or none; outside the eight of each nothing changes.
@@ -67,7 +75,7 @@ impl Places {
         ensures { self.new ≡ with_place self.old agent.0 slot place }
     {
         if agent.0 < 8 && slot.0 < 8 {
-            self.by_agent[usize::from(agent.0)][usize::from(slot.0)] = place;
+            self.by_slot[place_number(agent, slot)] = place;
         }
     }
 

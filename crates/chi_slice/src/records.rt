@@ -5,36 +5,21 @@ ghost use Rattle.chi_slice.specs.Recorded.{CanAppend, done_record, load_record, 
 ghost use Rattle.chi_slice.specs.Slice.{recorded};
 ghost use Rattle.chi_line.specs.Step.{is_step_in_range};
 
-use chi_flit::{Action, Agent, Effect, Line, Refusal, Step, WordNo};
+use chi_flit::{Action, Agent, Effect, Line, Step, WordNo};
 use chi_journal::{Journal, Record};
 use std::alloc::Allocator;
 
-/// Appends the record of an action that was tried, if there is one: that of a load or store that was
-/// done. There is room for it.
-pub fn follow<A: Allocator>(
-    journal: &mut Journal<A>,
-    action: Action,
-    tried: Result<Effect, Refusal>,
-)
-    requires { CanAppend journal.old (record_by action tried) }
-    ensures { journal.new ≡ recorded journal.old (record_by action tried) }
+/// Appends the record of an action that was done, if it has one. There is room for it.
+pub fn note<A: Allocator>(journal: &mut Journal<A>, action: Action, effect: Effect)
+    requires { CanAppend journal.old (record_by action effect) }
+    ensures { journal.new ≡ recorded journal.old (record_by action effect) }
 {
-    let Some(entry) = record_by(action, tried) else {
+    let Some(entry) = done_record(action.agent, action.line, action.step, effect) else {
         return;
     };
     match journal.append(entry) {
         Ok(()) => {}
         Err(_) => unreachable!(),
-    }
-}
-
-/// The record of an action that was tried.
-fn record_by(action: Action, tried: Result<Effect, Refusal>) -> Option<Record>
-    ensures { result ≡ record_by action tried }
-{
-    match tried {
-        Ok(effect) => done_record(action.agent, action.line, action.step, effect),
-        Err(_) => None,
     }
 }
 

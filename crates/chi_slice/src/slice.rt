@@ -1,39 +1,30 @@
 //! A slice: some of the node's lines, and all that belongs to them.
 
-ghost use Rattle.std.specs.Prelude.{◌≡◌, ◌≢◌, ℕ, ◌<◌, ◌&&◌, nat_lt, [], true, false, None, Some, is_some, length, replicate, IfOk, OnOk, OnErr};
+ghost use Rattle.std.specs.Prelude.{◌≡◌, ℕ, ◌<◌, ◌&&◌, nat_lt, true, false, None, Some, is_some, replicate, IfOk, IfSome, OnOk, OnErr};
 ghost use Rattle.chi_flit.specs.Refusal.{refusal_of};
-ghost use Rattle.chi_rnline.specs.Rn.{no_line};
-ghost use Rattle.chi_homeline.specs.Home.{idle_home};
-ghost use Rattle.chi_slice.specs.Config.{Sizes, are_in_limits};
 ghost use Rattle.chi_journal.specs.Journal.{IsLegal};
-ghost use Rattle.chi_line.specs.Step.{effect_of, is_step_in_range, pending_slot, record_of};
-ghost use Rattle.chi_slice.specs.declared.places.Place.{Place};
-ghost use Rattle.chi_slice.specs.Index.{at_line, is_slot_of, SlotsInRange, typed_at};
-ghost use Rattle.chi_slice.specs.Table.{IsByTable};
-ghost use Rattle.chi_line.specs.Places.{where_at};
-ghost use Rattle.chi_line.specs.LineState.{cells_of, rn_of};
-ghost use Rattle.chi_line.specs.Types.{pending_credit, is_of_type};
-ghost use Rattle.chi_line.specs.LineStep.{LineStep};
-ghost use Rattle.chi_slice.specs.Recorded.{CanAppend, record_by};
 ghost use Rattle.chi_line.specs.Coherent.{Coherent};
+ghost use Rattle.chi_line.specs.LineState.{cells_of, opening_line, rn_of};
+ghost use Rattle.chi_line.specs.Step.{effect_of, is_step_in_range};
 ghost use Rattle.chi_line.specs.View.{shown};
+ghost use Rattle.chi_slice.specs.declared.places.Place.{Place};
+ghost use Rattle.chi_slice.specs.declared.terms.Terms.{Terms};
+ghost use Rattle.chi_slice.specs.Coherence.{IsCoherentSlice};
+ghost use Rattle.chi_slice.specs.Config.{are_in_limits};
+ghost use Rattle.chi_slice.specs.Index.{HasType, IsInside, IsShown, SlotsInRange, is_slot_of, typed_at};
 ghost use Rattle.chi_slice.specs.Run.{IsRun};
-ghost use Rattle.chi_slice.specs.Slice.{acted, are_in_range, completes, conditions_of, conditions_with, flits_refusal, is_in_range, is_line_in_range, is_slot_used, last_of, line, line as line_of_slice, opening_slice, OtherLinesStay, Performed, SliceKept, recorded, refused, refused_with, row_count, row_of_line, run_after, run_done, uses, view_refusal};
+ghost use Rattle.chi_slice.specs.Slice.{IsBalanced, IsStep, OtherLinesStay, SliceKept, acted, are_in_range, completes, conditions_under, credit_at, entry_of, flits_refusal, is_in_range, is_line_in_range, is_slot_used, last_of, line as line_of_slice, moved_by, no_terms, opening_slice, range_refusal, recorded, refused, refused_under, row_count, row_of_line, run_after, run_done, slot_at, uses, view_refusal};
+ghost use Rattle.chi_slice.specs.Table.{IsByTable};
 
 use crate::agent_line::AgentLine;
 use crate::config::Config;
 use crate::places::{Place, Places};
-use crate::records::{follow, is_step_in_range};
-use crate::row::act_in_row;
+use crate::records::{is_step_in_range, note};
+use crate::terms::{Done, Terms};
 use chi_flit::{Action, Agent, CreditType, Effect, Line, NoMemory, Refusal, Slot, Step};
-use chi_homeline::HomeLine;
 use chi_journal::Journal;
-use chi_line::{
-    Conditions, LineView, TypedSlot, completed_at, is_of_type, pending_credit, pending_slot,
-    refusal_on, view_of,
-};
-use chi_rnline::RnLine;
-use chi_wires::{Cells, Wires};
+use chi_line::{Conditions, LineView, TypedSlot, pending_credit, pending_slot};
+use chi_wires::Cells;
 use std::alloc::Allocator;
 use std::marker::Model;
 
@@ -45,44 +36,38 @@ use std::marker::Model;
 pub struct Slice<A: Allocator> {
     config: Config,
     index: u8,
-    requesters: Vec<[RnLine; 8], A>,
-    homes: Vec<HomeLine, A>,
-    wires: Wires<A>,
+    lines: Vec<chi_line::Line, A>,
     journal: Journal<A>,
     places: Places,
 }
 
 impl<A: Allocator> Model for Slice<A> {
-    ghost use Rattle.chi_slice.specs.Slice.{SliceState, SliceKept};
-    ghost use Rattle.chi_slice.specs.Index.{Indexed};
+    ghost use Rattle.chi_slice.specs.Slice.{SliceState, slice_of};
+    ghost use Rattle.chi_slice.specs.Index.{IsKept};
 
     ghost Value = { SliceState };
 
-    ghost view = { λ s. record { config = s.config; index = s.index; requesters = s.requesters.items; homes = s.homes.items; wires = s.wires; journal = s.journal } };
+    ghost view = { λ s. slice_of s.config s.index s.lines.items s.journal };
 
-    ghost invariant = { λ s. SliceKept (record { config = s.config; index = s.index; requesters = s.requesters.items; homes = s.homes.items; wires = s.wires; journal = s.journal }) × Indexed (record { config = s.config; index = s.index; requesters = s.requesters.items; homes = s.homes.items; wires = s.wires; journal = s.journal }) s.places };
+    ghost invariant = { λ s. IsKept s.config s.index s.lines.items s.journal s.places };
 }
 
-/// The requesters' sides of so many lines, without copies.
-fn opening_requesters<A: Allocator>(alloc: A, rows: u8) -> Result<Vec<[RnLine; 8], A>, NoMemory>
-    ensures { IfOk result (λ lines. lines.items ≡ replicate rows (replicate 8 no_line)) }
-{
-    let mut requesters = Vec::with_capacity(alloc, usize::from(rows))?;
-    for _ in 0..rows {
-        requesters.push([RnLine::new(); 8])?;
-    }
-    Ok(requesters)
+/// Where an action is done: the row of its line, and what it needs to know of the slice beside the line.
+#[derive(Clone, Copy)]
+struct Site {
+    row: usize,
+    conditions: Conditions,
 }
 
-/// So many lines at the home, idle.
-fn opening_homes<A: Allocator>(alloc: A, rows: u8) -> Result<Vec<HomeLine, A>, NoMemory>
-    ensures { IfOk result (λ homes. homes.items ≡ replicate rows idle_home) }
+/// So many lines in the opening state.
+fn opening_lines<A: Allocator>(alloc: A, rows: u8) -> Result<Vec<chi_line::Line, A>, NoMemory>
+    ensures { IfOk result (λ lines. lines.items ≡ replicate rows opening_line) }
 {
-    let mut homes = Vec::with_capacity(alloc, usize::from(rows))?;
+    let mut lines = Vec::with_capacity(alloc, usize::from(rows))?;
     for _ in 0..rows {
-        homes.push(HomeLine::new())?;
+        lines.push(chi_line::Line::new())?;
     }
-    Ok(homes)
+    Ok(lines)
 }
 
 /// How many lines are in the slice.
@@ -95,6 +80,13 @@ fn row_count(config: &Config, index: u8) -> u8
     (config.lines() - 1 - index) / slices + 1
 }
 
+/// Whether an action's agent is in the node, and the numbers of its step are in their ranges.
+fn can_take(config: &Config, action: Action) -> bool
+    ensures { result ≡ (nat_lt action.agent.0 config.now.agents && is_step_in_range action.step) }
+{
+    action.agent.0 < config.agents() && is_step_in_range(action.step)
+}
+
 impl<A: Allocator + Copy> Slice<A> {
     /// The slice of that index in a node of that size, in the opening state: memory 0, no copies, nothing
     /// in flight. All memory that the slice ever needs is found here; refused where it runs out.
@@ -105,18 +97,12 @@ impl<A: Allocator + Copy> Slice<A> {
         requires { index < config.now.slices }
         ensures { IfOk result (λ slice. slice ≡ opening_slice config.now index) }
     {
-        let rows = row_count(config, index);
-        let requesters = opening_requesters(alloc, rows)?;
-        let homes = opening_homes(alloc, rows)?;
-        let wires = Wires::new(alloc, rows)?;
-        let (lines, limit) = (config.lines(), config.journal());
-        let journal = Journal::with_limit(alloc, lines, limit)?;
+        let lines = opening_lines(alloc, row_count(config, index))?;
+        let journal = Journal::with_limit(alloc, config.lines(), config.journal())?;
         Ok(Slice {
             config: *config,
             index,
-            requesters,
-            homes,
-            wires,
+            lines,
             journal,
             places: Places::new(),
         })
@@ -124,48 +110,16 @@ impl<A: Allocator + Copy> Slice<A> {
 }
 
 impl<A: Allocator> Slice<A> {
-    /// Whether the numbers of an action are in their ranges, and its line is in this slice.
-    fn is_in_range(&self, action: Action) -> bool
-        ensures { result ≡ is_in_range self.now action }
-    {
-        self.row_in_range(action).is_some()
-    }
-
-    /// Whether an action's agent is in the node, and the numbers of its step are in their ranges.
-    fn can_take(&self, action: Action) -> bool
-        ensures range { result ≡ (nat_lt action.agent.0 self.now.config.agents && is_step_in_range action.step) }
-        ensures kept { SliceKept self.now }
-    {
-        action.agent.0 < self.config.agents() && is_step_in_range(action.step)
-    }
-
     /// The row of an action's line, where all its numbers are in their ranges and its line is in this slice.
     fn row_in_range(&self, action: Action) -> Option<u8>
         ensures inside { is_some result ≡ is_in_range self.now action }
-        ensures row { (row : ℕ) → result ≡ Some row → row ≡ row_of_line self.now action.line.0 }
+        ensures row { IfSome result (λ row. row ≡ row_of_line self.now action.line.0) }
         ensures kept { SliceKept self.now }
     {
-        if !self.can_take(action) {
+        if !can_take(&self.config, action) {
             return None;
         }
         self.config.row_in(self.index, action.line.0)
-    }
-
-    /// Whether the agent is in the node, and the line in this slice.
-    fn are_in_range(&self, agent: Agent, line: Line) -> bool
-        ensures range { result ≡ are_in_range self.now agent.0 line.0 }
-        ensures kept { SliceKept self.now }
-        ensures slots { SlotsInRange self.now }
-    {
-        agent.0 < self.config.agents() && self.has_line(line)
-    }
-
-    /// The row of a line.
-    fn row_of(&self, line: Line) -> u8
-        ensures row { result ≡ row_of_line self.now line.0 }
-        ensures kept { SliceKept self.now }
-    {
-        self.config.row_of(line.0)
     }
 
     /// Whether the agent's slot is in use at any line of the slice.
@@ -177,7 +131,7 @@ impl<A: Allocator> Slice<A> {
         self.places.is_used(agent, slot)
     }
 
-    /// Whether the slot that a step of the agent wants is in use.
+    /// Whether the slot that a step of the agent names is in use.
     fn is_slot_used(&self, agent: Agent, step: Step) -> bool
         requires agent { agent.0 < 8 }
         requires step { is_step_in_range step ≡ true }
@@ -204,58 +158,83 @@ impl<A: Allocator> Slice<A> {
         }
     }
 
-    /// What an action needs to know of the slice beside its line.
-    fn conditions(&self, action: Action) -> Conditions
+    /// What an action needs to know of the slice beside its line, on these terms.
+    fn conditions(&self, action: Action, terms: Terms) -> Conditions
         requires agent { action.agent.0 < 8 }
         requires step { is_step_in_range action.step ≡ true }
-        ensures { result ≡ conditions_of self.now action }
+        ensures { result ≡ conditions_under terms self.now action }
     {
         Conditions {
-            slot_used: self.is_slot_used(action.agent, action.step),
+            slot_used: terms.slot_taken || self.is_slot_used(action.agent, action.step),
             journal_full: self.journal.is_full(),
+            credits: terms.credits,
             profile: self.config.profile(),
         }
     }
 
-    /// Does one action: the line's parts are read out of its row, and put back into it; the journal then
-    /// follows.
-    fn perform(&mut self, action: Action) -> Result<Effect, Refusal>
-        ensures { Performed self.old action result self.new }
+    /// Where an action is done. Refused 10 (OutOfRange) exactly where one of its numbers is outside its
+    /// range, or its line in another slice.
+    fn site(&self, action: Action, terms: Terms) -> Result<Site, Refusal>
+        ensures refusal { refusal_of result ≡ range_refusal self.now action }
+        ensures row { IfOk result (λ site. site.row ≡ row_of_line self.now action.line.0) }
+        ensures conditions { IfOk result (λ site. site.conditions ≡ conditions_under terms self.now action) }
     {
-        let Some(row) = self.row_in_range(action) else {
-            return Err(Refusal::OutOfRange);
-        };
-        let conditions = self.conditions(action);
-        let place = usize::from(row);
-        let done = act_in_row(
-            &mut self.requesters[place],
-            &mut self.homes[place],
-            &mut self.wires,
-            &mut self.places,
-            Line(row),
-            conditions,
-            action,
-        );
-        follow(&mut self.journal, action, done);
-        done
+        match self.row_in_range(action) {
+            Some(row) => Ok(Site {
+                row: usize::from(row),
+                conditions: self.conditions(action, terms),
+            }),
+            None => Err(Refusal::OutOfRange),
+        }
     }
 
     /// Does one action. It changes its own line alone, by the step of that action, and puts the record of
-    /// a load or store into the journal; it takes no memory.
+    /// a load or store into the journal; it takes no memory. No flit is lost or made: those in flight for the
+    /// line afterwards, with the one that the action takes, are those before, with those that it sends.
     ///
     /// Refused 10 (OutOfRange) for a number outside its range or a line of another slice, then in the
     /// order of the action's row; nothing changes then.
-    /// Source: `docs/PROTOCOL.md`, "The actions".
+    /// Source: `docs/PROTOCOL.md`, "The actions" and "Messages".
     pub fn act(&mut self, action: Action) -> Result<Effect, Refusal>
         ensures refusal { refusal_of result ≡ refused self.old action }
-        ensures step { IfOk result (λ effect. LineStep self.old.config.profile (line self.old action.line.0) action effect (record_of (line self.old action.line.0) action) (line self.new action.line.0)) }
-        ensures journal { OnOk result (self.new.journal ≡ recorded self.old.journal (record_of (line self.old action.line.0) action)) }
+        ensures step { IfOk result (λ effect. IsStep self.old action effect self.new) }
+        ensures journal { OnOk result (self.new.journal ≡ recorded self.old.journal (entry_of self.old action)) }
+        ensures flits { OnOk result (IsBalanced self.old action self.new) }
         ensures others { OnOk result (OtherLinesStay self.old self.new action.line.0) }
-        ensures effect { IfOk result (λ effect. effect ≡ effect_of (line self.old action.line.0) action) }
+        ensures effect { IfOk result (λ effect. effect ≡ effect_of (line_of_slice self.old action.line.0) action) }
         ensures after { OnOk result (self.new ≡ acted self.old action) }
         ensures err { OnErr result (self.new ≡ self.old) }
     {
-        self.perform(action)
+        let done = self.act_under(action, Terms::NONE)?;
+        Ok(done.effect)
+    }
+
+    /// Does one action on the terms of its requester, as `act` does it.
+    ///
+    /// Refused as by `act`, and also 3 (Pending) an Issue whose slot is taken elsewhere, and 12 (NoCredit)
+    /// a Resend without a credit of its request's type; nothing changes then.
+    /// Source: `docs/PROTOCOL.md`, "The actions" and "A requester and its calls".
+    pub fn act_under(&mut self, action: Action, terms: Terms) -> Result<Done, Refusal>
+        ensures refusal { refusal_of result ≡ refused_under terms self.old action }
+        ensures step { IfOk result (λ done. IsStep self.old action done.effect self.new) }
+        ensures journal { OnOk result (self.new.journal ≡ recorded self.old.journal (entry_of self.old action)) }
+        ensures flits { OnOk result (IsBalanced self.old action self.new) }
+        ensures others { OnOk result (OtherLinesStay self.old self.new action.line.0) }
+        ensures effect { IfOk result (λ done. done.effect ≡ effect_of (line_of_slice self.old action.line.0) action) }
+        ensures slot { IfOk result (λ done. done.slot ≡ moved_by self.old action) }
+        ensures after { OnOk result (self.new ≡ acted self.old action) }
+        ensures err { OnErr result (self.new ≡ self.old) }
+    {
+        let site = self.site(action, terms)?;
+        let line = &mut self.lines[site.row];
+        let moved = line.move_of(action.agent, action.step);
+        let effect = line.act(site.conditions, action)?;
+        self.places.follow(action.agent, action.line, moved);
+        note(&mut self.journal, action, effect);
+        Ok(Done {
+            effect,
+            slot: moved.slot,
+        })
     }
 
     /// Tries the actions in their order; a refused one changes nothing. Answers how many were done.
@@ -277,42 +256,18 @@ impl<A: Allocator> Slice<A> {
         done
     }
 
-    /// What an action needs to know of the slice, were the slot of an Issue taken as well.
-    fn conditions_with(&self, action: Action, slot_taken: bool) -> Conditions
-        requires agent { action.agent.0 < 8 }
-        requires step { is_step_in_range action.step ≡ true }
-        ensures { result ≡ conditions_with slot_taken self.now action }
-    {
-        let found = self.conditions(action);
-        Conditions {
-            slot_used: found.slot_used || slot_taken,
-            journal_full: found.journal_full,
-            profile: found.profile,
-        }
-    }
-
-    /// Why `act` would refuse the action, were the slot of an Issue in use as well where it is
-    /// `slot_taken`; `None` where it would be done. Nothing is done.
-    /// Source: `docs/PROTOCOL.md`, "The actions".
-    pub fn refusal(&self, action: Action, slot_taken: bool) -> Option<Refusal>
-        ensures refusal { result ≡ refused_with slot_taken self.now action }
-        ensures untaken { slot_taken ≡ false → result ≡ refused self.now action }
+    /// Why `act_under` would refuse the action on these terms; `None` where it would be done. Nothing is
+    /// done.
+    /// Source: `docs/PROTOCOL.md`, "The actions" and "A requester and its calls".
+    pub fn refusal(&self, action: Action, terms: Terms) -> Option<Refusal>
+        ensures refusal { result ≡ refused_under terms self.now action }
+        ensures alone { terms ≡ no_terms → result ≡ refused self.now action }
         ensures allowed { result ≡ None → refused self.now action ≡ None }
     {
-        if !self.is_in_range(action) {
-            return Some(Refusal::OutOfRange);
+        match self.site(action, terms) {
+            Ok(site) => self.lines[site.row].refusal(site.conditions, action),
+            Err(refusal) => Some(refusal),
         }
-        let row = self.row_of(action.line);
-        let place = usize::from(row);
-        let conditions = self.conditions_with(action, slot_taken);
-        refusal_on(
-            &self.requesters[place],
-            &self.homes[place],
-            &self.wires,
-            Line(row),
-            conditions,
-            action,
-        )
     }
 
     /// The slot of the request that the action would complete; `None` where it would be refused, or
@@ -321,13 +276,36 @@ impl<A: Allocator> Slice<A> {
     pub fn completes(&self, action: Action) -> Option<Slot>
         ensures { result ≡ completes self.now action }
     {
-        if !self.is_in_range(action) {
-            return None;
+        match self.row_in_range(action) {
+            Some(row) => self.lines[usize::from(row)].completed(action.agent, action.step),
+            None => None,
         }
-        let row = self.row_of(action.line);
-        let place = usize::from(row);
-        let cells = self.wires.cells(action.agent, Line(row));
-        completed_at(&self.homes[place], cells, action.agent, action.step)
+    }
+
+    /// The line, where it is in this slice.
+    pub(crate) fn line(&self, line: Line) -> Option<&chi_line::Line>
+        ensures inside { is_some result ≡ is_line_in_range self.now line.0 }
+        ensures line { IfSome result (λ at. at.now ≡ line_of_slice self.now line.0) }
+        ensures kept { SliceKept self.now }
+        ensures slots { SlotsInRange self.now }
+    {
+        let row = self.config.row_in(self.index, line.0)?;
+        Some(&self.lines[usize::from(row)])
+    }
+
+    /// The line, where it is in this slice and the agent in the node; refused 10 (OutOfRange) exactly where
+    /// not.
+    fn line_for(&self, agent: Agent, line: Line) -> Result<&chi_line::Line, Refusal>
+        ensures line { IfOk result (λ at. at.now ≡ line_of_slice self.now line.0) }
+        ensures agent { OnOk result (agent.0 < 8) }
+        ensures refusal { refusal_of result ≡ flits_refusal self.now agent.0 line.0 }
+        ensures kept { SliceKept self.now }
+        ensures slots { SlotsInRange self.now }
+    {
+        match self.line(line) {
+            Some(at) if agent.0 < self.config.agents() => Ok(at),
+            Some(_) | None => Err(Refusal::OutOfRange),
+        }
     }
 
     /// All parts of a line, as plain data. The line is coherent. Takes no memory.
@@ -339,16 +317,10 @@ impl<A: Allocator> Slice<A> {
         ensures coherent { OnOk result (Coherent (last_of self.now line.0) (line_of_slice self.now line.0)) }
         ensures refusal { refusal_of result ≡ view_refusal self.now line.0 }
     {
-        if !self.has_line(line) {
-            return Err(Refusal::OutOfRange);
+        match self.line(line) {
+            Some(at) => Ok(at.view(self.journal.last_words(line))),
+            None => Err(Refusal::OutOfRange),
         }
-        let row = self.row_of(line);
-        Ok(view_of(
-            &self.requesters[usize::from(row)],
-            &self.homes[usize::from(row)],
-            self.wires.row(Line(row)),
-            self.journal.last_words(line),
-        ))
     }
 
     /// What is in flight between an agent and the home for a line.
@@ -362,11 +334,8 @@ impl<A: Allocator> Slice<A> {
         ensures kept { SliceKept self.now }
         ensures slots { SlotsInRange self.now }
     {
-        if !self.are_in_range(agent, line) {
-            return Err(Refusal::OutOfRange);
-        }
-        let row = self.row_of(line);
-        Ok(self.wires.cells(agent, Line(row)))
+        let at = self.line_for(agent, line)?;
+        Ok(*at.flits(agent))
     }
 
     /// What an agent has of a line, what is in flight between it and the home for the line, and the line at
@@ -381,14 +350,11 @@ impl<A: Allocator> Slice<A> {
         ensures home { IfOk result (λ at. at.home.now ≡ (line_of_slice self.now line.0).home) }
         ensures refusal { refusal_of result ≡ flits_refusal self.now agent.0 line.0 }
     {
-        if !self.are_in_range(agent, line) {
-            return Err(Refusal::OutOfRange);
-        }
-        let row = self.row_of(line);
+        let at = self.line_for(agent, line)?;
         Ok(AgentLine {
-            copy: &self.requesters[usize::from(row)][usize::from(agent.0)],
-            flits: self.wires.get(agent, Line(row)),
-            home: &self.homes[usize::from(row)],
+            copy: at.copy(agent),
+            flits: at.flits(agent),
+            home: at.home(),
         })
     }
 
@@ -406,17 +372,13 @@ impl<A: Allocator> Slice<A> {
     /// another slice.
     /// Source: `docs/PROTOCOL.md`, "One line".
     pub fn pending(&self, agent: Agent, line: Line) -> Result<Option<Slot>, Refusal>
-        ensures pending { IfOk result (λ slot. slot ≡ pending_slot (rn_of (line_of_slice self.now line.0) agent.0).pending) }
+        ensures pending { IfOk result (λ slot. slot ≡ slot_at self.now agent.0 line.0) }
         ensures refusal { refusal_of result ≡ flits_refusal self.now agent.0 line.0 }
         ensures kept { SliceKept self.now }
         ensures slots { SlotsInRange self.now }
     {
-        if !self.are_in_range(agent, line) {
-            return Err(Refusal::OutOfRange);
-        }
-        let row = self.row_of(line);
-        let copies = &self.requesters[usize::from(row)];
-        Ok(pending_slot(copies[usize::from(agent.0)].pending()))
+        let at = self.line_for(agent, line)?;
+        Ok(pending_slot(at.copy(agent).pending()))
     }
 
     /// The place of the request that uses an agent's slot: its line, which is in this slice, and where the
@@ -425,8 +387,8 @@ impl<A: Allocator> Slice<A> {
     /// Source: `docs/PROTOCOL.md`, "Agreement".
     pub fn place(&self, agent: Agent, slot: Slot) -> Option<Place>
         ensures table { agent.0 < 8 → slot.0 < 8 → IsByTable self.now agent.0 slot result }
-        ensures shows { agent.0 < 8 → slot.0 < 8 → (l : ℕ) → is_line_in_range self.now l ≡ true → where_at (line_of_slice self.now l) agent.0 slot ≡ at_line result l }
-        ensures line { agent.0 < 8 → slot.0 < 8 → (place : Place) → result ≡ Some place → is_line_in_range self.now place.line.0 ≡ true }
+        ensures shows { agent.0 < 8 → slot.0 < 8 → IsShown self.now agent.0 slot result }
+        ensures line { agent.0 < 8 → slot.0 < 8 → IsInside self.now result }
         ensures outside { is_slot_of agent.0 slot ≡ false → result ≡ None }
     {
         self.places.get(agent, slot)
@@ -435,37 +397,30 @@ impl<A: Allocator> Slice<A> {
     /// Whether the slot, whose place is this, has its credit type there.
     fn is_type_in(&self, place: Option<Place>, typed: TypedSlot) -> bool
         requires agent { (there : Place) → place ≡ Some there → typed.agent.0 < 8 }
-        requires line { (there : Place) → place ≡ Some there → is_line_in_range self.now there.line.0 ≡ true }
+        requires line { IsInside self.now place }
         ensures typed { result ≡ typed_at self.now typed.credit typed.agent.0 typed.slot place }
         ensures kept { SliceKept self.now }
     {
         let profile = self.config.profile();
         match place {
-            Some(place) => {
-                let row = self.row_of(place.line);
-                let at = usize::from(row);
-                is_of_type(
-                    &self.requesters[at],
-                    &self.homes[at],
-                    &self.wires,
-                    Line(row),
-                    profile,
-                    typed,
-                )
-            }
+            Some(place) => match self.line(place.line) {
+                Some(at) => at.is_of_type(profile, typed),
+                None => unreachable!(),
+            },
             None => true,
         }
     }
 
-    /// The place of an agent's slot, as `place` answers it, and whether the slot has this credit type, as
-    /// `has_credit` does. Both come of one look at the index.
+    /// The place of an agent's slot, as `place` answers it, and whether the slot has this credit type
+    /// wherever a line of the slice still keeps the kind of its request: true for an agent or slot outside
+    /// the eight of each. Both come of one look at the index.
     /// Source: `docs/PROTOCOL.md`, "Agreement".
     pub fn typed_place(&self, agent: Agent, slot: Slot, credit: CreditType) -> (Option<Place>, bool)
-        ensures shows { agent.0 < 8 → slot.0 < 8 → (l : ℕ) → is_line_in_range self.now l ≡ true → where_at (line_of_slice self.now l) agent.0 slot ≡ at_line result.0 l }
-        ensures line { agent.0 < 8 → slot.0 < 8 → (place : Place) → result.0 ≡ Some place → is_line_in_range self.now place.line.0 ≡ true }
+        ensures shows { agent.0 < 8 → slot.0 < 8 → IsShown self.now agent.0 slot result.0 }
+        ensures line { agent.0 < 8 → slot.0 < 8 → IsInside self.now result.0 }
         ensures nowhere { is_slot_of agent.0 slot ≡ false → result.0 ≡ None }
-        ensures all { agent.0 < 8 → slot.0 < 8 → result.1 ≡ true → (l : ℕ) → is_line_in_range self.now l ≡ true → is_of_type self.now.config.profile credit (line_of_slice self.now l) agent.0 slot ≡ true }
-        ensures only { agent.0 < 8 → slot.0 < 8 → ((l : ℕ) → is_line_in_range self.now l ≡ true → is_of_type self.now.config.profile credit (line_of_slice self.now l) agent.0 slot ≡ true) → result.1 ≡ true }
+        ensures all { agent.0 < 8 → slot.0 < 8 → result.1 ≡ true → HasType self.now credit agent.0 slot }
+        ensures only { agent.0 < 8 → slot.0 < 8 → HasType self.now credit agent.0 slot → result.1 ≡ true }
         ensures outside { is_slot_of agent.0 slot ≡ false → result.1 ≡ true }
         ensures kept { SliceKept self.now }
     {
@@ -478,19 +433,6 @@ impl<A: Allocator> Slice<A> {
         (place, self.is_type_in(place, typed))
     }
 
-    /// Whether the slot of an agent has this credit type, wherever a line of the slice still keeps the kind
-    /// of its request. Only the line of its place is looked at. True for an agent or slot outside the eight
-    /// of each.
-    /// Source: `docs/PROTOCOL.md`, "Agreement".
-    pub fn has_credit(&self, agent: Agent, slot: Slot, credit: CreditType) -> bool
-        ensures all { agent.0 < 8 → slot.0 < 8 → result ≡ true → (l : ℕ) → is_line_in_range self.now l ≡ true → is_of_type self.now.config.profile credit (line_of_slice self.now l) agent.0 slot ≡ true }
-        ensures only { agent.0 < 8 → slot.0 < 8 → ((l : ℕ) → is_line_in_range self.now l ≡ true → is_of_type self.now.config.profile credit (line_of_slice self.now l) agent.0 slot ≡ true) → result ≡ true }
-        ensures outside { is_slot_of agent.0 slot ≡ false → result ≡ true }
-        ensures kept { SliceKept self.now }
-    {
-        self.typed_place(agent, slot, credit).1
-    }
-
     /// The loads and stores that were answered, in their order: each load had the value that was stored
     /// last before it. Whoever asks for them knows what every slice keeps.
     /// Source: `docs/PROTOCOL.md`, "The journal and last values".
@@ -500,6 +442,16 @@ impl<A: Allocator> Slice<A> {
         ensures kept { SliceKept self.now }
     {
         &self.journal
+    }
+
+    /// What every slice keeps: each of its lines is coherent, with the values that the journal has as last
+    /// stored to its words, and each load in the journal had the value stored last before it. Nothing is
+    /// done.
+    /// Source: `docs/PROTOCOL.md`, "Coherence" and "The journal and last values".
+    pub fn coherence(&self)
+        ensures { IsCoherentSlice self.now }
+    {
+        let _ = self.journal();
     }
 
     /// The size of the node.
@@ -524,15 +476,10 @@ impl<A: Allocator> Slice<A> {
     /// another slice.
     /// Source: `docs/PROTOCOL.md`, "Kinds of request".
     pub fn pending_credit(&self, agent: Agent, line: Line) -> Result<Option<CreditType>, Refusal>
-        ensures credit { IfOk result (λ credit. credit ≡ pending_credit self.now.config.profile (rn_of (line_of_slice self.now line.0) agent.0).pending) }
+        ensures credit { IfOk result (λ credit. credit ≡ credit_at self.now agent.0 line.0) }
         ensures refusal { refusal_of result ≡ flits_refusal self.now agent.0 line.0 }
     {
-        if !self.are_in_range(agent, line) {
-            return Err(Refusal::OutOfRange);
-        }
-        let row = self.row_of(line);
-        let copies = &self.requesters[usize::from(row)];
-        let pending = copies[usize::from(agent.0)].pending();
-        Ok(pending_credit(self.config.profile(), pending))
+        let at = self.line_for(agent, line)?;
+        Ok(pending_credit(self.config.profile(), at.copy(agent).pending()))
     }
 }

@@ -4,7 +4,7 @@ ghost use Rattle.std.specs.Prelude.{◌≡◌};
 
 use crate::moves::{at, does, slice_of, waits};
 use chi_flit::{Agent, CreditType, Kind, Line, Refusal, Slot, WordNo};
-use chi_slice::{Action, Config, Slice, Step};
+use chi_slice::{Action, Config, Slice, Step, Terms};
 use std::alloc::Global;
 use std::process::Abort;
 
@@ -103,7 +103,7 @@ fn tells_the_pending_slot(rt: HostRuntime) {
 
 /// Whether the slot has the type.
 fn has(slice: &Slice<Global>, agent: u8, slot: u8, credit: CreditType) -> bool {
-    slice.has_credit(Agent(agent), Slot(slot), credit)
+    slice.typed_place(Agent(agent), Slot(slot), credit).1
 }
 
 /// Which of the four types the slot has.
@@ -173,7 +173,11 @@ fn tells_the_type_of_a_slot(rt: HostRuntime) {
 
 /// Why the slice says that the action would be refused.
 fn told(slice: &Slice<Global>, action: Action, taken: bool) -> Option<Refusal> {
-    slice.refusal(action, taken)
+    let terms = Terms {
+        slot_taken: taken,
+        credits: [true; 4],
+    };
+    slice.refusal(action, terms)
 }
 
 /// Why agent 0's step at line 0 would be refused.

@@ -5,7 +5,7 @@ use crate::moves::{
     LINE, answer, answers, asks, at, brings, does, look, recorded, slice_of, takes_data, waits,
 };
 use chi_flit::{Agent, Kind, Line, Refusal, Slot, State, WordNo};
-use chi_slice::{Action, LineView, Slice, Step};
+use chi_slice::{Action, LineView, Slice, Step, Terms};
 use std::alloc::Global;
 use std::process::Abort;
 
@@ -19,7 +19,9 @@ fn seen(slice: &Slice<Global>) -> Seen {
 
 /// The number with which the slice says that it would refuse the action.
 fn told(slice: &Slice<Global>, action: Action) -> Option<u8> {
-    slice.refusal(action, false).map(|refusal| refusal.number())
+    slice
+        .refusal(action, Terms::NONE)
+        .map(|refusal| refusal.number())
 }
 
 /// The number with which the slice refuses the action.

@@ -4,9 +4,8 @@
 use crate::moves::{LINE, answer, at, look, slice_of};
 use crate::refusals::STEPS;
 use crate::runs::{Move, RUNS, Run};
-use chi_audit::check;
 use chi_flit::{Agent, Kind, Line, Slot, WordNo};
-use chi_slice::{Action, Slice, Step};
+use chi_slice::{Action, Slice, Step, check};
 use std::alloc::Global;
 use std::process::Abort;
 

@@ -2,9 +2,8 @@
 
 use crate::four_slices::OPENING;
 use crate::moves::{does, slice_of, view};
-use chi_audit::{check, check_slice};
 use chi_flit::{DatUp, Kind, NO_DATA, Slot, State, Step, WordNo};
-use chi_slice::{Config, LineView, Slice};
+use chi_slice::{Config, LineView, Slice, check, check_slice};
 use std::alloc::Global;
 use std::process::Abort;
 

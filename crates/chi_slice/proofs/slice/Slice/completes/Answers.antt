@@ -1,35 +1,20 @@
--- What the home's part of the line and the agent's flits say is what the slice says.
-use Rattle.std.proofs.Common.{◌≡◌, ◌∙◌, arith, rules, sym}
+-- What the line says is what the slice says.
+use Rattle.std.proofs.Common.{◌≡◌, ◌∙◌, ℕ, ap, get_or, rules, sym}
+use Rattle.chi_line.specs.LineState.{LineState, cells_of}
 use Rattle.chi_line.specs.Refused.{completed_at}
-use Rattle.chi_wires.specs.Wires.{flits_at}
-use Rattle.chi_slice.specs.Slice.{SliceState}
-use Rattle.chi_slice.proofs.Acts.{completes_read, out_completes}
-use Rattle.chi_slice.proofs.PartReads.{acting_row}
+use Rattle.chi_slice.specs.Slice.{SliceState, slice_of}
+use Rattle.chi_slice.proofs.Acts.{completes_at}
+use Rattle.chi_slice.proofs.LineReads.{line_now}
 use Rattle.chi_slice.proofs.Rows.{in_range}
 use Rattle.chi_slice.proofs.slice.Slice.completes.Goals as goal
 
-pub returns : goal.returns
-returns g c =
-    let s : SliceState = record { config = c.self.inside.config; index = c.self.inside.index; requesters = c.self.inside.requesters.items; homes = c.self.inside.homes.items; wires = c.self.inside.wires; journal = c.self.inside.journal } in
-    let told : c.completed_at.result ≡ completed_at c.index.result.now (flits_at c.self.inside.wires c.row_of-row.result c.args.action.agent.0) c.args.action.agent c.args.action.step = search (rules, c.completed_at.ensures, c.cells-cells.ensures) in
-    told ∙ (completes_read c.args.self.now s c.args.action c.row_of-row.result c.from-place.result c.index.result.now c.self.invariant.0 c.self.view_is c.if-not-is_in_range.ensures c.row_of-row.ensures.row c.from-place.ensures c.index.ensures)
-
-pub completed_at-requires : goal.completed_at-requires
-completed_at-requires g c = (in_range c.args.self.now c.args.action c.row_of-row.ensures.kept (sym c.if-not-is_in_range.ensures)).agent
-
-pub returns-then-not-is_in_range : goal.returns-then-not-is_in_range
-returns-then-not-is_in_range g c = out_completes c.args.self.now c.args.action c.if-not-is_in_range.ensures
-
-pub cells-cells-requires-clause-agent : goal.cells-cells-requires-clause-agent
-cells-cells-requires-clause-agent g c = (in_range c.args.self.now c.args.action c.row_of-row.ensures.kept (sym c.if-not-is_in_range.ensures)).agent
-
-pub cells-cells-requires-clause-line : goal.cells-cells-requires-clause-line
-cells-cells-requires-clause-line g c =
-    let s : SliceState = record { config = c.self.inside.config; index = c.self.inside.index; requesters = c.self.inside.requesters.items; homes = c.self.inside.homes.items; wires = c.self.inside.wires; journal = c.self.inside.journal } in
-    (acting_row c.args.self.now s c.args.action c.row_of-row.result c.self.invariant.0 c.row_of-row.ensures.kept c.self.view_is c.if-not-is_in_range.ensures c.row_of-row.ensures.row).flits
-
-pub index-requires : goal.index-requires
-index-requires g c =
-    let s : SliceState = record { config = c.self.inside.config; index = c.self.inside.index; requesters = c.self.inside.requesters.items; homes = c.self.inside.homes.items; wires = c.self.inside.wires; journal = c.self.inside.journal } in
-    let low = (acting_row c.args.self.now s c.args.action c.row_of-row.result c.self.invariant.0 c.row_of-row.ensures.kept c.self.view_is c.if-not-is_in_range.ensures c.row_of-row.ensures.row).home in
-    omega (arith, low, c.from-place.ensures, c.self.inside.homes.ok.0)
+pub returns-in-Some : goal.returns-in-Some
+returns-in-Some g c =
+    let s : SliceState = slice_of c.self.inside.config c.self.inside.index c.self.inside.lines.items c.self.inside.journal in
+    let told : c.completed.result ≡ completed_at c.index.result.now.home (cells_of c.index.result.now c.args.action.agent.0) c.args.action.agent c.args.action.step = search (rules, c.completed.ensures) in
+    told
+    ∙ (ap (λ (l : LineState). completed_at l.home (cells_of l c.args.action.agent.0) c.args.action.agent c.args.action.step)
+    (line_now c.args.self.now s c.args.action.line.0 c.in-Some.row c.self.invariant.0 c.self.view_is
+    (record { here = (in_range c.args.self.now c.args.action c.in-Some.ensures.kept (sym c.in-Some.ensures.inside)).line; row_is = c.in-Some.ensures.row })
+    (c.index.ensures ∙ ap (λ (n : ℕ). get_or s.lines n c.index.result.now) c.from.ensures))
+    ∙ completes_at c.args.self.now c.args.action (sym c.in-Some.ensures.inside))

@@ -1,4 +1,0 @@
-pub mod Shown
-pub mod Lines
-pub mod Always
-pub mod Audited

@@ -1,6 +1,0 @@
--- A verdict on the plain data is one on the line that it shows.
-use Rattle.chi_audit.proofs.Shown.{verdict_on}
-use Rattle.chi_audit.proofs.verdict.check.Goals as goal
-
-pub returns-clause-line : goal.returns-clause-line
-returns-clause-line c = verdict_on c.args.view.now c.is_coherent.result c.is_coherent.ensures

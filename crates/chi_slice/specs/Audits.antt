@@ -1,0 +1,19 @@
+-- What is counted in the slices of a node, and the verdict on them (docs/PROTOCOL.md, "Coherence" and
+-- "Replay files").
+use Rattle.std.specs.Prelude.{◌≡◌, ◌↔◌, ℕ, List, All, Bool, IsTrue, sum_by}
+use Rattle.chi_journal.specs.Journal.{loads_of, stores_of}
+use Rattle.chi_slice.specs.Slice.{SliceState}
+use Rattle.chi_slice.specs.Coherence.{IsCoherentSlice}
+
+-- the loads and the stores in the journals of slices
+abbrev pub loads_in : List SliceState → ℕ
+loads_in slices = sum_by (λ s. loads_of s.journal.entries) slices
+
+abbrev pub stores_in : List SliceState → ℕ
+stores_in slices = sum_by (λ s. stores_of s.journal.entries) slices
+
+-- the loads and the stores of slices, and whether each slice is coherent
+pub record IsAudited (slices : List SliceState) (l s : ℕ) (verdict : Bool) : Type 0 where
+  pub loads : l ≡ loads_in slices
+  pub stores : s ≡ stores_in slices
+  pub coherent : IsTrue verdict ↔ All IsCoherentSlice slices
