@@ -12,9 +12,9 @@ use Rattle.chi_credit.specs.declared.slot.SlotState.TheVariants.{Cancelled, Idle
 use Rattle.chi_credit.specs.declared.slot.SlotRecord.{SlotRecord}
 use Rattle.chi_credit.specs.Slot.{idle_slot}
 use Rattle.chi_credit.specs.Account.{slot_at, state_at}
-use Rattle.chi_node.specs.Agree.{Agree, IsTold, told_at}
+use Rattle.chi_node.specs.Agree.{Agree, MatchesRecord, where_of_state}
 use Rattle.chi_node.specs.Requester.{RequesterState, with_port}
-use Rattle.chi_node.proofs.Records.{told_none}
+use Rattle.chi_node.proofs.Records.{record_nowhere}
 
 -- another view of the port
 pub ported_agrees : (s : SliceState) (r r' : RequesterState) → r' ≡ with_port r'.port r → Agree s r → Agree s r'
@@ -24,12 +24,14 @@ ported_agrees s r r' is a = subst (Agree s) (sym is) (record { slots = a.slots; 
 not_shown : {o : Option Where} (at : Where) → o ≡ None → o ≡ Some at → ⊥
 not_shown at none is = cc (none, is)
 
-told_idle : (s : SliceState) (n : ℕ) (slot : Slot) (x : SlotRecord) → x.state ≡ Cancelled → IsTold s n slot x → IsTold s n slot idle_slot
-told_idle s n slot x is a =
-    let none : told_at x.state x.answered ≡ None = ap (λ (z : SlotState). told_at z x.answered) is in
+idle_matches : (s : SliceState) (n : ℕ) (slot : Slot) (x : SlotRecord) → x.state ≡ Cancelled → MatchesRecord s n slot x → MatchesRecord s n slot idle_slot
+idle_matches s n slot x is a =
+    let none : where_of_state x.state x.answered ≡ None = ap (λ (z : SlotState). where_of_state z x.answered) is in
     record {
-      places = λ l here. a.places l here ∙ (told_none x l none ∙ sym (told_none idle_slot l refl));
-      types = λ l at here shown. absurd (not_shown at (a.places l here ∙ told_none x l none) shown);
+      lines = λ l here. let own = a.lines l here in record {
+        place = own.place ∙ (record_nowhere x l none ∙ sym (record_nowhere idle_slot l refl));
+        type = λ at shown. absurd (not_shown at (own.place ∙ record_nowhere x l none) shown);
+      };
     }
 
 -- a Cancelled slot is one of the slots
@@ -39,11 +41,11 @@ is_slot slots k is = ⊎_elim (λ low. low) (λ past. absurd (no_idle (ap (λ (x
     no_idle : {z : SlotState} → z ≡ Idle → z ≡ Cancelled → ⊥
     no_idle idle cancelled = cc (idle, cancelled)
 
-freed_slots : (s : SliceState) (n : ℕ) (slots : List SlotRecord) (k : ℕ) → state_at slots k ≡ Cancelled → ((slot : Slot) → slot.0 < 8 → IsTold s n slot (slot_at slots slot.0)) → (slot : Slot) → slot.0 < 8 → IsTold s n slot (slot_at (set slots k idle_slot) slot.0)
-freed_slots s n slots k is told slot low = ⊎_elim
-    (λ (own : slot.0 ≡ k). subst (IsTold s n slot) (sym (get_or-set_at slots k slot.0 idle_slot idle_slot own (is_slot slots k is)))
-    (told_idle s n slot (slot_at slots slot.0) (ap (λ (i : ℕ). state_at slots i) own ∙ is) (told slot low)))
-    (λ apart. subst (IsTold s n slot) (sym (get_or-set_other slots k slot.0 idle_slot idle_slot apart)) (told slot low))
+freed_slots : (s : SliceState) (n : ℕ) (slots : List SlotRecord) (k : ℕ) → state_at slots k ≡ Cancelled → ((slot : Slot) → slot.0 < 8 → MatchesRecord s n slot (slot_at slots slot.0)) → (slot : Slot) → slot.0 < 8 → MatchesRecord s n slot (slot_at (set slots k idle_slot) slot.0)
+freed_slots s n slots k is matching slot low = ⊎_elim
+    (λ (own : slot.0 ≡ k). subst (MatchesRecord s n slot) (sym (get_or-set_at slots k slot.0 idle_slot idle_slot own (is_slot slots k is)))
+    (idle_matches s n slot (slot_at slots slot.0) (ap (λ (i : ℕ). state_at slots i) own ∙ is) (matching slot low)))
+    (λ apart. subst (MatchesRecord s n slot) (sym (get_or-set_other slots k slot.0 idle_slot idle_slot apart)) (matching slot low))
     (cases_eq slot.0 k)
 
 -- a Cancelled slot becomes Idle

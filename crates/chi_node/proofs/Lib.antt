@@ -1,6 +1,6 @@
 pub mod Keeps
 pub mod Openings
-pub mod Told
+pub mod Matches
 pub mod AgreeRows
 pub mod Records
 pub mod Agreement

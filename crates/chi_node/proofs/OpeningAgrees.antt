@@ -14,29 +14,27 @@ use Rattle.chi_line.specs.Places.{where_at}
 use Rattle.chi_slice.specs.Slice.{is_line_in_range, line, opening_slice, row_count, row_of_line}
 use Rattle.chi_slice.proofs.Rows.{InLimits, in_limits, row_in_range}
 use Rattle.chi_slice.proofs.SlotNumbers.{opening_unused}
-use Rattle.chi_slice.proofs.Slices.{same_line}
 use Rattle.chi_line.proofs.Wheres.{unused_shows}
 use Rattle.chi_credit.specs.declared.slot.SlotRecord.{SlotRecord}
 use Rattle.chi_credit.specs.Slot.{idle_slot}
 use Rattle.chi_credit.specs.Account.{all_idle, slot_at}
-use Rattle.chi_node.specs.Agree.{Agree, told}
+use Rattle.chi_node.specs.Agree.{Agree, where_of_record}
 use Rattle.chi_node.specs.Parts.{AllAgree}
 use Rattle.chi_node.specs.Requester.{opening_requester}
-use Rattle.chi_node.proofs.Records.{told_none}
-use Rattle.chi_node.proofs.Told.{few_slices}
+use Rattle.chi_node.proofs.Records.{record_nowhere}
+use Rattle.chi_node.proofs.Matches.{few_slices}
 
 opening_at : (config : Sizes) (index l : ℕ) → are_in_limits config ≡ true → index < config.slices → is_line_in_range (opening_slice config index) l ≡ true → line (opening_slice config index) l ≡ opening_line
 opening_at config index l limits inside here =
     let low : row_of_line (opening_slice config index) l < row_count config index = row_in_range (opening_slice config index) l limits inside here in
-    same_line _ _ _ _ _ _ (get_or-replicate (row_count config index) (row_of_line (opening_slice config index) l) (replicate 8 no_line) [] low) (get_or-replicate (row_count config index) (row_of_line (opening_slice config index) l) idle_home idle_home low)
-    (get_or-replicate (row_count config index) (row_of_line (opening_slice config index) l) (replicate 8 no_flits) [] low)
+    get_or-replicate (row_count config index) (row_of_line (opening_slice config index) l) opening_line opening_line low
 
 opening_shows : (config : Sizes) (index n l : ℕ) (slot : Slot) → are_in_limits config ≡ true → index < config.slices → n < 8 → is_line_in_range (opening_slice config index) l ≡ true → where_at (line (opening_slice config index) l) n slot ≡ None
 opening_shows config index n l slot limits inside low here =
     ap (λ (z : LineState). where_at z n slot) (opening_at config index l limits inside here) ∙ unused_shows opening_line n slot (opening_unused n slot low)
 
-opening_told : (k l : ℕ) → k < 8 → told (slot_at all_idle k) l ≡ None
-opening_told k l low = ap (λ (x : SlotRecord). told x l) (get_or-replicate 8 k idle_slot idle_slot low) ∙ told_none idle_slot l refl
+opening_nowhere : (k l : ℕ) → k < 8 → where_of_record (slot_at all_idle k) l ≡ None
+opening_nowhere k l low = ap (λ (x : SlotRecord). where_of_record x l) (get_or-replicate 8 k idle_slot idle_slot low) ∙ record_nowhere idle_slot l refl
 
 opening_agrees : (config : Sizes) (table : TableId) (shape : Shape) (index number : ℕ) → are_in_limits config ≡ true → index < config.slices → number < config.agents → Agree (opening_slice config index) (opening_requester table shape number)
 opening_agrees config table shape index number limits inside near =
@@ -45,8 +43,10 @@ opening_agrees config table shape index number limits inside near =
     let first : index < 8 = omega (arith, inside, few_slices config.slices in_config.count) in
     record {
       slots = λ slot at. record {
-        places = λ l here. opening_shows config index number l slot limits inside low here ∙ sym (opening_told slot.0 l at);
-        types = λ l where_is here is. absurd (nowhere where_is (opening_shows config index number l slot limits inside low here) is);
+        lines = λ l here. let none = opening_shows config index number l slot limits inside low here in record {
+          place = none ∙ sym (opening_nowhere slot.0 l at);
+          type = λ where_is is. absurd (nowhere where_is none is);
+        };
       };
       count = get_or-replicate 8 index 0 0 first;
     }

@@ -38,16 +38,6 @@ four_types t0 t1 t2 t3 agents a b c d (suc (suc (suc zero))) l = lt-ltb 0 t3 (om
 four_types t0 t1 t2 t3 agents a b c d (suc (suc (suc (suc t)))) l = absurd (omega arith)
 
 fits : (profile : Profile) (entries : List ℕ) (agents : ℕ) → are_entries profile entries ≡ true → Fits profile entries agents
-fits Two [] agents h = absurd (cc (h))
-fits Two (t0 ∷ []) agents h = absurd (cc (h))
-fits Two (t0 ∷ (t1 ∷ [])) agents h = absurd (cc (h))
-fits Two (t0 ∷ (t1 ∷ (t2 ∷ []))) agents h = absurd (cc (h))
-fits Two (t0 ∷ (t1 ∷ (t2 ∷ (t3 ∷ (t4 ∷ more))))) agents h = absurd (cc (h))
-fits Four [] agents h = absurd (cc (h))
-fits Four (t0 ∷ []) agents h = absurd (cc (h))
-fits Four (t0 ∷ (t1 ∷ [])) agents h = absurd (cc (h))
-fits Four (t0 ∷ (t1 ∷ (t2 ∷ []))) agents h = absurd (cc (h))
-fits Four (t0 ∷ (t1 ∷ (t2 ∷ (t3 ∷ (t4 ∷ more))))) agents h = absurd (cc (h))
 fits Two (t0 ∷ t1 ∷ t2 ∷ t3 ∷ []) agents h =
     let z = both (nat_le 1 t0) _ h in
     let a = both (nat_le 1 t1) _ z.1 in
@@ -67,6 +57,7 @@ fits Four (t0 ∷ t1 ∷ t2 ∷ t3 ∷ []) agents h =
       few = omega (arith, at_most (t0 + (t1 + (t2 + t3))) 256 c.1);
       types = four_types t0 t1 t2 t3 agents (at_most 1 t0 z.0) (at_most 1 t1 a.0) (at_most 1 t2 b.0) (at_most 1 t3 c.0);
     }
+fits profile other agents h = absurd (cc (h))
 
 sizes_fit : (config : Sizes) → are_in_limits config ≡ true → Fits config.profile config.entries config.agents
 sizes_fit config h = fits config.profile config.entries config.agents

@@ -7,30 +7,30 @@ use Rattle.chi_credit.specs.declared.slot.SlotState.{SlotState}
 use Rattle.chi_credit.specs.declared.slot.SlotState.TheVariants.{Admitted, Cancelled, Closing, Idle, Refused, Retried, Riding, Sent}
 use Rattle.chi_credit.specs.declared.slot.SlotRecord.{SlotRecord}
 use Rattle.chi_credit.specs.Slot.{after_answer, after_answer_in, after_finish, idle_slot, in_state, is_admitted}
-use Rattle.chi_node.specs.Agree.{told, told_at}
-use Rattle.chi_node.proofs.Told.{shown_at, shown_else, shown_here, shown_nothing, shown_some}
+use Rattle.chi_node.specs.Agree.{where_of_record, where_of_state}
+use Rattle.chi_node.proofs.Matches.{shown_at, shown_else, shown_here, shown_nothing, shown_some}
 
 -- a record says nothing of any line but one
 pub record OnlyAt (l : ℕ) (x : SlotRecord) : Type 0 where
-  pub nothing : (other : ℕ) → other ≢ l → told x other ≡ None
+  pub nothing : (other : ℕ) → other ≢ l → where_of_record x other ≡ None
 
 pub only_there : (l : ℕ) (x : SlotRecord) → x.line.0 ≡ l → OnlyAt l x
-only_there l x is = record { nothing = λ other away. shown_else x.line.0 other (told_at x.state x.answered) (λ (e : x.line.0 ≡ other). away (sym e ∙ is)) }
+only_there l x is = record { nothing = λ other away. shown_else x.line.0 other (where_of_state x.state x.answered) (λ (e : x.line.0 ≡ other). away (sym e ∙ is)) }
 
-pub told_none : (x : SlotRecord) (l : ℕ) → told_at x.state x.answered ≡ None → told x l ≡ None
-told_none x l none = ap (shown_by x.line.0 l) none ∙ shown_nothing x.line.0 l
+pub record_nowhere : (x : SlotRecord) (l : ℕ) → where_of_state x.state x.answered ≡ None → where_of_record x l ≡ None
+record_nowhere x l none = ap (shown_by x.line.0 l) none ∙ shown_nothing x.line.0 l
   where
     shown_by : ℕ → ℕ → Option Where → Option Where
     shown_by own l at = shown_at own at l
 
-pub only_nowhere : (l : ℕ) (x : SlotRecord) → told_at x.state x.answered ≡ None → OnlyAt l x
-only_nowhere l x none = record { nothing = λ other away. told_none x other none }
+pub only_nowhere : (l : ℕ) (x : SlotRecord) → where_of_state x.state x.answered ≡ None → OnlyAt l x
+only_nowhere l x none = record { nothing = λ other away. record_nowhere x other none }
 
-pub told_here : (x : SlotRecord) (l : ℕ) (at : Option Where) → x.line.0 ≡ l → told_at x.state x.answered ≡ at → told x l ≡ at
-told_here x l at here is = subst (λ (j : ℕ). told x j ≡ at) here (shown_here x.line.0 (told_at x.state x.answered) ∙ is)
+pub record_here : (x : SlotRecord) (l : ℕ) (at : Option Where) → x.line.0 ≡ l → where_of_state x.state x.answered ≡ at → where_of_record x l ≡ at
+record_here x l at here is = subst (λ (j : ℕ). where_of_record x j ≡ at) here (shown_here x.line.0 (where_of_state x.state x.answered) ∙ is)
 
-pub told_is : (x : SlotRecord) (l : ℕ) (at : Where) → told x l ≡ Some at → (x.line.0 ≡ l) × (told_at x.state x.answered ≡ Some at)
-told_is x l at is = shown_some x.line.0 l (told_at x.state x.answered) at is
+pub record_is : (x : SlotRecord) (l : ℕ) (at : Where) → where_of_record x l ≡ Some at → (x.line.0 ≡ l) × (where_of_state x.state x.answered ≡ Some at)
+record_is x l at is = shown_some x.line.0 l (where_of_state x.state x.answered) at is
 
 -- what a place tells of a slot's state
 abbrev pub Tells : SlotState → Bool → Option Where → Type 0
@@ -43,7 +43,7 @@ Tells state answered (Some places.Admitted) = (is_admitted state ≡ true) × (a
 Tells state answered (Some places.Answered) = (is_admitted state ≡ true) × (answered ≡ true)
 Tells state answered (Some places.Closing) = state ≡ Closing
 
-tells : (state : SlotState) (answered : Bool) → Tells state answered (told_at state answered)
+tells : (state : SlotState) (answered : Bool) → Tells state answered (where_of_state state answered)
 tells Idle answered = tt
 tells Sent answered = refl
 tells Refused answered = refl
@@ -54,37 +54,45 @@ tells (Admitted entry) false = (refl, refl)
 tells Closing answered = refl
 tells Cancelled answered = tt
 
-pub tells_of : (x : SlotRecord) (at : Where) → told_at x.state x.answered ≡ Some at → Tells x.state x.answered (Some at)
+pub tells_of : (x : SlotRecord) (at : Where) → where_of_state x.state x.answered ≡ Some at → Tells x.state x.answered (Some at)
 tells_of x at is = subst (Tells x.state x.answered) is (tells x.state x.answered)
 
--- an Admitted slot that is answered stays, and is marked
-pub record IsMarked (x y : SlotRecord) : Type 0 where
-  pub line : y.line ≡ x.line
-  pub credit : y.credit ≡ x.credit
-  pub at : told_at y.state y.answered ≡ Some places.Answered
+-- a record becomes another one that says where its request is now, of the same line and credit type if it is anywhere
+pub record Becomes (x y : SlotRecord) (to : Option Where) : Type 0 where
+  pub says : where_of_state y.state y.answered ≡ to
+  pub line : (at : Where) → to ≡ Some at → y.line.0 ≡ x.line.0
+  pub credit : (at : Where) → to ≡ Some at → y.credit ≡ x.credit
 
-pub marked : (x : SlotRecord) → is_admitted x.state ≡ true → IsMarked x (after_answer x)
-marked x admitted = go x.state refl admitted
+pub freed : (x y : SlotRecord) → y ≡ idle_slot → Becomes x y None
+freed x y is = record { says = ap (λ (z : SlotRecord). where_of_state z.state z.answered) is; line = λ at h. absurd (cc (h)); credit = λ at h. absurd (cc (h)) }
+
+-- another state
+pub restated : (x : SlotRecord) (state : SlotState) (to : Option Where) → where_of_state state x.answered ≡ to → Becomes x (in_state state x) to
+restated x state to says = record { says = says; line = λ at h. refl; credit = λ at h. refl }
+
+-- an Admitted slot that is answered is marked, and a Closing one is free
+pub answered : (x : SlotRecord) → is_admitted x.state ≡ true → Becomes x (after_answer x) (Some places.Answered)
+answered x admitted = go x.state refl admitted
   where
-    go : (state : SlotState) → x.state ≡ state → is_admitted state ≡ true → IsMarked x (after_answer x)
-    go Idle is h = absurd (cc (h))
-    go Sent is h = absurd (cc (h))
-    go Refused is h = absurd (cc (h))
-    go Retried is h = absurd (cc (h))
-    go Riding is h = absurd (cc (h))
-    go (Admitted entry) is h =
-        let same : after_answer x ≡ record x { answered = true } = ap (λ (z : SlotState). after_answer_in z x) is in
-        subst (IsMarked x) (sym same) (record { line = refl; credit = refl; at = ap (λ (z : SlotState). told_at z true) is })
-    go Closing is h = absurd (cc (h))
-    go Cancelled is h = absurd (cc (h))
+    go : (state : SlotState) → x.state ≡ state → is_admitted state ≡ true → Becomes x (after_answer x) (Some places.Answered)
+    go (Admitted entry) is h = subst (λ (z : SlotState). Becomes x (after_answer_in z x) (Some places.Answered)) (sym is) (record { says = ap (λ (z : SlotState). where_of_state z true) is; line = λ at e. refl; credit = λ at e. refl })
+    go other is h = absurd (cc (h))
 
--- a Closing one is free
-pub closed : (x : SlotRecord) → x.state ≡ Closing → after_answer x ≡ idle_slot
-closed x is = ap (λ (z : SlotState). after_answer_in z x) is
+pub closed : (x : SlotRecord) → x.state ≡ Closing → Becomes x (after_answer x) None
+closed x is = freed x (after_answer x) (ap (λ (z : SlotState). after_answer_in z x) is)
 
--- the home's part is over: an answered slot is free, another one Closing
-pub freed : (x : SlotRecord) → x.answered ≡ true → after_finish x ≡ idle_slot
-freed x is = ap (λ (b : Bool). if b then idle_slot else in_state Closing x) is
+-- where the home's part is over, an answered slot is free, and another one Closing
+pub ended : (x : SlotRecord) → x.answered ≡ true → Becomes x (after_finish x) None
+ended x is = freed x (after_finish x) (ap (λ (b : Bool). if b then idle_slot else in_state Closing x) is)
 
-pub closing : (x : SlotRecord) → x.answered ≡ false → after_finish x ≡ in_state Closing x
-closing x is = ap (λ (b : Bool). if b then idle_slot else in_state Closing x) is
+pub closing : (x : SlotRecord) → x.answered ≡ false → Becomes x (after_finish x) (Some places.Closing)
+closing x is = subst (λ (b : Bool). Becomes x (if b then idle_slot else in_state Closing x) (Some places.Closing)) (sym is) (restated x Closing (Some places.Closing) refl)
+
+-- so it says of the line where it was that its request is there, and nothing of others
+pub says_here : (x y : SlotRecord) (l : ℕ) (to : Option Where) → x.line.0 ≡ l → Becomes x y to → where_of_record y l ≡ to
+says_here x y l None here b = record_nowhere y l b.says
+says_here x y l (Some at) here b = record_here y l (Some at) (b.line at refl ∙ here) b.says
+
+pub only_after : (x y : SlotRecord) (l : ℕ) (to : Option Where) → x.line.0 ≡ l → Becomes x y to → OnlyAt l y
+only_after x y l None here b = only_nowhere l y b.says
+only_after x y l (Some at) here b = only_there l y (b.line at refl ∙ here)

@@ -23,24 +23,27 @@ use Rattle.chi_slice.specs.Config.{Sizes, are_entries, are_in_limits, is_between
 use Rattle.chi_slice.specs.Index.{SlotsInRange}
 use Rattle.chi_line.specs.LineState.{cells_of, rn_of}
 use Rattle.chi_line.specs.Refused.{first_of, full_if, line_refusal, step_refusal}
-use Rattle.chi_slice.specs.Slice.{SliceKept, SliceState, acted, conditions_of, conditions_with, is_in_range, is_slot_used, line, refused, refused_with}
+use Rattle.chi_slice.specs.Slice.{SliceKept, SliceState, acted, conditions_of, conditions_under, is_in_range, is_slot_used, line, refused}
+use Rattle.chi_line.specs.declared.act.Conditions.{Conditions}
 use Rattle.chi_line.specs.Step.{effect_of, is_comp, pending_slot}
-use Rattle.chi_line.specs.Types.{has_type, pending_credit, pending_kind_of}
-use Rattle.chi_slice.proofs.Acts.{Allowed, allowed}
+use Rattle.chi_line.specs.Types.{has_type, is_of_type, pending_credit, pending_kind_of}
+use Rattle.chi_line.specs.declared.seen.Where.TheVariants as places
+use Rattle.chi_slice.proofs.Acts.{Allowed, allowed, kept_acted}
 use Rattle.chi_line.proofs.After.{flit_there, issue_allowed}
 use Rattle.chi_slice.proofs.Rows.{InRange, at_most, both, in_range}
 use Rattle.chi_slice.proofs.SliceMoves.{slice_moves}
 use Rattle.chi_credit.specs.declared.slot.SlotState.{SlotState}
 use Rattle.chi_credit.specs.declared.slot.SlotState.TheVariants as states
-use Rattle.chi_credit.specs.Slot.{is_idle}
-use Rattle.chi_credit.specs.Account.{riding_of, slot_at, state_at}
+use Rattle.chi_credit.specs.Slot.{in_state, is_idle}
+use Rattle.chi_credit.specs.Account.{riding_of, slot_at, state_at, type_at}
 use Rattle.chi_node.specs.Requester.{RequesterKept, RequesterState}
-use Rattle.chi_node.specs.Agree.{Agree, IsTold, KeepsAgreement}
-use Rattle.chi_node.specs.Calls.{CanStep, CountsStep, credit_refusal, is_own_step, is_slot_taken, place_at}
-use Rattle.chi_node.specs.Followed.{CanFinish, Finishes}
-use Rattle.chi_node.proofs.Told.{index_low}
+use Rattle.chi_node.specs.Agree.{Agree, MatchesRecord, KeepsAgreement}
+use Rattle.chi_node.specs.Calls.{CanStep, CountsStep, credit_refusal, is_own_step, is_slot_taken, place_at, refused_with, slot_terms}
+use Rattle.chi_node.specs.AfterStep.{CanFinish, CanResend, Finishes}
+use Rattle.chi_node.proofs.Matches.{index_low}
 use Rattle.chi_node.proofs.Agreement.{action_of, counts_step, keeps}
-use Rattle.chi_node.proofs.Stepping.{Fine, Ready, fine_acknowledged, fine_answer, fine_cancelled, fine_comp, fine_data, fine_dbid, fine_drop, fine_issue, fine_load, fine_resent, fine_retried, fine_snoop, fine_started, fine_store, fine_written, pending_of, some_slot}
+use Rattle.chi_node.proofs.Records.{restated, tells_of}
+use Rattle.chi_node.proofs.Stepping.{Fine, Ready, answer_fine, change_fine, comp_fine, fine_end, fine_load, fine_start, fine_step, issue_fine, no_slot_moves}
 
 pub ready_by : (s : SliceState) (agent : Agent) (l : Line) (step : Step) (r : RequesterState) → agent.0 ≡ r.number → SliceKept s → SlotsInRange s → refused s (action_of agent l step) ≡ None → Agree s r → RequesterKept r.port.shape.sizes r → Ready s agent l step r
 ready_by s agent l step r own kept numbers may agrees requester =
@@ -55,11 +58,11 @@ ready_by s agent l step r own kept numbers may agrees requester =
       eight = requester.eight;
       counts = requester.slices;
       index = index_low s kept;
-      told_all = λ slot low. subst (λ (n : ℕ). IsTold s n slot (slot_at r.slots slot.0)) (sym own) (agrees.slots slot low);
+      matching = λ slot low. subst (λ (n : ℕ). MatchesRecord s n slot (slot_at r.slots slot.0)) (sym own) (agrees.slots slot low);
     }
 
-pub ready_of : (s : SliceState) (agent : Agent) (l : Line) (step : Step) (r : RequesterState) → agent.0 ≡ r.number → CanStep s r (action_of agent l step) → Ready s agent l step r
-ready_of s agent l step r own can = ready_by s agent l step r own can.kept can.numbers can.allowed can.agrees can.requester
+pub ready_of : (s : SliceState) (agent : Agent) (l : Line) (step : Step) (r : RequesterState) → agent.0 ≡ r.number → Agree s r → CanStep s r (action_of agent l step) → Ready s agent l step r
+ready_of s agent l step r own agrees can = ready_by s agent l step r own can.kept can.numbers can.allowed agrees can.requester
 
 -- the two parts of a refusal
 first_none : (a b : Option Refusal) → first_of a b ≡ None → (a ≡ None) × (b ≡ None)
@@ -78,19 +81,22 @@ few_records config h = at_most config.journal 65536 (both (nat_le 1 config.journ
 apart_by : (a b : ℕ) → (a == b) ≡ false → a ≢ b
 apart_by a b h e = grind (arith, h, e)
 
-room_of : (s : SliceState) (r : RequesterState) (action : Action) → CanStep s r action → is_full s.journal ≡ false → slice_index r.counts s.index < 65536
-room_of s r action can unfull =
+room_of : (s : SliceState) (r : RequesterState) (action : Action) → Agree s r → CanStep s r action → is_full s.journal ≡ false → slice_index r.counts s.index < 65536
+room_of s r action agrees can unfull =
     let few : s.config.journal ≤ 65536 = few_records s.config can.kept.config in
     let limit : s.journal.limit ≡ s.config.journal = can.kept.journal_limit in
     let part : length (part_of s.journal.entries r.number) ≤ length s.journal.entries = part_fits s.journal.entries r.number in
     let within : length s.journal.entries ≤ s.journal.limit = can.within in
     let other : length s.journal.entries ≢ s.journal.limit = apart_by (length s.journal.entries) s.journal.limit unfull in
-    let count : slice_index r.counts s.index ≡ length (part_of s.journal.entries r.number) = can.agrees.count in
+    let count : slice_index r.counts s.index ≡ length (part_of s.journal.entries r.number) = agrees.count in
     omega arith
 
 -- what refuses a step by its line
 by_line : (s : SliceState) (r : RequesterState) (agent : Agent) (l : Line) (step : Step) → CanStep s r (action_of agent l step) → step_refusal (conditions_of s (action_of agent l step)) (line s l.0) agent step ≡ None
 by_line s r agent l step can = (allowed s (action_of agent l step) can.allowed).by_line
+
+abbrev conditions_with : Bool → SliceState → Action → Conditions
+conditions_with taken s action = conditions_under (slot_terms taken) s action
 
 by_taken : (taken : Bool) (s : SliceState) (action : Action) → refused_with taken s action ≡ None → line_refusal (conditions_with taken s action) (line s action.line.0) action ≡ None
 by_taken taken s action h = go (is_in_range s action) h
@@ -100,9 +106,9 @@ by_taken taken s action h = go (is_in_range s action) h
     go false h = absurd (cc (h))
 
 -- an Issue's slot is Idle
-or_false : (a b : Bool) → (a || b) ≡ false → b ≡ false
+or_false : (a b : Bool) → (a || b) ≡ false → a ≡ false
 or_false true b h = absurd (cc (h))
-or_false false b h = h
+or_false false b h = refl
 
 second_false : (a b : Bool) → a ≡ true → (a && b) ≡ false → b ≡ false
 second_false true b is h = h
@@ -110,13 +116,7 @@ second_false false b is h = absurd (cc (is))
 
 untaken : (state : SlotState) → not (is_idle state) ≡ false → state ≡ states.Idle
 untaken states.Idle h = refl
-untaken states.Sent h = absurd (cc (h))
-untaken states.Refused h = absurd (cc (h))
-untaken states.Retried h = absurd (cc (h))
-untaken states.Riding h = absurd (cc (h))
-untaken (states.Admitted entry) h = absurd (cc (h))
-untaken states.Closing h = absurd (cc (h))
-untaken states.Cancelled h = absurd (cc (h))
+untaken other h = absurd (cc (h))
 
 low_by : (n : ℕ) → nat_lt n 8 ≡ true → n < 8
 low_by n h = grind (arith, h)
@@ -145,71 +145,87 @@ free_credit r profile (Some request) slot ty is typed free =
     itself : (n : ℕ) → (n == n) ≡ true
     itself n = grind arith
 
-pub fine : (s : SliceState) (agent : Agent) (l : Line) (step : Step) (r : RequesterState) → agent.0 ≡ r.number → is_own_step step ≡ true → CanStep s r (action_of agent l step) → Fine s agent l step r (effect_of (line s l.0) (action_of agent l step))
-fine s agent l (steps.Load word) r own mine can =
-    fine_load s agent l word r _ (ready_of s agent l (steps.Load word) r own can)
-    (room_of s r (action_of agent l (steps.Load word)) can (not_full (is_full s.journal) (first_none (load_refusal (rn_of (line s l.0) agent.0)) (full_if (is_full s.journal)) (by_line s r agent l (steps.Load word) can)).1))
-fine s agent l (steps.Store word value) r own mine can =
-    fine_store s agent l word value r (ready_of s agent l (steps.Store word value) r own can)
-    (room_of s r (action_of agent l (steps.Store word value)) can (not_full (is_full s.journal) (first_none (store_refusal (rn_of (line s l.0) agent.0)) (full_if (is_full s.journal)) (by_line s r agent l (steps.Store word value) can)).1))
-fine s agent l steps.Drop r own mine can = fine_drop s agent l r (ready_of s agent l steps.Drop r own can)
-fine s agent l (steps.Issue kind slot) r own mine can =
+has_credit : (s : SliceState) (r : RequesterState) (agent : Agent) (l : Line) (slot : Slot) → CanStep s r (action_of agent l steps.Resend) → pending_slot (rn_of (line s l.0) agent.0).pending ≡ Some slot
+    → is_of_type s.config.profile (slot_at r.slots slot.0).credit (line s l.0) agent.0 slot ≡ true → riding_of r.slots (type_at r.slots slot.0) < seen_of r.port (type_at r.slots slot.0)
+has_credit s r agent l slot can is typed = free_credit r s.config.profile (rn_of (line s l.0) agent.0).pending slot (slot_at r.slots slot.0).credit is
+    (both (has_type s.config.profile (slot_at r.slots slot.0).credit (pending_kind_of (rn_of (line s l.0) agent.0).pending slot)) _ typed).0
+    (first_none (refused_with false s (action_of agent l steps.Resend)) (credit_refusal r (pending_credit s.config.profile (rn_of (line s l.0) agent.0).pending)) can.called).1
+
+pub fine : (s : SliceState) (agent : Agent) (l : Line) (step : Step) (r : RequesterState) → agent.0 ≡ r.number → is_own_step step ≡ true → Agree s r → CanStep s r (action_of agent l step) → Fine s agent l step r (effect_of (line s l.0) (action_of agent l step))
+fine s agent l (steps.Load word) r own mine agrees can =
+    let ready : Ready s agent l (steps.Load word) r = ready_of s agent l (steps.Load word) r own agrees can in
+    fine_load s agent l (steps.Load word) r _ ready (
+      (
+        ready.index,
+        room_of s r (action_of agent l (steps.Load word)) agrees can (not_full (is_full s.journal)
+            (first_none (load_refusal (rn_of (line s l.0) agent.0)) (full_if (is_full s.journal)) (by_line s r agent l (steps.Load word) can)).1),
+      ),
+      no_slot_moves s agent l (steps.Load word) r ready refl,
+    )
+fine s agent l (steps.Store word value) r own mine agrees can =
+    let ready : Ready s agent l (steps.Store word value) r = ready_of s agent l (steps.Store word value) r own agrees can in
+    fine_step s agent l (steps.Store word value) r ready (
+      (
+        ready.index,
+        room_of s r (action_of agent l (steps.Store word value)) agrees can (not_full (is_full s.journal)
+            (first_none (store_refusal (rn_of (line s l.0) agent.0)) (full_if (is_full s.journal)) (by_line s r agent l (steps.Store word value) can)).1),
+      ),
+      no_slot_moves s agent l (steps.Store word value) r ready refl,
+    )
+fine s agent l (steps.Issue kind slot) r own mine agrees can =
+    let ready : Ready s agent l (steps.Issue kind slot) r = ready_of s agent l (steps.Issue kind slot) r own agrees can in
     let inside : InRange s (action_of agent l (steps.Issue kind slot)) = in_range s (action_of agent l (steps.Issue kind slot)) can.kept (allowed s (action_of agent l (steps.Issue kind slot)) can.allowed).inside in
     let called : refused_with (is_slot_taken r.slots (steps.Issue kind slot)) s (action_of agent l (steps.Issue kind slot)) ≡ None = (first_none (refused_with (is_slot_taken r.slots (steps.Issue kind slot)) s (action_of agent l (steps.Issue kind slot))) None can.called).0 in
-    fine_issue s agent l kind slot r (ready_of s agent l (steps.Issue kind slot) r own can) (low_by slot.0 inside.step)
-    (untaken (state_at r.slots slot.0) (second_false (nat_lt slot.0 8) (not (is_idle (state_at r.slots slot.0))) inside.step (or_false (is_slot_used s agent.0 (steps.Issue kind slot)) (is_slot_taken r.slots (steps.Issue kind slot))
-    (issue_allowed (is_slot_used s agent.0 (steps.Issue kind slot) || is_slot_taken r.slots (steps.Issue kind slot)) (rn_of (line s l.0) agent.0) kind (by_taken (is_slot_taken r.slots (steps.Issue kind slot)) s (action_of agent l (steps.Issue kind slot)) called)).idle_slot)))
-fine s agent l steps.Admit r own mine can = absurd (cc (mine))
-fine s agent l steps.Retry r own mine can = absurd (cc (mine))
-fine s agent l steps.RecvRetry r own mine can =
-    let ready : Ready s agent l steps.RecvRetry r = ready_of s agent l steps.RecvRetry r own can in
-    let found = some_slot (pending_of s agent l) (ready.moves.there refl) in
-    fine_retried s agent l r found.0 ready found.1
-fine s agent l steps.Resend r own mine can =
-    let ready : Ready s agent l steps.Resend r = ready_of s agent l steps.Resend r own can in
-    let found = some_slot (pending_of s agent l) (ready.moves.there refl) in
-    fine_resent s agent l r found.0 ready found.1
-    (λ low typed. free_credit r s.config.profile (rn_of (line s l.0) agent.0).pending found.0 (slot_at r.slots found.0.0).credit found.1
-    (both (has_type s.config.profile (slot_at r.slots found.0.0).credit (pending_kind_of (rn_of (line s l.0) agent.0).pending found.0)) _ typed).0
-    (first_none (refused_with false s (action_of agent l steps.Resend)) (credit_refusal r (pending_credit s.config.profile (rn_of (line s l.0) agent.0).pending)) can.called).1)
-fine s agent l steps.Cancel r own mine can =
-    let ready : Ready s agent l steps.Cancel r = ready_of s agent l steps.Cancel r own can in
-    let found = some_slot (pending_of s agent l) (ready.moves.there refl) in
-    fine_cancelled s agent l r found.0 ready found.1
-fine s agent l steps.Start r own mine can = fine_started s agent l r (effect_of (line s l.0) (action_of agent l steps.Start)) (ready_of s agent l steps.Start r own can) refl
-fine s agent l steps.RecvSnp r own mine can = fine_snoop s agent l r (ready_of s agent l steps.RecvSnp r own can)
-fine s agent l steps.RecvSnpResp r own mine can = fine_answer s agent l r (ready_of s agent l steps.RecvSnpResp r own can)
-fine s agent l steps.RecvData r own mine can =
-    let ready : Ready s agent l steps.RecvData r = ready_of s agent l steps.RecvData r own can in
-    let found = some_slot (pending_of s agent l) (ready.moves.there refl) in
-    fine_data s agent l r found.0 ready found.1
-fine s agent l steps.RecvComp r own mine can =
-    let ready : Ready s agent l steps.RecvComp r = ready_of s agent l steps.RecvComp r own can in
-    let found = some_slot (pending_of s agent l) (ready.moves.there refl) in
-    fine_comp s agent l r found.0 (cells_of (line s l.0) agent.0).rsp_down ready found.1 refl (flit_there (is_comp (cells_of (line s l.0) agent.0).rsp_down) (by_line s r agent l steps.RecvComp can))
-fine s agent l steps.RecvAck r own mine can = fine_acknowledged s agent l r (effect_of (line s l.0) (action_of agent l steps.RecvAck)) (ready_of s agent l steps.RecvAck r own can) refl
-fine s agent l steps.RecvDbid r own mine can =
-    let ready : Ready s agent l steps.RecvDbid r = ready_of s agent l steps.RecvDbid r own can in
-    let found = some_slot (pending_of s agent l) (ready.moves.there refl) in
-    fine_dbid s agent l r found.0 ready found.1
-fine s agent l steps.RecvWrData r own mine can = fine_written s agent l r (effect_of (line s l.0) (action_of agent l steps.RecvWrData)) (ready_of s agent l steps.RecvWrData r own can) refl
+    fine_step s agent l (steps.Issue kind slot) r ready (issue_fine s agent l kind slot r ready (low_by slot.0 inside.step)
+    (untaken (state_at r.slots slot.0) (second_false (nat_lt slot.0 8) (not (is_idle (state_at r.slots slot.0))) inside.step (or_false (is_slot_taken r.slots (steps.Issue kind slot)) (is_slot_used s agent.0 (steps.Issue kind slot))
+    (issue_allowed (is_slot_taken r.slots (steps.Issue kind slot) || is_slot_used s agent.0 (steps.Issue kind slot)) (rn_of (line s l.0) agent.0) kind (by_taken (is_slot_taken r.slots (steps.Issue kind slot)) s (action_of agent l (steps.Issue kind slot)) called)).idle_slot))))
+fine s agent l steps.Admit r own mine agrees can = absurd (cc (mine))
+fine s agent l steps.Retry r own mine agrees can = absurd (cc (mine))
+fine s agent l steps.RecvRetry r own mine agrees can =
+    let ready : Ready s agent l steps.RecvRetry r = ready_of s agent l steps.RecvRetry r own agrees can in
+    fine_step s agent l steps.RecvRetry r ready (change_fine s agent l steps.RecvRetry r places.Refused (λ k. state_at r.slots k ≡ states.Refused) (in_state states.Retried) ready refl refl refl
+    (λ slot its. (tells_of (slot_at r.slots slot.0) places.Refused its.tells, restated (slot_at r.slots slot.0) states.Retried (Some places.Retried) refl)))
+fine s agent l steps.Resend r own mine agrees can =
+    let ready : Ready s agent l steps.Resend r = ready_of s agent l steps.Resend r own agrees can in
+    fine_step s agent l steps.Resend r ready (change_fine s agent l steps.Resend r places.Retried (CanResend r) (in_state states.Riding) ready refl refl refl
+    (λ slot its. ((tells_of (slot_at r.slots slot.0) places.Retried its.tells, has_credit s r agent l slot can its.is its.typed), restated (slot_at r.slots slot.0) states.Riding (Some places.Riding) refl)))
+fine s agent l steps.Cancel r own mine agrees can =
+    let ready : Ready s agent l steps.Cancel r = ready_of s agent l steps.Cancel r own agrees can in
+    fine_step s agent l steps.Cancel r ready (change_fine s agent l steps.Cancel r places.Retried (λ k. state_at r.slots k ≡ states.Retried) (in_state states.Cancelled) ready refl refl refl
+    (λ slot its. (tells_of (slot_at r.slots slot.0) places.Retried its.tells, restated (slot_at r.slots slot.0) states.Cancelled None refl)))
+fine s agent l steps.Start r own mine agrees can = fine_start s agent l r (effect_of (line s l.0) (action_of agent l steps.Start)) (ready_of s agent l steps.Start r own agrees can) refl
+fine s agent l steps.RecvData r own mine agrees can =
+    let ready : Ready s agent l steps.RecvData r = ready_of s agent l steps.RecvData r own agrees can in
+    fine_step s agent l steps.RecvData r ready (answer_fine s agent l steps.RecvData r ready refl refl refl refl)
+fine s agent l steps.RecvDbid r own mine agrees can =
+    let ready : Ready s agent l steps.RecvDbid r = ready_of s agent l steps.RecvDbid r own agrees can in
+    fine_step s agent l steps.RecvDbid r ready (answer_fine s agent l steps.RecvDbid r ready refl refl refl refl)
+fine s agent l steps.RecvComp r own mine agrees can =
+    let ready : Ready s agent l steps.RecvComp r = ready_of s agent l steps.RecvComp r own agrees can in
+    let there = (cells_of (line s l.0) agent.0).rsp_down in
+    fine_step s agent l steps.RecvComp r ready (comp_fine s agent l r there ready refl (flit_there (is_comp there) (by_line s r agent l steps.RecvComp can)))
+fine s agent l steps.RecvAck r own mine agrees can = fine_end s agent l steps.RecvAck r (effect_of (line s l.0) (action_of agent l steps.RecvAck)) (ready_of s agent l steps.RecvAck r own agrees can) refl refl refl refl refl refl
+fine s agent l steps.RecvWrData r own mine agrees can = fine_end s agent l steps.RecvWrData r (effect_of (line s l.0) (action_of agent l steps.RecvWrData)) (ready_of s agent l steps.RecvWrData r own agrees can) refl refl refl refl refl refl
+fine s agent l other r own mine agrees can =
+    let ready : Ready s agent l other r = ready_of s agent l other r own agrees can in
+    fine_step s agent l other r ready (tt, no_slot_moves s agent l other r ready refl)
 
 -- a step can be followed, and keeps agreement
-pub can_finish : (s : SliceState) (r : RequesterState) (action : Action) (effect : Effect) → action.agent.0 ≡ r.number → is_own_step action.step ≡ true → CanStep s r action → effect ≡ effect_of (line s action.line.0) action → CanFinish (place_at s action) action.step effect r
-can_finish s r action effect own mine can is = subst (λ (e : Effect). CanFinish (place_at s action) action.step e r) (sym is) (fine s action.agent action.line action.step r own mine can).can
+pub can_finish : (s : SliceState) (r : RequesterState) (action : Action) (effect : Effect) → action.agent.0 ≡ r.number → is_own_step action.step ≡ true → Agree s r → CanStep s r action → effect ≡ effect_of (line s action.line.0) action → CanFinish (place_at s action) action.step effect r
+can_finish s r action effect own mine agrees can is = subst (λ (e : Effect). CanFinish (place_at s action) action.step e r) (sym is) (fine s action.agent action.line action.step r own mine agrees can).can
 
-pub keeps_step : (s s' : SliceState) (r r' : RequesterState) (action : Action) (effect : Effect) (released : Option Released) → action.agent.0 ≡ r.number → is_own_step action.step ≡ true → CanStep s r action → effect ≡ effect_of (line s action.line.0) action
+pub keeps_step : (s s' : SliceState) (r r' : RequesterState) (action : Action) (effect : Effect) (released : Option Released) → action.agent.0 ≡ r.number → is_own_step action.step ≡ true → Agree s r → CanStep s r action → effect ≡ effect_of (line s action.line.0) action
     → s' ≡ acted s action → Finishes (place_at s action) action.step effect released r r' → KeepsAgreement s s' r r'
-keeps_step s s' r r' action effect released own mine can is after finishes =
-    let ready : Ready s action.agent action.line action.step r = ready_of s action.agent action.line action.step r own can in
-    let f : Fine s action.agent action.line action.step r (effect_of (line s action.line.0) action) = fine s action.agent action.line action.step r own mine can in
+keeps_step s s' r r' action effect released own mine agrees can is after finishes =
+    let ready : Ready s action.agent action.line action.step r = ready_of s action.agent action.line action.step r own agrees can in
+    let f : Fine s action.agent action.line action.step r (effect_of (line s action.line.0) action) = fine s action.agent action.line action.step r own mine agrees can in
     subst (λ (z : SliceState). KeepsAgreement s z r r') (sym after)
     (keeps s action.agent action.line action.step r r' can.kept ready.here ready.moves own (f.after released r' (subst (λ (e : Effect). Finishes (place_at s action) action.step e released r r') is finishes)))
 
-pub history : (s s' : SliceState) (r r' : RequesterState) (action : Action) (effect : Effect) (released : Option Released) → action.agent.0 ≡ r.number → is_own_step action.step ≡ true → CanStep s r action → effect ≡ effect_of (line s action.line.0) action
+pub history : (s s' : SliceState) (r r' : RequesterState) (action : Action) (effect : Effect) (released : Option Released) → action.agent.0 ≡ r.number → is_own_step action.step ≡ true → Agree s r → CanStep s r action → effect ≡ effect_of (line s action.line.0) action
     → s' ≡ acted s action → Finishes (place_at s action) action.step effect released r r' → CountsStep s s' action r r'
-history s s' r r' action effect released own mine can is after finishes =
-    let ready : Ready s action.agent action.line action.step r = ready_of s action.agent action.line action.step r own can in
-    let f : Fine s action.agent action.line action.step r (effect_of (line s action.line.0) action) = fine s action.agent action.line action.step r own mine can in
+history s s' r r' action effect released own mine agrees can is after finishes =
+    let ready : Ready s action.agent action.line action.step r = ready_of s action.agent action.line action.step r own agrees can in
+    let f : Fine s action.agent action.line action.step r (effect_of (line s action.line.0) action) = fine s action.agent action.line action.step r own mine agrees can in
     subst (λ (z : SliceState). CountsStep s z action r r') (sym after)
-    (counts_step s action.agent action.line action.step r r' can.kept ready.here own (f.after released r' (subst (λ (e : Effect). Finishes (place_at s action) action.step e released r r') is finishes)) can.agrees)
+    (counts_step s action.agent action.line action.step r r' can.kept ready.here own (f.after released r' (subst (λ (e : Effect). Finishes (place_at s action) action.step e released r r') is finishes)) agrees (kept_acted s action can.kept (allowed s action can.allowed)).legal)

@@ -1,6 +1,7 @@
 -- When a requester agrees with a slice: what the slice shows of each of its slots is what the account says of
 -- it, and the slice answered as many loads and stores as were counted (docs/PROTOCOL.md, "Agreement").
 use Rattle.std.specs.Prelude.{◌≡◌, ◌≢◌, ℕ, ◌<◌, Bool, true, ⊤, false, Option, Some, None, length, slice_index, ◌==◌, if◌then◌else◌}
+use Rattle.chi_flit.specs.declared.credit.Profile.{Profile}
 use Rattle.chi_flit.specs.declared.numbers.Line.{Line}
 use Rattle.chi_flit.specs.declared.numbers.Slot.{Slot}
 use Rattle.chi_journal.specs.Journal.{part_of}
@@ -8,6 +9,7 @@ use Rattle.chi_slice.specs.declared.places.Place.{Place}
 use Rattle.chi_line.specs.declared.seen.Where.{Where}
 use Rattle.chi_line.specs.declared.seen.Where.TheVariants as places
 use Rattle.chi_slice.specs.Slice.{SliceState, is_line_in_range, line}
+use Rattle.chi_line.specs.LineState.{LineState}
 use Rattle.chi_line.specs.Places.{where_at}
 use Rattle.chi_line.specs.Types.{is_of_type}
 use Rattle.chi_credit.specs.declared.slot.SlotState.{SlotState}
@@ -17,25 +19,29 @@ use Rattle.chi_credit.specs.Account.{slot_at}
 use Rattle.chi_node.specs.Requester.{RequesterState}
 
 -- where the request of a slot is, by the slot's state and whether it is marked as answered
-abbrev pub told_at : SlotState → Bool → Option Where
-told_at Idle answered = None
-told_at Sent answered = Some places.Sent
-told_at Refused answered = Some places.Refused
-told_at Retried answered = Some places.Retried
-told_at Riding answered = Some places.Riding
-told_at (Admitted entry) answered = if answered then Some places.Answered else Some places.Admitted
-told_at Closing answered = Some places.Closing
-told_at Cancelled answered = None
+abbrev pub where_of_state : SlotState → Bool → Option Where
+where_of_state Idle answered = None
+where_of_state Sent answered = Some places.Sent
+where_of_state Refused answered = Some places.Refused
+where_of_state Retried answered = Some places.Retried
+where_of_state Riding answered = Some places.Riding
+where_of_state (Admitted entry) answered = if answered then Some places.Answered else Some places.Admitted
+where_of_state Closing answered = Some places.Closing
+where_of_state Cancelled answered = None
 
--- what a slot's record says of a line: nothing where its request is at another one
-abbrev pub told : SlotRecord → ℕ → Option Where
-told x l = if x.line.0 == l then told_at x.state x.answered else None
+-- where it is at a line, by the slot's record: nowhere where the record's line is another one
+abbrev pub where_of_record : SlotRecord → ℕ → Option Where
+where_of_record x l = if x.line.0 == l then where_of_state x.state x.answered else None
 
--- what a slice shows of an agent's slot at each of its lines is what the slot's record says, and the kinds
--- that it keeps of it take the record's credit type
-pub record IsTold (s : SliceState) (n : ℕ) (slot : Slot) (x : SlotRecord) : Type 0 where
-  pub places : (l : ℕ) → is_line_in_range s l ≡ true → where_at (line s l) n slot ≡ told x l
-  pub types : (l : ℕ) (at : Where) → is_line_in_range s l ≡ true → where_at (line s l) n slot ≡ Some at → is_of_type s.config.profile x.credit (line s l) n slot ≡ true
+-- what a line l shows of an agent's slot is what the slot's record says, and the kinds that it keeps of it take
+-- the record's credit type
+pub record ShowsRecord (profile : Profile) (z : LineState) (n : ℕ) (slot : Slot) (x : SlotRecord) (l : ℕ) : Type 0 where
+  pub place : where_at z n slot ≡ where_of_record x l
+  pub type : (at : Where) → where_at z n slot ≡ Some at → is_of_type profile x.credit z n slot ≡ true
+
+-- so does each line of a slice
+pub record MatchesRecord (s : SliceState) (n : ℕ) (slot : Slot) (x : SlotRecord) : Type 0 where
+  pub lines : (l : ℕ) → is_line_in_range s l ≡ true → ShowsRecord s.config.profile (line s l) n slot x l
 
 -- what the place that a slice shows of a slot says, beside where its record says that it is, and whether the
 -- record's line is one of the slice's
@@ -46,11 +52,11 @@ FitsAt (Some place) None line here = ⊥
 FitsAt (Some place) (Some at) line here = (place.line.0 ≡ line.0) × (place.at ≡ at)
 
 abbrev pub Fits : Option Place → SlotRecord → Bool → Type 0
-Fits place x here = FitsAt place (told_at x.state x.answered) x.line here
+Fits place x here = FitsAt place (where_of_state x.state x.answered) x.line here
 
 -- the count for the slice is the length of the requester's part of the journal
 pub record Agree (s : SliceState) (r : RequesterState) : Type 0 where
-  pub slots : (slot : Slot) → slot.0 < 8 → IsTold s r.number slot (slot_at r.slots slot.0)
+  pub slots : (slot : Slot) → slot.0 < 8 → MatchesRecord s r.number slot (slot_at r.slots slot.0)
   pub count : slice_index r.counts s.index ≡ length (part_of s.journal.entries r.number)
 
 -- what a call leaves of agreement: a requester that agreed with the slice agrees still, so does each other

@@ -1,9 +1,11 @@
 -- The calls for a whole requester on a slice: when they are refused, and what they leave (docs/PROTOCOL.md,
 -- "A requester and its calls").
-use Rattle.std.specs.Prelude.{◌≡◌, ◌≢◌, ◌+◌, ◌++◌, ◌∷◌, [], slice_index, ◌≤◌, ℕ, ◌⊎◌, Bool, false, not, ◌&&◌, nat_lt, List, Option, Some, None, true, length, is_some, if◌then◌else◌}
+use Rattle.std.specs.Prelude.{◌≡◌, ◌≢◌, ◌+◌, ◌++◌, ◌∷◌, [], slice_index, ◌≤◌, ℕ, ◌⊎◌, Bool, false, not, ◌&&◌, nat_lt, List, Option, Some, None, true, length, replicate, is_some, if◌then◌else◌}
 use Rattle.chi_flit.specs.declared.action.Action.{Action}
 use Rattle.chi_flit.specs.declared.action.Step.{Step}
 use Rattle.chi_flit.specs.declared.action.Step.TheVariants as steps
+use Rattle.chi_flit.specs.declared.action.Effect.{Effect}
+use Rattle.chi_flit.specs.declared.action.Effect.TheVariants.{Nothing}
 use Rattle.chi_flit.specs.declared.credit.CreditType.{CreditType}
 use Rattle.chi_flit.specs.declared.credit.Profile.{Profile}
 use Rattle.chi_flit.specs.declared.message.Request.{Request}
@@ -14,12 +16,14 @@ use Rattle.chi_flit.specs.Credit.{credit_number}
 use Rattle.chi_tracker.specs.Calls.{seen_of}
 use Rattle.chi_rnline.specs.declared.pending.Pending.{Pending}
 use Rattle.chi_line.specs.LineState.{cells_of, rn_of}
+use Rattle.chi_line.specs.LineStep.{LineStep}
 use Rattle.chi_line.specs.Refused.{first_of, no_flit_unless}
-use Rattle.chi_slice.specs.Slice.{SliceKept, SliceState, acted, are_in_range, flits_refusal, line, refused, refused_with}
+use Rattle.chi_slice.specs.Slice.{SliceKept, SliceState, acted, are_in_range, flits_refusal, line, refused, refused_under}
+use Rattle.chi_slice.specs.declared.terms.Terms.{Terms}
 use Rattle.chi_slice.specs.Index.{SlotsInRange}
 use Rattle.chi_line.specs.Types.{pending_credit}
 use Rattle.chi_journal.specs.declared.record.Record.{Record}
-use Rattle.chi_journal.specs.Journal.{part_of}
+use Rattle.chi_journal.specs.Journal.{IsLegal, part_of}
 use Rattle.chi_line.specs.Step.{effect_of, pending_slot, record_of}
 use Rattle.chi_credit.specs.declared.slot.SlotRecord.{SlotRecord}
 use Rattle.chi_credit.specs.Slot.{is_idle}
@@ -29,9 +33,8 @@ use Rattle.chi_node.specs.declared.answers.Arrived.TheVariants.{Admitted, Retrie
 use Rattle.chi_node.specs.declared.answers.Stepped.{Stepped}
 use Rattle.chi_node.specs.declared.steps.Place.{Place}
 use Rattle.chi_node.specs.Requester.{RequesterKept, RequesterState}
-use Rattle.chi_node.specs.Agree.{Agree}
 use Rattle.chi_node.specs.Arrives.{Arrives}
-use Rattle.chi_node.specs.Followed.{Finishes}
+use Rattle.chi_node.specs.AfterStep.{Finishes}
 
 -- why a call is refused: for this reason, or else by 11 exactly where the requester doesn't agree
 abbrev pub OrNotOpen : Option Refusal → Type 0 → Option Refusal → Type 0
@@ -50,6 +53,14 @@ arrival_step (Retried ty) = steps.Retry
 abbrev pub arrival_action : ℕ → Line → Arrived → Action
 arrival_action n l arrived = record { agent = record { 0 = n }; line = l; step = arrival_step arrived }
 
+-- an action takes its line by its step, with this effect
+abbrev pub IsStep : SliceState → Action → Effect → SliceState → Type 0
+IsStep s action effect s' = LineStep s.config.profile (line s action.line.0) action effect (record_of (line s action.line.0) action) (line s' action.line.0)
+
+-- and so does the action of an arrival, which has no effect
+abbrev pub IsArrivalStep : SliceState → SliceState → ℕ → Line → Arrived → Type 0
+IsArrivalStep s s' n l arrived = IsStep s (arrival_action n l arrived) Nothing s'
+
 -- the request that is in flight arrived
 abbrev pub ArrivesAt : Option Request → Arrived → RequesterState → RequesterState → Type 0
 ArrivesAt None arrived old new = ⊥
@@ -59,7 +70,7 @@ ArrivesAt (Some request) arrived old new = Arrives request.allow_retry request.s
 abbrev pub place_at : SliceState → Action → Place
 place_at s action = record { line = action.line; index = s.index; profile = s.config.profile; pending = pending_slot (rn_of (line s action.line.0) action.agent.0).pending }
 
--- what a step that is done leaves of the slice and of its requester, and what is told of it
+-- what a step that is done leaves of the slice and of its requester, and what is answered
 pub record StepsTo (s s' : SliceState) (action : Action) (r r' : RequesterState) (stepped : Stepped) : Type 0 where
   pub slice : s' ≡ acted s action
   pub effect : stepped.effect ≡ effect_of (line s action.line.0) action
@@ -67,43 +78,13 @@ pub record StepsTo (s s' : SliceState) (action : Action) (r r' : RequesterState)
 
 -- whether an Issue's slot, one of eight, isn't Idle in the account
 abbrev pub is_slot_taken : List SlotRecord → Step → Bool
-is_slot_taken slots (steps.Load word) = false
-is_slot_taken slots (steps.Store word value) = false
-is_slot_taken slots steps.Drop = false
 is_slot_taken slots (steps.Issue kind slot) = nat_lt slot.0 8 && not (is_idle (state_at slots slot.0))
-is_slot_taken slots steps.Admit = false
-is_slot_taken slots steps.Retry = false
-is_slot_taken slots steps.RecvRetry = false
-is_slot_taken slots steps.Resend = false
-is_slot_taken slots steps.Cancel = false
-is_slot_taken slots steps.Start = false
-is_slot_taken slots steps.RecvSnp = false
-is_slot_taken slots steps.RecvSnpResp = false
-is_slot_taken slots steps.RecvData = false
-is_slot_taken slots steps.RecvComp = false
-is_slot_taken slots steps.RecvAck = false
-is_slot_taken slots steps.RecvDbid = false
-is_slot_taken slots steps.RecvWrData = false
+is_slot_taken slots other = false
 
 -- the credit type that a step wants a seen credit of: a Resend that of the pending request's kind
 abbrev pub step_credit : Profile → Option Pending → Step → Option CreditType
-step_credit profile pending (steps.Load word) = None
-step_credit profile pending (steps.Store word value) = None
-step_credit profile pending steps.Drop = None
-step_credit profile pending (steps.Issue kind slot) = None
-step_credit profile pending steps.Admit = None
-step_credit profile pending steps.Retry = None
-step_credit profile pending steps.RecvRetry = None
 step_credit profile pending steps.Resend = pending_credit profile pending
-step_credit profile pending steps.Cancel = None
-step_credit profile pending steps.Start = None
-step_credit profile pending steps.RecvSnp = None
-step_credit profile pending steps.RecvSnpResp = None
-step_credit profile pending steps.RecvData = None
-step_credit profile pending steps.RecvComp = None
-step_credit profile pending steps.RecvAck = None
-step_credit profile pending steps.RecvDbid = None
-step_credit profile pending steps.RecvWrData = None
+step_credit profile pending other = None
 
 abbrev pub wanted_credit : SliceState → Action → Option CreditType
 wanted_credit s action = step_credit s.config.profile (rn_of (line s action.line.0) action.agent.0).pending action.step
@@ -113,29 +94,22 @@ abbrev pub credit_refusal : RequesterState → Option CreditType → Option Refu
 credit_refusal r None = None
 credit_refusal r (Some ty) = if nat_lt (riding_of r.slots (credit_number ty)) (seen_of r.port (credit_number ty)) then None else Some NoCredit
 
+-- the terms of a requester whose slot for an Issue is taken, or isn't, and that is asked for its credit apart
+abbrev pub slot_terms : Bool → Terms
+slot_terms taken = record { slot_taken = taken; credits = replicate 4 true }
+
+abbrev pub refused_with : Bool → SliceState → Action → Option Refusal
+refused_with taken s action = refused_under (slot_terms taken) s action
+
 -- why a step isn't done, before it is asked whether the requester agrees: the action's numbers, then 12
 abbrev pub call_refusal : SliceState → RequesterState → Action → Option Refusal
 call_refusal s r action = first_of (refused_with (is_slot_taken r.slots action.step) s action) (credit_refusal r (wanted_credit s action))
 
 -- a step is any but those of an arrival
 abbrev pub is_own_step : Step → Bool
-is_own_step (steps.Load word) = true
-is_own_step (steps.Store word value) = true
-is_own_step steps.Drop = true
-is_own_step (steps.Issue kind slot) = true
 is_own_step steps.Admit = false
 is_own_step steps.Retry = false
-is_own_step steps.RecvRetry = true
-is_own_step steps.Resend = true
-is_own_step steps.Cancel = true
-is_own_step steps.Start = true
-is_own_step steps.RecvSnp = true
-is_own_step steps.RecvSnpResp = true
-is_own_step steps.RecvData = true
-is_own_step steps.RecvComp = true
-is_own_step steps.RecvAck = true
-is_own_step steps.RecvDbid = true
-is_own_step steps.RecvWrData = true
+is_own_step other = true
 
 -- what is known where a step isn't refused
 pub record CanStep (s : SliceState) (r : RequesterState) (action : Action) : Type 0 where
@@ -144,7 +118,6 @@ pub record CanStep (s : SliceState) (r : RequesterState) (action : Action) : Typ
   pub within : length s.journal.entries ≤ s.journal.limit
   pub allowed : refused s action ≡ None
   pub called : call_refusal s r action ≡ None
-  pub agrees : Agree s r
   pub requester : RequesterKept r.port.shape.sizes r
 
 -- what is known where the request of an arrival isn't refused
@@ -153,7 +126,6 @@ pub record CanArriveOn (s : SliceState) (r : RequesterState) (l : Line) (request
   pub numbers : SlotsInRange s
   pub inside : are_in_range s r.number l.0 ≡ true
   pub flit : (cells_of (line s l.0) r.number).req ≡ Some request
-  pub agrees : Agree s r
   pub requester : RequesterKept r.port.shape.sizes r
 
 -- what an arrival leaves of the slice and of its requester
@@ -172,11 +144,13 @@ pub record IsSameSlice (s s' : SliceState) : Type 0 where
   pub config : s'.config ≡ s.config
   pub index : s'.index ≡ s.index
 
--- one history: the record of a load or a store that is done is the last of its agent's part, and the count for
--- the slice, one more than before, is its place there; the counts for other slices stay
+-- one legal history: the record of a load or a store that is done is the last of its agent's part, and the count
+-- for the slice, one more than before, is its place there; the counts for other slices stay, and each load of the
+-- journal had the value last stored before it
 pub record CountsStep (s s' : SliceState) (action : Action) (r r' : RequesterState) : Type 0 where
   pub part : (entry : Record) → record_of (line s action.line.0) action ≡ Some entry → part_of s'.journal.entries r.number ≡ part_of s.journal.entries r.number ++ entry ∷ []
   pub counted : (entry : Record) → record_of (line s action.line.0) action ≡ Some entry → slice_index r'.counts s.index ≡ slice_index r.counts s.index + 1
   pub uncounted : record_of (line s action.line.0) action ≡ None → slice_index r'.counts s.index ≡ slice_index r.counts s.index
   pub place : slice_index r'.counts s.index ≡ length (part_of s'.journal.entries r.number)
   pub others : (other : ℕ) → other ≢ s.index → slice_index r'.counts other ≡ slice_index r.counts other
+  pub legal : IsLegal s'.journal.entries

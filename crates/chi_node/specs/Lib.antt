@@ -1,6 +1,6 @@
 pub mod Requester
 pub mod Parts
-pub mod Followed
+pub mod AfterStep
 pub mod Arrives
 pub mod Agree
 pub mod Table

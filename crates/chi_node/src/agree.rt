@@ -1,11 +1,11 @@
 //! Whether a requester agrees with a slice.
 
-ghost use Rattle.std.specs.Prelude.{◌≡◌, ◌≤◌, ◌<◌, ◌↔◌, ℕ, All, IsTrue, length, slice_index, true};
+ghost use Rattle.std.specs.Prelude.{◌≡◌, ◌<◌, ◌↔◌, ℕ, All, IsTrue, length, slice_index, true};
 ghost use Rattle.chi_journal.specs.Journal.{part_of};
 ghost use Rattle.chi_credit.specs.Account.{slot_at};
 ghost use Rattle.chi_slice.specs.Slice.{SliceKept};
 ghost use Rattle.chi_node.specs.Requester.{RequesterKept};
-ghost use Rattle.chi_node.specs.Agree.{told_at, Agree, Fits, IsTold};
+ghost use Rattle.chi_node.specs.Agree.{where_of_state, Agree, Fits, MatchesRecord};
 ghost use Rattle.chi_node.specs.Table.{AgreeByTable};
 
 use crate::requester::Requester;
@@ -25,15 +25,13 @@ pub fn agrees<A: Allocator>(slice: &Slice<A>, requester: &Requester) -> bool
     is_open(slice, requester)
 }
 
-// As `agrees`. Whoever asks knows what every slice and every requester keeps, and that the slice's journal
-// has no more records than it may have.
-pub(crate) fn is_open<A: Allocator>(slice: &Slice<A>, requester: &Requester) -> bool
+// As `agrees`. Whoever asks knows what every slice and every requester keeps.
+fn is_open<A: Allocator>(slice: &Slice<A>, requester: &Requester) -> bool
     ensures agree { IsTrue result ↔ Agree slice.now requester.now }
-    ensures within { length slice.now.journal.entries ≤ slice.now.journal.limit }
     ensures slice { SliceKept slice.now }
     ensures requester { RequesterKept requester.now.port.shape.sizes requester.now }
 {
-    has_count(slice, requester) && are_told(slice, requester)
+    has_count(slice, requester) && matches_account(slice, requester)
 }
 
 /// Whether each of the requesters agrees with the slice. No memory is taken.
@@ -51,7 +49,6 @@ pub fn agree_with<A: Allocator>(slice: &Slice<A>, requesters: &[Requester]) -> b
 /// Whether the requester's count for the slice is the length of its part of the journal.
 fn has_count<A: Allocator>(slice: &Slice<A>, requester: &Requester) -> bool
     ensures is { IsTrue result ↔ (slice_index requester.now.counts slice.now.index ≡ length (part_of slice.now.journal.entries requester.now.number)) }
-    ensures within { length slice.now.journal.entries ≤ slice.now.journal.limit }
     ensures slice { SliceKept slice.now }
     ensures requester { RequesterKept requester.now.port.shape.sizes requester.now }
 {
@@ -60,20 +57,20 @@ fn has_count<A: Allocator>(slice: &Slice<A>, requester: &Requester) -> bool
 }
 
 /// Whether the slice shows of each slot what the account says of it.
-fn are_told<A: Allocator>(slice: &Slice<A>, requester: &Requester) -> bool
-    ensures { IsTrue result ↔ ((slot : Slot) → slot.0 < 8 → IsTold slice.now requester.now.number slot (slot_at requester.now.slots slot.0)) }
+fn matches_account<A: Allocator>(slice: &Slice<A>, requester: &Requester) -> bool
+    ensures { IsTrue result ↔ ((slot : Slot) → slot.0 < 8 → MatchesRecord slice.now requester.now.number slot (slot_at requester.now.slots slot.0)) }
 {
-    let mut told = true;
+    let mut found = true;
     for slot in 0..8 {
-        told &= is_told(slice, requester, Slot(slot));
+        found &= matches_record(slice, requester, Slot(slot));
     }
-    told
+    found
 }
 
 /// Whether the slice shows of a slot what the account says of it.
-fn is_told<A: Allocator>(slice: &Slice<A>, requester: &Requester, slot: Slot) -> bool
+fn matches_record<A: Allocator>(slice: &Slice<A>, requester: &Requester, slot: Slot) -> bool
     requires { slot.0 < 8 }
-    ensures { IsTrue result ↔ IsTold slice.now requester.now.number slot (slot_at requester.now.slots slot.0) }
+    ensures { IsTrue result ↔ MatchesRecord slice.now requester.now.number slot (slot_at requester.now.slots slot.0) }
 {
     let agent = requester.number();
     let said = requester.slot(slot);
@@ -87,7 +84,7 @@ fn is_told<A: Allocator>(slice: &Slice<A>, requester: &Requester, slot: Slot) ->
 fn fits(place: Option<Place>, said: SlotRecord, here: bool) -> bool
     ensures { IsTrue result ↔ Fits place said here }
 {
-    match (place, told_at(said.state, said.answered)) {
+    match (place, where_of_state(said.state, said.answered)) {
         (None, None) => true,
         (None, Some(_)) => !here,
         (Some(_), None) => false,
@@ -96,8 +93,8 @@ fn fits(place: Option<Place>, said: SlotRecord, here: bool) -> bool
 }
 
 /// Where the request of a slot is, by the slot's state and whether it is marked as answered.
-fn told_at(state: SlotState, answered: bool) -> Option<Where>
-    ensures { result ≡ told_at state answered }
+fn where_of_state(state: SlotState, answered: bool) -> Option<Where>
+    ensures { result ≡ where_of_state state answered }
 {
     match state {
         SlotState::Idle | SlotState::Cancelled => None,

@@ -3,20 +3,20 @@
 ghost use Rattle.std.specs.Prelude.{◌≡◌, ◌<◌, None, true, IfOk, IsTrue, OnErr, OnOk, ◌↔◌};
 ghost use Rattle.chi_flit.specs.Refusal.{refusal_of};
 ghost use Rattle.chi_slice.specs.Index.{SlotsInRange};
-ghost use Rattle.chi_slice.specs.Slice.{acted, line as line_of_slice, refused};
+ghost use Rattle.chi_slice.specs.Slice.{acted, line as line_of_slice, refused, SliceKept};
 ghost use Rattle.chi_line.specs.Step.{effect_of};
 ghost use Rattle.chi_credit.specs.Slot.{is_idle};
 ghost use Rattle.chi_node.specs.Agree.{Agree, KeepsAgreement};
-ghost use Rattle.chi_node.specs.Calls.{arrival_refusal, arrival_step, call_refusal, credit_refusal, is_own_step, is_slot_taken, place_at, wanted_credit, ArrivesOn, CanArriveOn, CanStep, CountsStep, IsSameRequester, IsSameSlice, OrNotOpen, StepsTo};
+ghost use Rattle.chi_node.specs.Calls.{arrival_refusal, arrival_step, call_refusal, credit_refusal, is_own_step, is_slot_taken, place_at, wanted_credit, ArrivesOn, CanArriveOn, CanStep, CountsStep, IsArrivalStep, IsSameRequester, IsSameSlice, IsStep, OrNotOpen, StepsTo};
 ghost use Rattle.chi_node.specs.Parts.{HasTypes};
 
-use crate::agree::is_open;
+use crate::agree::agrees;
 use crate::answers::{Arrived, Stepped};
 use crate::requester::Requester;
 use crate::steps::Place;
 use chi_credit::SlotState;
 use chi_flit::{Action, CreditType, Effect, Line, Refusal, Request, Step};
-use chi_slice::Slice;
+use chi_slice::{Slice, Terms};
 use chi_tracker::Tracker;
 use std::alloc::Allocator;
 
@@ -41,6 +41,37 @@ pub fn arrive_on<A: Allocator, B: Allocator>(
     requires types { HasTypes slice.old.config requester.old.port.shape }
     ensures refusal { OrNotOpen (arrival_refusal slice.old requester.old.number line.0) (Agree slice.old requester.old) (refusal_of result) }
     ensures ok { IfOk result (λ arrived. ArrivesOn slice.old slice.new line requester.old requester.new arrived) }
+    ensures step { IfOk result (λ arrived. IsArrivalStep slice.old slice.new requester.old.number line arrived) }
+    ensures err { OnErr result ((slice.new ≡ slice.old) × (requester.new ≡ requester.old)) }
+    ensures agreement { KeepsAgreement slice.old slice.new requester.old requester.new }
+    ensures same { IsSameRequester requester.old requester.new }
+    ensures slice { IsSameSlice slice.old slice.new }
+{
+    if agrees(slice, requester) {
+        return arrive_agreed(slice, tracker, requester, line);
+    }
+    arrival(slice, requester, line)?;
+    Err(Refusal::NotOpen)
+}
+
+/// As `arrive_on`, of a requester that agrees with the slice: that isn't asked again.
+///
+/// Refused 10 (OutOfRange) for a requester whose number is none of the node's, or a line outside the node or
+/// of another slice, and then 7 (NoFlit) where no request of the requester is in flight there; nothing
+/// changes then. Conditions: those of `arrive_on`, and that the requester agrees with the slice.
+/// Source: `docs/PROTOCOL.md`, "A requester and its calls".
+pub fn arrive_agreed<A: Allocator, B: Allocator>(
+    slice: &mut Slice<A>,
+    tracker: &Tracker<B>,
+    requester: &mut Requester,
+    line: Line,
+) -> Result<Arrived, Refusal>
+    requires table { requester.old.table ≡ tracker.now.table }
+    requires types { HasTypes slice.old.config requester.old.port.shape }
+    requires agrees { Agree slice.old requester.old }
+    ensures refusal { refusal_of result ≡ arrival_refusal slice.old requester.old.number line.0 }
+    ensures ok { IfOk result (λ arrived. ArrivesOn slice.old slice.new line requester.old requester.new arrived) }
+    ensures step { IfOk result (λ arrived. IsArrivalStep slice.old slice.new requester.old.number line arrived) }
     ensures err { OnErr result ((slice.new ≡ slice.old) × (requester.new ≡ requester.old)) }
     ensures agreement { KeepsAgreement slice.old slice.new requester.old requester.new }
     ensures same { IsSameRequester requester.old requester.new }
@@ -50,22 +81,19 @@ pub fn arrive_on<A: Allocator, B: Allocator>(
     Ok(admit(slice, tracker, requester, line, request))
 }
 
-/// The request that is in flight, of a requester that agrees.
+/// The requester's request that is in flight at the line.
 fn arrival<A: Allocator>(
     slice: &Slice<A>,
     requester: &Requester,
     line: Line,
 ) -> Result<Request, Refusal>
-    ensures refusal { OrNotOpen (arrival_refusal slice.now requester.now.number line.0) (Agree slice.now requester.now) (refusal_of result) }
+    ensures refusal { refusal_of result ≡ arrival_refusal slice.now requester.now.number line.0 }
     ensures ok { IfOk result (λ request. CanArriveOn slice.now requester.now line request) }
 {
     let cells = slice.flits(requester.number(), line)?;
     let Some(request) = cells.req else {
         return Err(Refusal::NoFlit);
     };
-    if !is_open(slice, requester) {
-        return Err(Refusal::NotOpen);
-    }
     Ok(request)
 }
 
@@ -79,8 +107,10 @@ fn admit<A: Allocator, B: Allocator>(
 ) -> Arrived
     requires table { requester.old.table ≡ tracker.now.table }
     requires types { HasTypes slice.old.config requester.old.port.shape }
+    requires agrees { Agree slice.old requester.old }
     requires can { CanArriveOn slice.old requester.old line request }
     ensures arrives { ArrivesOn slice.old slice.new line requester.old requester.new result }
+    ensures step { IsArrivalStep slice.old slice.new requester.old.number line result }
     ensures agreement { KeepsAgreement slice.old slice.new requester.old requester.new }
     ensures same { IsSameRequester requester.old requester.new }
     ensures slice { IsSameSlice slice.old slice.new }
@@ -107,6 +137,7 @@ fn do_action<A: Allocator>(slice: &mut Slice<A>, action: Action) -> Effect
     requires { refused slice.old action ≡ None }
     ensures after { slice.new ≡ acted slice.old action }
     ensures effect { result ≡ effect_of (line_of_slice slice.old action.line.0) action }
+    ensures step { IsStep slice.old action result slice.new }
 {
     match slice.act(action) {
         Ok(effect) => effect,
@@ -136,6 +167,40 @@ pub fn step_on<A: Allocator, B: Allocator>(
     requires step { is_own_step action.step ≡ true }
     ensures refusal { OrNotOpen (call_refusal slice.old requester.old action) (Agree slice.old requester.old) (refusal_of result) }
     ensures ok { IfOk result (λ stepped. StepsTo slice.old slice.new action requester.old requester.new stepped) }
+    ensures step { IfOk result (λ stepped. IsStep slice.old action stepped.effect slice.new) }
+    ensures err { OnErr result ((slice.new ≡ slice.old) × (requester.new ≡ requester.old)) }
+    ensures agreement { KeepsAgreement slice.old slice.new requester.old requester.new }
+    ensures same { IsSameRequester requester.old requester.new }
+    ensures slice { IsSameSlice slice.old slice.new }
+    ensures history { OnOk result (CountsStep slice.old slice.new action requester.old requester.new) }
+{
+    if agrees(slice, requester) {
+        return step_agreed(slice, tracker, requester, action);
+    }
+    place_of_step(slice, requester, action)?;
+    Err(Refusal::NotOpen)
+}
+
+/// As `step_on`, of a requester that agrees with the slice: that isn't asked again.
+///
+/// Refused as `Slice::act` refuses the action, with 3 (Pending) also where an Issue's slot isn't Idle in the
+/// account, and then 12 (NoCredit) for a Resend without a seen credit of the pending request's type beyond
+/// those for Riding slots; nothing changes then. Conditions: those of `step_on`, and that the requester agrees
+/// with the slice.
+/// Source: `docs/PROTOCOL.md`, "A requester and its calls".
+pub fn step_agreed<A: Allocator, B: Allocator>(
+    slice: &mut Slice<A>,
+    tracker: &Tracker<B>,
+    requester: &mut Requester,
+    action: Action,
+) -> Result<Stepped, Refusal>
+    requires table { requester.old.table ≡ tracker.now.table }
+    requires agent { action.agent.0 ≡ requester.old.number }
+    requires step { is_own_step action.step ≡ true }
+    requires agrees { Agree slice.old requester.old }
+    ensures refusal { refusal_of result ≡ call_refusal slice.old requester.old action }
+    ensures ok { IfOk result (λ stepped. StepsTo slice.old slice.new action requester.old requester.new stepped) }
+    ensures step { IfOk result (λ stepped. IsStep slice.old action stepped.effect slice.new) }
     ensures err { OnErr result ((slice.new ≡ slice.old) × (requester.new ≡ requester.old)) }
     ensures agreement { KeepsAgreement slice.old slice.new requester.old requester.new }
     ensures same { IsSameRequester requester.old requester.new }
@@ -158,8 +223,10 @@ fn advance<A: Allocator, B: Allocator>(
     requires agent { action.agent.0 ≡ requester.old.number }
     requires step { is_own_step action.step ≡ true }
     requires place { at ≡ place_at slice.old action }
+    requires agrees { Agree slice.old requester.old }
     requires can { CanStep slice.old requester.old action }
     ensures steps { StepsTo slice.old slice.new action requester.old requester.new result }
+    ensures step { IsStep slice.old action result.effect slice.new }
     ensures agreement { KeepsAgreement slice.old slice.new requester.old requester.new }
     ensures same { IsSameRequester requester.old requester.new }
     ensures slice { IsSameSlice slice.old slice.new }
@@ -170,24 +237,27 @@ fn advance<A: Allocator, B: Allocator>(
     Stepped { effect, released }
 }
 
-/// Where the step is done, of a requester that agrees.
+/// Where the step is done.
 fn place_of_step<A: Allocator>(
     slice: &Slice<A>,
     requester: &Requester,
     action: Action,
 ) -> Result<Place, Refusal>
-    ensures refusal { OrNotOpen (call_refusal slice.now requester.now action) (Agree slice.now requester.now) (refusal_of result) }
+    ensures refusal { refusal_of result ≡ call_refusal slice.now requester.now action }
     ensures place { IfOk result (λ at. at ≡ place_at slice.now action) }
     ensures ok { IfOk result (λ _. CanStep slice.now requester.now action) }
 {
-    if let Some(refusal) = slice.refusal(action, is_slot_taken(requester, action.step)) {
+    let agent = requester.number();
+    let _ = slice.journal().part_len(agent);
+    let terms = Terms {
+        slot_taken: is_slot_taken(requester, action.step),
+        credits: [true; 4],
+    };
+    if let Some(refusal) = slice.refusal(action, terms) {
         return Err(refusal);
     }
     if !has_credit(requester, wanted_credit(slice, action)) {
         return Err(Refusal::NoCredit);
-    }
-    if !is_open(slice, requester) {
-        return Err(Refusal::NotOpen);
     }
     Ok(place_at(slice, action))
 }
@@ -196,6 +266,7 @@ fn place_of_step<A: Allocator>(
 fn place_at<A: Allocator>(slice: &Slice<A>, action: Action) -> Place
     requires { refused slice.now action ≡ None }
     ensures is { result ≡ place_at slice.now action }
+    ensures kept { SliceKept slice.now }
     ensures slots { SlotsInRange slice.now }
 {
     let Ok(pending) = slice.pending(action.agent, action.line) else {

@@ -16,6 +16,6 @@ mod steps;
 
 pub use agree::{agree_with, agrees};
 pub use answers::{Arrived, Stepped};
-pub use calls::{arrive_on, step_on};
+pub use calls::{arrive_agreed, arrive_on, step_agreed, step_on};
 pub use opening::parts;
 pub use requester::Requester;

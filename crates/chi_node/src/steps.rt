@@ -1,7 +1,7 @@
 //! A requester's half of a step.
 
 ghost use Rattle.std.specs.Prelude.{◌≡◌, Some, is_some, IsTrue};
-ghost use Rattle.chi_node.specs.Followed.{followed, CanFinish, CanFollow, Finishes};
+ghost use Rattle.chi_node.specs.AfterStep.{requester_after, CanFinish, CanFollow, Finishes};
 
 use crate::requester::Requester;
 use chi_flit::{Effect, Line, Profile, Slot, Step, credit_type};
@@ -22,7 +22,7 @@ impl Requester {
     /// The agent did a step that completes nothing: its account and its counts follow.
     pub(crate) fn follow(&mut self, at: Place, step: Step)
         requires { CanFollow at step self.old }
-        ensures { self.new ≡ followed at step self.old }
+        ensures { self.new ≡ requester_after at step self.old }
     {
         match step {
             Step::Load(_) | Step::Store(_, _) => self.counted(at.index),

@@ -1,7 +1,7 @@
 -- The slices of a node: each line has its slice, all slices have the node's sizes and their own index, and
 -- what a call does to one keeps that.
 use Rattle.std.proofs.Common.{◌≡◌, ℕ, zero, suc, ◌<◌, ◌≤◌, [], ◌∷◌, All, true, get_or, length, length-append, refl, sym, ◌∙◌, ap, subst, arith, mod-lt, ⊎_elim, get_or-set_other}
-use Rattle.std.proofs.Math.ListN.{set, length-set}
+use Rattle.std.proofs.Math.ListN.{length-set}
 use Rattle.std.proofs.lemmas.Bool.{cases_eq, cases_lt}
 use Rattle.std.proofs.lemmas.Grind.{get_or-set_at}
 use Rattle.std.proofs.lemmas.List.{get_or_append_left, get_or_push, get_or_read}
@@ -70,7 +70,3 @@ opening_is_home config h =
       sizes = of_sizes config config.slices;
       indexes = λ i low. ap (λ (s : SliceState). s.index) (opening_at config config.slices i (opening_slice config 0) low);
     }
-
--- as a call finds the slice at its place
-pub still_home_at : (h : HomeState) (l place : ℕ) (s s' : SliceState) → IsHome h → place ≡ index_of h l → s ≡ get_or h.slices place s → IsSameSlice s s' → IsHome (record h { slices = set h.slices place s' })
-still_home_at h l place s s' k is read same = subst (λ (i : ℕ). IsHome (record h { slices = set h.slices i s' })) (sym is) (still_home h l s' k (subst (λ (x : SliceState). IsSameSlice x s') (slice_read h l place s k is read) same))

@@ -1,5 +1,4 @@
 pub mod Homes
-pub mod Visits
 pub mod Systems
 pub mod Changed
 pub mod Credits

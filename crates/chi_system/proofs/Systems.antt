@@ -14,7 +14,7 @@ use Rattle.chi_slice.specs.Slice.{SliceState, opening_slice}
 use Rattle.chi_slice.proofs.Rows.{InLimits, in_limits}
 use Rattle.chi_node.specs.Agree.{Agree, KeepsAgreement}
 use Rattle.chi_node.specs.Calls.{IsSameRequester, IsSameSlice}
-use Rattle.chi_node.specs.Parts.{is_of_profile, opening_requesters}
+use Rattle.chi_node.specs.Parts.{is_of_profile, opening_requesters, opening_slices}
 use Rattle.chi_node.specs.Parts as parts
 use Rattle.chi_node.specs.Requester.{RequesterState, no_requester, opening_requester}
 use Rattle.chi_node.proofs.Openings.{all_types, length_requesters}
@@ -119,9 +119,10 @@ pub visited : (table : TableId) (y : SystemState) (n l : ℕ) (s : SliceState) (
 visited table y n l s r own near same_slice same keeps = renewed table y (with_slice y.home l s) n r own near (still_home y.home l s own.system.home same_slice) refl same (visit_agrees y n l s r own.system near same_slice keeps)
 
 -- what was made of the parts of a node
-pub made_system : (config : Sizes) (table : TableId) (shape : Shape) (h : HomeState) (rs : List RequesterState) → are_in_limits config ≡ true → parts.AllAgree config table shape → shape ≡ shape_of config.entries config.agents → h ≡ opening_home config → rs ≡ opening_requesters table shape config.agents
-    → IsOf table (record { home = h; requesters = rs })
-made_system config table shape h rs limits all is home requesters =
+pub made_system : (config : Sizes) (table : TableId) (shape : Shape) (ss : List SliceState) (rs : List RequesterState) → are_in_limits config ≡ true → parts.AllAgree config table shape → shape ≡ shape_of config.entries config.agents → ss ≡ opening_slices config config.slices
+    → rs ≡ opening_requesters table shape config.agents → IsOf table (record { home = record { config = config; slices = ss }; requesters = rs })
+made_system config table shape ss rs limits all is slices requesters =
     let opened = opening_is_system config table limits (subst (λ (z : Shape). parts.AllAgree config table z) is all) in
     let same : rs ≡ opening_requesters table (shape_of config.entries config.agents) config.agents = requesters ∙ ap (λ (z : Shape). opening_requesters table z config.agents) is in
-    subst (λ (y : SystemState). IsOf table y) (sym (ap (λ (g : HomeState). record { home = g; requesters = rs }) home ∙ ap (λ (qs : List RequesterState). record { home = opening_home config; requesters = qs }) same)) opened
+    subst (λ (xs : List SliceState). IsOf table (record { home = record { config = config; slices = xs }; requesters = rs })) (sym slices)
+    (subst (λ (qs : List RequesterState). IsOf table (record { home = opening_home config; requesters = qs })) (sym same) opened)

@@ -1,4 +1,3 @@
 pub mod Home
-pub mod Visits
 pub mod Credits
 pub mod System

@@ -1,6 +1,6 @@
 -- A node on one thread: its slices and its requesters (docs/PROTOCOL.md, "A requester and its calls" and
 -- "Agreement").
-use Rattle.std.specs.Prelude.{◌≡◌, ℕ, ◌<◌, List, All, nat_lt, Option, Some, None, Result, IfOk, OnErr, length, slice_set, if◌then◌else◌}
+use Rattle.std.specs.Prelude.{◌≡◌, ℕ, ◌<◌, List, All, nat_lt, Option, Some, None, length, slice_set, if◌then◌else◌}
 use Rattle.std.specs.List.{slice_index_or}
 use Rattle.atomic_table.specs.Seated.{TableId}
 use Rattle.chi_flit.specs.declared.action.Action.{Action}
@@ -9,7 +9,6 @@ use Rattle.chi_flit.specs.declared.numbers.Agent.{Agent}
 use Rattle.chi_flit.specs.declared.numbers.Line.{Line}
 use Rattle.chi_flit.specs.declared.refusal.Refusal.{Refusal}
 use Rattle.chi_flit.specs.declared.refusal.Refusal.TheVariants.{OutOfRange}
-use Rattle.chi_flit.specs.Refusal.{refusal_of}
 use Rattle.chi_tracker.specs.declared.released.Released.{Released}
 use Rattle.chi_tracker.specs.Calls.{shape_of}
 use Rattle.chi_line.specs.LineState.{cells_of}
@@ -21,7 +20,7 @@ use Rattle.chi_node.specs.declared.answers.Arrived.{Arrived}
 use Rattle.chi_node.specs.declared.answers.Stepped.{Stepped}
 use Rattle.chi_node.specs.Agree.{Agree}
 use Rattle.chi_node.specs.Calls.{arrival_action, arrival_refusal, call_refusal, place_at, ArrivesAt}
-use Rattle.chi_node.specs.Followed.{Finishes}
+use Rattle.chi_node.specs.AfterStep.{Finishes}
 use Rattle.chi_node.specs.Parts.{opening_requesters}
 use Rattle.chi_node.specs.Requester.{RequesterState, no_requester}
 use Rattle.chi_node.specs.Requester as requester
@@ -75,17 +74,6 @@ pub record StepsIn (y y' : SystemState) (action : Action) (stepped : Stepped) : 
   pub effect : stepped.effect ≡ effect_of (line y.home action.line.0) action
   pub requester : Finishes (place_at (slice_of y.home action.line.0) action) action.step stepped.effect stepped.released (requester_of y action.agent.0) (requester_of y' action.agent.0)
   pub others : OthersStay y y' action.agent
-
--- both, with their refusals; a refused call leaves all as it was
-pub record ArriveTry (y y' : SystemState) (agent : Agent) (l : Line) (result : Result Arrived Refusal) : Type 0 where
-  pub refusal : refusal_of result ≡ arrive_refusal y agent.0 l.0
-  pub ok : IfOk result (λ arrived. ArrivesIn y y' agent l arrived)
-  pub err : OnErr result (y' ≡ y)
-
-pub record StepTry (y y' : SystemState) (action : Action) (result : Result Stepped Refusal) : Type 0 where
-  pub refusal : refusal_of result ≡ step_refusal y action
-  pub ok : IfOk result (λ stepped. StepsIn y y' action stepped)
-  pub err : OnErr result (y' ≡ y)
 
 -- an agent looked at its promises, gave a credit back, or tended a type: the slices stay
 pub record SeesIn (y y' : SystemState) (agent : Agent) (seen : List ℕ) : Type 0 where

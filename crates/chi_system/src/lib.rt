@@ -4,7 +4,6 @@
 #![tactic(auto)]
 
 mod agreement;
-mod home;
 mod system;
 
 pub use system::System;

@@ -5,39 +5,36 @@ ghost use Rattle.std.specs.List.{slice_index_or};
 ghost use Rattle.atomic_table.specs.Seated.{TableId};
 ghost use Rattle.chi_flit.specs.Credit.{credit_number};
 ghost use Rattle.chi_flit.specs.Refusal.{refusal_of};
-ghost use Rattle.chi_slice.specs.Slice.{SliceState};
 ghost use Rattle.chi_line.specs.LineState.{cells_of};
 ghost use Rattle.chi_line.specs.Refused.{first_of};
 ghost use Rattle.chi_line.specs.View.{shown};
 ghost use Rattle.chi_node.specs.Calls.{is_own_step};
-ghost use Rattle.chi_node.specs.Parts.{HasTypes};
 ghost use Rattle.chi_node.specs.Requester.{RequesterState, no_requester};
-ghost use Rattle.chi_audit.specs.Audits.{IsAudited};
-ghost use Rattle.chi_system.specs.Home.{flits_refusal, last_of, line as line_of_home, view_refusal};
+ghost use Rattle.chi_slice.specs.Audits.{IsAudited};
+ghost use Rattle.chi_system.specs.Home.{flits_refusal, index_of, last_of, line as line_of_home, slice_of, view_refusal};
 ghost use Rattle.chi_system.specs.Credits.{GiveBackTry, Sees, TendTry, typed_refusal};
-ghost use Rattle.chi_system.specs.Visits.{ArrivalVisit, StepVisit};
-ghost use Rattle.chi_system.specs.System.{agent_refusal, arrive_refusal, give_back_refusal, opening_system, step_refusal, tend_refusal, AllAgree, ArriveTry, ArrivesIn, GivesBackIn, IsSystem, SeesIn, StepTry, StepsIn, TendsIn};
+ghost use Rattle.chi_system.specs.System.{agent_refusal, arrive_refusal, give_back_refusal, opening_system, step_refusal, tend_refusal, AllAgree, ArrivesIn, GivesBackIn, IsSystem, SeesIn, StepsIn, TendsIn};
 
-use crate::home::Home;
+use crate::agreement::all_agree;
 use arrayvec::ArrayVec;
-use chi_audit::Audit;
 use chi_flit::{Action, Agent, CreditType, Line, NoMemory, Refusal};
-use chi_node::{Arrived, Requester, Stepped, parts};
-use chi_slice::{Config, LineView};
+use chi_node::{Arrived, Requester, Stepped, arrive_agreed, parts, step_agreed};
+use chi_slice::{Audit, Config, LineView, Slice, audit_of};
 use chi_tracker::{Counts, Released, Tracker};
 use chi_wires::Cells;
 use std::alloc::Allocator;
 use std::marker::Model;
 
-/// The slices of a node, its tracker, and its requesters in rising order. Contracts see it as a
-/// `SystemState`.
+/// The slices of a node in rising order, where line `l` is in slice `l mod slices`; its tracker; and its
+/// requesters in rising order. Contracts see it as a `SystemState`.
 ///
 /// Each requester agrees with each slice, so no call is refused with 11 (NotOpen). No call takes memory or
 /// waits.
 /// Source: `docs/PROTOCOL.md`, "A requester and its calls" and "Agreement".
 #[derive(Drop)]
 pub struct System<A: Allocator> {
-    home: Home<A>,
+    config: Config,
+    slices: Vec<Slice<A>, A>,
     tracker: Tracker<A>,
     requesters: ArrayVec<Requester, 8>,
 }
@@ -47,9 +44,9 @@ impl<A: Allocator> Model for System<A> {
 
     ghost Value = { SystemState };
 
-    ghost view = { λ y. record { home = y.home; requesters = y.requesters.items } };
+    ghost view = { λ y. record { home = record { config = y.config; slices = y.slices.items }; requesters = y.requesters.items } };
 
-    ghost invariant = { λ y. IsOf y.tracker.table (record { home = y.home; requesters = y.requesters.items }) };
+    ghost invariant = { λ y. IsOf y.tracker.table (record { home = record { config = y.config; slices = y.slices.items }; requesters = y.requesters.items }) };
 }
 
 impl<A: Allocator + Copy> System<A> {
@@ -62,7 +59,8 @@ impl<A: Allocator + Copy> System<A> {
     {
         let (slices, tracker, requesters) = parts(alloc, config)?;
         Ok(System {
-            home: Home::opening(config, slices),
+            config: *config,
+            slices,
             tracker,
             requesters,
         })
@@ -83,10 +81,14 @@ impl<A: Allocator> System<A> {
         ensures err { OnErr result (self.new ≡ self.old) }
         ensures kept { IsSystem self.old }
     {
-        if !self.has_agent(agent) {
-            return Err(Refusal::OutOfRange);
-        }
-        self.arrive_inside(agent, line)
+        let place = self.place_for(agent, line)?;
+        let requesters = self.requesters.as_mut_slice();
+        arrive_agreed(
+            &mut self.slices[place],
+            &self.tracker,
+            &mut requesters[usize::from(agent.0)],
+            line,
+        )
     }
 
     /// The agent does an action other than Admit and Retry, which are an arrival's. Where it completes a
@@ -103,10 +105,14 @@ impl<A: Allocator> System<A> {
         ensures err { OnErr result (self.new ≡ self.old) }
         ensures kept { IsSystem self.old }
     {
-        if !self.has_agent(action.agent) {
-            return Err(Refusal::OutOfRange);
-        }
-        self.step_inside(action)
+        let place = self.place_for(action.agent, action.line)?;
+        let requesters = self.requesters.as_mut_slice();
+        step_agreed(
+            &mut self.slices[place],
+            &self.tracker,
+            &mut requesters[usize::from(action.agent.0)],
+            action,
+        )
     }
 
     /// The agent looks at what is promised to it, one step on each of the tracker's four words, and is told
@@ -172,32 +178,34 @@ impl<A: Allocator> System<A> {
         tend_at(&self.tracker, requesters, agent, ty)
     }
 
-    /// An arrival, for an agent of the node.
-    fn arrive_inside(&mut self, agent: Agent, line: Line) -> Result<Arrived, Refusal>
-        requires { agent.0 < self.old.home.config.agents }
-        ensures { ArriveTry self.old self.new agent line result }
+    /// The place of a line's slice.
+    fn place_of(&self, line: Line) -> usize
+        ensures place { result ≡ index_of self.now.home line.0 }
+        ensures kept { IsSystem self.now }
     {
-        arrive_at(
-            &mut self.home,
-            &self.tracker,
-            self.requesters.as_mut_slice(),
-            agent,
-            line,
-        )
+        usize::from(self.config.slice_of(line))
     }
 
-    /// A step, for an agent of the node.
-    fn step_inside(&mut self, action: Action) -> Result<Stepped, Refusal>
-        requires agent { action.agent.0 < self.old.home.config.agents }
-        requires step { is_own_step action.step ≡ true }
-        ensures { StepTry self.old self.new action result }
+    /// The place of a line's slice, for a call of an agent. Refused 10 (OutOfRange) exactly where the agent
+    /// is none of the node's.
+    fn place_for(&self, agent: Agent, line: Line) -> Result<usize, Refusal>
+        ensures refusal { refusal_of result ≡ agent_refusal self.now agent.0 }
+        ensures place { IfOk result (λ place. place ≡ index_of self.now.home line.0) }
+        ensures agent { OnOk result (agent.0 < self.now.home.config.agents) }
+        ensures kept { IsSystem self.now }
     {
-        step_at(
-            &mut self.home,
-            &self.tracker,
-            self.requesters.as_mut_slice(),
-            action,
-        )
+        if !self.has_agent(agent) {
+            return Err(Refusal::OutOfRange);
+        }
+        Ok(self.place_of(line))
+    }
+
+    /// The slice of a line.
+    fn slice_of(&self, line: Line) -> &Slice<A>
+        ensures slice { result.now ≡ slice_of self.now.home line.0 }
+        ensures sizes { result.now.config ≡ self.now.home.config }
+    {
+        &self.slices[self.place_of(line)]
     }
 
     /// The type that a call for an agent names.
@@ -218,7 +226,7 @@ impl<A: Allocator> System<A> {
         ensures is { result ≡ nat_lt agent.0 self.now.home.config.agents }
         ensures kept { IsSystem self.now }
     {
-        agent.0 < self.home.config().agents()
+        agent.0 < self.config.agents()
     }
 
     /// All parts of a line, as plain data.
@@ -229,7 +237,7 @@ impl<A: Allocator> System<A> {
         ensures shown { IfOk result (λ view. view ≡ shown (line_of_home self.now.home line.0) (last_of self.now.home line.0)) }
         ensures refusal { refusal_of result ≡ view_refusal self.now.home line.0 }
     {
-        self.home.view(line)
+        self.slice_of(line).view(line)
     }
 
     /// What is in flight between an agent and the home for a line.
@@ -241,7 +249,7 @@ impl<A: Allocator> System<A> {
         ensures refusal { refusal_of result ≡ flits_refusal self.now.home agent.0 line.0 }
         ensures agent { OnOk result (agent.0 < self.now.home.config.agents) }
     {
-        self.home.flits(agent, line)
+        self.slice_of(line).flits(agent, line)
     }
 
     /// The loads and stores of all slices, and whether each is coherent.
@@ -249,7 +257,7 @@ impl<A: Allocator> System<A> {
     pub fn audit(&self) -> Audit
         ensures { IsAudited self.now.home.slices result.loads result.stores result.coherent }
     {
-        self.home.audit()
+        audit_of(&self.slices)
     }
 
     /// The size of the node. Whoever asks for it knows what every node keeps.
@@ -258,7 +266,7 @@ impl<A: Allocator> System<A> {
         ensures is { result.now ≡ self.now.home.config }
         ensures kept { IsSystem self.now }
     {
-        self.home.config()
+        &self.config
     }
 
     /// Whether each requester agrees with each slice. It is always so, since every call keeps it.
@@ -267,7 +275,7 @@ impl<A: Allocator> System<A> {
         ensures is { IsTrue result ↔ AllAgree self.now.home.slices self.now.requesters }
         ensures always { result ≡ true }
     {
-        self.home.agrees(self.requesters.as_slice())
+        all_agree(&self.slices, self.requesters.as_slice())
     }
 
     /// How many entries of each type are free, in hand and promised, and how many credits are owed, as the
@@ -276,42 +284,6 @@ impl<A: Allocator> System<A> {
     pub fn glance(&self) -> Counts {
         self.tracker.glance()
     }
-}
-
-/// An arrival of the agent's requester.
-fn arrive_at<A: Allocator>(
-    home: &mut Home<A>,
-    tracker: &Tracker<A>,
-    requesters: &mut [Requester],
-    agent: Agent,
-    line: Line,
-) -> Result<Arrived, Refusal>
-    requires agent { agent.0 < length requesters.old }
-    requires tables { All (λ r. r.table ≡ tracker.now.table) requesters.old }
-    requires types { All (λ r. HasTypes home.old.config r.port.shape) requesters.old }
-    ensures { (r : RequesterState) × (requesters.new ≡ slice_set requesters.old agent.0 r) × ((s : SliceState) × ArrivalVisit home.old home.new line s (slice_index_or requesters.old agent.0 no_requester) r result) }
-{
-    home.arrive(tracker, &mut requesters[usize::from(agent.0)], line)
-}
-
-/// A step of the action's agent's requester.
-fn step_at<A: Allocator>(
-    home: &mut Home<A>,
-    tracker: &Tracker<A>,
-    requesters: &mut [Requester],
-    action: Action,
-) -> Result<Stepped, Refusal>
-    requires agent { action.agent.0 < length requesters.old }
-    requires tables { All (λ r. r.table ≡ tracker.now.table) requesters.old }
-    requires number { action.agent.0 ≡ (slice_index_or requesters.old action.agent.0 no_requester).number }
-    requires step { is_own_step action.step ≡ true }
-    ensures { (r : RequesterState) × (requesters.new ≡ slice_set requesters.old action.agent.0 r) × ((s : SliceState) × StepVisit home.old home.new action s (slice_index_or requesters.old action.agent.0 no_requester) r result) }
-{
-    home.step(
-        tracker,
-        &mut requesters[usize::from(action.agent.0)],
-        action,
-    )
 }
 
 /// A look of the agent's requester.

@@ -1,12 +1,12 @@
 -- Each audit of a run tells what the slices are.
 use Rattle.std.proofs.Common.{◌≡◌, ◌↔◌, ℕ, Bool, true, false, IsTrue, All, List, [], ◌∷◌, refl, sym, subst, inl, inr, true≢false}
-use Rattle.chi_audit.specs.Slices.{IsCoherentSlice}
+use Rattle.chi_slice.specs.Coherence.{IsCoherentSlice}
 use Rattle.chi_script.specs.declared.commands.Command.{Command}
 use Rattle.chi_script.specs.declared.commands.Command.TheVariants.{Act, Arrive, Audit, Flits, GiveBack, See, Show, Tend, Totals}
 use Rattle.chi_slice.specs.Slice.{SliceState}
 use Rattle.chi_tracker.specs.Views.{PortView}
 use Rattle.chi_reply.specs.Replies.{audit_text}
-use Rattle.chi_audit.specs.Audits.{loads_in, stores_in}
+use Rattle.chi_slice.specs.Audits.{loads_in, stores_in}
 use Rattle.chi_text.specs.Turns.{Answer, Claimed, Glanced, Judged, Machine, Owed, Saw, Spent, Tended, Went, turn}
 use Rattle.chi_text.specs.Texts.{Allowed, AuditsTell, Made, Plays, Tells, TellsSlices}
 use Rattle.chi_text.proofs.Playing.{made_plays}

@@ -12,7 +12,7 @@ use Rattle.chi_tracker.specs.Calls.{seen_of}
 use Rattle.chi_tracker.specs.Shape.{low}
 use Rattle.chi_tracker.proofs.Entries.{credit_below}
 use Rattle.chi_slice.specs.Config.{Sizes}
-use Rattle.chi_slice.specs.Slice.{SliceState, are_in_range, is_in_range, is_line_in_range, refused_with}
+use Rattle.chi_slice.specs.Slice.{SliceState, are_in_range, is_in_range, is_line_in_range}
 use Rattle.chi_slice.proofs.Rows.{both}
 use Rattle.chi_line.specs.Refused.{first_of}
 use Rattle.chi_credit.specs.Account.{lowest_cancelled, riding_of}
@@ -20,7 +20,7 @@ use Rattle.chi_credit.specs.declared.slot.SlotRecord.{SlotRecord}
 use Rattle.chi_node.specs.Parts.{is_of_profile}
 use Rattle.chi_node.specs.Requester.{RequesterState, has_type, no_requester}
 use Rattle.chi_node.specs.Requester as requester
-use Rattle.chi_node.specs.Calls.{is_slot_taken, wanted_credit}
+use Rattle.chi_node.specs.Calls.{is_slot_taken, wanted_credit, refused_with}
 use Rattle.chi_node.specs.Calls as calls
 use Rattle.chi_node.proofs.Openings.{all_types, few_entries}
 use Rattle.chi_system.specs.Home.{slice_of}

@@ -10,8 +10,6 @@ use Rattle.chi_flit.specs.declared.numbers.Slot.{Slot}
 use Rattle.chi_flit.specs.declared.credit.CreditType.{CreditType}
 use Rattle.chi_flit.specs.declared.credit.CreditType.TheVariants.{T0, T1, T2, T3}
 use Rattle.chi_flit.specs.declared.action.Action.{Action}
-use Rattle.chi_flit.specs.declared.action.Step.{Step}
-use Rattle.chi_flit.specs.declared.action.Step.TheVariants as steps
 use Rattle.chi_flit.specs.declared.action.Effect.{Effect}
 use Rattle.chi_flit.specs.declared.action.Effect.TheVariants.{Completed, Nothing, Value}
 use Rattle.chi_flit.specs.declared.message.Request.{Request}
@@ -23,24 +21,22 @@ use Rattle.chi_tracker.specs.declared.totals.Counts.{Counts}
 use Rattle.chi_tracker.specs.Views.{PortView}
 use Rattle.chi_tracker.specs.Shape.{low, size}
 use Rattle.chi_tracker.specs.Calls.{owed_one, scanned}
-use Rattle.chi_line.specs.LineState.{cells_of, rn_of}
-use Rattle.chi_line.specs.Step.{pending_slot}
+use Rattle.chi_line.specs.LineState.{cells_of}
 use Rattle.chi_slice.specs.Slice.{SliceState}
-use Rattle.chi_slice.specs.Slice as slice
 use Rattle.chi_credit.specs.declared.slot.SlotRecord.{SlotRecord}
 use Rattle.chi_credit.specs.declared.slot.SlotState.{SlotState}
 use Rattle.chi_credit.specs.declared.slot.SlotState.TheVariants as states
-use Rattle.chi_credit.specs.Slot.{after_answer, after_finish}
+use Rattle.chi_credit.specs.Slot.{after_finish}
 use Rattle.chi_credit.specs.Account.{moved, slot_at, state_at}
 use Rattle.chi_node.specs.declared.answers.Arrived.{Arrived}
 use Rattle.chi_node.specs.declared.answers.Arrived.TheVariants.{Admitted, Retried}
 use Rattle.chi_node.specs.declared.answers.Stepped.{Stepped}
-use Rattle.chi_node.specs.Requester.{RequesterState, no_requester, with_slots}
+use Rattle.chi_node.specs.Requester.{RequesterState}
 use Rattle.chi_node.specs.Arrives.{Arrives}
-use Rattle.chi_node.specs.Followed.{Completes, Finishes, at_pending, followed}
+use Rattle.chi_node.specs.AfterStep.{Completes, Finishes, account_after, requester_after}
 use Rattle.chi_node.specs.Calls.{ArrivesAt, arrival_action, is_own_step, place_at}
 use Rattle.chi_script.specs.declared.commands.Command.TheVariants as commands
-use Rattle.chi_audit.specs.Audits.{IsAudited, loads_in}
+use Rattle.chi_slice.specs.Audits.{IsAudited, loads_in}
 use Rattle.chi_system.specs.Home.{HomeState, acted, line, slice_of}
 use Rattle.chi_system.specs.System.{ArrivesIn, IsSystem, OthersStay, StepsIn, SystemState, arrive_refusal, requester_of, step_refusal}
 use Rattle.chi_reply.specs.Replies.{audit_text, reply_text, totals_text}
@@ -168,49 +164,15 @@ arrive_plays y y' agent l (Ok arrived) k h ok err =
     allowed_plays y y' (arrive_refusal y agent.0 l.0) _ (reply_text (arrival_reply (Ok arrived))) h
     (arriving_plays y y' agent l (cells_of (line y.home l.0) agent.0).req arrived k (arrives_low y agent l k h) ok.home ok.others ok.requester)
 
--- the slots of a requester after a step are those of its slots alone, and its port stays
-pub record OnSlots (z : SliceState) (agent : Agent) (l : Line) (step : Step) (r : RequesterState) : Type 0 where
-  pub slots : (followed (place_at z (record { agent = agent; line = l; step = step })) step r).slots ≡ (followed (place_at z (record { agent = agent; line = l; step = step })) step (record no_requester { slots = r.slots })).slots
-  pub port : (followed (place_at z (record { agent = agent; line = l; step = step })) step r).port ≡ r.port
-
--- where the pending slot changes
-pending_slots : (o : Option Slot) (r : RequesterState) (change : ℕ → List SlotRecord) → (at_pending o (λ s. with_slots (change s) r) r).slots ≡ (at_pending o (λ s. with_slots (change s) (record no_requester { slots = r.slots })) (record no_requester { slots = r.slots })).slots
-pending_slots None r change = refl
-pending_slots (Some slot) r change = refl
-
-pending_port : (o : Option Slot) (r : RequesterState) (change : ℕ → List SlotRecord) → (at_pending o (λ s. with_slots (change s) r) r).port ≡ r.port
-pending_port None r change = refl
-pending_port (Some slot) r change = refl
-
-on_slots : (z : SliceState) (agent : Agent) (l : Line) (step : Step) (r : RequesterState) → OnSlots z agent l step r
-on_slots z agent l (steps.Load word) r = record { slots = refl; port = refl }
-on_slots z agent l (steps.Store word value) r = record { slots = refl; port = refl }
-on_slots z agent l steps.Drop r = record { slots = refl; port = refl }
-on_slots z agent l (steps.Issue kind slot) r = record { slots = refl; port = refl }
-on_slots z agent l steps.Admit r = record { slots = refl; port = refl }
-on_slots z agent l steps.Retry r = record { slots = refl; port = refl }
-on_slots z agent l steps.RecvRetry r = let change = λ (s : ℕ). moved r.slots s states.Retried in record { slots = pending_slots (pending_slot (rn_of (slice.line z l.0) agent.0).pending) r change; port = pending_port (pending_slot (rn_of (slice.line z l.0) agent.0).pending) r change }
-on_slots z agent l steps.Resend r = let change = λ (s : ℕ). moved r.slots s states.Riding in record { slots = pending_slots (pending_slot (rn_of (slice.line z l.0) agent.0).pending) r change; port = pending_port (pending_slot (rn_of (slice.line z l.0) agent.0).pending) r change }
-on_slots z agent l steps.Cancel r = let change = λ (s : ℕ). moved r.slots s states.Cancelled in record { slots = pending_slots (pending_slot (rn_of (slice.line z l.0) agent.0).pending) r change; port = pending_port (pending_slot (rn_of (slice.line z l.0) agent.0).pending) r change }
-on_slots z agent l steps.Start r = record { slots = refl; port = refl }
-on_slots z agent l steps.RecvSnp r = record { slots = refl; port = refl }
-on_slots z agent l steps.RecvSnpResp r = record { slots = refl; port = refl }
-on_slots z agent l steps.RecvData r = let change = λ (s : ℕ). set r.slots s (after_answer (slot_at r.slots s)) in record { slots = pending_slots (pending_slot (rn_of (slice.line z l.0) agent.0).pending) r change; port = pending_port (pending_slot (rn_of (slice.line z l.0) agent.0).pending) r change }
-on_slots z agent l steps.RecvComp r = let change = λ (s : ℕ). set r.slots s (after_answer (slot_at r.slots s)) in record { slots = pending_slots (pending_slot (rn_of (slice.line z l.0) agent.0).pending) r change; port = pending_port (pending_slot (rn_of (slice.line z l.0) agent.0).pending) r change }
-on_slots z agent l steps.RecvAck r = record { slots = refl; port = refl }
-on_slots z agent l steps.RecvDbid r = let change = λ (s : ℕ). set r.slots s (after_answer (slot_at r.slots s)) in record { slots = pending_slots (pending_slot (rn_of (slice.line z l.0) agent.0).pending) r change; port = pending_port (pending_slot (rn_of (slice.line z l.0) agent.0).pending) r change }
-on_slots z agent l steps.RecvWrData r = record { slots = refl; port = refl }
-
 -- the table's state after a step that completes nothing
-stepped_state : (y y' : SystemState) (action : Action) → y'.home ≡ acted y.home action → OthersStay y y' action.agent → requester_of y' action.agent.0 ≡ followed (place_at (slice_of y.home action.line.0) action) action.step (requester_of y action.agent.0)
+stepped_state : (y y' : SystemState) (action : Action) → y'.home ≡ acted y.home action → OthersStay y y' action.agent → requester_of y' action.agent.0 ≡ requester_after (place_at (slice_of y.home action.line.0) action) action.step (requester_of y action.agent.0)
     → (machine_of y' ≡ with_action (machine_of y) action) × (ports_of y' ≡ ports_of y)
 stepped_state y y' action home others is =
     let r : RequesterState = requester_of y action.agent.0 in
     let z : SliceState = slice_of y.home action.line.0 in
-    let on : OnSlots z action.agent action.line action.step r = on_slots z action.agent action.line action.step r in
     let slots : (requester_of y' action.agent.0).slots ≡ slots_after (machine_of y) action =
-    ap (λ (x : RequesterState). x.slots) is ∙ (on.slots ∙ ap (λ (x : List SlotRecord). (followed (place_at z action) action.step (record no_requester { slots = x })).slots) (sym (slots_at y action.agent))) in
-    let port : (requester_of y' action.agent.0).port ≡ r.port = ap (λ (x : RequesterState). x.port) is ∙ on.port in (
+    ap (λ (x : RequesterState). x.slots) is ∙ ap (λ (x : List SlotRecord). account_after (place_at z action) action.step x) (sym (slots_at y action.agent)) in
+    let port : (requester_of y' action.agent.0).port ≡ r.port = ap (λ (x : RequesterState). x.port) is in (
       machine_seen_same y y' action.agent (slots_after (machine_of y) action) others slots (ap seen_counts port)
           ∙ ap (λ (h : HomeState). record { home = h; accounts = set (machine_of y).accounts action.agent.0 (slots_after (machine_of y) action); seen = (machine_of y).seen }) home,
       ports_same y y' action.agent others port,

@@ -5,12 +5,12 @@ use Rattle.std.specs.Fmt.{decimal}
 use Rattle.chi_flit.specs.declared.numbers.Agent.{Agent}
 use Rattle.chi_script.specs.declared.commands.Command.{Command}
 use Rattle.chi_script.specs.declared.commands.Command.TheVariants as commands
-use Rattle.chi_audit.specs.Slices.{IsCoherentSlice}
+use Rattle.chi_slice.specs.Coherence.{IsCoherentSlice}
 use Rattle.chi_slice.specs.Config.{Sizes}
 use Rattle.chi_slice.specs.Slice.{SliceState}
 use Rattle.chi_tracker.specs.Views.{PortView, new_ports}
 use Rattle.chi_tracker.specs.Calls.{shape_of}
-use Rattle.chi_audit.specs.Audits.{loads_in, stores_in}
+use Rattle.chi_slice.specs.Audits.{loads_in, stores_in}
 use Rattle.chi_text.specs.Ports.{Claims, GivesBack, Owes, Releases, Sees, Spends, Tends}
 use Rattle.chi_text.specs.Turns.{Answer, Call, Claim, Claimed, GiveBack, Glance, Glanced, Judge, Judged, Owe, Owed, Release, See, Saw, Spend, Spent, Tend, Tended, Went, Turn, Asks, Ends, Machine, opening, turn}
 

@@ -19,7 +19,7 @@ use Rattle.chi_script.specs.declared.commands.Command.{Command}
 use Rattle.chi_script.specs.declared.commands.Command.TheVariants as commands
 use Rattle.chi_tracker.specs.declared.released.Released.{Released}
 use Rattle.chi_slice.specs.Config.{Sizes}
-use Rattle.chi_slice.specs.Slice.{SliceState, refused_with}
+use Rattle.chi_slice.specs.Slice.{SliceState}
 use Rattle.chi_line.specs.LineState.{cells_of}
 use Rattle.chi_line.specs.Refused.{first_of}
 use Rattle.chi_line.specs.Step.{effect_of}
@@ -31,11 +31,10 @@ use Rattle.chi_credit.specs.Slot.{after_finish, idle_slot}
 use Rattle.chi_credit.specs.Account.{all_idle, lowest_cancelled, moved, riding_of, slot_at, state_at}
 use Rattle.chi_node.specs.declared.answers.Arrived.{Arrived}
 use Rattle.chi_node.specs.declared.answers.Arrived.TheVariants as arrivals
-use Rattle.chi_node.specs.Requester.{no_requester}
-use Rattle.chi_node.specs.Followed.{followed}
+use Rattle.chi_node.specs.AfterStep.{account_after}
 use Rattle.chi_node.specs.Parts.{is_of_profile}
-use Rattle.chi_node.specs.Calls.{arrival_action, arrival_refusal, is_own_step, is_slot_taken, place_at, wanted_credit}
-use Rattle.chi_audit.specs.Audits.{loads_in, stores_in}
+use Rattle.chi_node.specs.Calls.{arrival_action, arrival_refusal, is_own_step, is_slot_taken, place_at, wanted_credit, refused_with}
+use Rattle.chi_slice.specs.Audits.{loads_in, stores_in}
 use Rattle.chi_system.specs.Home.{HomeState, acted, flits_refusal, last_of, line, opening_home, slice_of, view_refusal}
 use Rattle.chi_reply.specs.Replies.{audit_text, credits_text, flits_text, reply_text, shown_text, totals_text}
 use Rattle.chi_reply.specs.declared.replies.Reply.{Reply}
@@ -132,7 +131,7 @@ act_refusal m action = first_of
 
 -- an agent's slots after its action, as its requester follows it
 abbrev pub slots_after : Machine → Action → List SlotRecord
-slots_after m action = (followed (place_at (slice_of m.home action.line.0) action) action.step (record no_requester { slots = slots_of m action.agent })).slots
+slots_after m action = account_after (place_at (slice_of m.home action.line.0) action) action.step (slots_of m action.agent)
 
 -- the state after an action that completes no request, and after one that completes the request of a slot
 abbrev pub with_action : Machine → Action → Machine

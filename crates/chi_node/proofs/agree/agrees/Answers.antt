@@ -1,4 +1,4 @@
--- What is told of agreement is told of it by the rows of the table.
+-- Agreement is agreement by the rows of the table.
 use Rattle.std.proofs.Common.{◌↔◌}
 use Rattle.chi_node.specs.Agree.{Agree}
 use Rattle.chi_node.specs.Table.{AgreeByTable}

@@ -1,5 +1,5 @@
 -- A slice is one of eight.
-use Rattle.chi_node.proofs.Told.{index_low}
+use Rattle.chi_node.proofs.Matches.{index_low}
 use Rattle.chi_node.proofs.agree.has_count.Goals as goal
 
 pub count-requires : goal.count-requires

@@ -8,17 +8,17 @@ use Rattle.chi_node.proofs.Same.{acted_same, arrival_same}
 use Rattle.chi_node.proofs.calls.admit.Goals as goal
 
 pub arrive-arrived-requires-clause-slot : goal.arrive-arrived-requires-clause-slot
-arrive-arrived-requires-clause-slot g c = arrival_slot c.args.slice.now c.args.requester.now c.args.line c.args.request c.requires.can
+arrive-arrived-requires-clause-slot g c = arrival_slot c.args.slice.now c.args.requester.now c.args.line c.args.request c.requires.can c.requires.agrees
 
 pub arrive-arrived-requires-clause-fits : goal.arrive-arrived-requires-clause-fits
-arrive-arrived-requires-clause-fits g c = can_arrive c.args.slice.now c.args.requester.now c.args.line c.args.request c.requires.can c.requires.types
+arrive-arrived-requires-clause-fits g c = can_arrive c.args.slice.now c.args.requester.now c.args.line c.args.request c.requires.can c.requires.agrees c.requires.types
 
 pub returns-clause-agreement : goal.returns-clause-agreement
 returns-clause-agreement g c =
     let after : c.do_action.new.slice ≡ acted c.args.slice.now (arrival_action c.args.requester.now.number c.args.line c.arrive-arrived.result) =
     c.do_action.ensures.after ∙ (ap (λ (n : ℕ). acted c.args.slice.now (record { agent = record { 0 = n }; line = c.args.line; step = c.arrival_step-step.result })) c.number-agent.ensures.is
     ∙ ap (λ (z : Step). acted c.args.slice.now (record { agent = record { 0 = c.args.requester.now.number }; line = c.args.line; step = z })) c.arrival_step-step.ensures) in
-    keeps_arrival c.args.slice.now c.do_action.new.slice c.args.requester.now c.arrive-arrived.new.self c.args.line c.args.request c.arrive-arrived.result c.requires.can c.arrive-arrived.ensures after
+    keeps_arrival c.args.slice.now c.do_action.new.slice c.args.requester.now c.arrive-arrived.new.self c.args.line c.args.request c.arrive-arrived.result c.requires.can c.requires.agrees c.arrive-arrived.ensures after
 
 pub returns-clause-same : goal.returns-clause-same
 returns-clause-same g c = arrival_same c.args.request.allow_retry c.args.request.slot.0 c.arrive-arrived.result c.args.requester.now c.arrive-arrived.new.self c.arrive-arrived.ensures

@@ -4,10 +4,9 @@ use Rattle.chi_node.proofs.calls.arrival.Goals as goal
 
 pub returns-clause-ok : goal.returns-clause-ok
 returns-clause-ok g c = record {
-  kept = c.is_open.ensures.slice;
+  kept = c.in_ok-cells.ensures.kept;
   numbers = c.in_ok-cells.ensures.slots;
   inside = search (rules);
   flit = search (rules);
-  agrees = search (rules, c.is_open.ensures.agree);
-  requester = c.is_open.ensures.requester;
+  requester = c.number.ensures.kept;
 }

@@ -4,11 +4,10 @@ use Rattle.chi_node.proofs.calls.place_of_step.Goals as goal
 
 pub returns-clause-ok : goal.returns-clause-ok
 returns-clause-ok g c = record {
-  kept = c.is_open.ensures.slice;
+  kept = c.place_at.ensures.kept;
   numbers = c.place_at.ensures.slots;
-  within = c.is_open.ensures.within;
+  within = rw (← c.journal.ensures.journal) c.part_len.ensures.within;
   allowed = search (rules);
   called = search (rules);
-  agrees = search (rules, c.is_open.ensures.agree);
-  requester = c.is_open.ensures.requester;
+  requester = c.number-agent.ensures.kept;
 }

@@ -1,7 +1,7 @@
 -- The slices are audited, and the line has what was found.
 use Rattle.std.proofs.Common.{◌≡◌, [], ◌∷◌, ◌++◌, string_bytes, rules}
 use Rattle.chi_reply.specs.Replies.{audit_text}
-use Rattle.chi_audit.specs.Audits.{IsAudited}
+use Rattle.chi_slice.specs.Audits.{IsAudited}
 use Rattle.chi_text.proofs.Turned.{audit_says}
 use Rattle.chi_text.proofs.session.say_audit.Goals as goal
 

@@ -1,12 +1,15 @@
 -- Each slice is asked, and each requester agrees.
-use Rattle.std.proofs.Common.{◌↔◌, List, subst, sym}
+use Rattle.std.proofs.Common.{◌↔◌, List, subst}
 use Rattle.std.specs.Prelude.{IsTrue}
+use Rattle.chi_slice.specs.Slice.{SliceState}
 use Rattle.chi_node.specs.Requester.{RequesterState}
 use Rattle.chi_system.specs.System.{AllAgree}
 use Rattle.chi_system.proofs.system.System.agrees.Goals as goal
 
 pub returns-clause-is : goal.returns-clause-is
-returns-clause-is g c = rw (← c.self.view_is) (subst (λ (rs : List RequesterState). IsTrue c.agrees.result ↔ AllAgree c.self.inside.home.slices rs) c.as_slice.ensures.value c.agrees.ensures)
+returns-clause-is g c = rw (← c.self.view_is) (subst (λ (ss : List SliceState). IsTrue c.all_agree.result ↔ AllAgree ss c.self.inside.requesters.items) c.deref.ensures.value
+    (subst (λ (rs : List RequesterState). IsTrue c.all_agree.result ↔ AllAgree c.deref.result.now rs) c.as_slice.ensures.value c.all_agree.ensures))
 
 pub returns-clause-always : goal.returns-clause-always
-returns-clause-always g c = c.agrees.ensures.1 (subst (λ (rs : List RequesterState). AllAgree c.self.inside.home.slices rs) (sym c.as_slice.ensures.value) c.self.invariant.system.agree)
+returns-clause-always g c = (subst (λ (ss : List SliceState). IsTrue c.all_agree.result ↔ AllAgree ss c.self.inside.requesters.items) c.deref.ensures.value
+    (subst (λ (rs : List RequesterState). IsTrue c.all_agree.result ↔ AllAgree c.deref.result.now rs) c.as_slice.ensures.value c.all_agree.ensures)).1 c.self.invariant.system.agree

@@ -3,7 +3,11 @@ use Rattle.chi_system.proofs.Systems.{made_system}
 use Rattle.chi_system.proofs.system.System.new.Goals as goal
 
 pub invariant_of-result : goal.invariant_of-result
-invariant_of-result g c = made_system c.args.config.now c.in_ok-slices.tracker.table c.in_ok-slices.tracker.shape c.opening.result c.in_ok-slices.requesters.items c.parts.ensures.limits c.in_ok-slices.ensures.agree c.in_ok-slices.ensures.tracker c.opening.ensures c.in_ok-slices.ensures.requesters
+invariant_of-result g c =
+    let e = c.in_ok-slices.ensures in
+    made_system c.args.config.now c.in_ok-slices.tracker.table c.in_ok-slices.tracker.shape c.in_ok-slices.slices.items c.in_ok-slices.requesters.items c.parts.ensures.limits e.agree e.tracker e.slices e.requesters
 
 pub returns-clause-kept : goal.returns-clause-kept
-returns-clause-kept g c = (made_system c.args.config.now c.in_ok-slices.tracker.table c.in_ok-slices.tracker.shape c.opening.result c.in_ok-slices.requesters.items c.parts.ensures.limits c.in_ok-slices.ensures.agree c.in_ok-slices.ensures.tracker c.opening.ensures c.in_ok-slices.ensures.requesters).system
+returns-clause-kept g c =
+    let e = c.in_ok-slices.ensures in
+    (made_system c.args.config.now c.in_ok-slices.tracker.table c.in_ok-slices.tracker.shape c.in_ok-slices.slices.items c.in_ok-slices.requesters.items c.parts.ensures.limits e.agree e.tracker e.slices e.requesters).system

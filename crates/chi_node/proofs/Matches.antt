@@ -1,5 +1,6 @@
 -- What the place that a slice shows of a slot says of the slot at each of the slice's lines.
-use Rattle.std.proofs.Common.{◌≡◌, ◌≢◌, ℕ, ◌+◌, ◌<◌, ◌≤◌, ◌==◌, ◌&&◌, Bool, true, false, ◌↔◌, Option, Some, None, refl, sym, ◌∙◌, ap, subst, if◌then◌else◌, arith}
+use Rattle.std.proofs.Common.{◌≡◌, ◌≢◌, ℕ, ◌<◌, ◌≤◌, ◌==◌, ◌&&◌, Bool, true, false, ◌↔◌, Option, Some, None, refl, sym, ◌∙◌, ap, if◌then◌else◌, arith}
+use Rattle.std.proofs.lemmas.Bool.{and_from, and_parts}
 use Rattle.std.specs.Prelude.{IsTrue}
 use Rattle.chi_flit.specs.declared.numbers.Line.{Line}
 use Rattle.chi_flit.specs.declared.numbers.Slot.{Slot}
@@ -10,12 +11,13 @@ use Rattle.chi_line.specs.Places.{where_at}
 use Rattle.chi_slice.specs.Config.{is_slice_count}
 use Rattle.chi_slice.specs.Slice.{SliceKept, SliceState, is_line_in_range, last_of, line}
 use Rattle.chi_line.specs.Types.{is_of_type}
+use Rattle.chi_slice.proofs.Below.{AllBelow, all_below}
 use Rattle.chi_slice.proofs.Rows.{InLimits, in_limits}
 use Rattle.chi_slice.proofs.SlotTypes.{unused_type}
 use Rattle.chi_credit.specs.declared.slot.SlotRecord.{SlotRecord}
 use Rattle.chi_credit.specs.Account.{slot_at}
 use Rattle.chi_node.specs.Requester.{RequesterState}
-use Rattle.chi_node.specs.Agree.{Fits, FitsAt, IsTold, told, told_at}
+use Rattle.chi_node.specs.Agree.{Fits, FitsAt, MatchesRecord, where_of_record, where_of_state}
 
 -- a number that isn't another
 pub apart : (a b : ℕ) → a ≢ b → (a == b) ≡ false
@@ -95,82 +97,43 @@ pub fits_shown : (s : SliceState) (n : ℕ) (slot : Slot) (x : SlotRecord) (plac
     → ((l : ℕ) → is_line_in_range s l ≡ true → where_at (line s l) n slot ≡ at_line place l)
     → ((p : Place) → place ≡ Some p → is_line_in_range s p.line.0 ≡ true)
     → here ≡ is_line_in_range s x.line.0
-    → Fits place x here ↔ ((l : ℕ) → is_line_in_range s l ≡ true → where_at (line s l) n slot ≡ told x l)
+    → Fits place x here ↔ ((l : ℕ) → is_line_in_range s l ≡ true → where_at (line s l) n slot ≡ where_of_record x l)
 fits_shown s n slot x place here seen inside is = (
-  λ fits. to_shows s n slot x.line place (told_at x.state x.answered) here seen is fits,
-  λ shows. to_fits s n slot x.line place (told_at x.state x.answered) here seen inside is shows,
+  λ fits. to_shows s n slot x.line place (where_of_state x.state x.answered) here seen is fits,
+  λ shows. to_fits s n slot x.line place (where_of_state x.state x.answered) here seen inside is shows,
 )
 
--- all slots below a number, one after the other
-abbrev pub AllBelow : (ℕ → Type 0) → ℕ → Type 0
-AllBelow P n = (k : ℕ) → k < n → P k
-
-abbrev pub slot_of : ℕ → Slot
-slot_of k = record { 0 = k }
-
-abbrev pub ToldAt : SliceState → RequesterState → ℕ → Type 0
-ToldAt s r k = IsTold s r.number (slot_of k) (slot_at r.slots k)
-
-pub none_below : (P : ℕ → Type 0) → IsTrue true ↔ AllBelow P 0
-none_below P = (λ t k low. absurd (omega (arith, low)), λ all. refl)
-
-both_true : (a b : Bool) → IsTrue (a && b) → IsTrue a × IsTrue b
-both_true true b h = (refl, h)
-both_true false b h = absurd (cc (h))
-
-and_true : (a b : Bool) → IsTrue a → IsTrue b → IsTrue (a && b)
-and_true true b h g = g
-and_true false b h g = absurd (cc (h))
-
-one_more : (P : ℕ → Type 0) (n : ℕ) → AllBelow P n → P n → AllBelow P (n + 1)
-one_more P n below here = λ k low. go k low (k == n) refl
-  where
-    go : (k : ℕ) → k < n + 1 → (b : Bool) → (k == n) ≡ b → P k
-    go k low true same = let e : k ≡ n = grind (arith, same) in subst P (sym e) here
-    go k low false apart = below k (grind (arith, low, apart))
-
-pub next_below : (P : ℕ → Type 0) (n : ℕ) (before here after : Bool) → IsTrue before ↔ AllBelow P n → IsTrue here ↔ P n → after ≡ (before && here) → IsTrue after ↔ AllBelow P (n + 1)
-next_below P n before here after so_far now is = (
-  λ t. let parts = both_true before here (subst IsTrue is t) in one_more P n (so_far.0 parts.0) (now.0 parts.1),
-  λ all. subst IsTrue (sym is) (and_true before here (so_far.1 (λ k low. all k (omega (arith, low)))) (now.1 (all n (omega arith)))),
-)
+-- each slot, by its number
+abbrev pub MatchesAt : SliceState → RequesterState → ℕ → Type 0
+MatchesAt s r k = MatchesRecord s r.number (record { 0 = k }) (slot_at r.slots k)
 
 -- all eight
-pub all_below : (s : SliceState) (r : RequesterState) (n : ℕ) (found : Bool) → n ≡ 8 → IsTrue found ↔ AllBelow (ToldAt s r) n → IsTrue found ↔ ((slot : Slot) → slot.0 < 8 → IsTold s r.number slot (slot_at r.slots slot.0))
-all_below s r n found eight so_far = (
-  λ t slot low. so_far.0 t slot.0 (omega arith),
-  λ all. so_far.1 (λ k low. all (slot_of k) (omega arith)),
-)
+pub all_match : (s : SliceState) (r : RequesterState) (n : ℕ) (found : Bool) → n ≡ 8 → IsTrue found ↔ AllBelow (MatchesAt s r) n → IsTrue found ↔ ((slot : Slot) → slot.0 < 8 → MatchesRecord s r.number slot (slot_at r.slots slot.0))
+all_match s r n found eight so_far =
+    let all = all_below (MatchesAt s r) n found eight so_far in
+    (λ t slot low. all.0 t slot.0 low, λ each. all.1 (λ k low. each (record { 0 = k }) low))
+
+-- the kinds of a slot that is shown nowhere take every credit type
+type_at : (s : SliceState) (n l : ℕ) (slot : Slot) (x : SlotRecord) → SliceKept s → n < 8 → MatchesRecord s n slot x → is_line_in_range s l ≡ true → (at : Option Where) → where_at (line s l) n slot ≡ at → is_of_type s.config.profile x.credit (line s l) n slot ≡ true
+type_at s n l slot x k low t there None nothing = unused_type s.config.profile x.credit (last_of s l) (line s l) n slot low (k.lines l there) nothing
+type_at s n l slot x k low t there (Some at) shows = (t.lines l there).type at shows
 
 -- the place and the credit type of a slot
-pub told_by : (s : SliceState) (n : ℕ) (slot : Slot) (x : SlotRecord) (place : Option Place) (here typed fit : Bool) → SliceKept s → n < 8
+abbrev IsTyped : SliceState → ℕ → Slot → SlotRecord → Type 0
+IsTyped s n slot x = (l : ℕ) → is_line_in_range s l ≡ true → is_of_type s.config.profile x.credit (line s l) n slot ≡ true
+
+pub matches_by : (s : SliceState) (n : ℕ) (slot : Slot) (x : SlotRecord) (place : Option Place) (here typed fit : Bool) → SliceKept s → n < 8
     → ((l : ℕ) → is_line_in_range s l ≡ true → where_at (line s l) n slot ≡ at_line place l)
     → ((p : Place) → place ≡ Some p → is_line_in_range s p.line.0 ≡ true)
-    → here ≡ is_line_in_range s x.line.0
-    → (typed ≡ true → (l : ℕ) → is_line_in_range s l ≡ true → is_of_type s.config.profile x.credit (line s l) n slot ≡ true)
-    → (((l : ℕ) → is_line_in_range s l ≡ true → is_of_type s.config.profile x.credit (line s l) n slot ≡ true) → typed ≡ true)
-    → IsTrue fit ↔ Fits place x here → IsTrue (typed && fit) ↔ IsTold s n slot x
-told_by s n slot x place here typed fit k low seen inside is all only fits =
+    → here ≡ is_line_in_range s x.line.0 → (typed ≡ true → IsTyped s n slot x) → (IsTyped s n slot x → typed ≡ true) → IsTrue fit ↔ Fits place x here → IsTrue (typed && fit) ↔ MatchesRecord s n slot x
+matches_by s n slot x place here typed fit k low seen inside is all only fits =
     let shown = fits_shown s n slot x place here seen inside is in (
-      λ h. let parts = both_true typed fit h in record { places = shown.0 (fits.0 parts.1); types = λ l at there _. all parts.0 l there },
-      λ t. and_true typed fit (only (λ l there. type_at t l there (where_at (line s l) n slot) refl)) (fits.1 (shown.1 t.places)),
+      λ h. let parts = and_parts typed fit h in record { lines = λ l there. record { place = shown.0 (fits.0 parts.1) l there; type = λ at _. all parts.0 l there } },
+      λ t. and_from typed fit (only (λ l there. type_at s n l slot x k low t there (where_at (line s l) n slot) refl)) (fits.1 (shown.1 (λ l there. (t.lines l there).place))),
     )
-  where
-    type_at : IsTold s n slot x → (l : ℕ) → is_line_in_range s l ≡ true → (at : Option Where) → where_at (line s l) n slot ≡ at → is_of_type s.config.profile x.credit (line s l) n slot ≡ true
-    type_at t l there None none = unused_type s.config.profile x.credit (last_of s l) (line s l) n slot low (k.lines l there) none
-    type_at t l there (Some at) shows = t.types l at there shows
 
-pub typed_told : (s : SliceState) (n : ℕ) (slot : Slot) (x : SlotRecord) (typed : Bool) → SliceKept s → n < 8
-    → (((l : ℕ) → is_line_in_range s l ≡ true → is_of_type s.config.profile x.credit (line s l) n slot ≡ true) → typed ≡ true)
-    → typed ≡ false → IsTrue typed ↔ IsTold s n slot x
-typed_told s n slot x typed k low only none = (λ h. absurd (not_both typed h none), λ t. only (λ l there. type_at t l there (where_at (line s l) n slot) refl))
-  where
-    not_both : (b : Bool) → b ≡ true → b ≡ false → ⊥
-    not_both b is none = cc (is, none)
-
-    type_at : IsTold s n slot x → (l : ℕ) → is_line_in_range s l ≡ true → (at : Option Where) → where_at (line s l) n slot ≡ at → is_of_type s.config.profile x.credit (line s l) n slot ≡ true
-    type_at t l there None nothing = unused_type s.config.profile x.credit (last_of s l) (line s l) n slot low (k.lines l there) nothing
-    type_at t l there (Some at) shows = t.types l at there shows
+pub typed_matches : (s : SliceState) (n : ℕ) (slot : Slot) (x : SlotRecord) (typed : Bool) → SliceKept s → n < 8 → (IsTyped s n slot x → typed ≡ true) → typed ≡ false → IsTrue typed ↔ MatchesRecord s n slot x
+typed_matches s n slot x typed k low only none = (λ h. absurd (cc (h, none)), λ t. only (λ l there. type_at s n l slot x k low t there (where_at (line s l) n slot) refl))
 
 -- a slice is one of eight
 pub few_slices : (n : ℕ) → is_slice_count n ≡ true → n ≤ 8
