@@ -4,8 +4,8 @@ use Rattle.std.specs.List.{count_by}
 use Rattle.chi_tracker.specs.declared.totals.Counts.{Counts}
 use Rattle.chi_tracker.specs.declared.totals.Credits.{Credits}
 use Rattle.chi_tracker.specs.Totals.{IsClosed, views_of}
-use Rattle.chi_audit.specs.Audits.{loads_in, stores_in}
-use Rattle.chi_audit.specs.Slices.{IsCoherentSlice}
+use Rattle.chi_slice.specs.Audits.{loads_in, stores_in}
+use Rattle.chi_slice.specs.Coherence.{IsCoherentSlice}
 use Rattle.chi_home.specs.Node.{NodeState, owners_of}
 use Rattle.chi_text.specs.Told.{totals_told}
 use Rattle.chi_storm.specs.declared.outcome.Outcome.{Outcome}

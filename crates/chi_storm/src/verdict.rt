@@ -6,13 +6,12 @@ ghost use Rattle.chi_storm.specs.Verdicts.{AgreesBehind, AreAllOpen, IsOutcome, 
 
 use crate::outcome::Outcome;
 use arrayvec::ArrayVec;
-use chi_audit::audit_of;
 use chi_flit::Line;
 use chi_home::Node;
 use chi_node::{Requester, agree_with};
 use chi_reply::Holdings;
 use chi_reports::Report;
-use chi_slice::Slice;
+use chi_slice::{Slice, audit_of};
 use chi_text::totals_told;
 use std::alloc::Allocator;
 use std::sync::Wait;
