@@ -14,7 +14,7 @@ AppendsFront old new bytes = (n : ℕ) × Appends old new (take n bytes)
 abbrev pub CountsFault : ℕ → ℕ → Fault → Type 0
 CountsFault before after Read = after ≡ before + 1
 CountsFault before after NoMemory = after ≡ before
-CountsFault before after BadHeader = ⊥
+CountsFault before after (BadHeader line) = ⊥
 CountsFault before after (BadCommand line) = ⊥
 CountsFault before after (MissingNewline line) = ⊥
 CountsFault before after TooLarge = ⊥

@@ -25,7 +25,7 @@ known read enough (Some file) bytes fault front h = sym (enough file) ∙ (sym (
 -- and so is its fault
 no_text : {F : Type 0} (read : List ℕ → Result F Fault) → IsEnough read → (left : Option (List ℕ)) (before after : ℕ) (bytes : List ℕ) (fault : Fault) → IfSome left (λ file. bytes ≡ take 1048577 file) → Fails fault (read bytes) → NoText read left before after fault
 no_text read enough left before after bytes NoMemory front h = tt
-no_text read enough left before after bytes BadHeader front h = known read enough left bytes BadHeader front h
+no_text read enough left before after bytes (BadHeader line) front h = known read enough left bytes (BadHeader line) front h
 no_text read enough left before after bytes (BadCommand line) front h = known read enough left bytes (BadCommand line) front h
 no_text read enough left before after bytes (MissingNewline line) front h = known read enough left bytes (MissingNewline line) front h
 no_text read enough left before after bytes TooLarge front h = known read enough left bytes TooLarge front h

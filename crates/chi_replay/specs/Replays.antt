@@ -46,7 +46,7 @@ abbrev pub NoText : {F : Type 0} → (List ℕ → Result F Fault) → Option (L
 NoText read file before after Read = after ≡ before + 1
 NoText read file before after NoMemory = Unit {0}
 NoText read file before after Write = ⊥
-NoText read file before after BadHeader = IfSome file (λ bytes. read bytes ≡ Err BadHeader)
+NoText read file before after (BadHeader line) = IfSome file (λ bytes. read bytes ≡ Err (BadHeader line))
 NoText read file before after (BadCommand line) = IfSome file (λ bytes. read bytes ≡ Err (BadCommand line))
 NoText read file before after (MissingNewline line) = IfSome file (λ bytes. read bytes ≡ Err (MissingNewline line))
 NoText read file before after TooLarge = IfSome file (λ bytes. read bytes ≡ Err TooLarge)

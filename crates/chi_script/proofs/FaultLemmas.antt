@@ -7,7 +7,7 @@ use Rattle.chi_script.specs.Files.{◌>>=◌}
 
 pub failed : {A B : Type 0} (fault : Fault) (read : Result A Fault) (next : A → Result B Fault) → Fails fault read → Fails fault (read >>= next)
 failed NoMemory read next is = tt
-failed BadHeader read next is = ap (λ r. r >>= next) is
+failed (BadHeader line) read next is = ap (λ r. r >>= next) is
 failed (BadCommand line) read next is = ap (λ r. r >>= next) is
 failed (MissingNewline line) read next is = ap (λ r. r >>= next) is
 failed TooLarge read next is = ap (λ r. r >>= next) is

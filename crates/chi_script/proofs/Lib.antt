@@ -9,3 +9,4 @@ pub mod CommandLemmas
 pub mod SpaceLemmas
 pub mod HeaderLemmas
 pub mod WordLemmas
+pub mod LackLemmas

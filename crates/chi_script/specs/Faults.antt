@@ -6,7 +6,7 @@ use Rattle.chi_script.specs.declared.faults.Fault.TheVariants as faults
 
 abbrev pub status_of : Fault → ℕ
 status_of faults.NoMemory = 3
-status_of faults.BadHeader = 1
+status_of (faults.BadHeader line) = 1
 status_of (faults.BadCommand line) = 1
 status_of (faults.MissingNewline line) = 1
 status_of faults.TooLarge = 1
@@ -16,7 +16,7 @@ status_of faults.Write = 1
 -- the line on standard error, without its line end
 abbrev pub fault_text : Fault → List ℕ
 fault_text faults.NoMemory = codes "chihome: out of memory"
-fault_text faults.BadHeader = codes "chihome: line 1: bad header"
+fault_text (faults.BadHeader line) = codes "chihome: line " ++ (decimal line ++ codes ": bad header")
 fault_text (faults.BadCommand line) = codes "chihome: line " ++ (decimal line ++ codes ": bad command")
 fault_text (faults.MissingNewline line) = codes "chihome: line " ++ (decimal line ++ codes ": missing newline")
 fault_text faults.TooLarge = codes "chihome: file too large"
@@ -27,7 +27,7 @@ fault_text faults.Write = codes "chihome: cannot write"
 -- a device.
 abbrev pub Fails : {Y : Type 0} → Fault → Result Y Fault → Type 0
 Fails faults.NoMemory read = Unit {0}
-Fails faults.BadHeader read = read ≡ Err faults.BadHeader
+Fails (faults.BadHeader line) read = read ≡ Err (faults.BadHeader line)
 Fails (faults.BadCommand line) read = read ≡ Err (faults.BadCommand line)
 Fails (faults.MissingNewline line) read = read ≡ Err (faults.MissingNewline line)
 Fails faults.TooLarge read = read ≡ Err faults.TooLarge

@@ -23,9 +23,9 @@ or_fault (Some x) fault = Ok x
 abbrev pub lines_of : List ℕ → List (List ℕ)
 lines_of file = slice_split (λ b. b == 10) file
 
--- the header that a line is
-abbrev pub header_at : List ℕ → Result Header Fault
-header_at line = or_fault (header_of (words_of line)) BadHeader
+-- the header that line n is
+abbrev pub header_at : ℕ → List ℕ → Result Header Fault
+header_at n line = or_fault (header_of (words_of line)) (BadHeader n)
 
 -- the command that line n is
 abbrev pub command_at : ℕ → List ℕ → Result Command Fault
@@ -41,10 +41,10 @@ commands_of n (line ∷ next ∷ rest) = do
   Ok (command ∷ commands)
 
 abbrev pub script_of : List (List ℕ) → Result (Header × List Command) Fault
-script_of [] = Err BadHeader
-script_of (last ∷ []) = if length last == 0 then Err BadHeader else Err (MissingNewline 1)
+script_of [] = Err (BadHeader 1)
+script_of (last ∷ []) = if length last == 0 then Err (BadHeader 1) else Err (MissingNewline 1)
 script_of (line ∷ next ∷ rest) = do
-  header ← header_at line
+  header ← header_at 1 line
   commands ← commands_of 2 (next ∷ rest)
   Ok (header, commands)
 

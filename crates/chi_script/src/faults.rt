@@ -15,8 +15,8 @@ use thiserror::Error;
 pub enum Fault {
     /// Memory ran out.
     NoMemory,
-    /// The first line is no header within the limits.
-    BadHeader,
+    /// This line, counted from 1, is where the header stands, and is none within the limits.
+    BadHeader(usize),
     /// This line, counted from 1, is no command.
     BadCommand(usize),
     /// This line, counted from 1, is the last and no line end follows it.
@@ -37,7 +37,7 @@ impl Fault {
     {
         match self {
             Fault::NoMemory => 3,
-            Fault::BadHeader
+            Fault::BadHeader(_)
             | Fault::BadCommand(_)
             | Fault::MissingNewline(_)
             | Fault::TooLarge
@@ -53,7 +53,7 @@ impl fmt::Display for Fault {
     fn fmt<W: fmt::Write>(&self, f: &mut fmt::Formatter<W>) -> fmt::Result {
         match self {
             Fault::NoMemory => write!(f, "chihome: out of memory"),
-            Fault::BadHeader => write!(f, "chihome: line 1: bad header"),
+            Fault::BadHeader(line) => write!(f, "chihome: line {line}: bad header"),
             Fault::BadCommand(line) => write!(f, "chihome: line {line}: bad command"),
             Fault::MissingNewline(line) => write!(f, "chihome: line {line}: missing newline"),
             Fault::TooLarge => write!(f, "chihome: file too large"),

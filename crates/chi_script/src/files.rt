@@ -39,10 +39,10 @@ pub fn read_file<A: Allocator + Copy>(alloc: A, bytes: &[u8]) -> Result<Script<A
         return Err(Fault::TooLarge);
     }
     match first_line(bytes) {
-        None if bytes.is_empty() => Err(Fault::BadHeader),
+        None if bytes.is_empty() => Err(Fault::BadHeader(1)),
         None => Err(Fault::MissingNewline(1)),
         Some((line, rest)) => {
-            let header = header_in(alloc, line)?;
+            let header = header_in(alloc, line, 1)?;
             let commands = read_commands(alloc, rest)?;
             Ok(Script { header, commands })
         }
@@ -71,16 +71,16 @@ fn read_commands<A: Allocator + Copy>(alloc: A, bytes: &[u8]) -> Result<Vec<Comm
     }
 }
 
-/// The header that a line is, which is given without its line end. `BadHeader` where it is none within
-/// the limits, and `NoMemory` where memory runs out.
+/// The header that a line is, which is given without its line end; its number is for the fault.
+/// `BadHeader` where it is none within the limits, and `NoMemory` where memory runs out.
 /// Source: `docs/PROTOCOL.md`, "Replay files" and "Limits".
-pub fn header_in<A: Allocator>(alloc: A, line: &[u8]) -> Result<Header, Fault>
-    ensures read { Gives (λ header. header) result (header_at line.now) }
+pub fn header_in<A: Allocator>(alloc: A, line: &[u8], number: usize) -> Result<Header, Fault>
+    ensures read { Gives (λ header. header) result (header_at number line.now) }
     ensures kept { IfOk result (λ header. is_in_limits header ≡ true) }
 {
     let mut words = Vec::new(alloc);
     read_words(&mut words, line)?;
-    read_header(&words).ok_or(Fault::BadHeader)
+    read_header(&words).ok_or(Fault::BadHeader(number))
 }
 
 /// The command that a line is; its number is for the fault. The list is room for its words.

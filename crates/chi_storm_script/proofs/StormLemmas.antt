@@ -16,20 +16,20 @@ not_large : (n : ℕ) → n ≤ 1048576 → nat_lt 1048576 n ≡ false
 not_large n le = grind (arith, nat_tests)
 
 pub whole : (file line rest : List ℕ) → length file ≤ 1048576 → lines_of file ≡ line ∷ lines_of rest
-    → storm_of file ≡ (header_at line >>= λ header. deeds_of header 2 (lines_of rest) >>= λ deeds. Ok (header, deeds))
+    → storm_of file ≡ (header_at 1 line >>= λ header. deeds_of header 2 (lines_of rest) >>= λ deeds. Ok (header, deeds))
 unfolding storm_of
 whole file line rest small e =
     let more = parts_of (λ b. b == 10) rest in
     let fits = not_large (length file) small in
     rw (fits, e, more.2) refl
 
-pub bad_header : (fault : Fault) (file line rest : List ℕ) → length file ≤ 1048576 → lines_of file ≡ line ∷ lines_of rest → Fails fault (header_at line) → Fails fault (storm_of file)
+pub bad_header : (fault : Fault) (file line rest : List ℕ) → length file ≤ 1048576 → lines_of file ≡ line ∷ lines_of rest → Fails fault (header_at 1 line) → Fails fault (storm_of file)
 bad_header fault file line rest small e is = rw (whole file line rest small e) (failed fault _ _ is)
 
-pub bad_operations : (fault : Fault) (file line rest : List ℕ) (header : Header) → length file ≤ 1048576 → lines_of file ≡ line ∷ lines_of rest → header_at line ≡ Ok header → Fails fault (deeds_of header 2 (lines_of rest)) → Fails fault (storm_of file)
+pub bad_operations : (fault : Fault) (file line rest : List ℕ) (header : Header) → length file ≤ 1048576 → lines_of file ≡ line ∷ lines_of rest → header_at 1 line ≡ Ok header → Fails fault (deeds_of header 2 (lines_of rest)) → Fails fault (storm_of file)
 bad_operations fault file line rest header small e read is = rw (whole file line rest small e, read) (failed fault _ _ is)
 
-pub good : (file line rest : List ℕ) (header : Header) (deeds : List Deed) → length file ≤ 1048576 → lines_of file ≡ line ∷ lines_of rest → header_at line ≡ Ok header → deeds_of header 2 (lines_of rest) ≡ Ok deeds → storm_of file ≡ Ok (header, deeds)
+pub good : (file line rest : List ℕ) (header : Header) (deeds : List Deed) → length file ≤ 1048576 → lines_of file ≡ line ∷ lines_of rest → header_at 1 line ≡ Ok header → deeds_of header 2 (lines_of rest) ≡ Ok deeds → storm_of file ≡ Ok (header, deeds)
 good file line rest header deeds small e read all = whole file line rest small e ∙ rw (read, all) refl
 
 large : (n : ℕ) → 1048576 < n → nat_lt 1048576 n ≡ true

@@ -13,17 +13,17 @@ use Rattle.chi_script.specs.declared.faults.Fault.{Fault}
 use Rattle.chi_script.specs.declared.faults.Fault.TheVariants.{BadHeader, BadCommand, MissingNewline, TooLarge}
 use Rattle.chi_script.specs.declared.headers.Header.{Header}
 use Rattle.chi_script.specs.Files.{◌>>=◌, or_fault, lines_of, header_at}
-use Rattle.chi_script.specs.Headers.{is_in_limits, IsInLimits}
+use Rattle.chi_script.specs.Headers.{is_in_limits}
 use Rattle.chi_script.specs.Spelling.{header_words, type_words}
 use Rattle.chi_script.specs.Words.{words_of}
 use Rattle.chi_script.proofs.HeaderLemmas.{header_line, header_line_again}
-use Rattle.chi_script.proofs.LimitLemmas.{each_few, limits_of}
+use Rattle.chi_script.proofs.LackLemmas.{lacks, all_lack, decimal_lacks, line_lacks, next_line}
 use Rattle.chi_script.proofs.LineLemmas.{parts_of}
 use Rattle.chi_storm_script.specs.declared.operations.Deed.{Deed}
 use Rattle.chi_storm_script.specs.Operations.{deed_of}
-use Rattle.chi_storm_script.specs.Spelling.{IsInRange, IsTaskInRange, IsStormFile, closed, deed_line, deed_words, storm_text, words_behind, verb_of}
+use Rattle.chi_storm_script.specs.Spelling.{IsInRange, IsStormFile, closed, deed_line, deed_words, storm_text, words_behind, verb_of}
 use Rattle.chi_storm_script.specs.Storms.{deed_at, deeds_of, storm_in, storm_of}
-use Rattle.chi_storm_script.proofs.LineEndLemmas.{no_end, no_ends, next_line, closed_again, decimal_no_end, line_plain}
+use Rattle.chi_storm_script.proofs.LineEndLemmas.{closed_again}
 use Rattle.chi_storm_script.proofs.OperationLemmas.{line_read, line_again}
 use Rattle.chi_storm_script.proofs.StormLemmas.{good}
 
@@ -91,11 +91,11 @@ whole_read header other deeds others line next rest limits is read same =
 
 lines_read : (header : Header) (deeds : List Deed) (lines : List (List ℕ)) → storm_in lines ≡ Ok (header, deeds) → IsRead header deeds lines
 lines_read header deeds [] e = cc
-lines_read header deeds (last ∷ []) e = absurd (no_fault (length last == 0) BadHeader (MissingNewline 1) (header, deeds) e)
+lines_read header deeds (last ∷ []) e = absurd (no_fault (length last == 0) (BadHeader 1) (MissingNewline 1) (header, deeds) e)
 lines_read header deeds (line ∷ next ∷ rest) e =
-    let first = bound (header_at line) (λ h. deeds_of h 2 (next ∷ rest) >>= λ ds. Ok (h, ds)) (header, deeds) e in
+    let first = bound (header_at 1 line) (λ h. deeds_of h 2 (next ∷ rest) >>= λ ds. Ok (h, ds)) (header, deeds) e in
     let more = bound (deeds_of first.0 2 (next ∷ rest)) (λ ds. Ok (first.0, ds)) (header, deeds) first.2 in
-    let spelled = header_line line first.0 (found _ BadHeader first.0 first.1) in
+    let spelled = header_line line first.0 (found _ (BadHeader 1) first.0 first.1) in
     let same : ◌≡◌ {A = Header × List Deed} (first.0, more.0) (header, deeds) = let last = more.2 in cc in
     whole_read first.0 header more.0 deeds line next rest spelled.0 spelled.1 (deeds_read first.0 2 next rest more.0 more.1) same
 
@@ -133,23 +133,17 @@ deeds_again header n (deed ∷ deeds) limits ranges =
     one_line header n (deed_line deed) (map deed_line deeds) ∙ rw (at, more) refl
 
 -- no line of a file has a line end in it
-few_plain : (n : ℕ) → n ≤ 65536 → no_end (decimal n) ≡ true
-few_plain n few = decimal_no_end n (omega (arith, few))
+plain : (n : ℕ) → lacks 10 (decimal n) ≡ true
+plain n = decimal_lacks 10 n refl
 
-types_plain : (profile : Profile) (entries : List ℕ) (journal : ℕ) → ((i : ℕ) → get_or entries i 0 ≤ 65536) → journal ≤ 65536 → no_ends (type_words profile entries journal) ≡ true
-types_plain Two entries journal few late = rw (few_plain (get_or entries 0 0) (few 0), few_plain (get_or entries 1 0) (few 1), few_plain journal late) refl
-types_plain Four entries journal few late = rw (few_plain (get_or entries 0 0) (few 0), few_plain (get_or entries 1 0) (few 1), few_plain (get_or entries 2 0) (few 2), few_plain (get_or entries 3 0) (few 3), few_plain journal late) refl
+types_plain : (profile : Profile) (entries : List ℕ) (journal : ℕ) → all_lack 10 (type_words profile entries journal) ≡ true
+types_plain Two entries journal = rw (plain (get_or entries 0 0), plain (get_or entries 1 0), plain journal) refl
+types_plain Four entries journal = rw (plain (get_or entries 0 0), plain (get_or entries 1 0), plain (get_or entries 2 0), plain (get_or entries 3 0), plain journal) refl
 
-header_plain : (header : Header) → is_in_limits header ≡ true → no_end (join_with_byte 32 (header_words header)) ≡ true
-header_plain header e =
-    let l : IsInLimits header = limits_of header e in
-    let types = types_plain header.profile header.entries header.journal (λ i. omega (arith, each_few header e i)) l.journal.1 in
-    line_plain (header_words header) (rw (few_plain header.agents (omega (arith, l.agents.1)), few_plain header.lines (omega (arith, l.lines.1)), few_plain header.slices (omega (arith, l.slices.1)), types) refl)
+header_plain : (header : Header) → lacks 10 (join_with_byte 32 (header_words header)) ≡ true
+header_plain header = line_lacks 10 (header_words header) refl (rw (plain header.agents, plain header.lines, plain header.slices, types_plain header.profile header.entries header.journal) refl)
 
-small_plain : (n : ℕ) → n < 8 → no_end (decimal n) ≡ true
-small_plain n few = decimal_no_end n (omega (arith, few))
-
-verb_plain : (task : Task) → no_end (verb_of task) ≡ true
+verb_plain : (task : Task) → lacks 10 (verb_of task) ≡ true
 verb_plain (Load w) = refl
 verb_plain (Share w) = refl
 verb_plain (Store w v) = refl
@@ -159,35 +153,31 @@ verb_plain WriteEvict = refl
 verb_plain Evict = refl
 verb_plain Drop = refl
 
-behind_plain : (task : Task) → IsTaskInRange task → no_ends (words_behind task) ≡ true
-behind_plain (Load w) is = rw (small_plain w.0 is) refl
-behind_plain (Share w) is = rw (small_plain w.0 is) refl
-behind_plain (Store w v) is = rw (small_plain w.0 is.0, decimal_no_end v is.1) refl
-behind_plain WriteBack is = refl
-behind_plain WriteClean is = refl
-behind_plain WriteEvict is = refl
-behind_plain Evict is = refl
-behind_plain Drop is = refl
+behind_plain : (task : Task) → all_lack 10 (words_behind task) ≡ true
+behind_plain (Load w) = rw (plain w.0) refl
+behind_plain (Share w) = rw (plain w.0) refl
+behind_plain (Store w v) = rw (plain w.0, plain v) refl
+behind_plain WriteBack = refl
+behind_plain WriteClean = refl
+behind_plain WriteEvict = refl
+behind_plain Evict = refl
+behind_plain Drop = refl
 
-deed_plain : (header : Header) (deed : Deed) → is_in_limits header ≡ true → IsInRange header deed → no_end (deed_line deed) ≡ true
-deed_plain header deed limits is =
-    let l : IsInLimits header = limits_of header limits in
-    let agent = decimal_no_end deed.agent.0 (omega (arith, l.agents.1, is.agent)) in
-    let line = decimal_no_end deed.operation.line.0 (omega (arith, l.lines.1, is.line)) in
-    line_plain (deed_words deed) (rw (verb_plain deed.operation.task, agent, line, behind_plain deed.operation.task is.task) refl)
+deed_plain : (deed : Deed) → lacks 10 (deed_line deed) ≡ true
+deed_plain deed = line_lacks 10 (deed_words deed) refl (rw (verb_plain deed.operation.task, plain deed.agent.0, plain deed.operation.line.0, behind_plain deed.operation.task) refl)
 
-deeds_plain : (header : Header) (deeds : List Deed) → is_in_limits header ≡ true → All (IsInRange header) deeds → no_ends (map deed_line deeds) ≡ true
-deeds_plain header [] limits ranges = refl
-deeds_plain header (deed ∷ deeds) limits ranges = rw (deed_plain header deed limits (All-head (IsInRange header) deed deeds ranges), deeds_plain header deeds limits (All-tail (IsInRange header) deed deeds ranges)) refl
+deeds_plain : (deeds : List Deed) → all_lack 10 (map deed_line deeds) ≡ true
+deeds_plain [] = refl
+deeds_plain (deed ∷ deeds) = rw (deed_plain deed, deeds_plain deeds) refl
 
 pub storm_again : (header : Header) (deeds : List Deed) (file : List ℕ) → IsStormFile header deeds file → storm_of file ≡ Ok (header, deeds)
 storm_again header deeds file is =
     let line = join_with_byte 32 (header_words header) in
     let rest = closed (map deed_line deeds) in
-    let first : lines_of file ≡ line ∷ lines_of rest = ap lines_of is.text ∙ next_line line rest (header_plain header is.limits) in
+    let first : lines_of file ≡ line ∷ lines_of rest = ap lines_of is.text ∙ next_line line rest (header_plain header) in
     let read = header_line_again line header (is.limits, refl) in
-    let at : header_at line ≡ Ok header = rw read refl in
-    let all : deeds_of header 2 (lines_of rest) ≡ Ok deeds = ap (deeds_of header 2) (closed_again (map deed_line deeds) (deeds_plain header deeds is.limits is.ranges)) ∙ deeds_again header 2 deeds is.limits is.ranges in
+    let at : header_at 1 line ≡ Ok header = rw read refl in
+    let all : deeds_of header 2 (lines_of rest) ≡ Ok deeds = ap (deeds_of header 2) (closed_again (map deed_line deeds) (deeds_plain deeds)) ∙ deeds_again header 2 deeds is.limits is.ranges in
     good file line rest header deeds is.size first at all
 
 -- what a file is read as is within its ranges

@@ -23,10 +23,10 @@ deeds_of header n (line ∷ next ∷ rest) = do
   Ok (deed ∷ deeds)
 
 abbrev pub storm_in : List (List ℕ) → Result (Header × List Deed) Fault
-storm_in [] = Err BadHeader
-storm_in (last ∷ []) = if length last == 0 then Err BadHeader else Err (MissingNewline 1)
+storm_in [] = Err (BadHeader 1)
+storm_in (last ∷ []) = if length last == 0 then Err (BadHeader 1) else Err (MissingNewline 1)
 storm_in (line ∷ next ∷ rest) = do
-  header ← header_at line
+  header ← header_at 1 line
   deeds ← deeds_of header 2 (next ∷ rest)
   Ok (header, deeds)
 

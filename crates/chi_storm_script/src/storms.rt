@@ -37,10 +37,10 @@ pub fn read_storm<A: Allocator + Copy>(alloc: A, bytes: &[u8]) -> Result<Storm<A
         return Err(Fault::TooLarge);
     }
     match first_line(bytes) {
-        None if bytes.is_empty() => Err(Fault::BadHeader),
+        None if bytes.is_empty() => Err(Fault::BadHeader(1)),
         None => Err(Fault::MissingNewline(1)),
         Some((line, rest)) => {
-            let header = header_in(alloc, line)?;
+            let header = header_in(alloc, line, 1)?;
             let deeds = read_deeds(alloc, &header, rest)?;
             Ok(Storm { header, deeds })
         }

@@ -131,13 +131,13 @@ fn the_first_faulty_line_is_told(rt: HostRuntime) {
     );
     assert_eq!(rt;
         fault_of(&rt, b"node 2 4 1 1 1 4\r\n"),
-        Some(Fault::BadHeader)
+        Some(Fault::BadHeader(1))
     );
     assert_eq!(rt;
         fault_of(&rt, b"node 9 4 1 1 1 4\n"),
-        Some(Fault::BadHeader)
+        Some(Fault::BadHeader(1))
     );
-    assert_eq!(rt; fault_of(&rt, b""), Some(Fault::BadHeader));
+    assert_eq!(rt; fault_of(&rt, b""), Some(Fault::BadHeader(1)));
 }
 
 #[test]

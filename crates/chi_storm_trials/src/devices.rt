@@ -44,9 +44,9 @@ fn an_input_or_an_output_that_fails_is_told(rt: HostRuntime) {
 #[test]
 fn a_faulty_file_is_told_and_nothing_written(rt: HostRuntime) {
     let files: [(&[u8], Fault); 8] = [
-        (b"", Fault::BadHeader),
+        (b"", Fault::BadHeader(1)),
         (b"node 1 1 1 1 1 4", Fault::MissingNewline(1)),
-        (b"node 9 64 8 32 32 65536\n", Fault::BadHeader),
+        (b"node 9 64 8 32 32 65536\n", Fault::BadHeader(1)),
         (b"node 1 1 1 1 1 4\nload 0 0\n", Fault::BadCommand(2)),
         (b"node 1 1 1 1 1 4\nload 1 0 0\n", Fault::BadCommand(2)),
         (b"node 1 1 1 1 1 4\nload 0 1 0\n", Fault::BadCommand(2)),

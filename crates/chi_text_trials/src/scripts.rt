@@ -273,27 +273,30 @@ const OTHER_HEADERS: [&[u8]; 13] = [
 #[test]
 fn other_headers_are_bad(rt: HostRuntime) {
     for file in &OTHER_HEADERS {
-        faults(&rt, rt.alloc(), file, Some(Fault::BadHeader));
+        faults(&rt, rt.alloc(), file, Some(Fault::BadHeader(1)));
     }
 }
 
 /// Files, and the fault of each.
 const FAULTY_FILES: [(&[u8], Fault); 25] = [
-    (b"", Fault::BadHeader),
-    (b"\n", Fault::BadHeader),
+    (b"", Fault::BadHeader(1)),
+    (b"\n", Fault::BadHeader(1)),
     (b"node 1 1 1 1 1 4", Fault::MissingNewline(1)),
-    (b"node 1 1 1 1 1 4\r\n", Fault::BadHeader),
-    (b"node 9 64 8 32 32 65536\ntotals\n", Fault::BadHeader),
-    (b"node 1 0 1 1 1 4\n", Fault::BadHeader),
-    (b"node 1 65 1 1 1 4\n", Fault::BadHeader),
-    (b"node 1 1 1 0 1 4\n", Fault::BadHeader),
-    (b"node 1 1 1 1 0 4\n", Fault::BadHeader),
-    (b"node 1 1 1 32 33 4\n", Fault::BadHeader),
-    (b"node 1 1 1 1 18446744073709551615 4\n", Fault::BadHeader),
-    (b"node 1 1 1 1 1 0\n", Fault::BadHeader),
-    (b"node 1 1 1 1 1 65537\n", Fault::BadHeader),
-    (b"node 1 1 2 1 1 4\n", Fault::BadHeader),
-    (b"node 1 1 1 1 1 1 0 4\n", Fault::BadHeader),
+    (b"node 1 1 1 1 1 4\r\n", Fault::BadHeader(1)),
+    (b"node 9 64 8 32 32 65536\ntotals\n", Fault::BadHeader(1)),
+    (b"node 1 0 1 1 1 4\n", Fault::BadHeader(1)),
+    (b"node 1 65 1 1 1 4\n", Fault::BadHeader(1)),
+    (b"node 1 1 1 0 1 4\n", Fault::BadHeader(1)),
+    (b"node 1 1 1 1 0 4\n", Fault::BadHeader(1)),
+    (b"node 1 1 1 32 33 4\n", Fault::BadHeader(1)),
+    (
+        b"node 1 1 1 1 18446744073709551615 4\n",
+        Fault::BadHeader(1),
+    ),
+    (b"node 1 1 1 1 1 0\n", Fault::BadHeader(1)),
+    (b"node 1 1 1 1 1 65537\n", Fault::BadHeader(1)),
+    (b"node 1 1 2 1 1 4\n", Fault::BadHeader(1)),
+    (b"node 1 1 1 1 1 1 0 4\n", Fault::BadHeader(1)),
     (b"node 1 1 1 1 1 4\n\n", Fault::BadCommand(2)),
     (b"node 1 1 1 1 1 4\nshow 00\n", Fault::BadCommand(2)),
     (
@@ -346,7 +349,7 @@ fn a_file_above_the_limit_is_too_large(rt: HostRuntime) -> Result<(), AllocError
 /// Each fault, its status and its line.
 const FAULTS: [(Fault, u8, &str); 7] = [
     (Fault::NoMemory, 3, "chihome: out of memory"),
-    (Fault::BadHeader, 1, "chihome: line 1: bad header"),
+    (Fault::BadHeader(1), 1, "chihome: line 1: bad header"),
     (Fault::BadCommand(2), 1, "chihome: line 2: bad command"),
     (
         Fault::MissingNewline(30),
