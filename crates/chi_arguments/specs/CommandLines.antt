@@ -10,7 +10,7 @@ use Rattle.chi_arguments.specs.Options.{seed_of, turns_of}
 use Rattle.chi_arguments.specs.declared.faults.ArgFault.{ArgFault}
 use Rattle.chi_arguments.specs.declared.faults.ArgFault.TheVariants.{Bad, NoMemory}
 use Rattle.chi_arguments.specs.declared.jobs.Job.{Job}
-use Rattle.chi_arguments.specs.declared.jobs.Job.TheVariants.{Replay, Storm}
+use Rattle.chi_arguments.specs.declared.jobs.Job.TheVariants.{Check, Replay, Storm}
 
 -- FILE: the file is one word, and has to be there
 abbrev pub file_rule : Rule
@@ -24,22 +24,31 @@ option_rule name = record (new_rule name) { long = Some name; action = Some Set 
 abbrev pub replay_line : App
 replay_line = with_rule (new_app (codes "replay")) file_rule
 
+-- `check FILE`
+abbrev pub check_line : App
+check_line = with_rule (new_app (codes "check")) file_rule
+
 -- `storm FILE [--seed N] [--turns N]`
 abbrev pub storm_line : App
 storm_line = with_rule (with_rule (with_rule (new_app (codes "storm")) file_rule) (option_rule (codes "seed"))) (option_rule (codes "turns"))
 
--- the program's command lines: these two, and no other
+-- the program's command lines: these three, and no other
 abbrev pub command_lines : App
-command_lines = with_subcommand (with_subcommand (on_top (λ s. record s { subcommand_required = true }) (new_app (codes "chihome"))) replay_line.top) storm_line.top
+command_lines = with_subcommand (with_subcommand (with_subcommand (on_top (λ s. record s { subcommand_required = true }) (new_app (codes "chihome"))) replay_line.top) check_line.top) storm_line.top
 
--- what a command line asks for: the replay of a file, or a storm with its seed and its turns
+-- what a command line asks for: the replay of a file, its check, or a storm with its seed and its turns
 pub data Asked : Type 0 where
   replay : Text → Asked
+  check : Text → Asked
   storm : Text → ℕ → ℕ → Asked
 
 -- behind `replay` stands the path
 abbrev pub replay_in : List Row → Option Asked
 replay_in rows = option_map replay (first_of (codes "FILE") rows)
+
+-- and so behind `check`
+abbrev pub check_in : List Row → Option Asked
+check_in rows = option_map check (first_of (codes "FILE") rows)
 
 -- behind `storm` stand the path and the options
 abbrev pub storm_in : List Row → Option Asked
@@ -53,7 +62,8 @@ storm_in rows = do
 abbrev pub asked_behind : Text × List Row → Option Asked
 asked_behind (name, rows) =
     if bytes_eq name (codes "replay") then replay_in rows else (
-    if bytes_eq name (codes "storm") then storm_in rows else None)
+    if bytes_eq name (codes "check") then check_in rows else (
+    if bytes_eq name (codes "storm") then storm_in rows else None))
 
 -- the same, where the words have no fault
 abbrev pub asked_if : Kinds → Option (Text × List Row) → Option Asked
@@ -67,6 +77,7 @@ asked_in words = asked_if (fault_of command_lines words) (subcommand_of command_
 -- a job, with its path as text
 abbrev pub asked_by : Job → Asked
 asked_by (Replay path) = replay path.now
+asked_by (Check path) = check path.now
 asked_by (Storm path seed turns) = storm path.now seed turns
 
 -- the job is what was asked for, and the words are bad where nothing is; memory may run out at any words

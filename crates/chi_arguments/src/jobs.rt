@@ -3,7 +3,7 @@
 ghost use Rattle.std.specs.Prelude.{◌≡◌, IfOk, false, map};
 ghost use Rattle.std.specs.Option.{option_and_then, option_map};
 ghost use Rattle.clap.specs.Words.{app_of, first_of, found_of, rows_of, rule_of, subcommand_rows_of};
-ghost use Rattle.chi_arguments.specs.CommandLines.{Asks, asked_behind, asked_by, asked_in, command_lines, file_rule, option_rule, replay_in, storm_in};
+ghost use Rattle.chi_arguments.specs.CommandLines.{Asks, asked_behind, asked_by, asked_in, check_in, command_lines, file_rule, option_rule, replay_in, storm_in};
 
 use crate::faults::ArgFault;
 use crate::options::{seed, turns};
@@ -16,6 +16,9 @@ use std::alloc::{AllocError, Global};
 pub enum Job<'a> {
     /// `replay FILE`: runs the commands of the file at this path.
     Replay(&'a str),
+    /// `check FILE`: runs the commands of the file at this path, and compares their answers with those that
+    /// are wanted.
+    Check(&'a str),
     /// `storm FILE [--seed N] [--turns N]`: runs the scripts of the file at this path in threads.
     Storm {
         path: &'a str,
@@ -43,6 +46,9 @@ pub fn arguments<'a>(alloc: Global, words: &'a [&'a str]) -> Result<Job<'a>, Arg
 /// The subcommand that replays a file.
 const REPLAY: &str = "replay";
 
+/// The subcommand that checks a file.
+const CHECK: &str = "check";
+
 /// The subcommand that runs a storm.
 const STORM: &str = "storm";
 
@@ -60,6 +66,7 @@ fn command_line<'a>(alloc: Global) -> Result<Command<'a>, AllocError>
     ensures { IfOk result (λ command. app_of command ≡ command_lines) }
 {
     let replay = Command::new(alloc, REPLAY).arg(file(alloc))?;
+    let check = Command::new(alloc, CHECK).arg(file(alloc))?;
     let storm = Command::new(alloc, STORM)
         .arg(file(alloc))?
         .arg(option(alloc, SEED))?
@@ -67,6 +74,7 @@ fn command_line<'a>(alloc: Global) -> Result<Command<'a>, AllocError>
     Command::new(alloc, "chihome")
         .subcommand_required(true)
         .subcommand(replay)?
+        .subcommand(check)?
         .subcommand(storm)
 }
 
@@ -92,6 +100,7 @@ fn read_job<'a>(matches: &ArgMatches<'a>) -> Result<Job<'a>, ArgFault>
 {
     match matches.subcommand() {
         Some((REPLAY, replay)) => read_replay(replay),
+        Some((CHECK, check)) => read_check(check),
         Some((STORM, storm)) => read_storm(storm).ok_or(ArgFault::Bad),
         _ => Err(ArgFault::Bad),
     }
@@ -103,6 +112,16 @@ fn read_replay<'a>(matches: &ArgMatches<'a>) -> Result<Job<'a>, ArgFault>
 {
     match text_of(matches, FILE) {
         Some(path) => Ok(Job::Replay(path)),
+        None => Err(ArgFault::Bad),
+    }
+}
+
+/// The job of `check FILE`.
+fn read_check<'a>(matches: &ArgMatches<'a>) -> Result<Job<'a>, ArgFault>
+    ensures { Asks (check_in (rows_of (found_of matches.now))) result }
+{
+    match text_of(matches, FILE) {
+        Some(path) => Ok(Job::Check(path)),
         None => Err(ArgFault::Bad),
     }
 }

@@ -7,6 +7,8 @@ use Rattle.chi_arguments.specs.declared.faults.ArgFault.{ArgFault}
 use Rattle.chi_arguments.specs.declared.faults.ArgFault.TheVariants as faults
 use Rattle.chi_arguments.specs.Faults as words
 use Rattle.chi_script.specs.Faults as script
+use Rattle.chi_program.specs.declared.program.End.{End}
+use Rattle.chi_program.specs.declared.program.End.TheVariants as ends
 use Rattle.chi_program.specs.declared.program.Stop.{Stop}
 use Rattle.chi_program.specs.declared.program.Stop.TheVariants.{Arguments, Run}
 
@@ -18,16 +20,30 @@ abbrev pub stop_text : Stop → List ℕ
 stop_text (Arguments fault) = words.fault_text fault
 stop_text (Run fault) = script.fault_text fault
 
--- the status of a run that did all, of a storm with a script that didn't finish, or of a stop
-abbrev pub end_status : Result Bool Stop → ℕ
-end_status (Ok true) = 0
-end_status (Ok false) = 2
-end_status (Err stop) = stop_status stop
+abbrev pub end_status : End → ℕ
+end_status ends.Done = 0
+end_status ends.Unfinished = 2
+end_status ends.Differs = 5
 
--- the statuses that the program can end with: done, a faulty file or a device that failed, a script that
--- didn't finish, want of memory, and bad arguments
+-- the end of a check of which all answers hold, or not
+abbrev pub check_end : Bool → End
+check_end true = ends.Done
+check_end false = ends.Differs
+
+-- the end of a storm of which all scripts finished, or not
+abbrev pub storm_end : Bool → End
+storm_end true = ends.Done
+storm_end false = ends.Unfinished
+
+-- the status of a run that came to an end, or was stopped
+abbrev pub run_status : Result End Stop → ℕ
+run_status (Ok end) = end_status end
+run_status (Err stop) = stop_status stop
+
+-- the statuses that the program can end with: all went well, a faulty file or a device that failed, a script
+-- that didn't finish, want of memory, bad arguments, and an answer that differs
 abbrev pub statuses : List ℕ
-statuses = 0 ∷ 1 ∷ 2 ∷ 3 ∷ 4 ∷ []
+statuses = 0 ∷ 1 ∷ 2 ∷ 3 ∷ 4 ∷ 5 ∷ []
 
 -- why the words of the command line weren't had: every cause but want of memory is bad arguments
 abbrev pub words_fault : ErrorKind → ArgFault

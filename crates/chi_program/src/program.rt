@@ -4,9 +4,10 @@ ghost use Rattle.std.specs.Prelude.{◌≡◌, Some, IfOk, IfErr, Contains, map,
 ghost use Rattle.std.specs.Vec.Iter.{into_iter_items};
 ghost use Rattle.chi_arguments.specs.declared.faults.ArgFault.{ArgFault};
 ghost use Rattle.chi_program.specs.declared.program.Stop.TheVariants.{Arguments, Run};
-ghost use Rattle.chi_program.specs.Stops.{end_status, statuses, stop_status, stop_text, words_fault};
+ghost use Rattle.chi_program.specs.Stops.{check_end, end_status, run_status, statuses, stop_status, stop_text, storm_end, words_fault};
 
 use chi_arguments::{ArgFault, Job, arguments};
+use chi_check::check;
 use chi_devices::{FileInput, StandardOutput};
 use chi_replay::replay;
 use chi_script::Fault;
@@ -25,7 +26,7 @@ use std::{env, fmt, io};
 pub enum Stop {
     /// The command line isn't followed.
     Arguments(ArgFault),
-    /// The replay or the storm found a fault.
+    /// The replay, the check or the storm found a fault.
     Run(Fault),
 }
 
@@ -69,6 +70,31 @@ impl From<Fault> for Stop {
     }
 }
 
+/// What came of a run that no fault stopped.
+/// Source: `docs/PROTOCOL.md`, "The program".
+#[derive(Clone, Copy, Debug, PartialEq, Eq)]
+enum End {
+    /// All went well.
+    Done,
+    /// The script of some agent of a storm didn't finish.
+    Unfinished,
+    /// An answer of a check differs from the one that is wanted.
+    Differs,
+}
+
+impl End {
+    /// The program's status.
+    fn status(self) -> u8
+        ensures { result ≡ end_status self }
+    {
+        match self {
+            End::Done => 0,
+            End::Unfinished => 2,
+            End::Differs => 5,
+        }
+    }
+}
+
 /// Does what the command line asks for, and answers the exit status. A fault is one line on standard
 /// error. It may wait: a storm's agents run in threads.
 /// Source: `docs/PROTOCOL.md`, "The program".
@@ -80,14 +106,12 @@ pub fn serve<R: Env + Files + AllocGlobal + Print + Eprint + Threads + Wait + Cl
     told(rt, follow(rt))
 }
 
-/// The exit status of a run, which did all that it was asked for, or of a storm with a script that didn't
-/// finish. A stop is told on standard error.
-fn told<R: Eprint>(rt: &R, done: Result<bool, Stop>) -> u8
-    ensures { result ≡ end_status done }
+/// The exit status of a run, which came to an end or was stopped. A stop is told on standard error.
+fn told<R: Eprint>(rt: &R, run: Result<End, Stop>) -> u8
+    ensures { result ≡ run_status run }
 {
-    match done {
-        Ok(true) => 0,
-        Ok(false) => 2,
+    match run {
+        Ok(end) => end.status(),
         Err(stop) => {
             let _ = rt.eprintln(stop);
             stop.status()
@@ -95,10 +119,10 @@ fn told<R: Eprint>(rt: &R, done: Result<bool, Stop>) -> u8
     }
 }
 
-/// Reads the command line, and does what it asks for: whether all of it was done.
+/// Reads the command line, and does what it asks for.
 fn follow<R: Env + Files + AllocGlobal + Print + Threads + Wait + Clock + Sync>(
     rt: &R,
-) -> Result<bool, Stop> {
+) -> Result<End, Stop> {
     let texts = match env::args(rt) {
         Ok(given) => kept(rt.alloc(), given)?,
         Err(error) => return Err(Stop::Arguments(fault_of(error.kind()))),
@@ -106,6 +130,7 @@ fn follow<R: Env + Files + AllocGlobal + Print + Threads + Wait + Clock + Sync>(
     let words = words_of(rt.alloc(), &texts)?;
     match arguments(rt.alloc(), &words)? {
         Job::Replay(path) => Ok(replay_file(rt, path)?),
+        Job::Check(path) => Ok(check_file(rt, path)?),
         Job::Storm { path, seed, turns } => Ok(storm_file(rt, path, seed, turns)?),
     }
 }
@@ -136,23 +161,45 @@ fn fault_of(kind: ErrorKind) -> ArgFault
     }
 }
 
-/// Replays the file at the path to standard output; all was done where there was no fault.
-fn replay_file<R: Files + AllocGlobal + Print>(rt: &R, path: &str) -> Result<bool, Fault> {
+/// Replays the file at the path to standard output.
+fn replay_file<R: Files + AllocGlobal + Print>(rt: &R, path: &str) -> Result<End, Fault> {
     let mut input = FileInput::open(rt, path)?;
     let mut output = StandardOutput::new(io::writer(rt));
     replay(rt.alloc(), &mut input, &mut output)?;
-    Ok(true)
+    Ok(End::Done)
 }
 
-/// Runs the storm of the file at the path, and writes to standard output what came of it; whether each
-/// agent's script finished.
+/// Checks the file at the path, and writes to standard output what came of it.
+fn check_file<R: Files + AllocGlobal + Print>(rt: &R, path: &str) -> Result<End, Fault> {
+    let mut input = FileInput::open(rt, path)?;
+    let mut output = StandardOutput::new(io::writer(rt));
+    let hold = check(rt.alloc(), &mut input, &mut output)?;
+    Ok(check_end(hold))
+}
+
+/// The end of a check of which all answers hold, or not.
+fn check_end(hold: bool) -> End
+    ensures { result ≡ check_end hold }
+{
+    if hold { End::Done } else { End::Differs }
+}
+
+/// Runs the storm of the file at the path, and writes to standard output what came of it.
 fn storm_file<R: Files + AllocGlobal + Print + Threads + Wait + Clock + Sync>(
     rt: &R,
     path: &str,
     seed: u64,
     turns: u64,
-) -> Result<bool, Fault> {
+) -> Result<End, Fault> {
     let mut input = FileInput::open(rt, path)?;
     let mut output = StandardOutput::new(io::writer(rt));
-    storm(rt, rt.alloc(), &mut input, &mut output, seed, turns)
+    let finished = storm(rt, rt.alloc(), &mut input, &mut output, seed, turns)?;
+    Ok(storm_end(finished))
+}
+
+/// The end of a storm of which all scripts finished, or not.
+fn storm_end(finished: bool) -> End
+    ensures { result ≡ storm_end finished }
+{
+    if finished { End::Done } else { End::Unfinished }
 }

@@ -10,6 +10,29 @@ fn a_replay_has_its_path(rt: HostRuntime) {
     assert!(rt; arguments(rt.alloc(), &words) == Ok(Job::Replay("a.chi")));
 }
 
+#[test]
+fn a_check_has_its_path(rt: HostRuntime) {
+    let words = ["chihome", "check", "a.chi"];
+    assert!(rt; arguments(rt.alloc(), &words) == Ok(Job::Check("a.chi")));
+}
+
+/// Other command lines than `check FILE`.
+const BAD_CHECKS: [&[&str]; 8] = [
+    &["chihome", "check"],
+    &["chihome", "check", "a", "b"],
+    &["chihome", "checks", "a"],
+    &["chihome", "Check", "a"],
+    &["chihome", "check", "a", "-x"],
+    &["chihome", "check", "a", "--seed", "1"],
+    &["chihome", "check", "a", "replay", "a"],
+    &["chihome", "check", "--help"],
+];
+
+#[test]
+fn a_check_with_more_or_other_words_is_bad(rt: HostRuntime) {
+    are_bad(&rt, &BAD_CHECKS);
+}
+
 /// Command lines of a storm, each with its seed and its turns.
 const STORMS: [(&[&str], u64, u64); 9] = [
     (&["chihome", "storm", "a.chi"], 1, 10_000_000),

@@ -1,5 +1,6 @@
 //! `chihome replay FILE` runs the commands of a file on one thread, and prints an answer for each;
-//! `chihome storm FILE` runs the scripts of a file in threads, and prints what came of them.
+//! `chihome check FILE` compares the answers with those that the file wants; `chihome storm FILE` runs the
+//! scripts of a file in threads, and prints what came of them.
 #![tactic(auto)]
 
 use chi_program::serve;

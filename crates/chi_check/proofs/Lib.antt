@@ -1,0 +1,5 @@
+pub mod PlainReplies
+pub mod PlainTurns
+pub mod AnswerLines
+pub mod ReportLemmas
+pub mod Enough

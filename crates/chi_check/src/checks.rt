@@ -1,0 +1,94 @@
+//! From the bytes of a check file to the report that is printed.
+
+ghost use Rattle.std.specs.Prelude.{◌≡◌, ◌≢◌, ◌+◌, ◌^◌, ◌<◌, IfOk, IfErr, IfSome, IsErrOf, map};
+ghost use Rattle.std.specs.Io.KnownBytes.{Keeps};
+ghost use Rattle.chi_script.specs.Faults.{Fails};
+ghost use Rattle.chi_script.specs.declared.faults.Fault.{Fault};
+ghost use Rattle.chi_replay.specs.Replays.{NoText, Refuses};
+ghost use Rattle.chi_check_script.specs.Checks.{seen};
+ghost use Rattle.chi_check_script.specs.Files.{check_file_of};
+ghost use Rattle.chi_check.specs.Checks.{IsReport, IsReportOf, WritesBeginning, WritesReport, commands_in};
+
+use crate::reports::{Report, compare};
+use chi_check_script::{Check, CheckScript, read_checks};
+use chi_devices::{Failed, Input, Output, read_all};
+use chi_flit::NoMemory;
+use chi_replay::config_of;
+use chi_script::{Command, Fault};
+use chi_text::run;
+use std::alloc::{AllocError, Allocator};
+
+/// The commands of the checks, in order.
+fn commands_of<A: Allocator>(alloc: A, checks: &[Check]) -> Result<Vec<Command, A>, AllocError>
+    ensures { IfOk result (λ commands. commands.items ≡ commands_in (map seen checks.now)) }
+{
+    checks.iter().map(|check| check.command).collect(alloc)
+}
+
+/// The report on a good file. Refused where memory runs out.
+fn report_on<A: Allocator + Copy>(
+    alloc: A,
+    script: &CheckScript<'_, A>,
+) -> Result<Report<A>, NoMemory>
+    ensures { IfOk result (λ report. IsReport script.now.header (map seen script.now.checks.items) report.hold report.text.items) }
+{
+    let config = config_of(&script.header);
+    let commands = commands_of(alloc, &script.checks)?;
+    let text = run(alloc, &config, &commands)?;
+    compare(alloc, &script.checks, text.as_bytes())
+}
+
+/// The report on a file, whose bytes these are; else its first fault, or want of memory.
+fn report_of<A: Allocator + Copy>(alloc: A, bytes: &[u8]) -> Result<Report<A>, Fault>
+    ensures ok { IfOk result (λ report. IsReportOf bytes.now report.hold report.text.items) }
+    ensures err { IfErr result (λ fault. Fails fault (check_file_of bytes.now)) }
+{
+    let script = read_checks(alloc, bytes)?;
+    match report_on(alloc, &script) {
+        Ok(report) => Ok(report),
+        Err(_) => Err(Fault::NoMemory),
+    }
+}
+
+/// The same of an input's bytes; `Read` where reading them failed.
+fn report_of_input<A: Allocator + Copy, I: Input>(
+    alloc: A,
+    input: &mut I,
+) -> Result<Report<A>, Fault>
+    requires { I.failures input.old + 1 < 2 ^ 64 }
+    ensures ok { IfOk result (λ report. IfSome (I.left input.old) (λ file. IsReportOf file report.hold report.text.items)) }
+    ensures err { IfErr result (NoText check_file_of (I.left input.old) (I.failures input.old) (I.failures input.new)) }
+{
+    let bytes = read_all(alloc, input)?;
+    report_of(alloc, &bytes)
+}
+
+/// Runs the commands of the check file that the input has, on one thread, compares the answer of each with
+/// the one that is wanted of it, where one is, and writes the report: whether all answers hold.
+///
+/// At `Ok` the input was a good file, and the report on the answers of its commands, under answers that the
+/// tracker may give, was written, no more: a line for each answer that differs, and the last line. Where the
+/// file is faulty nothing is written, and the fault is that of its first faulty line, or `TooLarge`, unless
+/// `Read` or `NoMemory` came first. `Read` and `Write` come only where that device counted a failure. After
+/// `Write` a beginning of such a report was written; after any other fault nothing was.
+///
+/// Conditions: the counts of failures of the input and of the output are below 2 ^ 64 - 1.
+/// Source: `docs/PROTOCOL.md`, "Check files" and "The program".
+pub fn check<A: Allocator + Copy, I: Input, O: Output>(
+    alloc: A,
+    input: &mut I,
+    output: &mut O,
+) -> Result<bool, Fault>
+    requires reads { I.failures input.old + 1 < 2 ^ 64 }
+    requires writes { O.failures output.old + 1 < 2 ^ 64 }
+    ensures ok { IfOk result (λ hold. IfSome (I.left input.old) (λ file. WritesReport file hold (O.written output.old) (O.written output.new))) }
+    ensures write { IsErrOf result Fault.Write → (O.failures output.new ≡ O.failures output.old + 1) × IfSome (I.left input.old) (λ file. WritesBeginning file (O.written output.old) (O.written output.new)) }
+    ensures err { IfErr result (λ fault. fault ≢ Fault.Write → NoText check_file_of (I.left input.old) (I.failures input.old) (I.failures input.new) fault × Keeps (O.written output.old) (O.written output.new)) }
+    ensures faulty { IfSome (I.left input.old) (λ file. (fault : Fault) → check_file_of file ≡ Err fault → Refuses fault result × Keeps (O.written output.old) (O.written output.new)) }
+{
+    let report = report_of_input(alloc, input)?;
+    match output.write_all(&report.text) {
+        Ok(()) => Ok(report.hold),
+        Err(Failed) => Err(Fault::Write),
+    }
+}

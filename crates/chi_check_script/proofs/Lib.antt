@@ -1,0 +1,7 @@
+pub mod PartLemmas
+pub mod MarkLemmas
+pub mod CheckLemmas
+pub mod CheckLoop
+pub mod HeaderLoop
+pub mod FileLemmas
+pub mod ReplayLemmas

@@ -1,0 +1,5 @@
+use Rattle.chi_check_script.proofs.ReplayLemmas.{file_replayed}
+use Rattle.chi_check_script.proofs.laws.replays_are_check_files.Goals as goal
+
+pub returns : goal.returns
+returns c = file_replayed
