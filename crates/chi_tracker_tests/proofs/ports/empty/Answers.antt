@@ -1,7 +1,7 @@
 use Rattle.std.proofs.Common.{ap, ◌∙◌, arith, rules}
 use Rattle.chi_tracker.specs.Views.{has}
 use Rattle.chi_tracker.proofs.BitLaws.{dropped_else}
-use Rattle.chi_tracker_trials.proofs.ports.empty.Goals as goal
+use Rattle.chi_tracker_tests.proofs.ports.empty.Goals as goal
 
 pub loop-entry-preserved : goal.loop-entry-preserved
 loop-entry-preserved c = record {

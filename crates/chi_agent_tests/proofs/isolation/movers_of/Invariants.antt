@@ -1,6 +1,6 @@
 -- The scripts that are left have told nothing.
 use Rattle.chi_agent.specs.Script.{AreFresh}
-use Rattle.chi_agent_trials.proofs.isolation.movers_of.Given as goal
+use Rattle.chi_agent_tests.proofs.isolation.movers_of.Given as goal
 
 abbrev pub invariant-loop-guest : goal.invariant-loop-guest
 invariant-loop-guest g l =

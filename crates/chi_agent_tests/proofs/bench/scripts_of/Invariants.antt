@@ -2,7 +2,7 @@
 use Rattle.std.proofs.Common.{◌≡◌, ◌+◌, All, length}
 use Rattle.chi_tallies.specs.Tallies.{IsFresh}
 use Rattle.chi_agent.specs.Script.{AreFresh}
-use Rattle.chi_agent_trials.proofs.bench.scripts_of.Given as goal
+use Rattle.chi_agent_tests.proofs.bench.scripts_of.Given as goal
 
 abbrev pub invariant-loop-operations : goal.invariant-loop-operations
 invariant-loop-operations g l = record {

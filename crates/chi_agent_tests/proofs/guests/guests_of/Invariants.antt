@@ -1,7 +1,7 @@
 -- The requesters that are left are the node's own.
 use Rattle.std.proofs.Common.{◌≡◌, ◌+◌, All, length}
 use Rattle.chi_home.specs.Node.{IsOwn}
-use Rattle.chi_agent_trials.proofs.guests.guests_of.Given as goal
+use Rattle.chi_agent_tests.proofs.guests.guests_of.Given as goal
 
 abbrev pub invariant-loop : goal.invariant-loop
 invariant-loop g l = record {
