@@ -1,7 +1,7 @@
 //! What the tests share: the scripts of agents, with the writers of their tallies.
 
 ghost use Rattle.std.specs.Prelude.{◌≡◌, ◌≤◌, All, length, map, vec_len};
-ghost use Rattle.chi_slice.specs.Config.{two_types};
+ghost use Rattle.chi_config.specs.Config.{two_types};
 ghost use Rattle.chi_tallies.specs.Tallies.{cell_of, IsFresh};
 ghost use Rattle.chi_agent.specs.Script.{AreFresh};
 

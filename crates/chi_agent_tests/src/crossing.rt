@@ -1,7 +1,7 @@
 //! A snoop that crosses a write-back, done call by call under locks.
 
 ghost use Rattle.std.specs.Prelude.{◌≡◌};
-ghost use Rattle.chi_slice.specs.Config.{two_types};
+ghost use Rattle.chi_config.specs.Config.{two_types};
 
 use crate::guests::{Guest, guests_of};
 use crate::sights::Sights;

@@ -4,7 +4,7 @@ use Rattle.std.specs.Prelude.{◌≡◌, ℕ, List, All, nat_lt, Option, Some, N
 use Rattle.chi_flit.specs.declared.refusal.Refusal.{Refusal}
 use Rattle.chi_flit.specs.declared.refusal.Refusal.TheVariants.{OutOfRange}
 use Rattle.chi_tracker.specs.Calls.{Home, Owner}
-use Rattle.chi_slice.specs.Config.{Sizes}
+use Rattle.chi_config.specs.Config.{Sizes}
 use Rattle.chi_node.specs.Requester.{RequesterState}
 
 -- the size of a node, and its tracker; what its slices hold is behind the locks

@@ -8,7 +8,7 @@ use Rattle.chi_slice.specs.declared.places.Place.{Place}
 use Rattle.chi_line.specs.declared.seen.Where.{Where}
 use Rattle.chi_slice.specs.Index.{at_line}
 use Rattle.chi_line.specs.Places.{where_at}
-use Rattle.chi_slice.specs.Config.{is_slice_count}
+use Rattle.chi_config.specs.Config.{is_slice_count}
 use Rattle.chi_slice.specs.Slice.{SliceKept, SliceState, is_line_in_range, last_of, line}
 use Rattle.chi_line.specs.Types.{is_of_type}
 use Rattle.chi_slice.proofs.Below.{AllBelow, all_below}

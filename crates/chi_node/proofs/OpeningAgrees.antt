@@ -8,7 +8,7 @@ use Rattle.chi_rnline.specs.Rn.{no_line}
 use Rattle.chi_homeline.specs.Home.{idle_home}
 use Rattle.chi_tracker.specs.declared.shape.Shape.{Shape}
 use Rattle.chi_line.specs.declared.seen.Where.{Where}
-use Rattle.chi_slice.specs.Config.{Sizes, are_in_limits}
+use Rattle.chi_config.specs.Config.{Sizes, are_in_limits}
 use Rattle.chi_line.specs.LineState.{LineState, opening_line}
 use Rattle.chi_line.specs.Places.{where_at}
 use Rattle.chi_slice.specs.Slice.{is_line_in_range, line, opening_slice, row_count, row_of_line}

@@ -9,7 +9,7 @@ use Rattle.chi_tracker.specs.declared.shape.Shape.{Shape}
 use Rattle.chi_tracker.specs.Shape.{low, size}
 use Rattle.chi_tracker.specs.Views.{new_port, new_ports}
 use Rattle.chi_tracker.specs.Calls.{Owner, owners, shape_of}
-use Rattle.chi_slice.specs.Config.{Sizes, are_entries, are_in_limits, is_between, is_slice_count}
+use Rattle.chi_config.specs.Config.{Sizes, are_entries, are_in_limits, is_between, is_slice_count}
 use Rattle.chi_slice.specs.Slice.{SliceState, opening_slice}
 use Rattle.chi_node.specs.Requester.{RequesterState, opening_requester}
 use Rattle.chi_node.specs.Parts.{is_of_profile, opening_requesters, opening_slices}

@@ -19,7 +19,7 @@ use Rattle.chi_journal.specs.Journal.{is_full, part_of}
 use Rattle.chi_journal.proofs.Append.{part_fits}
 use Rattle.chi_rnline.specs.declared.pending.Pending.{Pending}
 use Rattle.chi_rnline.specs.Rn.{load_refusal, store_refusal}
-use Rattle.chi_slice.specs.Config.{Sizes, are_entries, are_in_limits, is_between, is_slice_count}
+use Rattle.chi_config.specs.Config.{Sizes, are_entries, are_in_limits, is_between, is_slice_count}
 use Rattle.chi_slice.specs.Index.{SlotsInRange}
 use Rattle.chi_line.specs.LineState.{cells_of, rn_of}
 use Rattle.chi_line.specs.Refused.{first_of, full_if, line_refusal, step_refusal}

@@ -3,7 +3,7 @@
 ghost use Rattle.std.specs.Prelude.{◌≡◌, ℕ, ◌<◌, nat_lt, true, IfOk};
 ghost use Rattle.chi_tracker.specs.Shape.{size};
 ghost use Rattle.chi_tracker.specs.Calls.{shape_of};
-ghost use Rattle.chi_slice.specs.Config.{are_in_limits};
+ghost use Rattle.chi_config.specs.Config.{are_in_limits};
 ghost use Rattle.chi_node.specs.Parts.{AllAgree, is_of_profile, opening_requesters, opening_slices};
 
 use crate::requester::Requester;

@@ -7,7 +7,7 @@ use Rattle.chi_script.specs.declared.headers.Header.{Header}
 use Rattle.chi_script.specs.Headers.{IsInLimits, is_from, is_in_limits}
 use Rattle.chi_script.specs.Headers as script
 use Rattle.chi_script.proofs.LimitLemmas.{limits_of}
-use Rattle.chi_slice.specs.Config.{Sizes, are_entries, are_in_limits, config_if, is_between, is_slice_count}
+use Rattle.chi_config.specs.Config.{Sizes, are_entries, are_in_limits, config_if, is_between, is_slice_count}
 use Rattle.chi_replay.specs.Replays.{node_sizes, read_sizes, sizes_for}
 
 and : (a b : Bool) → a ≡ true → b ≡ true → (a && b) ≡ true

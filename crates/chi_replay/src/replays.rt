@@ -3,7 +3,7 @@
 ghost use Rattle.std.specs.Prelude.{◌≡◌, ◌≢◌, ◌+◌, ◌^◌, ◌<◌, IfOk, IfErr, IfSome, OnOk, IsErrOf, string_bytes, true};
 ghost use Rattle.std.specs.Io.KnownBytes.{Keeps};
 ghost use Rattle.chi_script.specs.Headers.{is_in_limits};
-ghost use Rattle.chi_slice.specs.Config.{config_if};
+ghost use Rattle.chi_config.specs.Config.{config_if};
 ghost use Rattle.chi_script.specs.Faults.{Fails};
 ghost use Rattle.chi_script.specs.Files.{file_of};
 ghost use Rattle.chi_script.specs.declared.faults.Fault.{Fault};

@@ -8,7 +8,7 @@ use Rattle.chi_line.specs.LineState.{LineState}
 use Rattle.chi_line.specs.Refused.{line_refusal}
 use Rattle.chi_line.specs.Step.{is_step_in_range}
 use Rattle.chi_slice.specs.declared.terms.Terms.{Terms}
-use Rattle.chi_slice.specs.Config.{Sizes}
+use Rattle.chi_config.specs.Config.{Sizes}
 use Rattle.chi_slice.specs.Run.{AreAlike, AreElsewhere, IsRun, IsSameRoom, IsTried}
 use Rattle.chi_slice.specs.Slice.{SliceState, conditions_under, is_in_range, is_line_in_range, line, refused, refused_under}
 use Rattle.chi_slice.proofs.Rows.{both}

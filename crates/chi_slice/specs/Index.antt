@@ -13,7 +13,7 @@ use Rattle.chi_line.specs.LineState.{LineState}
 use Rattle.chi_line.specs.Moves.{moved_slot, moved_to}
 use Rattle.chi_line.specs.Step.{line_uses}
 use Rattle.chi_journal.specs.Journal.{Log}
-use Rattle.chi_slice.specs.Config.{Sizes}
+use Rattle.chi_config.specs.Config.{Sizes}
 use Rattle.chi_slice.specs.Slice.{SliceKept, SliceState, is_line_in_range, line, slice_of}
 use Rattle.chi_line.specs.Types.{is_of_type}
 use Rattle.chi_line.specs.Places.{where_at}

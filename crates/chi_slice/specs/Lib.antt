@@ -1,4 +1,3 @@
-pub mod Config
 pub mod Recorded
 pub mod Slice
 pub mod Run

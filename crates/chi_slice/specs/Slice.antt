@@ -12,7 +12,7 @@ use Rattle.chi_flit.specs.declared.refusal.Refusal.{Refusal}
 use Rattle.chi_flit.specs.declared.refusal.Refusal.TheVariants.{OutOfRange}
 use Rattle.chi_journal.specs.declared.record.Record.{Record}
 use Rattle.chi_journal.specs.Journal.{IsLegal, Log, appended, is_full, last_words, opening_log}
-use Rattle.chi_slice.specs.Config.{Sizes, are_in_limits}
+use Rattle.chi_config.specs.Config.{Sizes, are_in_limits}
 use Rattle.chi_slice.specs.declared.terms.Terms.{Terms}
 use Rattle.chi_line.specs.LineState.{LineState, opening_line, rn_of}
 use Rattle.chi_line.specs.declared.act.Conditions.{Conditions}

@@ -4,7 +4,6 @@
 
 mod agent_line;
 mod audits;
-mod config;
 mod laws;
 mod places;
 mod records;
@@ -14,9 +13,9 @@ mod verdict;
 
 pub use agent_line::AgentLine;
 pub use audits::{Audit, audit_of, check_slice};
+pub use chi_config::Config;
 pub use chi_flit::{Action, Effect, Step};
 pub use chi_line::{CopyView, LineView, Where};
-pub use config::Config;
 pub use laws::only_room_and_slots_join_lines;
 pub use places::Place;
 pub use slice::Slice;

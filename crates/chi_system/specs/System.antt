@@ -14,7 +14,7 @@ use Rattle.chi_tracker.specs.Calls.{shape_of}
 use Rattle.chi_line.specs.LineState.{cells_of}
 use Rattle.chi_line.specs.Refused.{first_of}
 use Rattle.chi_line.specs.Step.{effect_of}
-use Rattle.chi_slice.specs.Config.{Sizes}
+use Rattle.chi_config.specs.Config.{Sizes}
 use Rattle.chi_slice.specs.Slice.{SliceState}
 use Rattle.chi_node.specs.declared.answers.Arrived.{Arrived}
 use Rattle.chi_node.specs.declared.answers.Stepped.{Stepped}

@@ -18,7 +18,7 @@ use Rattle.chi_flit.specs.Credit.{credit_number}
 use Rattle.chi_script.specs.declared.commands.Command.{Command}
 use Rattle.chi_script.specs.declared.commands.Command.TheVariants as commands
 use Rattle.chi_tracker.specs.declared.released.Released.{Released}
-use Rattle.chi_slice.specs.Config.{Sizes}
+use Rattle.chi_config.specs.Config.{Sizes}
 use Rattle.chi_slice.specs.Slice.{SliceState}
 use Rattle.chi_line.specs.LineState.{cells_of}
 use Rattle.chi_line.specs.Refused.{first_of}

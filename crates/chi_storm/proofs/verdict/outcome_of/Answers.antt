@@ -3,7 +3,7 @@ use Rattle.std.proofs.Common.{◌≡◌, ◌↔◌, ◌≤◌, ◌∙◌, All, L
 use Rattle.std.specs.Prelude.{IsTrue}
 use Rattle.chi_node.specs.Agree.{Agree}
 use Rattle.chi_node.specs.Requester.{RequesterState}
-use Rattle.chi_slice.specs.Config.{Sizes}
+use Rattle.chi_config.specs.Config.{Sizes}
 use Rattle.chi_slice.proofs.Rows.{InLimits, in_limits}
 use Rattle.chi_storm.proofs.Judged.{judged}
 use Rattle.chi_storm.proofs.verdict.outcome_of.Goals as goal

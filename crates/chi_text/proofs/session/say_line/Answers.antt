@@ -2,7 +2,7 @@
 use Rattle.std.proofs.Common.{◌≡◌, None, Some, [], ◌∷◌, ◌++◌, ap, refl, ◌∙◌, rules, string_bytes}
 use Rattle.chi_line.specs.declared.view.LineView.{LineView}
 use Rattle.chi_line.specs.View.{shown}
-use Rattle.chi_slice.specs.Config.{Sizes}
+use Rattle.chi_config.specs.Config.{Sizes}
 use Rattle.chi_reply.specs.Replies.{shown_text}
 use Rattle.chi_system.specs.Home.{last_of, line, view_refusal}
 use Rattle.chi_text.proofs.Turned.{refused_on, shown_on}

@@ -2,7 +2,7 @@
 
 ghost use Rattle.std.specs.Prelude.{◌≡◌, ◌+◌, ◌/◌, ◌%◌, ◌==◌, ◌&&◌, nat_le, nat_lt, true, None, Some, if◌then◌else◌, ⊤};
 ghost use Rattle.chi_flit.specs.declared.credit.Profile.TheVariants.{Four};
-ghost use Rattle.chi_slice.specs.Config.{Sizes, are_entries, are_in_limits, config_if, four_types, is_between, is_slice_count, two_types};
+ghost use Rattle.chi_config.specs.Config.{Sizes, are_entries, are_in_limits, config_if, four_types, is_between, is_slice_count, two_types};
 
 use chi_flit::{Line, Profile};
 use std::alloc::AllocError;
@@ -22,7 +22,7 @@ pub struct Config {
 
 impl Model for Config {
     ghost use Rattle.std.specs.Prelude.{◌≡◌, true};
-    ghost use Rattle.chi_slice.specs.Config.{Sizes, are_in_limits, sizes_of};
+    ghost use Rattle.chi_config.specs.Config.{Sizes, are_in_limits, sizes_of};
 
     ghost Value = { Sizes };
 
@@ -184,15 +184,10 @@ impl Config {
         self.split(line.0).0
     }
 
-    /// The row of a line in its slice.
-    pub(crate) fn row_of(&self, line: u8) -> u8
-        ensures { result ≡ line / self.now.slices }
-    {
-        self.split(line).1
-    }
-
-    /// The row of a line in the slice of this index; `None` for a line that isn't in it.
-    pub(crate) fn row_in(&self, index: u8, line: u8) -> Option<u8>
+    /// The row of a line in the slice of this index, counted from 0: `line / slices`, with no division. `None`
+    /// exactly where the line is outside the node or in another slice.
+    /// Source: `docs/PROTOCOL.md`, "Limits".
+    pub fn row_in(&self, index: u8, line: u8) -> Option<u8>
         ensures { result ≡ if nat_lt line self.now.lines && (line % self.now.slices == index) then Some (line / self.now.slices) else None }
     {
         let (slice, row) = self.split(line);
