@@ -38,9 +38,8 @@ use Rattle.chi_line.proofs.Starts.{kept_started}
 use Rattle.chi_line.proofs.RetryKeeps.{kept_cancelled, kept_dropped, kept_evict_received, kept_resent, kept_retried, kept_retry_received, kept_stored}
 use Rattle.chi_line.proofs.CopyKeeps.{kept_comp_received, kept_dbid_received, kept_snooped}
 use Rattle.chi_line.proofs.WriteKeeps.{kept_written}
-use Rattle.chi_line.proofs.Answered.{answered_case}
-use Rattle.chi_line.proofs.Finished.{answered_is}
-use Rattle.chi_line.proofs.AnswerKeeps.{kept_none_answered, kept_none_sent, kept_owner_sent, kept_shared_answered, kept_shared_sent}
+use Rattle.chi_line.proofs.AnswerKeeps.{kept_answered_by}
+use Rattle.chi_line.proofs.WriteLanes.{Brings}
 
 -- an Issue that isn't refused: its slot is idle, nothing is pending, the copy is in the needed state
 pub record IssueAllowed (used : Bool) (rn : Rn) (kind : Kind) : Type 0 where
@@ -104,27 +103,12 @@ cancel_allowed state None allowed = absurd (cc (allowed))
 cancel_allowed state (Some request) allowed = record { request = request; is = refl; phase = grind arith }
 
 pub retry_there : (there : Option RspDown) → is_retry there ≡ true → (ty : CreditType) × (there ≡ Some (RetryAck ty))
-retry_there None h = absurd (cc (h))
-retry_there (Some (RetryAck ty)) h = (ty, refl)
-retry_there (Some CompUC) h = absurd (cc (h))
-retry_there (Some CompI) h = absurd (cc (h))
-retry_there (Some CompDBIDResp) h = absurd (cc (h))
+retry_there there h = search arith
 
 pub dbid_there : (there : Option RspDown) → is_dbid there ≡ true → there ≡ Some CompDBIDResp
-dbid_there None h = absurd (cc (h))
-dbid_there (Some (RetryAck ty)) h = absurd (cc (h))
-dbid_there (Some CompUC) h = absurd (cc (h))
-dbid_there (Some CompI) h = absurd (cc (h))
-dbid_there (Some CompDBIDResp) h = refl
+dbid_there there h = search arith
 
 -- the flit that brings an answer to a snoop
-abbrev pub Brings : Option RspUp → Option DatUp → SnoopAnswer → Type 0
-Brings response sent answers.I = response ≡ Some SnpRespI
-Brings response sent answers.SC = response ≡ Some SnpRespSC
-Brings response sent (answers.IPD words) = sent ≡ Some (SnpRespDataIPD words)
-Brings response sent (answers.SCPD words) = sent ≡ Some (SnpRespDataSCPD words)
-Brings response sent (answers.SD words) = sent ≡ Some (SnpRespDataSD words)
-
 brought_data : (response : Option RspUp) (sent : Option DatUp) (answer : SnoopAnswer) → data_answer sent ≡ Some answer → Brings response sent answer
 brought_data response None answer h = absurd (cc (h))
 brought_data response (Some (SnpRespDataIPD words)) answer h = let e : answers.IPD words ≡ answer = cc (h) in subst (Brings response (Some (SnpRespDataIPD words))) e refl
@@ -138,53 +122,21 @@ brought (Some SnpRespI) sent answer h = let e : answers.I ≡ answer = cc (h) in
 brought (Some SnpRespSC) sent answer h = let e : answers.SC ≡ answer = cc (h) in subst (Brings (Some SnpRespSC) sent) e refl
 brought (Some CompAck) sent answer h = brought_data (Some CompAck) sent answer h
 
-kept_answered_case : (last : List ℕ) (s : LineState) (agent : Agent) (answer : SnoopAnswer) → agent.0 < 8
-    → Brings (cells_of s agent.0).rsp_up (cells_of s agent.0).dat_up answer → Kept last s → Kept last (answered_case s agent answer)
-kept_answered_case last s agent answers.I low here k = kept_none_answered last s agent.0 low here k
-kept_answered_case last s agent answers.SC low here k = kept_shared_answered last s agent.0 low here k
-kept_answered_case last s agent (answers.IPD words) low here k = kept_none_sent last s agent.0 words low here k
-kept_answered_case last s agent (answers.SCPD words) low here k = kept_shared_sent last s agent.0 words low here k
-kept_answered_case last s agent (answers.SD words) low here k = kept_owner_sent last s agent words low here k
-
-kept_answered_by : (last : List ℕ) (s : LineState) (agent : Agent) (answer : SnoopAnswer) → agent.0 < 8
-    → Brings (cells_of s agent.0).rsp_up (cells_of s agent.0).dat_up answer → Kept last s → Kept last (answered_by s agent answer)
-kept_answered_by last s agent answer low here k = subst (Kept last) (answered_is s agent answer) (kept_answered_case last s agent answer low here k)
-
 kept_completion : (last : List ℕ) (s : LineState) (n : ℕ) (there : Option RspDown) → n < 8
     → (cells_of s n).rsp_down ≡ there → Kept last s → Kept last (completion_received s n there)
-kept_completion last s n None low here k = k
-kept_completion last s n (Some (RetryAck ty)) low here k = k
 kept_completion last s n (Some CompUC) low here k = kept_comp_received last s n low here k
 kept_completion last s n (Some CompI) low here k = kept_evict_received last s n low here k
-kept_completion last s n (Some CompDBIDResp) low here k = k
+kept_completion last s n there low here k = k
 
 kept_data_written : (last : List ℕ) (s : LineState) (n : ℕ) (kind : Kind) (there : Option DatUp) → n < 8
     → (cells_of s n).dat_up ≡ there → served_kind s.home.serving ≡ Some kind → Kept last s → Kept last (data_written s n kind there)
-kept_data_written last s n kind None low here served k = k
-kept_data_written last s n kind (Some (SnpRespDataIPD words)) low here served k = k
-kept_data_written last s n kind (Some (SnpRespDataSCPD words)) low here served k = k
-kept_data_written last s n kind (Some (SnpRespDataSD words)) low here served k = k
 kept_data_written last s n kind (Some (CopyBackWrData form words)) low here served k = kept_written last s n kind form words low here served k
+kept_data_written last s n kind there low here served k = k
 
 -- whether the slot that an Issue names is in use at the line
 abbrev pub names_used_slot : LineState → ℕ → Step → Bool
-names_used_slot s n (steps.Load word) = false
-names_used_slot s n (steps.Store word value) = false
-names_used_slot s n steps.Drop = false
 names_used_slot s n (steps.Issue kind slot) = line_uses s n slot
-names_used_slot s n steps.Admit = false
-names_used_slot s n steps.Retry = false
-names_used_slot s n steps.RecvRetry = false
-names_used_slot s n steps.Resend = false
-names_used_slot s n steps.Cancel = false
-names_used_slot s n steps.Start = false
-names_used_slot s n steps.RecvSnp = false
-names_used_slot s n steps.RecvSnpResp = false
-names_used_slot s n steps.RecvData = false
-names_used_slot s n steps.RecvComp = false
-names_used_slot s n steps.RecvAck = false
-names_used_slot s n steps.RecvDbid = false
-names_used_slot s n steps.RecvWrData = false
+names_used_slot s n other = false
 
 -- a step that takes something away, kept where there is something
 kept_where_some : {A : Type 0} (last : List ℕ) (s : LineState) (there : Option A) (step : A → LineState)

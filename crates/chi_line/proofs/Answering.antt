@@ -35,7 +35,6 @@ is_itself : (agent : Agent) (kind : Kind) (slot : Slot) → snoops_for (Snooping
 is_itself agent kind slot = grind arith
 
 pub sends_completes : (serving : Serving) (home : Home) (words : List ℕ) (c : Completion) → finished_sends_as serving home words ≡ Some c → Completes serving c
-sends_completes Idle home words c h = absurd (cc (h))
 sends_completes (Snooping agent kind slot) home words c h = go (has_any home.awaited) (snoop_of kind) h
   where
     go : (b : Bool) (o : Option Snoop) → (if b then None else completion_by home o agent words) ≡ Some c → Completes (Snooping agent kind slot) c
@@ -48,8 +47,7 @@ sends_completes (Snooping agent kind slot) home words c h = go (has_any home.awa
           agent = is_itself agent kind slot;
           down = λ cells r d. completion_down snoop (completes_unique snoop home.filter agent.0) words cells r d;
         })
-sends_completes (AwaitingCompAck agent slot) home words c h = absurd (cc (h))
-sends_completes (AwaitingWriteData agent kind slot) home words c h = absurd (cc (h))
+sends_completes serving home words c h = absurd (cc (h))
 
 pub answer_completes : (home : Home) (agent : Agent) (answer : SnoopAnswer) (c : Completion) → snoop_answered_sends home agent answer ≡ Some c → Completes home.serving c
 answer_completes home agent answer c h = sends_completes home.serving _ _ c h
@@ -65,18 +63,10 @@ same_at f (x ∷ l) (suc n) (suc m) c same = same_at f l n m c same
 
 -- taking an answer leaves the cells down
 pub response_stays : (answer : SnoopAnswer) (cells : Cells) → (emptied cells (answer_channel answer)).rsp_down ≡ cells.rsp_down
-response_stays answers.I cells = refl
-response_stays answers.SC cells = refl
-response_stays (answers.IPD words) cells = refl
-response_stays (answers.SCPD words) cells = refl
-response_stays (answers.SD words) cells = refl
+response_stays answer cells = search arith
 
 pub data_stays : (answer : SnoopAnswer) (cells : Cells) → (emptied cells (answer_channel answer)).dat_down ≡ cells.dat_down
-data_stays answers.I cells = refl
-data_stays answers.SC cells = refl
-data_stays (answers.IPD words) cells = refl
-data_stays (answers.SCPD words) cells = refl
-data_stays (answers.SD words) cells = refl
+data_stays answer cells = search arith
 
 -- the completion finds its cell empty, once the answer is taken
 pub completion_finds_empty : (s : LineState) (agent : Agent) (answer : SnoopAnswer) (flits : List Cells) (completion : Completion)

@@ -12,10 +12,7 @@ use Rattle.chi_line.specs.Coherent.{Coherent}
 
 none_unless : (state : State) → (is_valid state ≡ true → ⊥) → state ≡ I
 none_unless I none = refl
-none_unless SC none = absurd (none refl)
-none_unless UC none = absurd (none refl)
-none_unless UD none = absurd (none refl)
-none_unless SD none = absurd (none refl)
+none_unless state none = absurd (none refl)
 
 pub unique_valid : (state : State) → is_unique state ≡ true → is_valid state ≡ true
 unique_valid state unique = search arith

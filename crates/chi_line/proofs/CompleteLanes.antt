@@ -56,24 +56,7 @@ none_left unique owner last agent kind slot m x other all done k = grind (arith,
 
 -- the copy of a read's agent, whose request is served, is I
 pub allows_read : (kind : Kind) (state : State) → is_read kind ≡ true → allows kind state ≡ true → state ≡ I
-allows_read kind I reads fits = refl
-allows_read ReadNotSharedDirty SC reads fits = absurd (false≢true fits)
-allows_read ReadNotSharedDirty UC reads fits = absurd (false≢true fits)
-allows_read ReadNotSharedDirty UD reads fits = absurd (false≢true fits)
-allows_read ReadNotSharedDirty SD reads fits = absurd (false≢true fits)
-allows_read ReadShared SC reads fits = absurd (false≢true fits)
-allows_read ReadShared UC reads fits = absurd (false≢true fits)
-allows_read ReadShared UD reads fits = absurd (false≢true fits)
-allows_read ReadShared SD reads fits = absurd (false≢true fits)
-allows_read ReadUnique SC reads fits = absurd (false≢true fits)
-allows_read ReadUnique UC reads fits = absurd (false≢true fits)
-allows_read ReadUnique UD reads fits = absurd (false≢true fits)
-allows_read ReadUnique SD reads fits = absurd (false≢true fits)
-allows_read CleanUnique state reads fits = absurd (false≢true reads)
-allows_read Evict state reads fits = absurd (false≢true reads)
-allows_read WriteBackFull state reads fits = absurd (false≢true reads)
-allows_read WriteCleanFull state reads fits = absurd (false≢true reads)
-allows_read WriteEvictFull state reads fits = absurd (false≢true reads)
+allows_read kind state reads fits = search arith
 
 pub read_from_none : (unique : Bool) (owner : Option Agent) (last : List ℕ) (agent : Agent) (kind : Kind) (slot : Slot) (x : Lane)
     → (agent.0 == agent.0) ≡ true → is_read kind ≡ true

@@ -18,7 +18,7 @@ use Rattle.chi_homeline.specs.declared.serving.Serving.TheVariants.{Snooping, Aw
 use Rattle.chi_homeline.specs.Home.{completed, completed_filter, completes_unique, completion_message, completion_of}
 use Rattle.chi_line.specs.LineState.{LineState, cells_of}
 use Rattle.chi_line.specs.Kept.{Kept, Lane, LaneKept, invalidates, is_read, lane}
-use Rattle.chi_line.proofs.Frame.{IsCleanLane, Puts, Moves, moves_by, puts_nothing, puts_set, nothing_waiting, lanes_by, clean_by}
+use Rattle.chi_line.proofs.Frame.{IsCleanLane, Puts, kept_moved, memory_by, moves_home, puts_nothing, puts_set, nothing_waiting, within}
 use Rattle.chi_line.proofs.Asks.{apart, same, in_only, none_in, left_in, length-others}
 use Rattle.chi_line.proofs.CompleteLanes.{read_completes, clean_completes, no_owner, alone_other, shared_other, none_left, read_from_none}
 
@@ -39,14 +39,7 @@ pub record MayComplete (last : List ℕ) (s : LineState) (agent : Agent) (kind :
 
 -- kinds by their snoops
 pub is_clean_unique : (kind : Kind) → snoop_of kind ≡ Some SnpCleanInvalid → kind ≡ CleanUnique
-is_clean_unique ReadNotSharedDirty is = cc
-is_clean_unique ReadShared is = cc
-is_clean_unique ReadUnique is = cc
-is_clean_unique CleanUnique is = refl
-is_clean_unique Evict is = cc
-is_clean_unique WriteBackFull is = cc
-is_clean_unique WriteCleanFull is = cc
-is_clean_unique WriteEvictFull is = cc
+is_clean_unique kind is = search arith
 
 abbrev pub serves_read : Snoop → Bool
 serves_read SnpShared = true
@@ -55,14 +48,7 @@ serves_read SnpUnique = true
 serves_read SnpCleanInvalid = false
 
 pub is_read_by : (kind : Kind) (snoop : Snoop) → snoop_of kind ≡ Some snoop → is_read kind ≡ serves_read snoop
-is_read_by ReadNotSharedDirty snoop is = cc
-is_read_by ReadShared snoop is = cc
-is_read_by ReadUnique snoop is = cc
-is_read_by CleanUnique snoop is = cc
-is_read_by Evict snoop is = cc
-is_read_by WriteBackFull snoop is = cc
-is_read_by WriteCleanFull snoop is = cc
-is_read_by WriteEvictFull snoop is = cc
+is_read_by kind snoop is = search arith
 
 nowhere : (m : ℕ) → get_or nobody m false ≡ false
 nowhere m = ⊎_elim (λ (below : m < 8). get_or-replicate 8 m false false below) (λ (above : 8 ≤ m). get_or_past nobody m false above) (cases_lt m 8)
@@ -77,38 +63,22 @@ pub only_puts : (marks : List Bool) (n : ℕ) → n < 8 → length marks ≡ 8
 only_puts marks n low eight nobody_else = record {
   at = get_or-set_same nobody n true false low;
   others = λ m other. get_or-set_other nobody n m true false other ∙ (nowhere m ∙ sym (none_else marks n eight nobody_else m other));
+  long = length-set nobody n true ∙ sym eight;
 }
 
 -- a step after which the CompAck is awaited: n is named, its cells are c, and the filter is as given
 pub kept_awaiting : (last : List ℕ) (s : LineState) (agent : Agent) (slot : Slot) (filter : FilterState) (c : Cells)
-    → agent.0 < 8 → Kept last s → length filter.named ≡ 8
-    → Puts false s.home.filter.named filter.named agent.0 true
+    → agent.0 < 8 → Kept last s → Puts false s.home.filter.named filter.named agent.0 true
     → LaneKept (AwaitingCompAck agent slot) filter.unique filter.owner last agent.0 (record (lane s agent.0) { named = true; flits = c })
     → ((m : ℕ) → m < 8 → m ≢ agent.0 → LaneKept (AwaitingCompAck agent slot) filter.unique filter.owner last m (lane s m))
     → (filter.unique ≡ true → (n m : ℕ) → n < 8 → m < 8 → is_named filter n ≡ true → is_named filter m ≡ true → n ≡ m)
     → (cells_of s agent.0).dat_up ≡ c.dat_up
     → Kept last (record s { home = record s.home { filter = filter; serving = AwaitingCompAck agent slot }; flits = slice_set s.flits agent.0 c })
-kept_awaiting last s agent slot filter c low k eight names own other one up =
-    let s' : LineState = record s { home = record s.home { filter = filter; serving = AwaitingCompAck agent slot }; flits = slice_set s.flits agent.0 c } in
-    let x : Lane = record (lane s agent.0) { named = true; flits = c } in
-    let moves : Moves s s' agent.0 x = moves_by s s' agent.0 x
-    (puts_nothing no_line s.requesters agent.0)
-    (puts_set no_flits s.flits agent.0 c (omega (arith, k.flits, low)))
-    names
-    (puts_nothing false s.home.awaited agent.0)
-    (puts_nothing nothing_waiting s.home.waiting agent.0) in
-    let back : IsCleanLane x → IsCleanLane (lane s agent.0) = λ (clean : IsCleanLane x). record { copy = clean.copy; on_its_way = cc } in
-    record {
-      requesters = k.requesters;
-      flits = length-set s.flits agent.0 c ∙ k.flits;
-      named = eight;
-      awaited = k.awaited;
-      waiting = k.waiting;
-      in_range = low;
-      lanes = lanes_by s s' (AwaitingCompAck agent slot) filter.unique filter.owner last agent.0 x moves own other;
-      flag_means_one = one;
-      memory_last = λ clean. k.memory_last (clean_by s s' agent.0 x moves low back clean);
-    }
+kept_awaiting last s agent slot filter c low k names own other one up =
+    let moves = moves_home s agent.0 (record s.home { filter = filter; serving = AwaitingCompAck agent slot }) _ (record (lane s agent.0) { named = true; flits = c }) refl
+    (puts_set no_flits s.flits agent.0 c (within agent.0 _ low k.flits)) names (puts_nothing false s.home.awaited agent.0) (puts_nothing nothing_waiting s.home.waiting agent.0) in
+    kept_moved last last s _ agent.0 _ moves k low own other one
+    (memory_by last s _ agent.0 _ low moves k (λ (clean : IsCleanLane (record (lane s agent.0) { named = true; flits = c })). record { copy = clean.copy; on_its_way = cc }))
 
 snooped_lanes : (last : List ℕ) (s : LineState) (agent : Agent) (kind : Kind) (snoop : Snoop) (slot : Slot) (sent : List ℕ)
     → MayComplete last s agent kind snoop slot sent → Kept last s → (m : ℕ) → m < 8
@@ -163,7 +133,7 @@ read_alone last s agent kind snoop slot sent may k reads is =
     let lanes : (m : ℕ) → m < 8 → LaneKept (Snooping agent kind slot) s.home.filter.unique s.home.filter.owner last m (lane s m) = snooped_lanes last s agent kind snoop slot sent may k in
     let lonely : IsAlone s.home.filter agent.0 = alone last s agent kind snoop slot sent may k is in
     let f = s.home.filter in
-    kept_awaiting last s agent slot (only_named agent.0) _ may.here k (length-set nobody agent.0 true)
+    kept_awaiting last s agent slot (only_named agent.0) _ may.here k
     (only_puts f.named agent.0 may.here k.named lonely)
     (read_completes f.unique true f.owner None last agent kind slot sent (lane s agent.0) (same agent.0) reads (may.sent_is reads)
     (read_from_none f.unique f.owner last agent kind slot (lane s agent.0) (same agent.0) reads (lanes agent.0 may.here)) refl (lanes agent.0 may.here))
@@ -178,7 +148,7 @@ clean_alone last s agent slot sent may k =
     let lanes : (m : ℕ) → m < 8 → LaneKept (Snooping agent CleanUnique slot) s.home.filter.unique s.home.filter.owner last m (lane s m) = snooped_lanes last s agent CleanUnique SnpCleanInvalid slot sent may k in
     let lonely : IsAlone s.home.filter agent.0 = alone last s agent CleanUnique SnpCleanInvalid slot sent may k refl in
     let f = s.home.filter in
-    kept_awaiting last s agent slot (only_named agent.0) _ may.here k (length-set nobody agent.0 true)
+    kept_awaiting last s agent slot (only_named agent.0) _ may.here k
     (only_puts f.named agent.0 may.here k.named lonely)
     (clean_completes f.unique f.owner last agent slot (lane s agent.0) (same agent.0) (lanes agent.0 may.here))
     (λ m low other. alone_other f.unique f.owner last agent CleanUnique slot m (lane s m) (apart agent.0 m other) (lonely m low other) (lanes m low))
@@ -198,7 +168,7 @@ read_shared last s agent kind snoop slot sent may k reads is =
     let clear_lanes : (m : ℕ) → m < 8 → LaneKept (Snooping agent kind slot) false s.home.filter.owner last m (lane s m) =
     λ m low. subst (λ unique. LaneKept (Snooping agent kind slot) unique s.home.filter.owner last m (lane s m)) (may.flag_clear is) (lanes m low) in
     let none = read_from_none f.unique f.owner last agent kind slot (lane s agent.0) (same agent.0) reads (lanes agent.0 may.here) in
-    kept_awaiting last s agent slot (completed_filter false f agent.0) _ may.here k (length-set f.named agent.0 true ∙ k.named)
+    kept_awaiting last s agent slot (completed_filter false f agent.0) _ may.here k
     (puts_set false f.named agent.0 true (omega (arith, k.named, may.here)))
     (read_completes f.unique false f.owner f.owner last agent kind slot sent (lane s agent.0) (same agent.0) reads (may.sent_is reads)
     none (no_owner f.unique f.owner last agent kind slot (lane s agent.0) (same agent.0) none (lanes agent.0 may.here)) (lanes agent.0 may.here))

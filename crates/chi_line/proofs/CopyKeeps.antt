@@ -35,10 +35,8 @@ pub record IsSnooping (serving : Serving) : Type 0 where
   pub serving_is : serving ≡ Snooping agent kind slot
 
 pub is_snooping : (serving : Serving) → is_some (snoop_out serving) ≡ true → IsSnooping serving
-is_snooping Idle e = absurd cc
 is_snooping (Snooping agent kind slot) e = record { agent = agent; kind = kind; slot = slot; serving_is = refl }
-is_snooping (AwaitingCompAck agent slot) e = absurd cc
-is_snooping (AwaitingWriteData agent kind slot) e = absurd cc
+is_snooping serving e = absurd cc
 
 -- a line that awaits the write data of n
 pub record AwaitsWrite (serving : Serving) (n : ℕ) : Type 0 where
@@ -49,10 +47,8 @@ pub record AwaitsWrite (serving : Serving) (n : ℕ) : Type 0 where
   pub agent_is : agent.0 ≡ n
 
 pub awaits_write : (serving : Serving) (n : ℕ) → writes_for serving n ≡ true → AwaitsWrite serving n
-awaits_write Idle n e = absurd cc
-awaits_write (Snooping agent kind slot) n e = absurd cc
-awaits_write (AwaitingCompAck agent slot) n e = absurd cc
 awaits_write (AwaitingWriteData agent kind slot) n e = record { agent = agent; kind = kind; slot = slot; serving_is = refl; agent_is = grind arith }
+awaits_write serving n e = absurd cc
 
 -- beside a snoop in flight nothing is in flight up
 pub snoop_no_response : (agent : Agent) (kind : Kind) (slot : Slot) (unique : Bool) (owner : Option Agent) (last : List ℕ) (n : ℕ) (x : Lane) (snoop : Snoop)
@@ -68,12 +64,12 @@ pub dbid_no_data : (agent : Agent) (kind : Kind) (slot : Slot) (unique : Bool) (
     → x.flits.rsp_down ≡ Some CompDBIDResp → LaneKept (AwaitingWriteData agent kind slot) unique owner last n x → x.flits.dat_up ≡ None
 dbid_no_data agent kind slot unique owner last n x here k = search (arith, k.one_answer, k.one_write, k.awaited_snooped)
 
--- RecvSnp, with the row of the table
-snooped_by : (last : List ℕ) (s : LineState) (n : ℕ) (snoop : Snoop) → n < 8 → (cells_of s n).snp ≡ Some snoop
-    → IsSnooping s.home.serving
-    → AnswerRow (rn_of s n).state snoop (rn_of s n).words (answer_of (rn_of s n).state snoop (rn_of s n).words)
-    → Kept last s → Kept last (snooped_line s n snoop)
-snooped_by last s n snoop low here snooping row k =
+-- RecvSnp
+pub kept_snooped : (last : List ℕ) (s : LineState) (n : ℕ) (snoop : Snoop) → n < 8
+    → (cells_of s n).snp ≡ Some snoop → Kept last s → Kept last (snooped_line s n snoop)
+kept_snooped last s n snoop low here k =
+    let snooping : IsSnooping s.home.serving = is_snooping s.home.serving (ap is_some ((k.lanes n low).snoop_fits snoop here)) in
+    let row : AnswerRow (rn_of s n).state snoop (rn_of s n).words (answer_of (rn_of s n).state snoop (rn_of s n).words) = answer_row (rn_of s n).state snoop (rn_of s n).words in
     let unique = s.home.filter.unique in
     let owner = s.home.filter.owner in
     let rn = rn_of s n in
@@ -93,12 +89,6 @@ snooped_by last s n snoop low here snooping row k =
       on_its_way = ap passes_dirty no_dat;
     })
 
-pub kept_snooped : (last : List ℕ) (s : LineState) (n : ℕ) (snoop : Snoop) → n < 8
-    → (cells_of s n).snp ≡ Some snoop → Kept last s → Kept last (snooped_line s n snoop)
-kept_snooped last s n snoop low here k =
-    snooped_by last s n snoop low here (is_snooping s.home.serving (ap is_some ((k.lanes n low).snoop_fits snoop here)))
-    (answer_row (rn_of s n).state snoop (rn_of s n).words) k
-
 -- RecvComp of Comp_UC
 comp_acked : (serving : Serving) (unique : Bool) (owner : Option Agent) (last : List ℕ) (n : ℕ) (x : Lane)
     → x.flits.rsp_down ≡ Some CompUC → LaneKept serving unique owner last n x → acks_for serving n ≡ true
@@ -107,9 +97,10 @@ comp_acked serving unique owner last n x here k = search (arith, k.one_ack)
 comp_stays_dirty : (state : State) → is_dirty (state_after_comp state) ≡ false → is_dirty state ≡ false
 comp_stays_dirty state clean = search arith
 
-comp_awaited : (last : List ℕ) (s : LineState) (n : ℕ) → n < 8 → (cells_of s n).rsp_down ≡ Some CompUC
-    → AwaitsAck s.home.serving n → Kept last s → Kept last (comp_received_line s n)
-comp_awaited last s n low here awaits k =
+pub kept_comp_received : (last : List ℕ) (s : LineState) (n : ℕ) → n < 8
+    → (cells_of s n).rsp_down ≡ Some CompUC → Kept last s → Kept last (comp_received_line s n)
+kept_comp_received last s n low here k =
+    let awaits : AwaitsAck s.home.serving n = awaits_ack s.home.serving n (comp_acked s.home.serving s.home.filter.unique s.home.filter.owner last n (lane s n) here (k.lanes n low)) in
     let unique = s.home.filter.unique in
     let owner = s.home.filter.owner in
     kept_by last s n _ _ low k
@@ -117,12 +108,6 @@ comp_awaited last s n low here awaits k =
     (comp_received_lane awaits.agent awaits.slot unique owner last n (lane s n) (state_after_comp (rn_of s n).state) here (comp_is (rn_of s n).state)
     (subst (λ v. LaneKept v unique owner last n (lane s n)) awaits.serving_is (k.lanes n low))))
     (λ clean. record { copy = comp_stays_dirty (rn_of s n).state clean.copy; on_its_way = clean.on_its_way })
-
-pub kept_comp_received : (last : List ℕ) (s : LineState) (n : ℕ) → n < 8
-    → (cells_of s n).rsp_down ≡ Some CompUC → Kept last s → Kept last (comp_received_line s n)
-kept_comp_received last s n low here k =
-    comp_awaited last s n low here
-    (awaits_ack s.home.serving n (comp_acked s.home.serving s.home.filter.unique s.home.filter.owner last n (lane s n) here (k.lanes n low))) k
 
 -- RecvDbid
 pub dbid_written : (serving : Serving) (unique : Bool) (owner : Option Agent) (last : List ℕ) (n : ℕ) (x : Lane)

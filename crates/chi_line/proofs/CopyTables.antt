@@ -98,11 +98,7 @@ words_sent UD words = words
 words_sent SD words = words
 
 pub write_data_is : (state : State) (words : List ℕ) → write_data_of state words ≡ CopyBackWrData state (words_sent state words)
-write_data_is I words = refl
-write_data_is SC words = refl
-write_data_is UC words = refl
-write_data_is UD words = refl
-write_data_is SD words = refl
+write_data_is state words = search arith
 
 write_clean_is : (kind : Kind) (state : State) (words : List ℕ) → kind ≡ WriteCleanFull → WriteIs kind state words (state_after_clean state) state (words_sent state words)
 write_clean_is kind I words is = search arith
@@ -119,11 +115,5 @@ write_gone_is kind UD words = search arith
 write_gone_is kind SD words = search arith
 
 pub write_is : (kind : Kind) (state : State) (words : List ℕ) → WriteIs kind state words (state_after_write kind state) state (words_sent state words)
-write_is ReadNotSharedDirty state words = write_gone_is ReadNotSharedDirty state words
-write_is ReadShared state words = write_gone_is ReadShared state words
-write_is ReadUnique state words = write_gone_is ReadUnique state words
-write_is CleanUnique state words = write_gone_is CleanUnique state words
-write_is Evict state words = write_gone_is Evict state words
-write_is WriteBackFull state words = write_gone_is WriteBackFull state words
 write_is WriteCleanFull state words = write_clean_is WriteCleanFull state words refl
-write_is WriteEvictFull state words = write_gone_is WriteEvictFull state words
+write_is other state words = write_gone_is other state words

@@ -51,8 +51,7 @@ use Rattle.chi_line.proofs.Asks.{apart as differ}
 
 -- where a request is at the home, no response to it shows
 true_last : (b : Bool) → b || true ≡ true
-true_last true = refl
-true_last false = refl
+true_last b = search arith
 
 home_hides_in : (p : Option Pending) (x : Seen) (response : Option RspDown) (slot : Slot) → pending_slot p ≡ x.served → where_by p (record x { response = response }) slot ≡ where_by p x slot
 home_hides_in None x response slot here = refl
@@ -160,8 +159,7 @@ same_cells : (c c' : Cells) → c' ≡ c → SameCells c c'
 same_cells c c' same = record { request = ap (λ (x : Cells). x.req) same; response = ap (λ (x : Cells). x.rsp_down) same }
 
 snoop_put : (marked : Bool) (snoop : Snoop) (cells : Cells) → SameCells cells (snooped_cells marked snoop cells)
-snoop_put true snoop cells = record { request = refl; response = refl }
-snoop_put false snoop cells = record { request = refl; response = refl }
+snoop_put marked snoop cells = search arith
 
 sent_elsewhere : (flits : List Cells) (n m : ℕ) (started : Started) → m ≢ n → m < length flits → SameCells (get_or flits m no_flits) (get_or (sent flits n started) m no_flits)
 sent_elsewhere flits n m (Sends message) apart low = same_cells _ _ (get_or-set_other flits n m _ no_flits apart)
@@ -182,32 +180,25 @@ started_elsewhere s agent request m apart low idle =
 
 -- RecvSnpResp
 pub finished_serves : (serving : Serving) (home : Home) (m : ℕ) → home.serving ≡ serving → slot_served_for (finished_as serving home).serving m ≡ slot_served_for serving m
-finished_serves Idle home m is = ap (λ (v : Serving). slot_served_for v m) is
 finished_serves (Snooping agent kind slot) home m is = go (has_any home.awaited) (snoop_of kind)
   where
     go : (b : Bool) (o : Option Snoop) → slot_served_for (if b then home else completed_by home o agent slot).serving m ≡ slot_served_for (Snooping agent kind slot) m
     go true o = ap (λ (v : Serving). slot_served_for v m) is
     go false None = ap (λ (v : Serving). slot_served_for v m) is
     go false (Some snoop) = refl
-finished_serves (AwaitingCompAck agent slot) home m is = ap (λ (v : Serving). slot_served_for v m) is
-finished_serves (AwaitingWriteData agent kind slot) home m is = ap (λ (v : Serving). slot_served_for v m) is
+finished_serves serving home m is = ap (λ (v : Serving). slot_served_for v m) is
 
 pub finished_waits : (serving : Serving) (home : Home) → (finished_as serving home).waiting ≡ home.waiting
-finished_waits Idle home = refl
 finished_waits (Snooping agent kind slot) home = go (has_any home.awaited) (snoop_of kind)
   where
     go : (b : Bool) (o : Option Snoop) → (if b then home else completed_by home o agent slot).waiting ≡ home.waiting
     go true o = refl
     go false None = refl
     go false (Some snoop) = refl
-finished_waits (AwaitingCompAck agent slot) home = refl
-finished_waits (AwaitingWriteData agent kind slot) home = refl
+finished_waits serving home = refl
 
 completion_request : (snoop : Snoop) (unique : Bool) (words : List ℕ) (cells : Cells) → (with_message cells (completion_message snoop unique words)).req ≡ cells.req
-completion_request SnpNotSharedDirty unique words cells = refl
-completion_request SnpShared unique words cells = refl
-completion_request SnpUnique unique words cells = refl
-completion_request SnpCleanInvalid unique words cells = refl
+completion_request snoop unique words cells = search arith
 
 -- what a start sends leaves the cell of requests
 pub sent_request : (kind : Kind) (o : Option Snoop) (home : Home) (agent : Agent) (own : Slot) (flits : List Cells) → agent.0 < length flits
@@ -225,26 +216,7 @@ sent_request kind None home agent own flits low = go (is_copy_back kind)
 
 -- an answer to a snoop goes up
 pub answer_up : (state : State) (snoop : Snoop) (words : List ℕ) (cells : Cells) → SameCells cells (with_message (record cells { snp = None }) (answer_of state snoop words).1)
-answer_up I SnpShared words cells = record { request = refl; response = refl }
-answer_up I SnpNotSharedDirty words cells = record { request = refl; response = refl }
-answer_up I SnpUnique words cells = record { request = refl; response = refl }
-answer_up I SnpCleanInvalid words cells = record { request = refl; response = refl }
-answer_up SC SnpShared words cells = record { request = refl; response = refl }
-answer_up SC SnpNotSharedDirty words cells = record { request = refl; response = refl }
-answer_up SC SnpUnique words cells = record { request = refl; response = refl }
-answer_up SC SnpCleanInvalid words cells = record { request = refl; response = refl }
-answer_up UC SnpShared words cells = record { request = refl; response = refl }
-answer_up UC SnpNotSharedDirty words cells = record { request = refl; response = refl }
-answer_up UC SnpUnique words cells = record { request = refl; response = refl }
-answer_up UC SnpCleanInvalid words cells = record { request = refl; response = refl }
-answer_up UD SnpShared words cells = record { request = refl; response = refl }
-answer_up UD SnpNotSharedDirty words cells = record { request = refl; response = refl }
-answer_up UD SnpUnique words cells = record { request = refl; response = refl }
-answer_up UD SnpCleanInvalid words cells = record { request = refl; response = refl }
-answer_up SD SnpShared words cells = record { request = refl; response = refl }
-answer_up SD SnpNotSharedDirty words cells = record { request = refl; response = refl }
-answer_up SD SnpUnique words cells = record { request = refl; response = refl }
-answer_up SD SnpCleanInvalid words cells = record { request = refl; response = refl }
+answer_up state snoop words cells = search arith
 
 -- cells after a completion may have come to them
 record Answers (serving : Serving) (m : ℕ) (c c' : Cells) : Type 0 where
@@ -252,7 +224,6 @@ record Answers (serving : Serving) (m : ℕ) (c c' : Cells) : Type 0 where
   response : (c'.rsp_down ≡ c.rsp_down) ⊎ (snoops_for serving m ≡ true)
 
 put_elsewhere : (serving : Serving) (home : Home) (words : List ℕ) (flits : List Cells) (m : ℕ) → m < length flits → Answers serving m (get_or flits m no_flits) (get_or (completion_put flits (finished_sends_as serving home words)) m no_flits)
-put_elsewhere Idle home words flits m low = record { request = refl; response = inl refl }
 put_elsewhere (Snooping agent kind slot) home words flits m low = go (has_any home.awaited) (snoop_of kind) (agent.0 == m) refl
   where
     go : (b : Bool) (o : Option Snoop) (own : Bool) → (agent.0 == m) ≡ own → Answers (Snooping agent kind slot) m (get_or flits m no_flits) (get_or (completion_put flits (if b then None else completion_by home o agent words)) m no_flits)
@@ -268,15 +239,10 @@ put_elsewhere (Snooping agent kind slot) home words flits m low = go (has_any ho
     go false (Some snoop) false is =
         let other : get_or (set flits agent.0 (with_message (get_or flits agent.0 no_flits) (completion_of home snoop agent words))) m no_flits ≡ get_or flits m no_flits = get_or-set_other flits agent.0 m _ no_flits (λ (e : m ≡ agent.0). grind (arith, is, e)) in
         record { request = ap (λ (c : Cells). c.req) other; response = inl (ap (λ (c : Cells). c.rsp_down) other) }
-put_elsewhere (AwaitingCompAck agent slot) home words flits m low = record { request = refl; response = inl refl }
-put_elsewhere (AwaitingWriteData agent kind slot) home words flits m low = record { request = refl; response = inl refl }
+put_elsewhere serving home words flits m low = record { request = refl; response = inl refl }
 
 emptied_cells : (answer : SnoopAnswer) (cells : Cells) → SameCells cells (emptied cells (answer_channel answer))
-emptied_cells answers.I cells = record { request = refl; response = refl }
-emptied_cells answers.SC cells = record { request = refl; response = refl }
-emptied_cells (answers.IPD words) cells = record { request = refl; response = refl }
-emptied_cells (answers.SCPD words) cells = record { request = refl; response = refl }
-emptied_cells (answers.SD words) cells = record { request = refl; response = refl }
+emptied_cells answer cells = search arith
 
 -- the cells of an answer that is taken: those of its sender are emptied
 taken_at : (flits : List Cells) (n m : ℕ) (answer : SnoopAnswer) → m < length flits → SameCells (get_or flits m no_flits) (get_or (set flits n (emptied (get_or flits n no_flits) (answer_channel answer))) m no_flits)
@@ -319,29 +285,23 @@ stays_where_some s m None step stays = nothing_written s m
 stays_where_some s m (Some a) step stays = stays a refl
 
 completion_elsewhere : (s : LineState) (n m : ℕ) (there : Option RspDown) → m ≢ n → Stays s (completion_received s n there) m
-completion_elsewhere s n m None apart = nothing_written s m
-completion_elsewhere s n m (Some (RetryAck ty)) apart = nothing_written s m
 completion_elsewhere s n m (Some CompUC) apart = both_written s n m _ _ apart
 completion_elsewhere s n m (Some CompI) apart = both_written s n m _ _ apart
-completion_elsewhere s n m (Some CompDBIDResp) apart = nothing_written s m
+completion_elsewhere s n m there apart = nothing_written s m
 
 pub write_awaited : (serving : Serving) (unique : Bool) (owner : Option Agent) (last : List ℕ) (n : ℕ) (x : Lane) → is_write_data x.flits.dat_up ≡ true → LaneKept serving unique owner last n x → writes_for serving n ≡ true
 write_awaited serving unique owner last n x here k = search (arith, k.one_write)
 
 -- the agent whose CompAck or write data comes in is the one that is served
 ended_elsewhere : (serving : Serving) (n m : ℕ) → m ≢ n → acks_for serving n || writes_for serving n ≡ true → None ≡ slot_served_for serving m
-ended_elsewhere Idle n m apart here = absurd (cc (here))
-ended_elsewhere (Snooping agent kind slot) n m apart here = absurd (cc (here))
 ended_elsewhere (AwaitingCompAck agent slot) n m apart here = sym (unserved (agent.0 == m) slot (not_served agent.0 n m (grind (arith, here)) apart))
 ended_elsewhere (AwaitingWriteData agent kind slot) n m apart here = sym (unserved (agent.0 == m) slot (not_served agent.0 n m (grind (arith, here)) apart))
+ended_elsewhere serving n m apart here = absurd (cc (here))
 
 written_elsewhere : (last : List ℕ) (s : LineState) (n m : ℕ) (kind : Kind) (there : Option DatUp) → n < 8 → m ≢ n → (cells_of s n).dat_up ≡ there → Kept last s → Stays s (data_written s n kind there) m
-written_elsewhere last s n m kind None low apart here k = nothing_written s m
-written_elsewhere last s n m kind (Some (SnpRespDataIPD words)) low apart here k = nothing_written s m
-written_elsewhere last s n m kind (Some (SnpRespDataSCPD words)) low apart here k = nothing_written s m
-written_elsewhere last s n m kind (Some (SnpRespDataSD words)) low apart here k = nothing_written s m
 written_elsewhere last s n m kind (Some (CopyBackWrData form words)) low apart here k =
     home_written s n m _ _ apart refl (ended_elsewhere s.home.serving n m apart (or_right (acks_for s.home.serving n) (writes_for s.home.serving n) (write_awaited s.home.serving s.home.filter.unique s.home.filter.owner last n (lane s n) (ap is_write_data here) (k.lanes n low))))
+written_elsewhere last s n m kind there low apart here k = nothing_written s m
 
 pub stays_elsewhere : (c : Conditions) (last : List ℕ) (s : LineState) (agent : Agent) (step : Step) (m : ℕ) → agent.0 < 8 → m < 8 → m ≢ agent.0 → step_refusal c s agent step ≡ None → Kept last s
     → Stays s (after_step c.profile s agent step) m

@@ -22,10 +22,8 @@ pub record AwaitsAck (serving : Serving) (n : ℕ) : Type 0 where
   pub agent_is : agent.0 ≡ n
 
 pub awaits_ack : (serving : Serving) (n : ℕ) → acks_for serving n ≡ true → AwaitsAck serving n
-awaits_ack Idle n e = absurd cc
-awaits_ack (Snooping agent kind slot) n e = absurd cc
 awaits_ack (AwaitingCompAck agent slot) n e = record { agent = agent; slot = slot; serving_is = refl; agent_is = grind arith }
-awaits_ack (AwaitingWriteData agent kind slot) n e = absurd cc
+awaits_ack serving n e = absurd cc
 
 -- data in flight, and a CompAck, mean that a CompAck is awaited
 pub acked_for_data : (serving : Serving) (unique : Bool) (owner : Option Agent) (last : List ℕ) (n : ℕ) (x : Lane) (message : CompData)
@@ -45,17 +43,13 @@ other_slot b other slot free here same = grind (arith, is_own_slot slot)
 
 pub ack_slot_apart : (serving : Serving) (n : ℕ) (slot : Slot) → is_slot (slot_served_for serving n) slot ≡ false
     → acks_for serving n ≡ true → Some slot ≢ served_slot serving
-ack_slot_apart Idle n slot free here = absurd cc
-ack_slot_apart (Snooping agent kind other) n slot free here = absurd cc
 ack_slot_apart (AwaitingCompAck agent other) n slot free here = other_slot (eqb agent.0 n) other slot free here
-ack_slot_apart (AwaitingWriteData agent kind other) n slot free here = absurd cc
+ack_slot_apart serving n slot free here = absurd cc
 
 pub write_slot_apart : (serving : Serving) (n : ℕ) (slot : Slot) → is_slot (slot_served_for serving n) slot ≡ false
     → writes_for serving n ≡ true → Some slot ≢ served_slot serving
-write_slot_apart Idle n slot free here = absurd cc
-write_slot_apart (Snooping agent kind other) n slot free here = absurd cc
-write_slot_apart (AwaitingCompAck agent other) n slot free here = absurd cc
 write_slot_apart (AwaitingWriteData agent kind other) n slot free here = other_slot (eqb agent.0 n) other slot free here
+write_slot_apart serving n slot free here = absurd cc
 
 pub uses_served : (a b c : Bool) → (a || (b || c)) ≡ false → c ≡ false
 uses_served a b c e = grind arith

@@ -1,5 +1,5 @@
 -- Steps that touch one agent's lane: what every line keeps needs to be shown of that lane alone.
-use Rattle.std.proofs.Common.{◌≡◌, ◌≢◌, ℕ, ◌<◌, List, Bool, false, Option, None, length, get_or, set, sym, subst, refl, ◌∙◌, ⊎_elim, arith}
+use Rattle.std.proofs.Common.{◌≡◌, ◌≢◌, ℕ, ◌<◌, List, Bool, true, false, Option, None, length, get_or, set, sym, subst, refl, ◌∙◌, ⊎_elim, arith}
 use Rattle.std.proofs.lemmas.List.{get_or-set_same, get_or-set_other, length-set}
 use Rattle.std.proofs.lemmas.Bool.{cases_eq}
 use Rattle.chi_flit.specs.declared.numbers.Agent.{Agent}
@@ -8,20 +8,23 @@ use Rattle.chi_wires.specs.Cell.{no_flits}
 use Rattle.chi_rnline.specs.Rn.{Rn, no_line}
 use Rattle.chi_homeline.specs.declared.serving.Waiting.{Waiting}
 use Rattle.chi_homeline.specs.declared.serving.Serving.{Serving}
-use Rattle.chi_line.specs.LineState.{LineState}
+use Rattle.chi_homeline.specs.Home.{Home, IsServedInRange}
+use Rattle.chi_filter.specs.Filter.{is_named}
+use Rattle.chi_line.specs.LineState.{LineState, rn_of}
 use Rattle.chi_line.specs.Coherent.{IsClean, IsCleanAgent}
 use Rattle.chi_line.specs.Kept.{Lane, LaneKept, Kept, lane}
 
--- a list whose entry n is a, and whose other entries stay
+-- a list whose entry n is a, whose other entries stay, and that is as long as before
 pub record Puts {A : Type 0} (d : A) (l l' : List A) (n : ℕ) (a : A) : Type 0 where
   pub at : get_or l' n d ≡ a
   pub others : (m : ℕ) → m ≢ n → get_or l' m d ≡ get_or l m d
+  pub long : length l' ≡ length l
 
 pub puts_set : {A : Type 0} (d : A) (l : List A) (n : ℕ) (a : A) → n < length l → Puts d l (set l n a) n a
-puts_set d l n a low = record { at = get_or-set_same l n a d low; others = λ m other. get_or-set_other l n m a d other }
+puts_set d l n a low = record { at = get_or-set_same l n a d low; others = λ m other. get_or-set_other l n m a d other; long = length-set l n a }
 
 pub puts_nothing : {A : Type 0} (d : A) (l : List A) (n : ℕ) → Puts d l l n (get_or l n d)
-puts_nothing d l n = record { at = refl; others = λ m other. refl }
+puts_nothing d l n = record { at = refl; others = λ m other. refl; long = refl }
 
 abbrev pub nothing_waiting : Option Waiting
 nothing_waiting = None
@@ -30,6 +33,11 @@ nothing_waiting = None
 pub record Moves (s s' : LineState) (n : ℕ) (x : Lane) : Type 0 where
   pub at : lane s' n ≡ x
   pub others : (m : ℕ) → m ≢ n → lane s' m ≡ lane s m
+  pub requesters : length s'.requesters ≡ length s.requesters
+  pub flits : length s'.flits ≡ length s.flits
+  pub named : length s'.home.filter.named ≡ length s.home.filter.named
+  pub awaited : length s'.home.awaited ≡ length s.home.awaited
+  pub waiting : length s'.home.waiting ≡ length s.home.waiting
 
 abbrev pub lane_of : Rn → Cells → Bool → Bool → Option Waiting → Lane
 lane_of r f m a w = record { rn = r; flits = f; named = m; awaited = a; waiting = w }
@@ -48,29 +56,25 @@ pub moves_by : (s s' : LineState) (n : ℕ) (x : Lane)
 moves_by s s' n x r f m a w = record {
   at = same_lane _ _ _ _ _ _ _ _ _ _ r.at f.at m.at a.at w.at;
   others = λ k other. same_lane _ _ _ _ _ _ _ _ _ _ (r.others k other) (f.others k other) (m.others k other) (a.others k other) (w.others k other);
+  requesters = r.long;
+  flits = f.long;
+  named = m.long;
+  awaited = a.long;
+  waiting = w.long;
 }
 
-within : (n k : ℕ) → n < 8 → k ≡ 8 → n < k
+pub within : (n k : ℕ) → n < 8 → k ≡ 8 → n < k
 within n k low is = omega arith
 
--- the record updates that steps make: the parts that they write at n, for a line whose lists are eight long
-pub moves_flits : (last : List ℕ) (s : LineState) (n : ℕ) (c : Cells) → n < 8 → Kept last s
-    → Moves s (record s { flits = set s.flits n c }) n (record (lane s n) { flits = c })
-moves_flits last s n c low k = moves_by s _ n _
-    (puts_nothing no_line s.requesters n)
-    (puts_set no_flits s.flits n c (within n _ low k.flits))
-    (puts_nothing false s.home.filter.named n)
-    (puts_nothing false s.home.awaited n)
-    (puts_nothing nothing_waiting s.home.waiting n)
-
-pub moves_requester : (last : List ℕ) (s : LineState) (n : ℕ) (r : Rn) (c : Cells) → n < 8 → Kept last s
-    → Moves s (record s { requesters = set s.requesters n r; flits = set s.flits n c }) n (record (lane s n) { rn = r; flits = c })
-moves_requester last s n r c low k = moves_by s _ n _
-    (puts_set no_line s.requesters n r (within n _ low k.requesters))
-    (puts_set no_flits s.flits n c (within n _ low k.flits))
-    (puts_nothing false s.home.filter.named n)
-    (puts_nothing false s.home.awaited n)
-    (puts_nothing nothing_waiting s.home.waiting n)
+-- a step at the home: the requesters stay
+pub moves_home : (s : LineState) (n : ℕ) (home : Home) (flits : List Cells) (x : Lane) → x.rn ≡ rn_of s n
+    → Puts no_flits s.flits flits n x.flits
+    → Puts false s.home.filter.named home.filter.named n x.named
+    → Puts false s.home.awaited home.awaited n x.awaited
+    → Puts nothing_waiting s.home.waiting home.waiting n x.waiting
+    → Moves s (record s { home = home; flits = flits }) n x
+moves_home s n home flits x same f m a w =
+    moves_by s _ n x (record { at = sym same; others = λ m other. refl; long = refl }) f m a w
 
 -- the lanes after a step, out of n's new lane and the old lanes of others beside what the home is now
 pub lanes_by : (s s' : LineState) (serving : Serving) (unique : Bool) (owner : Option Agent) (last : List ℕ) (n : ℕ) (x : Lane)
@@ -96,61 +100,58 @@ clean_by s s' n x moves here back clean m low =
     (λ (apart : m ≢ n). subst IsCleanLane (moves.others m apart) (clean m low))
     (cases_eq m n)
 
--- a step that changes only a requester and its flits
+-- what is left to show of a step that touches one agent's lane
+pub kept_moved : (before last : List ℕ) (s s' : LineState) (n : ℕ) (x : Lane) → Moves s s' n x → Kept before s → IsServedInRange s'.home.serving
+    → LaneKept s'.home.serving s'.home.filter.unique s'.home.filter.owner last n x
+    → ((m : ℕ) → m < 8 → m ≢ n → LaneKept s'.home.serving s'.home.filter.unique s'.home.filter.owner last m (lane s m))
+    → (s'.home.filter.unique ≡ true → (a b : ℕ) → a < 8 → b < 8 → is_named s'.home.filter a ≡ true → is_named s'.home.filter b ≡ true → a ≡ b)
+    → (IsClean s' → s'.home.memory ≡ last)
+    → Kept last s'
+kept_moved before last s s' n x moves k in_range own other one memory = record {
+  requesters = moves.requesters ∙ k.requesters;
+  flits = moves.flits ∙ k.flits;
+  named = moves.named ∙ k.named;
+  awaited = moves.awaited ∙ k.awaited;
+  waiting = moves.waiting ∙ k.waiting;
+  in_range = in_range;
+  lanes = lanes_by s s' s'.home.serving s'.home.filter.unique s'.home.filter.owner last n x moves own other;
+  flag_means_one = one;
+  memory_last = memory;
+}
+
+-- memory that stays is last still
+pub memory_by : (last : List ℕ) (s s' : LineState) (n : ℕ) (x : Lane) → n < 8 → Moves s s' n x → Kept last s
+    → (IsCleanLane x → IsCleanLane (lane s n)) → IsClean s' → s.home.memory ≡ last
+memory_by last s s' n x low moves k back clean = k.memory_last (clean_by s s' n x moves low back clean)
+
+-- a step that changes only a requester and its flits, or one of them
+kept_parts : (last : List ℕ) (s : LineState) (requesters : List Rn) (flits : List Cells) (n : ℕ) (r : Rn) (c : Cells) → n < 8 → Kept last s
+    → Puts no_line s.requesters requesters n r → Puts no_flits s.flits flits n c
+    → LaneKept s.home.serving s.home.filter.unique s.home.filter.owner last n (record (lane s n) { rn = r; flits = c })
+    → (IsCleanLane (record (lane s n) { rn = r; flits = c }) → IsCleanLane (lane s n))
+    → Kept last (record s { requesters = requesters; flits = flits })
+kept_parts last s requesters flits n r c low k rs fs own back =
+    let moves : Moves s (record s { requesters = requesters; flits = flits }) n (record (lane s n) { rn = r; flits = c }) = moves_by s _ n _ rs fs
+    (puts_nothing false s.home.filter.named n) (puts_nothing false s.home.awaited n) (puts_nothing nothing_waiting s.home.waiting n) in
+    kept_moved last last s _ n _ moves k k.in_range own (λ m at apart. k.lanes m at) k.flag_means_one (memory_by last s _ n _ low moves k back)
+
 pub kept_by : (last : List ℕ) (s : LineState) (n : ℕ) (r : Rn) (c : Cells) → n < 8 → Kept last s
     → LaneKept s.home.serving s.home.filter.unique s.home.filter.owner last n (record (lane s n) { rn = r; flits = c })
     → (IsCleanLane (record (lane s n) { rn = r; flits = c }) → IsCleanLane (lane s n))
     → Kept last (record s { requesters = set s.requesters n r; flits = set s.flits n c })
 kept_by last s n r c low k own back =
-    let moves = moves_requester last s n r c low k in
-    record {
-      requesters = length-set s.requesters n r ∙ k.requesters;
-      flits = length-set s.flits n c ∙ k.flits;
-      named = k.named;
-      awaited = k.awaited;
-      waiting = k.waiting;
-      in_range = k.in_range;
-      lanes = lanes_by s _ s.home.serving s.home.filter.unique s.home.filter.owner last n _ moves own (λ m at apart. k.lanes m at);
-      flag_means_one = k.flag_means_one;
-      memory_last = λ clean. k.memory_last (clean_by s _ n _ moves low back clean);
-    }
+    kept_parts last s _ _ n r c low k (puts_set no_line s.requesters n r (within n _ low k.requesters)) (puts_set no_flits s.flits n c (within n _ low k.flits)) own back
 
--- a step that changes only a requester
 pub kept_by_requester : (last : List ℕ) (s : LineState) (n : ℕ) (r : Rn) → n < 8 → Kept last s
     → LaneKept s.home.serving s.home.filter.unique s.home.filter.owner last n (record (lane s n) { rn = r })
     → (IsCleanLane (record (lane s n) { rn = r }) → IsCleanLane (lane s n))
     → Kept last (record s { requesters = set s.requesters n r })
 kept_by_requester last s n r low k own back =
-    let moves : Moves s (record s { requesters = set s.requesters n r }) n _ = moves_by s (record s { requesters = set s.requesters n r }) n (record (lane s n) { rn = r })
-    (puts_set no_line s.requesters n r (within n _ low k.requesters)) (puts_nothing no_flits s.flits n)
-    (puts_nothing false s.home.filter.named n) (puts_nothing false s.home.awaited n) (puts_nothing nothing_waiting s.home.waiting n) in
-    record {
-      requesters = length-set s.requesters n r ∙ k.requesters;
-      flits = k.flits;
-      named = k.named;
-      awaited = k.awaited;
-      waiting = k.waiting;
-      in_range = k.in_range;
-      lanes = lanes_by s _ s.home.serving s.home.filter.unique s.home.filter.owner last n _ moves own (λ m at apart. k.lanes m at);
-      flag_means_one = k.flag_means_one;
-      memory_last = λ clean. k.memory_last (clean_by s _ n _ moves low back clean);
-    }
+    kept_parts last s _ s.flits n r _ low k (puts_set no_line s.requesters n r (within n _ low k.requesters)) (puts_nothing no_flits s.flits n) own back
 
--- a step that changes only flits of one agent
 pub kept_by_flits : (last : List ℕ) (s : LineState) (n : ℕ) (c : Cells) → n < 8 → Kept last s
     → LaneKept s.home.serving s.home.filter.unique s.home.filter.owner last n (record (lane s n) { flits = c })
     → (IsCleanLane (record (lane s n) { flits = c }) → IsCleanLane (lane s n))
     → Kept last (record s { flits = set s.flits n c })
 kept_by_flits last s n c low k own back =
-    let moves = moves_flits last s n c low k in
-    record {
-      requesters = k.requesters;
-      flits = length-set s.flits n c ∙ k.flits;
-      named = k.named;
-      awaited = k.awaited;
-      waiting = k.waiting;
-      in_range = k.in_range;
-      lanes = lanes_by s _ s.home.serving s.home.filter.unique s.home.filter.owner last n _ moves own (λ m at apart. k.lanes m at);
-      flag_means_one = k.flag_means_one;
-      memory_last = λ clean. k.memory_last (clean_by s _ n _ moves low back clean);
-    }
+    kept_parts last s s.requesters _ n _ c low k (puts_nothing no_line s.requesters n) (puts_set no_flits s.flits n c (within n _ low k.flits)) own back

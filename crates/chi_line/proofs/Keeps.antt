@@ -1,5 +1,5 @@
 -- Each action keeps what a line keeps.
-use Rattle.std.proofs.Common.{◌≡◌, ◌≢◌, ℕ, ◌<◌, List, true, false, Some, None, is_some, eqb, set, arith, sym, subst, ap, ◌∙◌}
+use Rattle.std.proofs.Common.{refl, ◌≡◌, ◌≢◌, ℕ, ◌<◌, List, true, false, Some, None, is_some, eqb, set, arith, sym, subst, ap, ◌∙◌}
 use Rattle.std.proofs.lemmas.List.{length-set}
 use Rattle.chi_flit.specs.declared.numbers.Slot.{Slot}
 use Rattle.chi_flit.specs.declared.state.State.{State}
@@ -15,11 +15,11 @@ use Rattle.chi_wires.specs.Cell.{with_message}
 use Rattle.chi_rnline.specs.declared.pending.Phase.TheVariants.{Sent}
 use Rattle.chi_rnline.specs.Rn.{received, request_message}
 use Rattle.chi_homeline.specs.declared.serving.Serving.TheVariants.{Idle, AwaitingCompAck}
-use Rattle.chi_homeline.specs.Home.{waiting_of}
+use Rattle.chi_homeline.specs.Home.{acknowledged, admitted, waiting_of}
 use Rattle.chi_line.specs.LineState.{LineState, rn_of, cells_of}
 use Rattle.chi_line.specs.Kept.{LaneKept, Kept, lane}
 use Rattle.chi_line.specs.Step.{is_ack, is_slot, line_uses, slot_served_for, pending_slot, waiting_slot, issued_line, admitted_line, received_line, acknowledged_line}
-use Rattle.chi_line.proofs.Frame.{Moves, moves_by, puts_set, puts_nothing, lanes_by, clean_by, kept_by}
+use Rattle.chi_line.proofs.Frame.{kept_by, kept_moved, memory_by, moves_home, puts_set, puts_nothing, within}
 use Rattle.chi_line.proofs.Lanes.{issue_lane, evict_lane, admit_lane, receive_lane, acknowledge_lane, acknowledge_other}
 use Rattle.chi_line.proofs.Facts.{AwaitsAck, awaits_ack, acked_for_data, acked_for_ack, ack_slot_apart, write_slot_apart, uses_served, needed_allowed, evict_not_dirty}
 
@@ -52,14 +52,8 @@ issued_kind : (last : List ℕ) (s : LineState) (n : ℕ) (kind : Kind) (slot : 
     → (rn_of s n).pending ≡ None → is_needed kind (rn_of s n).state ≡ true
     → is_slot (slot_served_for s.home.serving n) slot ≡ false → Kept last s
     → Kept last (issued_line s n kind slot)
-issued_kind last s n ReadNotSharedDirty slot low none needed free k = issued_as_it_is last s n ReadNotSharedDirty slot low none (λ (e : ReadNotSharedDirty ≡ Evict). cc) needed free k
-issued_kind last s n ReadShared slot low none needed free k = issued_as_it_is last s n ReadShared slot low none (λ (e : ReadShared ≡ Evict). cc) needed free k
-issued_kind last s n ReadUnique slot low none needed free k = issued_as_it_is last s n ReadUnique slot low none (λ (e : ReadUnique ≡ Evict). cc) needed free k
-issued_kind last s n CleanUnique slot low none needed free k = issued_as_it_is last s n CleanUnique slot low none (λ (e : CleanUnique ≡ Evict). cc) needed free k
 issued_kind last s n Evict slot low none needed free k = issued_evict last s n slot low none needed free k
-issued_kind last s n WriteBackFull slot low none needed free k = issued_as_it_is last s n WriteBackFull slot low none (λ (e : WriteBackFull ≡ Evict). cc) needed free k
-issued_kind last s n WriteCleanFull slot low none needed free k = issued_as_it_is last s n WriteCleanFull slot low none (λ (e : WriteCleanFull ≡ Evict). cc) needed free k
-issued_kind last s n WriteEvictFull slot low none needed free k = issued_as_it_is last s n WriteEvictFull slot low none (λ (e : WriteEvictFull ≡ Evict). cc) needed free k
+issued_kind last s n other slot low none needed free k = issued_as_it_is last s n other slot low none (λ (e : other ≡ Evict). cc) needed free k
 
 -- Issue, of a slot that isn't in use at the line
 pub kept_issued : (last : List ℕ) (s : LineState) (n : ℕ) (kind : Kind) (slot : Slot) → n < 8
@@ -73,77 +67,44 @@ kept_issued last s n kind slot low none needed free k =
 pub kept_admitted : (last : List ℕ) (s : LineState) (n : ℕ) (request : Request) → n < 8
     → (cells_of s n).req ≡ Some request → Kept last s → Kept last (admitted_line s n request)
 kept_admitted last s n request low here k =
-    let moves : Moves s (admitted_line s n request) n _ = moves_by s (admitted_line s n request) n
-    (record (lane s n) { waiting = Some (record { kind = request.kind; slot = request.slot }); flits = record (cells_of s n) { req = None } })
-    (puts_nothing _ s.requesters n) (puts_set _ s.flits n _ (subst (λ l. n < l) (sym k.flits) low))
-    (puts_nothing _ s.home.filter.named n) (puts_nothing _ s.home.awaited n)
-    (puts_set _ s.home.waiting n _ (subst (λ l. n < l) (sym k.waiting) low)) in
-    record {
-      requesters = k.requesters;
-      flits = length-set s.flits n _ ∙ k.flits;
-      named = k.named;
-      awaited = k.awaited;
-      waiting = length-set s.home.waiting n _ ∙ k.waiting;
-      in_range = k.in_range;
-      lanes = lanes_by s _ s.home.serving s.home.filter.unique s.home.filter.owner last n _ moves
-          (admit_lane s.home.serving s.home.filter.unique s.home.filter.owner last n (lane s n) request here (k.lanes n low))
-          (λ m at apart. k.lanes m at);
-      flag_means_one = k.flag_means_one;
-      memory_last = λ clean. k.memory_last (clean_by s _ n _ moves low (λ c. record { copy = c.copy; on_its_way = c.on_its_way }) clean);
-    }
+    let moves = moves_home s n (admitted s.home n (record { kind = request.kind; slot = request.slot })) _
+    (record (lane s n) { waiting = Some (record { kind = request.kind; slot = request.slot }); flits = record (cells_of s n) { req = None } }) refl
+    (puts_set _ s.flits n _ (within n _ low k.flits)) (puts_nothing _ s.home.filter.named n) (puts_nothing _ s.home.awaited n) (puts_set _ s.home.waiting n _ (within n _ low k.waiting)) in
+    kept_moved last last s _ n _ moves k k.in_range
+    (admit_lane s.home.serving s.home.filter.unique s.home.filter.owner last n (lane s n) request here (k.lanes n low))
+    (λ m at apart. k.lanes m at) k.flag_means_one (memory_by last s _ n _ low moves k (λ c. c))
 
 -- a copy that the data of a read finds is clean
 not_dirty_none : (state : State) → state ≡ I → is_dirty state ≡ false
 not_dirty_none state is = ap is_dirty is
 
 -- RecvData
-received_awaited : (last : List ℕ) (s : LineState) (n : ℕ) (message : CompData) → n < 8
-    → (cells_of s n).dat_down ≡ Some message → AwaitsAck s.home.serving n → Kept last s → Kept last (received_line s n message)
-received_awaited last s n message low here awaits k =
+pub kept_received : (last : List ℕ) (s : LineState) (n : ℕ) (message : CompData) → n < 8
+    → (cells_of s n).dat_down ≡ Some message → Kept last s → Kept last (received_line s n message)
+kept_received last s n message low here k =
     let own : LaneKept s.home.serving s.home.filter.unique s.home.filter.owner last n (lane s n) = k.lanes n low in
+    let awaits : AwaitsAck s.home.serving n = awaits_ack s.home.serving n (acked_for_data s.home.serving s.home.filter.unique s.home.filter.owner last n (lane s n) message here own) in
     kept_by last s n _ _ low k
     (subst (λ v. LaneKept v s.home.filter.unique s.home.filter.owner last n (record (lane s n) { rn = received (rn_of s n) message; flits = record (cells_of s n) { dat_down = None; rsp_up = Some CompAck } })) (sym awaits.serving_is)
     (receive_lane awaits.agent awaits.slot s.home.filter.unique s.home.filter.owner last n (lane s n) message here
     (subst (λ v. LaneKept v s.home.filter.unique s.home.filter.owner last n (lane s n)) awaits.serving_is own)))
     (λ clean. record { copy = not_dirty_none (rn_of s n).state (own.read_finds_none (ap is_some here)); on_its_way = clean.on_its_way })
 
-pub kept_received : (last : List ℕ) (s : LineState) (n : ℕ) (message : CompData) → n < 8
-    → (cells_of s n).dat_down ≡ Some message → Kept last s → Kept last (received_line s n message)
-kept_received last s n message low here k =
-    received_awaited last s n message low here
-    (awaits_ack s.home.serving n (acked_for_data s.home.serving s.home.filter.unique s.home.filter.owner last n (lane s n) message here (k.lanes n low))) k
-
 -- RecvAck
 pub not_served : (agent n m : ℕ) → agent ≡ n → m ≢ n → eqb agent m ≡ false
 not_served agent n m is apart = grind arith
 
-acknowledged_awaited : (last : List ℕ) (s : LineState) (n : ℕ) → n < 8
-    → is_ack (cells_of s n).rsp_up ≡ true → AwaitsAck s.home.serving n → Kept last s → Kept last (acknowledged_line s n)
-acknowledged_awaited last s n low here awaits k =
-    let unique = s.home.filter.unique in
-    let owner = s.home.filter.owner in
-    let before : (m : ℕ) → m < 8 → LaneKept (AwaitingCompAck awaits.agent awaits.slot) unique owner last m (lane s m) =
-    λ m at. subst (λ v. LaneKept v unique owner last m (lane s m)) awaits.serving_is (k.lanes m at) in
-    let moves : Moves s (acknowledged_line s n) n _ = moves_by s (acknowledged_line s n) n
-    (record (lane s n) { flits = record (cells_of s n) { rsp_up = None } })
-    (puts_nothing _ s.requesters n) (puts_set _ s.flits n _ (subst (λ l. n < l) (sym k.flits) low))
-    (puts_nothing _ s.home.filter.named n) (puts_nothing _ s.home.awaited n) (puts_nothing _ s.home.waiting n) in
-    record {
-      requesters = k.requesters;
-      flits = length-set s.flits n _ ∙ k.flits;
-      named = k.named;
-      awaited = k.awaited;
-      waiting = k.waiting;
-      in_range = tt;
-      lanes = lanes_by s _ Idle unique owner last n _ moves
-          (acknowledge_lane awaits.agent awaits.slot unique owner last n (lane s n) here (before n low))
-          (λ m at apart. acknowledge_other awaits.agent awaits.slot unique owner last m (lane s m) (not_served awaits.agent.0 n m awaits.agent_is apart) (before m at));
-      flag_means_one = k.flag_means_one;
-      memory_last = λ clean. k.memory_last (clean_by s _ n _ moves low (λ c. record { copy = c.copy; on_its_way = c.on_its_way }) clean);
-    }
-
 pub kept_acknowledged : (last : List ℕ) (s : LineState) (n : ℕ) → n < 8
     → is_ack (cells_of s n).rsp_up ≡ true → Kept last s → Kept last (acknowledged_line s n)
 kept_acknowledged last s n low here k =
-    acknowledged_awaited last s n low here
-    (awaits_ack s.home.serving n (acked_for_ack s.home.serving s.home.filter.unique s.home.filter.owner last n (lane s n) here (k.lanes n low))) k
+    let unique = s.home.filter.unique in
+    let owner = s.home.filter.owner in
+    let awaits : AwaitsAck s.home.serving n = awaits_ack s.home.serving n (acked_for_ack s.home.serving unique owner last n (lane s n) here (k.lanes n low)) in
+    let before : (m : ℕ) → m < 8 → LaneKept (AwaitingCompAck awaits.agent awaits.slot) unique owner last m (lane s m) =
+    λ m at. subst (λ v. LaneKept v unique owner last m (lane s m)) awaits.serving_is (k.lanes m at) in
+    let moves = moves_home s n (acknowledged s.home) _ (record (lane s n) { flits = record (cells_of s n) { rsp_up = None } }) refl
+    (puts_set _ s.flits n _ (within n _ low k.flits)) (puts_nothing _ s.home.filter.named n) (puts_nothing _ s.home.awaited n) (puts_nothing _ s.home.waiting n) in
+    kept_moved last last s _ n _ moves k tt
+    (acknowledge_lane awaits.agent awaits.slot unique owner last n (lane s n) here (before n low))
+    (λ m at apart. acknowledge_other awaits.agent awaits.slot unique owner last m (lane s m) (not_served awaits.agent.0 n m awaits.agent_is apart) (before m at))
+    k.flag_means_one (memory_by last s _ n _ low moves k (λ c. c))

@@ -19,15 +19,12 @@ pub mod CopyTables
 pub mod CopyKeeps
 pub mod WriteLanes
 pub mod WriteKeeps
-pub mod Answered
 pub mod AnswerKeeps
 pub mod Sends
 pub mod Steps
 pub mod Views
 pub mod Wheres
 pub mod Elsewhere
-pub mod Untouched
-pub mod Finished
 pub mod Answering
 pub mod SeenMoves
 pub mod Trails

@@ -25,20 +25,10 @@ abbrev pub always_moves : Step → Bool
 always_moves (steps.Load word) = false
 always_moves (steps.Store word value) = false
 always_moves steps.Drop = false
-always_moves (steps.Issue kind slot) = true
-always_moves steps.Admit = true
-always_moves steps.Retry = true
-always_moves steps.RecvRetry = true
-always_moves steps.Resend = true
-always_moves steps.Cancel = true
 always_moves steps.Start = false
 always_moves steps.RecvSnp = false
 always_moves steps.RecvSnpResp = false
-always_moves steps.RecvData = true
-always_moves steps.RecvComp = true
-always_moves steps.RecvAck = true
-always_moves steps.RecvDbid = true
-always_moves steps.RecvWrData = true
+always_moves other = true
 
 -- where a request in flight is
 abbrev pub flit_at : Option Request → Option Where
@@ -55,43 +45,23 @@ completed_from (Some CompDBIDResp) = None
 
 -- where the moved request is before the step
 abbrev pub moved_from : LineState → Agent → Step → Option Where
-moved_from s agent (steps.Load word) = None
-moved_from s agent (steps.Store word value) = None
-moved_from s agent steps.Drop = None
-moved_from s agent (steps.Issue kind slot) = None
 moved_from s agent steps.Admit = flit_at (cells_of s agent.0).req
 moved_from s agent steps.Retry = Some Sent
 moved_from s agent steps.RecvRetry = Some Refused
 moved_from s agent steps.Resend = Some Retried
 moved_from s agent steps.Cancel = Some Retried
 moved_from s agent steps.Start = if_moved (moved_slot s agent steps.Start) Admitted
-moved_from s agent steps.RecvSnp = None
-moved_from s agent steps.RecvSnpResp = None
 moved_from s agent steps.RecvData = Some Admitted
 moved_from s agent steps.RecvComp = completed_from (cells_of s agent.0).rsp_down
 moved_from s agent steps.RecvAck = Some Answered
 moved_from s agent steps.RecvDbid = Some Admitted
 moved_from s agent steps.RecvWrData = Some Answered
+moved_from s agent other = None
 
 -- the kind of the request that a step issues
 abbrev pub issued_kind : Step → Option Kind
-issued_kind (steps.Load word) = None
-issued_kind (steps.Store word value) = None
-issued_kind steps.Drop = None
 issued_kind (steps.Issue kind slot) = Some kind
-issued_kind steps.Admit = None
-issued_kind steps.Retry = None
-issued_kind steps.RecvRetry = None
-issued_kind steps.Resend = None
-issued_kind steps.Cancel = None
-issued_kind steps.Start = None
-issued_kind steps.RecvSnp = None
-issued_kind steps.RecvSnpResp = None
-issued_kind steps.RecvData = None
-issued_kind steps.RecvComp = None
-issued_kind steps.RecvAck = None
-issued_kind steps.RecvDbid = None
-issued_kind steps.RecvWrData = None
+issued_kind other = None
 
 -- what a step that isn't refused does to the requests that a line shows: it moves one of its agent's slots or
 -- none, and the kinds that the line keeps have the credit types that they had

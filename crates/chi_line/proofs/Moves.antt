@@ -47,12 +47,11 @@ use Rattle.chi_line.proofs.Elsewhere.{SameCells, Stays, answer_up, answered_stay
 use Rattle.chi_line.proofs.Facts.{acked_for_ack}
 use Rattle.chi_line.proofs.Finds.{idle_is}
 use Rattle.chi_line.proofs.EqualSlots.{same_slot}
-use Rattle.chi_line.proofs.SeenMoves.{SeenMoved, admit_seen, answered_seen, cancelled_seen, closed_seen, ended_seen, evicted_seen, issue_seen, none_moved, resent_seen, retried_seen, retry_seen, started_seen}
+use Rattle.chi_line.proofs.SeenMoves.{Asked, SeenMoved, admit_seen, answered_seen, cancelled_seen, closed_seen, ended_seen, evicted_seen, issue_seen, none_moved, resent_seen, retried_seen, retry_seen, started_seen}
 use Rattle.chi_line.proofs.Sends.{CanStart, can_start}
 use Rattle.chi_line.proofs.Trails.{Trail, completed_trail, not_served, place_pending, requested_trail, responded_trail, retried_trail, waiting_trail}
-use Rattle.chi_line.proofs.Typed.{elsewhere_types, issued_types, own_types}
-use Rattle.chi_line.proofs.Untouched.{is_free}
-use Rattle.chi_line.proofs.Wheres.{acked_for, waits_not, written_for}
+use Rattle.chi_line.proofs.Typed.{issued_types, stays_asked, step_types}
+use Rattle.chi_line.proofs.Wheres.{is_free, acked_for, waits_not, written_for}
 
 copy_seen : (s : LineState) (n : ℕ) (r : Rn) → n < length s.requesters → seen_of (record s { requesters = set s.requesters n r }) n ≡ record (seen_of s n) { pending = r.pending }
 copy_seen s n r low = ap (λ (x : Rn). record (seen_of s n) { pending = x.pending }) (get_or-set_same s.requesters n r no_line low)
@@ -91,8 +90,7 @@ here_of last s n low k = record {
 }
 
 none_is : {A : Type 0} (o : Option A) → is_some o ≡ false → o ≡ None
-none_is None h = refl
-none_is (Some a) h = absurd (cc (h))
+none_is o h = search arith
 
 -- a pending request that neither waits nor is served isn't at the home
 away_at : (last : List ℕ) (s : LineState) (n : ℕ) (requested responded retried : Bool) → Here last s n → Trail s.home.serving n (lane s n) requested false false responded retried
@@ -116,7 +114,7 @@ shows_by x y x' moved from to m same = subst (λ (z : Seen). SeenMoved x z moved
 
 -- a step that moves no request
 shows_same : (s s' : LineState) (n : ℕ) → seen_of s' n ≡ seen_of s n → Shows s s' n None None None
-shows_same s s' n same = none_moved (seen_of s n) (seen_of s' n) (λ slot. ap (λ (x : Seen). where_in x slot) same)
+shows_same s s' n same = none_moved (seen_of s n) (seen_of s' n) (λ slot. ap (λ (x : Seen). where_in x slot) same) (λ profile ty slot t. subst (λ (x : Seen). Asked profile ty x slot) (sym same) t)
 
 -- Issue
 issue_shows : (last : List ℕ) (s : LineState) (n : ℕ) (kind : Kind) (own : Slot) → Here last s n → (rn_of s n).pending ≡ None → line_uses s n own ≡ false
@@ -167,7 +165,7 @@ resend_shows : (last : List ℕ) (s : LineState) (n : ℕ) (there : Option Pendi
 resend_shows last s n None h here may = absurd (cc (may.is))
 resend_shows last s n (Some request) h here may =
     shows_by _ _ _ _ _ _
-    (resent_seen (seen_of s n) request.kind request.slot (ap is_retried here ∙ is_retried_by (Some request) may))
+    (resent_seen (seen_of s n) request here (ap is_retried here ∙ is_retried_by (Some request) may))
     (both_seen s n _ _ h.requesters h.flits)
 
 -- Cancel
@@ -196,8 +194,6 @@ data_shows last s n (Some message) h here is =
 -- RecvComp
 comp_shows : (last : List ℕ) (s : LineState) (n : ℕ) (there : Option RspDown) → Here last s n → (cells_of s n).rsp_down ≡ there → is_comp there ≡ true
     → Shows s (completion_received s n there) n (pending_slot (rn_of s n).pending) (completed_from there) (completed_to there)
-comp_shows last s n None h here is = absurd (cc (is))
-comp_shows last s n (Some (RetryAck ty)) h here is = absurd (cc (is))
 comp_shows last s n (Some CompUC) h here is =
     let t : Trail s.home.serving n (lane s n) false false false true false = responded_trail _ _ _ last n (lane s n) (ap is_some here) h.lane_kept in
     let unique : is_comp_unique (cells_of s n).rsp_down ≡ true = ap is_comp_unique here in
@@ -210,7 +206,7 @@ comp_shows last s n (Some CompI) h here is =
     shows_by _ _ _ _ _ _
     (closed_seen (seen_of s n) (none_is (cells_of s n).req t.request) here t.phase (away_at last s n false true false h t (ap is_comp_unique here) (ap is_dbid here)))
     (both_seen s n _ _ h.requesters h.flits)
-comp_shows last s n (Some CompDBIDResp) h here is = absurd (cc (is))
+comp_shows last s n there h here is = absurd (cc (is))
 
 -- RecvDbid
 dbid_shows : (last : List ℕ) (s : LineState) (n : ℕ) (there : Option Pending) → Here last s n → (cells_of s n).rsp_down ≡ Some CompDBIDResp → is_some there ≡ true
@@ -257,22 +253,16 @@ ack_shows last s n h is =
 
 write_shows : (last : List ℕ) (s : LineState) (n : ℕ) (kind : Kind) (there : Option DatUp) → Here last s n → (cells_of s n).dat_up ≡ there → is_write_data there ≡ true
     → Shows s (data_written s n kind there) n (completed_slot (completed_effect (served_slot s.home.serving))) (Some places.Answered) None
-write_shows last s n kind None h here is = absurd (cc (is))
-write_shows last s n kind (Some (SnpRespDataIPD words)) h here is = absurd (cc (is))
-write_shows last s n kind (Some (SnpRespDataSCPD words)) h here is = absurd (cc (is))
-write_shows last s n kind (Some (SnpRespDataSD words)) h here is = absurd (cc (is))
 write_shows last s n kind (Some (CopyBackWrData form words)) h here is =
     let data_there : is_write_data (cells_of s n).dat_up ≡ true = ap is_write_data here in
     ended_shows last s (written_line s n kind form words) n h (home_seen s n (written s.home n kind form words) _ _ _ h.flits refl refl)
     (written_for s.home.serving n (write_awaited _ _ _ last n (lane s n) data_there h.lane_kept))
     (h.lane_kept.write_apart data_there)
+write_shows last s n kind there h here is = absurd (cc (is))
 
 -- write data is awaited of a request whose kind is known
 written_kind : (serving : Serving) (n : ℕ) → writes_for serving n ≡ true → is_some (served_kind serving) ≡ true
-written_kind Idle n here = absurd (cc (here))
-written_kind (Snooping agent kind slot) n here = absurd (cc (here))
-written_kind (AwaitingCompAck agent slot) n here = absurd (cc (here))
-written_kind (AwaitingWriteData agent kind slot) n here = refl
+written_kind serving n here = search arith
 
 wrdata_shows : (last : List ℕ) (s : LineState) (n : ℕ) (there : Option Kind) → Here last s n → is_some there ≡ true → is_write_data (cells_of s n).dat_up ≡ true
     → Shows s (where_some s there (λ (kind : Kind). data_written s n kind (cells_of s n).dat_up)) n (completed_slot (completed_effect (served_slot s.home.serving))) (Some places.Answered) None
@@ -290,7 +280,9 @@ snoop_shows s n (Some snoop) low flits =
 answer_shows : (last : List ℕ) (s : LineState) (agent : Agent) (there : Option SnoopAnswer) → agent.0 < 8 → Kept last s → Shows s (where_some s there (answered_by s agent)) agent.0 None None None
 answer_shows last s agent None low k = shows_same s s agent.0 refl
 answer_shows last s agent (Some answer) low k =
-    none_moved (seen_of s agent.0) (seen_of (answered_by s agent answer) agent.0) (λ slot. stays_where s (answered_by s agent answer) agent.0 slot (answered_stays last s agent answer agent.0 low k))
+    let stays : Stays s (answered_by s agent answer) agent.0 = answered_stays last s agent answer agent.0 low k in
+    none_moved (seen_of s agent.0) (seen_of (answered_by s agent answer) agent.0) (λ slot. stays_where s (answered_by s agent answer) agent.0 slot stays)
+    (λ profile ty slot t. stays_asked profile ty s (answered_by s agent answer) agent.0 slot stays t)
 
 -- Start: what the home sends to the agent leaves its request's cell
 served_own : (n : ℕ) (own : Slot) → (if n == n then Some own else None) ≡ Some own
@@ -445,26 +437,19 @@ step_shows c last profile s agent steps.RecvWrData h may free =
 
 -- The steps that move a request find it.
 slot_there : (p : Option Pending) → is_some p ≡ true → is_some (pending_slot p) ≡ true
-slot_there None h = absurd (cc (h))
-slot_there (Some request) h = refl
+slot_there p h = search arith
 
 flit_slot_there : (q : Option Request) → is_some q ≡ true → is_some (requested_slot q) ≡ true
-flit_slot_there None h = absurd (cc (h))
-flit_slot_there (Some request) h = refl
+flit_slot_there q h = search arith
 
 retry_slot_there : (q : Option Request) → retry_refusal q ≡ None → is_some (requested_slot q) ≡ true
-retry_slot_there None may = absurd (cc (may))
-retry_slot_there (Some request) may = refl
+retry_slot_there q may = search arith
 
 retried_there : (p : Option Pending) → IsRetried p → is_some (pending_slot p) ≡ true
-retried_there None may = absurd (cc (may.is))
-retried_there (Some request) may = refl
+retried_there p may = search arith
 
 served_there : (serving : Serving) (n : ℕ) → acks_for serving n || writes_for serving n ≡ true → is_some (completed_slot (completed_effect (served_slot serving))) ≡ true
-served_there Idle n here = absurd (cc (here))
-served_there (Snooping agent kind slot) n here = absurd (cc (here))
-served_there (AwaitingCompAck agent slot) n here = refl
-served_there (AwaitingWriteData agent kind slot) n here = refl
+served_there serving n here = search arith
 
 -- what is on its way to an agent is for its pending request
 answered_there : (last : List ℕ) (s : LineState) (n : ℕ) → Here last s n → is_some (cells_of s n).dat_down || is_some (cells_of s n).rsp_down ≡ true → is_some (pending_slot (rn_of s n).pending) ≡ true
@@ -474,13 +459,9 @@ response_there : (last : List ℕ) (s : LineState) (n : ℕ) (response : RspDown
 response_there last s n response h here = answered_there last s n h (or_right (is_some (cells_of s n).dat_down) (is_some (cells_of s n).rsp_down) (ap is_some here))
 
 comp_there : (there : Option RspDown) → is_comp there ≡ true → is_some there ≡ true
-comp_there None h = absurd (cc (h))
-comp_there (Some response) h = refl
+comp_there there h = search arith
 
 moved_there : (c : Conditions) (last : List ℕ) (s : LineState) (agent : Agent) (step : Step) → Here last s agent.0 → step_refusal c s agent step ≡ None → always_moves step ≡ true → is_some (moved_slot s agent step) ≡ true
-moved_there c last s agent (steps.Load word) h may moves = absurd (cc (moves))
-moved_there c last s agent (steps.Store word value) h may moves = absurd (cc (moves))
-moved_there c last s agent steps.Drop h may moves = absurd (cc (moves))
 moved_there c last s agent (steps.Issue kind slot) h may moves = refl
 moved_there c last s agent steps.Admit h may moves = flit_slot_there (cells_of s agent.0).req (flit_there (is_some (cells_of s agent.0).req) may)
 moved_there c last s agent steps.Retry h may moves = retry_slot_there (cells_of s agent.0).req may
@@ -489,9 +470,6 @@ moved_there c last s agent steps.RecvRetry h may moves =
     response_there last s agent.0 (RetryAck there.0) h there.1
 moved_there c last s agent steps.Resend h may moves = retried_there (rn_of s agent.0).pending (may_resend c s agent may)
 moved_there c last s agent steps.Cancel h may moves = retried_there (rn_of s agent.0).pending (cancel_allowed (rn_of s agent.0).state (rn_of s agent.0).pending may)
-moved_there c last s agent steps.Start h may moves = absurd (cc (moves))
-moved_there c last s agent steps.RecvSnp h may moves = absurd (cc (moves))
-moved_there c last s agent steps.RecvSnpResp h may moves = absurd (cc (moves))
 moved_there c last s agent steps.RecvData h may moves = answered_there last s agent.0 h (or_left (is_some (cells_of s agent.0).dat_down) (is_some (cells_of s agent.0).rsp_down) (flit_there (is_some (cells_of s agent.0).dat_down) may))
 moved_there c last s agent steps.RecvComp h may moves =
     answered_there last s agent.0 h (or_right (is_some (cells_of s agent.0).dat_down) (is_some (cells_of s agent.0).rsp_down) (comp_there (cells_of s agent.0).rsp_down (flit_there (is_comp (cells_of s agent.0).rsp_down) may)))
@@ -500,36 +478,47 @@ moved_there c last s agent steps.RecvAck h may moves =
 moved_there c last s agent steps.RecvDbid h may moves = response_there last s agent.0 CompDBIDResp h (dbid_there (cells_of s agent.0).rsp_down (flit_there (is_dbid (cells_of s agent.0).rsp_down) may))
 moved_there c last s agent steps.RecvWrData h may moves =
     served_there s.home.serving agent.0 (or_right (acks_for s.home.serving agent.0) (writes_for s.home.serving agent.0) (write_awaited _ _ _ last agent.0 (lane s agent.0) (flit_there (is_write_data (cells_of s agent.0).dat_up) may) h.lane_kept))
+moved_there c last s agent other h may moves = absurd (cc (moves))
+
+-- a request that a step moves is there before it, but the one that an Issue begins
+no_flit : (request : Option Request) (slot : Slot) → is_slot (requested_slot request) slot ≡ true → flit_at request ≡ None → ⊥
+no_flit None slot is none = cc (is)
+no_flit (Some request) slot is none = go request.allow_retry none
+  where
+    go : (b : Bool) → (if b then Some places.Sent else Some places.Riding) ≡ None → ⊥
+    go true none = cc (none)
+    go false none = cc (none)
+
+no_response : (response : Option RspDown) → is_comp response ≡ true → completed_from response ≡ None → ⊥
+no_response None is none = cc (is)
+no_response (Some (RetryAck ty)) is none = cc (is)
+no_response (Some CompUC) is none = cc (none)
+no_response (Some CompI) is none = cc (none)
+no_response (Some CompDBIDResp) is none = cc (is)
+
+not_both : (a : Bool) → a ≡ true → a ≡ false → ⊥
+not_both a x y = cc
+
+none_there : (moved : Option Slot) (slot : Slot) (at : Where) → is_slot moved slot ≡ true → if_moved moved at ≡ None → ⊥
+none_there None slot at is none = cc (is)
+none_there (Some own) slot at is none = cc (none)
+
+pub was_there : (c : Conditions) (s : LineState) (agent : Agent) (step : Step) (slot : Slot) → step_refusal c s agent step ≡ None → is_slot (issued_slot step) slot ≡ false → is_slot (moved_slot s agent step) slot ≡ true → moved_from s agent step ≡ None → ⊥
+was_there c s agent (steps.Issue kind own) slot may named is none = not_both (own.0 == slot.0) is named
+was_there c s agent steps.Admit slot may named is none = no_flit (cells_of s agent.0).req slot is none
+was_there c s agent steps.Start slot may named is none = none_there (moved_slot s agent steps.Start) slot places.Admitted is none
+was_there c s agent steps.RecvComp slot may named is none = no_response (cells_of s agent.0).rsp_down (flit_there (is_comp (cells_of s agent.0).rsp_down) may) none
+was_there c s agent other slot may named is none = cc
 
 -- the slot that an Issue names has the type of the kind that it names
 issued_there : (last : List ℕ) (profile : Profile) (s : LineState) (agent : Agent) (step : Step) (kind : Kind) (slot : Slot) → Here last s agent.0 → names_used_slot s agent.0 step ≡ false
     → issued_kind step ≡ Some kind → is_slot (issued_slot step) slot ≡ true → is_of_type profile (credit_type_of profile kind) (after_step profile s agent step) agent.0 slot ≡ true
-issued_there last profile s agent (steps.Load word) kind slot h free is same = absurd (cc (is))
-issued_there last profile s agent (steps.Store word value) kind slot h free is same = absurd (cc (is))
-issued_there last profile s agent steps.Drop kind slot h free is same = absurd (cc (is))
 issued_there last profile s agent (steps.Issue named own) kind slot h free is same =
     let kinds : named ≡ kind = cc (is) in
     subst (λ (x : Kind). is_of_type profile (credit_type_of profile x) (issued_line s agent.0 named own) agent.0 slot ≡ true) kinds
     (subst (λ (x : Slot). is_of_type profile (credit_type_of profile named) (issued_line s agent.0 named own) agent.0 x ≡ true) (same_slot own slot same)
     (issued_types profile s agent.0 named own h.requesters h.flits (is_free s agent.0 own free)))
-issued_there last profile s agent steps.Admit kind slot h free is same = absurd (cc (is))
-issued_there last profile s agent steps.Retry kind slot h free is same = absurd (cc (is))
-issued_there last profile s agent steps.RecvRetry kind slot h free is same = absurd (cc (is))
-issued_there last profile s agent steps.Resend kind slot h free is same = absurd (cc (is))
-issued_there last profile s agent steps.Cancel kind slot h free is same = absurd (cc (is))
-issued_there last profile s agent steps.Start kind slot h free is same = absurd (cc (is))
-issued_there last profile s agent steps.RecvSnp kind slot h free is same = absurd (cc (is))
-issued_there last profile s agent steps.RecvSnpResp kind slot h free is same = absurd (cc (is))
-issued_there last profile s agent steps.RecvData kind slot h free is same = absurd (cc (is))
-issued_there last profile s agent steps.RecvComp kind slot h free is same = absurd (cc (is))
-issued_there last profile s agent steps.RecvAck kind slot h free is same = absurd (cc (is))
-issued_there last profile s agent steps.RecvDbid kind slot h free is same = absurd (cc (is))
-issued_there last profile s agent steps.RecvWrData kind slot h free is same = absurd (cc (is))
-
--- the other agents' slots
-elsewhere : (c : Conditions) (last : List ℕ) (s : LineState) (agent : Agent) (step : Step) (n : ℕ) → agent.0 < 8 → Kept last s → step_refusal c s agent step ≡ None → n < 8 → n ≢ agent.0
-    → Stays s (after_step c.profile s agent step) n
-elsewhere c last s agent step n low k may at apart = stays_elsewhere c last s agent step n low at apart may k
+issued_there last profile s agent other kind slot h free is same = absurd (cc (is))
 
 pub moves : (c : Conditions) (last : List ℕ) (s : LineState) (agent : Agent) (step : Step) → agent.0 < 8 → Kept last s → step_refusal c s agent step ≡ None → names_used_slot s agent.0 step ≡ false
     → Moved c.profile s agent step
@@ -542,8 +531,8 @@ moves c last s agent step low k may free =
       found = shows.found;
       left = shows.left;
       stay = shows.stay;
-      others = λ n slot at apart. stays_where s (after_step profile s agent step) n slot (elsewhere c last s agent step n low k may at apart);
-      types = λ slot ty other is. own_types profile last s agent step slot ty low k other is;
-      other_types = λ n slot ty at apart is. elsewhere_types profile s agent step n slot ty apart (elsewhere c last s agent step n low k may at apart) is;
+      others = λ n slot at apart. stays_where s (after_step profile s agent step) n slot (stays_elsewhere c last s agent step n low at apart may k);
+      types = λ slot ty other. step_types profile s agent step agent.0 slot ty (shows.kinds profile ty slot (was_there c s agent step slot may other));
+      other_types = λ n slot ty at apart. step_types profile s agent step n slot ty (stays_asked profile ty s (after_step profile s agent step) n slot (stays_elsewhere c last s agent step n low at apart may k));
       issued_type = λ kind slot is same. issued_there last profile s agent step kind slot h free is same;
     }

@@ -17,7 +17,7 @@ use Rattle.chi_rnline.specs.Rn.{is_clean_copy, stored}
 use Rattle.chi_line.specs.LineState.{LineState, rn_of, cells_of}
 use Rattle.chi_line.specs.Kept.{Lane, Kept, lane}
 use Rattle.chi_line.specs.Step.{stored_line, dropped_line, retried_line, retry_received_line, resent_line, cancelled_line, evict_received_line}
-use Rattle.chi_line.proofs.Frame.{IsCleanLane, Moves, moves_by, puts_set, puts_nothing, lanes_by, kept_by, kept_by_requester, kept_by_flits}
+use Rattle.chi_line.proofs.Frame.{IsCleanLane, Moves, moves_by, puts_set, puts_nothing, kept_by, kept_by_requester, kept_by_flits, kept_moved, within}
 use Rattle.chi_line.proofs.Coherence.{unique_valid}
 use Rattle.chi_line.proofs.RetryLanes.{store_lane, store_other, drop_lane, retry_lane, retry_received_lane, resend_lane, cancel_lane, evict_received_lane}
 
@@ -35,25 +35,16 @@ kept_dropped last s n low none clean_copy k =
 pub kept_stored : (last : List ℕ) (s : LineState) (n word value : ℕ) → n < 8
     → (rn_of s n).pending ≡ None → is_unique (rn_of s n).state ≡ true → Kept last s → Kept (set last word value) (stored_line s n word value)
 kept_stored last s n word value low none alone k =
-    let moves : Moves s (stored_line s n word value) n _ = moves_by s (stored_line s n word value) n (record (lane s n) { rn = stored (rn_of s n) word value })
-    (puts_set _ s.requesters n _ (subst (λ l. n < l) (sym k.requesters) low)) (puts_nothing _ s.flits n)
-    (puts_nothing _ s.home.filter.named n) (puts_nothing _ s.home.awaited n) (puts_nothing _ s.home.waiting n) in
+    let moves : Moves s (stored_line s n word value) n (record (lane s n) { rn = stored (rn_of s n) word value }) = moves_by s (stored_line s n word value) n _
+    (puts_set _ s.requesters n _ (within n _ low k.requesters)) (puts_nothing _ s.flits n) (puts_nothing _ s.home.filter.named n) (puts_nothing _ s.home.awaited n) (puts_nothing _ s.home.waiting n) in
     let named_here : is_named s.home.filter n ≡ true = (k.lanes n low).holder_named (unique_valid (rn_of s n).state alone) in
     let flagged : s.home.filter.unique ≡ true = (k.lanes n low).unique_flagged alone in
-    record {
-      requesters = length-set s.requesters n _ ∙ k.requesters;
-      flits = k.flits;
-      named = k.named;
-      awaited = k.awaited;
-      waiting = k.waiting;
-      in_range = k.in_range;
-      lanes = lanes_by s _ s.home.serving s.home.filter.unique s.home.filter.owner (set last word value) n _ moves
-          (store_lane s.home.serving s.home.filter.unique s.home.filter.owner last n (lane s n) word value none alone (k.lanes n low))
-          (λ m at apart. store_other s.home.serving s.home.filter.unique s.home.filter.owner last (set last word value) m (lane s m)
-          (false_from_ne_true (is_named s.home.filter m) (λ named. apart (k.flag_means_one flagged m n at low named named_here))) (k.lanes m at));
-      flag_means_one = k.flag_means_one;
-      memory_last = λ clean. absurd (dirty_now (lane (stored_line s n word value) n) (ap (λ (x : Lane). x.rn.state) moves.at) (clean n low));
-    }
+    kept_moved last (set last word value) s _ n _ moves k k.in_range
+    (store_lane s.home.serving s.home.filter.unique s.home.filter.owner last n (lane s n) word value none alone (k.lanes n low))
+    (λ m at apart. store_other s.home.serving s.home.filter.unique s.home.filter.owner last (set last word value) m (lane s m)
+    (false_from_ne_true (is_named s.home.filter m) (λ named. apart (k.flag_means_one flagged m n at low named named_here))) (k.lanes m at))
+    k.flag_means_one
+    (λ clean. absurd (dirty_now (lane (stored_line s n word value) n) (ap (λ (x : Lane). x.rn.state) moves.at) (clean n low)))
   where
     dirty_now : (x : Lane) → x.rn.state ≡ UD → IsCleanLane x → ⊥
     dirty_now x is clean = (let c = clean.copy in cc)

@@ -27,7 +27,7 @@ use Rattle.chi_line.specs.LineState.{LineState, cells_of}
 use Rattle.chi_line.specs.Step.{sent, started_line}
 use Rattle.chi_line.specs.Coherent.{IsClean, passes_dirty}
 use Rattle.chi_line.specs.Kept.{Kept, Lane, LaneKept, allows, invalidates, lane}
-use Rattle.chi_line.proofs.Frame.{IsCleanLane, Moves, moves_by, puts_nothing, puts_set, nothing_waiting, lanes_by, clean_by, same_lane}
+use Rattle.chi_line.proofs.Frame.{IsCleanLane, kept_moved, memory_by, moves_home, puts_nothing, puts_set, nothing_waiting, same_lane, within}
 use Rattle.chi_line.proofs.Finds.{idle_awaits_nobody, idle_is}
 use Rattle.chi_line.proofs.Asks.{AsksFit, asks_fit, apart, same, has_in, none_in, left_in, length-others, was_in}
 use Rattle.chi_line.proofs.SnoopRows.{length-with_snoops, snooped_at, snooped_cells}
@@ -56,8 +56,7 @@ snooping_line s agent request snoop marks = record s {
 }
 
 snooped_up : (marked : Bool) (snoop : Snoop) (cells : Cells) → (snooped_cells marked snoop cells).dat_up ≡ cells.dat_up
-snooped_up true snoop cells = refl
-snooped_up false snoop cells = refl
+snooped_up marked snoop cells = search arith
 
 -- what makes an agent marked doesn't hold of one that isn't
 unmarked : (holds marked : Bool) → (holds ≡ true → marked ≡ true) → marked ≡ false → holds ≡ false
@@ -140,28 +139,14 @@ asking_kept : (last : List ℕ) (s : LineState) (agent : Agent) (request : Waiti
     → Kept last (asking_line s agent request)
 asking_kept last s agent request snoop may is unnamed =
     let k = may.kept in
-    let s' : LineState = asking_line s agent request in
-    let x : Lane = record (lane s agent.0) { waiting = None } in
-    let moves : Moves s s' agent.0 x = moves_by s s' agent.0 x
-    (puts_nothing no_line s.requesters agent.0)
-    (puts_nothing no_flits s.flits agent.0)
-    (puts_nothing false s.home.filter.named agent.0)
-    (puts_nothing false s.home.awaited agent.0)
-    (puts_set nothing_waiting s.home.waiting agent.0 nothing_waiting (omega (arith, k.waiting, may.here))) in
-    record {
-      requesters = k.requesters;
-      flits = k.flits;
-      named = k.named;
-      awaited = k.awaited;
-      waiting = length-set s.home.waiting agent.0 None ∙ k.waiting;
-      in_range = may.here;
-      lanes = lanes_by s s' (Snooping agent request.kind request.slot) s.home.filter.unique s.home.filter.owner last agent.0 x moves
-          (asking_own s.home.filter.unique s.home.filter.owner last agent request (lane s agent.0) may.waits (same agent.0) (idle_lanes last s agent request may agent.0 may.here))
-          (λ m low other. asking_other s.home.filter.unique s.home.filter.owner last agent request.kind request.slot m (lane s m) (apart agent.0 m other)
-          (λ invalidating. unnamed (subst (λ v. invalidates v ≡ true) is invalidating) m low other) (idle_lanes last s agent request may m low));
-      flag_means_one = k.flag_means_one;
-      memory_last = λ clean. k.memory_last (λ m low. record { copy = (clean m low).copy; on_its_way = (clean m low).on_its_way });
-    }
+    let moves = moves_home s agent.0 (record (taken_up s.home agent.0) { serving = Snooping agent request.kind request.slot }) s.flits (record (lane s agent.0) { waiting = None }) refl
+    (puts_nothing no_flits s.flits agent.0) (puts_nothing false s.home.filter.named agent.0) (puts_nothing false s.home.awaited agent.0)
+    (puts_set nothing_waiting s.home.waiting agent.0 nothing_waiting (within agent.0 _ may.here k.waiting)) in
+    kept_moved last last s _ agent.0 _ moves k may.here
+    (asking_own s.home.filter.unique s.home.filter.owner last agent request (lane s agent.0) may.waits (same agent.0) (idle_lanes last s agent request may agent.0 may.here))
+    (λ m low other. asking_other s.home.filter.unique s.home.filter.owner last agent request.kind request.slot m (lane s m) (apart agent.0 m other)
+    (λ invalidating. unnamed (subst (λ v. invalidates v ≡ true) is invalidating) m low other) (idle_lanes last s agent request may m low))
+    k.flag_means_one (memory_by last s _ agent.0 _ may.here moves k (λ c. c))
 
 -- where nobody is asked no other lane has a dirty copy
 nobody_dirty : (last : List ℕ) (s : LineState) (agent : Agent) (request : Waiting) (snoop : Snoop) (marks : List Bool)
@@ -217,28 +202,13 @@ writing_kept : (last : List ℕ) (s : LineState) (agent : Agent) (request : Wait
 writing_kept last s agent request may =
     let k = may.kept in
     let c : Cells = record (cells_of s agent.0) { rsp_down = Some CompDBIDResp } in
-    let s' : LineState = record s { home = record (taken_up s.home agent.0) { serving = AwaitingWriteData agent request.kind request.slot }; flits = slice_set s.flits agent.0 c } in
-    let x : Lane = record (lane s agent.0) { waiting = None; flits = c } in
-    let moves : Moves s s' agent.0 x = moves_by s s' agent.0 x
-    (puts_nothing no_line s.requesters agent.0)
-    (puts_set no_flits s.flits agent.0 c (omega (arith, k.flits, may.here)))
-    (puts_nothing false s.home.filter.named agent.0)
-    (puts_nothing false s.home.awaited agent.0)
-    (puts_set nothing_waiting s.home.waiting agent.0 nothing_waiting (omega (arith, k.waiting, may.here))) in
-    let back : IsCleanLane x → IsCleanLane (lane s agent.0) = λ (clean : IsCleanLane x). record { copy = clean.copy; on_its_way = clean.on_its_way } in
-    record {
-      requesters = k.requesters;
-      flits = length-set s.flits agent.0 c ∙ k.flits;
-      named = k.named;
-      awaited = k.awaited;
-      waiting = length-set s.home.waiting agent.0 None ∙ k.waiting;
-      in_range = may.here;
-      lanes = lanes_by s s' (AwaitingWriteData agent request.kind request.slot) s.home.filter.unique s.home.filter.owner last agent.0 x moves
-          (writing_own s.home.filter.unique s.home.filter.owner last agent request (lane s agent.0) may.waits (same agent.0) (idle_lanes last s agent request may agent.0 may.here))
-          (λ m low other. writing_other s.home.filter.unique s.home.filter.owner last agent request.kind request.slot m (lane s m) (apart agent.0 m other) (idle_lanes last s agent request may m low));
-      flag_means_one = k.flag_means_one;
-      memory_last = λ clean. k.memory_last (clean_by s s' agent.0 x moves may.here back clean);
-    }
+    let moves = moves_home s agent.0 (record (taken_up s.home agent.0) { serving = AwaitingWriteData agent request.kind request.slot }) _ (record (lane s agent.0) { waiting = None; flits = c }) refl
+    (puts_set no_flits s.flits agent.0 c (within agent.0 _ may.here k.flits)) (puts_nothing false s.home.filter.named agent.0) (puts_nothing false s.home.awaited agent.0)
+    (puts_set nothing_waiting s.home.waiting agent.0 nothing_waiting (within agent.0 _ may.here k.waiting)) in
+    kept_moved last last s _ agent.0 _ moves k may.here
+    (writing_own s.home.filter.unique s.home.filter.owner last agent request (lane s agent.0) may.waits (same agent.0) (idle_lanes last s agent request may agent.0 may.here))
+    (λ m low other. writing_other s.home.filter.unique s.home.filter.owner last agent request.kind request.slot m (lane s m) (apart agent.0 m other) (idle_lanes last s agent request may m low))
+    k.flag_means_one (memory_by last s _ agent.0 _ may.here moves k (λ c. c))
 
 -- an agent that leaves isn't the owner, and who else is the owner stays it
 leaves_owner : (owner : Option Agent) (owns : Bool) (n : ℕ) → owned_by owner n ≡ owns → owned_by (owner_without owner n) n ≡ false
@@ -246,11 +216,7 @@ leaves_owner owner true n is = grind (arith, is)
 leaves_owner owner false n is = grind (arith, is)
 
 allows_evict : (state : State) → allows Evict state ≡ true → state ≡ I
-allows_evict I fits = refl
-allows_evict SC fits = absurd (false≢true fits)
-allows_evict UC fits = absurd (false≢true fits)
-allows_evict UD fits = absurd (false≢true fits)
-allows_evict SD fits = absurd (false≢true fits)
+allows_evict state fits = search arith
 
 -- an Evict: its agent leaves the filter, and it is done
 evicting_kept : (last : List ℕ) (s : LineState) (agent : Agent) (request : Waiting)
@@ -264,48 +230,29 @@ evicting_kept last s agent request may evicts =
     let f = s.home.filter in
     let f' : FilterState = removed s.home.filter agent.0 in
     let c : Cells = record (cells_of s agent.0) { rsp_down = Some CompI } in
-    let s' : LineState = record s { home = record (taken_up s.home agent.0) { filter = removed s.home.filter agent.0 }; flits = slice_set s.flits agent.0 c } in
     let x : Lane = record (lane s agent.0) { waiting = None; named = false; flits = c } in
-    let moves : Moves s s' agent.0 x = moves_by s s' agent.0 x
-    (puts_nothing no_line s.requesters agent.0)
-    (puts_set no_flits s.flits agent.0 c (omega (arith, k.flits, may.here)))
-    (puts_set false f.named agent.0 false (omega (arith, k.named, may.here)))
-    (puts_nothing false s.home.awaited agent.0)
-    (puts_set nothing_waiting s.home.waiting agent.0 nothing_waiting (omega (arith, k.waiting, may.here))) in
-    let back : IsCleanLane x → IsCleanLane (lane s agent.0) = λ (clean : IsCleanLane x). record { copy = clean.copy; on_its_way = clean.on_its_way } in
+    let moves = moves_home s agent.0 (record (taken_up s.home agent.0) { filter = removed s.home.filter agent.0 }) _ x refl
+    (puts_set no_flits s.flits agent.0 c (within agent.0 _ may.here k.flits)) (puts_set false f.named agent.0 false (within agent.0 _ may.here k.named)) (puts_nothing false s.home.awaited agent.0)
+    (puts_set nothing_waiting s.home.waiting agent.0 nothing_waiting (within agent.0 _ may.here k.waiting)) in
     let own : LaneKept Idle f.unique f.owner last agent.0 (lane s agent.0) = idle_lanes last s agent request may agent.0 may.here in
     let none : (lane s agent.0).rn.state ≡ I = allows_evict (lane s agent.0).rn.state
     (subst (λ kind. allows kind (lane s agent.0).rn.state ≡ true) evicts (own.kind_fits request.kind (own.waiting_kind request may.waits))) in
-    record {
-      requesters = k.requesters;
-      flits = length-set s.flits agent.0 c ∙ k.flits;
-      named = length-set f.named agent.0 false ∙ k.named;
-      awaited = k.awaited;
-      waiting = length-set s.home.waiting agent.0 None ∙ k.waiting;
-      in_range = k.in_range;
-      lanes = subst (λ serving. (m : ℕ) → m < 8 → LaneKept serving f'.unique f'.owner last m (lane s' m)) (sym may.idle)
-          (lanes_by s s' Idle f'.unique f'.owner last agent.0 x moves
-          (evicting_own f.unique f'.unique f.owner f'.owner last agent.0 request (lane s agent.0) may.waits evicts none (leaves_owner f.owner (owned_by f.owner agent.0) agent.0 refl) own)
-          (λ m low other. evicting_other f.unique f'.unique f.owner f'.owner last m (lane s m)
-          (λ flag named. and_from f.unique (has_any (others_than agent.0 f.named)) flag
-          (has_in (others_than agent.0 f.named) m (length-others agent.0 f.named k.named) low (left_in agent.0 m f.named other ∙ named)))
-          (λ flag. (and_parts f.unique (has_any (others_than agent.0 f.named)) flag).0)
-          (owned_elsewhere f.owner agent.0 m other) (idle_lanes last s agent request may m low)));
-      flag_means_one = λ flag a b below_a below_b in_a in_b. k.flag_means_one ((and_parts f.unique (has_any (others_than agent.0 f.named)) flag).0) a b below_a below_b
-          (was_in agent.0 a f.named may.here k.named in_a) (was_in agent.0 b f.named may.here k.named in_b);
-      memory_last = λ clean. k.memory_last (clean_by s s' agent.0 x moves may.here back clean);
-    }
+    kept_moved last last s _ agent.0 _ moves k k.in_range
+    (subst (λ v. LaneKept v f'.unique f'.owner last agent.0 x) (sym may.idle)
+    (evicting_own f.unique f'.unique f.owner f'.owner last agent.0 request (lane s agent.0) may.waits evicts none (leaves_owner f.owner (owned_by f.owner agent.0) agent.0 refl) own))
+    (λ m low other. subst (λ v. LaneKept v f'.unique f'.owner last m (lane s m)) (sym may.idle)
+    (evicting_other f.unique f'.unique f.owner f'.owner last m (lane s m)
+    (λ flag named. and_from f.unique (has_any (others_than agent.0 f.named)) flag
+    (has_in (others_than agent.0 f.named) m (length-others agent.0 f.named k.named) low (left_in agent.0 m f.named other ∙ named)))
+    (λ flag. (and_parts f.unique (has_any (others_than agent.0 f.named)) flag).0)
+    (owned_elsewhere f.owner agent.0 m other) (idle_lanes last s agent request may m low)))
+    (λ flag a b below_a below_b in_a in_b. k.flag_means_one ((and_parts f.unique (has_any (others_than agent.0 f.named)) flag).0) a b below_a below_b
+    (was_in agent.0 a f.named may.here k.named in_a) (was_in agent.0 b f.named may.here k.named in_b))
+    (memory_by last s _ agent.0 _ may.here moves k (λ c. c))
 
 -- kinds that no snoop serves
 is_evict : (kind : Kind) → snoop_of kind ≡ None → is_copy_back kind ≡ false → kind ≡ Evict
-is_evict ReadNotSharedDirty unserved not_back = cc
-is_evict ReadShared unserved not_back = cc
-is_evict ReadUnique unserved not_back = cc
-is_evict CleanUnique unserved not_back = cc
-is_evict Evict unserved not_back = refl
-is_evict WriteBackFull unserved not_back = cc
-is_evict WriteCleanFull unserved not_back = cc
-is_evict WriteEvictFull unserved not_back = cc
+is_evict kind unserved not_back = search arith
 
 -- the line after a start, where it is known what there is to do
 abbrev started_parts : LineState → Agent → Home → Started → LineState

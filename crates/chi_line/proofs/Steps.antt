@@ -1,5 +1,5 @@
 -- An action that isn't refused is a step of its line.
-use Rattle.std.proofs.Common.{◌≡◌, ℕ, ◌<◌, List, true, Option, Some, None, is_some, refl, ◌∙◌, ap, ◌⊎◌, inl, inr, ⊎_elim}
+use Rattle.std.proofs.Common.{arith, ◌≡◌, ℕ, ◌<◌, List, true, Option, Some, None, is_some, refl, ◌∙◌, ap, ◌⊎◌, inl, inr, ⊎_elim}
 use Rattle.std.proofs.lemmas.Bool.{eqb-true}
 use Rattle.chi_flit.specs.declared.numbers.Agent.{Agent}
 use Rattle.chi_flit.specs.declared.numbers.Line.{Line}
@@ -32,46 +32,29 @@ use Rattle.chi_line.proofs.Sends.{CanStart, can_start}
 
 -- where there is something, a step that takes it is the step of what is there
 taken : {A : Type 0} (s : LineState) (there : Option A) (step : A → LineState) → is_some there ≡ true → (a : A) × (there ≡ Some a) × (where_some s there step ≡ step a)
-taken s None step h = absurd (cc (h))
-taken s (Some a) step h = (a, refl, refl)
+taken s there step h = search arith
 
 -- a request that may be retried is there
 pub request_there : (there : Option Request) → retry_refusal there ≡ None → is_some there ≡ true
-request_there None h = absurd (cc (h))
-request_there (Some request) h = refl
+request_there there h = search arith
 
 -- the request whose CompAck, or write data, is awaited
 awaited_ack : (serving : Serving) (agent : Agent) → acks_for serving agent.0 ≡ true → (slot : Slot) × (serving ≡ AwaitingCompAck agent slot)
-awaited_ack Idle agent h = absurd (cc (h))
-awaited_ack (Snooping served kind slot) agent h = absurd (cc (h))
 awaited_ack (AwaitingCompAck served slot) agent h = (slot, ap (λ (n : ℕ). AwaitingCompAck (record { 0 = n }) slot) (eqb-true served.0 agent.0 h))
-awaited_ack (AwaitingWriteData served kind slot) agent h = absurd (cc (h))
+awaited_ack serving agent h = absurd (cc (h))
 
 awaited_write : (serving : Serving) (agent : Agent) → writes_for serving agent.0 ≡ true → (slot : Slot) × (kind : Kind) × (serving ≡ AwaitingWriteData agent kind slot)
-awaited_write Idle agent h = absurd (cc (h))
-awaited_write (Snooping served kind slot) agent h = absurd (cc (h))
-awaited_write (AwaitingCompAck served slot) agent h = absurd (cc (h))
 awaited_write (AwaitingWriteData served kind slot) agent h = (slot, kind, ap (λ (n : ℕ). AwaitingWriteData (record { 0 = n }) kind slot) (eqb-true served.0 agent.0 h))
+awaited_write serving agent h = absurd (cc (h))
 
 ack_there : (there : Option RspUp) → is_ack there ≡ true → there ≡ Some CompAck
-ack_there None h = absurd (cc (h))
-ack_there (Some SnpRespI) h = absurd (cc (h))
-ack_there (Some SnpRespSC) h = absurd (cc (h))
-ack_there (Some CompAck) h = refl
+ack_there there h = search arith
 
 write_there : (there : Option DatUp) → is_write_data there ≡ true → (form : State) × (words : List ℕ) × (there ≡ Some (CopyBackWrData form words))
-write_there None h = absurd (cc (h))
-write_there (Some (SnpRespDataIPD words)) h = absurd (cc (h))
-write_there (Some (SnpRespDataSCPD words)) h = absurd (cc (h))
-write_there (Some (SnpRespDataSD words)) h = absurd (cc (h))
-write_there (Some (CopyBackWrData form words)) h = (form, words, refl)
+write_there there h = search arith
 
 comp_there : (there : Option RspDown) → is_comp there ≡ true → (there ≡ Some CompUC) ⊎ (there ≡ Some CompI)
-comp_there None h = absurd (cc (h))
-comp_there (Some (RetryAck ty)) h = absurd (cc (h))
-comp_there (Some CompUC) h = inl refl
-comp_there (Some CompI) h = inr refl
-comp_there (Some CompDBIDResp) h = absurd (cc (h))
+comp_there there h = search arith
 
 pub step_after : (c : Conditions) (last : List ℕ) (s : LineState) (agent : Agent) (line : Line) (step : Step) → agent.0 < 8 → step_refusal c s agent step ≡ None → Kept last s
     → StepOf c.profile s agent line step (step_effect s agent step) (step_record s agent line step) (after_step c.profile s agent step)

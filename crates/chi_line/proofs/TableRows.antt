@@ -21,8 +21,7 @@ use Rattle.chi_line.specs.Step.{is_dbid, is_slot, pending_slot, slot_served_for,
 use Rattle.chi_line.specs.Places.{is_at_home, phase_at, response_at, Seen, seen_of, sent_at, unasked_at, where_at, where_by}
 use Rattle.chi_line.specs.Table.{HasNothing, IsAt, IsAtHome, IsFound, IsInFlight, IsPending}
 use Rattle.chi_line.proofs.EqualSlots.{same_slot}
-use Rattle.chi_line.proofs.Untouched.{Free, is_free}
-use Rattle.chi_line.proofs.Wheres.{shows_unused}
+use Rattle.chi_line.proofs.Wheres.{Free, is_free, shows_unused}
 use Rattle.chi_line.proofs.Trails.{Trail, completed_trail, not_served, requested_trail, responded_trail, waiting_trail}
 
 -- slots by their numbers
@@ -48,24 +47,19 @@ equal_slots o own slot one two = let same : Some own ≡ Some slot = sym one ∙
 
 -- cells and queues
 no_request : (o : Option Request) → is_some o ≡ false → o ≡ None
-no_request None none = refl
-no_request (Some request) none = absurd (cc (none))
+no_request o none = search arith
 
 none_waits : (waiting : Option Waiting) (slot : Slot) → is_some waiting ≡ false → is_slot (waiting_slot waiting) slot ≡ false
-none_waits None slot none = refl
-none_waits (Some request) slot none = absurd (cc (none))
+none_waits waiting slot none = search arith
 
 one_waits : (waiting : Option Waiting) (slot : Slot) → waiting_slot waiting ≡ Some slot → is_some waiting ≡ true
-one_waits None slot is = absurd (cc (is))
-one_waits (Some request) slot is = refl
+one_waits waiting slot is = search arith
 
 unique_there : (response : Option RspDown) → is_comp_unique response ≡ true → is_some response ≡ true
-unique_there None is = absurd (cc (is))
-unique_there (Some response) is = refl
+unique_there response is = search arith
 
 dbid_there : (response : Option RspDown) → is_dbid response ≡ true → is_some response ≡ true
-dbid_there None is = absurd (cc (is))
-dbid_there (Some response) is = refl
+dbid_there response is = search arith
 
 at_home : (a b : Option Slot) (slot : Slot) → (a ≡ Some slot) ⊎ (b ≡ Some slot) → is_slot a slot || is_slot b slot ≡ true
 at_home a b slot here = ⊎_elim (λ x. or_left (is_slot a slot) (is_slot b slot) (is_its a slot x)) (λ x. or_right (is_slot a slot) (is_slot b slot) (is_its b slot x)) here
@@ -82,12 +76,10 @@ own_phase : (request : Pending) (x : Seen) (slot : Slot) → Some request.slot �
 own_phase request x slot is = ap (λ (b : Bool). if b then phase_at request.phase x slot else unasked_at x slot) (is_its (Some request.slot) slot is)
 
 sent_phase : (phase : Phase) (x : Seen) (slot : Slot) → is_retried_phase phase ≡ false → phase_at phase x slot ≡ sent_at x.request (is_at_home x slot) x.response
-sent_phase Sent x slot is = refl
-sent_phase Retried x slot is = absurd (cc (is))
+sent_phase phase x slot is = search arith
 
 retried_phase : (phase : Phase) (x : Seen) (slot : Slot) → is_retried_phase phase ≡ true → phase_at phase x slot ≡ Some places.Retried
-retried_phase Sent x slot is = absurd (cc (is))
-retried_phase Retried x slot is = refl
+retried_phase phase x slot is = search arith
 
 shows_sent : (pending : Option Pending) (x : Seen) (slot : Slot) → pending_slot pending ≡ Some slot → is_retried pending ≡ false → where_by pending x slot ≡ sent_at x.request (is_at_home x slot) x.response
 shows_sent None x slot is sent = absurd (cc (is))

@@ -21,58 +21,23 @@ pub record Trail (serving : Serving) (n : ℕ) (x : Lane) (requested waits sent 
 -- the sixth place is that it is snooped for
 pub requested_trail : (serving : Serving) (unique : Bool) (owner : Option Agent) (last : List ℕ) (n : ℕ) (x : Lane)
     → is_some x.flits.req ≡ true → LaneKept serving unique owner last n x → Trail serving n x true false false false false
-requested_trail serving unique owner last n x here k = record {
-  request = here;
-  waiting = search (arith, here, k.one_place);
-  unsnooped = search (arith, here, k.one_place);
-  completion = search (arith, here, k.one_place);
-  response = search (arith, here, k.one_place);
-  phase = search (arith, here, k.one_place);
-}
+requested_trail serving unique owner last n x here k = search (arith, here, k.one_place)
 
 pub waiting_trail : (serving : Serving) (unique : Bool) (owner : Option Agent) (last : List ℕ) (n : ℕ) (x : Lane)
     → is_some x.waiting ≡ true → LaneKept serving unique owner last n x → Trail serving n x false true false false false
-waiting_trail serving unique owner last n x here k = record {
-  request = search (arith, here, k.one_place);
-  waiting = here;
-  unsnooped = search (arith, here, k.one_place);
-  completion = search (arith, here, k.one_place);
-  response = search (arith, here, k.one_place);
-  phase = search (arith, here, k.one_place);
-}
+waiting_trail serving unique owner last n x here k = search (arith, here, k.one_place)
 
 pub completed_trail : (serving : Serving) (unique : Bool) (owner : Option Agent) (last : List ℕ) (n : ℕ) (x : Lane)
     → is_some x.flits.dat_down ≡ true → LaneKept serving unique owner last n x → Trail serving n x false false true false false
-completed_trail serving unique owner last n x here k = record {
-  request = search (arith, here, k.one_place);
-  waiting = search (arith, here, k.one_place);
-  unsnooped = search (arith, here, k.one_place);
-  completion = here;
-  response = search (arith, here, k.one_place);
-  phase = search (arith, here, k.one_place);
-}
+completed_trail serving unique owner last n x here k = search (arith, here, k.one_place)
 
 pub responded_trail : (serving : Serving) (unique : Bool) (owner : Option Agent) (last : List ℕ) (n : ℕ) (x : Lane)
     → is_some x.flits.rsp_down ≡ true → LaneKept serving unique owner last n x → Trail serving n x false false false true false
-responded_trail serving unique owner last n x here k = record {
-  request = search (arith, here, k.one_place);
-  waiting = search (arith, here, k.one_place);
-  unsnooped = search (arith, here, k.one_place);
-  completion = search (arith, here, k.one_place);
-  response = here;
-  phase = search (arith, here, k.one_place);
-}
+responded_trail serving unique owner last n x here k = search (arith, here, k.one_place)
 
 pub retried_trail : (serving : Serving) (unique : Bool) (owner : Option Agent) (last : List ℕ) (n : ℕ) (x : Lane)
     → is_retried x.rn.pending ≡ true → LaneKept serving unique owner last n x → Trail serving n x false false false false true
-retried_trail serving unique owner last n x here k = record {
-  request = search (arith, here, k.one_place);
-  waiting = search (arith, here, k.one_place);
-  unsnooped = search (arith, here, k.one_place);
-  completion = search (arith, here, k.one_place);
-  response = search (arith, here, k.one_place);
-  phase = here;
-}
+retried_trail serving unique owner last n x here k = search (arith, here, k.one_place)
 
 -- what is in one of the places is pending
 pub place_pending : (serving : Serving) (unique : Bool) (owner : Option Agent) (last : List ℕ) (n : ℕ) (x : Lane)

@@ -1,6 +1,6 @@
 -- The kinds that a line keeps of a slot's request have the credit types that they had: only an Issue gives a
 -- slot a kind.
-use Rattle.std.proofs.Common.{◌≡◌, ◌≢◌, ℕ, ◌<◌, List, Bool, true, false, ◌&&◌, ◌==◌, Option, Some, None, length, get_or, set, refl, sym, ◌∙◌, ap, if◌then◌else◌, arith, get_or-set_same}
+use Rattle.std.proofs.Common.{◌≡◌, ◌≢◌, ℕ, ◌<◌, List, Bool, true, false, ◌&&◌, ◌==◌, Option, Some, None, length, get_or, set, refl, sym, ◌∙◌, ap, subst, if◌then◌else◌, arith, get_or-set_same}
 use Rattle.std.proofs.lemmas.Bool.{and_parts, eq-eqb}
 use Rattle.chi_flit.specs.declared.numbers.Agent.{Agent}
 use Rattle.chi_flit.specs.declared.numbers.Slot.{Slot}
@@ -33,38 +33,41 @@ use Rattle.chi_line.specs.LineState.{LineState, rn_of, cells_of}
 use Rattle.chi_line.specs.Kept.{Kept}
 use Rattle.chi_line.specs.Step.{issued_slot, admitted_line, after_step, answer_in, answered_by, completion_received, data_written, dbid_received_line, is_slot, issued_line, received_line, resent_line, retried_line, slot_served_for, snooped_line, started_line, waiting_slot, where_some}
 use Rattle.chi_line.specs.Types.{has_type, is_of_type, pending_kind_of, requested_kind_of, served_kind_of, waiting_kind_of}
-use Rattle.chi_line.proofs.Elsewhere.{Stays, answer_up, answered_stays, sent_request, started_waits}
-use Rattle.chi_line.proofs.Untouched.{Free}
+use Rattle.chi_line.specs.Places.{seen_of}
+use Rattle.chi_line.proofs.Elsewhere.{Stays}
+use Rattle.chi_line.proofs.SeenMoves.{Asked, other_kind}
+use Rattle.chi_line.proofs.Wheres.{Free}
 
 -- a type that a kind has, or no kind
 abbrev Has : Profile → CreditType → Option Kind → Type 0
 Has profile ty kind = has_type profile ty kind ≡ true
 
--- the kinds that are kept of a slot's request have the type
-pub record Typed (profile : Profile) (ty : CreditType) (s : LineState) (n : ℕ) (slot : Slot) : Type 0 where
-  pub pending : has_type profile ty (pending_kind_of (rn_of s n).pending slot) ≡ true
-  pub request : has_type profile ty (requested_kind_of (cells_of s n).req slot) ≡ true
-  pub waiting : has_type profile ty (waiting_kind_of (waiting_of s.home n) slot) ≡ true
-  pub served : has_type profile ty (served_kind_of s.home.serving n slot) ≡ true
-
-pub typed : (profile : Profile) (ty : CreditType) (s : LineState) (n : ℕ) (slot : Slot) → is_of_type profile ty s n slot ≡ true → Typed profile ty s n slot
+-- the kinds that a line keeps of an agent's slot, and that which is served
+pub typed : (profile : Profile) (ty : CreditType) (s : LineState) (n : ℕ) (slot : Slot) → is_of_type profile ty s n slot ≡ true → Asked profile ty (seen_of s n) slot × Has profile ty (served_kind_of s.home.serving n slot)
 typed profile ty s n slot h =
     let first = and_parts (has_type profile ty (pending_kind_of (rn_of s n).pending slot)) _ h in
     let second = and_parts (has_type profile ty (requested_kind_of (cells_of s n).req slot)) _ first.1 in
     let rest = and_parts (has_type profile ty (waiting_kind_of (waiting_of s.home n) slot)) _ second.1 in
-    record { pending = first.0; request = second.0; waiting = rest.0; served = rest.1 }
+    (record { pending = first.0; request = second.0; waiting = rest.0 }, rest.1)
 
 all_of : (a b c d : Bool) → a ≡ true → b ≡ true → c ≡ true → d ≡ true → (a && (b && (c && d))) ≡ true
 all_of a b c d w x y z = rw (w, x, y, z) refl
 
-pub of_type : (profile : Profile) (ty : CreditType) (s : LineState) (n : ℕ) (slot : Slot) → Typed profile ty s n slot → is_of_type profile ty s n slot ≡ true
-of_type profile ty s n slot t = all_of _ _ _ _ t.pending t.request t.waiting t.served
+pub of_type : (profile : Profile) (ty : CreditType) (s : LineState) (n : ℕ) (slot : Slot) → Asked profile ty (seen_of s n) slot → Has profile ty (served_kind_of s.home.serving n slot) → is_of_type profile ty s n slot ≡ true
+of_type profile ty s n slot t served = all_of _ _ _ _ t.pending t.request t.waiting served
+
+-- parts that stay
+pub stays_asked : (profile : Profile) (ty : CreditType) (s s' : LineState) (n : ℕ) (slot : Slot) → Stays s s' n → Asked profile ty (seen_of s n) slot → Asked profile ty (seen_of s' n) slot
+stays_asked profile ty s s' n slot stays t = record {
+  pending = ap (λ (p : Option Pending). has_type profile ty (pending_kind_of p slot)) stays.pending ∙ t.pending;
+  request = ap (λ (q : Option Request). has_type profile ty (requested_kind_of q slot)) stays.request ∙ t.request;
+  waiting = ap (λ (w : Option Waiting). has_type profile ty (waiting_kind_of w slot)) stays.waiting ∙ t.waiting;
+}
 
 -- What a step leaves of the request that is served: the same, or none whose kind is kept, or one that waited.
 -- a completion forgets the kind
 finished_kind : (profile : Profile) (ty : CreditType) (serving : Serving) (home : Home) (n : ℕ) (slot : Slot) → home.serving ≡ serving → Has profile ty (served_kind_of serving n slot)
     → Has profile ty (served_kind_of (finished_as serving home).serving n slot)
-finished_kind profile ty Idle home n slot is t = ap (λ (v : Serving). has_type profile ty (served_kind_of v n slot)) is ∙ t
 finished_kind profile ty (Snooping agent kind own) home n slot is t = go (has_any home.awaited) (snoop_of kind)
   where
     same : Has profile ty (served_kind_of home.serving n slot)
@@ -74,8 +77,7 @@ finished_kind profile ty (Snooping agent kind own) home n slot is t = go (has_an
     go true o = same
     go false None = same
     go false (Some snoop) = refl
-finished_kind profile ty (AwaitingCompAck agent own) home n slot is t = ap (λ (v : Serving). has_type profile ty (served_kind_of v n slot)) is ∙ t
-finished_kind profile ty (AwaitingWriteData agent kind own) home n slot is t = ap (λ (v : Serving). has_type profile ty (served_kind_of v n slot)) is ∙ t
+finished_kind profile ty serving home n slot is t = ap (λ (v : Serving). has_type profile ty (served_kind_of v n slot)) is ∙ t
 
 answered_kind : (profile : Profile) (ty : CreditType) (s : LineState) (agent : Agent) (answer : SnoopAnswer) (n : ℕ) (slot : Slot) → Has profile ty (served_kind_of s.home.serving n slot)
     → Has profile ty (served_kind_of (answered_by s agent answer).home.serving n slot)
@@ -83,19 +85,13 @@ answered_kind profile ty s agent answer n slot t = finished_kind profile ty s.ho
 
 written_kind : (profile : Profile) (ty : CreditType) (s : LineState) (m : ℕ) (kind : Kind) (there : Option DatUp) (n : ℕ) (slot : Slot) → Has profile ty (served_kind_of s.home.serving n slot)
     → Has profile ty (served_kind_of (data_written s m kind there).home.serving n slot)
-written_kind profile ty s m kind None n slot t = t
-written_kind profile ty s m kind (Some (SnpRespDataIPD words)) n slot t = t
-written_kind profile ty s m kind (Some (SnpRespDataSCPD words)) n slot t = t
-written_kind profile ty s m kind (Some (SnpRespDataSD words)) n slot t = t
 written_kind profile ty s m kind (Some (CopyBackWrData form words)) n slot t = refl
+written_kind profile ty s m kind there n slot t = t
 
 completion_kind : (profile : Profile) (ty : CreditType) (s : LineState) (m : ℕ) (there : Option RspDown) (n : ℕ) (slot : Slot) → Has profile ty (served_kind_of s.home.serving n slot)
     → Has profile ty (served_kind_of (completion_received s m there).home.serving n slot)
-completion_kind profile ty s m None n slot t = t
-completion_kind profile ty s m (Some (RetryAck credit)) n slot t = t
 completion_kind profile ty s m (Some CompUC) n slot t = t
-completion_kind profile ty s m (Some CompI) n slot t = t
-completion_kind profile ty s m (Some CompDBIDResp) n slot t = t
+completion_kind profile ty s m there n slot t = t
 
 started_kind : (profile : Profile) (ty : CreditType) (kind : Kind) (o : Option Snoop) (home : Home) (agent : Agent) (own : Slot) (n : ℕ) (slot : Slot)
     → (agent.0 ≡ n → Has profile ty (waiting_kind_of (Some (record { kind = kind; slot = own })) slot)) → Has profile ty (served_kind_of home.serving n slot)
@@ -127,139 +123,12 @@ served_where_some : {A : Type 0} (profile : Profile) (ty : CreditType) (s : Line
 served_where_some profile ty s n slot None step t next = t
 served_where_some profile ty s n slot (Some a) step t next = next a refl
 
--- The parts of a line that speak of a request and not of what is served, by what is written.
-record Asked (profile : Profile) (ty : CreditType) (s : LineState) (n : ℕ) (slot : Slot) : Type 0 where
-  pending : has_type profile ty (pending_kind_of (rn_of s n).pending slot) ≡ true
-  request : has_type profile ty (requested_kind_of (cells_of s n).req slot) ≡ true
-  waiting : has_type profile ty (waiting_kind_of (waiting_of s.home n) slot) ≡ true
-
-copy_asked : (profile : Profile) (ty : CreditType) (s : LineState) (n : ℕ) (slot : Slot) (r : Rn) → n < length s.requesters → Has profile ty (pending_kind_of r.pending slot) → Asked profile ty s n slot
-    → Asked profile ty (record s { requesters = set s.requesters n r }) n slot
-copy_asked profile ty s n slot r low p t = record {
-  pending = ap (λ (x : Rn). has_type profile ty (pending_kind_of x.pending slot)) (get_or-set_same s.requesters n r no_line low) ∙ p;
-  request = t.request;
-  waiting = t.waiting;
-}
-
-both_asked : (profile : Profile) (ty : CreditType) (s : LineState) (n : ℕ) (slot : Slot) (r : Rn) (c : Cells) → n < length s.requesters → n < length s.flits
-    → Has profile ty (pending_kind_of r.pending slot) → Has profile ty (requested_kind_of c.req slot) → Asked profile ty s n slot → Asked profile ty (record s { requesters = set s.requesters n r; flits = set s.flits n c }) n slot
-both_asked profile ty s n slot r c low flits p q t = record {
-  pending = ap (λ (x : Rn). has_type profile ty (pending_kind_of x.pending slot)) (get_or-set_same s.requesters n r no_line low) ∙ p;
-  request = ap (λ (x : Cells). has_type profile ty (requested_kind_of x.req slot)) (get_or-set_same s.flits n c no_flits flits) ∙ q;
-  waiting = t.waiting;
-}
-
-home_asked : (profile : Profile) (ty : CreditType) (s : LineState) (n : ℕ) (slot : Slot) (home : Home) (c : Cells) → n < length s.flits
-    → Has profile ty (requested_kind_of c.req slot) → Has profile ty (waiting_kind_of (waiting_of home n) slot) → Asked profile ty s n slot → Asked profile ty (record s { home = home; flits = set s.flits n c }) n slot
-home_asked profile ty s n slot home c flits q w t = record {
-  pending = t.pending;
-  request = ap (λ (x : Cells). has_type profile ty (requested_kind_of x.req slot)) (get_or-set_same s.flits n c no_flits flits) ∙ q;
-  waiting = w;
-}
-
--- parts that stay
-stays_asked : (profile : Profile) (ty : CreditType) (s s' : LineState) (n : ℕ) (slot : Slot) → Stays s s' n → Asked profile ty s n slot → Asked profile ty s' n slot
-stays_asked profile ty s s' n slot stays t = record {
-  pending = ap (λ (p : Option Pending). has_type profile ty (pending_kind_of p slot)) stays.pending ∙ t.pending;
-  request = ap (λ (q : Option Request). has_type profile ty (requested_kind_of q slot)) stays.request ∙ t.request;
-  waiting = ap (λ (w : Option Waiting). has_type profile ty (waiting_kind_of w slot)) stays.waiting ∙ t.waiting;
-}
-
-asked_where_some : {A : Type 0} (profile : Profile) (ty : CreditType) (s : LineState) (n : ℕ) (slot : Slot) (there : Option A) (step : A → LineState) → Asked profile ty s n slot
-    → ((a : A) → there ≡ Some a → Asked profile ty (step a) n slot) → Asked profile ty (where_some s there step) n slot
-asked_where_some profile ty s n slot None step t next = t
-asked_where_some profile ty s n slot (Some a) step t next = next a refl
-
--- a kind of another slot's request
-other_kind : (profile : Profile) (ty : CreditType) (kind : Kind) (b : Bool) → b ≡ false → Has profile ty (if b then Some kind else None)
-other_kind profile ty kind b other = ap (λ (x : Bool). has_type profile ty (if x then Some kind else None)) other
-
--- a change of the phase leaves the kind
-phase_kind : (phase : Phase) (p : Option Pending) (slot : Slot) → pending_kind_of (in_phase phase p) slot ≡ pending_kind_of p slot
-phase_kind phase None slot = refl
-phase_kind phase (Some request) slot = refl
-
-comp_asked : (profile : Profile) (ty : CreditType) (s : LineState) (n : ℕ) (there : Option RspDown) (slot : Slot) → n < length s.requesters → n < length s.flits → Asked profile ty s n slot → Asked profile ty (completion_received s n there) n slot
-comp_asked profile ty s n None slot low flits t = t
-comp_asked profile ty s n (Some (RetryAck credit)) slot low flits t = t
-comp_asked profile ty s n (Some CompUC) slot low flits t = both_asked profile ty s n slot _ _ low flits refl t.request t
-comp_asked profile ty s n (Some CompI) slot low flits t = both_asked profile ty s n slot _ _ low flits refl t.request t
-comp_asked profile ty s n (Some CompDBIDResp) slot low flits t = t
-
-write_asked : (profile : Profile) (ty : CreditType) (s : LineState) (n : ℕ) (kind : Kind) (there : Option DatUp) (slot : Slot) → n < length s.flits → Asked profile ty s n slot → Asked profile ty (data_written s n kind there) n slot
-write_asked profile ty s n kind None slot flits t = t
-write_asked profile ty s n kind (Some (SnpRespDataIPD words)) slot flits t = t
-write_asked profile ty s n kind (Some (SnpRespDataSCPD words)) slot flits t = t
-write_asked profile ty s n kind (Some (SnpRespDataSD words)) slot flits t = t
-write_asked profile ty s n kind (Some (CopyBackWrData form words)) slot flits t = home_asked profile ty s n slot (written s.home n kind form words) _ flits t.request t.waiting t
-
-start_asked : (profile : Profile) (ty : CreditType) (s : LineState) (agent : Agent) (request : Waiting) (slot : Slot) → agent.0 < length s.flits → agent.0 < length s.home.waiting → Asked profile ty s agent.0 slot → Asked profile ty (started_line s agent request) agent.0 slot
-start_asked profile ty s agent request slot flits waiting t = record {
-  pending = t.pending;
-  request = ap (λ (q : Option Request). has_type profile ty (requested_kind_of q slot)) (sent_request request.kind (snoop_of request.kind) s.home agent request.slot s.flits flits) ∙ t.request;
-  waiting = ap (λ (w : Option Waiting). has_type profile ty (waiting_kind_of w slot))
-      (ap (λ (l : List (Option Waiting)). get_or l agent.0 None) (started_waits request.kind (snoop_of request.kind) (taken_up s.home agent.0) agent request.slot) ∙ get_or-set_same s.home.waiting agent.0 None None waiting);
-}
-
--- what the step's own agent is shown to ask for
-asked_step : (profile : Profile) (ty : CreditType) (last : List ℕ) (s : LineState) (agent : Agent) (step : Step) (slot : Slot) → agent.0 < 8 → Kept last s → is_slot (issued_slot step) slot ≡ false
-    → Asked profile ty s agent.0 slot → Asked profile ty (after_step profile s agent step) agent.0 slot
-asked_step profile ty last s agent step slot low k other t = go step other
-  where
-    n : ℕ
-    n = agent.0
-
-    copies : agent.0 < length s.requesters
-    copies = omega (arith, low, k.requesters)
-
-    flits : agent.0 < length s.flits
-    flits = omega (arith, low, k.flits)
-
-    waits : agent.0 < length s.home.waiting
-    waits = omega (arith, low, k.waiting)
-
-    go : (step : Step) → is_slot (issued_slot step) slot ≡ false → Asked profile ty (after_step profile s agent step) agent.0 slot
-    go (steps.Load word) other = t
-    go (steps.Store word value) other = copy_asked profile ty s n slot _ copies t.pending t
-    go steps.Drop other = copy_asked profile ty s n slot _ copies t.pending t
-    go (steps.Issue kind own) other = both_asked profile ty s n slot _ _ copies flits (other_kind profile ty kind (own.0 == slot.0) other) (other_kind profile ty kind (own.0 == slot.0) other) t
-    go steps.Admit other = asked_where_some profile ty s n slot (cells_of s n).req (admitted_line s n) t
-        (λ request here. home_asked profile ty s n slot (admitted s.home n (record { kind = request.kind; slot = request.slot })) _ flits refl
-        (ap (λ (w : Option Waiting). has_type profile ty (waiting_kind_of w slot)) (get_or-set_same s.home.waiting n (Some (record { kind = request.kind; slot = request.slot })) None waits)
-        ∙ (sym (ap (λ (q : Option Request). has_type profile ty (requested_kind_of q slot)) here) ∙ t.request)) t)
-    go steps.Retry other = asked_where_some profile ty s n slot (cells_of s n).req (retried_line profile s n) t
-        (λ request here. home_asked profile ty s n slot s.home _ flits refl t.waiting t)
-    go steps.RecvRetry other = both_asked profile ty s n slot _ _ copies flits (ap (has_type profile ty) (phase_kind Retried (rn_of s n).pending slot) ∙ t.pending) t.request t
-    go steps.Resend other = asked_where_some profile ty s n slot (rn_of s n).pending (resent_line s n) t
-        (λ request here. both_asked profile ty s n slot _ _ copies flits (ap (has_type profile ty) (phase_kind Sent (rn_of s n).pending slot) ∙ t.pending)
-        (sym (ap (λ (p : Option Pending). has_type profile ty (pending_kind_of p slot)) here) ∙ t.pending) t)
-    go steps.Cancel other = copy_asked profile ty s n slot _ copies refl t
-    go steps.Start other = asked_where_some profile ty s n slot (waiting_of s.home n) (started_line s agent) t (λ request here. start_asked profile ty s agent request slot flits waits t)
-    go steps.RecvSnp other = asked_where_some profile ty s n slot (cells_of s n).snp (snooped_line s n) t
-        (λ snoop here. both_asked profile ty s n slot _ _ copies flits t.pending
-        (ap (λ (q : Option Request). has_type profile ty (requested_kind_of q slot)) (answer_up (rn_of s n).state snoop (rn_of s n).words (cells_of s n)).request ∙ t.request) t)
-    go steps.RecvSnpResp other = asked_where_some profile ty s n slot (answer_in (cells_of s n)) (answered_by s agent) t
-        (λ answer here. stays_asked profile ty s (answered_by s agent answer) n slot (answered_stays last s agent answer n low k) t)
-    go steps.RecvData other = asked_where_some profile ty s n slot (cells_of s n).dat_down (received_line s n) t (λ message here. both_asked profile ty s n slot _ _ copies flits refl t.request t)
-    go steps.RecvComp other = comp_asked profile ty s n (cells_of s n).rsp_down slot copies flits t
-    go steps.RecvAck other = home_asked profile ty s n slot (acknowledged s.home) _ flits t.request t.waiting t
-    go steps.RecvDbid other = asked_where_some profile ty s n slot (rn_of s n).pending (λ (request : Pending). dbid_received_line s n request.kind) t
-        (λ request here. both_asked profile ty s n slot _ _ copies flits refl t.request t)
-    go steps.RecvWrData other = asked_where_some profile ty s n slot (served_kind s.home.serving) (λ (kind : Kind). data_written s n kind (cells_of s n).dat_up) t
-        (λ kind here. write_asked profile ty s n kind (cells_of s n).dat_up slot flits t)
-
 -- what is served after a step
 served_step : (profile : Profile) (ty : CreditType) (s : LineState) (agent : Agent) (step : Step) (n : ℕ) (slot : Slot)
     → (agent.0 ≡ n → Has profile ty (waiting_kind_of (waiting_of s.home agent.0) slot)) → Has profile ty (served_kind_of s.home.serving n slot) → Has profile ty (served_kind_of (after_step profile s agent step).home.serving n slot)
-served_step profile ty s agent (steps.Load word) n slot waits t = t
-served_step profile ty s agent (steps.Store word value) n slot waits t = t
-served_step profile ty s agent steps.Drop n slot waits t = t
-served_step profile ty s agent (steps.Issue kind own) n slot waits t = t
 served_step profile ty s agent steps.Admit n slot waits t = served_where_some profile ty s n slot (cells_of s agent.0).req (admitted_line s agent.0) t (λ request here. t)
 served_step profile ty s agent steps.Retry n slot waits t = served_where_some profile ty s n slot (cells_of s agent.0).req (retried_line profile s agent.0) t (λ request here. t)
-served_step profile ty s agent steps.RecvRetry n slot waits t = t
 served_step profile ty s agent steps.Resend n slot waits t = served_where_some profile ty s n slot (rn_of s agent.0).pending (resent_line s agent.0) t (λ request here. t)
-served_step profile ty s agent steps.Cancel n slot waits t = t
 served_step profile ty s agent steps.Start n slot waits t = served_where_some profile ty s n slot (waiting_of s.home agent.0) (started_line s agent) t
     (λ request here. started_kind profile ty request.kind (snoop_of request.kind) (taken_up s.home agent.0) agent request.slot n slot
     (λ own. sym (ap (λ (w : Option Waiting). has_type profile ty (waiting_kind_of w slot)) here) ∙ waits own) t)
@@ -271,39 +140,23 @@ served_step profile ty s agent steps.RecvAck n slot waits t = refl
 served_step profile ty s agent steps.RecvDbid n slot waits t = served_where_some profile ty s n slot (rn_of s agent.0).pending (λ (request : Pending). dbid_received_line s agent.0 request.kind) t (λ request here. t)
 served_step profile ty s agent steps.RecvWrData n slot waits t = served_where_some profile ty s n slot (served_kind s.home.serving) (λ (kind : Kind). data_written s agent.0 kind (cells_of s agent.0).dat_up) t
     (λ kind here. written_kind profile ty s agent.0 kind (cells_of s agent.0).dat_up n slot t)
+served_step profile ty s agent other n slot waits t = t
 
-asked : (profile : Profile) (ty : CreditType) (s : LineState) (n : ℕ) (slot : Slot) → Typed profile ty s n slot → Asked profile ty s n slot
-asked profile ty s n slot t = record { pending = t.pending; request = t.request; waiting = t.waiting }
-
-with_served : (profile : Profile) (ty : CreditType) (s : LineState) (n : ℕ) (slot : Slot) → Asked profile ty s n slot → Has profile ty (served_kind_of s.home.serving n slot) → Typed profile ty s n slot
-with_served profile ty s n slot t v = record { pending = t.pending; request = t.request; waiting = t.waiting; served = v }
-
--- the slots of the step's own agent, but the one that it issues
-pub own_types : (profile : Profile) (last : List ℕ) (s : LineState) (agent : Agent) (step : Step) (slot : Slot) (ty : CreditType) → agent.0 < 8 → Kept last s → is_slot (issued_slot step) slot ≡ false
-    → is_of_type profile ty s agent.0 slot ≡ true → is_of_type profile ty (after_step profile s agent step) agent.0 slot ≡ true
-own_types profile last s agent step slot ty low k other is =
-    let t : Typed profile ty s agent.0 slot = typed profile ty s agent.0 slot is in
-    of_type profile ty (after_step profile s agent step) agent.0 slot
-    (with_served profile ty (after_step profile s agent step) agent.0 slot
-    (asked_step profile ty last s agent step slot low k other (asked profile ty s agent.0 slot t))
-    (served_step profile ty s agent step agent.0 slot (λ own. t.waiting) t.served))
-
--- the slots of the other agents
-pub elsewhere_types : (profile : Profile) (s : LineState) (agent : Agent) (step : Step) (n : ℕ) (slot : Slot) (ty : CreditType) → n ≢ agent.0 → Stays s (after_step profile s agent step) n
+-- a slot whose requests have the type after a step has it wherever a kind is kept
+pub step_types : (profile : Profile) (s : LineState) (agent : Agent) (step : Step) (n : ℕ) (slot : Slot) (ty : CreditType)
+    → (Asked profile ty (seen_of s n) slot → Asked profile ty (seen_of (after_step profile s agent step) n) slot)
     → is_of_type profile ty s n slot ≡ true → is_of_type profile ty (after_step profile s agent step) n slot ≡ true
-elsewhere_types profile s agent step n slot ty apart stays is =
-    let t : Typed profile ty s n slot = typed profile ty s n slot is in
-    of_type profile ty (after_step profile s agent step) n slot
-    (with_served profile ty (after_step profile s agent step) n slot
-    (stays_asked profile ty s (after_step profile s agent step) n slot stays (asked profile ty s n slot t))
-    (served_step profile ty s agent step n slot (λ own. absurd (apart (sym own))) t.served))
+step_types profile s agent step n slot ty asked is =
+    let t = typed profile ty s n slot is in
+    of_type profile ty (after_step profile s agent step) n slot (asked t.0)
+    (served_step profile ty s agent step n slot (λ own. subst (λ (m : ℕ). Has profile ty (waiting_kind_of (waiting_of s.home m) slot)) (sym own) t.0.waiting) t.1)
 
 -- the slot that an Issue names: nothing else of it is at the line
-unused_waits : (profile : Profile) (ty : CreditType) (w : Option Waiting) (slot : Slot) → is_slot (waiting_slot w) slot ≡ false → Has profile ty (waiting_kind_of w slot)
+pub unused_waits : (profile : Profile) (ty : CreditType) (w : Option Waiting) (slot : Slot) → is_slot (waiting_slot w) slot ≡ false → Has profile ty (waiting_kind_of w slot)
 unused_waits profile ty None slot free = refl
 unused_waits profile ty (Some request) slot free = other_kind profile ty request.kind (request.slot.0 == slot.0) free
 
-unused_serves : (profile : Profile) (ty : CreditType) (serving : Serving) (n : ℕ) (slot : Slot) → is_slot (slot_served_for serving n) slot ≡ false → Has profile ty (served_kind_of serving n slot)
+pub unused_serves : (profile : Profile) (ty : CreditType) (serving : Serving) (n : ℕ) (slot : Slot) → is_slot (slot_served_for serving n) slot ≡ false → Has profile ty (served_kind_of serving n slot)
 unused_serves profile ty Idle n slot free = refl
 unused_serves profile ty (Snooping agent kind own) n slot free = go (agent.0 == n) free
   where
@@ -329,5 +182,5 @@ issued_types profile s n kind slot low flits free =
       pending = ap (λ (x : Rn). has_type profile (credit_type_of profile kind) (pending_kind_of x.pending slot)) (get_or-set_same s.requesters n _ no_line low) ∙ own_kind_has profile kind (slot.0 == slot.0);
       request = ap (λ (x : Cells). has_type profile (credit_type_of profile kind) (requested_kind_of x.req slot)) (get_or-set_same s.flits n _ no_flits flits) ∙ own_kind_has profile kind (slot.0 == slot.0);
       waiting = unused_waits profile (credit_type_of profile kind) (waiting_of s.home n) slot free.waiting;
-      served = unused_serves profile (credit_type_of profile kind) s.home.serving n slot free.served;
     })
+    (unused_serves profile (credit_type_of profile kind) s.home.serving n slot free.served)

@@ -19,24 +19,30 @@ use Rattle.chi_line.specs.Kept.{Kept, Lane, LaneKept, is_comp_unique, lane, snoo
 use Rattle.chi_line.specs.Step.{is_dbid, is_slot, line_uses, pending_slot, slot_served_for, waiting_slot}
 use Rattle.chi_line.specs.Places.{is_at_home, phase_at, response_at, Seen, seen_of, sent_at, unasked_at, where_at, where_by}
 
+-- none of the agent's requests at the line has the slot
+pub record Free (s : LineState) (n : ℕ) (slot : Slot) : Type 0 where
+  pub pending : is_slot (pending_slot (rn_of s n).pending) slot ≡ false
+  pub waiting : is_slot (waiting_slot (waiting_of s.home n)) slot ≡ false
+  pub served : is_slot (slot_served_for s.home.serving n) slot ≡ false
+
+pub is_free : (s : LineState) (n : ℕ) (slot : Slot) → line_uses s n slot ≡ false → Free s n slot
+is_free s n slot unused =
+    let parts = or_parts (is_slot (pending_slot (rn_of s n).pending) slot) _ unused in
+    let rest = or_parts (is_slot (waiting_slot (waiting_of s.home n)) slot) _ parts.1 in
+    record { pending = parts.0; waiting = rest.0; served = rest.1 }
+
 -- the slot of the request that is served is its agent's
 pub snooped_for : (serving : Serving) (n : ℕ) → snoops_for serving n ≡ true → slot_served_for serving n ≡ served_slot serving
-snooped_for Idle n here = absurd (cc (here))
 snooped_for (Snooping agent kind slot) n here = rw here refl
-snooped_for (AwaitingCompAck agent slot) n here = absurd (cc (here))
-snooped_for (AwaitingWriteData agent kind slot) n here = absurd (cc (here))
+snooped_for serving n here = absurd (cc (here))
 
 pub acked_for : (serving : Serving) (n : ℕ) → acks_for serving n ≡ true → slot_served_for serving n ≡ served_slot serving
-acked_for Idle n here = absurd (cc (here))
-acked_for (Snooping agent kind slot) n here = absurd (cc (here))
 acked_for (AwaitingCompAck agent slot) n here = rw here refl
-acked_for (AwaitingWriteData agent kind slot) n here = absurd (cc (here))
+acked_for serving n here = absurd (cc (here))
 
 pub written_for : (serving : Serving) (n : ℕ) → writes_for serving n ≡ true → slot_served_for serving n ≡ served_slot serving
-written_for Idle n here = absurd (cc (here))
-written_for (Snooping agent kind slot) n here = absurd (cc (here))
-written_for (AwaitingCompAck agent slot) n here = absurd (cc (here))
 written_for (AwaitingWriteData agent kind slot) n here = rw here refl
+written_for serving n here = absurd (cc (here))
 
 -- A request that is sent is somewhere: where it isn't in flight, and no response refuses or ends it, it waits or is
 -- served.

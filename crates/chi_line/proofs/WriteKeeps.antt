@@ -18,7 +18,7 @@ use Rattle.chi_line.specs.LineState.{LineState, rn_of, cells_of}
 use Rattle.chi_line.specs.Coherent.{IsClean, passes_dirty}
 use Rattle.chi_line.specs.Kept.{Lane, LaneKept, Kept, gives_up, is_unique_dirty, is_write_data, lane, served_kind, writes_for}
 use Rattle.chi_line.specs.Step.{written_line}
-use Rattle.chi_line.proofs.Frame.{Moves, Puts, moves_by, puts_set, puts_nothing, lanes_by, clean_by}
+use Rattle.chi_line.proofs.Frame.{Moves, Puts, kept_moved, memory_by, moves_home, puts_set, puts_nothing, within}
 use Rattle.chi_line.proofs.Asks.{has_in, left_in, was_in}
 use Rattle.chi_line.proofs.Keeps.{not_served}
 use Rattle.chi_line.proofs.CopyKeeps.{AwaitsWrite, awaits_write}
@@ -38,7 +38,6 @@ owned_elsewhere (Some agent) n m apart = grind arith
 
 -- a filter after n's copy is gone, or n is no owner any more: what holds of it beside the one before
 pub record FilterAfter (f after : FilterState) (n : ℕ) (valid : Bool) : Type 0 where
-  pub eight : length after.named ≡ 8
   pub puts : Puts false f.named after.named n (is_named after n)
   pub named_stays : valid ≡ true → is_named after n ≡ is_named f n
   pub unique_stays : valid ≡ true → after.unique ≡ f.unique
@@ -53,8 +52,7 @@ and_first a b e = grind arith
 
 pub removed_after : (f : FilterState) (n : ℕ) (valid : Bool) → n < 8 → length f.named ≡ 8 → valid ≡ false → FilterAfter f (removed f n) n valid
 removed_after f n valid low eight gone = record {
-  eight = length-set f.named n false ∙ eight;
-  puts = record { at = refl; others = λ m apart. left_in n m f.named apart };
+  puts = record { at = refl; others = λ m apart. left_in n m f.named apart; long = length-set f.named n false };
   named_stays = λ is. absurd (both_ways valid gone is);
   unique_stays = λ is. absurd (both_ways valid gone is);
   flag_stays = λ m at apart flag named. and_from f.unique (has_any (others_than n f.named)) flag
@@ -65,10 +63,9 @@ removed_after f n valid low eight gone = record {
   owner_stays = λ m apart. owned_elsewhere f.owner n m apart;
 }
 
-pub unowned_after : (f : FilterState) (n : ℕ) (valid : Bool) → length f.named ≡ 8 → FilterAfter f (record f { owner = owner_without f.owner n }) n valid
-unowned_after f n valid eight = record {
-  eight = eight;
-  puts = record { at = refl; others = λ m apart. refl };
+pub unowned_after : (f : FilterState) (n : ℕ) (valid : Bool) → FilterAfter f (record f { owner = owner_without f.owner n }) n valid
+unowned_after f n valid = record {
+  puts = puts_nothing false f.named n;
   named_stays = λ is. refl;
   unique_stays = λ is. refl;
   flag_stays = λ m at apart flag named. flag;
@@ -96,10 +93,8 @@ one_named last s n after valid fits k flag a b low at here there = k.flag_means_
 taken_moves : (last : List ℕ) (s : LineState) (n : ℕ) (memory : List ℕ) (after : FilterState) (valid : Bool) → n < 8
     → FilterAfter s.home.filter after n valid → Kept last s
     → Moves s (taken_line s n memory after) n (record (lane s n) { named = is_named after n; flits = record (cells_of s n) { dat_up = None } })
-taken_moves last s n memory after valid low fits k = moves_by s (taken_line s n memory after) n
-    (record (lane s n) { named = is_named after n; flits = record (cells_of s n) { dat_up = None } })
-    (puts_nothing _ s.requesters n) (puts_set _ s.flits n _ (subst (λ l. n < l) (sym k.flits) low))
-    fits.puts (puts_nothing _ s.home.awaited n) (puts_nothing _ s.home.waiting n)
+taken_moves last s n memory after valid low fits k = moves_home s n _ _ _ refl
+    (puts_set _ s.flits n _ (within n _ low k.flits)) fits.puts (puts_nothing _ s.home.awaited n) (puts_nothing _ s.home.waiting n)
 
 taken_kept : (last : List ℕ) (s : LineState) (n : ℕ) (form : State) (words memory : List ℕ) (after : FilterState) → n < 8
     → (cells_of s n).dat_up ≡ Some (CopyBackWrData form words) → (awaits : AwaitsWrite s.home.serving n)
@@ -111,40 +106,21 @@ taken_kept last s n form words memory after low here awaits fits clean_memory k 
     let owner = s.home.filter.owner in
     let before : (m : ℕ) → m < 8 → LaneKept (AwaitingWriteData awaits.agent awaits.kind awaits.slot) unique owner last m (lane s m) =
     λ m at. subst (λ v. LaneKept v unique owner last m (lane s m)) awaits.serving_is (k.lanes m at) in
-    let moves = taken_moves last s n memory after (is_valid (rn_of s n).state) low fits k in
-    record {
-      requesters = k.requesters;
-      flits = length-set s.flits n _ ∙ k.flits;
-      named = fits.eight;
-      awaited = k.awaited;
-      waiting = k.waiting;
-      in_range = tt;
-      lanes = lanes_by s _ Idle after.unique after.owner last n _ moves
-          (write_lane awaits.agent awaits.kind awaits.slot unique after.unique owner after.owner last n (lane s n) form words (is_named after n) here
-          fits.named_stays fits.unique_stays fits.unowned (before n low))
-          (λ m at apart. write_other awaits.agent awaits.kind awaits.slot unique after.unique owner after.owner last m (lane s m)
-          (not_served awaits.agent.0 n m awaits.agent_is apart) (λ flag named. fits.flag_stays m at apart flag named) fits.flag_back (fits.owner_stays m apart) (before m at));
-      flag_means_one = one_named last s n after (is_valid (rn_of s n).state) fits k;
-      memory_last = clean_memory;
-    }
+    kept_moved last last s _ n _ (taken_moves last s n memory after (is_valid (rn_of s n).state) low fits k) k tt
+    (write_lane awaits.agent awaits.kind awaits.slot unique after.unique owner after.owner last n (lane s n) form words (is_named after n) here
+    fits.named_stays fits.unique_stays fits.unowned (before n low))
+    (λ m at apart. write_other awaits.agent awaits.kind awaits.slot unique after.unique owner after.owner last m (lane s m)
+    (not_served awaits.agent.0 n m awaits.agent_is apart) (λ flag named. fits.flag_stays m at apart flag named) fits.flag_back (fits.owner_stays m apart) (before m at))
+    (one_named last s n after (is_valid (rn_of s n).state) fits k) clean_memory
 
 -- who leaves the filter has no copy
 not_valid_none : (form : State) → not (is_valid form) ≡ true → form ≡ I
-not_valid_none I none = refl
-not_valid_none SC none = absurd cc
-not_valid_none UC none = absurd cc
-not_valid_none UD none = absurd cc
-not_valid_none SD none = absurd cc
+not_valid_none form none = search arith
 
 leaves_by : (kind : Kind) (form : State) → leaves kind form ≡ true → (gives_up kind ≡ true) ⊎ (form ≡ I)
-leaves_by ReadNotSharedDirty form e = inr (not_valid_none form e)
-leaves_by ReadShared form e = inr (not_valid_none form e)
-leaves_by ReadUnique form e = inr (not_valid_none form e)
-leaves_by CleanUnique form e = inr (not_valid_none form e)
-leaves_by Evict form e = inr (not_valid_none form e)
 leaves_by WriteBackFull form e = inl refl
-leaves_by WriteCleanFull form e = inr (not_valid_none form e)
 leaves_by WriteEvictFull form e = inl refl
+leaves_by other form e = inr (not_valid_none form e)
 
 leaver_gone : (agent : Agent) (kind : Kind) (slot : Slot) (unique : Bool) (owner : Option Agent) (last : List ℕ) (n : ℕ) (x : Lane) (form : State) (words : List ℕ)
     → x.flits.dat_up ≡ Some (CopyBackWrData form words) → leaves kind form ≡ true
@@ -165,8 +141,7 @@ memory_written : (last : List ℕ) (s : LineState) (n : ℕ) (form : State) (wor
 memory_written last s n form words after true low here dirty fits k clean =
     (k.lanes n low).write_last form words here dirty (not_unique_dirty (rn_of s n).state (clean n low).copy)
 memory_written last s n form words after false low here dirty fits k clean =
-    k.memory_last (clean_by s _ n _ (taken_moves last s n s.home.memory after (is_valid (rn_of s n).state) low fits k) low
-    (λ c. record { copy = c.copy; on_its_way = ap passes_dirty here ∙ dirty }) clean)
+    memory_by last s _ n _ low (taken_moves last s n s.home.memory after (is_valid (rn_of s n).state) low fits k) k (λ c. record { copy = c.copy; on_its_way = ap passes_dirty here ∙ dirty }) clean
 
 written_as : (b : Bool) (last : List ℕ) (s : LineState) (n : ℕ) (form : State) (words : List ℕ) → n < 8
     → (cells_of s n).dat_up ≡ Some (CopyBackWrData form words) → (awaits : AwaitsWrite s.home.serving n)
@@ -176,7 +151,7 @@ written_as true last s n form words low here awaits gone k =
     let fits = removed_after s.home.filter n (is_valid (rn_of s n).state) low k.named (gone refl) in
     taken_kept last s n form words _ _ low here awaits fits (memory_written last s n form words (removed s.home.filter n) (is_dirty form) low here refl fits k) k
 written_as false last s n form words low here awaits gone k =
-    let fits = unowned_after s.home.filter n (is_valid (rn_of s n).state) k.named in
+    let fits = unowned_after s.home.filter n (is_valid (rn_of s n).state) in
     taken_kept last s n form words _ _ low here awaits fits (memory_written last s n form words (record s.home.filter { owner = owner_without s.home.filter.owner n }) (is_dirty form) low here refl fits k) k
 
 write_awaited : (serving : Serving) (unique : Bool) (owner : Option Agent) (last : List ℕ) (n : ℕ) (x : Lane) (form : State) (words : List ℕ)

@@ -5,15 +5,21 @@ use Rattle.chi_flit.specs.declared.numbers.Slot.{Slot}
 use Rattle.chi_flit.specs.declared.state.State.{State}
 use Rattle.chi_flit.specs.declared.state.State.TheVariants.{I}
 use Rattle.chi_flit.specs.declared.kind.Kind.{Kind}
+use Rattle.chi_flit.specs.declared.message.RspUp.{RspUp}
 use Rattle.chi_flit.specs.declared.message.RspUp.TheVariants.{SnpRespI, SnpRespSC}
+use Rattle.chi_flit.specs.declared.message.DatUp.{DatUp}
 use Rattle.chi_flit.specs.declared.message.DatUp.TheVariants.{SnpRespDataIPD, SnpRespDataSCPD, SnpRespDataSD, CopyBackWrData}
 use Rattle.chi_flit.specs.State.{is_valid, is_dirty}
 use Rattle.chi_flit.specs.Kind.{snoop_of}
 use Rattle.chi_filter.specs.Filter.{owned_by}
+use Rattle.chi_wires.specs.Cell.{emptied}
+use Rattle.chi_homeline.specs.declared.serving.SnoopAnswer.{SnoopAnswer}
+use Rattle.chi_homeline.specs.declared.serving.SnoopAnswer.TheVariants as answers
 use Rattle.chi_homeline.specs.declared.serving.Serving.{Serving}
 use Rattle.chi_homeline.specs.declared.serving.Serving.TheVariants.{Idle, Snooping, AwaitingWriteData}
 use Rattle.chi_line.specs.Coherent.{IsCleanAgent, passes_dirty}
 use Rattle.chi_line.specs.Kept.{Lane, LaneKept, invalidates, shares}
+use Rattle.chi_line.specs.Snooped.{answer_channel}
 
 -- RecvWrData: named and flag may end where no copy is left
 pub write_lane : (agent : Agent) (kind : Kind) (slot : Slot) (unique unique' : Bool) (owner owner' : Option Agent) (last : List ℕ) (n : ℕ) (x : Lane) (form : State) (words : List ℕ) (named : Bool)
@@ -31,44 +37,38 @@ pub write_other : (agent : Agent) (kind : Kind) (slot : Slot) (unique unique' : 
     → LaneKept Idle unique' owner' last m x
 write_other agent kind slot unique unique' owner owner' last m x apart flag back same k = search (arith, k)
 
--- RecvSnpResp: after an answer the flag is clear, and its sender isn't awaited
--- SnpResp_I: named no more
-pub none_answered_lane : (agent : Agent) (kind : Kind) (slot : Slot) (unique : Bool) (owner owner' : Option Agent) (last : List ℕ) (n : ℕ) (x : Lane)
-    → x.flits.rsp_up ≡ Some SnpRespI → owned_by owner' n ≡ false
-    → LaneKept (Snooping agent kind slot) unique owner last n x
-    → LaneKept (Snooping agent kind slot) false owner' last n (record x { named = false; awaited = false; flits = record x.flits { rsp_up = None } })
-none_answered_lane agent kind slot unique owner owner' last n x here unowned k = search (arith, k)
+-- RecvSnpResp: the flit that brings an answer to a snoop
+abbrev pub Brings : Option RspUp → Option DatUp → SnoopAnswer → Type 0
+Brings response sent answers.I = response ≡ Some SnpRespI
+Brings response sent answers.SC = response ≡ Some SnpRespSC
+Brings response sent (answers.IPD words) = sent ≡ Some (SnpRespDataIPD words)
+Brings response sent (answers.SCPD words) = sent ≡ Some (SnpRespDataSCPD words)
+Brings response sent (answers.SD words) = sent ≡ Some (SnpRespDataSD words)
 
--- SnpResp_SC
-pub shared_answered_lane : (agent : Agent) (kind : Kind) (slot : Slot) (unique : Bool) (owner owner' : Option Agent) (last : List ℕ) (n : ℕ) (x : Lane)
-    → x.flits.rsp_up ≡ Some SnpRespSC → owned_by owner' n ≡ false
+-- whether an answer leaves its sender named, and makes it the owner
+abbrev pub named_after : SnoopAnswer → Bool → Bool
+named_after answers.I named = false
+named_after (answers.IPD words) named = false
+named_after other named = named
+
+abbrev pub owns_after : SnoopAnswer → Bool
+owns_after (answers.SD words) = true
+owns_after other = false
+
+-- whose answer is in flight is awaited, by a line that snoops
+pub answer_awaited : (answer : SnoopAnswer) (serving : Serving) (unique : Bool) (owner : Option Agent) (last : List ℕ) (n : ℕ) (x : Lane)
+    → Brings x.flits.rsp_up x.flits.dat_up answer → LaneKept serving unique owner last n x → x.awaited ≡ true
+answer_awaited answers.I serving unique owner last n x here k = search (arith, here, k.one_answer)
+answer_awaited other serving unique owner last n x here k = search (arith, here, k.one_answer)
+
+-- after an answer the flag is clear, and its sender isn't awaited
+pub answered_lane : (answer : SnoopAnswer) (agent : Agent) (kind : Kind) (slot : Slot) (unique : Bool) (owner owner' : Option Agent) (last : List ℕ) (n : ℕ) (x : Lane)
+    → Brings x.flits.rsp_up x.flits.dat_up answer → owned_by owner' n ≡ owns_after answer
     → (shares (snoop_of kind) ≡ true → invalidates (snoop_of kind) ≡ false)
     → LaneKept (Snooping agent kind slot) unique owner last n x
-    → LaneKept (Snooping agent kind slot) false owner' last n (record x { awaited = false; flits = record x.flits { rsp_up = None } })
-shared_answered_lane agent kind slot unique owner owner' last n x here unowned either k = search (arith, k)
-
--- SnpRespData_I_PD
-pub none_sent_lane : (agent : Agent) (kind : Kind) (slot : Slot) (unique : Bool) (owner owner' : Option Agent) (last : List ℕ) (n : ℕ) (x : Lane) (words : List ℕ)
-    → x.flits.dat_up ≡ Some (SnpRespDataIPD words) → owned_by owner' n ≡ false
-    → LaneKept (Snooping agent kind slot) unique owner last n x
-    → LaneKept (Snooping agent kind slot) false owner' last n (record x { named = false; awaited = false; flits = record x.flits { dat_up = None } })
-none_sent_lane agent kind slot unique owner owner' last n x words here unowned k = search (arith, k)
-
--- SnpRespData_SC_PD
-pub shared_sent_lane : (agent : Agent) (kind : Kind) (slot : Slot) (unique : Bool) (owner owner' : Option Agent) (last : List ℕ) (n : ℕ) (x : Lane) (words : List ℕ)
-    → x.flits.dat_up ≡ Some (SnpRespDataSCPD words) → owned_by owner' n ≡ false
-    → (shares (snoop_of kind) ≡ true → invalidates (snoop_of kind) ≡ false)
-    → LaneKept (Snooping agent kind slot) unique owner last n x
-    → LaneKept (Snooping agent kind slot) false owner' last n (record x { awaited = false; flits = record x.flits { dat_up = None } })
-shared_sent_lane agent kind slot unique owner owner' last n x words here unowned either k = search (arith, k)
-
--- SnpRespData_SD
-pub owner_sent_lane : (agent : Agent) (kind : Kind) (slot : Slot) (unique : Bool) (owner owner' : Option Agent) (last : List ℕ) (n : ℕ) (x : Lane) (words : List ℕ)
-    → x.flits.dat_up ≡ Some (SnpRespDataSD words) → owned_by owner' n ≡ true
-    → (shares (snoop_of kind) ≡ true → invalidates (snoop_of kind) ≡ false)
-    → LaneKept (Snooping agent kind slot) unique owner last n x
-    → LaneKept (Snooping agent kind slot) false owner' last n (record x { awaited = false; flits = record x.flits { dat_up = None } })
-owner_sent_lane agent kind slot unique owner owner' last n x words here owned either k = search (arith, k)
+    → LaneKept (Snooping agent kind slot) false owner' last n (record x { named = named_after answer x.named; awaited = false; flits = emptied x.flits (answer_channel answer) })
+answered_lane answers.I agent kind slot unique owner owner' last n x here owns either k = search (arith, k)
+answered_lane other agent kind slot unique owner owner' last n x here owns either k = search (arith, k)
 
 -- the lanes of other agents: one that was flagged has left
 pub answer_other : (agent : Agent) (kind : Kind) (slot : Slot) (unique : Bool) (owner owner' : Option Agent) (last : List ℕ) (m : ℕ) (x : Lane)

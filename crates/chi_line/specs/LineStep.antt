@@ -28,7 +28,9 @@ use Rattle.chi_homeline.specs.declared.serving.SnoopAnswer.{SnoopAnswer}
 use Rattle.chi_homeline.specs.declared.serving.Waiting.{Waiting}
 use Rattle.chi_homeline.specs.Home.{started_sends, waiting_of}
 use Rattle.chi_line.specs.LineState.{LineState, rn_of, cells_of}
-use Rattle.chi_line.specs.Step.{acknowledged_line, admitted_line, answer_in, answered_by, cancelled_line, comp_received_line, dbid_received_line, dropped_line, evict_received_line, issued_line, received_line, resent_line, retried_line, retry_received_line, snooped_line, started_effect, started_line, stored_line, written_line}
+use Rattle.chi_line.specs.Step.{acknowledged_line, admitted_line, answer_in, answered_by, cancelled_line, comp_received_line}
+use Rattle.chi_line.specs.Step.{dbid_received_line, dropped_line, evict_received_line, issued_line, received_line, resent_line}
+use Rattle.chi_line.specs.Step.{retried_line, retry_received_line, snooped_line, started_effect, started_line, stored_line, written_line}
 
 -- the action changes the line, with no effect and no record
 abbrev pub Changes : Effect → Option Record → LineState → LineState → Type 0

@@ -34,7 +34,8 @@ use Rattle.chi_wires.specs.declared.cells.Cells.{Cells}
 use Rattle.chi_wires.specs.Cell.{emptied, no_flits, with_message}
 use Rattle.chi_wires.specs.Flits.{with_snoops}
 use Rattle.chi_rnline.specs.declared.pending.Pending.{Pending}
-use Rattle.chi_rnline.specs.Rn.{cancelled, comp_received, dbid_received, dropped, evict_received, issued, received, request_message, resent, retry_received, snoop_received, stored, word_of}
+use Rattle.chi_rnline.specs.Rn.{cancelled, comp_received, dbid_received, dropped, evict_received, issued, received, request_message, resent}
+use Rattle.chi_rnline.specs.Rn.{retry_received, snoop_received, stored, word_of}
 use Rattle.chi_homeline.specs.declared.serving.Serving.{Serving}
 use Rattle.chi_homeline.specs.declared.serving.Serving.TheVariants.{Idle, Snooping, AwaitingCompAck, AwaitingWriteData}
 use Rattle.chi_homeline.specs.declared.serving.Waiting.{Waiting}
@@ -42,7 +43,8 @@ use Rattle.chi_homeline.specs.declared.serving.SnoopAnswer.{SnoopAnswer}
 use Rattle.chi_homeline.specs.declared.serving.SnoopAnswer.TheVariants as answers
 use Rattle.chi_homeline.specs.declared.serving.Started.{Started}
 use Rattle.chi_homeline.specs.declared.serving.Started.TheVariants.{Sends, Evicted, Snoops}
-use Rattle.chi_homeline.specs.Home.{Home, acknowledged, admitted, served_kind, served_slot, snoop_answered, snoop_answered_sends, started, started_sends, waiting_of, written}
+use Rattle.chi_homeline.specs.Home.{Home, acknowledged, admitted, served_kind, served_slot, snoop_answered, snoop_answered_sends, started}
+use Rattle.chi_homeline.specs.Home.{started_sends, waiting_of, written}
 use Rattle.chi_line.specs.LineState.{LineState, rn_of, cells_of}
 use Rattle.chi_line.specs.Snooped.{answer_channel, completion_put}
 

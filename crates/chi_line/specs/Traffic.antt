@@ -19,8 +19,7 @@ use Rattle.chi_flit.specs.declared.snoop.Snoop.{Snoop}
 use Rattle.chi_flit.specs.Credit.{credit_type_of}
 use Rattle.chi_flit.specs.Message.{write_data_of}
 use Rattle.chi_flit.specs.Snoop.{answer_of}
-use Rattle.chi_wires.specs.Cell.{cell_of}
-use Rattle.chi_wires.specs.Flight.{Flit, flit, flit_of, in_flight, snoop_flits}
+use Rattle.chi_wires.specs.Flight.{Flit, cell_flit, flit, flit_of, in_flight, snoop_flits}
 use Rattle.chi_rnline.specs.declared.pending.Pending.{Pending}
 use Rattle.chi_rnline.specs.Rn.{Rn, request_message}
 use Rattle.chi_homeline.specs.declared.serving.Completion.{Completion}
@@ -35,7 +34,7 @@ use Rattle.chi_line.specs.Step.{answer_in}
 
 -- the flit of an agent that is in flight on a channel, if there is one
 abbrev pub flit_on : LineState → Agent → Channel → List Flit
-flit_on s agent channel = flit_of agent (cell_of (cells_of s agent.0) channel)
+flit_on s agent channel = cell_flit s.flits agent channel
 
 -- RecvSnpResp: the answer to a snoop, which is a response or data
 abbrev pub answer_flit : LineState → Agent → Option SnoopAnswer → List Flit

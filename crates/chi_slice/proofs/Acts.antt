@@ -29,8 +29,8 @@ use Rattle.chi_line.proofs.After.{issue_allowed, kept_after, names_used_slot, ne
 use Rattle.chi_line.proofs.Steps.{step_after}
 use Rattle.chi_slice.specs.declared.terms.Terms.{Terms}
 use Rattle.chi_slice.specs.Recorded.{CanAppend, done_record, record_by}
-use Rattle.chi_slice.specs.Slice.{IsBalanced, IsStep, OtherLinesStay, SliceKept, SliceState, acted, completes, conditions_of, conditions_under, entry_of, is_in_range, is_slot_used, last_of, line, line_at, range_refusal, recorded, refused, refused_under, row_count, row_of_line, uses}
-use Rattle.chi_slice.proofs.Refusing.{allowed_alone}
+use Rattle.chi_slice.specs.Slice.{IsBalanced, IsStep, OtherLinesStay, SliceKept, SliceState, acted, completes, conditions_under, entry_of, is_in_range, is_slot_used, last_of, line, line_at, range_refusal, recorded, refused, refused_under, row_count, row_of_line, uses}
+use Rattle.chi_slice.proofs.Refusing.{allowed_alone, conditions_of}
 use Rattle.chi_slice.proofs.Rows.{InRange, in_range, rows_apart}
 use Rattle.chi_slice.proofs.Slices.{FitsLine, kept_with_entry, line_at-with_line, line_at-with_other}
 
@@ -43,23 +43,8 @@ unused_at s n slot row free low = go (line_uses (line_at s row) n slot) refl
     go false unused = unused
 
 pub free_at : (s : SliceState) (row n : ℕ) (step : Step) → SliceKept s → row < row_count s.config s.index → is_slot_used s n step ≡ false → names_used_slot (line_at s row) n step ≡ false
-free_at s row n (steps.Load word) k low free = refl
-free_at s row n (steps.Store word value) k low free = refl
-free_at s row n steps.Drop k low free = refl
 free_at s row n (steps.Issue kind slot) k low free = unused_at s n slot row free (subst (λ (m : ℕ). row < m) (sym k.rows) low)
-free_at s row n steps.Admit k low free = refl
-free_at s row n steps.Retry k low free = refl
-free_at s row n steps.RecvRetry k low free = refl
-free_at s row n steps.Resend k low free = refl
-free_at s row n steps.Cancel k low free = refl
-free_at s row n steps.Start k low free = refl
-free_at s row n steps.RecvSnp k low free = refl
-free_at s row n steps.RecvSnpResp k low free = refl
-free_at s row n steps.RecvData k low free = refl
-free_at s row n steps.RecvComp k low free = refl
-free_at s row n steps.RecvAck k low free = refl
-free_at s row n steps.RecvDbid k low free = refl
-free_at s row n steps.RecvWrData k low free = refl
+free_at s row n other k low free = refl
 
 -- a valid copy has the last value
 valid_word : (last : List ℕ) (s : LineState) (n word : ℕ) → n < 8 → Kept last s → load_refusal (rn_of s n) ≡ None → word_of (rn_of s n) word ≡ get_or last word 0
@@ -82,23 +67,8 @@ allowed s action h = go (is_in_range s action) refl h
 -- the slot that it names, if it names one, is in use nowhere in the slice
 idle_step : (s : SliceState) (full : Bool) (credits : List Bool) (profile : Profile) (l : LineState) (agent : Agent) (step : Step)
     → step_refusal (record { slot_used = is_slot_used s agent.0 step; journal_full = full; credits = credits; profile = profile }) l agent step ≡ None → is_slot_used s agent.0 step ≡ false
-idle_step s full credits profile l agent (steps.Load word) may = refl
-idle_step s full credits profile l agent (steps.Store word value) may = refl
-idle_step s full credits profile l agent steps.Drop may = refl
 idle_step s full credits profile l agent (steps.Issue kind slot) may = (issue_allowed (uses s agent.0 slot) (rn_of l agent.0) kind may).idle_slot
-idle_step s full credits profile l agent steps.Admit may = refl
-idle_step s full credits profile l agent steps.Retry may = refl
-idle_step s full credits profile l agent steps.RecvRetry may = refl
-idle_step s full credits profile l agent steps.Resend may = refl
-idle_step s full credits profile l agent steps.Cancel may = refl
-idle_step s full credits profile l agent steps.Start may = refl
-idle_step s full credits profile l agent steps.RecvSnp may = refl
-idle_step s full credits profile l agent steps.RecvSnpResp may = refl
-idle_step s full credits profile l agent steps.RecvData may = refl
-idle_step s full credits profile l agent steps.RecvComp may = refl
-idle_step s full credits profile l agent steps.RecvAck may = refl
-idle_step s full credits profile l agent steps.RecvDbid may = refl
-idle_step s full credits profile l agent steps.RecvWrData may = refl
+idle_step s full credits profile l agent other may = refl
 
 pub named_idle : (s : SliceState) (action : Action) → Allowed s action → is_slot_used s action.agent.0 action.step ≡ false
 named_idle s action may = idle_step s (is_full s.journal) (replicate 4 true) s.config.profile (line s action.line.0) action.agent action.step may.by_line
@@ -123,21 +93,7 @@ step_fits c log s agent l (steps.Load word) low below inside full may k =
 step_fits c log s agent l (steps.Store word value) low below inside full may k =
     let by = neither (store_refusal (rn_of s agent.0)) (full_if c.journal_full) may in
     ((refl, tt), (low, below, grind (arith, inside), sym full ∙ not_full c.journal_full by.1))
-step_fits c log s agent l steps.Drop low below inside full may k = (tt, tt)
-step_fits c log s agent l (steps.Issue kind slot) low below inside full may k = (tt, tt)
-step_fits c log s agent l steps.Admit low below inside full may k = (tt, tt)
-step_fits c log s agent l steps.Retry low below inside full may k = (tt, tt)
-step_fits c log s agent l steps.RecvRetry low below inside full may k = (tt, tt)
-step_fits c log s agent l steps.Resend low below inside full may k = (tt, tt)
-step_fits c log s agent l steps.Cancel low below inside full may k = (tt, tt)
-step_fits c log s agent l steps.Start low below inside full may k = (tt, tt)
-step_fits c log s agent l steps.RecvSnp low below inside full may k = (tt, tt)
-step_fits c log s agent l steps.RecvSnpResp low below inside full may k = (tt, tt)
-step_fits c log s agent l steps.RecvData low below inside full may k = (tt, tt)
-step_fits c log s agent l steps.RecvComp low below inside full may k = (tt, tt)
-step_fits c log s agent l steps.RecvAck low below inside full may k = (tt, tt)
-step_fits c log s agent l steps.RecvDbid low below inside full may k = (tt, tt)
-step_fits c log s agent l steps.RecvWrData low below inside full may k = (tt, tt)
+step_fits c log s agent l other low below inside full may k = (tt, tt)
 
 pub entry_fits : (s : SliceState) (action : Action) → SliceKept s → Allowed s action → Fits s.journal action.line.0 (entry_of s action)
 entry_fits s action k may =
@@ -156,22 +112,7 @@ kept_acted s action k may =
 -- the record of a step by its effect is the step's record
 record_is : (s : LineState) (agent : Agent) (l : Line) (step : Step) → done_record agent l step (step_effect s agent step) ≡ step_record s agent l step
 record_is s agent l (steps.Load word) = refl
-record_is s agent l (steps.Store word value) = refl
-record_is s agent l steps.Drop = refl
-record_is s agent l (steps.Issue kind slot) = refl
-record_is s agent l steps.Admit = refl
-record_is s agent l steps.Retry = refl
-record_is s agent l steps.RecvRetry = refl
-record_is s agent l steps.Resend = refl
-record_is s agent l steps.Cancel = refl
-record_is s agent l steps.Start = refl
-record_is s agent l steps.RecvSnp = refl
-record_is s agent l steps.RecvSnpResp = refl
-record_is s agent l steps.RecvData = refl
-record_is s agent l steps.RecvComp = refl
-record_is s agent l steps.RecvAck = refl
-record_is s agent l steps.RecvDbid = refl
-record_is s agent l steps.RecvWrData = refl
+record_is s agent l other = refl
 
 recorded_as : (s : LineState) (action : Action) (effect : Effect) → effect ≡ effect_of s action → record_by action effect ≡ record_of s action
 recorded_as s action effect is = ap (record_by action) is ∙ record_is s action.agent action.line action.step
@@ -292,22 +233,10 @@ no_value_slot (Some refusal) value = refl
 
 completed_here : (c : Conditions) (s : LineState) (agent : Agent) (step : Step) → slot_unless (step_refusal c s agent step) (step_effect s agent step) ≡ completed_at s.home (cells_of s agent.0) agent step
 completed_here c s agent (steps.Load word) = no_value_slot (step_refusal c s agent (steps.Load word)) (word_of (rn_of s agent.0) word.0)
-completed_here c s agent (steps.Store word value) = no_slot (step_refusal c s agent (steps.Store word value))
-completed_here c s agent steps.Drop = no_slot (step_refusal c s agent steps.Drop)
-completed_here c s agent (steps.Issue kind slot) = no_slot (step_refusal c s agent (steps.Issue kind slot))
-completed_here c s agent steps.Admit = no_slot (step_refusal c s agent steps.Admit)
-completed_here c s agent steps.Retry = no_slot (step_refusal c s agent steps.Retry)
-completed_here c s agent steps.RecvRetry = no_slot (step_refusal c s agent steps.RecvRetry)
-completed_here c s agent steps.Resend = no_slot (step_refusal c s agent steps.Resend)
-completed_here c s agent steps.Cancel = no_slot (step_refusal c s agent steps.Cancel)
 completed_here c s agent steps.Start = refl
-completed_here c s agent steps.RecvSnp = no_slot (step_refusal c s agent steps.RecvSnp)
-completed_here c s agent steps.RecvSnpResp = no_slot (step_refusal c s agent steps.RecvSnpResp)
-completed_here c s agent steps.RecvData = no_slot (step_refusal c s agent steps.RecvData)
-completed_here c s agent steps.RecvComp = no_slot (step_refusal c s agent steps.RecvComp)
 completed_here c s agent steps.RecvAck = refl
-completed_here c s agent steps.RecvDbid = no_slot (step_refusal c s agent steps.RecvDbid)
 completed_here c s agent steps.RecvWrData = refl
+completed_here c s agent other = no_slot (step_refusal c s agent other)
 
 -- the line's slot is the slice's
 pub completes_at : (s : SliceState) (action : Action) → is_in_range s action ≡ true → completed_at (line s action.line.0).home (cells_of (line s action.line.0) action.agent.0) action.agent action.step ≡ completes s action

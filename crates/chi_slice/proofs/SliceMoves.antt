@@ -5,10 +5,11 @@ use Rattle.chi_line.specs.LineState.{LineState}
 use Rattle.chi_line.specs.Step.{after}
 use Rattle.chi_line.proofs.MoveLaw.{Moved}
 use Rattle.chi_line.proofs.Moves.{moves}
-use Rattle.chi_slice.specs.Slice.{OtherLinesStay, SliceKept, SliceState, acted, conditions_of, last_of, line, refused, row_of_line}
+use Rattle.chi_slice.specs.Slice.{OtherLinesStay, SliceKept, SliceState, acted, last_of, line, refused, row_of_line}
 use Rattle.chi_slice.proofs.Acts.{Allowed, allowed, names_unused}
 use Rattle.chi_slice.proofs.Rows.{InRange, in_range, rows_apart}
 use Rattle.chi_slice.proofs.Slices.{line_at-with_line, line_at-with_other}
+use Rattle.chi_slice.proofs.Refusing.{conditions_of}
 
 -- what an action that isn't refused does to the requests that a slice shows: at its line what its step does,
 -- and nothing at the others

@@ -20,8 +20,8 @@ use Rattle.chi_slice.specs.Index.{HasType, IsInside, IsShown, is_slot_of, typed_
 use Rattle.chi_line.specs.Places.{where_at}
 use Rattle.chi_line.specs.Types.{has_type, is_of_type, pending_kind_of, requested_kind_of, served_kind_of, waiting_kind_of}
 use Rattle.chi_slice.proofs.Indexes.{IsSlotOf, is_slot_number}
-use Rattle.chi_line.proofs.Untouched.{Free, is_free}
-use Rattle.chi_line.proofs.Wheres.{shows_unused}
+use Rattle.chi_line.proofs.Typed.{of_type, unused_serves, unused_waits}
+use Rattle.chi_line.proofs.Wheres.{Free, is_free, shows_unused}
 
 -- nothing is kept of a slot that isn't in use
 unpending : (profile : Profile) (ty : CreditType) (pending : Option Pending) (slot : Slot) → is_slot (pending_slot pending) slot ≡ false → has_type profile ty (pending_kind_of pending slot) ≡ true
@@ -34,32 +34,17 @@ unrequested profile ty None pending slot fits other = refl
 unrequested profile ty (Some request) pending slot fits other =
     ap (λ (b : Bool). has_type profile ty (if b then Some request.kind else None)) (sym (ap (λ (o : Option Slot). is_slot o slot) (fits request refl)) ∙ other)
 
-unwaiting : (profile : Profile) (ty : CreditType) (waiting : Option Waiting) (slot : Slot) → is_slot (waiting_slot waiting) slot ≡ false → has_type profile ty (waiting_kind_of waiting slot) ≡ true
-unwaiting profile ty None slot other = refl
-unwaiting profile ty (Some request) slot other = ap (λ (b : Bool). has_type profile ty (if b then Some request.kind else None)) other
-
-unserved_by : (profile : Profile) (ty : CreditType) (kind : Kind) (b : Bool) (own slot : Slot) → is_slot (if b then Some own else None) slot ≡ false → has_type profile ty (if b && own.0 == slot.0 then Some kind else None) ≡ true
-unserved_by profile ty kind true own slot other = ap (λ (c : Bool). has_type profile ty (if c then Some kind else None)) other
-unserved_by profile ty kind false own slot other = refl
-
-unserved : (profile : Profile) (ty : CreditType) (serving : Serving) (n : ℕ) (slot : Slot) → is_slot (slot_served_for serving n) slot ≡ false → has_type profile ty (served_kind_of serving n slot) ≡ true
-unserved profile ty Idle n slot other = refl
-unserved profile ty (Snooping agent kind own) n slot other = unserved_by profile ty kind (agent.0 == n) own slot other
-unserved profile ty (AwaitingCompAck agent own) n slot other = refl
-unserved profile ty (AwaitingWriteData agent kind own) n slot other = unserved_by profile ty kind (agent.0 == n) own slot other
-
-all_four : (a b c d : Bool) → a ≡ true → b ≡ true → c ≡ true → d ≡ true → a && (b && (c && d)) ≡ true
-all_four a b c d w x y z = rw (w, x, y, z) refl
-
 pub unused_type : (profile : Profile) (ty : CreditType) (last : List ℕ) (s : LineState) (n : ℕ) (slot : Slot) → n < 8 → Kept last s → where_at s n slot ≡ None → is_of_type profile ty s n slot ≡ true
 unused_type profile ty last s n slot low k none =
     let free : Free s n slot = is_free s n slot (shows_unused s last n slot low k none) in
     let lanes : LaneKept s.home.serving s.home.filter.unique s.home.filter.owner last n (lane s n) = k.lanes n low in
-    all_four _ _ _ _
-    (unpending profile ty (rn_of s n).pending slot free.pending)
-    (unrequested profile ty (cells_of s n).req (pending_slot (rn_of s n).pending) slot lanes.request_slot free.pending)
-    (unwaiting profile ty (waiting_of s.home n) slot free.waiting)
-    (unserved profile ty s.home.serving n slot free.served)
+    of_type profile ty s n slot
+    (record {
+      pending = unpending profile ty (rn_of s n).pending slot free.pending;
+      request = unrequested profile ty (cells_of s n).req (pending_slot (rn_of s n).pending) slot lanes.request_slot free.pending;
+      waiting = unused_waits profile ty (waiting_of s.home n) slot free.waiting;
+    })
+    (unused_serves profile ty s.home.serving n slot free.served)
 
 -- the type at the place is the type at every line
 pub types_of : (s : SliceState) (ty : CreditType) (n : ℕ) (slot : Slot) (place : Option Place) → SliceKept s → n < 8 → IsShown s n slot place → typed_at s ty n slot place ≡ true → HasType s ty n slot

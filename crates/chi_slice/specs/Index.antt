@@ -1,16 +1,15 @@
--- The index of the slots in use that a slice keeps, and how it follows an action (docs/PROTOCOL.md,
+-- The index of the slots in use that a slice keeps, and what it says of the lines (docs/PROTOCOL.md,
 -- "Agreement").
-use Rattle.std.specs.Prelude.{◌≡◌, ℕ, ◌+◌, ◌*◌, ◌<◌, ◌≤◌, List, length, replicate, slice_set, Bool, true, false, Option, Some, None, ◌&&◌, ◌==◌, nat_lt}
+use Rattle.std.specs.Prelude.{◌≡◌, ℕ, ◌+◌, ◌*◌, ◌<◌, ◌≤◌, List, length, replicate, slice_set, Bool, true, false}
+use Rattle.std.specs.Prelude.{Option, Some, None, ◌&&◌, ◌==◌, nat_lt}
 use Rattle.std.specs.Prelude.{if◌then◌else◌}
 use Rattle.std.specs.List.{slice_index_or}
 use Rattle.chi_flit.specs.declared.numbers.Line.{Line}
 use Rattle.chi_flit.specs.declared.numbers.Slot.{Slot}
-use Rattle.chi_flit.specs.declared.action.Action.{Action}
 use Rattle.chi_flit.specs.declared.credit.CreditType.{CreditType}
 use Rattle.chi_line.specs.declared.seen.Where.{Where}
 use Rattle.chi_slice.specs.declared.places.Place.{Place}
 use Rattle.chi_line.specs.LineState.{LineState}
-use Rattle.chi_line.specs.Moves.{moved_slot, moved_to}
 use Rattle.chi_line.specs.Step.{line_uses}
 use Rattle.chi_journal.specs.Journal.{Log}
 use Rattle.chi_config.specs.Config.{Sizes}
@@ -85,7 +84,3 @@ IsKept config index lines journal places = SliceKept (slice_of config index line
 abbrev pub moved_in : List (Option Place) → ℕ → Line → Option Slot → Option Where → List (Option Place)
 moved_in places n line None to = places
 moved_in places n line (Some slot) to = with_place places n slot (placed line to)
-
--- an index that follows an action on a line: the slot that its step moves has the place that it is moved to
-abbrev pub followed_by : List (Option Place) → LineState → Action → List (Option Place)
-followed_by places old action = moved_in places action.agent.0 action.line (moved_slot old action.agent action.step) (moved_to old action.agent action.step)

@@ -1,6 +1,7 @@
 -- A slice: the lines l with l mod slices = index, each in a row (docs/PROTOCOL.md, "One line" and
 -- "The actions").
-use Rattle.std.specs.Prelude.{◌≡◌, ◌≢◌, ℕ, ◌+◌, ◌-◌, ◌/◌, ◌%◌, ◌<◌, List, [], ◌∷◌, Bool, true, false, ◌&&◌, ◌||◌, ◌==◌, nat_lt, Option, Some, None}
+use Rattle.std.specs.Prelude.{◌≡◌, ◌≢◌, ℕ, ◌+◌, ◌-◌, ◌/◌, ◌%◌, ◌<◌, List, [], ◌∷◌, Bool, true}
+use Rattle.std.specs.Prelude.{false, ◌&&◌, ◌||◌, ◌==◌, nat_lt, Option, Some, None}
 use Rattle.std.specs.Prelude.{length, replicate, slice_set, if◌then◌else◌}
 use Rattle.std.specs.List.{list_any, slice_index_or}
 use Rattle.chi_flit.specs.declared.numbers.Slot.{Slot}
@@ -101,9 +102,6 @@ conditions_under terms s action = record {
   credits = terms.credits;
   profile = s.config.profile;
 }
-
-abbrev pub conditions_of : SliceState → Action → Conditions
-conditions_of s action = conditions_under no_terms s action
 
 -- why an action is refused on these terms: 10, then the numbers of its row in the table of the actions
 abbrev pub refused_under : Terms → SliceState → Action → Option Refusal

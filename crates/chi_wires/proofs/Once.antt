@@ -72,12 +72,7 @@ none_after channel agent first (cells ∷ flits) later =
 
 -- nothing is on a channel where nothing is
 nothing : (channel : Channel) → cell_of no_flits channel ≡ None
-nothing channels.Req = refl
-nothing channels.Snp = refl
-nothing channels.RspDown = refl
-nothing channels.DatDown = refl
-nothing channels.RspUp = refl
-nothing channels.DatUp = refl
+nothing channel = search arith
 
 once_from : (channel : Channel) (agent : Agent) (n first : ℕ) (flits : List Cells) → agent.0 ≡ first + n
     → filter (is_at channel agent) (flits_from first flits) ≡ flit_of agent (cell_of (get_or flits n no_flits) channel)

@@ -10,6 +10,7 @@ use Rattle.chi_flit.specs.declared.message.Msg.TheVariants as messages
 use Rattle.chi_flit.specs.Message.{channel_of}
 use Rattle.chi_wires.specs.declared.cells.Cells.{Cells}
 use Rattle.chi_wires.specs.Cell.{cell_of}
+use Rattle.chi_wires.specs.Flits.{cells_at}
 
 -- a message on its way between an agent and the home
 pub record Flit : Type 0 where
@@ -23,6 +24,10 @@ flit agent message = record { agent = agent; message = message }
 abbrev pub flit_of : Agent → Option Msg → List Flit
 flit_of agent None = []
 flit_of agent (Some message) = flit agent message ∷ []
+
+-- the flit that is in flight on a channel, to or from an agent, if there is one
+abbrev pub cell_flit : List Cells → Agent → Channel → List Flit
+cell_flit flits agent channel = flit_of agent (cell_of (cells_at flits agent.0) channel)
 
 -- the flits of one agent
 abbrev pub flits_of : Agent → Cells → List Flit

@@ -7,7 +7,7 @@ ghost use Rattle.chi_flit.specs.Message.{channel_of};
 ghost use Rattle.chi_flit.specs.declared.message.Channel.{Channel};
 ghost use Rattle.chi_flit.specs.declared.message.Msg.TheVariants as messages;
 ghost use Rattle.chi_wires.specs.Cell.{cell_of, emptied, with_message};
-ghost use Rattle.chi_wires.specs.Flight.{flit, flit_of, in_flight, is_at, snoop_flits};
+ghost use Rattle.chi_wires.specs.Flight.{cell_flit, flit, flit_of, in_flight, is_at, snoop_flits};
 ghost use Rattle.chi_wires.specs.Flits.{cells_at, with_snoops};
 
 use crate::cells::Cells;
@@ -64,8 +64,7 @@ pub fn put_data(flits: &mut [Cells; 8], agent: Agent, sent: CompData)
 pub fn clear(flits: &mut [Cells; 8], agent: Agent, channel: Channel)
     requires { agent.0 < 8 }
     ensures after { flits.new ≡ slice_set flits.old agent.0 (emptied (cells_at flits.old agent.0) channel) }
-    ensures removes { IsPermutation (flit_of agent (cell_of (cells_at flits.old agent.0) channel) ++ in_flight flits.new)
-        (in_flight flits.old) }
+    ensures removes { IsPermutation (cell_flit flits.old agent channel ++ in_flight flits.new) (in_flight flits.old) }
 {
     flits[usize::from(agent.0)].clear(channel);
 }
@@ -82,7 +81,7 @@ pub fn exchange(flits: &mut [Cells; 8], agent: Agent, taken: Channel, message: M
     requires empty { cell_of (emptied (cells_at flits.old agent.0) taken) (channel_of message) ≡ None }
     ensures after { flits.new
         ≡ slice_set flits.old agent.0 (with_message (emptied (cells_at flits.old agent.0) taken) message) }
-    ensures swaps { IsPermutation (flit_of agent (cell_of (cells_at flits.old agent.0) taken) ++ in_flight flits.new)
+    ensures swaps { IsPermutation (cell_flit flits.old agent taken ++ in_flight flits.new)
         (flit agent message ∷ in_flight flits.old) }
 {
     flits[usize::from(agent.0)].exchange(taken, message);
