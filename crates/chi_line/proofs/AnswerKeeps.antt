@@ -1,5 +1,5 @@
 -- Answers to snoops, and the completion that the last one brings, keep what a line keeps.
-use Rattle.std.proofs.Common.{set, ◌≡◌, ◌≢◌, ℕ, ◌<◌, List, Bool, true, false, Option, Some, None, length, arith, refl, sym, subst, ap, ◌∙◌, ⊎_elim, if◌then◌else◌, ◌&&◌, inl, inr, ◌⊎◌}
+use Rattle.std.proofs.Common.{set, ◌≡◌, ◌≢◌, ℕ, ◌<◌, List, Bool, true, false, Option, Some, None, length, arith, refl, sym, subst, ap, ◌∙◌, ⊎_elim, if◌then◌else◌, ◌&&◌, ◌⊎◌}
 use Rattle.std.proofs.lemmas.Bool.{cases_eq, both_ways, false_from_ne_true}
 use Rattle.std.proofs.lemmas.List.{length-set, get_or_default}
 use Rattle.std.proofs.lemmas.List.Folds.{list_any_none}
@@ -8,11 +8,7 @@ use Rattle.chi_flit.specs.declared.numbers.Slot.{Slot}
 use Rattle.chi_flit.specs.declared.state.State.{State}
 use Rattle.chi_flit.specs.declared.state.State.TheVariants.{SD}
 use Rattle.chi_flit.specs.declared.kind.Kind.{Kind}
-use Rattle.chi_flit.specs.declared.kind.Kind.TheVariants.{ReadNotSharedDirty, ReadShared, ReadUnique, CleanUnique, Evict, WriteBackFull, WriteCleanFull, WriteEvictFull}
 use Rattle.chi_flit.specs.declared.snoop.Snoop.{Snoop}
-use Rattle.chi_flit.specs.declared.snoop.Snoop.TheVariants.{SnpShared, SnpNotSharedDirty, SnpUnique, SnpCleanInvalid}
-use Rattle.chi_flit.specs.declared.message.RspUp.TheVariants.{SnpRespI, SnpRespSC}
-use Rattle.chi_flit.specs.declared.message.DatUp.TheVariants.{SnpRespDataIPD, SnpRespDataSCPD, SnpRespDataSD}
 use Rattle.chi_flit.specs.Kind.{snoop_of}
 use Rattle.chi_flit.specs.State.{is_dirty}
 use Rattle.chi_filter.specs.Filter.{FilterState, has_any, is_in, is_named, others_than, owned_by, owner_without, removed}

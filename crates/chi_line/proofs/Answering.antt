@@ -16,9 +16,8 @@ use Rattle.chi_wires.specs.Flight.{in_flight}
 use Rattle.chi_wires.proofs.Moved.{taken_sent}
 use Rattle.chi_homeline.specs.declared.serving.Completion.{Completion}
 use Rattle.chi_homeline.specs.declared.serving.Serving.{Serving}
-use Rattle.chi_homeline.specs.declared.serving.Serving.TheVariants.{Idle, Snooping, AwaitingCompAck, AwaitingWriteData}
+use Rattle.chi_homeline.specs.declared.serving.Serving.TheVariants.{Snooping}
 use Rattle.chi_homeline.specs.declared.serving.SnoopAnswer.{SnoopAnswer}
-use Rattle.chi_homeline.specs.declared.serving.SnoopAnswer.TheVariants as answers
 use Rattle.chi_homeline.specs.Home.{Home, completes_unique, completion_by, completion_of, finished_sends_as, snoop_answered_sends}
 use Rattle.chi_line.specs.LineState.{LineState, cells_of}
 use Rattle.chi_line.specs.Kept.{snoops_for}

@@ -1,7 +1,7 @@
 -- A line that keeps what a line keeps is coherent.
 use Rattle.std.proofs.Common.{◌≡◌, ℕ, ◌<◌, List, Bool, true, false, Option, Some, None, arith, refl, ap}
 use Rattle.chi_flit.specs.declared.state.State.{State}
-use Rattle.chi_flit.specs.declared.state.State.TheVariants.{I, SC, UC, UD, SD}
+use Rattle.chi_flit.specs.declared.state.State.TheVariants.{I, SD}
 use Rattle.chi_flit.specs.State.{is_valid, is_unique}
 use Rattle.chi_filter.specs.Filter.{is_named, owned_by}
 use Rattle.chi_flit.specs.declared.numbers.Agent.{Agent}

@@ -1,13 +1,12 @@
 -- What a completion does to one lane: its agent's own, and every other.
 use Rattle.std.specs.Prelude.{◌≡◌, ℕ, List, Bool, true, false, ◌==◌, Option, Some, None}
-use Rattle.std.proofs.Common.{refl, arith}
+use Rattle.std.proofs.Common.{arith}
 use Rattle.chi_flit.specs.declared.numbers.Agent.{Agent}
 use Rattle.chi_flit.specs.declared.numbers.Slot.{Slot}
-use Rattle.std.proofs.lemmas.Bool.{false≢true}
 use Rattle.chi_flit.specs.declared.state.State.{State}
-use Rattle.chi_flit.specs.declared.state.State.TheVariants.{I, SC, UC, UD, SD}
+use Rattle.chi_flit.specs.declared.state.State.TheVariants.{I}
 use Rattle.chi_flit.specs.declared.kind.Kind.{Kind}
-use Rattle.chi_flit.specs.declared.kind.Kind.TheVariants.{ReadNotSharedDirty, ReadShared, ReadUnique, CleanUnique, Evict, WriteBackFull, WriteCleanFull, WriteEvictFull}
+use Rattle.chi_flit.specs.declared.kind.Kind.TheVariants.{CleanUnique}
 use Rattle.chi_flit.specs.declared.message.RspDown.TheVariants.{CompUC}
 use Rattle.chi_filter.specs.Filter.{owned_by}
 use Rattle.chi_homeline.specs.declared.serving.Serving.TheVariants.{Snooping, AwaitingCompAck}

@@ -6,18 +6,17 @@ use Rattle.std.proofs.lemmas.Bool.{cases_lt, false≢true, true≢false, not-tru
 use Rattle.chi_flit.specs.declared.numbers.Agent.{Agent}
 use Rattle.chi_flit.specs.declared.numbers.Slot.{Slot}
 use Rattle.chi_flit.specs.declared.kind.Kind.{Kind}
-use Rattle.chi_flit.specs.declared.kind.Kind.TheVariants.{ReadNotSharedDirty, ReadShared, ReadUnique, CleanUnique, Evict, WriteBackFull, WriteCleanFull, WriteEvictFull}
+use Rattle.chi_flit.specs.declared.kind.Kind.TheVariants.{CleanUnique}
 use Rattle.chi_flit.specs.declared.snoop.Snoop.{Snoop}
 use Rattle.chi_flit.specs.declared.snoop.Snoop.TheVariants.{SnpShared, SnpNotSharedDirty, SnpUnique, SnpCleanInvalid}
 use Rattle.chi_flit.specs.Kind.{snoop_of}
 use Rattle.chi_filter.specs.Filter.{FilterState, nobody, only_named, only_set, is_in, has_any, others_than, is_named}
 use Rattle.chi_wires.specs.declared.cells.Cells.{Cells}
 use Rattle.chi_wires.specs.Cell.{no_flits, with_message}
-use Rattle.chi_rnline.specs.Rn.{no_line}
 use Rattle.chi_homeline.specs.declared.serving.Serving.TheVariants.{Snooping, AwaitingCompAck}
 use Rattle.chi_homeline.specs.Home.{completed, completed_filter, completes_unique, completion_message, completion_of}
 use Rattle.chi_line.specs.LineState.{LineState, cells_of}
-use Rattle.chi_line.specs.Kept.{Kept, Lane, LaneKept, invalidates, is_read, lane}
+use Rattle.chi_line.specs.Kept.{Kept, LaneKept, invalidates, is_read, lane}
 use Rattle.chi_line.proofs.Frame.{IsCleanLane, Puts, kept_moved, memory_by, moves_home, puts_nothing, puts_set, nothing_waiting, within}
 use Rattle.chi_line.proofs.Asks.{apart, same, in_only, none_in, left_in, length-others}
 use Rattle.chi_line.proofs.CompleteLanes.{read_completes, clean_completes, no_owner, alone_other, shared_other, none_left, read_from_none}

@@ -16,7 +16,7 @@ use Rattle.chi_wires.specs.declared.cells.Cells.{Cells}
 use Rattle.chi_wires.specs.Cell.{with_message}
 use Rattle.chi_rnline.specs.Rn.{comp_received, snoop_received, dbid_received, state_after_comp, state_after_write}
 use Rattle.chi_homeline.specs.declared.serving.Serving.{Serving}
-use Rattle.chi_homeline.specs.declared.serving.Serving.TheVariants.{Idle, Snooping, AwaitingCompAck, AwaitingWriteData}
+use Rattle.chi_homeline.specs.declared.serving.Serving.TheVariants.{Snooping, AwaitingWriteData}
 use Rattle.chi_homeline.specs.Home.{acks_for}
 use Rattle.chi_line.specs.LineState.{LineState, rn_of, cells_of}
 use Rattle.chi_line.specs.Coherent.{passes_dirty}

@@ -9,7 +9,7 @@ use Rattle.chi_flit.specs.declared.message.CompData.{CompData}
 use Rattle.chi_flit.specs.Kind.{is_needed}
 use Rattle.chi_flit.specs.State.{is_dirty}
 use Rattle.chi_homeline.specs.declared.serving.Serving.{Serving}
-use Rattle.chi_homeline.specs.declared.serving.Serving.TheVariants.{Idle, Snooping, AwaitingCompAck, AwaitingWriteData}
+use Rattle.chi_homeline.specs.declared.serving.Serving.TheVariants.{AwaitingCompAck, AwaitingWriteData}
 use Rattle.chi_homeline.specs.Home.{acks_for, served_slot}
 use Rattle.chi_line.specs.Kept.{Lane, LaneKept, allows, writes_for}
 use Rattle.chi_line.specs.Step.{is_ack, is_slot, slot_served_for}

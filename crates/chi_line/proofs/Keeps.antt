@@ -1,11 +1,10 @@
 -- Each action keeps what a line keeps.
-use Rattle.std.proofs.Common.{refl, ◌≡◌, ◌≢◌, ℕ, ◌<◌, List, true, false, Some, None, is_some, eqb, set, arith, sym, subst, ap, ◌∙◌}
-use Rattle.std.proofs.lemmas.List.{length-set}
+use Rattle.std.proofs.Common.{refl, ◌≡◌, ◌≢◌, ℕ, ◌<◌, List, true, false, Some, None, is_some, eqb, set, arith, sym, subst, ap}
 use Rattle.chi_flit.specs.declared.numbers.Slot.{Slot}
 use Rattle.chi_flit.specs.declared.state.State.{State}
 use Rattle.chi_flit.specs.declared.state.State.TheVariants.{I}
 use Rattle.chi_flit.specs.declared.kind.Kind.{Kind}
-use Rattle.chi_flit.specs.declared.kind.Kind.TheVariants.{ReadNotSharedDirty, ReadShared, ReadUnique, CleanUnique, Evict, WriteBackFull, WriteCleanFull, WriteEvictFull}
+use Rattle.chi_flit.specs.declared.kind.Kind.TheVariants.{Evict}
 use Rattle.chi_flit.specs.declared.message.Request.{Request}
 use Rattle.chi_flit.specs.declared.message.CompData.{CompData}
 use Rattle.chi_flit.specs.declared.message.RspUp.TheVariants.{CompAck}
@@ -14,7 +13,7 @@ use Rattle.chi_flit.specs.State.{is_dirty}
 use Rattle.chi_wires.specs.Cell.{with_message}
 use Rattle.chi_rnline.specs.declared.pending.Phase.TheVariants.{Sent}
 use Rattle.chi_rnline.specs.Rn.{received, request_message}
-use Rattle.chi_homeline.specs.declared.serving.Serving.TheVariants.{Idle, AwaitingCompAck}
+use Rattle.chi_homeline.specs.declared.serving.Serving.TheVariants.{AwaitingCompAck}
 use Rattle.chi_homeline.specs.Home.{acknowledged, admitted, waiting_of}
 use Rattle.chi_line.specs.LineState.{LineState, rn_of, cells_of}
 use Rattle.chi_line.specs.Kept.{LaneKept, Kept, lane}

@@ -1,6 +1,5 @@
 -- Store, Drop and the actions of the retry flow keep what a line keeps.
-use Rattle.std.proofs.Common.{◌≡◌, ℕ, ◌<◌, List, true, false, Some, None, set, arith, sym, subst, ap, ◌∙◌}
-use Rattle.std.proofs.lemmas.List.{length-set}
+use Rattle.std.proofs.Common.{◌≡◌, ℕ, ◌<◌, List, true, false, Some, None, set, arith, ap}
 use Rattle.std.proofs.lemmas.Bool.{false_from_ne_true}
 use Rattle.chi_flit.specs.declared.credit.Profile.{Profile}
 use Rattle.chi_flit.specs.declared.credit.CreditType.{CreditType}

@@ -1,6 +1,6 @@
 -- The kinds that a line keeps of a slot's request have the credit types that they had: only an Issue gives a
 -- slot a kind.
-use Rattle.std.proofs.Common.{◌≡◌, ◌≢◌, ℕ, ◌<◌, List, Bool, true, false, ◌&&◌, ◌==◌, Option, Some, None, length, get_or, set, refl, sym, ◌∙◌, ap, subst, if◌then◌else◌, arith, get_or-set_same}
+use Rattle.std.proofs.Common.{◌≡◌, ℕ, ◌<◌, Bool, true, false, ◌&&◌, ◌==◌, Option, Some, None, length, refl, sym, ◌∙◌, ap, subst, if◌then◌else◌, arith, get_or-set_same}
 use Rattle.std.proofs.lemmas.Bool.{and_parts, eq-eqb}
 use Rattle.chi_flit.specs.declared.numbers.Agent.{Agent}
 use Rattle.chi_flit.specs.declared.numbers.Slot.{Slot}
@@ -12,26 +12,23 @@ use Rattle.chi_flit.specs.declared.credit.CreditType.{CreditType}
 use Rattle.chi_flit.specs.declared.credit.Profile.{Profile}
 use Rattle.chi_flit.specs.declared.message.Request.{Request}
 use Rattle.chi_flit.specs.declared.message.RspDown.{RspDown}
-use Rattle.chi_flit.specs.declared.message.RspDown.TheVariants.{RetryAck, CompUC, CompI, CompDBIDResp}
+use Rattle.chi_flit.specs.declared.message.RspDown.TheVariants.{CompUC}
 use Rattle.chi_flit.specs.declared.message.DatUp.{DatUp}
-use Rattle.chi_flit.specs.declared.message.DatUp.TheVariants.{SnpRespDataIPD, SnpRespDataSCPD, SnpRespDataSD, CopyBackWrData}
+use Rattle.chi_flit.specs.declared.message.DatUp.TheVariants.{CopyBackWrData}
 use Rattle.chi_flit.specs.Kind.{snoop_of, is_copy_back}
 use Rattle.chi_flit.specs.Credit.{credit_number, credit_type_of}
 use Rattle.chi_filter.specs.Filter.{has_any, removed}
 use Rattle.chi_wires.specs.declared.cells.Cells.{Cells}
 use Rattle.chi_wires.specs.Cell.{no_flits}
-use Rattle.chi_rnline.specs.Rn.{Rn, in_phase, no_line}
+use Rattle.chi_rnline.specs.Rn.{Rn, no_line}
 use Rattle.chi_rnline.specs.declared.pending.Pending.{Pending}
-use Rattle.chi_rnline.specs.declared.pending.Phase.{Phase}
-use Rattle.chi_rnline.specs.declared.pending.Phase.TheVariants.{Sent, Retried}
 use Rattle.chi_homeline.specs.declared.serving.Waiting.{Waiting}
 use Rattle.chi_homeline.specs.declared.serving.Serving.{Serving}
 use Rattle.chi_homeline.specs.declared.serving.Serving.TheVariants.{Idle, Snooping, AwaitingCompAck, AwaitingWriteData}
 use Rattle.chi_homeline.specs.declared.serving.SnoopAnswer.{SnoopAnswer}
-use Rattle.chi_homeline.specs.Home.{Home, acknowledged, admitted, answer_taken, asks, completed, completed_by, finished_as, served_kind, started_as, taken_up, waiting_of, written}
+use Rattle.chi_homeline.specs.Home.{Home, answer_taken, asks, completed, completed_by, finished_as, served_kind, started_as, taken_up, waiting_of}
 use Rattle.chi_line.specs.LineState.{LineState, rn_of, cells_of}
-use Rattle.chi_line.specs.Kept.{Kept}
-use Rattle.chi_line.specs.Step.{issued_slot, admitted_line, after_step, answer_in, answered_by, completion_received, data_written, dbid_received_line, is_slot, issued_line, received_line, resent_line, retried_line, slot_served_for, snooped_line, started_line, waiting_slot, where_some}
+use Rattle.chi_line.specs.Step.{admitted_line, after_step, answer_in, answered_by, completion_received, data_written, dbid_received_line, is_slot, issued_line, received_line, resent_line, retried_line, slot_served_for, snooped_line, started_line, waiting_slot, where_some}
 use Rattle.chi_line.specs.Types.{has_type, is_of_type, pending_kind_of, requested_kind_of, served_kind_of, waiting_kind_of}
 use Rattle.chi_line.specs.Places.{seen_of}
 use Rattle.chi_line.proofs.Elsewhere.{Stays}

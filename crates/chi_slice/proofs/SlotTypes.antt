@@ -1,24 +1,20 @@
 -- The credit type of a slot: only the line of its place keeps a kind of its request.
-use Rattle.std.proofs.Common.{◌≡◌, ℕ, ◌<◌, Bool, true, false, ◌&&◌, ◌==◌, List, Option, Some, None, refl, sym, ◌∙◌, ap, subst, if◌then◌else◌}
+use Rattle.std.proofs.Common.{◌≡◌, ℕ, ◌<◌, Bool, true, false, ◌==◌, List, Option, Some, None, refl, sym, ◌∙◌, ap, subst, if◌then◌else◌}
 use Rattle.std.proofs.lemmas.Bool.{eqb-true}
 use Rattle.chi_flit.specs.declared.numbers.Slot.{Slot}
-use Rattle.chi_flit.specs.declared.kind.Kind.{Kind}
 use Rattle.chi_flit.specs.declared.credit.CreditType.{CreditType}
 use Rattle.chi_flit.specs.declared.credit.Profile.{Profile}
 use Rattle.chi_flit.specs.declared.message.Request.{Request}
 use Rattle.chi_rnline.specs.declared.pending.Pending.{Pending}
-use Rattle.chi_homeline.specs.declared.serving.Serving.{Serving}
-use Rattle.chi_homeline.specs.declared.serving.Serving.TheVariants.{Idle, Snooping, AwaitingCompAck, AwaitingWriteData}
-use Rattle.chi_homeline.specs.declared.serving.Waiting.{Waiting}
 use Rattle.chi_homeline.specs.Home.{waiting_of}
 use Rattle.chi_slice.specs.declared.places.Place.{Place}
 use Rattle.chi_line.specs.LineState.{LineState, rn_of, cells_of}
 use Rattle.chi_line.specs.Kept.{Kept, LaneKept, lane}
-use Rattle.chi_line.specs.Step.{is_slot, pending_slot, slot_served_for, waiting_slot}
+use Rattle.chi_line.specs.Step.{is_slot, pending_slot}
 use Rattle.chi_slice.specs.Slice.{SliceState, SliceKept, last_of, line}
 use Rattle.chi_slice.specs.Index.{HasType, IsInside, IsShown, is_slot_of, typed_at}
 use Rattle.chi_line.specs.Places.{where_at}
-use Rattle.chi_line.specs.Types.{has_type, is_of_type, pending_kind_of, requested_kind_of, served_kind_of, waiting_kind_of}
+use Rattle.chi_line.specs.Types.{has_type, is_of_type, pending_kind_of, requested_kind_of}
 use Rattle.chi_slice.proofs.Indexes.{IsSlotOf, is_slot_number}
 use Rattle.chi_line.proofs.Typed.{of_type, unused_serves, unused_waits}
 use Rattle.chi_line.proofs.Wheres.{Free, is_free, shows_unused}
