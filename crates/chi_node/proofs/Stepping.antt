@@ -35,7 +35,7 @@ use Rattle.chi_credit.specs.Slot.{after_answer, after_finish, can_be_answered, i
 use Rattle.chi_credit.specs.Account.{moved, slot_at, state_at}
 use Rattle.chi_node.specs.Requester.{RequesterState, with_both}
 use Rattle.chi_node.specs.Agree.{MatchesRecord, where_of_state}
-use Rattle.chi_node.specs.AfterStep.{CanFinish, CanFollow, Completes, Finishes, IsPending, account_after, changed_at, counts_after, requester_after}
+use Rattle.chi_node.specs.AfterStep.{CanFinish, CanFollow, Completes, Finishes, SlotMeets, account_after, changed_at, counts_after, requester_after}
 use Rattle.chi_node.specs.Calls.{place_at}
 use Rattle.chi_node.proofs.Records.{Becomes, answered, closed, closing, ended, only_after, only_nowhere, only_there, record_here, record_is, restated, says_here, tells_of}
 use Rattle.chi_node.proofs.Agreement.{AllFollow, CountsFollow, OwnFollows, action_of, left_line, moves_to, none_moves, one_moves}
@@ -144,12 +144,12 @@ issue_fine s agent l kind slot r ready low idle =
 pub change_fine : (s : SliceState) (agent : Agent) (l : Line) (step : Step) (r : RequesterState) (from : Where) (condition : ℕ → Type 0) (change : SlotRecord → SlotRecord) → Ready s agent l step r
     → always_moves step ≡ true → moved_from (line s l.0) agent step ≡ Some from → issued_slot step ≡ None
     → ((slot : Slot) → Own s agent l step r from slot → condition slot.0 × Becomes (slot_at r.slots slot.0) (change (slot_at r.slots slot.0)) (moved_to (line s l.0) agent step))
-    → IsPending (moved_slot (line s l.0) agent step) condition × AllFollow s agent l step r.slots (changed_at (moved_slot (line s l.0) agent step) change r.slots)
+    → SlotMeets (moved_slot (line s l.0) agent step) condition × AllFollow s agent l step r.slots (changed_at (moved_slot (line s l.0) agent step) change r.slots)
 change_fine s agent l step r from condition change ready moving is_from unissued meets =
     let found = some_slot (moved_slot (line s l.0) agent step) (ready.moves.there moving) in
     let own : Own s agent l step r from found.0 = own_at s agent l step r from found.0 ready found.1 is_from in
     let met = meets found.0 own in
-    subst (λ (o : Option Slot). IsPending o condition × AllFollow s agent l step r.slots (changed_at o change r.slots)) (sym found.1) ((own.low, met.0), slot_moves s agent l step r from found.0 _ ready own unissued met.1)
+    subst (λ (o : Option Slot). SlotMeets o condition × AllFollow s agent l step r.slots (changed_at o change r.slots)) (sym found.1) ((own.low, met.0), slot_moves s agent l step r from found.0 _ ready own unissued met.1)
 
 pub admitted_answers : (state : SlotState) → is_admitted state ≡ true → can_be_answered state ≡ true
 admitted_answers states.Idle h = absurd (cc (h))
@@ -158,7 +158,7 @@ admitted_answers other h = absurd (cc (h))
 
 -- a request at the home that is answered
 pub answer_fine : (s : SliceState) (agent : Agent) (l : Line) (step : Step) (r : RequesterState) → Ready s agent l step r → always_moves step ≡ true → moved_from (line s l.0) agent step ≡ Some places.Admitted → moved_to (line s l.0) agent step ≡ Some places.Answered → issued_slot step ≡ None
-    → IsPending (moved_slot (line s l.0) agent step) (λ k. can_be_answered (state_at r.slots k) ≡ true) × AllFollow s agent l step r.slots (changed_at (moved_slot (line s l.0) agent step) after_answer r.slots)
+    → SlotMeets (moved_slot (line s l.0) agent step) (λ k. can_be_answered (state_at r.slots k) ≡ true) × AllFollow s agent l step r.slots (changed_at (moved_slot (line s l.0) agent step) after_answer r.slots)
 answer_fine s agent l step r ready moving is_from to unissued = change_fine s agent l step r places.Admitted (λ k. can_be_answered (state_at r.slots k) ≡ true) after_answer ready moving is_from unissued
     (λ slot own. let state = tells_of (slot_at r.slots slot.0) places.Admitted own.tells in
     (admitted_answers (state_at r.slots slot.0) state.0, subst (Becomes (slot_at r.slots slot.0) (after_answer (slot_at r.slots slot.0))) (sym to) (answered (slot_at r.slots slot.0) state.0)))

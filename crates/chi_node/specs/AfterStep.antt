@@ -16,55 +16,55 @@ use Rattle.chi_credit.specs.declared.slot.SlotState.TheVariants.{Admitted, Idle,
 use Rattle.chi_credit.specs.declared.slot.SlotRecord.{SlotRecord}
 use Rattle.chi_credit.specs.Slot.{after_answer, after_finish, can_be_answered, in_state, is_admitted, opened}
 use Rattle.chi_credit.specs.Account.{riding_of, slot_at, state_at, type_at}
-use Rattle.chi_node.specs.declared.steps.Place.{Place}
+use Rattle.chi_node.specs.declared.steps.StepPlace.{StepPlace}
 use Rattle.chi_node.specs.Requester.{RequesterState, with_both}
 
--- the record of the pending slot changes
+-- the record of a slot changes, if there is one
 abbrev pub changed_at : Option Slot → (SlotRecord → SlotRecord) → List SlotRecord → List SlotRecord
 changed_at None change slots = slots
 changed_at (Some slot) change slots = slice_set slots slot.0 (change (slot_at slots slot.0))
 
 -- the slots of an account after a step at a place
-abbrev pub account_after : Place → Step → List SlotRecord → List SlotRecord
+abbrev pub account_after : StepPlace → Step → List SlotRecord → List SlotRecord
 account_after at (steps.Issue kind slot) slots = slice_set slots slot.0 (opened at.line (credit_type_of at.profile kind))
-account_after at steps.RecvRetry slots = changed_at at.pending (in_state Retried) slots
-account_after at steps.Resend slots = changed_at at.pending (in_state Riding) slots
-account_after at steps.Cancel slots = changed_at at.pending (in_state Cancelled) slots
-account_after at steps.RecvData slots = changed_at at.pending after_answer slots
-account_after at steps.RecvComp slots = changed_at at.pending after_answer slots
-account_after at steps.RecvDbid slots = changed_at at.pending after_answer slots
+account_after at steps.RecvRetry slots = changed_at at.slot (in_state Retried) slots
+account_after at steps.Resend slots = changed_at at.slot (in_state Riding) slots
+account_after at steps.Cancel slots = changed_at at.slot (in_state Cancelled) slots
+account_after at steps.RecvData slots = changed_at at.slot after_answer slots
+account_after at steps.RecvComp slots = changed_at at.slot after_answer slots
+account_after at steps.RecvDbid slots = changed_at at.slot after_answer slots
 account_after at other slots = slots
 
 -- how many loads and stores each slice answered, after a step at a place
-abbrev pub counts_after : Place → Step → List ℕ → List ℕ
+abbrev pub counts_after : StepPlace → Step → List ℕ → List ℕ
 counts_after at (steps.Load word) counts = slice_set counts at.index (slice_index counts at.index + 1)
 counts_after at (steps.Store word value) counts = slice_set counts at.index (slice_index counts at.index + 1)
 counts_after at other counts = counts
 
 -- the requester after a step at a place
-abbrev pub requester_after : Place → Step → RequesterState → RequesterState
+abbrev pub requester_after : StepPlace → Step → RequesterState → RequesterState
 requester_after at step r = record r { slots = account_after at step r.slots; counts = counts_after at step r.counts }
 
--- a request is pending, in a slot that meets a condition
-abbrev pub IsPending : Option Slot → (ℕ → Type 0) → Type 0
-IsPending None condition = ⊥
-IsPending (Some slot) condition = (slot.0 < 8) × condition slot.0
+-- there is a slot, one of the eight, and it meets a condition
+abbrev pub SlotMeets : Option Slot → (ℕ → Type 0) → Type 0
+SlotMeets None condition = ⊥
+SlotMeets (Some slot) condition = (slot.0 < 8) × condition slot.0
 
 -- when the request of slot s can be sent again: on a seen credit beyond those for the Riding slots
 abbrev pub CanResend : RequesterState → ℕ → Type 0
 CanResend r s = (state_at r.slots s ≡ Retried) × (riding_of r.slots (type_at r.slots s) < seen_of r.port (type_at r.slots s))
 
 -- when a step can be followed: its slot is in the state that the step needs
-abbrev pub CanFollow : Place → Step → RequesterState → Type 0
+abbrev pub CanFollow : StepPlace → Step → RequesterState → Type 0
 CanFollow at (steps.Load word) r = (at.index < 8) × (slice_index r.counts at.index < 65536)
 CanFollow at (steps.Store word value) r = (at.index < 8) × (slice_index r.counts at.index < 65536)
 CanFollow at (steps.Issue kind slot) r = (slot.0 < 8) × (state_at r.slots slot.0 ≡ Idle)
-CanFollow at steps.RecvRetry r = IsPending at.pending (λ s. state_at r.slots s ≡ Refused)
-CanFollow at steps.Resend r = IsPending at.pending (CanResend r)
-CanFollow at steps.Cancel r = IsPending at.pending (λ s. state_at r.slots s ≡ Retried)
-CanFollow at steps.RecvData r = IsPending at.pending (λ s. can_be_answered (state_at r.slots s) ≡ true)
-CanFollow at steps.RecvComp r = IsPending at.pending (λ s. can_be_answered (state_at r.slots s) ≡ true)
-CanFollow at steps.RecvDbid r = IsPending at.pending (λ s. can_be_answered (state_at r.slots s) ≡ true)
+CanFollow at steps.RecvRetry r = SlotMeets at.slot (λ s. state_at r.slots s ≡ Refused)
+CanFollow at steps.Resend r = SlotMeets at.slot (CanResend r)
+CanFollow at steps.Cancel r = SlotMeets at.slot (λ s. state_at r.slots s ≡ Retried)
+CanFollow at steps.RecvData r = SlotMeets at.slot (λ s. can_be_answered (state_at r.slots s) ≡ true)
+CanFollow at steps.RecvComp r = SlotMeets at.slot (λ s. can_be_answered (state_at r.slots s) ≡ true)
+CanFollow at steps.RecvDbid r = SlotMeets at.slot (λ s. can_be_answered (state_at r.slots s) ≡ true)
 CanFollow at other r = ⊤
 
 -- the request of slot s was completed, and its entry, which was in hand, released
@@ -75,12 +75,12 @@ pub record Completes (s : ℕ) (released : Released) (old new : RequesterState) 
   pub after : new ≡ with_both new.port (slice_set old.slots s (after_finish (slot_at old.slots s))) old
 
 -- when a step of this effect can be followed, and what it leaves and answers
-abbrev pub CanFinish : Place → Step → Effect → RequesterState → Type 0
+abbrev pub CanFinish : StepPlace → Step → Effect → RequesterState → Type 0
 CanFinish at step Nothing r = CanFollow at step r
 CanFinish at step (Value word) r = CanFollow at step r
 CanFinish at step (Completed slot) r = (slot.0 < 8) × (is_admitted (state_at r.slots slot.0) ≡ true)
 
-abbrev pub Finishes : Place → Step → Effect → Option Released → RequesterState → RequesterState → Type 0
+abbrev pub Finishes : StepPlace → Step → Effect → Option Released → RequesterState → RequesterState → Type 0
 Finishes at step Nothing released old new = (released ≡ None) × (new ≡ requester_after at step old)
 Finishes at step (Value word) released old new = (released ≡ None) × (new ≡ requester_after at step old)
 Finishes at step (Completed slot) released old new = IfNone released ⊥ × IfSome released (λ r. Completes slot.0 r old new)

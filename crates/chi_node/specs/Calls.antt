@@ -18,7 +18,7 @@ use Rattle.chi_rnline.specs.declared.pending.Pending.{Pending}
 use Rattle.chi_line.specs.LineState.{cells_of, rn_of}
 use Rattle.chi_line.specs.LineStep.{LineStep}
 use Rattle.chi_line.specs.Refused.{first_of, no_flit_unless}
-use Rattle.chi_slice.specs.Slice.{SliceKept, SliceState, acted, are_in_range, flits_refusal, line, refused, refused_under}
+use Rattle.chi_slice.specs.Slice.{SliceKept, SliceState, acted, are_in_range, flits_refusal, line, moved_by, refused, refused_under}
 use Rattle.chi_slice.specs.declared.terms.Terms.{Terms}
 use Rattle.chi_slice.specs.Index.{SlotsInRange}
 use Rattle.chi_line.specs.Types.{pending_credit}
@@ -31,8 +31,9 @@ use Rattle.chi_credit.specs.Account.{riding_of, state_at}
 use Rattle.chi_node.specs.declared.answers.Arrived.{Arrived}
 use Rattle.chi_node.specs.declared.answers.Arrived.TheVariants.{Admitted, Retried}
 use Rattle.chi_node.specs.declared.answers.Stepped.{Stepped}
-use Rattle.chi_node.specs.declared.steps.Place.{Place}
+use Rattle.chi_node.specs.declared.steps.StepPlace.{StepPlace}
 use Rattle.chi_node.specs.Requester.{RequesterKept, RequesterState}
+use Rattle.chi_node.specs.Terms.{is_taken}
 use Rattle.chi_node.specs.Arrives.{Arrives}
 use Rattle.chi_node.specs.AfterStep.{Finishes}
 
@@ -67,8 +68,8 @@ ArrivesAt None arrived old new = ⊥
 ArrivesAt (Some request) arrived old new = Arrives request.allow_retry request.slot.0 arrived old new
 
 -- where an action is done
-abbrev pub place_at : SliceState → Action → Place
-place_at s action = record { line = action.line; index = s.index; profile = s.config.profile; pending = pending_slot (rn_of (line s action.line.0) action.agent.0).pending }
+abbrev pub place_at : SliceState → Action → StepPlace
+place_at s action = record { line = action.line; index = s.index; profile = s.config.profile; slot = moved_by s action }
 
 -- what a step that is done leaves of the slice and of its requester, and what is answered
 pub record StepsTo (s s' : SliceState) (action : Action) (r r' : RequesterState) (stepped : Stepped) : Type 0 where
@@ -76,9 +77,9 @@ pub record StepsTo (s s' : SliceState) (action : Action) (r r' : RequesterState)
   pub effect : stepped.effect ≡ effect_of (line s action.line.0) action
   pub requester : Finishes (place_at s action) action.step stepped.effect stepped.released r r'
 
--- whether an Issue's slot, one of eight, isn't Idle in the account
+-- whether an Issue's slot is taken in the account
 abbrev pub is_slot_taken : List SlotRecord → Step → Bool
-is_slot_taken slots (steps.Issue kind slot) = nat_lt slot.0 8 && not (is_idle (state_at slots slot.0))
+is_slot_taken slots (steps.Issue kind slot) = is_taken slots slot
 is_slot_taken slots other = false
 
 -- the credit type that a step wants a seen credit of: a Resend that of the pending request's kind
@@ -111,13 +112,11 @@ is_own_step steps.Admit = false
 is_own_step steps.Retry = false
 is_own_step other = true
 
--- what is known where a step isn't refused
-pub record CanStep (s : SliceState) (r : RequesterState) (action : Action) : Type 0 where
-  pub kept : SliceKept s
-  pub numbers : SlotsInRange s
+-- what every slice and every requester keep
+pub record BothKept (s : SliceState) (r : RequesterState) : Type 0 where
+  pub slice : SliceKept s
+  pub slots : SlotsInRange s
   pub within : length s.journal.entries ≤ s.journal.limit
-  pub allowed : refused s action ≡ None
-  pub called : call_refusal s r action ≡ None
   pub requester : RequesterKept r.port.shape.sizes r
 
 -- what is known where the request of an arrival isn't refused

@@ -4,4 +4,5 @@ pub mod AfterStep
 pub mod Arrives
 pub mod Agree
 pub mod Table
+pub mod Terms
 pub mod Calls

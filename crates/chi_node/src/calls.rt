@@ -1,21 +1,17 @@
 //! The calls for a whole requester on a slice: an arrival of its request, and a step.
 
-ghost use Rattle.std.specs.Prelude.{◌≡◌, ◌<◌, None, true, IfOk, IsTrue, OnErr, OnOk, ◌↔◌};
+ghost use Rattle.std.specs.Prelude.{◌≡◌, true, IfOk, OnErr, OnOk};
 ghost use Rattle.chi_flit.specs.Refusal.{refusal_of};
-ghost use Rattle.chi_slice.specs.Index.{SlotsInRange};
-ghost use Rattle.chi_slice.specs.Slice.{acted, line as line_of_slice, refused, SliceKept};
-ghost use Rattle.chi_line.specs.Step.{effect_of};
-ghost use Rattle.chi_credit.specs.Slot.{is_idle};
 ghost use Rattle.chi_node.specs.Agree.{Agree, KeepsAgreement};
-ghost use Rattle.chi_node.specs.Calls.{arrival_refusal, arrival_step, call_refusal, credit_refusal, is_own_step, is_slot_taken, place_at, wanted_credit, ArrivesOn, CanArriveOn, CanStep, CountsStep, IsArrivalStep, IsSameRequester, IsSameSlice, IsStep, OrNotOpen, StepsTo};
+ghost use Rattle.chi_node.specs.Calls.{arrival_refusal, arrival_step, call_refusal, is_own_step};
+ghost use Rattle.chi_node.specs.Calls.{ArrivesOn, BothKept, CanArriveOn, CountsStep, IsArrivalStep, IsSameRequester, IsSameSlice, IsStep, OrNotOpen, StepsTo};
 ghost use Rattle.chi_node.specs.Parts.{HasTypes};
 
 use crate::agree::agrees;
 use crate::answers::{Arrived, Stepped};
 use crate::requester::Requester;
-use crate::steps::Place;
-use chi_credit::SlotState;
-use chi_flit::{Action, CreditType, Effect, Line, Refusal, Request, Step};
+use crate::steps::StepPlace;
+use chi_flit::{Action, Line, Refusal, Request, Step};
 use chi_slice::{Slice, Terms};
 use chi_tracker::Tracker;
 use std::alloc::Allocator;
@@ -78,7 +74,13 @@ pub fn arrive_agreed<A: Allocator, B: Allocator>(
     ensures slice { IsSameSlice slice.old slice.new }
 {
     let request = arrival(slice, requester, line)?;
-    Ok(admit(slice, tracker, requester, line, request))
+    let agent = requester.number();
+    let arrived = requester.arrive(tracker, request.slot, request.allow_retry);
+    let step = arrival_step(arrived);
+    let Ok(_) = slice.act_under(Action { agent, line, step }, Terms::NONE) else {
+        unreachable!();
+    };
+    Ok(arrived)
 }
 
 /// The requester's request that is in flight at the line.
@@ -97,31 +99,6 @@ fn arrival<A: Allocator>(
     Ok(request)
 }
 
-/// The requester's account and port do their part of the arrival, and then the slice its part.
-fn admit<A: Allocator, B: Allocator>(
-    slice: &mut Slice<A>,
-    tracker: &Tracker<B>,
-    requester: &mut Requester,
-    line: Line,
-    request: Request,
-) -> Arrived
-    requires table { requester.old.table ≡ tracker.now.table }
-    requires types { HasTypes slice.old.config requester.old.port.shape }
-    requires agrees { Agree slice.old requester.old }
-    requires can { CanArriveOn slice.old requester.old line request }
-    ensures arrives { ArrivesOn slice.old slice.new line requester.old requester.new result }
-    ensures step { IsArrivalStep slice.old slice.new requester.old.number line result }
-    ensures agreement { KeepsAgreement slice.old slice.new requester.old requester.new }
-    ensures same { IsSameRequester requester.old requester.new }
-    ensures slice { IsSameSlice slice.old slice.new }
-{
-    let agent = requester.number();
-    let arrived = requester.arrive(tracker, request.slot, request.allow_retry);
-    let step = arrival_step(arrived);
-    do_action(slice, Action { agent, line, step });
-    arrived
-}
-
 /// What the slice does where a request arrived so.
 fn arrival_step(arrived: Arrived) -> Step
     ensures { result ≡ arrival_step arrived }
@@ -129,19 +106,6 @@ fn arrival_step(arrived: Arrived) -> Step
     match arrived {
         Arrived::Admitted(_) => Step::Admit,
         Arrived::Retried(_) => Step::Retry,
-    }
-}
-
-/// An action that isn't refused.
-fn do_action<A: Allocator>(slice: &mut Slice<A>, action: Action) -> Effect
-    requires { refused slice.old action ≡ None }
-    ensures after { slice.new ≡ acted slice.old action }
-    ensures effect { result ≡ effect_of (line_of_slice slice.old action.line.0) action }
-    ensures step { IsStep slice.old action result slice.new }
-{
-    match slice.act(action) {
-        Ok(effect) => effect,
-        Err(_) => unreachable!(),
     }
 }
 
@@ -177,7 +141,7 @@ pub fn step_on<A: Allocator, B: Allocator>(
     if agrees(slice, requester) {
         return step_agreed(slice, tracker, requester, action);
     }
-    place_of_step(slice, requester, action)?;
+    may_step(slice, requester, action)?;
     Err(Refusal::NotOpen)
 }
 
@@ -207,149 +171,41 @@ pub fn step_agreed<A: Allocator, B: Allocator>(
     ensures slice { IsSameSlice slice.old slice.new }
     ensures history { OnOk result (CountsStep slice.old slice.new action requester.old requester.new) }
 {
-    let at = place_of_step(slice, requester, action)?;
-    Ok(advance(slice, tracker, requester, action, at))
-}
-
-/// The slice does its part of the step, and then the requester's account and port their part.
-fn advance<A: Allocator, B: Allocator>(
-    slice: &mut Slice<A>,
-    tracker: &Tracker<B>,
-    requester: &mut Requester,
-    action: Action,
-    at: Place,
-) -> Stepped
-    requires table { requester.old.table ≡ tracker.now.table }
-    requires agent { action.agent.0 ≡ requester.old.number }
-    requires step { is_own_step action.step ≡ true }
-    requires place { at ≡ place_at slice.old action }
-    requires agrees { Agree slice.old requester.old }
-    requires can { CanStep slice.old requester.old action }
-    ensures steps { StepsTo slice.old slice.new action requester.old requester.new result }
-    ensures step { IsStep slice.old action result.effect slice.new }
-    ensures agreement { KeepsAgreement slice.old slice.new requester.old requester.new }
-    ensures same { IsSameRequester requester.old requester.new }
-    ensures slice { IsSameSlice slice.old slice.new }
-    ensures history { CountsStep slice.old slice.new action requester.old requester.new }
-{
-    let effect = do_action(slice, action);
-    let released = requester.finish(tracker, at, action.step, effect);
-    Stepped { effect, released }
-}
-
-/// Where the step is done.
-fn place_of_step<A: Allocator>(
-    slice: &Slice<A>,
-    requester: &Requester,
-    action: Action,
-) -> Result<Place, Refusal>
-    ensures refusal { refusal_of result ≡ call_refusal slice.now requester.now action }
-    ensures place { IfOk result (λ at. at ≡ place_at slice.now action) }
-    ensures ok { IfOk result (λ _. CanStep slice.now requester.now action) }
-{
-    let agent = requester.number();
-    let _ = slice.journal().part_len(agent);
-    let terms = Terms {
-        slot_taken: is_slot_taken(requester, action.step),
-        credits: [true; 4],
-    };
-    if let Some(refusal) = slice.refusal(action, terms) {
-        return Err(refusal);
-    }
-    if !has_credit(requester, wanted_credit(slice, action)) {
-        return Err(Refusal::NoCredit);
-    }
-    Ok(place_at(slice, action))
-}
-
-/// Where an action that isn't refused is done.
-fn place_at<A: Allocator>(slice: &Slice<A>, action: Action) -> Place
-    requires { refused slice.now action ≡ None }
-    ensures is { result ≡ place_at slice.now action }
-    ensures kept { SliceKept slice.now }
-    ensures slots { SlotsInRange slice.now }
-{
-    let Ok(pending) = slice.pending(action.agent, action.line) else {
-        unreachable!();
-    };
-    Place {
+    let terms = requester.terms(action.step);
+    keeps(slice, requester);
+    let done = slice.act_under(action, terms)?;
+    let at = StepPlace {
         line: action.line,
         index: slice.index(),
         profile: slice.config().profile(),
-        pending,
+        slot: done.slot,
+    };
+    let released = requester.finish(tracker, at, action.step, done.effect);
+    Ok(Stepped {
+        effect: done.effect,
+        released,
+    })
+}
+
+/// Why the step is refused, before it is asked whether the requester agrees with the slice.
+fn may_step<A: Allocator>(
+    slice: &Slice<A>,
+    requester: &Requester,
+    action: Action,
+) -> Result<(), Refusal>
+    ensures { refusal_of result ≡ call_refusal slice.now requester.now action }
+{
+    match slice.refusal(action, requester.terms(action.step)) {
+        Some(refusal) => Err(refusal),
+        None => Ok(()),
     }
 }
 
-/// Whether an Issue's slot, one of eight, isn't Idle in the account.
-fn is_slot_taken(requester: &Requester, step: Step) -> bool
-    ensures { result ≡ is_slot_taken requester.now.slots step }
+/// What every slice and every requester keep. Nothing is done.
+fn keeps<A: Allocator>(slice: &Slice<A>, requester: &Requester)
+    ensures { BothKept slice.now requester.now }
 {
-    match step {
-        Step::Issue(_, slot) => slot.0 < 8 && !is_idle(requester.slot(slot).state),
-        Step::Load(_)
-        | Step::Store(_, _)
-        | Step::Drop
-        | Step::Admit
-        | Step::Retry
-        | Step::RecvRetry
-        | Step::Resend
-        | Step::Cancel
-        | Step::Start
-        | Step::RecvSnp
-        | Step::RecvSnpResp
-        | Step::RecvData
-        | Step::RecvComp
-        | Step::RecvAck
-        | Step::RecvDbid
-        | Step::RecvWrData => false,
-    }
-}
-
-/// Whether a slot in this state is free.
-fn is_idle(state: SlotState) -> bool
-    ensures { result ≡ is_idle state }
-{
-    matches!(state, SlotState::Idle)
-}
-
-/// The credit type that an action, which isn't refused, wants a seen credit of: a Resend that of the
-/// pending request.
-fn wanted_credit<A: Allocator>(slice: &Slice<A>, action: Action) -> Option<CreditType>
-    requires { refused slice.now action ≡ None }
-    ensures { result ≡ wanted_credit slice.now action }
-{
-    match action.step {
-        Step::Resend => {
-            let Ok(credit) = slice.pending_credit(action.agent, action.line) else {
-                unreachable!();
-            };
-            credit
-        }
-        Step::Load(_)
-        | Step::Store(_, _)
-        | Step::Drop
-        | Step::Issue(_, _)
-        | Step::Admit
-        | Step::Retry
-        | Step::RecvRetry
-        | Step::Cancel
-        | Step::Start
-        | Step::RecvSnp
-        | Step::RecvSnpResp
-        | Step::RecvData
-        | Step::RecvComp
-        | Step::RecvAck
-        | Step::RecvDbid
-        | Step::RecvWrData => None,
-    }
-}
-
-/// Whether a seen credit of the type, if one is wanted, is beyond those for the Riding slots.
-fn has_credit(requester: &Requester, wanted: Option<CreditType>) -> bool
-    ensures { IsTrue result ↔ (credit_refusal requester.now wanted ≡ None) }
-{
-    match wanted {
-        Some(ty) => requester.can_resend(ty),
-        None => true,
-    }
+    let agent = requester.number();
+    let _ = slice.journal().part_len(agent);
+    let _ = slice.flits(agent, Line(0));
 }

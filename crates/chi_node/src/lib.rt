@@ -13,6 +13,7 @@ mod moves;
 mod opening;
 mod requester;
 mod steps;
+mod terms;
 
 pub use agree::{agree_with, agrees};
 pub use answers::{Arrived, Stepped};

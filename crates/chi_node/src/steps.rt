@@ -8,29 +8,29 @@ use chi_flit::{Effect, Line, Profile, Slot, Step, credit_type};
 use chi_tracker::{Released, Tracker};
 use std::alloc::Allocator;
 
-/// Where a step is done: the line, the index of its slice and the slice's profile, and the slot of the
-/// agent's request that was pending there.
+/// Where a step was done: the line, the index of its slice and the slice's profile, and the slot of the
+/// request that it moved, if it moved one.
 #[derive(Clone, Copy, Debug, PartialEq, Eq)]
-pub(crate) struct Place {
+pub(crate) struct StepPlace {
     pub(crate) line: Line,
     pub(crate) index: u8,
     pub(crate) profile: Profile,
-    pub(crate) pending: Option<Slot>,
+    pub(crate) slot: Option<Slot>,
 }
 
 impl Requester {
     /// The agent did a step that completes nothing: its account and its counts follow.
-    pub(crate) fn follow(&mut self, at: Place, step: Step)
+    pub(crate) fn follow(&mut self, at: StepPlace, step: Step)
         requires { CanFollow at step self.old }
         ensures { self.new ≡ requester_after at step self.old }
     {
         match step {
             Step::Load(_) | Step::Store(_, _) => self.counted(at.index),
             Step::Issue(kind, slot) => self.open(slot, at.line, credit_type(at.profile, kind)),
-            Step::RecvRetry => self.retry_seen(pending_slot(at)),
-            Step::Resend => self.resend(pending_slot(at)),
-            Step::Cancel => self.cancel(pending_slot(at)),
-            Step::RecvData | Step::RecvComp | Step::RecvDbid => self.answered(pending_slot(at)),
+            Step::RecvRetry => self.retry_seen(moved_slot(at)),
+            Step::Resend => self.resend(moved_slot(at)),
+            Step::Cancel => self.cancel(moved_slot(at)),
+            Step::RecvData | Step::RecvComp | Step::RecvDbid => self.answered(moved_slot(at)),
             Step::Drop
             | Step::Admit
             | Step::Retry
@@ -47,7 +47,7 @@ impl Requester {
     pub(crate) fn finish<A: Allocator>(
         &mut self,
         tracker: &Tracker<A>,
-        at: Place,
+        at: StepPlace,
         step: Step,
         effect: Effect,
     ) -> Option<Released>
@@ -65,12 +65,12 @@ impl Requester {
     }
 }
 
-/// The slot of the request that is pending at the place.
-fn pending_slot(at: Place) -> Slot
-    requires { IsTrue (is_some at.pending) }
-    ensures { at.pending ≡ Some result }
+/// The slot of the request that a step moved.
+fn moved_slot(at: StepPlace) -> Slot
+    requires { IsTrue (is_some at.slot) }
+    ensures { at.slot ≡ Some result }
 {
-    let Some(slot) = at.pending else {
+    let Some(slot) = at.slot else {
         unreachable!();
     };
     slot

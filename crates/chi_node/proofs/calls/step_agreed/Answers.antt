@@ -1,0 +1,36 @@
+-- The step can be followed, and agreement is kept.
+use Rattle.std.proofs.Common.{◌≡◌, Some, ◌∙◌, ap, rules}
+use Rattle.chi_slice.specs.declared.terms.Terms.{Terms}
+use Rattle.chi_slice.specs.Slice.{refused_under}
+use Rattle.chi_node.specs.Calls.{call_refusal}
+use Rattle.chi_node.proofs.Refusing.{called}
+use Rattle.chi_node.proofs.StepCalls.{StepKept, can_finish, can_step, place_is, step_kept}
+use Rattle.chi_node.proofs.calls.step_agreed.Given as given
+use Rattle.chi_node.proofs.calls.step_agreed.Goals as goal
+
+pub finish-released-requires-clause-fits : goal.finish-released-requires-clause-fits
+finish-released-requires-clause-fits g c =
+    let can = can_step c.args.slice.now c.args.requester.now c.args.action c.terms-terms.result c.keeps.ensures c.requires.agrees c.requires.agent c.requires.step c.terms-terms.ensures c.in_ok-done.ensures.refusal in
+    let place = place_is c.args.slice.now c.act_under.new.self c.args.action c.index.result c.profile.result c.in_ok-done.done.slot c.in_ok-done.ensures.after c.index.ensures (search (rules, c.profile.ensures, c.config.ensures)) c.in_ok-done.ensures.slot in
+    can_finish c.args.slice.now c.args.requester.now c.args.action _ c.in_ok-done.done.effect can c.in_ok-done.ensures.effect place
+
+pub returns-in_err-done-clause-refusal : goal.returns-in_err-done-clause-refusal
+returns-in_err-done-clause-refusal g c =
+    let told : Some c.in_err-done.field-0.0 ≡ call_refusal c.args.slice.now c.args.requester.now c.args.action =
+    c.in_err-done.ensures.refusal ∙ (ap (λ (t : Terms). refused_under t c.args.slice.now c.args.action) c.terms-terms.ensures ∙ called c.args.slice.now c.args.requester.now c.args.action) in
+    search (rules, told)
+
+pub returns-clause-refusal : goal.returns-clause-refusal
+returns-clause-refusal g c = c.in_ok-done.ensures.refusal ∙ (ap (λ (t : Terms). refused_under t c.args.slice.now c.args.action) c.terms-terms.ensures ∙ called c.args.slice.now c.args.requester.now c.args.action)
+
+kept : (g : given.Over) (c : goal.After-finish-released g) → StepKept c.args.slice.now c.act_under.new.self c.args.action c.args.requester.now c.finish-released.new.self
+kept g c =
+    let can = can_step c.args.slice.now c.args.requester.now c.args.action c.terms-terms.result c.keeps.ensures c.requires.agrees c.requires.agent c.requires.step c.terms-terms.ensures c.in_ok-done.ensures.refusal in
+    let place = place_is c.args.slice.now c.act_under.new.self c.args.action c.index.result c.profile.result c.in_ok-done.done.slot c.in_ok-done.ensures.after c.index.ensures (search (rules, c.profile.ensures, c.config.ensures)) c.in_ok-done.ensures.slot in
+    step_kept c.args.slice.now _ c.args.requester.now _ c.args.action _ c.in_ok-done.done.effect c.finish-released.result can c.in_ok-done.ensures.effect c.in_ok-done.ensures.after place c.finish-released.ensures
+
+pub returns-clause-agreement : goal.returns-clause-agreement
+returns-clause-agreement g c = (kept g c).agreement
+
+pub returns-clause-history : goal.returns-clause-history
+returns-clause-history g c = (kept g c).history
