@@ -1,9 +1,10 @@
 //! The answer of `audit`.
 
-ghost use Rattle.std.specs.Prelude.{◌≡◌, Some};
+ghost use Rattle.std.specs.Prelude.{◌≡◌};
 ghost use Rattle.chi_reply.specs.Replies.{audit_text, verdict_text};
 
-use std::fmt;
+use crate::prints::Wording;
+use std::alloc::{AllocError, Allocator};
 
 /// How many loads and stores the journals of a node have, and whether its lines are coherent and its
 /// journals legal. It prints as the answer of `audit`, without the line feed.
@@ -15,13 +16,13 @@ pub struct Audit {
     pub coherent: bool,
 }
 
-impl fmt::Display for Audit {
-    ghost output = { λ audit. Some (audit_text audit) };
+impl Wording for Audit {
+    ghost text = { audit_text };
 
-    fn fmt<W: fmt::Write>(&self, f: &mut fmt::Formatter<W>) -> fmt::Result {
+    fn print<A: Allocator>(&self, printed: &mut String<A>) -> Result<(), AllocError> {
         let (loads, stores) = (self.loads, self.stores);
         let verdict = verdict_word(self.coherent);
-        write!(f, "ok loads {loads} stores {stores} {verdict}")
+        write!(printed, "ok loads {loads} stores {stores} {verdict}")
     }
 }
 

@@ -1,11 +1,11 @@
 //! The answer of `see`.
 
-ghost use Rattle.std.specs.Prelude.{Some};
 ghost use Rattle.chi_reply.specs.Replies.{credits_text};
 
-use crate::numbers::{Counts, type_count};
+use crate::numbers::type_count;
+use crate::prints::{Wording, print_numbers};
 use chi_flit::Profile;
-use std::fmt;
+use std::alloc::{AllocError, Allocator};
 
 /// How many credits of each type a requester has seen granted. It prints as the answer of `see`, without
 /// the line feed: the numbers of the types that the profile has.
@@ -16,12 +16,12 @@ pub struct Credits {
     pub profile: Profile,
 }
 
-impl fmt::Display for Credits {
-    ghost output = { λ credits. Some (credits_text credits) };
+impl Wording for Credits {
+    ghost text = { credits_text };
 
-    fn fmt<W: fmt::Write>(&self, f: &mut fmt::Formatter<W>) -> fmt::Result {
+    fn print<A: Allocator>(&self, printed: &mut String<A>) -> Result<(), AllocError> {
         let types = type_count(self.profile);
-        let counts = Counts(&self.counts[..types]);
-        write!(f, "ok credits{counts}")
+        printed.push_str("ok credits")?;
+        print_numbers(&self.counts[..types], printed)
     }
 }

@@ -4,8 +4,10 @@ ghost use Rattle.std.specs.Prelude.{◌≡◌, Some};
 ghost use Rattle.chi_flit.specs.Message.{message_text};
 ghost use Rattle.chi_reply.specs.Replies.{flits_text, has_none, message_list, messages_in, spaced};
 
+use crate::prints::Wording;
 use chi_flit::{Channel, Msg};
 use chi_wires::Cells;
+use std::alloc::{AllocError, Allocator};
 use std::fmt;
 
 /// The flits between an agent and the home for a line. It prints as the answer of `flits`, without the
@@ -41,6 +43,14 @@ impl<'a> fmt::Display for InFlight<'a> {
             write!(f, "{flit}")?;
         }
         Ok(())
+    }
+}
+
+impl<'a> Wording for InFlight<'a> {
+    ghost text = { λ flits. flits_text flits.0.now };
+
+    fn print<A: Allocator>(&self, printed: &mut String<A>) -> Result<(), AllocError> {
+        write!(printed, "{self}")
     }
 }
 

@@ -7,24 +7,9 @@ ghost use Rattle.chi_reply.specs.Replies.{spaced, type_count};
 use chi_flit::Profile;
 use std::fmt;
 
-/// Numbers of entries or credits, a space before each.
-#[derive(Drop)]
-pub(crate) struct Counts<'a>(pub &'a [u32]);
-
 /// Words of a line, a space before each.
 #[derive(Drop)]
 pub(crate) struct Words<'a>(pub &'a [u64]);
-
-impl<'a> fmt::Display for Counts<'a> {
-    ghost output = { λ counts. Some (spaced decimal counts.0.now) };
-
-    fn fmt<W: fmt::Write>(&self, f: &mut fmt::Formatter<W>) -> fmt::Result {
-        for count in self.0 {
-            write!(f, " {count}")?;
-        }
-        Ok(())
-    }
-}
 
 impl<'a> fmt::Display for Words<'a> {
     ghost output = { λ words. Some (spaced decimal words.0.now) };

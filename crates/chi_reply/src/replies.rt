@@ -1,11 +1,13 @@
 //! The answers of the commands that do something.
 
-ghost use Rattle.std.specs.Prelude.{Some};
+ghost use Rattle.std.specs.Prelude.{◌≡◌, ◌++◌, OnOk, string_bytes};
+ghost use Rattle.std.specs.Fmt.{decimal};
 ghost use Rattle.chi_reply.specs.Replies.{released_text, reply_text};
 
+use crate::prints::{Wording, print_number};
 use chi_flit::{CreditType, Entry, Refusal, Slot};
 use chi_tracker::Released;
-use std::fmt;
+use std::alloc::{AllocError, Allocator};
 
 /// What a command that does something answers. It prints as its line of the output, without the line
 /// feed.
@@ -31,43 +33,54 @@ pub enum Reply {
     Refused(Refusal),
 }
 
-/// Where a released entry went, in the words of an answer.
-#[derive(Drop)]
-struct Went(Released);
+impl Wording for Reply {
+    ghost text = { reply_text };
 
-impl fmt::Display for Reply {
-    ghost output = { λ reply. Some (reply_text reply) };
-
-    fn fmt<W: fmt::Write>(&self, f: &mut fmt::Formatter<W>) -> fmt::Result {
+    fn print<A: Allocator>(&self, printed: &mut String<A>) -> Result<(), AllocError> {
         match self {
-            Reply::Done => write!(f, "ok"),
-            Reply::Value(value) => write!(f, "ok value {value}"),
-            Reply::Admitted(entry) => write!(f, "ok admitted {entry}"),
-            Reply::Retry(credit) => write!(f, "ok retry {credit}"),
+            Reply::Done => printed.push_str("ok"),
+            Reply::Value(value) => print_numbered("ok value ", *value, printed),
+            Reply::Admitted(entry) => print_numbered("ok admitted ", u64::from(entry.0), printed),
+            Reply::Retry(credit) => write!(printed, "ok retry {credit}"),
             Reply::Completed(slot, released) => {
-                let went = Went(*released);
-                write!(f, "ok completed {slot} {went}")
+                print_numbered("ok completed ", u64::from(slot.0), printed)?;
+                printed.push(' ')?;
+                print_released(*released, printed)
             }
             Reply::Paid(released) => {
-                let went = Went(*released);
-                write!(f, "ok {went}")
+                printed.push_str("ok ")?;
+                print_released(*released, printed)
             }
-            Reply::Idle => write!(f, "ok idle"),
+            Reply::Idle => printed.push_str("ok idle"),
             Reply::Refused(refusal) => {
                 let number = refusal.number();
-                write!(f, "refused {number} {refusal}")
+                write!(printed, "refused {number} {refusal}")
             }
         }
     }
 }
 
-impl fmt::Display for Went {
-    ghost output = { λ went. Some (released_text went.0) };
+/// Prints words and the number behind them.
+fn print_numbered<A: Allocator>(
+    words: &str,
+    number: u64,
+    printed: &mut String<A>,
+) -> Result<(), AllocError>
+    ensures { OnOk result (string_bytes printed.new ≡ string_bytes printed.old ++ (words.now ++ decimal number)) }
+{
+    printed.push_str(words)?;
+    print_number(number, printed)
+}
 
-    fn fmt<W: fmt::Write>(&self, f: &mut fmt::Formatter<W>) -> fmt::Result {
-        match self.0 {
-            Released::Granted(agent) => write!(f, "granted {agent}"),
-            Released::Freed => write!(f, "freed"),
-        }
+/// Prints where a released entry went.
+fn print_released<A: Allocator>(
+    released: Released,
+    printed: &mut String<A>,
+) -> Result<(), AllocError>
+    ensures { OnOk result (string_bytes printed.new ≡ string_bytes printed.old ++ released_text released) }
+{
+    match released {
+        Released::Granted(agent) => print_numbered("granted ", u64::from(agent.0), printed),
+        Released::Freed => printed.push_str("freed"),
     }
 }

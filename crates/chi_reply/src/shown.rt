@@ -6,8 +6,10 @@ ghost use Rattle.chi_reply.specs.Replies.{serving_text, shown_text, yes_no};
 use crate::agents::{Agents, members};
 use crate::copies::{States, first_copies};
 use crate::numbers::Words;
+use crate::prints::Wording;
 use chi_homeline::{Serving, Waiting};
 use chi_line::LineView;
+use std::alloc::{AllocError, Allocator};
 use std::fmt;
 
 /// A line, with the copies of so many agents, at most all eight. It prints as the answer of `show`,
@@ -23,10 +25,10 @@ pub struct Shown<'a> {
 #[derive(Drop)]
 struct Served(Serving);
 
-impl<'a> fmt::Display for Shown<'a> {
-    ghost output = { λ shown. Some (shown_text shown.agents shown.view.now) };
+impl<'a> Wording for Shown<'a> {
+    ghost text = { λ shown. shown_text shown.agents shown.view.now };
 
-    fn fmt<W: fmt::Write>(&self, f: &mut fmt::Formatter<W>) -> fmt::Result {
+    fn print<A: Allocator>(&self, printed: &mut String<A>) -> Result<(), AllocError> {
         let view = self.view;
         let named = members(&view.named);
         let waiting = members(&has_waiting(&view.waiting));
@@ -37,7 +39,7 @@ impl<'a> fmt::Display for Shown<'a> {
         let waiting = Agents(waiting.as_slice());
         let memory = Words(&view.memory);
         write!(
-            f,
+            printed,
             "ok copies {copies} named {named} unique {unique} serving {serving} waiting {waiting} memory{memory}"
         )
     }

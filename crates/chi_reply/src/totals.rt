@@ -1,11 +1,13 @@
 //! The answer of `totals`.
 
-ghost use Rattle.std.specs.Prelude.{Some};
-ghost use Rattle.chi_reply.specs.Replies.{holdings_text, totals_text};
+ghost use Rattle.std.specs.Prelude.{◌≡◌, ◌++◌, OnOk, string_bytes};
+ghost use Rattle.std.specs.Fmt.{decimal};
+ghost use Rattle.chi_reply.specs.Replies.{holdings_text, spaced, totals_text};
 
-use crate::numbers::{Counts, type_count};
+use crate::numbers::type_count;
+use crate::prints::{Wording, print_numbers};
 use chi_flit::Profile;
-use std::fmt;
+use std::alloc::{AllocError, Allocator};
 
 /// How many entries of each credit type are free, in hand of a requester or promised to one, and how many
 /// credits are owed. It prints as the answer of `totals`, without the line feed: the numbers of the types
@@ -25,25 +27,36 @@ pub struct Totals {
 #[derive(Clone, Copy, Debug, PartialEq, Eq)]
 pub struct Holdings(pub Totals);
 
-impl fmt::Display for Totals {
-    ghost output = { λ totals. Some (totals_text totals) };
+impl Wording for Totals {
+    ghost text = { totals_text };
 
-    fn fmt<W: fmt::Write>(&self, f: &mut fmt::Formatter<W>) -> fmt::Result {
-        let holdings = Holdings(*self);
-        write!(f, "ok {holdings}")
+    fn print<A: Allocator>(&self, printed: &mut String<A>) -> Result<(), AllocError> {
+        printed.push_str("ok ")?;
+        Holdings(*self).print(printed)
     }
 }
 
-impl fmt::Display for Holdings {
-    ghost output = { λ holdings. Some (holdings_text holdings.0) };
+impl Wording for Holdings {
+    ghost text = { λ holdings. holdings_text holdings.0 };
 
-    fn fmt<W: fmt::Write>(&self, f: &mut fmt::Formatter<W>) -> fmt::Result {
+    fn print<A: Allocator>(&self, printed: &mut String<A>) -> Result<(), AllocError> {
         let totals = self.0;
         let types = type_count(totals.profile);
-        let free = Counts(&totals.free[..types]);
-        let hand = Counts(&totals.hand[..types]);
-        let promised = Counts(&totals.promised[..types]);
-        let owed = Counts(&totals.owed[..types]);
-        write!(f, "free{free} hand{hand} promised{promised} owed{owed}")
+        print_named("free", &totals.free[..types], printed)?;
+        print_named(" hand", &totals.hand[..types], printed)?;
+        print_named(" promised", &totals.promised[..types], printed)?;
+        print_named(" owed", &totals.owed[..types], printed)
     }
+}
+
+/// Prints a name and the numbers behind it, a space before each.
+fn print_named<A: Allocator>(
+    name: &str,
+    numbers: &[u32],
+    printed: &mut String<A>,
+) -> Result<(), AllocError>
+    ensures { OnOk result (string_bytes printed.new ≡ string_bytes printed.old ++ (name.now ++ spaced decimal numbers.now)) }
+{
+    printed.push_str(name)?;
+    print_numbers(numbers, printed)
 }

@@ -1,10 +1,9 @@
 //! What came of a storm, as it is printed.
 
-ghost use Rattle.std.specs.Prelude.{Some};
 ghost use Rattle.chi_storm.specs.Outcomes.{outcome_text};
 
-use chi_reply::{Holdings, verdict_word};
-use std::fmt;
+use chi_reply::{Holdings, Wording, verdict_word};
+use std::alloc::{AllocError, Allocator};
 
 /// What came of a storm: how many agents there were and how many finished their scripts, the loads and
 /// stores in the journals, what the tracker held at its end, and the verdict. It prints as the four lines
@@ -20,17 +19,17 @@ pub struct Outcome {
     pub coherent: bool,
 }
 
-impl fmt::Display for Outcome {
-    ghost output = { λ outcome. Some (outcome_text outcome) };
+impl Wording for Outcome {
+    ghost text = { outcome_text };
 
-    fn fmt<W: fmt::Write>(&self, f: &mut fmt::Formatter<W>) -> fmt::Result {
+    fn print<A: Allocator>(&self, printed: &mut String<A>) -> Result<(), AllocError> {
         let (agents, finished) = (self.agents, self.finished);
         let (loads, stores) = (self.loads, self.stores);
-        let holdings = self.holdings;
         let verdict = verdict_word(self.coherent);
-        writeln!(f, "agents {agents} finished {finished}")?;
-        writeln!(f, "loads {loads} stores {stores}")?;
-        writeln!(f, "{holdings}")?;
-        writeln!(f, "verdict {verdict}")
+        writeln!(printed, "agents {agents} finished {finished}")?;
+        writeln!(printed, "loads {loads} stores {stores}")?;
+        self.holdings.print(printed)?;
+        writeln!(printed)?;
+        writeln!(printed, "verdict {verdict}")
     }
 }

@@ -17,6 +17,7 @@ use chi_devices::{Failed, Input, Output, read_all};
 use chi_flit::NoMemory;
 use chi_home::Node;
 use chi_replay::config_of;
+use chi_reply::Wording;
 use chi_script::Fault;
 use chi_slice::Config;
 use chi_storm_script::{Deed, Storm, read_storm};
@@ -97,7 +98,8 @@ fn told<O: Output>(alloc: Global, outcome: Outcome, output: &mut O) -> Result<bo
     ensures ok { IfOk result (λ all. (IsTrue all ↔ (outcome.finished ≡ outcome.agents)) × Appends (O.written output.old) (O.written output.new) (outcome_text outcome)) }
     ensures err { IfErr result (NotTold outcome (O.failures output.old) (O.failures output.new) (O.written output.old) (O.written output.new)) }
 {
-    let text = format!(in alloc; "{outcome}")?;
+    let mut text = String::new(alloc);
+    outcome.print(&mut text)?;
     match output.write_all(text.as_bytes()) {
         Ok(()) => Ok(outcome.finished == outcome.agents),
         Err(Failed) => Err(Fault::Write),

@@ -43,7 +43,8 @@ Sees before counts after = (after ≡ saw_all after.seen before) × ((e : ℕ) �
 
 -- the lowest seen credit of the type is returned, and its entry promised on, or freed
 abbrev pub GivesBack : PortView → CreditType → Released → PortView → Type 0
-GivesBack before ty released after = (e : ℕ) × IsLowestSeen before (credit_number ty) e × (has e before ≡ 0) × Ended (returns_credit (credit_number ty) e before) (credit_number ty) e released after
+GivesBack before ty released after = (e : ℕ) × IsLowestSeen before (credit_number ty) e × (has e before ≡ 0)
+    × Ended (returns_credit (credit_number ty) e before) (credit_number ty) e released after
 
 -- a free entry of the type is claimed and released, or none is
 abbrev pub Tends : PortView → CreditType → Option Released → PortView → Type 0

@@ -29,7 +29,8 @@ made (Asks call next) (answer ∷ answers) = made (next answer) answers
 -- a line for each command
 abbrev pub text : Machine → List Command → List Answer → List ℕ
 text m [] answers = []
-text m (command ∷ rest) answers = (made (turn m command) answers).said ++ (10 ∷ text (made (turn m command) answers).state rest (made (turn m command) answers).left)
+text m (command ∷ rest) answers =
+    (made (turn m command) answers).said ++ (10 ∷ text (made (turn m command) answers).state rest (made (turn m command) answers).left)
 
 -- the port of the agent, which has one, goes on so, and the other ports stay
 abbrev pub AtPort : Agent → List PortView → List PortView → (PortView → PortView → Type 0) → Type 0
@@ -55,11 +56,13 @@ abbrev pub Plays : Turn → List PortView → List Answer → List ℕ → Machi
 Plays (Ends said' m) old [] said state new = (said ≡ said') × (state ≡ m) × (new ≡ old)
 Plays (Ends said' m) old (answer ∷ answers) said state new = ⊥
 Plays (Asks call next) old [] said state new = ⊥
-Plays (Asks call next) old (answer ∷ answers) said state new = (mid : List PortView) × Permits old call answer mid × Plays (next answer) mid answers said state new
+Plays (Asks call next) old (answer ∷ answers) said state new =
+    (mid : List PortView) × Permits old call answer mid × Plays (next answer) mid answers said state new
 
 -- a turn was played, and its line, with its end, was put behind the bytes
 abbrev pub Says : Turn → List PortView → Machine → List PortView → List ℕ → List ℕ → Type 0
-Says played old state new before after = (answers : List Answer) × (said : List ℕ) × Plays played old answers said state new × (after ≡ before ++ (said ++ (10 ∷ [])))
+Says played old state new before after =
+    (answers : List Answer) × (said : List ℕ) × Plays played old answers said state new × (after ≡ before ++ (said ++ (10 ∷ [])))
 
 -- the answers that a list of commands may get
 abbrev pub Allowed : Machine → List PortView → List Command → List Answer → Type 0

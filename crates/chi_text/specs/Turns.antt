@@ -8,6 +8,7 @@ use Rattle.chi_flit.specs.declared.numbers.Line.{Line}
 use Rattle.chi_flit.specs.declared.numbers.Slot.{Slot}
 use Rattle.chi_flit.specs.declared.credit.CreditType.{CreditType}
 use Rattle.chi_flit.specs.declared.credit.CreditType.TheVariants.{T0, T1, T2, T3}
+use Rattle.chi_flit.specs.declared.credit.Profile.{Profile}
 use Rattle.chi_flit.specs.declared.action.Action.{Action}
 use Rattle.chi_flit.specs.declared.action.Effect.{Effect}
 use Rattle.chi_flit.specs.declared.action.Effect.TheVariants as effects
@@ -39,6 +40,7 @@ use Rattle.chi_system.specs.Home.{HomeState, acted, flits_refusal, last_of, line
 use Rattle.chi_reply.specs.Replies.{audit_text, credits_text, flits_text, reply_text, shown_text, totals_text}
 use Rattle.chi_reply.specs.declared.replies.Reply.{Reply}
 use Rattle.chi_reply.specs.declared.replies.Reply.TheVariants as replies
+use Rattle.chi_reply.specs.declared.totals.Totals.{Totals}
 
 -- the slices, and for each agent its table of slots and its seen credits by type: the numbers of its last
 -- `see`, less one for each that was spent or given back since
@@ -137,8 +139,12 @@ slots_after m action = account_after (place_at (slice_of m.home action.line.0) a
 abbrev pub with_action : Machine → Action → Machine
 with_action m action = with_slots (record m { home = acted m.home action }) action.agent (slots_after m action)
 
+-- an agent's slots after the request of a slot is complete
+abbrev pub slots_finished : Machine → Agent → Slot → List SlotRecord
+slots_finished m agent slot = slice_set (slots_of m agent) slot.0 (after_finish (slot_at (slots_of m agent) slot.0))
+
 abbrev pub with_end : Machine → Action → Slot → Machine
-with_end m action slot = with_slots (record m { home = acted m.home action }) action.agent (slice_set (slots_of m action.agent) slot.0 (after_finish (slot_at (slots_of m action.agent) slot.0)))
+with_end m action slot = with_slots (record m { home = acted m.home action }) action.agent (slots_finished m action.agent slot)
 
 abbrev pub completed : Machine → Slot → Answer → Turn
 completed m slot (Went released) = says (replies.Completed slot released) m
@@ -160,7 +166,8 @@ act m action = or_refused (act_refusal m action) m (done (effect_of (line m.home
 
 -- the state after the request of a slot arrived
 abbrev pub with_arrival : Machine → Agent → Line → ℕ → Arrived → SlotState → Machine
-with_arrival m agent l s arrived state = with_slots (record m { home = acted m.home (arrival_action agent.0 l arrived) }) agent (moved (slots_of m agent) s state)
+with_arrival m agent l s arrived state =
+    with_slots (record m { home = acted m.home (arrival_action agent.0 l arrived) }) agent (moved (slots_of m agent) s state)
 
 -- the request of slot s arrived: it is let in with an entry, or retried
 abbrev pub admitted : Machine → Agent → Line → ℕ → Entry → Machine
@@ -212,13 +219,24 @@ saw m agent other = never m
 abbrev pub cancelled_refusal : List SlotRecord → List ℕ → CreditType → Option Refusal
 cancelled_refusal slots credits ty = if nat_lt (lowest_cancelled slots (credit_number ty)) 8 && has_spare slots credits ty then None else Some NoCredit
 
+-- an agent's slots where its lowest Cancelled one of the type is Idle
+abbrev pub slots_idle : Machine → Agent → CreditType → List SlotRecord
+slots_idle m agent ty = slice_set (slots_of m agent) (lowest_cancelled (slots_of m agent) (credit_number ty)) idle_slot
+
+-- the state after that slot's credit is given back
+abbrev pub with_return : Machine → Agent → CreditType → Machine
+with_return m agent ty = with_credits (with_slots m agent (slots_idle m agent ty)) agent (less_one (credits_of m agent) ty)
+
 abbrev pub given_back : Machine → Agent → CreditType → Answer → Turn
-given_back m agent ty (Went released) = says (replies.Paid released) (with_credits (with_slots m agent (slice_set (slots_of m agent) (lowest_cancelled (slots_of m agent) (credit_number ty)) idle_slot)) agent (less_one (credits_of m agent) ty))
+given_back m agent ty (Went released) = says (replies.Paid released) (with_return m agent ty)
 given_back m agent ty other = never m
+
+abbrev pub return_refusal : Machine → Agent → CreditType → Option Refusal
+return_refusal m agent ty = first_of (type_refusal m agent ty) (cancelled_refusal (slots_of m agent) (credits_of m agent) ty)
 
 abbrev pub give_back : Machine → Agent → Option CreditType → Turn
 give_back m agent None = says (replies.Refused OutOfRange) m
-give_back m agent (Some ty) = or_refused (first_of (type_refusal m agent ty) (cancelled_refusal (slots_of m agent) (credits_of m agent) ty)) m (Asks (GiveBack agent ty) (given_back m agent ty))
+give_back m agent (Some ty) = or_refused (return_refusal m agent ty) m (Asks (GiveBack agent ty) (given_back m agent ty))
 
 abbrev pub tended : Machine → Answer → Turn
 tended m (Tended None) = says replies.Idle m
@@ -233,14 +251,19 @@ tend m agent (Some ty) = or_refused (type_refusal m agent ty) m (Asks (Tend agen
 abbrev pub by_type : (CreditType → ℕ) → List ℕ
 by_type number = number T0 ∷ number T1 ∷ number T2 ∷ number T3 ∷ []
 
--- the numbers of entries
+-- numbers of entries and of owed credits, on a node of the profile
+abbrev pub totals_of : Profile → (free hand promised owed : CreditType → ℕ) → Totals
+totals_of profile free hand promised owed =
+    record { free = by_type free; hand = by_type hand; promised = by_type promised; owed = by_type owed; profile = profile }
+
 abbrev pub glanced : Machine → Answer → Turn
-glanced m (Glanced free hand promised owed) = Ends (totals_text (record { free = by_type free; hand = by_type hand; promised = by_type promised; owed = by_type owed; profile = m.home.config.profile })) m
+glanced m (Glanced free hand promised owed) = Ends (totals_text (totals_of m.home.config.profile free hand promised owed)) m
 glanced m other = never m
 
 -- the loads, the stores and the verdict
 abbrev pub judged : Machine → Answer → Turn
-judged m (Judged coherent) = Ends (audit_text (record { loads = loads_in m.home.slices; stores = stores_in m.home.slices; coherent = coherent })) m
+judged m (Judged coherent) =
+    Ends (audit_text (record { loads = loads_in m.home.slices; stores = stores_in m.home.slices; coherent = coherent })) m
 judged m other = never m
 
 -- an action; Admit and Retry are what an arrival does

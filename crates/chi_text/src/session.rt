@@ -9,16 +9,17 @@ ghost use Rattle.chi_text.specs.Session.{PlaysOn, SaysOn, machine_of};
 
 use crate::told::{arrival_reply, give_back_reply, step_reply, tend_reply, totals_told};
 use chi_flit::{Action, Agent, CreditType, Line, NoMemory, Step};
-use chi_reply::{Audit, Credits, InFlight, Reply, Shown};
+use chi_reply::{Audit, Credits, InFlight, Reply, Shown, Wording};
 use chi_script::Command;
 use chi_system::System;
 use std::alloc::Allocator;
 
-/// Puts a reply behind the text, with the end of its line.
-fn say<B: Allocator>(reply: Reply, text: &mut String<B>) -> Result<(), NoMemory>
-    ensures { OnOk result (string_bytes text.new ≡ string_bytes text.old ++ (reply_text reply ++ (10 ∷ []))) }
+/// Prints an answer and the end of its line behind the text.
+fn say<W: Wording, B: Allocator>(answer: &W, text: &mut String<B>) -> Result<(), NoMemory>
+    ensures { OnOk result (string_bytes text.new ≡ string_bytes text.old ++ (W.text answer.now ++ (10 ∷ []))) }
 {
-    writeln!(text, "{reply}")?;
+    answer.print(text)?;
+    text.push('\n')?;
     Ok(())
 }
 
@@ -41,19 +42,19 @@ pub(crate) fn answer<A: Allocator, B: Allocator>(
         Command::See { agent } => say_credits(system, agent, text),
         Command::Arrive { agent, line } => {
             let reply = arrive(system, agent, line);
-            say(reply, text)
+            say(&reply, text)
         }
         Command::GiveBack { agent, credit } => {
             let reply = give_back(system, agent, credit);
-            say(reply, text)
+            say(&reply, text)
         }
         Command::Tend { agent, credit } => {
             let reply = tend(system, agent, credit);
-            say(reply, text)
+            say(&reply, text)
         }
         Command::Act(action) => {
             let reply = act(system, action);
-            say(reply, text)
+            say(&reply, text)
         }
     }
 }
@@ -68,7 +69,7 @@ fn say_totals<A: Allocator, B: Allocator>(
     let counts = system.glance();
     let profile = system.config().profile();
     let totals = totals_told(counts, profile);
-    writeln!(text, "{totals}")?;
+    say(&totals, text)?;
     Ok(())
 }
 
@@ -86,7 +87,7 @@ fn say_audit<A: Allocator, B: Allocator>(
         stores,
         coherent,
     };
-    writeln!(text, "{audit}")?;
+    say(&audit, text)?;
     Ok(())
 }
 
@@ -105,10 +106,10 @@ fn say_line<A: Allocator, B: Allocator>(
                 agents,
                 view: &view,
             };
-            writeln!(text, "{shown}")?;
+            say(&shown, text)?;
             Ok(())
         }
-        Err(refusal) => say(Reply::Refused(refusal), text),
+        Err(refusal) => say(&Reply::Refused(refusal), text),
     }
 }
 
@@ -124,10 +125,10 @@ fn say_flits<A: Allocator, B: Allocator>(
     match system.flits(agent, line) {
         Ok(cells) => {
             let flits = InFlight(&cells);
-            writeln!(text, "{flits}")?;
+            say(&flits, text)?;
             Ok(())
         }
-        Err(refusal) => say(Reply::Refused(refusal), text),
+        Err(refusal) => say(&Reply::Refused(refusal), text),
     }
 }
 
@@ -143,10 +144,10 @@ fn say_credits<A: Allocator, B: Allocator>(
     match system.see(agent) {
         Ok(counts) => {
             let credits = Credits { counts, profile };
-            writeln!(text, "{credits}")?;
+            say(&credits, text)?;
             Ok(())
         }
-        Err(refusal) => say(Reply::Refused(refusal), text),
+        Err(refusal) => say(&Reply::Refused(refusal), text),
     }
 }
 

@@ -1,12 +1,23 @@
-//! Whether a value prints as a text.
+//! Whether an answer prints as a text.
 
-use std::alloc::Global;
-use std::fmt;
+use chi_reply::Wording;
+use std::alloc::{AllocError, Global};
 use std::process::Abort;
 
-/// The value prints as this text. What it prints is asked without a clause: so a test carries along nothing
-/// that was promised of it.
-pub fn prints<T: fmt::Display + Drop>(rt: &impl Abort, alloc: Global, value: T, text: &str) {
-    let printed = value.to_string(alloc).expect(rt, "memory for a text");
-    assert!(rt; printed.as_str() == text, "{text}");
+/// The answer prints as this text, behind what was printed before.
+pub fn prints<W: Wording + Drop>(rt: &impl Abort, alloc: Global, answer: W, text: &str) {
+    let printed = printed_behind(alloc, &answer, "audit\n").expect(rt, "memory for a text");
+    assert!(rt; printed.strip_prefix("audit\n") == Some(text), "{text}");
+}
+
+/// What is printed where this was printed before. It is asked without a clause: so a test carries along
+/// nothing that was promised of it.
+fn printed_behind<W: Wording>(
+    alloc: Global,
+    answer: &W,
+    before: &str,
+) -> Result<String, AllocError> {
+    let mut printed = String::from_str(alloc, before)?;
+    answer.print(&mut printed)?;
+    Ok(printed)
 }

@@ -375,9 +375,8 @@ fn is_told(rt: &impl Abort, alloc: Global, fault: &Fault, status: u8, line: &str
 }
 
 #[test]
-fn words_are_read_alone(rt: HostRuntime) {
-    let command: [&[u8]; 2] = [b"show", b"1"];
-    assert!(rt; read_command(&command) == Some(Command::Show { line: Line(1) }));
+fn lines_are_read_alone(rt: HostRuntime) {
+    assert!(rt; read_command(b"show 1") == Some(Command::Show { line: Line(1) }));
     let header: [&[u8]; 7] = [b"node", b"1", b"1", b"1", b"1", b"1", b"1"];
     assert!(rt; read_header(&header).is_some());
     numbers_are_decimal();

@@ -10,5 +10,5 @@ returns g c =
     let y = c.args.system.now in
     let audit = c.audit-found.result in
     let found : IsAudited y.home.slices audit.loads audit.stores audit.coherent = search (rules, c.audit-found.ensures) in
-    let bytes : string_bytes c.writeln.new.self ≡ string_bytes c.args.text.now ++ (audit_text (record { loads = audit.loads; stores = audit.stores; coherent = audit.coherent }) ++ (10 ∷ [])) = search (rules, c.in_ok-writeln.ensures.bytes) in
+    let bytes : string_bytes c.say.new.text ≡ string_bytes c.args.text.now ++ (audit_text (record { loads = audit.loads; stores = audit.stores; coherent = audit.coherent }) ++ (10 ∷ [])) = search (rules, c.in_ok-say.ensures) in
     audit_says y audit.loads audit.stores audit.coherent (string_bytes c.args.text.now) _ found bytes

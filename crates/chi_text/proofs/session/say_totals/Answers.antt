@@ -14,5 +14,5 @@ returns g c =
     let counts : Counts = c.glance-counts.result in
     let four : AreFours counts = record { free = omega arith; hand = omega arith; promised = omega arith; owed = omega arith } in
     let profile : c.profile-profile.result ≡ y.home.config.profile = c.profile-profile.ensures ∙ ap (λ (k : Sizes). k.profile) c.config.ensures.is in
-    let bytes : string_bytes c.writeln.new.self ≡ string_bytes c.args.text.now ++ (totals_text (totals_told counts c.profile-profile.result) ++ (10 ∷ [])) = search (rules, c.in_ok-writeln.ensures.bytes) in
+    let bytes : string_bytes c.say.new.text ≡ string_bytes c.args.text.now ++ (totals_text (totals_told counts c.profile-profile.result) ++ (10 ∷ [])) = search (rules, c.in_ok-say.ensures) in
     glance_says y counts (string_bytes c.args.text.now) _ four (bytes ∙ ap (λ (p : Profile). string_bytes c.args.text.now ++ (totals_text (totals_told counts p) ++ (10 ∷ []))) profile)
