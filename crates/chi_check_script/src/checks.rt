@@ -6,8 +6,7 @@ ghost use Rattle.chi_script.specs.Faults.{Gives};
 ghost use Rattle.chi_check_script.specs.Checks.{is_comment, parts_of, seen};
 ghost use Rattle.chi_check_script.specs.Files.{check_at};
 
-use chi_script::{Command, Fault, read_command, read_words};
-use std::alloc::Allocator;
+use chi_script::{Command, Fault, read_command};
 
 /// A command of a check file.
 /// Source: `docs/PROTOCOL.md`, "Check files".
@@ -48,19 +47,13 @@ fn parts(line: &[u8]) -> (&[u8], Option<&[u8]>)
 }
 
 /// The check that a line is, which is given without its line end and is no comment; its number is for the
-/// fault, and the list is room for its words. `BadCommand` where what stands before its first arrow is no command, and `NoMemory` where
-/// memory runs out.
+/// fault. `BadCommand` where what stands before its first arrow is no command.
 /// Source: `docs/PROTOCOL.md`, "Check files".
-pub(crate) fn check_in<'a, A: Allocator>(
-    words: &mut Vec<&'a [u8], A>,
-    line: &'a [u8],
-    number: usize,
-) -> Result<Check<'a>, Fault>
+pub(crate) fn check_in(line: &[u8], number: usize) -> Result<Check<'_>, Fault>
     ensures { Gives seen result (check_at number line.now) }
 {
     let (front, wanted) = parts(line);
-    read_words(words, front)?;
-    let command = read_command(words).ok_or(Fault::BadCommand(number))?;
+    let command = read_command(front).ok_or(Fault::BadCommand(number))?;
     Ok(Check {
         line: number,
         command,

@@ -77,11 +77,10 @@ fn checks_from<'a, A: Allocator + Copy>(
     ensures { Gives (λ checks. map seen checks.items) result (checks_of first (lines_of bytes.now)) }
 {
     let mut checks = Vec::new(alloc);
-    let mut words = Vec::new(alloc);
     let mut rest = bytes;
     let mut number = first;
     while let Some((line, after)) = first_line(rest) {
-        add_check(&mut checks, &mut words, line, number)?;
+        add_check(&mut checks, line, number)?;
         rest = after;
         number += 1;
     }
@@ -93,10 +92,9 @@ fn checks_from<'a, A: Allocator + Copy>(
 }
 
 /// Puts the check that a line is behind the others; nothing where it is a comment. Its number is for the
-/// fault, and the list is room for its words.
+/// fault.
 fn add_check<'a, A: Allocator>(
     checks: &mut Vec<Check<'a>, A>,
-    words: &mut Vec<&'a [u8], A>,
     line: &'a [u8],
     number: usize,
 ) -> Result<(), Fault>
@@ -105,7 +103,7 @@ fn add_check<'a, A: Allocator>(
     if is_comment(line) {
         return Ok(());
     }
-    let check = check_in(words, line, number)?;
+    let check = check_in(line, number)?;
     checks.push(check)?;
     Ok(())
 }

@@ -61,6 +61,17 @@ digits_again n (d ∷ ds) all fits =
     let each = both (is_ascii_digit d) (all_ascii_digits ds) all in
     rw (digit_fits n d each.0 (omega (arith, grows (10 * n + (d - 48)) ds, fits))) (digits_again (10 * n + (d - 48)) ds each.1 fits)
 
+unit : (o : Option ℕ) → o ≡ (o >>= λ m. Some m)
+unit None = refl
+unit (Some m) = refl
+
+-- a word of one digit is that digit
+pub one_digit : (word : List ℕ) (d : ℕ) → 1 ≤ length word → length word < 2 → with_digit 0 (get_or word 0 d) ≡ number_of word
+unfolding digits_of
+one_digit [] d low high = absurd (omega (arith, low))
+one_digit (b ∷ []) d low high = unit (with_digit 0 b)
+one_digit (b ∷ next ∷ more) d low high = absurd (omega (arith, high))
+
 -- a word that is read has a digit, and a zero at its front only alone
 shape : (word : List ℕ) (n : ℕ) → number_of word ≡ Some n → (digits_of 0 word ≡ Some n) × (0 < length word) × (get_or word 0 0 ≡ 48 → length word ≡ 1)
 shape [] n e = cc

@@ -1,11 +1,11 @@
 //! The commands of a replay file: a table for each count of words, a line for each command.
 
-ghost use Rattle.std.specs.Prelude.{◌≡◌};
-ghost use Rattle.chi_script.specs.Words.{texts_of};
+ghost use Rattle.std.specs.Prelude.{◌≡◌, ◌∷◌};
+ghost use Rattle.chi_script.specs.Words.{words_of};
 ghost use Rattle.chi_script.specs.Commands.{command_of, command_bare, command_one, command_two, command_step, act_at, credit_of, step_of, step_with_one, step_with_two, kind_of};
 
 use crate::numbers::{number, small};
-use crate::words::is;
+use crate::words::{first_word, is};
 use chi_flit::{Action, Agent, CreditType, Kind, Line, Slot, Step, WordNo};
 
 /// One command of a replay file.
@@ -51,21 +51,61 @@ pub enum Command {
     Act(Action),
 }
 
-/// The command that the words of a line are. `None` for an unknown word, a wrong count of words or a
-/// faulty number.
+/// The command that a line is, which is given without its line end. `None` for an unknown word, a wrong
+/// count of words or a faulty number.
 /// Source: `docs/PROTOCOL.md`, "Replay files".
-pub fn read_command(words: &[&[u8]]) -> Option<Command>
-    ensures { result ≡ command_of (texts_of words.now) }
+pub fn read_command(line: &[u8]) -> Option<Command>
+    ensures { result ≡ command_of (words_of line.now) }
 {
-    match words {
-        [verb] => bare(verb),
-        [verb, first] => with_one(verb, small(first)?),
-        [verb, first, second] => with_two(verb, small(first)?, small(second)?),
-        [verb, first, second, third] => stepped(first, second, step_with_one(verb, third)?),
-        [verb, first, second, third, fourth] => {
-            stepped(first, second, step_with_two(verb, third, fourth)?)
-        }
-        _ => None,
+    match first_word(line) {
+        None => bare(line),
+        Some((verb, rest)) => after_one(verb, rest),
+    }
+}
+
+/// The command of a verb and what stands behind it.
+fn after_one(verb: &[u8], rest: &[u8]) -> Option<Command>
+    ensures { result ≡ command_of (verb.now ∷ words_of rest.now) }
+{
+    match first_word(rest) {
+        None => with_one(verb, small(rest)?),
+        Some((first, rest)) => after_two(verb, first, rest),
+    }
+}
+
+/// The command of a verb, a word and what stands behind them.
+fn after_two(verb: &[u8], first: &[u8], rest: &[u8]) -> Option<Command>
+    ensures { result ≡ command_of (verb.now ∷ first.now ∷ words_of rest.now) }
+{
+    match first_word(rest) {
+        None => with_two(verb, small(first)?, small(rest)?),
+        Some((second, rest)) => after_three(verb, first, second, rest),
+    }
+}
+
+/// The command of a verb, two words and what stands behind them.
+fn after_three(verb: &[u8], first: &[u8], second: &[u8], rest: &[u8]) -> Option<Command>
+    ensures { result ≡ command_of (verb.now ∷ first.now ∷ second.now ∷ words_of rest.now) }
+{
+    match first_word(rest) {
+        None => stepped(first, second, step_with_one(verb, rest)?),
+        Some((third, rest)) => after_four(verb, first, second, third, rest),
+    }
+}
+
+/// The command of a verb, three words and what stands behind them, which is one word more.
+fn after_four(
+    verb: &[u8],
+    first: &[u8],
+    second: &[u8],
+    third: &[u8],
+    rest: &[u8],
+) -> Option<Command>
+    ensures { result ≡ command_of (verb.now ∷ first.now ∷ second.now ∷ third.now ∷ words_of rest.now) }
+{
+    match first_word(rest) {
+        None => stepped(first, second, step_with_two(verb, third, rest)?),
+        Some(_) => None,
     }
 }
 

@@ -55,11 +55,10 @@ fn read_commands<A: Allocator + Copy>(alloc: A, bytes: &[u8]) -> Result<Vec<Comm
     ensures { Gives (λ commands. commands.items) result (commands_of 2 (lines_of bytes.now)) }
 {
     let mut commands = Vec::new(alloc);
-    let mut words = Vec::new(alloc);
     let mut rest = bytes;
     let mut number = 2;
     while let Some((line, after)) = first_line(rest) {
-        let command = command_in(&mut words, line, number)?;
+        let command = command_in(line, number)?;
         commands.push(command)?;
         rest = after;
         number += 1;
@@ -83,16 +82,11 @@ pub fn header_in<A: Allocator>(alloc: A, line: &[u8], number: usize) -> Result<H
     read_header(&words).ok_or(Fault::BadHeader(number))
 }
 
-/// The command that a line is; its number is for the fault. The list is room for its words.
-fn command_in<'a, A: Allocator>(
-    words: &mut Vec<&'a [u8], A>,
-    line: &'a [u8],
-    number: usize,
-) -> Result<Command, Fault>
+/// The command that a line is; its number is for the fault.
+fn command_in(line: &[u8], number: usize) -> Result<Command, Fault>
     ensures { Gives (λ command. command) result (command_at number line.now) }
 {
-    read_words(words, line)?;
-    read_command(words).ok_or(Fault::BadCommand(number))
+    read_command(line).ok_or(Fault::BadCommand(number))
 }
 
 /// The bytes before the first line end, and those after it. `None` where there is no line end.

@@ -18,4 +18,4 @@ pub use files::{MOST_BYTES, Script, first_line, header_in, read_file};
 pub use headers::{Header, read_header};
 pub use laws::{commands_are_lines, front_is_enough, headers_are_lines, numbers_are_decimal};
 pub use numbers::{number, small};
-pub use words::{is, read_words};
+pub use words::{first_word, is, read_words};

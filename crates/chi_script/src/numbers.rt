@@ -11,7 +11,7 @@ pub fn number(word: &[u8]) -> Option<u64>
 {
     match word {
         [] => None,
-        [_] => digits(0, word),
+        [digit] => with_digit(0, *digit),
         [b'0', _, ..] => None,
         [_, ..] => digits(0, word),
     }

@@ -1,6 +1,7 @@
 //! The words of a line.
 
-ghost use Rattle.std.specs.Prelude.{◌≡◌, bytes_eq, OnOk};
+ghost use Rattle.std.specs.Prelude.{◌≡◌, ◌==◌, ◌∷◌, [], bytes_eq, IfNone, IfSome, OnOk};
+ghost use Rattle.std.specs.List.{position};
 ghost use Rattle.chi_script.specs.Words.{words_of, texts_of, is_text};
 
 use std::alloc::{AllocError, Allocator};
@@ -18,10 +19,29 @@ pub fn read_words<'a, A: Allocator>(
     words.extend(line.split(|byte| *byte == b' '))
 }
 
+/// The first word of a line, which is given without its line end, and what stands behind the space after it.
+/// `None` where there is no space: the line is one word then.
+/// Source: `docs/PROTOCOL.md`, "Bytes, lines and numbers".
+pub fn first_word(line: &[u8]) -> Option<(&[u8], &[u8])>
+    ensures some { IfSome result (λ parts. words_of line.now ≡ parts.0.now ∷ words_of parts.1.now) }
+    ensures none { IfNone result (words_of line.now ≡ line.now ∷ []) }
+{
+    let end = word_end(line)?;
+    Some((&line[..end], &line[end + 1..]))
+}
+
+/// Where the first space stands.
+fn word_end(line: &[u8]) -> Option<usize>
+    ensures { result ≡ position (λ byte. byte == 32) line.now }
+{
+    line.iter().position(|byte| *byte == b' ')
+}
+
 /// Whether a word is just this text.
 /// Source: `docs/PROTOCOL.md`, "Bytes, lines and numbers".
+#[inline(always)]
 pub fn is(word: &[u8], text: &str) -> bool
     ensures { result ≡ is_text word.now text.now }
 {
-    word == text.as_bytes()
+    word.len() == text.len() && word.starts_with(text.as_bytes())
 }
