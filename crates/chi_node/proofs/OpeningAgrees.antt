@@ -13,7 +13,7 @@ use Rattle.chi_line.specs.LineState.{LineState, opening_line}
 use Rattle.chi_line.specs.Places.{where_at}
 use Rattle.chi_slice.specs.Slice.{is_line_in_range, line, opening_slice, row_count, row_of_line}
 use Rattle.chi_slice.proofs.Rows.{InLimits, in_limits, row_in_range}
-use Rattle.chi_slice.proofs.SlotNumbers.{opening_unused}
+use Rattle.chi_slice.proofs.Follows.{opening_unused}
 use Rattle.chi_line.proofs.Wheres.{unused_shows}
 use Rattle.chi_credit.specs.declared.slot.SlotRecord.{SlotRecord}
 use Rattle.chi_credit.specs.Slot.{idle_slot}
