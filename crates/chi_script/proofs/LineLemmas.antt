@@ -1,10 +1,11 @@
 -- A list cut at each element that passes: its first part and the others.
-use Rattle.std.proofs.Common.{◌≡◌, ℕ, ◌+◌, ◌-◌, ◌<◌, ◌≤◌, Bool, nat_lt, cond, List, [], ◌∷◌, Some, None, length, take, drop, arith, refl, length-drop}
+use Rattle.std.proofs.Common.{◌≡◌, ℕ, ◌+◌, ◌-◌, ◌<◌, ◌≤◌, Bool, true, false, nat_lt, ◌==◌, Option, cond, List, [], ◌∷◌, Some, None, length, take, drop, arith, refl, length-drop}
 use Rattle.std.specs.List.{slice_split, position, position_or_len}
 use Rattle.std.proofs.lemmas.Bool.Decides.{nat_tests}
 use Rattle.std.proofs.lemmas.List.{take_rest}
 use Rattle.std.proofs.lemmas.List.Splits.{slice_split_first, slice_split_none, length-slice_split}
-use Rattle.std.proofs.lemmas.List.Sums.{fails_before_first}
+use Rattle.std.proofs.lemmas.List.Sums.{fails_before_first, position_or_len_is}
+use Rattle.memchr.specs.Find.{IsFirstByte, is_byte}
 
 -- some list has one part more than others
 with_parts : {X : Type 0} (all : List (List X)) → 0 < length all → (first : List X) × (others : List (List X)) × (all ≡ first ∷ others)
@@ -29,3 +30,24 @@ cut_at p xs d i e =
 
 pub uncut : {X : Type 0} (p : X → Bool) (xs : List X) → None ≡ position p xs → slice_split p xs ≡ xs ∷ []
 uncut p xs e = slice_split_none p xs (λ k d inside. fails_before_first p xs k d (omega (arith, not_found (position_or_len p xs) (length xs) e)))
+
+-- a test that doesn't hold
+fails : (b : Bool) → (b ≡ true → ⊥) → b ≡ false
+fails true h = absurd (h refl)
+fails false h = refl
+
+-- the place that a search found, or not, of two numbers
+place : (n i : ℕ) → i < n → Some i ≡ cond (nat_lt i n) (Some i) None
+place n i low = grind (arith, nat_tests)
+
+no_place : (n : ℕ) → None ≡ cond (nat_lt n n) (Some n) None
+no_place n = grind (arith, nat_tests)
+
+-- the first byte of a kind, as a search finds it
+pub found_first : (byte : ℕ) (xs : List ℕ) (r : Option ℕ) → IsFirstByte (is_byte byte) xs r → r ≡ position (λ b. b == byte) xs
+found_first byte xs None nowhere =
+    let past : position_or_len (λ b. b == byte) xs ≡ length xs = position_or_len_is (λ b. b == byte) xs (length xs) 0 (omega arith) (λ k low. fails _ (nowhere k (omega arith) low)) (λ inside. absurd (omega (arith, inside))) in
+    rw past (no_place (length xs))
+found_first byte xs (Some i) at =
+    let here : position_or_len (λ b. b == byte) xs ≡ i = position_or_len_is (λ b. b == byte) xs i 0 (omega (arith, at.0.high)) (λ k low. fails _ (at.0.before k (omega arith) low)) (λ inside. at.1) in
+    rw here (place (length xs) i at.0.high)

@@ -10,6 +10,7 @@ use crate::commands::{Command, read_command};
 use crate::faults::Fault;
 use crate::headers::{Header, read_header};
 use crate::words::read_words;
+use memchr::memchr;
 use std::alloc::Allocator;
 
 /// The most bytes that a file may have.
@@ -103,5 +104,5 @@ pub fn first_line(bytes: &[u8]) -> Option<(&[u8], &[u8])>
 fn line_end(bytes: &[u8]) -> Option<usize>
     ensures { result ≡ position (λ byte. byte == 10) bytes.now }
 {
-    bytes.iter().position(|byte| *byte == b'\n')
+    memchr(b'\n', bytes)
 }

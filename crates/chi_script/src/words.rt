@@ -30,7 +30,8 @@ pub fn first_word(line: &[u8]) -> Option<(&[u8], &[u8])>
     Some((&line[..end], &line[end + 1..]))
 }
 
-/// Where the first space stands.
+/// Where the first space stands. It isn't inlined, so that its loop stays small.
+#[inline(never)]
 fn word_end(line: &[u8]) -> Option<usize>
     ensures { result ≡ position (λ byte. byte == 32) line.now }
 {
