@@ -51,11 +51,12 @@ pub(crate) fn prepare<A: Allocator>(requester: &mut Requester, tracker: &Tracker
 
 /// The type that a turn tends.
 fn type_of(profile: Profile, turn: u64) -> CreditType {
-    let types = match profile {
-        Profile::Two => 2,
-        Profile::Four => 4,
+    // (by a constant in each case, so that it is no division)
+    let number = match profile {
+        Profile::Two => turn % 2,
+        Profile::Four => turn % 4,
     };
-    match turn % types {
+    match number {
         0 => CreditType::T0,
         1 => CreditType::T1,
         2 => CreditType::T2,

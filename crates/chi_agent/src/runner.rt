@@ -120,7 +120,7 @@ impl<'t, A: Allocator> Runner<'t, A> {
         }
         self.turns = turn;
         self.progress
-            .tell(rt, turn, self.player.loads, self.player.stores);
+            .tell(turn, self.player.loads, self.player.stores);
         done
     }
 }

@@ -1,13 +1,17 @@
 //! Tallies that are stored and read on one thread.
 
 ghost use Rattle.std.specs.Prelude.{◌≡◌, ◌<◌, All, Some, length, map, slice_get};
-ghost use Rattle.chi_tallies.specs.Tally.{last_of};
 ghost use Rattle.chi_tallies.specs.Tallies.{cell_of, IsFresh};
 
 use chi_tallies::{Tallies, Tally, Watcher, Writer, open_tallies};
 use std::alloc::AllocError;
 use std::process::Abort;
 use std::sync::Wait;
+use std::thread;
+use std::thread::Threads;
+
+/// How many tallies are stored while they are read.
+const MANY: u64 = 100_000;
 
 /// A tally with these numbers.
 fn tally(turns: u64, loads: u64, stores: u64) -> Tally {
@@ -18,14 +22,12 @@ fn tally(turns: u64, loads: u64, stores: u64) -> Tally {
     }
 }
 
-/// A writer, and what it stored last.
+/// A writer beside the tallies.
 #[derive(Drop)]
 struct Teller<'t> {
     tallies: &'t Tallies,
     writer: Writer,
-    last: Tally,
     ghost fits: { slice_get tallies.now writer.agent ≡ Some writer.cell },
-    ghost told: { last_of writer.stored ≡ last },
 }
 
 impl<'t> Teller<'t> {
@@ -38,21 +40,16 @@ impl<'t> Teller<'t> {
         Teller {
             tallies,
             writer: writers.remove(0),
-            last: Tally {
-                turns: 0,
-                loads: 0,
-                stores: 0,
-            },
         }
     }
 
     /// Stores a tally of which no number is below that of the last.
-    fn tell<R: Abort + Wait>(&mut self, rt: &R, tally: Tally) {
-        assert!(rt; tally.turns >= self.last.turns);
-        assert!(rt; tally.loads >= self.last.loads);
-        assert!(rt; tally.stores >= self.last.stores);
-        self.tallies.store(rt, &mut self.writer, tally);
-        self.last = tally;
+    fn tell(&mut self, rt: &impl Abort, tally: Tally) {
+        let last = self.writer.last();
+        assert!(rt; tally.turns >= last.turns);
+        assert!(rt; tally.loads >= last.loads);
+        assert!(rt; tally.stores >= last.stores);
+        self.tallies.store(&mut self.writer, tally);
     }
 }
 
@@ -76,6 +73,69 @@ impl<'t> Onlooker<'t> {
         assert_eq!(rt; first, wanted, "of agent {agent}");
         assert_eq!(rt; second, wanted, "of agent {agent}");
     }
+}
+
+/// Stores tallies of which all three numbers are the same.
+fn tells_alike(rt: &impl Abort, tallies: &Tallies, writer: Writer)
+    requires { IsFresh tallies.now writer }
+{
+    let mut teller = Teller { tallies, writer };
+    for number in 1..=MANY {
+        teller.tell(rt, tally(number, number, number));
+    }
+}
+
+/// Reads the tally of agent 0 until it is the last of many, or too often. How many of those read had numbers
+/// that differ.
+fn torn<R: Abort + Wait>(rt: &R, tallies: &Tallies, mut watcher: Watcher) -> u64
+    requires cells { map cell_of watcher ≡ tallies.now }
+    requires some { 0 < length tallies.now }
+{
+    let mut torn = 0u64;
+    for _ in 0..1_000_000_000u32 {
+        let read = watcher.read(rt, tallies, 0);
+        if read.turns != read.loads || read.turns != read.stores {
+            torn = torn.saturating_add(1);
+        }
+        if read.turns == MANY {
+            return torn;
+        }
+    }
+    assert!(rt; false, "the last tally was never read");
+    torn
+}
+
+/// The tallies that were torn of those that one thread stored while another read them.
+fn torn_beside<R: Abort + Threads + Wait + Sync>(
+    rt: &R,
+    tallies: &Tallies,
+    writer: Writer,
+    watcher: Watcher,
+) -> u64
+    requires fresh { IsFresh tallies.now writer }
+    requires cells { map cell_of watcher ≡ tallies.now }
+    requires some { 0 < length tallies.now }
+{
+    let (_, torn) = thread::join(
+        rt,
+        move ||
+            requires { IsFresh tallies.now writer }
+        { tells_alike(rt, tallies, writer) },
+        move || -> u64
+            requires cells { map cell_of watcher ≡ tallies.now }
+            requires some { 0 < length tallies.now }
+        { torn(rt, tallies, watcher) },
+    );
+    torn
+}
+
+#[test]
+fn a_tally_is_read_whole_while_others_are_stored(rt: HostRuntime) -> Result<(), AllocError> {
+    let (tallies, mut writers, watcher) = open_tallies(rt.alloc(), 1)?;
+    assert!(rt; !writers.is_empty());
+    let writer = writers.remove(0);
+    assert_eq!(rt; torn_beside(&rt, &tallies, writer, watcher), 0);
+    Ok(())
 }
 
 #[test]

@@ -2,7 +2,7 @@
 use Rattle.std.proofs.Common.{◌≡◌, ◌∙◌, ℕ, zero, suc, ◌+◌, map, List, [], ◌∷◌, ◌++◌, length, Some, refl, sym, ap, subst, arith}
 use Rattle.std.specs.Prelude.{All, slice_get}
 use Rattle.std.proofs.lemmas.List.Elements.{All-append}
-use Rattle.std.proofs.lemmas.List.{length-append, length-map, map-append}
+use Rattle.std.proofs.lemmas.List.{length-append, map-append}
 use Rattle.atomic_table.specs.Seated.{TableId}
 use Rattle.chi_tallies.specs.Tallies.{WriterState, ReaderState, agent_of, cell_of, numbers, unread, IsFresh}
 
@@ -28,18 +28,16 @@ fresh_added cells ws n cell is all = All-append (IsFresh (cells ++ cell ∷ []))
     (one_fresh _ _ (record { own = subst (λ (k : ℕ). slice_get (cells ++ cell ∷ []) k ≡ Some cell) is (get_last cells cell); unused = refl }))
 
 -- one more cell, with its writer and its reader
-pub opened_more : {X : Type 0} (xs xs' : List X) (name : X → TableId) (x : X) (ws ws' : List WriterState) (rs rs' : List ReaderState) (n : ℕ)
-    → xs' ≡ xs ++ x ∷ [] → ws' ≡ ws ++ record { agent = n; cell = name x; stored = [] } ∷ [] → rs' ≡ rs ++ unread (name x) ∷ []
-    → length xs ≡ n → All (IsFresh (map name xs)) ws → map agent_of ws ≡ numbers n → rs ≡ map unread (map name xs)
-    → (length xs' ≡ n + 1) × All (IsFresh (map name xs')) ws' × (map agent_of ws' ≡ numbers (n + 1)) × (rs' ≡ map unread (map name xs'))
-opened_more xs xs' name x ws ws' rs rs' n isx isw isr long fresh agents unreads =
-    let next : suc n ≡ n + 1 = omega arith in
-    let names : map name xs' ≡ map name xs ++ name x ∷ [] = ap (map name) isx ∙ map-append name xs (x ∷ []) in (
-      ap length isx ∙ (length-append xs (x ∷ []) ∙ ap (λ (k : ℕ). k + 1) long),
-      subst (λ (cells : List TableId). All (IsFresh cells) ws') (sym names) (subst (All (IsFresh (map name xs ++ name x ∷ []))) (sym isw)
-          (fresh_added (map name xs) ws n (name x) (length-map xs name ∙ long) fresh)),
+pub opened_more : (cells cells' : List TableId) (cell : TableId) (ws ws' : List WriterState) (rs rs' : List ReaderState) (n : ℕ)
+    → cells' ≡ cells ++ cell ∷ [] → ws' ≡ ws ++ record { agent = n; cell = cell; stored = [] } ∷ [] → rs' ≡ rs ++ unread cell ∷ []
+    → length cells ≡ n → All (IsFresh cells) ws → map agent_of ws ≡ numbers n → rs ≡ map unread cells
+    → (length cells' ≡ n + 1) × All (IsFresh cells') ws' × (map agent_of ws' ≡ numbers (n + 1)) × (rs' ≡ map unread cells')
+opened_more cells cells' cell ws ws' rs rs' n isc isw isr long fresh agents unreads =
+    let next : suc n ≡ n + 1 = omega arith in (
+      ap length isc ∙ (length-append cells (cell ∷ []) ∙ ap (λ (k : ℕ). k + 1) long),
+      subst (λ (cs : List TableId). All (IsFresh cs) ws') (sym isc) (subst (All (IsFresh (cells ++ cell ∷ []))) (sym isw) (fresh_added cells ws n cell long fresh)),
       ap (map agent_of) isw ∙ (map-append agent_of ws _ ∙ (ap (λ (ks : List ℕ). ks ++ n ∷ []) agents ∙ ap numbers next)),
-      isr ∙ (ap (λ (ys : List ReaderState). ys ++ unread (name x) ∷ []) unreads ∙ (sym (map-append unread (map name xs) (name x ∷ [])) ∙ ap (map unread) (sym names))),
+      isr ∙ (ap (λ (ys : List ReaderState). ys ++ unread cell ∷ []) unreads ∙ (sym (map-append unread cells (cell ∷ [])) ∙ ap (map unread) (sym isc))),
     )
 
 -- the cells of readers that read nothing

@@ -1,4 +1,5 @@
 pub mod Orders
-pub mod Steps
+pub mod Allowed
+pub mod Storing
 pub mod Readers
 pub mod Fresh

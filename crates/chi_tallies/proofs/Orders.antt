@@ -1,5 +1,5 @@
 -- Rising lists of tallies.
-use Rattle.std.proofs.Common.{◌≡◌, List, [], ◌∷◌, ◌++◌, refl, sym, subst, le_refl, le_trans}
+use Rattle.std.proofs.Common.{◌≡◌, List, [], ◌∷◌, ◌++◌, refl, sym, ap, ◌∙◌, subst, le_refl, le_trans, append-nil, append_assoc}
 use Rattle.chi_tallies.specs.declared.tally.Tally.{Tally}
 use Rattle.chi_tallies.specs.Tally.{opening, NotAbove, last_after, last_of, RisesAfter, Rises, IsBeginning}
 
@@ -30,6 +30,12 @@ first_not_above s (u ∷ us) rises = not_above_over s u (last_after u us) rises.
 longer_not_above : (s : Tally) (front rest : List Tally) → RisesAfter s (front ++ rest) → NotAbove (last_after s front) (last_after s (front ++ rest))
 longer_not_above s [] rest rises = first_not_above s rest rises
 longer_not_above s (u ∷ us) rest rises = longer_not_above u us rest rises.1
+
+pub begins_whole : (ts : List Tally) → IsBeginning ts ts
+begins_whole ts = ([], sym (append-nil ts))
+
+pub begins_over : (a b c : List Tally) → IsBeginning a b → IsBeginning b c → IsBeginning a c
+begins_over a b c x y = (x.0 ++ y.0, y.1 ∙ (ap (λ (ts : List Tally). ts ++ y.0) x.1 ∙ append_assoc a x.0 y.0))
 
 -- the last tally of a beginning is not above that of the whole
 pub beginning_not_above : (front whole : List Tally) → IsBeginning front whole → Rises whole → NotAbove (last_of front) (last_of whole)

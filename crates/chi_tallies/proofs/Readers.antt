@@ -1,13 +1,12 @@
 -- One reader among all reads.
 use Rattle.std.proofs.Common.{◌≡◌, ◌≢◌, ◌∙◌, ℕ, zero, suc, ◌<◌, List, [], ◌∷◌, length, map, set, get_or, refl, sym, ap, subst, arith}
-use Rattle.std.specs.Prelude.{slice_get, Some}
-use Rattle.std.proofs.lemmas.Option.{slice_get_within, get_or_from_slice_get}
+use Rattle.std.specs.Prelude.{slice_get}
 use Rattle.std.proofs.lemmas.List.{get_or-map, length-map}
 use Rattle.atomic_table.specs.Seated.{TableId}
 use Rattle.chi_tallies.specs.declared.tally.Tally.{Tally}
 use Rattle.chi_tallies.specs.Tally.{last_of, NotAbove, Rises, IsBeginning}
-use Rattle.chi_tallies.specs.Tallies.{ReaderState, cell_of, seen_of, IsReadBy, IsRead}
-use Rattle.chi_tallies.proofs.Orders.{beginning_not_above}
+use Rattle.chi_tallies.specs.Tallies.{ReaderState, cell_of, seen_of, KnowsMore, IsReadBy, IsRead}
+use Rattle.chi_tallies.proofs.Orders.{beginning_not_above, begins_over}
 
 seen_at : (rs : List ReaderState) (n : ℕ) (r : ReaderState) → n < length rs → r ≡ get_or rs n r → seen_of rs n ≡ r.seen
 seen_at [] n r low at = absurd (omega arith)
@@ -35,20 +34,10 @@ pub low_at : (rs : List ReaderState) (cells : List TableId) (place n : ℕ) → 
 low_at rs cells place n fits is low = let long : length rs ≡ length cells = sym (length-map rs cell_of) ∙ ap length fits in omega arith
 
 -- the reader that was lent has the cell at its place
-pub same_cell : {X : Type 0} (rs : List ReaderState) (xs : List X) (name : X → TableId) (n : ℕ) (r : ReaderState) (x : X) → n < length rs
-    → r ≡ get_or rs n r → x ≡ get_or xs n x → map cell_of rs ≡ map name xs → r.cell ≡ name x
-same_cell rs xs name n r x low at there fits =
-    let long : length rs ≡ length xs = sym (length-map rs cell_of) ∙ (ap length fits ∙ length-map xs name) in
-    ap cell_of at ∙ (sym (get_or-map cell_of rs n r (name x) low)
-    ∙ (ap (λ (cells : List TableId). get_or cells n (name x)) fits ∙ (get_or-map name xs n x (name x) (subst (λ (k : ℕ). n < k) long low) ∙ ap name (sym there))))
-
--- the cell at a writer's place has the name that was looked up there
-pub cell_at : {X : Type 0} (xs : List X) (name : X → TableId) (place n : ℕ) (x : X) (cell : TableId) → slice_get (map name xs) n ≡ Some cell → place ≡ n
-    → x ≡ get_or xs place x → cell ≡ name x
-cell_at xs name place n x cell found is at =
-    let low : n < length xs = subst (λ (k : ℕ). n < k) (length-map xs name) (slice_get_within (map name xs) n cell found) in
-    sym (get_or_from_slice_get (map name xs) n cell (name x) found)
-    ∙ (get_or-map name xs n x (name x) low ∙ ap name (subst (λ (k : ℕ). get_or xs k x ≡ x) is (sym at)))
+pub same_cell : (rs : List ReaderState) (cells : List TableId) (n : ℕ) (r : ReaderState) (cell : TableId) → n < length rs
+    → r ≡ get_or rs n r → cell ≡ get_or cells n cell → map cell_of rs ≡ cells → r.cell ≡ cell
+same_cell rs cells n r cell low at there fits =
+    ap cell_of at ∙ (sym (get_or-map cell_of rs n r cell low) ∙ (ap (λ (cs : List TableId). get_or cs n cell) fits ∙ sym there))
 
 pub read_at : (rs : List ReaderState) (place n : ℕ) (r r' : ReaderState) (t : Tally) → place ≡ n → place < length rs → r ≡ get_or rs place r
     → IsReadBy r r' t → IsRead rs (set rs place r') n t
@@ -67,12 +56,15 @@ read_at rs place n r r' t is low at read = subst (λ (k : ℕ). IsRead rs (set r
     after : seen_of (set rs place r') place ≡ r'.seen
     after = seen_set rs place r' low
 
--- a reader of the same cell that knows more, and the last tally that it knows
-pub read_by : (r s r' : ReaderState) (t : Tally) → r ≡ s → r'.cell ≡ r.cell → IsBeginning r.seen r'.seen → Rises r'.seen → t ≡ last_of r'.seen → IsReadBy s r' t
-read_by r s r' t is same longer rising last = subst (λ (q : ReaderState). IsReadBy q r' t) is (record {
-  same = same;
-  longer = longer;
-  rising = rising;
+-- a reading after some that found nothing whole
+pub read_by : (s r r' : ReaderState) (t : Tally) → r.cell ≡ s.cell → IsBeginning s.seen r.seen → KnowsMore r r' → t ≡ last_of r'.seen → IsReadBy s r' t
+read_by s r r' t same longer more last = record {
+  same = more.same ∙ same;
+  longer = whole;
+  rising = more.rising;
   last = last;
-  later = subst (λ (u : Tally). NotAbove (last_of r.seen) u) (sym last) (beginning_not_above r.seen r'.seen longer rising);
-})
+  later = subst (λ (u : Tally). NotAbove (last_of s.seen) u) (sym last) (beginning_not_above s.seen r'.seen whole more.rising);
+}
+  where
+    whole : IsBeginning s.seen r'.seen
+    whole = begins_over s.seen r.seen r'.seen longer more.longer

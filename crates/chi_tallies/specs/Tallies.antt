@@ -41,6 +41,12 @@ pub record IsFresh (cells : List TableId) (w : WriterState) : Type 0 where
   pub own : slice_get cells w.agent ≡ Some w.cell
   pub unused : w.stored ≡ []
 
+-- a reader of the same cell knows as much or more
+pub record KnowsMore (r r' : ReaderState) : Type 0 where
+  pub same : r'.cell ≡ r.cell
+  pub longer : IsBeginning r.seen r'.seen
+  pub rising : Rises r'.seen
+
 -- a reader read this tally
 pub record IsReadBy (r r' : ReaderState) (tally : Tally) : Type 0 where
   pub same : r'.cell ≡ r.cell

@@ -3,8 +3,10 @@
 //! Source: `docs/PROTOCOL.md`, "Reports and tallies".
 #![tactic(auto)]
 
+mod cell;
 mod opening;
 mod rule;
+mod steps;
 mod tallies;
 mod tally;
 mod view;

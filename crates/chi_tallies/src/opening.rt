@@ -1,10 +1,11 @@
 //! The tallies of all agents, as they are at first.
 
-ghost use Rattle.std.specs.Prelude.{◌≡◌, All, IfOk, length, map};
+ghost use Rattle.std.specs.Prelude.{◌≡◌, [], All, IfOk, length, map};
 ghost use Rattle.chi_tallies.specs.Tallies.{agent_of, cell_of, numbers, unread, IsFresh};
 
-use crate::rule::{Cell, Watches};
+use crate::cell::Cell;
 use crate::tallies::Tallies;
+use crate::tally::Tally;
 use crate::watcher::{Reader, Watcher};
 use crate::writer::Writer;
 use std::alloc::{AllocError, Global};
@@ -26,12 +27,31 @@ pub fn open_tallies(
     let mut writers = Vec::new(alloc);
     let mut readers = Vec::new(alloc);
     for agent in 0..agents {
-        let (cell, mut pass) = Cell::ruled(alloc, [0; 3])?;
-        readers.push(Reader {
-            pass: cell.split_pass::<Watches>(&mut pass),
-        })?;
-        writers.push(Writer { agent, pass })?;
+        let (cell, writer, reader) = open_cell(alloc, agent)?;
+        readers.push(reader)?;
+        writers.push(writer)?;
         cells.push(cell)?;
     }
     Ok((Tallies { cells }, writers, Watcher { readers }))
+}
+
+// A cell with the opening tally, with its writer and its reader.
+fn open_cell(alloc: Global, agent: u8) -> Result<(Cell, Writer, Reader), AllocError>
+    ensures writer { IfOk result (λ made. made.1 ≡ record { agent = agent; cell = made.0; stored = [] }) }
+    ensures reader { IfOk result (λ made. made.2 ≡ unread made.0) }
+{
+    let (cell, mut seat) = Cell::open(alloc)?;
+    let reader = Reader {
+        seat: cell.watch(&mut seat),
+    };
+    let writer = Writer {
+        agent,
+        seat,
+        last: Tally {
+            turns: 0,
+            loads: 0,
+            stores: 0,
+        },
+    };
+    Ok((cell, writer, reader))
 }

@@ -1,41 +1,56 @@
 //! The rule of a cell with a tally, and what its steps tell.
 
 use crate::view::View;
-use atomic_table::Split;
-use crossbeam_utils::atomic::seq_cell::{Pass, RuledSeqCell};
-use crossbeam_utils::rule::{Outcome, Protocol};
+use atomic_table::{Play, Seat, Shared, Split, TableRule};
 
-/// One pass stores, no number goes back, and each pass saw a beginning of what was stored.
+/// One seat stores, no number goes back, and each seat knows a beginning of what was stored.
 pub struct Rising;
 
-impl Protocol<[u64; 3], View> for Rising {
-    ghost use Rattle.std.specs.Prelude.{[]};
-    ghost use Rattle.chi_tallies.specs.Rule.{storing, Kept};
+impl TableRule<u8, View, ()> for Rising {
+    ghost use Rattle.chi_tallies.specs.Rule.{Kept, first_view};
 
-    ghost holds = { Kept };
+    ghost holds = { λ _. Kept };
 
-    ghost first = { storing [] };
+    ghost first = { λ _. first_view };
 }
 
-/// A tally is stored.
-pub struct Stores;
+/// Numbers are announced or confirmed.
+pub struct Notes;
 
-impl Outcome<[u64; 3], View> for Stores {
-    ghost use Rattle.chi_tallies.specs.Rule.{IsStored};
+impl Play<u8, View> for Notes {
+    ghost use Rattle.chi_tallies.specs.Rule.{Noted};
 
-    ghost then = { λ v before after w. IsStored v after w };
+    ghost then = { Noted };
 }
 
-/// The cell is read.
+/// The turns are stored, and with them the tally.
+pub struct Tells;
+
+impl Play<u8, View> for Tells {
+    ghost use Rattle.chi_tallies.specs.Rule.{Told};
+
+    ghost then = { Told };
+}
+
+/// What is announced or confirmed is read.
+pub struct Looks;
+
+impl Play<u8, View> for Looks {
+    ghost use Rattle.chi_tallies.specs.Rule.{Looked};
+
+    ghost then = { Looked };
+}
+
+/// The turns are read.
 pub struct Reads;
 
-impl Outcome<[u64; 3], View> for Reads {
-    ghost use Rattle.chi_tallies.specs.Rule.{IsSeen};
+impl Play<u8, View> for Reads {
+    ghost use Rattle.chi_tallies.specs.Rule.{HasRead};
 
-    ghost then = { λ v before after w. IsSeen v after w };
+    ghost then = { HasRead };
 }
 
-/// A pass that reads and doesn't store.
+/// A seat that reads and doesn't store.
 pub struct Watches;
 
 impl Split<View> for Watches {
@@ -43,11 +58,11 @@ impl Split<View> for Watches {
 
     ghost left = { λ v. v };
 
-    ghost right = { λ v. watching v.seen };
+    ghost right = { watching };
 }
 
-/// A cell with the three numbers of a tally.
-pub type Cell = RuledSeqCell<[u64; 3], View, Rising, 3>;
+/// The words of a cell as threads share them.
+pub(crate) type Board = Shared<u8, View, (), Rising>;
 
-/// A pass of a cell.
-pub type CellPass = Pass<[u64; 3], View>;
+/// A seat at a cell.
+pub(crate) type CellSeat = Seat<u8, View>;

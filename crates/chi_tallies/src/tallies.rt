@@ -1,14 +1,12 @@
 //! The cells of all agents.
 
 ghost use Rattle.std.specs.Prelude.{◌≡◌, [], ◌∷◌, ◌++◌, Some, slice_get};
-ghost use Rattle.chi_tallies.specs.Rule.{tally_of};
 ghost use Rattle.chi_tallies.specs.Tally.{last_of, NotAbove};
 
-use crate::rule::{Cell, Stores};
+use crate::cell::Cell;
 use crate::tally::Tally;
 use crate::writer::Writer;
 use std::marker::Model;
-use std::sync::Wait;
 
 /// A cell for the tally of each agent, in rising order. Contracts see the list of the cells' names.
 #[derive(Drop)]
@@ -17,32 +15,24 @@ pub struct Tallies {
 }
 
 impl Model for Tallies {
-    ghost use Rattle.std.specs.Prelude.{List, map};
+    ghost use Rattle.std.specs.Prelude.{List};
     ghost use Rattle.atomic_table.specs.Seated.{TableId};
 
     ghost Value = { List TableId };
 
-    ghost view = { λ t. map (λ c. c.table.shared.table_id) t.cells.items };
-}
-
-// The words of a cell with the tally.
-fn words_of(tally: Tally) -> [u64; 3]
-    ensures { tally_of result ≡ tally }
-{
-    [tally.turns, tally.loads, tally.stores]
+    ghost view = { λ t. t.cells.items };
 }
 
 impl Tallies {
     /// Stores a tally of the writer's agent whole, by the writer of its cell. The tallies stored before stay
-    /// known, and other cells stay.
+    /// known, and other cells stay. It waits for nobody.
     /// Source: `docs/PROTOCOL.md`, "Reports and tallies".
-    pub fn store<R: Wait>(&self, rt: &R, writer: &mut Writer, tally: Tally)
+    pub fn store(&self, writer: &mut Writer, tally: Tally)
         requires cell { slice_get self.now writer.old.agent ≡ Some writer.old.cell }
         requires later { NotAbove (last_of writer.old.stored) tally }
         ensures stored { writer.new ≡ record writer.old { stored = writer.old.stored ++ tally ∷ [] } }
         ensures last { last_of writer.new.stored ≡ tally }
     {
-        let words = words_of(tally);
-        self.cells[usize::from(writer.agent)].swap_as::<Stores, R>(rt, &mut writer.pass, words);
+        writer.store(&self.cells[usize::from(writer.agent)], tally);
     }
 }

@@ -1,22 +1,11 @@
 use Rattle.std.proofs.Common.{rules, ◌∙◌, ap, map}
-use Rattle.std.proofs.lemmas.List.{length-map}
-use Rattle.chi_tallies.proofs.Steps.{opens, watches}
 use Rattle.chi_tallies.specs.Tallies.{cell_of}
 use Rattle.chi_tallies.proofs.Fresh.{cells_unread, opened_more}
 use Rattle.chi_tallies.proofs.opening.open_tallies.Goals as goal
 
-pub ruled-requires : goal.ruled-requires
-ruled-requires c = (search rules, (search rules, opens))
-
-pub split_pass-requires : goal.split_pass-requires
-split_pass-requires c = (search rules, (search rules, (search rules, watches _ _)))
-
-pub returns-clause-cells : goal.returns-clause-cells
-returns-clause-cells c = length-map _ _ ∙ search rules
-
 pub loop-agent-preserved : goal.loop-agent-preserved
 loop-agent-preserved c =
-    opened_more c.loop-agent.cells.items _ _ c.in_ok-cell.cell c.loop-agent.writers.items _ c.loop-agent.readers.items _ c.loop-agent.agent
+    opened_more c.loop-agent.cells.items _ c.in_ok-cell.cell c.loop-agent.writers.items _ c.loop-agent.readers.items _ c.loop-agent.agent
     (search rules) (search rules) (search rules) c.loop-agent.invariant.0 c.loop-agent.invariant.1 c.loop-agent.invariant.2 c.loop-agent.invariant.3
 
 pub returns-clause-watched : goal.returns-clause-watched

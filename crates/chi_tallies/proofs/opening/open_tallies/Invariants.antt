@@ -6,6 +6,6 @@ use Rattle.chi_tallies.proofs.opening.open_tallies.Given as goal
 abbrev pub invariant-loop-agent : goal.invariant-loop-agent
 invariant-loop-agent l =
     (length l.cells.items ≡ l.agent)
-    × All (IsFresh (map (λ c. c.table.shared.table_id) l.cells.items)) l.writers.items
+    × All (IsFresh l.cells.items) l.writers.items
     × (map agent_of l.writers.items ≡ numbers l.agent)
-    × (l.readers.items ≡ map unread (map (λ c. c.table.shared.table_id) l.cells.items))
+    × (l.readers.items ≡ map unread l.cells.items)

@@ -1,12 +1,5 @@
-use Rattle.std.proofs.Common.{rules}
 use Rattle.chi_tallies.proofs.Readers.{read_by}
-use Rattle.chi_tallies.proofs.Steps.{reads}
 use Rattle.chi_tallies.proofs.watcher.Reader.read.Goals as goal
 
-pub load_as-requires : goal.load_as-requires
-load_as-requires g c = (search rules, (search rules, (search rules, reads _ _)))
-
-pub returns : goal.returns
-returns g c =
-    let seen = c.load_as.ensures.rule in
-    read_by _ _ _ _ c.self.view_is c.load_as.ensures.cell.0 seen.longer seen.rising (search (rules, seen.last))
+pub returns-in-Some-try_read : goal.returns-in-Some-try_read
+returns-in-Some-try_read g c = read_by c.args.self.now c.loop.self c.try_read.new.self c.in-Some-try_read.tally c.loop.invariant.0 c.loop.invariant.1 c.try_read.ensures.known c.in-Some-try_read.ensures.last

@@ -7,7 +7,7 @@ pub read-requires : goal.read-requires
 read-requires g c =
     let cells = ap (λ (rs : List ReaderState). map cell_of rs) c.self.view_is ∙ c.requires.cells in
     let low = low_at c.self.inside.readers.items c.args.tallies.now c.from-place.result c.args.agent cells (search rules) c.requires.agent in
-    same_cell c.self.inside.readers.items c.tallies.inside.cells.items _ c.from-place.result _ _ low c.index_mut.ensures.value c.index.ensures
+    same_cell c.self.inside.readers.items c.tallies.inside.cells.items c.from-place.result _ _ low c.index_mut.ensures.value c.index.ensures
     (cells ∙ sym c.tallies.view_is)
 
 pub returns : goal.returns
