@@ -7,11 +7,6 @@ use chi_tallies::{Tallies, Tally, Watcher, Writer, open_tallies};
 use std::alloc::AllocError;
 use std::process::Abort;
 use std::sync::Wait;
-use std::thread;
-use std::thread::Threads;
-
-/// How many tallies are stored while they are read.
-const MANY: u64 = 100_000;
 
 /// A tally with these numbers.
 fn tally(turns: u64, loads: u64, stores: u64) -> Tally {
@@ -73,69 +68,6 @@ impl<'t> Onlooker<'t> {
         assert_eq!(rt; first, wanted, "of agent {agent}");
         assert_eq!(rt; second, wanted, "of agent {agent}");
     }
-}
-
-/// Stores tallies of which all three numbers are the same.
-fn tells_alike(rt: &impl Abort, tallies: &Tallies, writer: Writer)
-    requires { IsFresh tallies.now writer }
-{
-    let mut teller = Teller { tallies, writer };
-    for number in 1..=MANY {
-        teller.tell(rt, tally(number, number, number));
-    }
-}
-
-/// Reads the tally of agent 0 until it is the last of many, or too often. How many of those read had numbers
-/// that differ.
-fn torn<R: Abort + Wait>(rt: &R, tallies: &Tallies, mut watcher: Watcher) -> u64
-    requires cells { map cell_of watcher ≡ tallies.now }
-    requires some { 0 < length tallies.now }
-{
-    let mut torn = 0u64;
-    for _ in 0..1_000_000_000u32 {
-        let read = watcher.read(rt, tallies, 0);
-        if read.turns != read.loads || read.turns != read.stores {
-            torn = torn.saturating_add(1);
-        }
-        if read.turns == MANY {
-            return torn;
-        }
-    }
-    assert!(rt; false, "the last tally was never read");
-    torn
-}
-
-/// The tallies that were torn of those that one thread stored while another read them.
-fn torn_beside<R: Abort + Threads + Wait + Sync>(
-    rt: &R,
-    tallies: &Tallies,
-    writer: Writer,
-    watcher: Watcher,
-) -> u64
-    requires fresh { IsFresh tallies.now writer }
-    requires cells { map cell_of watcher ≡ tallies.now }
-    requires some { 0 < length tallies.now }
-{
-    let (_, torn) = thread::join(
-        rt,
-        move ||
-            requires { IsFresh tallies.now writer }
-        { tells_alike(rt, tallies, writer) },
-        move || -> u64
-            requires cells { map cell_of watcher ≡ tallies.now }
-            requires some { 0 < length tallies.now }
-        { torn(rt, tallies, watcher) },
-    );
-    torn
-}
-
-#[test]
-fn a_tally_is_read_whole_while_others_are_stored(rt: HostRuntime) -> Result<(), AllocError> {
-    let (tallies, mut writers, watcher) = open_tallies(rt.alloc(), 1)?;
-    assert!(rt; !writers.is_empty());
-    let writer = writers.remove(0);
-    assert_eq!(rt; torn_beside(&rt, &tallies, writer, watcher), 0);
-    Ok(())
 }
 
 #[test]
