@@ -1,6 +1,7 @@
 -- The snoop filter: a set of named agents, the flag of a lone holder, and the owner
 -- (Arm IHI 0050 B, chapter 4; docs/PROTOCOL.md, "The filter"). A set of agents is a list of eight marks.
-use Rattle.std.specs.Prelude.{◌≡◌, ℕ, ◌<◌, List, Bool, true, false, ◌&&◌, ◌==◌, Option, Some, None, slice_set, replicate, if◌then◌else◌}
+use Rattle.std.specs.Prelude.{◌≡◌, ℕ, ◌<◌, List, Bool, true, false, ◌&&◌, ◌==◌, Option, Some, None, slice_set}
+use Rattle.std.specs.Prelude.{replicate, if◌then◌else◌}
 use Rattle.std.specs.List.{list_any, slice_index_or}
 use Rattle.chi_flit.specs.declared.numbers.Agent.{Agent}
 

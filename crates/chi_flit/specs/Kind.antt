@@ -1,12 +1,13 @@
 -- The table of kinds, a line a cell: the state that each needs at its issue, the snoop that serves it,
--- which are copy-backs (Arm IHI 0050 B, chapter 4; docs/PROTOCOL.md, "Kinds of request").
+-- which are copy-backs, and which of these give the copy up (Arm IHI 0050 B, chapter 4; docs/PROTOCOL.md, "Kinds of request").
 use Rattle.std.specs.Prelude.{ℕ, List, Bool, true, false, Option, Some, None, codes}
 use Rattle.chi_flit.specs.declared.state.State.{State}
 use Rattle.chi_flit.specs.declared.state.State.TheVariants.{I, SC, UC, UD, SD}
 use Rattle.chi_flit.specs.declared.snoop.Snoop.{Snoop}
 use Rattle.chi_flit.specs.declared.snoop.Snoop.TheVariants.{SnpShared, SnpNotSharedDirty, SnpUnique, SnpCleanInvalid}
 use Rattle.chi_flit.specs.declared.kind.Kind.{Kind}
-use Rattle.chi_flit.specs.declared.kind.Kind.TheVariants.{ReadNotSharedDirty, ReadShared, ReadUnique, CleanUnique, Evict, WriteBackFull, WriteCleanFull, WriteEvictFull}
+use Rattle.chi_flit.specs.declared.kind.Kind.TheVariants.{ReadNotSharedDirty, ReadShared, ReadUnique, CleanUnique, Evict, WriteBackFull}
+use Rattle.chi_flit.specs.declared.kind.Kind.TheVariants.{WriteCleanFull, WriteEvictFull}
 
 -- whether a copy in the state may issue the kind; a copy-back, and no other kind, needs the state again where
 -- it is resent
@@ -51,6 +52,17 @@ is_copy_back Evict = false
 is_copy_back WriteBackFull = true
 is_copy_back WriteCleanFull = true
 is_copy_back WriteEvictFull = true
+
+-- whether write data of the kind leaves its sender without a copy: WriteCleanFull alone keeps it
+abbrev pub gives_up : Kind → Bool
+gives_up ReadNotSharedDirty = false
+gives_up ReadShared = false
+gives_up ReadUnique = false
+gives_up CleanUnique = false
+gives_up Evict = false
+gives_up WriteBackFull = true
+gives_up WriteCleanFull = false
+gives_up WriteEvictFull = true
 
 abbrev pub kind_text : Kind → List ℕ
 kind_text ReadNotSharedDirty = codes "ReadNotSharedDirty"

@@ -1,7 +1,8 @@
 -- The number and the name of each refusal (docs/PROTOCOL.md, "Refusals").
 use Rattle.std.specs.Prelude.{ℕ, List, Option, Some, None, Result, Ok, Err, codes}
 use Rattle.chi_flit.specs.declared.refusal.Refusal.{Refusal}
-use Rattle.chi_flit.specs.declared.refusal.Refusal.TheVariants.{JournalFull, WrongState, Pending, NothingPending, LineBusy, NotWaiting, NoFlit, NoMemory, MustAccept, OutOfRange, NotOpen, NoCredit}
+use Rattle.chi_flit.specs.declared.refusal.Refusal.TheVariants.{JournalFull, WrongState, Pending, NothingPending, LineBusy, NotWaiting}
+use Rattle.chi_flit.specs.declared.refusal.Refusal.TheVariants.{NoFlit, NoMemory, MustAccept, OutOfRange, NotOpen, NoCredit}
 
 -- the refusal that a result is, if it is one
 abbrev pub refusal_of : {A : Type 0} → Result A Refusal → Option Refusal

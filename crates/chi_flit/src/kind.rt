@@ -1,7 +1,7 @@
 //! The kinds of request.
 
 ghost use Rattle.std.specs.Prelude.{◌≡◌, Some};
-ghost use Rattle.chi_flit.specs.Kind.{is_needed, snoop_of, is_copy_back, kind_text};
+ghost use Rattle.chi_flit.specs.Kind.{gives_up, is_needed, snoop_of, is_copy_back, kind_text};
 
 use crate::snoop::Snoop;
 use crate::state::State;
@@ -86,6 +86,15 @@ impl Kind {
             self,
             Kind::WriteBackFull | Kind::WriteCleanFull | Kind::WriteEvictFull
         )
+    }
+
+    /// Whether write data of this kind leaves its sender without a copy: of the copy-backs
+    /// `WriteCleanFull` alone keeps it.
+    /// Source: `docs/PROTOCOL.md`, "Kinds of request".
+    pub fn gives_up(self) -> bool
+        ensures { result ≡ gives_up self }
+    {
+        matches!(self, Kind::WriteBackFull | Kind::WriteEvictFull)
     }
 }
 

@@ -1,12 +1,14 @@
 -- One line at the home, and the home's part of each action (docs/PROTOCOL.md, "One line", "The actions",
 -- "Start", "Answers of snooped agents", "Completion", "The filter" and "Write data").
-use Rattle.std.specs.Prelude.{◌<◌, ℕ, List, Bool, true, false, ◌&&◌, ◌==◌, not, Option, Some, None, is_some, slice_set, replicate, if◌then◌else◌}
+use Rattle.std.specs.Prelude.{◌<◌, ℕ, List, Bool, true, false, ◌&&◌, ◌||◌, ◌==◌, not, Option, Some, None, is_some, slice_set}
+use Rattle.std.specs.Prelude.{replicate, if◌then◌else◌}
 use Rattle.std.specs.List.{slice_index_or}
 use Rattle.chi_flit.specs.declared.numbers.Agent.{Agent}
 use Rattle.chi_flit.specs.declared.numbers.Slot.{Slot}
 use Rattle.chi_flit.specs.declared.state.State.{State}
 use Rattle.chi_flit.specs.declared.kind.Kind.{Kind}
-use Rattle.chi_flit.specs.declared.kind.Kind.TheVariants.{ReadNotSharedDirty, ReadShared, ReadUnique, CleanUnique, Evict, WriteBackFull, WriteCleanFull, WriteEvictFull}
+use Rattle.chi_flit.specs.declared.kind.Kind.TheVariants.{ReadNotSharedDirty, ReadShared, ReadUnique, CleanUnique, Evict, WriteBackFull}
+use Rattle.chi_flit.specs.declared.kind.Kind.TheVariants.{WriteCleanFull, WriteEvictFull}
 use Rattle.chi_flit.specs.declared.snoop.Snoop.{Snoop}
 use Rattle.chi_flit.specs.declared.snoop.Snoop.TheVariants.{SnpNotSharedDirty, SnpShared, SnpUnique, SnpCleanInvalid}
 use Rattle.chi_flit.specs.declared.message.RspDown.TheVariants.{CompUC, CompDBIDResp}
@@ -14,7 +16,7 @@ use Rattle.chi_flit.specs.declared.message.Msg.{Msg}
 use Rattle.chi_flit.specs.declared.message.Msg.TheVariants as messages
 use Rattle.chi_flit.specs.declared.refusal.Refusal.{Refusal}
 use Rattle.chi_flit.specs.declared.refusal.Refusal.TheVariants.{LineBusy, NotWaiting}
-use Rattle.chi_flit.specs.Kind.{snoop_of, is_copy_back}
+use Rattle.chi_flit.specs.Kind.{gives_up, snoop_of, is_copy_back}
 use Rattle.chi_flit.specs.Message.{no_words}
 use Rattle.chi_flit.specs.State.{is_dirty, is_valid}
 use Rattle.chi_filter.specs.Filter.{FilterState, added, empty_filter, has_any, nobody, only_named, others_than, owner_set, owner_without, removed, shared}
@@ -266,14 +268,7 @@ snoop_answered_sends home agent answer = finished_sends (answer_taken home agent
 -- whether write data in the form of a state leaves its sender without a copy: after a WriteCleanFull where
 -- it had none
 abbrev pub leaves : Kind → State → Bool
-leaves ReadNotSharedDirty form = not (is_valid form)
-leaves ReadShared form = not (is_valid form)
-leaves ReadUnique form = not (is_valid form)
-leaves CleanUnique form = not (is_valid form)
-leaves Evict form = not (is_valid form)
-leaves WriteBackFull form = true
-leaves WriteCleanFull form = not (is_valid form)
-leaves WriteEvictFull form = true
+leaves kind form = gives_up kind || not (is_valid form)
 
 -- the filter after write data: its sender is no owner any more
 abbrev pub written_filter : Bool → FilterState → ℕ → FilterState

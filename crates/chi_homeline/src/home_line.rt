@@ -371,15 +371,7 @@ fn data_to_send(answer: SnoopAnswer, memory: Data) -> Data
 fn leaves(kind: Kind, form: State) -> bool
     ensures { result ≡ leaves kind form }
 {
-    match kind {
-        Kind::WriteBackFull | Kind::WriteEvictFull => true,
-        Kind::ReadNotSharedDirty
-        | Kind::ReadShared
-        | Kind::ReadUnique
-        | Kind::CleanUnique
-        | Kind::Evict
-        | Kind::WriteCleanFull => !form.is_valid(),
-    }
+    kind.gives_up() || !form.is_valid()
 }
 
 /// Whom a request asks, by the snoop that serves it.

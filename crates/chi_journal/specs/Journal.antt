@@ -1,6 +1,7 @@
 -- A list of loads and stores in the order in which they were answered: the last value of each word,
 -- which lists are legal, and an agent's part of one (docs/PROTOCOL.md, "The journal and last values").
-use Rattle.std.specs.Prelude.{◌≡◌, ℕ, List, [], ◌∷◌, ◌++◌, Bool, ◌==◌, Option, Some, None, length, get_or, slice_set, count_by, if◌then◌else◌}
+use Rattle.std.specs.Prelude.{◌≡◌, ℕ, List, [], ◌∷◌, ◌++◌, Bool, ◌==◌, Option, Some, None, length, get_or, slice_set}
+use Rattle.std.specs.Prelude.{count_by, if◌then◌else◌}
 use Rattle.std.specs.List.{filter}
 use Rattle.chi_flit.specs.declared.refusal.Refusal.{Refusal}
 use Rattle.chi_flit.specs.declared.refusal.Refusal.TheVariants.{JournalFull}

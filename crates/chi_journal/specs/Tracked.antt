@@ -1,5 +1,5 @@
--- What a journal keeps beside its records: room up to the limit, the last value of each word, and the
--- totals (docs/PROTOCOL.md, "The journal and last values").
+-- Of the representation alone: what a journal keeps beside its records: room up to the limit, the last value
+-- of each word, and the totals (docs/PROTOCOL.md, "The journal and last values").
 use Rattle.std.specs.Prelude.{◌≡◌, ℕ, ◌<◌, ◌^◌, ◌≤◌, ◌↔◌, List, length, get_or, IsTrue}
 use Rattle.chi_journal.specs.declared.record.Record.{Record}
 use Rattle.chi_journal.specs.declared.totals.Totals.{Totals}

@@ -12,10 +12,11 @@ use Rattle.chi_flit.specs.declared.message.RspUp.{RspUp}
 use Rattle.chi_flit.specs.declared.message.RspUp.TheVariants.{SnpRespI, SnpRespSC, CompAck}
 use Rattle.chi_flit.specs.declared.message.DatUp.{DatUp}
 use Rattle.chi_flit.specs.declared.message.DatUp.TheVariants.{SnpRespDataIPD, SnpRespDataSCPD, SnpRespDataSD, CopyBackWrData}
+use Rattle.chi_flit.specs.Kind.{gives_up}
 use Rattle.chi_flit.specs.State.{is_unique, is_valid, is_dirty}
 use Rattle.chi_homeline.specs.declared.serving.Serving.TheVariants.{Snooping, AwaitingCompAck, AwaitingWriteData}
 use Rattle.chi_line.specs.Coherent.{passes_dirty}
-use Rattle.chi_line.specs.Kept.{Lane, LaneKept, allows, bit, is_answer, is_snoop_data, is_write_data, shares, is_shared_dirty_data, is_shared_dirty, gives_up}
+use Rattle.chi_line.specs.Kept.{Lane, LaneKept, allows, bit, is_answer, is_snoop_data, is_write_data, shares, is_shared_dirty_data, is_shared_dirty}
 use Rattle.chi_line.specs.Step.{is_ack}
 
 -- what an answer to a snoop tells: the copy's state after it, and the cells of the two channels up

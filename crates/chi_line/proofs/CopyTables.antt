@@ -1,9 +1,9 @@
 -- What the tables of answers, of Comp_UC and of write data tell.
-use Rattle.std.proofs.Common.{◌≡◌, ℕ, List, Bool, true, false, Option, Some, None, arith, refl}
+use Rattle.std.proofs.Common.{◌≡◌, ℕ, List, Bool, true, false, Option, Some, None, arith, refl, if◌then◌else◌}
 use Rattle.chi_flit.specs.declared.state.State.{State}
 use Rattle.chi_flit.specs.declared.state.State.TheVariants.{I, SC, UC, UD, SD}
 use Rattle.chi_flit.specs.declared.kind.Kind.{Kind}
-use Rattle.chi_flit.specs.declared.kind.Kind.TheVariants.{WriteCleanFull}
+use Rattle.chi_flit.specs.declared.kind.Kind.TheVariants.{ReadNotSharedDirty, ReadShared, ReadUnique, CleanUnique, Evict, WriteBackFull, WriteCleanFull, WriteEvictFull}
 use Rattle.chi_flit.specs.declared.snoop.Snoop.{Snoop}
 use Rattle.chi_flit.specs.declared.snoop.Snoop.TheVariants.{SnpShared, SnpNotSharedDirty, SnpUnique, SnpCleanInvalid}
 use Rattle.chi_flit.specs.declared.message.RspUp.{RspUp}
@@ -11,6 +11,7 @@ use Rattle.chi_flit.specs.declared.message.DatUp.{DatUp}
 use Rattle.chi_flit.specs.declared.message.DatUp.TheVariants.{CopyBackWrData}
 use Rattle.chi_flit.specs.declared.message.Msg.{Msg}
 use Rattle.chi_flit.specs.declared.message.Msg.TheVariants as messages
+use Rattle.chi_flit.specs.Kind.{gives_up}
 use Rattle.chi_flit.specs.Message.{no_words, write_data_of}
 use Rattle.chi_flit.specs.Snoop.{answer_of}
 use Rattle.chi_wires.specs.declared.cells.Cells.{Cells}
@@ -100,20 +101,17 @@ words_sent SD words = words
 pub write_data_is : (state : State) (words : List ℕ) → write_data_of state words ≡ CopyBackWrData state (words_sent state words)
 write_data_is state words = search arith
 
-write_clean_is : (kind : Kind) (state : State) (words : List ℕ) → kind ≡ WriteCleanFull → WriteIs kind state words (state_after_clean state) state (words_sent state words)
+write_clean_is : (kind : Kind) (state : State) (words : List ℕ) → gives_up kind ≡ false → WriteIs kind state words (state_after_clean state) state (words_sent state words)
 write_clean_is kind I words is = search arith
-write_clean_is kind SC words is = search arith
-write_clean_is kind UC words is = search arith
-write_clean_is kind UD words is = search arith
-write_clean_is kind SD words is = search arith
+write_clean_is kind other words is = search arith
 
 write_gone_is : (kind : Kind) (state : State) (words : List ℕ) → WriteIs kind state words I state (words_sent state words)
 write_gone_is kind I words = search arith
-write_gone_is kind SC words = search arith
-write_gone_is kind UC words = search arith
-write_gone_is kind UD words = search arith
-write_gone_is kind SD words = search arith
+write_gone_is kind other words = search arith
 
 pub write_is : (kind : Kind) (state : State) (words : List ℕ) → WriteIs kind state words (state_after_write kind state) state (words_sent state words)
-write_is WriteCleanFull state words = write_clean_is WriteCleanFull state words refl
-write_is other state words = write_gone_is other state words
+write_is kind state words = go (gives_up kind) refl
+  where
+    go : (b : Bool) → gives_up kind ≡ b → WriteIs kind state words (if b then I else state_after_clean state) state (words_sent state words)
+    go true is = write_gone_is kind state words
+    go false is = write_clean_is kind state words is

@@ -1,13 +1,13 @@
 -- RecvWrData keeps what a line keeps.
-use Rattle.std.proofs.Common.{◌≡◌, ◌≢◌, ℕ, ◌<◌, List, Bool, true, false, Option, Some, None, length, arith, refl, sym, subst, ap, ◌∙◌, ⊎_elim, if◌then◌else◌, ◌&&◌, set, not, inl, inr, ◌⊎◌}
+use Rattle.std.proofs.Common.{◌≡◌, ◌≢◌, ℕ, ◌<◌, List, Bool, true, false, Option, Some, None, length, arith, refl, sym, subst, ap, ◌∙◌, ⊎_elim, if◌then◌else◌, ◌&&◌, ◌||◌, set, not, inl, inr, ◌⊎◌}
 use Rattle.std.proofs.lemmas.Bool.{cases_eq, both_ways, and_from}
 use Rattle.std.proofs.lemmas.List.{length-set}
 use Rattle.chi_flit.specs.declared.numbers.Agent.{Agent}
 use Rattle.chi_flit.specs.declared.numbers.Slot.{Slot}
 use Rattle.chi_flit.specs.declared.state.State.{State}
-use Rattle.chi_flit.specs.declared.state.State.TheVariants.{I}
+use Rattle.chi_flit.specs.declared.state.State.TheVariants.{I, SC, UC, UD, SD}
 use Rattle.chi_flit.specs.declared.kind.Kind.{Kind}
-use Rattle.chi_flit.specs.declared.kind.Kind.TheVariants.{WriteBackFull, WriteEvictFull}
+use Rattle.chi_flit.specs.declared.kind.Kind.TheVariants.{ReadNotSharedDirty, ReadShared, ReadUnique, CleanUnique, Evict, WriteBackFull, WriteCleanFull, WriteEvictFull}
 use Rattle.chi_flit.specs.declared.message.DatUp.TheVariants.{CopyBackWrData}
 use Rattle.chi_flit.specs.State.{is_valid, is_dirty}
 use Rattle.chi_filter.specs.Filter.{FilterState, has_any, is_named, others_than, owned_by, owner_without, removed}
@@ -16,7 +16,8 @@ use Rattle.chi_homeline.specs.declared.serving.Serving.TheVariants.{Idle, Awaiti
 use Rattle.chi_homeline.specs.Home.{leaves, written_filter}
 use Rattle.chi_line.specs.LineState.{LineState, rn_of, cells_of}
 use Rattle.chi_line.specs.Coherent.{IsClean, passes_dirty}
-use Rattle.chi_line.specs.Kept.{Lane, LaneKept, Kept, gives_up, is_unique_dirty, is_write_data, lane, served_kind, writes_for}
+use Rattle.chi_flit.specs.Kind.{gives_up}
+use Rattle.chi_line.specs.Kept.{Lane, LaneKept, Kept, is_unique_dirty, is_write_data, lane, served_kind, writes_for}
 use Rattle.chi_line.specs.Step.{written_line}
 use Rattle.chi_line.proofs.Frame.{Moves, Puts, kept_moved, memory_by, moves_home, puts_set, puts_nothing, within}
 use Rattle.chi_line.proofs.Asks.{has_in, left_in, was_in}
@@ -118,9 +119,11 @@ not_valid_none : (form : State) → not (is_valid form) ≡ true → form ≡ I
 not_valid_none form none = search arith
 
 leaves_by : (kind : Kind) (form : State) → leaves kind form ≡ true → (gives_up kind ≡ true) ⊎ (form ≡ I)
-leaves_by WriteBackFull form e = inl refl
-leaves_by WriteEvictFull form e = inl refl
-leaves_by other form e = inr (not_valid_none form e)
+leaves_by kind form e = go (gives_up kind) refl e
+  where
+    go : (b : Bool) → gives_up kind ≡ b → (b || not (is_valid form)) ≡ true → (gives_up kind ≡ true) ⊎ (form ≡ I)
+    go true up e = inl up
+    go false stays e = inr (not_valid_none form e)
 
 leaver_gone : (agent : Agent) (kind : Kind) (slot : Slot) (unique : Bool) (owner : Option Agent) (last : List ℕ) (n : ℕ) (x : Lane) (form : State) (words : List ℕ)
     → x.flits.dat_up ≡ Some (CopyBackWrData form words) → leaves kind form ≡ true

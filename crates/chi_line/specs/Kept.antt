@@ -1,5 +1,6 @@
--- What every line keeps through every action. Most of it speaks of one agent's lane: what belongs to that
--- agent at the line, beside what the home serves, the filter's flag and owner, and the last values
+-- Of the representation alone: what every line keeps through every action. Most of it speaks of one agent's
+-- lane: what belongs to that agent at the line, beside what the home serves, the filter's flag and owner, and
+-- the last values
 -- (docs/PROTOCOL.md, "What a line keeps").
 use Rattle.std.specs.Prelude.{◌≡◌, ◌≢◌, ℕ, ◌+◌, ◌<◌, List, length, Bool, true, false, ◌==◌, Option, Some, None, is_some}
 use Rattle.chi_flit.specs.declared.numbers.Agent.{Agent}
@@ -19,7 +20,7 @@ use Rattle.chi_flit.specs.declared.message.RspUp.TheVariants.{SnpRespI, SnpRespS
 use Rattle.chi_flit.specs.declared.message.DatUp.{DatUp}
 use Rattle.chi_flit.specs.declared.message.DatUp.TheVariants.{SnpRespDataIPD, SnpRespDataSCPD, SnpRespDataSD, CopyBackWrData}
 use Rattle.chi_flit.specs.State.{is_valid, is_unique, is_dirty}
-use Rattle.chi_flit.specs.Kind.{snoop_of}
+use Rattle.chi_flit.specs.Kind.{gives_up, snoop_of}
 use Rattle.chi_filter.specs.Filter.{is_in, is_named, owned_by}
 use Rattle.chi_wires.specs.declared.cells.Cells.{Cells}
 use Rattle.chi_rnline.specs.declared.pending.Pending.{Pending}
@@ -64,17 +65,6 @@ is_read Evict = false
 is_read WriteBackFull = false
 is_read WriteCleanFull = false
 is_read WriteEvictFull = false
-
--- which write data leaves its sender without a copy
-abbrev pub gives_up : Kind → Bool
-gives_up ReadNotSharedDirty = false
-gives_up ReadShared = false
-gives_up ReadUnique = false
-gives_up CleanUnique = false
-gives_up Evict = false
-gives_up WriteBackFull = true
-gives_up WriteCleanFull = false
-gives_up WriteEvictFull = true
 
 -- the states that a copy may be in while a request of the kind is pending
 abbrev pub allows : Kind → State → Bool

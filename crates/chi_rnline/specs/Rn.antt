@@ -6,7 +6,8 @@ use Rattle.chi_flit.specs.declared.numbers.Slot.{Slot}
 use Rattle.chi_flit.specs.declared.state.State.{State}
 use Rattle.chi_flit.specs.declared.state.State.TheVariants.{I, SC, UC, UD, SD}
 use Rattle.chi_flit.specs.declared.kind.Kind.{Kind}
-use Rattle.chi_flit.specs.declared.kind.Kind.TheVariants.{ReadNotSharedDirty, ReadShared, ReadUnique, CleanUnique, Evict, WriteBackFull, WriteCleanFull, WriteEvictFull}
+use Rattle.chi_flit.specs.declared.kind.Kind.TheVariants.{ReadNotSharedDirty, ReadShared, ReadUnique, CleanUnique, Evict, WriteBackFull}
+use Rattle.chi_flit.specs.declared.kind.Kind.TheVariants.{WriteCleanFull, WriteEvictFull}
 use Rattle.chi_flit.specs.declared.snoop.Snoop.{Snoop}
 use Rattle.chi_flit.specs.declared.message.CompData.{CompData}
 use Rattle.chi_flit.specs.declared.message.Msg.{Msg}
@@ -14,7 +15,7 @@ use Rattle.chi_flit.specs.declared.message.Msg.TheVariants as messages
 use Rattle.chi_flit.specs.declared.refusal.Refusal.{Refusal}
 use Rattle.chi_flit.specs.declared.refusal.Refusal.TheVariants as refusals
 use Rattle.chi_flit.specs.State.{is_unique, is_valid}
-use Rattle.chi_flit.specs.Kind.{is_copy_back, is_needed}
+use Rattle.chi_flit.specs.Kind.{gives_up, is_copy_back, is_needed}
 use Rattle.chi_flit.specs.Snoop.{answer_of}
 use Rattle.chi_flit.specs.Message.{no_words}
 use Rattle.chi_rnline.specs.declared.pending.Pending.{Pending}
@@ -164,14 +165,7 @@ state_after_clean UD = UC
 state_after_clean SD = SC
 
 abbrev pub state_after_write : Kind → State → State
-state_after_write ReadNotSharedDirty state = I
-state_after_write ReadShared state = I
-state_after_write ReadUnique state = I
-state_after_write CleanUnique state = I
-state_after_write Evict state = I
-state_after_write WriteBackFull state = I
-state_after_write WriteCleanFull state = state_after_clean state
-state_after_write WriteEvictFull state = I
+state_after_write kind state = if gives_up kind then I else state_after_clean state
 
 -- RecvDbid of a request of the kind: nothing is pending
 abbrev pub dbid_received : Rn → Kind → Rn

@@ -411,15 +411,10 @@ fn state_after_comp(state: State) -> State
 fn state_after_write(kind: Kind, state: State) -> State
     ensures { result ≡ state_after_write kind state }
 {
-    match kind {
-        Kind::WriteCleanFull => state_after_clean(state),
-        Kind::ReadNotSharedDirty
-        | Kind::ReadShared
-        | Kind::ReadUnique
-        | Kind::CleanUnique
-        | Kind::Evict
-        | Kind::WriteBackFull
-        | Kind::WriteEvictFull => State::I,
+    if kind.gives_up() {
+        State::I
+    } else {
+        state_after_clean(state)
     }
 }
 
