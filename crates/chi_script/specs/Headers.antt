@@ -67,7 +67,8 @@ header_of (verb ∷ numbers) = if is_text verb (codes "node") then (sizes_of num
 
 -- the same sizes, read but not yet held against the limits
 abbrev pub sized : Sizes → Header
-sized sizes = record { agents = sizes.agents; lines = sizes.lines; slices = sizes.slices; entries = sizes.entries; journal = sizes.journal; profile = sizes.profile }
+sized sizes =
+    record { agents = sizes.agents; lines = sizes.lines; slices = sizes.slices; entries = sizes.entries; journal = sizes.journal; profile = sizes.profile }
 
 -- what the limits say of each number
 pub record IsInLimits (header : Header) : Type 0 where

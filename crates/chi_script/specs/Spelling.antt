@@ -51,11 +51,15 @@ WithWord verb n l w words = (agent line word : List ℕ) × IsSmall n agent × I
 
 -- VERB N L W V
 abbrev pub WithValue : List ℕ → ℕ → ℕ → ℕ → ℕ → List (List ℕ) → Type 0
-WithValue verb n l w v words = (agent line word value : List ℕ) × IsSmall n agent × IsSmall l line × IsSmall w word × IsNumber v value × (words ≡ verb ∷ agent ∷ line ∷ word ∷ value ∷ [])
+WithValue verb n l w v words =
+    (agent line word value : List ℕ) × IsSmall n agent × IsSmall l line × IsSmall w word × IsNumber v value
+    × (words ≡ verb ∷ agent ∷ line ∷ word ∷ value ∷ [])
 
 -- VERB N L KIND SLOT
 abbrev pub WithKind : List ℕ → ℕ → ℕ → Kind → ℕ → List (List ℕ) → Type 0
-WithKind verb n l kind s words = (agent line name slot : List ℕ) × IsSmall n agent × IsSmall l line × IsKind kind name × IsSmall s slot × (words ≡ verb ∷ agent ∷ line ∷ name ∷ slot ∷ [])
+WithKind verb n l kind s words =
+    (agent line name slot : List ℕ) × IsSmall n agent × IsSmall l line × IsKind kind name × IsSmall s slot
+    × (words ≡ verb ∷ agent ∷ line ∷ name ∷ slot ∷ [])
 
 -- the words of each step of an agent on a line; those that no file asks for have none
 abbrev pub SpellsStep : Step → ℕ → ℕ → List (List ℕ) → Type 0
@@ -96,11 +100,15 @@ IsLine command line = (words : List (List ℕ)) × Spells command words × (line
 -- the words of the credit types and the journal, by profile
 abbrev pub type_words : Profile → List ℕ → ℕ → List (List ℕ)
 type_words Two entries journal = decimal (slice_index entries 0) ∷ decimal (slice_index entries 1) ∷ decimal journal ∷ []
-type_words Four entries journal = decimal (slice_index entries 0) ∷ decimal (slice_index entries 1) ∷ decimal (slice_index entries 2) ∷ decimal (slice_index entries 3) ∷ decimal journal ∷ []
+type_words Four entries journal =
+    decimal (slice_index entries 0) ∷ decimal (slice_index entries 1) ∷
+    decimal (slice_index entries 2) ∷ decimal (slice_index entries 3) ∷ decimal journal ∷ []
 
 -- the words of a header
 abbrev pub header_words : Header → List (List ℕ)
-header_words header = codes "node" ∷ decimal header.agents ∷ decimal header.lines ∷ decimal header.slices ∷ type_words header.profile header.entries header.journal
+header_words header =
+    codes "node" ∷ decimal header.agents ∷ decimal header.lines ∷ decimal header.slices ∷
+    type_words header.profile header.entries header.journal
 
 -- a header within the limits, and its one line
 abbrev pub IsHeaderLine : Header → List ℕ → Type 0
