@@ -1,5 +1,5 @@
--- A node that commands are played on, as the table of the commands sees it (docs/PROTOCOL.md, "Replay
--- files").
+-- Of the code alone, no public promise cites it: a node that commands are played on, as the table of the
+-- commands sees it (docs/PROTOCOL.md, "Replay files").
 use Rattle.std.specs.Prelude.{ℕ, List, map}
 use Rattle.chi_tracker.specs.Views.{PortView}
 use Rattle.chi_system.specs.System.{SystemState}
