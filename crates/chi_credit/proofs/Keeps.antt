@@ -7,27 +7,12 @@ use Rattle.chi_tracker.specs.Sums.{raised, with_bit}
 use Rattle.chi_tracker.specs.Views.{PortView, has}
 use Rattle.chi_tracker.specs.Steps.{spends, returns_credit}
 use Rattle.chi_tracker.specs.Calls.{seen_of, HasSameCredits, HasOneLess}
+use Rattle.chi_tracker.proofs.Adding.{raised_else, raised_here}
 use Rattle.chi_tracker.proofs.BitLaws.{with_here, with_else}
 use Rattle.chi_credit.specs.declared.slot.SlotRecord.{SlotRecord}
 use Rattle.chi_credit.specs.Account.{riding_of, due_of, holders_of, FallsAt, GrowsAt, IsSame, IsWithinSeen, HasDue, HasEntries}
 
 -- one number of a row more
-raised_here : (ns : List ℕ) (t : ℕ) → slice_index (raised ns t) t ≡ slice_index ns t + 1
-raised_here [] zero = refl
-raised_here [] (suc t) = omega (arith, raised_here [] t)
-raised_here (n ∷ ns) zero = refl
-raised_here (n ∷ ns) (suc t) = raised_here ns t
-
-raised_else : (ns : List ℕ) (t u : ℕ) → u ≢ t → slice_index (raised ns t) u ≡ slice_index ns u
-raised_else [] zero zero d = absurd (d refl)
-raised_else [] zero (suc u) d = refl
-raised_else [] (suc t) zero d = refl
-raised_else [] (suc t) (suc u) d = raised_else [] t u (λ e. d (ap suc e))
-raised_else (n ∷ ns) zero zero d = absurd (d refl)
-raised_else (n ∷ ns) zero (suc u) d = refl
-raised_else (n ∷ ns) (suc t) zero d = refl
-raised_else (n ∷ ns) (suc t) (suc u) d = raised_else ns t u (λ e. d (ap suc e))
-
 raised_at : (ns : List ℕ) (t u : ℕ) → u ≡ t → slice_index (raised ns t) u ≡ slice_index ns u + 1
 raised_at ns t u e = subst (λ (k : ℕ). slice_index (raised ns t) k ≡ slice_index ns k + 1) (sym e) (raised_here ns t)
 

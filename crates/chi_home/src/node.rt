@@ -53,7 +53,8 @@ impl<A: Allocator + Copy> Node<A> {
     pub fn new(alloc: A, config: &Config) -> Result<(Node<A>, ArrayVec<Requester, 8>), NoMemory>
         ensures config { IfOk result (λ made. made.0.config ≡ config.now) }
         ensures tracker { IfOk result (λ made. made.0.tracker.shape ≡ shape_of config.now.entries config.now.agents) }
-        ensures requesters { IfOk result (λ made. made.1.items ≡ opening_requesters made.0.tracker.table made.0.tracker.shape config.now.agents) }
+        ensures requesters { IfOk result (λ made. made.1.items
+            ≡ opening_requesters made.0.tracker.table made.0.tracker.shape config.now.agents) }
         ensures own { IfOk result (λ made. AreOwn made.0 made.1.items) }
     {
         let (made, tracker, requesters) = parts(alloc, config)?;
@@ -161,7 +162,8 @@ impl<A: Allocator> Node<A> {
     pub fn close(self, requesters: ArrayVec<Requester, 8>) -> (Vec<Slice<A>, A>, Totals)
         requires { AreOwn self requesters.items }
         ensures slices { vec_len result.0 ≡ self.config.slices }
-        ensures closed { IsClosed self.tracker.shape (views_of (owners_of requesters.items)) result.1.counts result.1.requesters.items }
+        ensures closed { IsClosed self.tracker.shape
+            (views_of (owners_of requesters.items)) result.1.counts result.1.requesters.items }
         ensures balanced { IsBalanced self.tracker.shape.agents result.1.requesters.items }
     {
         let Node {

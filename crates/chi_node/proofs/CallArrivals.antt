@@ -33,8 +33,8 @@ use Rattle.chi_node.specs.Parts.{is_of_profile}
 use Rattle.chi_node.specs.Requester.{RequesterState, with_both}
 use Rattle.chi_node.specs.Arrives.{Arrives, CanArrive}
 use Rattle.chi_node.specs.Agree.{Agree, KeepsAgreement}
-use Rattle.chi_node.specs.Calls.{ArrivesAt, CanArriveOn, arrival_action, arrival_step}
-use Rattle.chi_node.proofs.Keeps.{credit_below}
+use Rattle.chi_node.specs.Calls.{CanArriveOn, arrival_action, arrival_step}
+use Rattle.chi_tracker.proofs.Entries.{credit_below}
 use Rattle.chi_node.proofs.Records.{tells_of}
 use Rattle.chi_node.proofs.Agreement.{OwnFollows, action_of, keeps}
 use Rattle.chi_node.proofs.Stepping.{Own, Ready, arrival_follows, own_at}
@@ -147,9 +147,6 @@ arrival_kept s r r' l request arrived can agrees = go request.allow_retry refl a
     go true is (Retried ty) a = record { allowed = retry_allowed s r l request can is; follows = retries s r r' l request _ can agrees is a.2 }
     go false is (Admitted e) a = record { allowed = admit_allowed s r l request can; follows = admits s r r' l request false e _ can agrees is a.0 a.3 }
     go false is (Retried ty) a = absurd a
-
-pub arrives_at : (s : SliceState) (r r' : RequesterState) (l : Line) (request : Request) (arrived : Arrived) → CanArriveOn s r l request → Arrives request.allow_retry request.slot.0 arrived r r' → ArrivesAt (cells_of (line s l.0) r.number).req arrived r r'
-arrives_at s r r' l request arrived can a = subst (λ (o : Option Request). ArrivesAt o arrived r r') (sym can.flit) a
 
 pub keeps_arrival : (s s' : SliceState) (r r' : RequesterState) (l : Line) (request : Request) (arrived : Arrived) → CanArriveOn s r l request → Agree s r → Arrives request.allow_retry request.slot.0 arrived r r' → s' ≡ acted s (arrival_action r.number l arrived) → KeepsAgreement s s' r r'
 keeps_arrival s s' r r' l request arrived can agrees a after =

@@ -9,13 +9,14 @@ use mathlib.Core.Logic.{dite}
 use native.Mathlib.Decide.{ℕ_discrete, dec_le}
 use Rattle.chi_flit.specs.declared.numbers.Entry.{Entry}
 use Rattle.chi_flit.specs.declared.credit.CreditType.{CreditType}
-use Rattle.chi_flit.specs.declared.credit.CreditType.TheVariants.{T0, T1, T2, T3}
 use Rattle.chi_flit.specs.Credit.{credit_number}
 use Rattle.chi_tracker.specs.declared.shape.Shape.{Shape}
 use Rattle.chi_tracker.specs.Sums.{below, set_at, raised, with_bit, dropped}
 use Rattle.chi_tracker.specs.Shape.{low, size}
 use Rattle.chi_tracker.specs.Views.{PortView, has}
 use Rattle.chi_tracker.specs.Calls.{saw_all, seen_of, set_count}
+use Rattle.chi_tracker.proofs.Adding.{raised_else, raised_here}
+use Rattle.chi_tracker.proofs.Entries.{credit_below, low_up}
 use Rattle.chi_tracker.proofs.BitLaws.{with_here, with_else, dropped_here, dropped_else}
 use Rattle.chi_credit.specs.Slot.{is_due_of}
 use Rattle.chi_credit.specs.declared.slot.SlotRecord.{SlotRecord}
@@ -23,13 +24,6 @@ use Rattle.chi_credit.specs.declared.slot.SlotState.{SlotState}
 use Rattle.chi_credit.specs.declared.slot.SlotState.TheVariants.{Admitted}
 use Rattle.chi_credit.specs.Account.{riding_of, due_of, holders_of, FallsAt, GrowsAt, IsSame, HasDue, HasEntries, IsWithinSeen}
 use Rattle.chi_node.specs.Requester.{RequesterState, RequesterKept}
-
--- the entries of a type are below the number of all entries
-low_up : (s : Shape) (u t : ℕ) → u < t → low s u + size s u ≤ low s t
-low_up s u zero l = absurd (omega arith)
-low_up s u (suc t) l = dite (ℕ_discrete u t)
-    (λ e. let a : low s u ≡ low s t = ap (low s) e in let b : size s u ≡ size s t = ap (size s) e in omega arith)
-    (λ d. let h = low_up s u t (omega arith) in omega arith)
 
 -- sums of terms that only grow
 below_more : (f g : ℕ → ℕ) (n : ℕ) → ((i : ℕ) → i < n → f i ≤ g i) → below f n ≤ below g n
@@ -45,16 +39,6 @@ saw_more p q t l shaped same more =
 
 pub saw_within : (slots : List SlotRecord) (p q : PortView) → IsWithinSeen slots p → low p.shape 4 ≤ 256 → q ≡ saw_all q.seen p → ((e : ℕ) → e < 256 → set_at p.seen e ≤ set_at q.seen e) → IsWithinSeen slots q
 saw_within slots p q keeps shaped is more = record { within = λ t l. omega (arith, keeps.within t l, saw_more p q t l shaped (ap (λ (x : PortView). x.shape) is) more) }
-
--- an account whose counts are the same
-pub same_within : (a b : List SlotRecord) (p : PortView) → IsSame (riding_of a) (riding_of b) → IsWithinSeen a p → IsWithinSeen b p
-same_within a b p same keeps = record { within = λ t l. omega (arith, same.same t, keeps.within t l) }
-
-pub same_due : (a b : List SlotRecord) (p : PortView) → IsSame (due_of a) (due_of b) → HasDue a p → HasDue b p
-same_due a b p same keeps = record { due = λ t l. omega (arith, same.same t, keeps.due t l) }
-
-pub same_entries : (a b : List SlotRecord) (p : PortView) → IsSame (holders_of a) (holders_of b) → HasEntries a p → HasEntries b p
-same_entries a b p same keeps = record { entries = λ e. omega (arith, same.same e, keeps.entries e) }
 
 -- as many seen credits and Riding slots
 pub still_within : (a b : List SlotRecord) (p q : PortView) → IsSame (riding_of a) (riding_of b) → q.shape ≡ p.shape → q.seen ≡ p.seen → IsWithinSeen a p → IsWithinSeen b q
@@ -115,23 +99,6 @@ in_hand entries r b was found kept falls at = λ e is. subst (λ (x : Entry). ha
     same : (a c : Entry) → Admitted a ≡ Admitted c → a ≡ c
     same a c h = cc (h)
 
--- one number of a row more
-raised_here : (ns : List ℕ) (t : ℕ) → slice_index (raised ns t) t ≡ slice_index ns t + 1
-raised_here [] zero = refl
-raised_here [] (suc t) = omega (arith, raised_here [] t)
-raised_here (n ∷ ns) zero = refl
-raised_here (n ∷ ns) (suc t) = raised_here ns t
-
-raised_else : (ns : List ℕ) (t u : ℕ) → u ≢ t → slice_index (raised ns t) u ≡ slice_index ns u
-raised_else [] zero zero d = absurd (d refl)
-raised_else [] zero (suc u) d = refl
-raised_else [] (suc t) zero d = refl
-raised_else [] (suc t) (suc u) d = raised_else [] t u (λ e. d (ap suc e))
-raised_else (n ∷ ns) zero zero d = absurd (d refl)
-raised_else (n ∷ ns) zero (suc u) d = refl
-raised_else (n ∷ ns) (suc t) zero d = refl
-raised_else (n ∷ ns) (suc t) (suc u) d = raised_else ns t u (λ e. d (ap suc e))
-
 -- one more credit is owed, and due to one more slot
 pub owed_due : (a b : List SlotRecord) (p q : PortView) (t : ℕ) → GrowsAt t (due_of a) (due_of b) → q.retries ≡ raised p.retries t → q.spent ≡ p.spent → q.returned ≡ p.returned → HasDue a p → HasDue b q
 owed_due a b p q t grows retries spent returned keeps = record {
@@ -146,12 +113,6 @@ owed_due a b p q t grows retries spent returned keeps = record {
 }
 
 -- where one more slot can be due a credit, fewer than 8 credits are due
-pub credit_below : (ty : CreditType) → credit_number ty < 4
-credit_below T0 = omega arith
-credit_below T1 = omega arith
-credit_below T2 = omega arith
-credit_below T3 = omega arith
-
 pub few_due : (entries : List ℕ) (r : RequesterState) (q : PortView) (slots : List SlotRecord) (s : ℕ) (x : SlotRecord) (ty : CreditType) → RequesterKept entries r → slots ≡ slice_set r.slots s x → GrowsAt (credit_number ty) (due_of r.slots) (due_of slots)
     → q.retries ≡ r.port.retries → q.spent ≡ r.port.spent → q.returned ≡ r.port.returned → slice_index q.retries (credit_number ty) < 8 + (slice_index q.spent (credit_number ty) + slice_index q.returned (credit_number ty))
 few_due entries r q slots s x ty kept is grows retries spent returned =

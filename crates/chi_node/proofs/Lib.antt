@@ -8,6 +8,5 @@ pub mod Stepping
 pub mod Refusing
 pub mod StepCalls
 pub mod CallArrivals
-pub mod Same
 pub mod OpeningAgrees
 pub mod CreditCalls

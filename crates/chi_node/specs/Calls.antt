@@ -1,6 +1,7 @@
 -- The calls for a whole requester on a slice: when they are refused, and what they leave (docs/PROTOCOL.md,
 -- "A requester and its calls").
-use Rattle.std.specs.Prelude.{◌≡◌, ◌≢◌, ◌+◌, ◌++◌, ◌∷◌, [], slice_index, ◌≤◌, ℕ, ◌⊎◌, Bool, false, not, ◌&&◌, nat_lt, List, Option, Some, None, true, length, replicate, is_some, if◌then◌else◌}
+use Rattle.std.specs.Prelude.{◌≡◌, ◌≢◌, ◌+◌, ◌++◌, ◌∷◌, [], slice_index, ◌≤◌, ℕ, ◌⊎◌, Bool, false}
+use Rattle.std.specs.Prelude.{not, ◌&&◌, nat_lt, List, Option, Some, None, true, length, replicate, is_some, if◌then◌else◌}
 use Rattle.chi_flit.specs.declared.action.Action.{Action}
 use Rattle.chi_flit.specs.declared.action.Step.{Step}
 use Rattle.chi_flit.specs.declared.action.Step.TheVariants as steps
@@ -147,7 +148,8 @@ pub record IsSameSlice (s s' : SliceState) : Type 0 where
 -- for the slice, one more than before, is its place there; the counts for other slices stay, and each load of the
 -- journal had the value last stored before it
 pub record CountsStep (s s' : SliceState) (action : Action) (r r' : RequesterState) : Type 0 where
-  pub part : (entry : Record) → record_of (line s action.line.0) action ≡ Some entry → part_of s'.journal.entries r.number ≡ part_of s.journal.entries r.number ++ entry ∷ []
+  pub part : (entry : Record) → record_of (line s action.line.0) action ≡ Some entry
+      → part_of s'.journal.entries r.number ≡ part_of s.journal.entries r.number ++ entry ∷ []
   pub counted : (entry : Record) → record_of (line s action.line.0) action ≡ Some entry → slice_index r'.counts s.index ≡ slice_index r.counts s.index + 1
   pub uncounted : record_of (line s action.line.0) action ≡ None → slice_index r'.counts s.index ≡ slice_index r.counts s.index
   pub place : slice_index r'.counts s.index ≡ length (part_of s'.journal.entries r.number)

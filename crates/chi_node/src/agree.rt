@@ -5,7 +5,7 @@ ghost use Rattle.chi_journal.specs.Journal.{part_of};
 ghost use Rattle.chi_credit.specs.Account.{slot_at};
 ghost use Rattle.chi_slice.specs.Slice.{SliceKept};
 ghost use Rattle.chi_node.specs.Requester.{RequesterKept};
-ghost use Rattle.chi_node.specs.Agree.{where_of_state, Agree, Fits, MatchesRecord};
+ghost use Rattle.chi_node.specs.Agree.{said_place, where_of_state, Agree, MatchesRecord};
 ghost use Rattle.chi_node.specs.Table.{AgreeByTable};
 
 use crate::requester::Requester;
@@ -76,19 +76,28 @@ fn matches_record<A: Allocator>(slice: &Slice<A>, requester: &Requester, slot: S
     let said = requester.slot(slot);
     let here = slice.has_line(said.line);
     let (place, typed) = slice.typed_place(agent, slot, said.credit);
-    typed && fits(place, said, here)
+    typed && are_same(place, said_place(said, here))
 }
 
-/// Whether a record says of its slot what the slice's place of it shows, its line being one of the
-/// slice's or not.
-fn fits(place: Option<Place>, said: SlotRecord, here: bool) -> bool
-    ensures { IsTrue result ↔ Fits place said here }
+/// The place that a record says its slot has in the slice, its line being one of the slice's or not.
+fn said_place(said: SlotRecord, here: bool) -> Option<Place>
+    ensures { result ≡ said_place said here }
 {
-    match (place, where_of_state(said.state, said.answered)) {
+    if !here {
+        return None;
+    }
+    let line = said.line;
+    where_of_state(said.state, said.answered).map(|at| Place { line, at })
+}
+
+/// Whether two places, if there are any, are the same.
+fn are_same(place: Option<Place>, said: Option<Place>) -> bool
+    ensures { IsTrue result ↔ (place ≡ said) }
+{
+    match (place, said) {
         (None, None) => true,
-        (None, Some(_)) => !here,
-        (Some(_), None) => false,
-        (Some(place), Some(at)) => place.line.0 == said.line.0 && place.at == at,
+        (None, Some(_)) | (Some(_), None) => false,
+        (Some(place), Some(said)) => place.line.0 == said.line.0 && place.at == said.at,
     }
 }
 

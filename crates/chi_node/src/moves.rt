@@ -21,7 +21,7 @@ impl Requester {
     }
 
     /// The first attempt of a request of this line and credit type was sent: Idle becomes Sent.
-    #[tactic(auto, using(crate::proofs::Keeps::still_eight, crate::proofs::Keeps::same_within, crate::proofs::Keeps::same_due, crate::proofs::Keeps::same_entries))]
+    #[tactic(auto, using(crate::proofs::Keeps::still_eight, crate::proofs::Keeps::still_within, crate::proofs::Keeps::still_due, crate::proofs::Keeps::still_entries))]
     pub(crate) fn open(&mut self, slot: Slot, line: Line, ty: CreditType)
         requires slot { slot.0 < 8 }
         requires idle { state_at self.old.slots slot.0 ≡ SlotState.Idle }
@@ -31,7 +31,7 @@ impl Requester {
     }
 
     /// The RetryAck was taken: Refused becomes Retried.
-    #[tactic(auto, using(crate::proofs::Keeps::still_eight, crate::proofs::Keeps::same_within, crate::proofs::Keeps::same_due, crate::proofs::Keeps::same_entries))]
+    #[tactic(auto, using(crate::proofs::Keeps::still_eight, crate::proofs::Keeps::still_within, crate::proofs::Keeps::still_due, crate::proofs::Keeps::still_entries))]
     pub(crate) fn retry_seen(&mut self, slot: Slot)
         requires slot { slot.0 < 8 }
         requires refused { state_at self.old.slots slot.0 ≡ SlotState.Refused }
@@ -42,7 +42,7 @@ impl Requester {
 
     /// The request was sent again with a credit that is beyond those for the other Riding slots: Retried
     /// becomes Riding.
-    #[tactic(auto, using(crate::proofs::Keeps::still_eight, crate::proofs::Keeps::ridden_within, crate::proofs::Keeps::same_due, crate::proofs::Keeps::same_entries))]
+    #[tactic(auto, using(crate::proofs::Keeps::still_eight, crate::proofs::Keeps::ridden_within, crate::proofs::Keeps::still_due, crate::proofs::Keeps::still_entries))]
     pub(crate) fn resend(&mut self, slot: Slot)
         requires slot { slot.0 < 8 }
         requires retried { state_at self.old.slots slot.0 ≡ SlotState.Retried }
@@ -53,7 +53,7 @@ impl Requester {
     }
 
     /// The request isn't sent again: Retried becomes Cancelled.
-    #[tactic(auto, using(crate::proofs::Keeps::still_eight, crate::proofs::Keeps::same_within, crate::proofs::Keeps::same_due, crate::proofs::Keeps::same_entries))]
+    #[tactic(auto, using(crate::proofs::Keeps::still_eight, crate::proofs::Keeps::still_within, crate::proofs::Keeps::still_due, crate::proofs::Keeps::still_entries))]
     pub(crate) fn cancel(&mut self, slot: Slot)
         requires slot { slot.0 < 8 }
         requires retried { state_at self.old.slots slot.0 ≡ SlotState.Retried }
@@ -63,7 +63,7 @@ impl Requester {
     }
 
     /// The requester's own part is over: an Admitted slot is marked so, and a Closing one becomes Idle.
-    #[tactic(auto, using(crate::proofs::Keeps::still_eight, crate::proofs::Keeps::same_within, crate::proofs::Keeps::same_due, crate::proofs::Keeps::same_entries))]
+    #[tactic(auto, using(crate::proofs::Keeps::still_eight, crate::proofs::Keeps::still_within, crate::proofs::Keeps::still_due, crate::proofs::Keeps::still_entries))]
     pub(crate) fn answered(&mut self, slot: Slot)
         requires slot { slot.0 < 8 }
         requires waits { can_be_answered (state_at self.old.slots slot.0) ≡ true }

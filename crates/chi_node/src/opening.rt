@@ -59,8 +59,10 @@ pub fn parts<A: Allocator + Copy>(
     ensures limits { are_in_limits config.now ≡ true }
     ensures slices { IfOk result (λ made. made.0.items ≡ opening_slices config.now config.now.slices) }
     ensures tracker { IfOk result (λ made. made.1.shape ≡ shape_of config.now.entries config.now.agents) }
-    ensures types { IfOk result (λ made. (t : ℕ) → t < 4 → nat_lt 0 (size made.1.shape t) ≡ is_of_profile config.now.profile t) }
-    ensures requesters { IfOk result (λ made. made.2.items ≡ opening_requesters made.1.table made.1.shape config.now.agents) }
+    ensures types { IfOk result (λ made. (t : ℕ) → t < 4
+        → nat_lt 0 (size made.1.shape t) ≡ is_of_profile config.now.profile t) }
+    ensures requesters { IfOk result (λ made. made.2.items
+        ≡ opening_requesters made.1.table made.1.shape config.now.agents) }
     ensures agree { IfOk result (λ made. AllAgree config.now made.1.table made.1.shape) }
 {
     let slices = slices(alloc, config)?;

@@ -129,7 +129,8 @@ impl Requester {
     /// Whether a seen credit of the type is left beside those for the Riding slots.
     /// Source: `docs/PROTOCOL.md`, "Slots and accounts", can_resend.
     pub fn can_resend(&self, ty: CreditType) -> bool
-        ensures { IsTrue result ↔ (riding_of self.now.slots (credit_number ty) < seen_of self.now.port (credit_number ty)) }
+        ensures { IsTrue result ↔ (riding_of self.now.slots (credit_number ty) < seen_of self.now.port
+            (credit_number ty)) }
     {
         let seen = self.port.seen();
         self.account.can_resend(ty, seen[usize::from(ty.number())])
@@ -191,10 +192,19 @@ impl Requester {
     ) -> Result<Released, Refusal>
         requires { self.old.table ≡ tracker.now.table }
         ensures refusal { refusal_of result ≡ give_back_refusal self.old (credit_number ty) }
-        ensures cancelled { IfOk result (λ _. state_at self.old.slots (lowest_cancelled self.old.slots (credit_number ty)) ≡ SlotState.Cancelled) }
-        ensures returned { IfOk result (λ released. (e : ℕ) × IsLowestSeen self.old.port (credit_number ty) e × (has e self.old.port ≡ 0) × Ended (returns_credit (credit_number ty) e self.old.port) (credit_number ty) e released self.new.port × HasSameCredits (returns_credit (credit_number ty) e self.old.port) self.new.port) }
+        ensures cancelled { IfOk result (λ _. state_at self.old.slots
+            (lowest_cancelled self.old.slots (credit_number ty)) ≡ SlotState.Cancelled) }
+        ensures returned { IfOk result (λ released. (e : ℕ) × IsLowestSeen self.old.port (credit_number ty) e
+            × (has e self.old.port ≡ 0) × Ended (returns_credit (credit_number ty) e self.old.port)
+            (credit_number ty) e released self.new.port
+            × HasSameCredits (returns_credit (credit_number ty) e self.old.port) self.new.port) }
         ensures err { OnErr result (self.new ≡ self.old) }
-        ensures others { IfOk result (λ _. self.new ≡ record self.old { port = self.new.port; slots = slice_set self.old.slots (lowest_cancelled self.old.slots (credit_number ty)) idle_slot }) }
+        ensures others { IfOk result (λ _. self.new
+            ≡ record self.old {
+              port = self.new.port;
+              slots = slice_set self.old.slots
+                  (lowest_cancelled self.old.slots (credit_number ty)) idle_slot;
+            }) }
         ensures agreement { (s : SliceState) → Agree s self.old → Agree s self.new }
     {
         if !self.has_type(ty) {

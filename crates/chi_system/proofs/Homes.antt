@@ -1,11 +1,12 @@
 -- The slices of a node: each line has its slice, all slices have the node's sizes and their own index, and
 -- what a call does to one keeps that.
-use Rattle.std.proofs.Common.{◌≡◌, ℕ, zero, suc, ◌<◌, ◌≤◌, [], ◌∷◌, All, true, get_or, length, length-append, refl, sym, ◌∙◌, ap, subst, arith, mod-lt, ⊎_elim, get_or-set_other}
+use Rattle.std.proofs.Common.{◌≡◌, ℕ, ◌<◌, true, get_or, length, sym, ◌∙◌, ap, subst, arith, mod-lt, ⊎_elim, get_or-set_other}
 use Rattle.std.proofs.Math.ListN.{length-set}
-use Rattle.std.proofs.lemmas.Bool.{cases_eq, cases_lt}
+use Rattle.std.proofs.lemmas.Bool.{cases_eq}
 use Rattle.std.proofs.lemmas.Grind.{get_or-set_at}
-use Rattle.std.proofs.lemmas.List.{get_or_append_left, get_or_push, get_or_read}
-use Rattle.std.proofs.lemmas.List.Elements.{All-nil, All-push, All-set}
+use Rattle.std.proofs.lemmas.List.{get_or_read}
+use Rattle.std.proofs.lemmas.List.FromFn.{get_or-map-range_with_len, length-map-range_with_len}
+use Rattle.std.proofs.lemmas.List.Elements.{All-set}
 use Rattle.chi_config.specs.Config.{Sizes, are_in_limits}
 use Rattle.chi_slice.specs.Slice.{SliceState, opening_slice}
 use Rattle.chi_slice.proofs.Rows.{InLimits, in_limits}
@@ -43,30 +44,19 @@ still_home h l s k same = record {
       (cases_eq j (index_of h l));
 }
 
-as_many : (config : Sizes) (n : ℕ) → length (opening_slices config n) ≡ n
-as_many config zero = refl
-as_many config (suc n) = omega (arith, length-append (opening_slices config n) (opening_slice config n ∷ []), as_many config n)
-
-of_sizes : (config : Sizes) (n : ℕ) → All (λ (s : SliceState). s.config ≡ config) (opening_slices config n)
-of_sizes config zero = All-nil (λ (s : SliceState). s.config ≡ config)
-of_sizes config (suc n) = All-push (λ (s : SliceState). s.config ≡ config) (opening_slices config n) (opening_slice config n) (of_sizes config n) refl
-
 -- the slices of a new node
 pub opening_at : (config : Sizes) (n i : ℕ) (d : SliceState) → i < n → get_or (opening_slices config n) i d ≡ opening_slice config i
-opening_at config zero i d low = absurd (omega (arith, low))
-opening_at config (suc n) i d low = ⊎_elim
-    (λ (before : i < n). get_or_append_left (opening_slices config n) (opening_slice config n ∷ []) d i (omega (arith, before, as_many config n)) ∙ opening_at config n i d before)
-    (λ (past : n ≤ i). let e : n ≡ i = omega (arith, past, low) in get_or_push (opening_slices config n) (opening_slice config n) d i (as_many config n ∙ e) ∙ ap (opening_slice config) e)
-    (cases_lt i n)
+opening_at config n i d low = get_or-map-range_with_len (opening_slice config) 0 n i i d low (omega arith)
 
 pub opening_is_home : (config : Sizes) → are_in_limits config ≡ true → IsHome (opening_home config)
 opening_is_home config h =
     let l : InLimits config = in_limits config h in
+    let many = length-map-range_with_len (opening_slice config) 0 config.slices in
     record {
       limits = h;
-      count = as_many config config.slices;
+      count = many;
       some = omega (arith, l.some_slice);
       few = omega (arith, l.slices, l.lines);
-      sizes = of_sizes config config.slices;
+      sizes = λ i d low. ap (λ (s : SliceState). s.config) (opening_at config config.slices i d (subst (λ m. i < m) many low));
       indexes = λ i low. ap (λ (s : SliceState). s.index) (opening_at config config.slices i (opening_slice config 0) low);
     }

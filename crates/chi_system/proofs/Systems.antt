@@ -1,9 +1,10 @@
 -- What a node keeps, in its opening state and as one slice and one requester change.
-use Rattle.std.proofs.Common.{◌≡◌, ℕ, zero, suc, ◌<◌, ◌≤◌, List, [], ◌∷◌, All, true, get_or, length, refl, sym, ◌∙◌, ap, subst, arith, ⊎_elim, get_or-set_other}
+use Rattle.std.proofs.Common.{◌≡◌, ℕ, ◌<◌, ◌≤◌, List, All, true, get_or, length, refl, sym, ◌∙◌, ap, subst, arith, ⊎_elim, get_or-set_other}
 use Rattle.std.proofs.Math.ListN.{set, length-set}
-use Rattle.std.proofs.lemmas.Bool.{cases_eq, cases_lt, ltb-true}
+use Rattle.std.proofs.lemmas.Bool.{cases_eq, ltb-true}
 use Rattle.std.proofs.lemmas.Grind.{get_or-set_at}
-use Rattle.std.proofs.lemmas.List.{get_or_append_left, get_or_default, get_or_push}
+use Rattle.std.proofs.lemmas.List.{get_or_default}
+use Rattle.std.proofs.lemmas.List.FromFn.{get_or-map-range_with_len, length-map-range_with_len}
 use Rattle.std.proofs.lemmas.List.Elements.{All-set}
 use Rattle.atomic_table.specs.Seated.{TableId}
 use Rattle.chi_tracker.specs.declared.shape.Shape.{Shape}
@@ -17,17 +18,13 @@ use Rattle.chi_node.specs.Calls.{IsSameRequester, IsSameSlice}
 use Rattle.chi_node.specs.Parts.{is_of_profile, opening_requesters, opening_slices}
 use Rattle.chi_node.specs.Parts as parts
 use Rattle.chi_node.specs.Requester.{RequesterState, no_requester, opening_requester}
-use Rattle.chi_node.proofs.Openings.{all_types, length_requesters}
+use Rattle.chi_node.proofs.Openings.{all_types}
 use Rattle.chi_system.specs.Home.{HomeState, IsHome, index_of, opening_home, slice_of, with_slice}
 use Rattle.chi_system.specs.System.{AllAgree, IsOf, IsSystem, SystemState, opening_system, requester_of}
 use Rattle.chi_system.proofs.Homes.{is_low, opening_at, opening_is_home, sizes_at, still_home}
 
 requester_at : (table : TableId) (shape : Shape) (n i : ℕ) (d : RequesterState) → i < n → get_or (opening_requesters table shape n) i d ≡ opening_requester table shape i
-requester_at table shape zero i d low = absurd (omega (arith, low))
-requester_at table shape (suc n) i d low = ⊎_elim
-    (λ (before : i < n). get_or_append_left (opening_requesters table shape n) (opening_requester table shape n ∷ []) d i (omega (arith, before, length_requesters table shape n)) ∙ requester_at table shape n i d before)
-    (λ (past : n ≤ i). let e : n ≡ i = omega (arith, past, low) in get_or_push (opening_requesters table shape n) (opening_requester table shape n) d i (length_requesters table shape n ∙ e) ∙ ap (opening_requester table shape) e)
-    (cases_lt i n)
+requester_at table shape n i d low = get_or-map-range_with_len (opening_requester table shape) 0 n i i d low (omega arith)
 
 pub agree_at : (s s' : SliceState) (r r' : RequesterState) → s ≡ s' → r ≡ r' → Agree s' r' → Agree s r
 agree_at s s' r r' same_slice same a = subst (λ (t : SliceState). Agree t r) (sym same_slice) (subst (λ (q : RequesterState). Agree s' q) (sym same) a)
@@ -36,7 +33,7 @@ pub opening_is_system : (config : Sizes) (table : TableId) → are_in_limits con
 opening_is_system config table limits all =
     let shape = shape_of config.entries config.agents in
     let home : IsHome (opening_home config) = opening_is_home config limits in
-    let count = length_requesters table shape config.agents in
+    let count = length-map-range_with_len (opening_requester table shape) 0 config.agents in
     let own : (i : ℕ) (d : RequesterState) → i < length (opening_requesters table shape config.agents) → get_or (opening_requesters table shape config.agents) i d ≡ opening_requester table shape i = λ i d low. requester_at table shape config.agents i d (subst (λ m. i < m) count low) in
     record {
       system = record {

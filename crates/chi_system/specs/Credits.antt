@@ -36,7 +36,8 @@ pub record Sees (seen : List ℕ) (r r' : RequesterState) : Type 0 where
 -- the lowest Cancelled slot of type t became Idle, and the lowest seen credit of the type was given back
 pub record GivesBack (t : ℕ) (released : Released) (r r' : RequesterState) : Type 0 where
   pub cancelled : state_at r.slots (lowest_cancelled r.slots t) ≡ Cancelled
-  pub returned : (e : ℕ) × IsLowestSeen r.port t e × (has e r.port ≡ 0) × Ended (returns_credit t e r.port) t e released r'.port × HasSameCredits (returns_credit t e r.port) r'.port
+  pub returned : (e : ℕ) × IsLowestSeen r.port t e × (has e r.port ≡ 0) × Ended (returns_credit t e r.port) t e released r'.port
+      × HasSameCredits (returns_credit t e r.port) r'.port
   pub others : r' ≡ record r { port = r'.port; slots = slice_set r.slots (lowest_cancelled r.slots t) idle_slot }
 
 -- an entry of type t was claimed for a requester that is owed a credit, and released; or none was

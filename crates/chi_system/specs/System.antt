@@ -72,7 +72,8 @@ pub record ArrivesIn (y y' : SystemState) (agent : Agent) (l : Line) (arrived : 
 pub record StepsIn (y y' : SystemState) (action : Action) (stepped : Stepped) : Type 0 where
   pub home : y'.home ≡ acted y.home action
   pub effect : stepped.effect ≡ effect_of (line y.home action.line.0) action
-  pub requester : Finishes (place_at (slice_of y.home action.line.0) action) action.step stepped.effect stepped.released (requester_of y action.agent.0) (requester_of y' action.agent.0)
+  pub requester : Finishes (place_at (slice_of y.home action.line.0) action) action.step stepped.effect stepped.released
+      (requester_of y action.agent.0) (requester_of y' action.agent.0)
   pub others : OthersStay y y' action.agent
 
 -- an agent looked at its promises, gave a credit back, or tended a type: the slices stay

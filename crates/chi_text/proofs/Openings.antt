@@ -1,8 +1,9 @@
 -- A new node, as the table of the commands sees it.
-use Rattle.std.proofs.Common.{◌≡◌, ℕ, zero, suc, ◌+◌, ◌/◌, ◌%◌, List, [], ◌∷◌, ◌++◌, map, replicate, refl, sym, ◌∙◌, ap, arith}
+use Rattle.std.proofs.Common.{◌≡◌, ℕ, zero, suc, ◌+◌, ◌/◌, ◌%◌, List, [], ◌∷◌, map, replicate, refl, sym, ◌∙◌, ap, arith}
 use Rattle.std.proofs.lemmas.Nat.Bits.{bit_at-zero}
 use Rattle.std.specs.Prelude.{slice_index}
 use Rattle.std.specs.Int.{bit_at}
+use Rattle.std.specs.List.{range_with_len}
 use Rattle.atomic_table.specs.Seated.{TableId}
 use Rattle.chi_tracker.specs.declared.shape.Shape.{Shape}
 use Rattle.chi_tracker.specs.Sums.{set_at}
@@ -20,14 +21,6 @@ use Rattle.chi_text.specs.Ports.{seen_counts}
 use Rattle.chi_text.specs.Turns.{no_credits, opening}
 use Rattle.chi_text.specs.Texts.{opening_ports}
 use Rattle.chi_text.specs.Session.{machine_of, ports_of}
-
-mapped_append : {A B : Type 0} (f : A → B) (xs ys : List A) → map f (xs ++ ys) ≡ map f xs ++ map f ys
-mapped_append f [] ys = refl
-mapped_append {A} {B} f (x ∷ xs) ys = ap (λ (l : List B). f x ∷ l) (mapped_append f xs ys)
-
-one_more : {A : Type 0} (n : ℕ) (x : A) → replicate n x ++ x ∷ [] ≡ replicate (suc n) x
-one_more zero x = refl
-one_more {A} (suc n) x = ap (λ (l : List A). x ∷ l) (one_more n x)
 
 -- nothing is seen
 none_in : (j : ℕ) → slice_index no_credits j ≡ 0
@@ -50,36 +43,25 @@ no_counts s n =
     ∙ (ap (λ m. 0 ∷ m ∷ set_count no_credits (low s 2) (size s 2) ∷ set_count no_credits (low s 3) (size s 3) ∷ []) (none_from (low s 1) (size s 1))
     ∙ (ap (λ m. 0 ∷ 0 ∷ m ∷ set_count no_credits (low s 3) (size s 3) ∷ []) (none_from (low s 2) (size s 2)) ∙ ap (λ m. 0 ∷ 0 ∷ 0 ∷ m ∷ []) (none_from (low s 3) (size s 3))))
 
--- of the first n requesters
-idle_accounts : (z : TableId) (s : Shape) (n : ℕ) → map (λ (r : RequesterState). r.slots) (opening_requesters z s n) ≡ replicate n all_idle
-idle_accounts z s zero = refl
-idle_accounts z s (suc n) =
-    mapped_append (λ (r : RequesterState). r.slots) (opening_requesters z s n) (opening_requester z s n ∷ [])
-    ∙ (ap (λ (l : List (List SlotRecord)). l ++ all_idle ∷ []) (idle_accounts z s n) ∙ one_more n all_idle)
+-- of n requesters from a start
+idle_accounts : (z : TableId) (s : Shape) (start n : ℕ) → map (λ (r : RequesterState). r.slots) (map (opening_requester z s) (range_with_len start n)) ≡ replicate n all_idle
+idle_accounts z s start zero = refl
+idle_accounts z s start (suc n) = ap (λ (l : List (List SlotRecord)). all_idle ∷ l) (idle_accounts z s (start + 1) n)
 
-no_credits_seen : (z : TableId) (s : Shape) (n : ℕ) → map (λ (r : RequesterState). seen_counts r.port) (opening_requesters z s n) ≡ replicate n no_credits
-no_credits_seen z s zero = refl
-no_credits_seen z s (suc n) =
-    mapped_append (λ (r : RequesterState). seen_counts r.port) (opening_requesters z s n) (opening_requester z s n ∷ [])
-    ∙ (ap (λ (l : List (List ℕ)). l ++ seen_counts (new_port s n) ∷ []) (no_credits_seen z s n) ∙ (ap (λ (c : List ℕ). replicate n no_credits ++ c ∷ []) (no_counts s n) ∙ one_more n no_credits))
+no_credits_seen : (z : TableId) (s : Shape) (start n : ℕ) → map (λ (r : RequesterState). seen_counts r.port) (map (opening_requester z s) (range_with_len start n)) ≡ replicate n no_credits
+no_credits_seen z s start zero = refl
+no_credits_seen z s start (suc n) = ap (λ (c : List ℕ). c ∷ map (λ (r : RequesterState). seen_counts r.port) (map (opening_requester z s) (range_with_len (start + 1) n))) (no_counts s start) ∙ ap (λ (l : List (List ℕ)). no_credits ∷ l) (no_credits_seen z s (start + 1) n)
 
-port_more : (s : Shape) (k n : ℕ) → new_ports s k n ++ new_port s (k + n) ∷ [] ≡ new_ports s k (suc n)
-port_more s k zero = let e : k + 0 ≡ k = omega arith in ap (λ m. new_port s m ∷ []) e
-port_more s k (suc n) = let e : k + suc n ≡ (k + 1) + n = omega arith in ap (λ m. new_port s k ∷ (new_ports s (k + 1) n ++ new_port s m ∷ [])) e ∙ ap (λ (l : List PortView). new_port s k ∷ l) (port_more s (k + 1) n)
-
-new_views : (z : TableId) (s : Shape) (n : ℕ) → map (λ (r : RequesterState). r.port) (opening_requesters z s n) ≡ new_ports s 0 n
-new_views z s zero = refl
-new_views z s (suc n) =
-    let e : 0 + n ≡ n = omega arith in
-    mapped_append (λ (r : RequesterState). r.port) (opening_requesters z s n) (opening_requester z s n ∷ [])
-    ∙ (ap (λ (l : List PortView). l ++ new_port s n ∷ []) (new_views z s n) ∙ (ap (λ m. new_ports s 0 n ++ new_port s m ∷ []) (sym e) ∙ port_more s 0 n))
+new_views : (z : TableId) (s : Shape) (start n : ℕ) → map (λ (r : RequesterState). r.port) (map (opening_requester z s) (range_with_len start n)) ≡ new_ports s start n
+new_views z s start zero = refl
+new_views z s start (suc n) = ap (λ (l : List PortView). new_port s start ∷ l) (new_views z s (start + 1) n)
 
 -- the table's state, and the ports
 pub opening_machine : (config : Sizes) (z : TableId) (y : SystemState) → y ≡ opening_system config z → machine_of y ≡ opening config
 opening_machine config z y is =
     ap machine_of is
-    ∙ (ap (λ (a : List (List SlotRecord)). record { home = opening_home config; accounts = a; seen = map (λ (r : RequesterState). seen_counts r.port) (opening_requesters z (shape_of config.entries config.agents) config.agents) }) (idle_accounts z (shape_of config.entries config.agents) config.agents)
-    ∙ ap (λ (c : List (List ℕ)). record { home = opening_home config; accounts = replicate config.agents all_idle; seen = c }) (no_credits_seen z (shape_of config.entries config.agents) config.agents))
+    ∙ (ap (λ (a : List (List SlotRecord)). record { home = opening_home config; accounts = a; seen = map (λ (r : RequesterState). seen_counts r.port) (opening_requesters z (shape_of config.entries config.agents) config.agents) }) (idle_accounts z (shape_of config.entries config.agents) 0 config.agents)
+    ∙ ap (λ (c : List (List ℕ)). record { home = opening_home config; accounts = replicate config.agents all_idle; seen = c }) (no_credits_seen z (shape_of config.entries config.agents) 0 config.agents))
 
 pub opening_views : (config : Sizes) (z : TableId) (y : SystemState) → y ≡ opening_system config z → ports_of y ≡ opening_ports config
-opening_views config z y is = ap ports_of is ∙ new_views z (shape_of config.entries config.agents) config.agents
+opening_views config z y is = ap ports_of is ∙ new_views z (shape_of config.entries config.agents) 0 config.agents

@@ -1,4 +1,4 @@
-mod Adding
+pub mod Adding
 pub mod BitLaws
 pub mod Entries
 mod Moving

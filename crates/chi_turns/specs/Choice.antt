@@ -1,6 +1,7 @@
 -- What a turn has a requester do on the slice of its line: one choice, of three parts in their order
 -- (docs/PROTOCOL.md, "A turn").
-use Rattle.std.specs.Prelude.{◌≡◌, ℕ, ◌<◌, ◌/◌, ◌%◌, Bool, true, false, not, nat_lt, List, [], ◌∷◌, length, slice_get, position, Option, Some, None, is_some, option_map, ⊤, if◌then◌else◌}
+use Rattle.std.specs.Prelude.{◌≡◌, ℕ, ◌<◌, ◌/◌, ◌%◌, Bool, true, false, not, nat_lt, List}
+use Rattle.std.specs.Prelude.{[], ◌∷◌, length, slice_get, position, Option, Some, None, is_some, option_map, ⊤, if◌then◌else◌}
 use Rattle.std.specs.List.{filter}
 use Rattle.chi_flit.specs.declared.numbers.Line.{Line}
 use Rattle.chi_flit.specs.declared.numbers.Slot.{Slot}
@@ -37,7 +38,8 @@ use Rattle.chi_turns.specs.declared.choice.Call.TheVariants as calls
 use Rattle.chi_turns.specs.declared.choice.Choice.{Choice}
 use Rattle.chi_turns.specs.declared.choice.Choice.TheVariants.{Finish, Try, Do}
 use Rattle.chi_turns.specs.declared.deliveries.Delivery.{Delivery}
-use Rattle.chi_turns.specs.declared.deliveries.Delivery.TheVariants.{RecvSnp, RecvRetry, RecvData, RecvComp, RecvDbid, Arrival, Start, RecvSnpResp, RecvAck, RecvWrData}
+use Rattle.chi_turns.specs.declared.deliveries.Delivery.TheVariants.{RecvSnp, RecvRetry, RecvData, RecvComp, RecvDbid}
+use Rattle.chi_turns.specs.declared.deliveries.Delivery.TheVariants.{Arrival, Start, RecvSnpResp, RecvAck, RecvWrData}
 use Rattle.chi_turns.specs.declared.operations.Place.{Place}
 use Rattle.chi_turns.specs.declared.operations.Unfinished.{Unfinished}
 use Rattle.chi_turns.specs.Operations.{eligible_on, unfinished_at}
@@ -158,7 +160,8 @@ else_choice (Some choice) other = Some choice
 
 -- the parts in their order at a line
 abbrev pub choice_at : SliceState → RequesterState → List Unfinished → Bool → Line → ℕ → Option Choice
-choice_at s r ops stopped l number = else_choice (retry s.config.profile (rn_of (line s l.0) r.number) r) (else_choice (operation stopped ops (rn_of (line s l.0) r.number) r.slots l.0) (delivery s r.number l number))
+choice_at s r ops stopped l number = else_choice (retry s.config.profile (rn_of (line s l.0) r.number) r)
+    (else_choice (operation stopped ops (rn_of (line s l.0) r.number) r.slots l.0) (delivery s r.number l number))
 
 -- what is done for the word x; nothing in a slice that hasn't the line
 abbrev pub choice : SliceState → RequesterState → List Unfinished → Bool → ℕ → Option Choice

@@ -24,7 +24,8 @@ fn try_step<A: Allocator, B: Allocator>(
 ) -> Option<Refusal>
     requires table { requester.old.table ≡ tracker.now.table }
     requires own { is_own_step step ≡ true }
-    ensures tried { StepTried slice.old slice.new (action_of requester.old line step) requester.old requester.new result }
+    ensures tried { StepTried slice.old slice.new (action_of requester.old line step)
+        requester.old requester.new result }
     ensures agreement { KeepsAgreement slice.old slice.new requester.old requester.new }
     ensures same { IsSameRequester requester.old requester.new }
     ensures slice { IsSameSlice slice.old slice.new }

@@ -49,7 +49,8 @@ fn choose_at<A: Allocator, B: Allocator>(
     stopped: bool,
     number: u32,
 ) -> Option<Choice>
-    ensures is { result ≡ choice_at sight.now.slice.now sight.now.requester.now operations.now stopped sight.now.line number }
+    ensures is { result
+        ≡ choice_at sight.now.slice.now sight.now.requester.now operations.now stopped sight.now.line number }
     ensures own { IfSome result (IsOwn operations.now) }
 {
     let (requester, copy) = (sight.requester, sight.at.copy);

@@ -48,7 +48,14 @@ impl<A: Allocator> Player<A> {
     /// An agent that has played nothing of its script.
     /// Source: `docs/PROTOCOL.md`, "A turn".
     pub fn new(requester: Requester, operations: Operations<A>) -> Player<A>
-        ensures { result ≡ record { requester = requester; operations = operations; stopped = false; not_open = false; loads = 0; stores = 0 } }
+        ensures { result ≡ record {
+          requester = requester;
+          operations = operations;
+          stopped = false;
+          not_open = false;
+          loads = 0;
+          stores = 0;
+        } }
     {
         Player {
             requester,

@@ -1,11 +1,12 @@
 -- The sizes fit, and each requester has its own port.
-use Rattle.std.proofs.Common.{◌∙◌, ap, sym, arith, length}
+use Rattle.std.proofs.lemmas.List.FromFn.{length-map-range_with_len, map-range_with_len_more}
+use Rattle.std.proofs.Common.{◌≡◌, ◌∙◌, ap, sym, arith, length}
 use Rattle.chi_tracker.specs.declared.shape.Shape.{Shape}
 use Rattle.chi_tracker.specs.Views.{new_port}
 use Rattle.chi_tracker.specs.Calls.{Owner}
 use Rattle.chi_node.specs.Requester.{opening_requester}
 use Rattle.chi_node.proofs.OpeningAgrees.{all_agree}
-use Rattle.chi_node.proofs.Openings.{all_types, few_agents, few_entries, first_port, left_ports, length_requesters, more_requesters}
+use Rattle.chi_node.proofs.Openings.{all_types, few_agents, few_entries, first_port, left_ports}
 use Rattle.chi_node.proofs.opening.requesters.Goals as goal
 
 pub new-requires-clause-entries : goal.new-requires-clause-entries
@@ -27,15 +28,16 @@ pub push-requires : goal.push-requires
 push-requires g c =
     let few = few_agents c.args.config.now c.agents-agents.ensures.limits in
     let so_far = ap length c.loop-number.invariant.made in
-    (omega arith, omega (arith, so_far, few.1, c.agents-agents.ensures.value, c.loop-number-test.true, length_requesters c.in_ok-tracker.tracker.table c.in_ok-tracker.tracker.shape c.loop-number.number))
+    (omega arith, omega (arith, so_far, few.1, c.agents-agents.ensures.value, c.loop-number-test.true, length-map-range_with_len (opening_requester c.in_ok-tracker.tracker.table c.in_ok-tracker.tracker.shape) 0 c.loop-number.number))
 
 pub loop-number-preserved : goal.loop-number-preserved
 loop-number-preserved g c =
     let z = c.in_ok-tracker.tracker.table in let s = c.in_ok-tracker.tracker.shape in let n = c.loop-number.number in
     let is = first_port z s n c.agents-agents.result c.loop-number.ports.items c.remove-port.result c.loop-number-test.true c.loop-number.invariant.left c.remove-port.ensures.value in
     record {
-      made = more_requesters z s n c.loop-number.requesters.items c.push.new.self.items c.new-in-loop-number.result c.loop-number.invariant.made c.push.ensures.items
-          (c.new-in-loop-number.ensures ∙ ap (λ (o : Owner). opening_requester o.table o.port.shape n) is);
+      made = let more = map-range_with_len_more (opening_requester z s) 0 n n (omega arith) in
+          let own : c.new-in-loop-number.result ≡ opening_requester z s n = c.new-in-loop-number.ensures ∙ ap (λ (o : Owner). opening_requester o.table o.port.shape n) is in
+          cc (c.loop-number.invariant.made, c.push.ensures.items);
       left = left_ports z s n c.agents-agents.result c.loop-number.ports.items c.remove-port.new.self.items c.loop-number-test.true c.loop-number.invariant.left c.remove-port.ensures.items;
     }
 

@@ -1,11 +1,12 @@
 -- One slice more in each turn.
 use Rattle.std.proofs.Common.{◌≡◌, ◌∙◌, ap, arith}
+use Rattle.std.proofs.lemmas.List.FromFn.{map-range_with_len_more}
+use Rattle.chi_slice.specs.Slice.{opening_slice}
 use Rattle.chi_node.specs.Parts.{opening_slices}
-use Rattle.chi_node.proofs.Openings.{more_slices}
 use Rattle.chi_node.proofs.opening.slices.Goals as goal
 
 pub loop-index-preserved : goal.loop-index-preserved
-loop-index-preserved g c = more_slices c.args.config.now c.loop-index.index c.loop-index.slices.items c.push.new.self.items c.in_ok-slice.slice c.loop-index.invariant c.in_ok-push.ensures.items c.in_ok-slice.ensures
+loop-index-preserved g c = let more = map-range_with_len_more (opening_slice c.args.config.now) 0 c.loop-index.index c.loop-index.index (omega arith) in cc (c.in_ok-push.ensures.items, c.in_ok-slice.ensures)
 
 pub returns-clause-slices : goal.returns-clause-slices
 returns-clause-slices g c =
