@@ -1,0 +1,4 @@
+mod Fields
+mod Pointers
+mod SliceHandles
+mod NodeHandles

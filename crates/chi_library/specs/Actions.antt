@@ -1,0 +1,73 @@
+-- Actions and effects in C's numbers (docs/LIBRARY.md, "Numbers"). A step's number is its place in the table of
+-- docs/PROTOCOL.md, "The actions".
+use Rattle.std.specs.Prelude.{ℕ, Option, Some, None, ◌==◌, if◌then◌else◌}
+use Rattle.chi_flit.specs.declared.action.Action.{Action}
+use Rattle.chi_flit.specs.declared.action.Effect.{Effect}
+use Rattle.chi_flit.specs.declared.action.Effect.TheVariants.{Nothing, Value, Completed}
+use Rattle.chi_flit.specs.declared.action.Step.{Step}
+use Rattle.chi_flit.specs.declared.action.Step.TheVariants.{Load, Store, Drop, Issue, Admit, Retry, RecvRetry, Resend, Cancel, Start, RecvSnp, RecvSnpResp, RecvData, RecvComp, RecvAck, RecvDbid, RecvWrData}
+use Rattle.chi_flit.specs.declared.kind.Kind.{Kind}
+use Rattle.chi_flit.specs.declared.numbers.Agent.{Agent}
+use Rattle.chi_flit.specs.declared.numbers.Line.{Line}
+use Rattle.chi_flit.specs.declared.numbers.Slot.{Slot}
+use Rattle.chi_flit.specs.declared.numbers.WordNo.{WordNo}
+use Rattle.chi_library.specs.declared.actions.ChiAction.{ChiAction}
+use Rattle.chi_library.specs.declared.actions.ChiEffect.{ChiEffect}
+use Rattle.chi_library.specs.Numbers.{kind_of}
+
+abbrev pub agent_at : ℕ → Agent
+agent_at n = record { 0 = n }
+
+abbrev pub line_at : ℕ → Line
+line_at n = record { 0 = n }
+
+abbrev pub slot_at : ℕ → Slot
+slot_at n = record { 0 = n }
+
+abbrev pub word_at : ℕ → WordNo
+word_at n = record { 0 = n }
+
+-- an Issue needs a kind
+abbrev pub issue_if : Option Kind → Slot → Option Step
+issue_if None slot = None
+issue_if (Some kind) slot = Some (Issue kind slot)
+
+abbrev pub issue_of : ℕ → Slot → Option Step
+issue_of kind slot = issue_if (kind_of kind) slot
+
+-- the step that an action's numbers name
+abbrev pub step_of : ChiAction → Option Step
+step_of a =
+    if a.step == 0 then Some (Load (word_at a.word)) else (
+    if a.step == 1 then Some (Store (word_at a.word) a.value) else (
+    if a.step == 2 then Some Drop else (
+    if a.step == 3 then issue_of a.kind (slot_at a.slot) else (
+    if a.step == 4 then Some Admit else (
+    if a.step == 5 then Some Retry else (
+    if a.step == 6 then Some RecvRetry else (
+    if a.step == 7 then Some Resend else (
+    if a.step == 8 then Some Cancel else (
+    if a.step == 9 then Some Start else (
+    if a.step == 10 then Some RecvSnp else (
+    if a.step == 11 then Some RecvSnpResp else (
+    if a.step == 12 then Some RecvData else (
+    if a.step == 13 then Some RecvComp else (
+    if a.step == 14 then Some RecvAck else (
+    if a.step == 15 then Some RecvDbid else (
+    if a.step == 16 then Some RecvWrData else None))))))))))))))))
+
+abbrev pub action_if : ChiAction → Option Step → Option Action
+action_if a None = None
+action_if a (Some step) = Some (record { agent = agent_at a.agent; line = line_at a.line; step = step })
+
+-- the action that C's numbers name
+abbrev pub action_of : ChiAction → Option Action
+action_of a = action_if a (step_of a)
+
+abbrev pub no_effect : ChiEffect
+no_effect = record { effect = 0; slot = 0; value = 0 }
+
+abbrev pub effect_told : Effect → ChiEffect
+effect_told Nothing = no_effect
+effect_told (Value value) = record { effect = 1; slot = 0; value = value }
+effect_told (Completed slot) = record { effect = 2; slot = slot.0; value = 0 }

@@ -1,0 +1,94 @@
+-- Flits in C's numbers (docs/PROTOCOL.md, "Messages"; docs/LIBRARY.md, "Numbers").
+use Rattle.std.specs.Prelude.{ℕ, List, [], ◌∷◌, Bool, true, false, Option, Some, None, replicate}
+use Rattle.chi_flit.specs.declared.message.Channel.TheVariants as channels
+use Rattle.chi_flit.specs.declared.message.DatUp.{DatUp}
+use Rattle.chi_flit.specs.declared.message.DatUp.TheVariants.{SnpRespDataIPD, SnpRespDataSCPD, SnpRespDataSD, CopyBackWrData}
+use Rattle.chi_flit.specs.declared.message.Msg.{Msg}
+use Rattle.chi_flit.specs.declared.message.Msg.TheVariants as messages
+use Rattle.chi_flit.specs.declared.message.Request.{Request}
+use Rattle.chi_flit.specs.declared.message.RspDown.{RspDown}
+use Rattle.chi_flit.specs.declared.message.RspDown.TheVariants.{RetryAck, CompUC, CompI, CompDBIDResp}
+use Rattle.chi_flit.specs.declared.message.RspUp.{RspUp}
+use Rattle.chi_flit.specs.declared.message.RspUp.TheVariants.{SnpRespI, SnpRespSC, CompAck}
+use Rattle.chi_flit.specs.declared.snoop.Snoop.{Snoop}
+use Rattle.chi_flit.specs.declared.snoop.Snoop.TheVariants.{SnpShared, SnpNotSharedDirty, SnpUnique, SnpCleanInvalid}
+use Rattle.chi_flit.specs.declared.state.State.{State}
+use Rattle.chi_flit.specs.declared.state.State.TheVariants.{I, SC, UC, UD, SD}
+use Rattle.chi_flit.specs.Credit.{credit_number}
+use Rattle.chi_flit.specs.Message.{no_words}
+use Rattle.chi_wires.specs.declared.cells.Cells.{Cells}
+use Rattle.chi_wires.specs.Cell.{cell_of}
+use Rattle.chi_library.specs.declared.flits.ChiFlit.{ChiFlit}
+use Rattle.chi_library.specs.declared.flits.ChiFlits.{ChiFlits}
+use Rattle.chi_library.specs.Numbers.{flag_number, kind_number}
+
+abbrev pub no_flit : ChiFlit
+no_flit = record { message = 0; kind = 0; slot = 0; allow_retry = 0; credit = 0; words = no_words }
+
+-- a message by its number alone, and one with data
+abbrev pub plain_told : ℕ → ChiFlit
+plain_told n = record no_flit { message = n }
+
+abbrev pub data_told : ℕ → List ℕ → ChiFlit
+data_told n words = record no_flit { message = n; words = words }
+
+abbrev pub request_told : Request → ChiFlit
+request_told request =
+    record no_flit { message = 1; kind = kind_number request.kind; slot = request.slot.0; allow_retry = flag_number request.allow_retry }
+
+abbrev pub snoop_message : Snoop → ℕ
+snoop_message SnpShared = 2
+snoop_message SnpNotSharedDirty = 3
+snoop_message SnpUnique = 4
+snoop_message SnpCleanInvalid = 5
+
+abbrev pub response_told : RspDown → ChiFlit
+response_told (RetryAck ty) = record no_flit { message = 6; credit = credit_number ty }
+response_told CompUC = plain_told 7
+response_told CompI = plain_told 8
+response_told CompDBIDResp = plain_told 9
+
+abbrev pub dat_down_message : Bool → ℕ
+dat_down_message false = 10
+dat_down_message true = 11
+
+abbrev pub rsp_up_message : RspUp → ℕ
+rsp_up_message SnpRespI = 12
+rsp_up_message SnpRespSC = 13
+rsp_up_message CompAck = 14
+
+abbrev pub write_message : State → ℕ
+write_message I = 18
+write_message SC = 19
+write_message UC = 20
+write_message UD = 21
+write_message SD = 22
+
+abbrev pub dat_up_told : DatUp → ChiFlit
+dat_up_told (SnpRespDataIPD words) = data_told 15 words
+dat_up_told (SnpRespDataSCPD words) = data_told 16 words
+dat_up_told (SnpRespDataSD words) = data_told 17 words
+dat_up_told (CopyBackWrData state words) = data_told (write_message state) words
+
+-- a message that may be in flight
+abbrev pub flit_told : Option Msg → ChiFlit
+flit_told None = no_flit
+flit_told (Some (messages.Req request)) = request_told request
+flit_told (Some (messages.Snp snoop)) = plain_told (snoop_message snoop)
+flit_told (Some (messages.RspDown response)) = response_told response
+flit_told (Some (messages.DatDown sent)) = data_told (dat_down_message sent.unique) sent.words
+flit_told (Some (messages.RspUp response)) = plain_told (rsp_up_message response)
+flit_told (Some (messages.DatUp response)) = dat_up_told response
+
+-- nothing in flight
+abbrev pub no_flits_told : ChiFlits
+no_flits_told = record { channels = replicate 6 no_flit }
+
+-- what is in flight, channel by channel
+abbrev pub flits_told : Cells → ChiFlits
+flits_told cells = record {
+  channels =
+      flit_told (cell_of cells channels.Req) ∷ flit_told (cell_of cells channels.Snp)
+      ∷ flit_told (cell_of cells channels.RspDown) ∷ flit_told (cell_of cells channels.DatDown)
+      ∷ flit_told (cell_of cells channels.RspUp) ∷ flit_told (cell_of cells channels.DatUp) ∷ [];
+}

@@ -1,0 +1,11 @@
+pub mod Numbers
+pub mod Calls
+pub mod Actions
+pub mod Sizes
+pub mod Flits
+pub mod Lines
+pub mod Records
+pub mod NodeCalls
+pub mod NodeHandle
+pub mod SliceHandle
+pub mod SliceCalls

@@ -1,0 +1,132 @@
+-- What the calls on a node refuse, do and tell, by C's numbers (docs/LIBRARY.md, "A node").
+use Rattle.std.specs.Prelude.{◌≡◌, ℕ, [], ◌∷◌, Bool, true, false, Option, Some, None}
+use Rattle.atomic_table.specs.Seated.{TableId}
+use Rattle.chi_flit.specs.declared.action.Action.{Action}
+use Rattle.chi_flit.specs.declared.credit.CreditType.{CreditType}
+use Rattle.chi_flit.specs.declared.numbers.Agent.{Agent}
+use Rattle.chi_flit.specs.declared.numbers.Line.{Line}
+use Rattle.chi_flit.specs.declared.refusal.Refusal.{Refusal}
+use Rattle.chi_flit.specs.declared.refusal.Refusal.TheVariants.{OutOfRange}
+use Rattle.chi_flit.specs.Credit.{credit_number}
+use Rattle.chi_line.specs.LineState.{cells_of}
+use Rattle.chi_line.specs.View.{shown}
+use Rattle.chi_node.specs.declared.answers.Arrived.{Arrived}
+use Rattle.chi_node.specs.declared.answers.Arrived.TheVariants.{Admitted, Retried}
+use Rattle.chi_node.specs.declared.answers.Stepped.{Stepped}
+use Rattle.chi_node.specs.Calls.{is_own_step}
+use Rattle.chi_slice.specs.Audits.{IsAudited}
+use Rattle.chi_config.specs.Config.{Sizes}
+use Rattle.chi_system.specs.Home.{flits_refusal, last_of, line, view_refusal}
+use Rattle.chi_system.specs.System.{SystemState, opening_system, step_refusal, ArrivesIn, GivesBackIn, SeesIn, StepsIn, TendsIn}
+use Rattle.chi_tracker.specs.declared.released.Released.{Released}
+use Rattle.chi_tracker.specs.declared.released.Released.TheVariants.{Granted, Freed}
+use Rattle.chi_library.specs.declared.actions.ChiAction.{ChiAction}
+use Rattle.chi_library.specs.declared.actions.ChiEffect.{ChiEffect}
+use Rattle.chi_library.specs.declared.node_told.ChiArrival.{ChiArrival}
+use Rattle.chi_library.specs.declared.node_told.ChiAudit.{ChiAudit}
+use Rattle.chi_library.specs.declared.node_told.ChiCredits.{ChiCredits}
+use Rattle.chi_library.specs.declared.node_told.ChiRelease.{ChiRelease}
+use Rattle.chi_library.specs.declared.flits.ChiFlits.{ChiFlits}
+use Rattle.chi_library.specs.declared.lines.ChiLine.{ChiLine}
+use Rattle.chi_library.specs.Actions.{action_of, effect_told, no_effect}
+use Rattle.chi_library.specs.Calls.{told_unless}
+use Rattle.chi_library.specs.Flits.{flits_told, no_flits_told}
+use Rattle.chi_library.specs.Lines.{line_told, no_line_told}
+use Rattle.chi_library.specs.Numbers.{flag_number}
+
+-- a node of these sizes opens, over a tracker's words of its own
+abbrev pub OpensNode : Sizes → SystemState → Type 0
+OpensNode config y = (table : TableId) × (y ≡ opening_system config table)
+
+-- a call that is refused leaves all as it was, and tells nothing; else it did this
+abbrev pub Called : Option Refusal → Type 0 → Type 0 → Type 0
+Called None Did Stayed = Did
+Called (Some refusal) Did Stayed = Stayed
+
+-- the same of a handle: what it held, what it holds, why the node refuses, what the call does, and that nothing is told
+abbrev pub CalledOn : Option SystemState → Option SystemState → (SystemState → Option Refusal) → (SystemState → SystemState → Type 0) → Type 0 → Type 0
+CalledOn None new refusal Did Nothing = (new ≡ None) × Nothing
+CalledOn (Some y) None refusal Did Nothing = ⊥
+CalledOn (Some y) (Some y') refusal Did Nothing = Called (refusal y) (Did y y') ((y' ≡ y) × Nothing)
+
+-- an arrival
+abbrev pub no_arrival : ChiArrival
+no_arrival = record { arrival = 0; entry = 0; credit = 0 }
+
+abbrev pub arrival_told : Arrived → ChiArrival
+arrival_told (Admitted entry) = record { arrival = 1; entry = entry.0; credit = 0 }
+arrival_told (Retried ty) = record { arrival = 2; entry = 0; credit = credit_number ty }
+
+abbrev pub Arrives : Agent → Line → ChiArrival → SystemState → SystemState → Type 0
+Arrives agent l told y y' = (arrived : Arrived) × (told ≡ arrival_told arrived) × ArrivesIn y y' agent l arrived
+
+-- where a released entry went
+abbrev pub no_release : ChiRelease
+no_release = record { release = 0; agent = 0 }
+
+abbrev pub release_told : Released → ChiRelease
+release_told Freed = record { release = 1; agent = 0 }
+release_told (Granted agent) = record { release = 2; agent = agent.0 }
+
+abbrev pub release_if : Option Released → ChiRelease
+release_if None = no_release
+release_if (Some released) = release_told released
+
+-- the action of a requester's own that C's numbers name: none where they name none, or an arrival's
+abbrev pub own_if : Bool → Action → Option Action
+own_if true action = Some action
+own_if false action = None
+
+abbrev pub own_action : Option Action → Option Action
+own_action None = None
+own_action (Some action) = own_if (is_own_step action.step) action
+
+abbrev pub own_of : ChiAction → Option Action
+own_of a = own_action (action_of a)
+
+abbrev pub IsOwn : Option Action → Type 0
+IsOwn None = Unit {0}
+IsOwn (Some action) = is_own_step action.step ≡ true
+
+-- a step
+abbrev pub node_step_refusal : Option Action → SystemState → Option Refusal
+node_step_refusal None y = Some OutOfRange
+node_step_refusal (Some action) y = step_refusal y action
+
+abbrev pub Steps : Option Action → ChiEffect → ChiRelease → SystemState → SystemState → Type 0
+Steps None effect release y y' = ⊥
+Steps (Some action) effect release y y' =
+    (stepped : Stepped) × (effect ≡ effect_told stepped.effect) × (release ≡ release_if stepped.released) × StepsIn y y' action stepped
+
+-- a step of which nothing is told
+pub record IsUntold (effect : ChiEffect) (release : ChiRelease) : Type 0 where
+  pub nothing : effect ≡ no_effect
+  pub unreleased : release ≡ no_release
+
+-- the calls of a requester that need no slice
+abbrev pub no_credits : ChiCredits
+no_credits = record { seen = 0 ∷ 0 ∷ 0 ∷ 0 ∷ [] }
+
+abbrev pub Looks : Agent → ChiCredits → SystemState → SystemState → Type 0
+Looks agent told y y' = SeesIn y y' agent told.seen
+
+abbrev pub GivesBack : Agent → Option CreditType → ChiRelease → SystemState → SystemState → Type 0
+GivesBack agent ty told y y' = (released : Released) × (told ≡ release_told released) × GivesBackIn y y' agent ty released
+
+abbrev pub Tends : Agent → Option CreditType → ChiRelease → SystemState → SystemState → Type 0
+Tends agent ty told y y' = (released : Option Released) × (told ≡ release_if released) × TendsIn y y' agent ty released
+
+-- a line, and the flits of an agent at one
+abbrev pub node_show_told : ℕ → SystemState → ChiLine
+node_show_told l y = told_unless (view_refusal y.home l) no_line_told (line_told (shown (line y.home l) (last_of y.home l)))
+
+abbrev pub node_flits_told : ℕ → ℕ → SystemState → ChiFlits
+node_flits_told n l y = told_unless (flits_refusal y.home n l) no_flits_told (flits_told (cells_of (line y.home l) n))
+
+-- an audit
+abbrev pub no_audit : ChiAudit
+no_audit = record { loads = 0; stores = 0; coherent = 0 }
+
+abbrev pub IsAuditOf : Option SystemState → ChiAudit → Type 0
+IsAuditOf None told = told ≡ no_audit
+IsAuditOf (Some y) told = (verdict : Bool) × (told.coherent ≡ flag_number verdict) × IsAudited y.home.slices told.loads told.stores verdict

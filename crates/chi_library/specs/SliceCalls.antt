@@ -1,0 +1,61 @@
+-- What the calls on a slice refuse, leave and tell, by C's numbers (docs/LIBRARY.md, "A slice").
+use Rattle.std.specs.Prelude.{◌≡◌, ℕ, Option, Some, None, nat_lt, slice_get, if◌then◌else◌}
+use Rattle.chi_flit.specs.declared.action.Action.{Action}
+use Rattle.chi_flit.specs.declared.refusal.Refusal.{Refusal}
+use Rattle.chi_flit.specs.declared.refusal.Refusal.TheVariants.{OutOfRange}
+use Rattle.chi_journal.specs.declared.record.Record.{Record}
+use Rattle.chi_line.specs.LineState.{cells_of}
+use Rattle.chi_line.specs.Step.{effect_of}
+use Rattle.chi_line.specs.View.{shown}
+use Rattle.chi_config.specs.Config.{Sizes}
+use Rattle.chi_slice.specs.Slice.{SliceState, flits_refusal, last_of, line, opening_slice, refused, tried, view_refusal}
+use Rattle.chi_library.specs.declared.actions.ChiEffect.{ChiEffect}
+use Rattle.chi_library.specs.declared.flits.ChiFlits.{ChiFlits}
+use Rattle.chi_library.specs.declared.lines.ChiLine.{ChiLine}
+use Rattle.chi_library.specs.declared.records.ChiRecord.{ChiRecord}
+use Rattle.chi_library.specs.Actions.{effect_told, no_effect}
+use Rattle.chi_library.specs.Calls.{told_unless}
+use Rattle.chi_library.specs.Flits.{flits_told, no_flits_told}
+use Rattle.chi_library.specs.Lines.{line_told, no_line_told}
+use Rattle.chi_library.specs.Records.{no_record, record_told}
+
+-- the sizes of the node of a slice, where it has a slice of the index
+abbrev pub sizes_at : Option Sizes → ℕ → Option Sizes
+sizes_at None index = None
+sizes_at (Some config) index = if nat_lt index config.slices then Some config else None
+
+-- the slice of an index opens
+abbrev pub Opens : ℕ → Sizes → SliceState → Type 0
+Opens index config s = s ≡ opening_slice config index
+
+-- an action of C's: 10 where its numbers name none, else as the slice does it
+abbrev pub act_refusal : Option Action → SliceState → Option Refusal
+act_refusal None s = Some OutOfRange
+act_refusal (Some action) s = refused s action
+
+abbrev pub act_after : Option Action → SliceState → SliceState
+act_after None s = s
+act_after (Some action) s = tried s action
+
+abbrev pub act_told : Option Action → SliceState → ChiEffect
+act_told None s = no_effect
+act_told (Some action) s = told_unless (refused s action) no_effect (effect_told (effect_of (line s action.line.0) action))
+
+-- a line, and the flits of an agent at one
+abbrev pub show_told : ℕ → SliceState → ChiLine
+show_told l s = told_unless (view_refusal s l) no_line_told (line_told (shown (line s l) (last_of s l)))
+
+abbrev pub flits_shown : ℕ → ℕ → SliceState → ChiFlits
+flits_shown n l s = told_unless (flits_refusal s n l) no_flits_told (flits_told (cells_of (line s l) n))
+
+-- the record of a place in the journal: 10 behind its end
+abbrev pub entry_at : SliceState → ℕ → Option Record
+entry_at s place = slice_get s.journal.entries place
+
+abbrev pub entry_refusal : Option Record → Option Refusal
+entry_refusal None = Some OutOfRange
+entry_refusal (Some entry) = None
+
+abbrev pub entry_told : Option Record → ChiRecord
+entry_told None = no_record
+entry_told (Some entry) = record_told entry

@@ -1,0 +1,104 @@
+//! An action in C's words, and what it gives.
+
+ghost use Rattle.std.specs.Prelude.{◌≡◌};
+ghost use Rattle.chi_library.specs.Actions.{action_of, effect_told, issue_of, step_of};
+
+use crate::numbers::kind_at;
+use chi_flit::{Action, Agent, Effect, Line, Slot, Step, WordNo};
+
+/// One action: `ChiAction` of `chihome.h`. `kind` and `slot` are read of an Issue, `word` of a Load and a
+/// Store, and `value` of a Store.
+/// Source: `docs/LIBRARY.md`, "Numbers".
+#[repr(C)]
+#[derive(Clone, Copy)]
+pub struct ChiAction {
+    pub agent: u8,
+    pub line: u8,
+    pub step: u8,
+    pub kind: u8,
+    pub slot: u8,
+    pub word: u8,
+    pub value: u64,
+}
+
+/// What an action that was done gives: `ChiEffect` of `chihome.h`.
+/// Source: `docs/LIBRARY.md`, "Numbers".
+#[repr(C)]
+#[derive(Clone, Copy)]
+pub struct ChiEffect {
+    pub effect: u8,
+    pub slot: u8,
+    pub value: u64,
+}
+
+impl ChiEffect {
+    /// No effect: all numbers are 0.
+    pub(crate) const NONE: ChiEffect = ChiEffect {
+        effect: 0,
+        slot: 0,
+        value: 0,
+    };
+}
+
+/// The Issue of these numbers.
+fn issue(kind: u8, slot: Slot) -> Option<Step>
+    ensures { result ≡ issue_of kind slot }
+{
+    Some(Step::Issue(kind_at(kind)?, slot))
+}
+
+/// The step that an action's numbers name; `None` where they name none.
+fn step_at(action: &ChiAction) -> Option<Step>
+    ensures { result ≡ step_of action.now }
+{
+    match action.step {
+        0 => Some(Step::Load(WordNo(action.word))),
+        1 => Some(Step::Store(WordNo(action.word), action.value)),
+        2 => Some(Step::Drop),
+        3 => issue(action.kind, Slot(action.slot)),
+        4 => Some(Step::Admit),
+        5 => Some(Step::Retry),
+        6 => Some(Step::RecvRetry),
+        7 => Some(Step::Resend),
+        8 => Some(Step::Cancel),
+        9 => Some(Step::Start),
+        10 => Some(Step::RecvSnp),
+        11 => Some(Step::RecvSnpResp),
+        12 => Some(Step::RecvData),
+        13 => Some(Step::RecvComp),
+        14 => Some(Step::RecvAck),
+        15 => Some(Step::RecvDbid),
+        16 => Some(Step::RecvWrData),
+        _ => None,
+    }
+}
+
+/// The action that C's numbers name; `None` where they name none.
+pub(crate) fn action_at(action: &ChiAction) -> Option<Action>
+    ensures { result ≡ action_of action.now }
+{
+    Some(Action {
+        agent: Agent(action.agent),
+        line: Line(action.line),
+        step: step_at(action)?,
+    })
+}
+
+/// What an action gives, in C's words.
+pub(crate) fn effect_told(effect: Effect) -> ChiEffect
+    ensures { result ≡ effect_told effect }
+{
+    match effect {
+        Effect::Nothing => ChiEffect::NONE,
+        Effect::Value(value) => ChiEffect {
+            effect: 1,
+            slot: 0,
+            value,
+        },
+        Effect::Completed(slot) => ChiEffect {
+            effect: 2,
+            slot: slot.0,
+            value: 0,
+        },
+    }
+}

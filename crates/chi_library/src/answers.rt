@@ -1,0 +1,34 @@
+//! What a call of C answers.
+
+ghost use Rattle.std.specs.Prelude.{◌≡◌};
+ghost use Rattle.chi_library.specs.Numbers.{number_if};
+
+use chi_flit::Refusal;
+
+/// It was done.
+pub(crate) const DONE: u8 = 0;
+
+/// Memory ran out: the number of the refusal `NoMemory`.
+pub(crate) const NO_MEMORY: u8 = 8;
+
+/// A number is outside its range: the number of the refusal `OutOfRange`.
+pub(crate) const OUT_OF_RANGE: u8 = 10;
+
+/// A requester doesn't agree with a slice: the number of the refusal `NotOpen`.
+pub(crate) const NOT_OPEN: u8 = 11;
+
+/// The handle is open already.
+pub(crate) const ALREADY_OPEN: u8 = 254;
+
+/// The handle is closed.
+pub(crate) const CLOSED: u8 = 255;
+
+/// The number of a refusal, or 0 where there is none.
+pub(crate) fn number_if(refusal: Option<Refusal>) -> u8
+    ensures { result ≡ number_if refusal }
+{
+    match refusal {
+        Some(refusal) => refusal.number(),
+        None => DONE,
+    }
+}

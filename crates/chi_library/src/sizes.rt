@@ -1,0 +1,58 @@
+//! The sizes of a node in C's words.
+
+ghost use Rattle.std.specs.Prelude.{◌≡◌};
+ghost use Rattle.chi_flit.specs.declared.credit.Profile.TheVariants.{Two};
+ghost use Rattle.chi_config.specs.Config.{config_if, sizes_of};
+ghost use Rattle.chi_library.specs.Sizes.{config_of};
+
+use crate::numbers::profile_at;
+use chi_flit::Profile;
+use chi_slice::Config;
+
+/// The sizes of a node: `ChiConfig` of `chihome.h`. In profile 0 the third and the fourth number of
+/// entries are 0.
+/// Source: `docs/PROTOCOL.md`, "Limits".
+#[repr(C)]
+#[derive(Clone, Copy)]
+pub struct ChiConfig {
+    pub agents: u8,
+    pub lines: u8,
+    pub slices: u8,
+    pub profile: u8,
+    pub entries: [u16; 4],
+    pub journal: u32,
+}
+
+/// The sizes of a node of two credit types.
+fn two_types(sizes: &ChiConfig) -> Option<Config>
+    ensures { result ≡ config_if (sizes_of sizes.now.agents sizes.now.lines sizes.now.slices sizes.now.entries sizes.now.journal Two) }
+{
+    let [t0, t1, t2, t3] = sizes.entries;
+    if t2 != 0 || t3 != 0 {
+        return None;
+    }
+    Config::new(
+        sizes.agents,
+        sizes.lines,
+        sizes.slices,
+        t0,
+        t1,
+        sizes.journal,
+    )
+}
+
+/// The sizes that C's numbers name; `None` where one is outside its limits.
+pub(crate) fn config_at(sizes: &ChiConfig) -> Option<Config>
+    ensures { result ≡ config_of sizes.now }
+{
+    match profile_at(sizes.profile)? {
+        Profile::Two => two_types(sizes),
+        Profile::Four => Config::four(
+            sizes.agents,
+            sizes.lines,
+            sizes.slices,
+            sizes.entries,
+            sizes.journal,
+        ),
+    }
+}

@@ -1,0 +1,345 @@
+/* chihome: a proved reference model of an AMBA CHI coherent system in miniature.
+ *
+ * Two things can be opened: a slice, whose lines are stepped action by action, and a whole node on one thread, with
+ * its tracker and its requesters. What each call does is in docs/PROTOCOL.md, and proved of every call in the
+ * contracts of crates/chi_library; docs/LIBRARY.md says what is proved up to this header, and what C must uphold:
+ *
+ * - A handle is a variable of the caller's, set to zero before its first use: `ChiSlice slice = {0};`. It is opened
+ *   by the call of its name and closed by another, which frees its memory; a closed handle may be opened again. It
+ *   is never copied, and nobody writes its field. A handle that is forgotten open leaks its memory.
+ * - A handle belongs to one thread at a time: calls on it never overlap. Calls on two handles may.
+ * - Each pointer that is passed points to a variable of its type, and no two of a call overlap. What a call is told
+ *   is `const` here; what it tells is written by every call.
+ *
+ * Each call answers CHI_OK, or the number of a refusal, after which nothing has changed; CHI_Closed of a closed
+ * handle, which is not touched; and an opening of an open handle CHI_AlreadyOpen, which stays. Where a call is not
+ * done, all numbers of what it tells are 0. Only the two openings take memory.
+ */
+#ifndef CHIHOME_H
+#define CHIHOME_H
+
+#include <stdint.h>
+
+#ifdef __cplusplus
+extern "C" {
+#endif
+
+/* What a call answers: the refusals by their numbers (docs/PROTOCOL.md, "Refusals"). */
+enum ChiAnswer {
+    CHI_OK = 0,
+    CHI_JournalFull = 1,
+    CHI_WrongState = 2,
+    CHI_Pending = 3,
+    CHI_NothingPending = 4,
+    CHI_LineBusy = 5,
+    CHI_NotWaiting = 6,
+    CHI_NoFlit = 7,
+    CHI_NoMemory = 8,
+    CHI_MustAccept = 9,
+    CHI_OutOfRange = 10, /* also of a number that is none of an enum's */
+    CHI_NotOpen = 11,    /* never answered: the requesters of a node agree with its slices */
+    CHI_NoCredit = 12,
+    CHI_AlreadyOpen = 254,
+    CHI_Closed = 255
+};
+
+/* The actions (docs/PROTOCOL.md, "The actions"). */
+enum ChiStep {
+    CHI_Load = 0,      /* reads `word` of the copy */
+    CHI_Store = 1,     /* writes `value` to `word` of the copy */
+    CHI_Drop = 2,      /* drops a clean copy */
+    CHI_Issue = 3,     /* issues a request of `kind`, which takes `slot` */
+    CHI_Admit = 4,     /* the home lets the request in (a node: chi_node_arrive) */
+    CHI_Retry = 5,     /* the home refuses it by RetryAck (a node: chi_node_arrive) */
+    CHI_RecvRetry = 6, /* the requester takes the RetryAck */
+    CHI_Resend = 7,    /* sends the request again, with a credit */
+    CHI_Cancel = 8,    /* gives the retried request up */
+    CHI_Start = 9,     /* the home begins to serve the request */
+    CHI_RecvSnp = 10,
+    CHI_RecvSnpResp = 11,
+    CHI_RecvData = 12,
+    CHI_RecvComp = 13,
+    CHI_RecvAck = 14,
+    CHI_RecvDbid = 15,
+    CHI_RecvWrData = 16
+};
+
+/* The kinds of request (docs/PROTOCOL.md, "Kinds of request"). */
+enum ChiKind {
+    CHI_ReadNotSharedDirty = 0,
+    CHI_ReadShared = 1,
+    CHI_ReadUnique = 2,
+    CHI_CleanUnique = 3,
+    CHI_Evict = 4,
+    CHI_WriteBackFull = 5,
+    CHI_WriteCleanFull = 6,
+    CHI_WriteEvictFull = 7
+};
+
+/* The cache states. */
+enum ChiState { CHI_I = 0, CHI_SC = 1, CHI_UC = 2, CHI_UD = 3, CHI_SD = 4 };
+
+/* How many credit types a node has (docs/PROTOCOL.md, "Limits"). */
+enum ChiProfile { CHI_Two = 0, CHI_Four = 1 };
+
+/* The channels (docs/PROTOCOL.md, "Messages"). */
+enum ChiChannel { CHI_Req = 0, CHI_Snp = 1, CHI_RspDown = 2, CHI_DatDown = 3, CHI_RspUp = 4, CHI_DatUp = 5 };
+
+/* The messages (docs/PROTOCOL.md, "Messages"). */
+enum ChiMessage {
+    CHI_NoMessage = 0,
+    CHI_Request = 1, /* of ChiFlit's kind, slot and allow_retry */
+    CHI_SnpShared = 2,
+    CHI_SnpNotSharedDirty = 3,
+    CHI_SnpUnique = 4,
+    CHI_SnpCleanInvalid = 5,
+    CHI_RetryAck = 6, /* of ChiFlit's credit */
+    CHI_Comp_UC = 7,
+    CHI_Comp_I = 8,
+    CHI_CompDBIDResp = 9,
+    CHI_CompData_SC = 10,
+    CHI_CompData_UC = 11,
+    CHI_SnpResp_I = 12,
+    CHI_SnpResp_SC = 13,
+    CHI_CompAck = 14,
+    CHI_SnpRespData_I_PD = 15,
+    CHI_SnpRespData_SC_PD = 16,
+    CHI_SnpRespData_SD = 17,
+    CHI_CopyBackWrData_I = 18,
+    CHI_CopyBackWrData_SC = 19,
+    CHI_CopyBackWrData_UC = 20,
+    CHI_CopyBackWrData_UD_PD = 21,
+    CHI_CopyBackWrData_SD_PD = 22
+};
+
+/* What an action gives, how far a request has come, what a line serves, what an arrival came to, and where a released
+ * entry went. */
+enum ChiEffectForm { CHI_Nothing = 0, CHI_Value = 1, CHI_Completed = 2 };
+enum ChiPhase { CHI_NoRequest = 0, CHI_Sent = 1, CHI_Retried = 2, CHI_Waiting = 3 };
+enum ChiServingForm { CHI_Idle = 0, CHI_Snooping = 1, CHI_AwaitingCompAck = 2, CHI_AwaitingWriteData = 3 };
+enum ChiArrivalForm { CHI_NotArrived = 0, CHI_Admitted = 1, CHI_RetriedWith = 2 };
+enum ChiReleaseForm { CHI_NotReleased = 0, CHI_Freed = 1, CHI_Granted = 2 };
+
+/* The number of no agent, as the owner of a line. */
+enum { CHI_Nobody = 255 };
+
+/* The sizes of a node (docs/PROTOCOL.md, "Limits"). */
+typedef struct {
+    uint8_t agents;      /* 1 to 8 */
+    uint8_t lines;       /* 1 to 64 */
+    uint8_t slices;      /* 1, 2, 4 or 8, and no more than lines: line l is in slice l mod slices */
+    uint8_t profile;     /* ChiProfile */
+    uint16_t entries[4]; /* of the tracker, by credit type; in CHI_Two the last two are 0 */
+    uint32_t journal;    /* records of a slice, 1 to 65,536 */
+} ChiConfig;
+
+/* An action. Fields that its step does not read may hold anything. */
+typedef struct {
+    uint8_t agent;
+    uint8_t line;
+    uint8_t step; /* ChiStep */
+    uint8_t kind; /* ChiKind, of CHI_Issue */
+    uint8_t slot; /* of CHI_Issue */
+    uint8_t word; /* of CHI_Load and CHI_Store */
+    uint64_t value; /* of CHI_Store */
+} ChiAction;
+
+/* What an action gives. */
+typedef struct {
+    uint8_t effect; /* ChiEffectForm */
+    uint8_t slot;   /* of CHI_Completed: the request that the home is done with */
+    uint64_t value; /* of CHI_Value: the word that a load read */
+} ChiEffect;
+
+/* A message in flight. */
+typedef struct {
+    uint8_t message;     /* ChiMessage */
+    uint8_t kind;        /* ChiKind, of CHI_Request */
+    uint8_t slot;        /* of CHI_Request */
+    uint8_t allow_retry; /* of CHI_Request: 1 on a first attempt, 0 with a credit */
+    uint8_t credit;      /* of CHI_RetryAck: the credit type */
+    uint64_t words[8];   /* of a message with data */
+} ChiFlit;
+
+/* What is in flight between an agent and the home for a line: one message a channel at most. */
+typedef struct {
+    ChiFlit channels[6]; /* by ChiChannel */
+} ChiFlits;
+
+/* An agent's copy of a line. */
+typedef struct {
+    uint8_t state; /* ChiState */
+    uint64_t words[8];
+} ChiCopy;
+
+/* A request that is pending, or that waits at the home. */
+typedef struct {
+    uint8_t phase; /* ChiPhase */
+    uint8_t kind;  /* ChiKind */
+    uint8_t slot;
+} ChiRequest;
+
+/* What the home does at a line. */
+typedef struct {
+    uint8_t form; /* ChiServingForm */
+    uint8_t agent;
+    uint8_t kind; /* ChiKind, of CHI_Snooping and CHI_AwaitingWriteData */
+    uint8_t slot;
+} ChiServing;
+
+/* All parts of a line but its flits. Arrays of eight are by agent, or by word. */
+typedef struct {
+    ChiCopy copies[8];
+    uint64_t memory[8];
+    uint64_t last[8]; /* the values last stored */
+    ChiRequest pending[8];
+    ChiRequest waiting[8];
+    uint8_t named[8];   /* 1 for the agents that the snoop filter names */
+    uint8_t awaited[8]; /* 1 for the agents whose snoop answer is awaited */
+    ChiServing serving;
+    uint8_t unique; /* the filter's flag */
+    uint8_t owner;  /* the agent that answers for dirty shared data, or CHI_Nobody */
+} ChiLine;
+
+/* A load or a store that was answered. */
+typedef struct {
+    uint8_t store; /* 1 of a store, 0 of a load */
+    uint8_t agent;
+    uint8_t line;
+    uint8_t word;
+    uint64_t value;
+} ChiRecord;
+
+/* What an arrival came to. */
+typedef struct {
+    uint8_t arrival; /* ChiArrivalForm */
+    uint8_t entry;   /* of CHI_Admitted: the tracker's entry */
+    uint8_t credit;  /* of CHI_RetriedWith: the credit type */
+} ChiArrival;
+
+/* Where a released entry went. */
+typedef struct {
+    uint8_t release; /* ChiReleaseForm */
+    uint8_t agent;   /* of CHI_Granted: the agent that it was promised to */
+} ChiRelease;
+
+/* The credits that an agent has seen granted, by type. */
+typedef struct {
+    uint32_t seen[4];
+} ChiCredits;
+
+/* Entries that are free, in hand and promised, and credits that are owed, by type. */
+typedef struct {
+    uint32_t free[4];
+    uint32_t hand[4];
+    uint32_t promised[4];
+    uint32_t owed[4];
+} ChiTotals;
+
+/* What is in the journals of a node, and the verdict on its lines. */
+typedef struct {
+    uint64_t loads;
+    uint64_t stores;
+    uint8_t coherent; /* 1, always */
+} ChiAudit;
+
+/* A slice. */
+typedef struct {
+    void *at;
+} ChiSlice;
+
+/* Opens slice `index` of a node of these sizes, in its opening state. CHI_AlreadyOpen of an open handle; CHI_OutOfRange
+ * where a size is outside its limits or the index is not below the slices; CHI_NoMemory. */
+uint8_t chi_slice_open(ChiSlice *slice, const ChiConfig *config, uint8_t index);
+
+/* Does an action, and tells what it gives. Refused as docs/PROTOCOL.md, "The actions", says. */
+uint8_t chi_slice_act(ChiSlice *slice, const ChiAction *action, ChiEffect *effect);
+
+/* What chi_slice_act would answer. Nothing is done. */
+uint8_t chi_slice_refusal(ChiSlice *slice, const ChiAction *action);
+
+/* Tells a line. CHI_OutOfRange where the line is outside the node or in another slice. */
+uint8_t chi_slice_show(ChiSlice *slice, uint8_t line, ChiLine *shown);
+
+/* Tells what is in flight between an agent and the home for a line. CHI_OutOfRange where the agent or the line is
+ * outside the node, or the line in another slice. */
+uint8_t chi_slice_flits(ChiSlice *slice, uint8_t agent, uint8_t line, ChiFlits *flits);
+
+/* Tells the record of a place in the journal, from 0. CHI_OutOfRange behind its end. */
+uint8_t chi_slice_journal(ChiSlice *slice, uint32_t place, ChiRecord *entry);
+
+/* Closes the handle, and frees the slice. */
+uint8_t chi_slice_close(ChiSlice *slice);
+
+/* A node on one thread: its slices, its tracker and its requesters. */
+typedef struct {
+    void *at;
+} ChiNode;
+
+/* Opens a node of these sizes, in its opening state. CHI_AlreadyOpen of an open handle; CHI_OutOfRange where a size is
+ * outside its limits; CHI_NoMemory. */
+uint8_t chi_node_open(ChiNode *node, const ChiConfig *config);
+
+/* The agent's request in flight at the line arrives: it is admitted with an entry, or retried where each of its type is
+ * claimed. CHI_OutOfRange; CHI_NoFlit where none is in flight. */
+uint8_t chi_node_arrive(ChiNode *node, uint8_t agent, uint8_t line, ChiArrival *arrival);
+
+/* Does an action, and tells what it gives and where the entry of a completed request went. Refused as docs/PROTOCOL.md,
+ * "A requester and its calls", says; CHI_OutOfRange also of CHI_Admit and CHI_Retry, which are chi_node_arrive's. */
+uint8_t chi_node_step(ChiNode *node, const ChiAction *action, ChiEffect *effect, ChiRelease *release);
+
+/* The agent looks at what is promised to it. CHI_OutOfRange of the agent. */
+uint8_t chi_node_see(ChiNode *node, uint8_t agent, ChiCredits *credits);
+
+/* The agent gives a seen credit of the type back, for a request that it cancelled. CHI_OutOfRange; CHI_NoCredit. */
+uint8_t chi_node_give_back(ChiNode *node, uint8_t agent, uint8_t credit, ChiRelease *release);
+
+/* The agent claims a free entry of the type for whoever is owed one, and releases it: CHI_NotReleased where nobody was
+ * seen owed one or none was free. CHI_OutOfRange. */
+uint8_t chi_node_tend(ChiNode *node, uint8_t agent, uint8_t credit, ChiRelease *release);
+
+/* Tells a line, and what is in flight between an agent and the home for one. CHI_OutOfRange. */
+uint8_t chi_node_show(ChiNode *node, uint8_t line, ChiLine *shown);
+uint8_t chi_node_flits(ChiNode *node, uint8_t agent, uint8_t line, ChiFlits *flits);
+
+/* Tells how many entries of each type are free, in hand and promised, and how many credits are owed. */
+uint8_t chi_node_totals(ChiNode *node, ChiTotals *totals);
+
+/* Asks whether each requester agrees with each slice: CHI_OK, always. */
+uint8_t chi_node_agrees(ChiNode *node);
+
+/* Tells how many loads and stores there were, and whether each line is coherent and each journal legal, as always. */
+uint8_t chi_node_audit(ChiNode *node, ChiAudit *audit);
+
+/* Closes the handle, and frees the node. */
+uint8_t chi_node_close(ChiNode *node);
+
+/* The layouts that the library was proved and built with. */
+#ifdef __cplusplus
+#define CHI_LAYOUT(it) static_assert(it, #it)
+#else
+#define CHI_LAYOUT(it) _Static_assert(it, #it)
+#endif
+#include <stddef.h>
+CHI_LAYOUT(sizeof(ChiSlice) == 8 && sizeof(ChiNode) == 8);
+CHI_LAYOUT(sizeof(ChiConfig) == 16 && offsetof(ChiConfig, entries) == 4 && offsetof(ChiConfig, journal) == 12);
+CHI_LAYOUT(sizeof(ChiAction) == 16 && offsetof(ChiAction, word) == 5 && offsetof(ChiAction, value) == 8);
+CHI_LAYOUT(sizeof(ChiEffect) == 16 && offsetof(ChiEffect, slot) == 1 && offsetof(ChiEffect, value) == 8);
+CHI_LAYOUT(sizeof(ChiFlit) == 72 && offsetof(ChiFlit, credit) == 4 && offsetof(ChiFlit, words) == 8);
+CHI_LAYOUT(sizeof(ChiFlits) == 432);
+CHI_LAYOUT(sizeof(ChiCopy) == 72 && offsetof(ChiCopy, words) == 8);
+CHI_LAYOUT(sizeof(ChiRequest) == 3 && sizeof(ChiServing) == 4);
+CHI_LAYOUT(sizeof(ChiLine) == 776 && offsetof(ChiLine, memory) == 576 && offsetof(ChiLine, last) == 640);
+CHI_LAYOUT(offsetof(ChiLine, pending) == 704 && offsetof(ChiLine, waiting) == 728 && offsetof(ChiLine, named) == 752);
+CHI_LAYOUT(offsetof(ChiLine, awaited) == 760 && offsetof(ChiLine, serving) == 768 && offsetof(ChiLine, owner) == 773);
+CHI_LAYOUT(sizeof(ChiRecord) == 16 && offsetof(ChiRecord, word) == 3 && offsetof(ChiRecord, value) == 8);
+CHI_LAYOUT(sizeof(ChiArrival) == 3 && sizeof(ChiRelease) == 2);
+CHI_LAYOUT(sizeof(ChiCredits) == 16 && sizeof(ChiTotals) == 64 && offsetof(ChiTotals, owed) == 48);
+CHI_LAYOUT(sizeof(ChiAudit) == 24 && offsetof(ChiAudit, coherent) == 16);
+#undef CHI_LAYOUT
+
+#ifdef __cplusplus
+}
+#endif
+
+#endif

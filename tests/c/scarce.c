@@ -1,0 +1,132 @@
+/* Opens a slice and a node while each allocation in turn is refused: the answer is CHI_NoMemory, the handle is closed,
+ * nothing leaks (valgrind looks), and the next try with ample memory opens it. Then what a handle answers in each of
+ * its states, and numbers outside an enum. */
+#include "chihome.h"
+
+#include <stdio.h>
+#include <stdlib.h>
+#include <string.h>
+
+extern void *__real_malloc(size_t size);
+extern void *__real_realloc(void *block, size_t size);
+
+/* How many allocations are granted before one is refused; none is where this is negative. */
+static int granted = -1;
+static int failures;
+
+static int refuses(void) { return granted >= 0 && granted-- == 0; }
+
+void *__wrap_malloc(size_t size) { return refuses() ? NULL : __real_malloc(size); }
+
+void *__wrap_realloc(void *block, size_t size) { return refuses() ? NULL : __real_realloc(block, size); }
+
+#define HOLDS(it) ((it) ? (void)0 : (void)(failures++, printf("%s:%d: %s\n", __FILE__, __LINE__, #it)))
+
+static const ChiConfig SIZES = {.agents = 2, .lines = 4, .slices = 2, .entries = {1, 1}, .journal = 4};
+
+static int is_blank(const void *told, size_t size) {
+    const unsigned char *bytes = told;
+    while (size > 0 && bytes[size - 1] == 0) size--;
+    return size == 0;
+}
+
+static int slice_allocations(void) {
+    for (int count = 0;; count++) {
+        ChiSlice slice = {0};
+        granted = count;
+        uint8_t answer = chi_slice_open(&slice, &SIZES, 1);
+        int spent = granted < 0;
+        granted = -1;
+        HOLDS(answer == (spent ? CHI_NoMemory : CHI_OK));
+        HOLDS(chi_slice_close(&slice) == (spent ? CHI_Closed : CHI_OK));
+        if (!spent) return count;
+    }
+}
+
+static int node_allocations(void) {
+    for (int count = 0;; count++) {
+        ChiNode node = {0};
+        granted = count;
+        uint8_t answer = chi_node_open(&node, &SIZES);
+        int spent = granted < 0;
+        granted = -1;
+        HOLDS(answer == (spent ? CHI_NoMemory : CHI_OK));
+        HOLDS(chi_node_close(&node) == (spent ? CHI_Closed : CHI_OK));
+        if (!spent) return count;
+    }
+}
+
+static void slice_answers(void) {
+    ChiSlice slice = {0};
+    ChiAction load = {.step = CHI_Load};
+    ChiEffect effect;
+    ChiLine shown, same;
+    ChiFlits flits;
+    ChiRecord entry;
+    ChiConfig wrong = SIZES;
+    HOLDS(chi_slice_act(&slice, &load, &effect) == CHI_Closed);
+    HOLDS(chi_slice_refusal(&slice, &load) == CHI_Closed && chi_slice_show(&slice, 0, &shown) == CHI_Closed);
+    HOLDS(chi_slice_flits(&slice, 0, 0, &flits) == CHI_Closed && chi_slice_journal(&slice, 0, &entry) == CHI_Closed);
+    HOLDS(chi_slice_close(&slice) == CHI_Closed && slice.at == NULL);
+    wrong.profile = 2;
+    HOLDS(chi_slice_open(&slice, &wrong, 0) == CHI_OutOfRange && slice.at == NULL);
+    wrong.profile = CHI_Two;
+    wrong.entries[3] = 1;
+    HOLDS(chi_slice_open(&slice, &wrong, 0) == CHI_OutOfRange);
+    HOLDS(chi_slice_open(&slice, &SIZES, 2) == CHI_OutOfRange);
+    HOLDS(chi_slice_open(&slice, &SIZES, 1) == CHI_OK);
+    void *at = slice.at;
+    HOLDS(chi_slice_open(&slice, &SIZES, 0) == CHI_AlreadyOpen && slice.at == at);
+    HOLDS(chi_slice_show(&slice, 1, &shown) == CHI_OK && shown.owner == CHI_Nobody);
+    ChiAction actions[] = {{.line = 1, .step = 17}, {.line = 1, .step = CHI_Issue, .kind = 8}, {.line = 0, .step = CHI_Load},
+        {.agent = 2, .line = 1, .step = CHI_Load}, {.line = 1, .step = CHI_Load, .word = 8}};
+    for (size_t place = 0; place < sizeof actions / sizeof *actions; place++) {
+        memset(&effect, 255, sizeof effect);
+        HOLDS(chi_slice_act(&slice, &actions[place], &effect) == CHI_OutOfRange);
+        HOLDS(effect.effect == CHI_Nothing && effect.slot == 0 && effect.value == 0);
+        HOLDS(chi_slice_show(&slice, 1, &same) == CHI_OK && memcmp(shown.copies, same.copies, sizeof same.copies) == 0);
+    }
+    memset(&shown, 0, sizeof shown);
+    HOLDS(chi_slice_show(&slice, 0, &shown) == CHI_OutOfRange && is_blank(&shown, sizeof shown));
+    HOLDS(chi_slice_journal(&slice, 0, &entry) == CHI_OutOfRange);
+    HOLDS(chi_slice_close(&slice) == CHI_OK && slice.at == NULL && chi_slice_close(&slice) == CHI_Closed);
+}
+
+static void node_answers(void) {
+    ChiNode node = {0};
+    ChiAction admit = {.step = CHI_Admit};
+    ChiEffect effect;
+    ChiRelease release;
+    ChiArrival arrival;
+    ChiCredits credits;
+    ChiTotals totals;
+    ChiAudit audit;
+    ChiFlits flits;
+    ChiLine shown;
+    HOLDS(chi_node_step(&node, &admit, &effect, &release) == CHI_Closed);
+    HOLDS(chi_node_arrive(&node, 0, 0, &arrival) == CHI_Closed && chi_node_see(&node, 0, &credits) == CHI_Closed);
+    HOLDS(chi_node_give_back(&node, 0, 0, &release) == CHI_Closed && chi_node_tend(&node, 0, 0, &release) == CHI_Closed);
+    HOLDS(chi_node_show(&node, 0, &shown) == CHI_Closed && chi_node_flits(&node, 0, 0, &flits) == CHI_Closed);
+    HOLDS(chi_node_totals(&node, &totals) == CHI_Closed && chi_node_audit(&node, &audit) == CHI_Closed);
+    HOLDS(chi_node_agrees(&node) == CHI_Closed && chi_node_close(&node) == CHI_Closed && node.at == NULL);
+    HOLDS(chi_node_open(&node, &SIZES) == CHI_OK);
+    void *at = node.at;
+    HOLDS(chi_node_open(&node, &SIZES) == CHI_AlreadyOpen && node.at == at);
+    HOLDS(chi_node_step(&node, &admit, &effect, &release) == CHI_OutOfRange && effect.effect == CHI_Nothing);
+    HOLDS(chi_node_tend(&node, 0, 4, &release) == CHI_OutOfRange && chi_node_tend(&node, 0, 1, &release) == CHI_OK);
+    HOLDS(chi_node_give_back(&node, 0, 0, &release) == CHI_NoCredit && release.release == CHI_NotReleased);
+    HOLDS(chi_node_arrive(&node, 0, 0, &arrival) == CHI_NoFlit && arrival.arrival == CHI_NotArrived);
+    HOLDS(chi_node_agrees(&node) == CHI_OK && chi_node_totals(&node, &totals) == CHI_OK && totals.free[0] == 1);
+    HOLDS(chi_node_audit(&node, &audit) == CHI_OK && audit.coherent == 1);
+    HOLDS(chi_node_close(&node) == CHI_OK && node.at == NULL);
+}
+
+int main(void) {
+    int slice = slice_allocations();
+    int node = node_allocations();
+    HOLDS(slice > 0 && node > slice);
+    slice_answers();
+    node_answers();
+    printf("%d allocations of a slice and %d of a node, each refused in turn\n", slice, node);
+    return failures == 0 ? 0 : 1;
+}
