@@ -1,5 +1,5 @@
 -- The request of a requester that agrees arrives: its slot is as the arrival needs it, and agreement is kept.
-use Rattle.std.proofs.Common.{◌≡◌, ℕ, ◌<◌, ◌==◌, ◌&&◌, Bool, true, false, nat_lt, Option, Some, None, is_some, refl, sym, ◌∙◌, ap, subst, if◌then◌else◌, arith}
+use Rattle.std.proofs.Common.{◌≡◌, ℕ, ◌<◌, ◌==◌, ◌&&◌, Bool, true, false, nat_lt, Option, Some, None, is_some, refl, sym, ◌∙◌, ap, subst, if◌then◌else◌}
 use Rattle.chi_flit.specs.declared.numbers.Agent.{Agent}
 use Rattle.chi_flit.specs.declared.numbers.Entry.{Entry}
 use Rattle.chi_flit.specs.declared.numbers.Line.{Line}
@@ -35,6 +35,7 @@ use Rattle.chi_node.specs.Arrives.{Arrives, CanArrive}
 use Rattle.chi_node.specs.Agree.{Agree, KeepsAgreement}
 use Rattle.chi_node.specs.Calls.{CanArriveOn, arrival_action, arrival_step}
 use Rattle.chi_tracker.proofs.Entries.{credit_below}
+use Rattle.chi_node.proofs.Matches.{itself, same_number}
 use Rattle.chi_node.proofs.Records.{tells_of}
 use Rattle.chi_node.proofs.Agreement.{OwnFollows, action_of, keeps}
 use Rattle.chi_node.proofs.Stepping.{Own, Ready, arrival_follows, own_at}
@@ -88,17 +89,11 @@ kind_of_profile Two other = refl
 kind_of_profile Four ReadShared = refl
 kind_of_profile Four other = refl
 
-same_number : (a b : ℕ) → (a == b) ≡ true → a ≡ b
-same_number a b h = grind (arith, h)
-
 own_kind : (request : Request) (profile : Profile) (ty : CreditType) (flit : Option Request) → flit ≡ Some request → has_type profile ty (requested_kind_of flit request.slot) ≡ true → is_of_profile profile (credit_number ty) ≡ true
 own_kind request profile ty flit is typed =
     let here : has_type profile ty (if request.slot.0 == request.slot.0 then Some request.kind else None) ≡ true = subst (λ (o : Option Request). has_type profile ty (requested_kind_of o request.slot) ≡ true) is typed in
     let kind : has_type profile ty (Some request.kind) ≡ true = subst (λ (b : Bool). has_type profile ty (if b then Some request.kind else None) ≡ true) (itself request.slot.0) here in
     subst (λ (t : ℕ). is_of_profile profile t ≡ true) (same_number (credit_number (credit_type_of profile request.kind)) (credit_number ty) kind) (kind_of_profile profile request.kind)
-  where
-    itself : (n : ℕ) → (n == n) ≡ true
-    itself n = grind arith
 
 type_of_profile : (s : SliceState) (r : RequesterState) (l : Line) (request : Request) (ty : CreditType) → CanArriveOn s r l request → is_of_type s.config.profile ty (line s l.0) r.number request.slot ≡ true → is_of_profile s.config.profile (credit_number ty) ≡ true
 type_of_profile s r l request ty can typed =

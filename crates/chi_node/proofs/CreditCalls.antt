@@ -21,7 +21,7 @@ pub ported_agrees : (s : SliceState) (r r' : RequesterState) → r' ≡ with_por
 ported_agrees s r r' is a = subst (Agree s) (sym is) (record { slots = a.slots; count = a.count })
 
 -- nothing is shown of a Cancelled slot, and so of an Idle one
-not_shown : {o : Option Where} (at : Where) → o ≡ None → o ≡ Some at → ⊥
+pub not_shown : {o : Option Where} (at : Where) → o ≡ None → o ≡ Some at → ⊥
 not_shown at none is = cc (none, is)
 
 idle_matches : (s : SliceState) (n : ℕ) (slot : Slot) (x : SlotRecord) → x.state ≡ Cancelled → MatchesRecord s n slot x → MatchesRecord s n slot idle_slot

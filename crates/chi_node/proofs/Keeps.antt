@@ -1,5 +1,5 @@
 -- What a requester keeps, when its port and its slots change.
-use Rattle.std.proofs.Common.{◌≡◌, ◌≢◌, ℕ, zero, suc, ◌+◌, ◌<◌, ◌≤◌, List, [], ◌∷◌, refl, length, slice_set, sym, ap, ◌∙◌, subst, arith}
+use Rattle.std.proofs.Common.{◌≡◌, ℕ, zero, suc, ◌+◌, ◌<◌, ◌≤◌, List, length, slice_set, sym, ap, ◌∙◌, subst, arith}
 use Rattle.std.proofs.Math.ListN.{length-set}
 use Rattle.std.specs.Prelude.{slice_index}
 use Rattle.std.specs.Int.{bit_at}

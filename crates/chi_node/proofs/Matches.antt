@@ -2,7 +2,6 @@
 use Rattle.std.proofs.Common.{◌≡◌, ◌≢◌, ℕ, ◌<◌, ◌≤◌, ◌==◌, ◌&&◌, Bool, true, false, ◌↔◌, Option, Some, None, refl, sym, ◌∙◌, ap, if◌then◌else◌, arith}
 use Rattle.std.proofs.lemmas.Bool.{and_from, and_parts}
 use Rattle.std.specs.Prelude.{IsTrue}
-use Rattle.chi_flit.specs.declared.numbers.Line.{Line}
 use Rattle.chi_flit.specs.declared.numbers.Slot.{Slot}
 use Rattle.chi_slice.specs.declared.places.Place.{Place}
 use Rattle.chi_line.specs.declared.seen.Where.{Where}
@@ -23,8 +22,11 @@ use Rattle.chi_node.specs.Agree.{MatchesRecord, said_place, where_of_record, whe
 pub apart : (a b : ℕ) → a ≢ b → (a == b) ≡ false
 apart a b h = grind arith
 
-itself : (n : ℕ) → (n == n) ≡ true
+pub itself : (n : ℕ) → (n == n) ≡ true
 itself n = grind arith
+
+pub same_number : (a b : ℕ) → (a == b) ≡ true → a ≡ b
+same_number a b h = grind (arith, h)
 
 -- where something is at a line, and nowhere else
 abbrev pub shown_at : ℕ → Option Where → ℕ → Option Where

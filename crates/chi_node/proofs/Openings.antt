@@ -1,5 +1,5 @@
 -- A new node: its sizes fit the tracker, and its ports are those of its requesters.
-use Rattle.std.proofs.Common.{◌≡◌, ℕ, zero, suc, ◌+◌, ◌-◌, ◌<◌, ◌≤◌, List, [], ◌∷◌, ◌++◌, ◌&&◌, ◌==◌, nat_le, nat_lt, true, false, length, length-append, refl, ap, ◌∙◌, arith}
+use Rattle.std.proofs.Common.{◌≡◌, ℕ, zero, suc, ◌+◌, ◌-◌, ◌<◌, ◌≤◌, List, [], ◌∷◌, nat_le, nat_lt, true, ap, ◌∙◌, arith}
 use Rattle.std.proofs.lemmas.Bool.Decides.{nat_tests}
 use Rattle.std.specs.List.{remove, slice_index_or}
 use Rattle.atomic_table.specs.Seated.{TableId}
@@ -10,10 +10,8 @@ use Rattle.chi_tracker.specs.Shape.{low, size}
 use Rattle.chi_tracker.specs.Views.{new_port, new_ports}
 use Rattle.chi_tracker.specs.Calls.{Owner, owners, shape_of}
 use Rattle.chi_config.specs.Config.{Sizes, are_entries, are_in_limits, is_between, is_slice_count}
-use Rattle.chi_slice.specs.Slice.{SliceState, opening_slice}
-use Rattle.chi_node.specs.Requester.{RequesterState, opening_requester}
-use Rattle.chi_node.specs.Parts.{is_of_profile, opening_requesters, opening_slices}
-use Rattle.chi_slice.proofs.Rows.{InLimits, both, in_limits, at_most}
+use Rattle.chi_node.specs.Parts.{is_of_profile}
+use Rattle.chi_slice.proofs.Rows.{InLimits, both, in_limits}
 
 -- what the limits say of the entries
 limits_of : (config : Sizes) → are_in_limits config ≡ true → are_entries config.profile config.entries ≡ true

@@ -1,5 +1,6 @@
 -- A step that isn't refused, of a requester that agrees: what it asks of the account is met.
 use Rattle.std.proofs.Common.{◌≡◌, ◌≢◌, ℕ, ◌<◌, ◌≤◌, ◌==◌, ◌&&◌, ◌||◌, Bool, true, false, not, nat_le, nat_lt, Option, Some, None, length, refl, sym, ap, ◌∙◌, subst, subst₂, if◌then◌else◌, arith}
+use Rattle.std.proofs.lemmas.Bool.{ltb-true}
 use Rattle.std.specs.Prelude.{slice_index}
 use Rattle.chi_flit.specs.declared.numbers.Agent.{Agent}
 use Rattle.chi_flit.specs.declared.numbers.Line.{Line}
@@ -46,7 +47,7 @@ use Rattle.chi_slice.specs.declared.terms.Terms.{Terms}
 use Rattle.chi_node.specs.Terms.{is_taken, spare_credits, terms_of}
 use Rattle.chi_node.specs.declared.steps.StepPlace.{StepPlace}
 use Rattle.chi_node.specs.AfterStep.{CanFinish, CanResend, Finishes}
-use Rattle.chi_node.proofs.Matches.{index_low}
+use Rattle.chi_node.proofs.Matches.{index_low, itself, same_number}
 use Rattle.chi_node.proofs.Agreement.{action_of, counts_step, keeps}
 use Rattle.chi_node.proofs.Records.{restated, tells_of}
 use Rattle.chi_node.proofs.Stepping.{Fine, Ready, answer_fine, change_fine, comp_fine, fine_end, fine_load, fine_start, fine_step, issue_fine, no_slot_moves}
@@ -112,20 +113,10 @@ by_line s r action can =
     sym (ap (λ (b : Bool). if b then line_refusal (conditions_under (terms_of r action.step) s action) (line s action.line.0) action else Some OutOfRange) (inside s r action can)) ∙ can.may
 
 -- an Issue's slot is Idle
-or_false : (a b : Bool) → (a || b) ≡ false → a ≡ false
-or_false true b h = absurd (cc (h))
-or_false false b h = refl
-
-second_false : (a b : Bool) → a ≡ true → (a && b) ≡ false → b ≡ false
-second_false true b is h = h
-second_false false b is h = absurd (cc (is))
-
-untaken : (state : SlotState) → not (is_idle state) ≡ false → state ≡ states.Idle
-untaken states.Idle h = refl
-untaken other h = absurd (cc (h))
-
-low_by : (n : ℕ) → nat_lt n 8 ≡ true → n < 8
-low_by n h = grind (arith, h)
+idle_of : (low used : Bool) (state : SlotState) → low ≡ true → (low && not (is_idle state) || used) ≡ false → state ≡ states.Idle
+idle_of true used states.Idle is free = refl
+idle_of true used other is free = absurd (cc (free))
+idle_of false used state is free = absurd (cc (is))
 
 -- a Resend has a seen credit of its type
 spare : (r : RequesterState) (ty : CreditType) → line_credit_refusal (spare_credits r) (Some ty) ≡ None → riding_of r.slots (credit_number ty) < seen_of r.port (credit_number ty)
@@ -133,9 +124,6 @@ spare r types.T0 h = grind (arith, h)
 spare r types.T1 h = grind (arith, h)
 spare r types.T2 h = grind (arith, h)
 spare r types.T3 h = grind (arith, h)
-
-same_number : (a b : ℕ) → (a == b) ≡ true → a ≡ b
-same_number a b h = grind (arith, h)
 
 free_credit : (r : RequesterState) (profile : Profile) (pending : Option Pending) (slot : Slot) (ty : CreditType) → pending_slot pending ≡ Some slot → has_type profile ty (pending_kind_of pending slot) ≡ true
     → line_credit_refusal (spare_credits r) (pending_credit profile pending) ≡ None → riding_of r.slots (credit_number ty) < seen_of r.port (credit_number ty)
@@ -145,9 +133,6 @@ free_credit r profile (Some request) slot ty is typed free =
     let here : (request.slot.0 == slot.0) ≡ true = subst (λ (z : Slot). (request.slot.0 == z.0) ≡ true) same (itself request.slot.0) in
     let kind : has_type profile ty (Some request.kind) ≡ true = subst (λ (b : Bool). has_type profile ty (if b then Some request.kind else None) ≡ true) here typed in
     subst (λ (t : ℕ). riding_of r.slots t < seen_of r.port t) (same_number (credit_number (credit_type_of profile request.kind)) (credit_number ty) kind) (spare r (credit_type_of profile request.kind) free)
-  where
-    itself : (n : ℕ) → (n == n) ≡ true
-    itself n = grind arith
 
 has_credit : (s : SliceState) (r : RequesterState) (agent : Agent) (l : Line) (slot : Slot) → CanStep s r (action_of agent l steps.Resend) → pending_slot (rn_of (line s l.0) agent.0).pending ≡ Some slot
     → is_of_type s.config.profile (slot_at r.slots slot.0).credit (line s l.0) agent.0 slot ≡ true → riding_of r.slots (type_at r.slots slot.0) < seen_of r.port (type_at r.slots slot.0)
@@ -165,7 +150,7 @@ idle_slot s r agent l kind slot can =
     let eight : nat_lt slot.0 8 ≡ true = (in_range s action can.both.slice (inside s r action can)).step in
     let used : Bool = is_slot_used s agent.0 (steps.Issue kind slot) in
     let free = (issue_allowed (is_taken r.slots slot || used) (rn_of (line s l.0) agent.0) kind (by_line s r action can)).idle_slot in
-    (low_by slot.0 eight, untaken (state_at r.slots slot.0) (second_false (nat_lt slot.0 8) (not (is_idle (state_at r.slots slot.0))) eight (or_false (is_taken r.slots slot) used free)))
+    (ltb-true slot.0 8 eight, idle_of (nat_lt slot.0 8) used (state_at r.slots slot.0) eight free)
 
 -- what each step asks of the account, and what it leaves
 pub fine : (s : SliceState) (agent : Agent) (l : Line) (step : Step) (r : RequesterState) → CanStep s r (action_of agent l step) → Fine s agent l step r (effect_of (line s l.0) (action_of agent l step))

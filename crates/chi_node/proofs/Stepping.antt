@@ -1,5 +1,5 @@
 -- A step of a requester that agrees with a slice: its account has the slot as the step needs it, and follows.
-use Rattle.std.proofs.Common.{◌≡◌, ℕ, ◌+◌, ◌<◌, List, true, ◌==◌, Option, Some, None, is_some, length, slice_set, refl, sym, ◌∙◌, ap, subst, arith, get_or-set_same, get_or-set_other}
+use Rattle.std.proofs.Common.{◌≡◌, ℕ, ◌+◌, ◌<◌, List, true, Option, Some, None, is_some, length, slice_set, refl, sym, ◌∙◌, ap, subst, arith, get_or-set_same, get_or-set_other}
 use Rattle.std.specs.Prelude.{slice_index, IfNone, IfSome}
 use mathlib.Core.Logic.{dite}
 use native.Mathlib.Decide.{dec_le}
@@ -37,6 +37,7 @@ use Rattle.chi_node.specs.Requester.{RequesterState, with_both}
 use Rattle.chi_node.specs.Agree.{MatchesRecord, where_of_state}
 use Rattle.chi_node.specs.AfterStep.{CanFinish, CanFollow, Completes, Finishes, SlotMeets, account_after, changed_at, counts_after, requester_after}
 use Rattle.chi_node.specs.Calls.{place_at}
+use Rattle.chi_node.proofs.Matches.{itself}
 use Rattle.chi_node.proofs.Records.{Becomes, answered, closed, closing, ended, only_after, only_nowhere, only_there, record_here, record_is, restated, says_here, tells_of}
 use Rattle.chi_node.proofs.Agreement.{AllFollow, CountsFollow, OwnFollows, action_of, left_line, moves_to, none_moves, one_moves}
 
@@ -58,9 +59,6 @@ some_slot (Some slot) there = (slot, refl)
 
 is_itself : (o : Option Slot) (slot : Slot) → o ≡ Some slot → is_slot o slot ≡ true
 is_itself o slot is = ap (λ (x : Option Slot). is_slot x slot) is ∙ itself slot.0
-  where
-    itself : (n : ℕ) → (n == n) ≡ true
-    itself n = grind arith
 
 -- the slot that a step moves, and its record
 pub record Own (s : SliceState) (agent : Agent) (l : Line) (step : Step) (r : RequesterState) (from : Where) (slot : Slot) : Type 0 where

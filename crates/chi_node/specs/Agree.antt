@@ -1,8 +1,7 @@
 -- When a requester agrees with a slice: what the slice shows of each of its slots is what the account says of
 -- it, and the slice answered as many loads and stores as were counted (docs/PROTOCOL.md, "Agreement").
-use Rattle.std.specs.Prelude.{◌≡◌, ◌≢◌, ℕ, ◌<◌, Bool, true, ⊤, false, Option, Some, None, length, slice_index, ◌==◌, if◌then◌else◌}
+use Rattle.std.specs.Prelude.{◌≡◌, ◌≢◌, ℕ, ◌<◌, Bool, true, Option, Some, None, length, slice_index, ◌==◌, if◌then◌else◌}
 use Rattle.chi_flit.specs.declared.credit.Profile.{Profile}
-use Rattle.chi_flit.specs.declared.numbers.Line.{Line}
 use Rattle.chi_flit.specs.declared.numbers.Slot.{Slot}
 use Rattle.chi_journal.specs.Journal.{part_of}
 use Rattle.chi_slice.specs.declared.places.Place.{Place}

@@ -1,7 +1,7 @@
 -- The calls for a whole requester on a slice: when they are refused, and what they leave (docs/PROTOCOL.md,
 -- "A requester and its calls").
 use Rattle.std.specs.Prelude.{◌≡◌, ◌≢◌, ◌+◌, ◌++◌, ◌∷◌, [], slice_index, ◌≤◌, ℕ, ◌⊎◌, Bool, false}
-use Rattle.std.specs.Prelude.{not, ◌&&◌, nat_lt, List, Option, Some, None, true, length, replicate, is_some, if◌then◌else◌}
+use Rattle.std.specs.Prelude.{nat_lt, List, Option, Some, None, true, length, replicate, is_some, if◌then◌else◌}
 use Rattle.chi_flit.specs.declared.action.Action.{Action}
 use Rattle.chi_flit.specs.declared.action.Step.{Step}
 use Rattle.chi_flit.specs.declared.action.Step.TheVariants as steps
@@ -19,16 +19,15 @@ use Rattle.chi_rnline.specs.declared.pending.Pending.{Pending}
 use Rattle.chi_line.specs.LineState.{cells_of, rn_of}
 use Rattle.chi_line.specs.LineStep.{LineStep}
 use Rattle.chi_line.specs.Refused.{first_of, no_flit_unless}
-use Rattle.chi_slice.specs.Slice.{SliceKept, SliceState, acted, are_in_range, flits_refusal, line, moved_by, refused, refused_under}
+use Rattle.chi_slice.specs.Slice.{SliceKept, SliceState, acted, are_in_range, flits_refusal, line, moved_by, refused_under}
 use Rattle.chi_slice.specs.declared.terms.Terms.{Terms}
 use Rattle.chi_slice.specs.Index.{SlotsInRange}
 use Rattle.chi_line.specs.Types.{pending_credit}
 use Rattle.chi_journal.specs.declared.record.Record.{Record}
 use Rattle.chi_journal.specs.Journal.{IsLegal, part_of}
-use Rattle.chi_line.specs.Step.{effect_of, pending_slot, record_of}
+use Rattle.chi_line.specs.Step.{effect_of, record_of}
 use Rattle.chi_credit.specs.declared.slot.SlotRecord.{SlotRecord}
-use Rattle.chi_credit.specs.Slot.{is_idle}
-use Rattle.chi_credit.specs.Account.{riding_of, state_at}
+use Rattle.chi_credit.specs.Account.{riding_of}
 use Rattle.chi_node.specs.declared.answers.Arrived.{Arrived}
 use Rattle.chi_node.specs.declared.answers.Arrived.TheVariants.{Admitted, Retried}
 use Rattle.chi_node.specs.declared.answers.Stepped.{Stepped}

@@ -1,5 +1,5 @@
 -- What refuses an action on the terms of its requester is what refuses the call.
-use Rattle.std.proofs.Common.{◌≡◌, ◌∙◌, ap, rules, sym}
+use Rattle.std.proofs.Common.{◌≡◌, ◌∙◌, ap, rules}
 use Rattle.chi_slice.specs.declared.terms.Terms.{Terms}
 use Rattle.chi_slice.specs.Slice.{refused_under}
 use Rattle.chi_node.specs.Calls.{call_refusal}
