@@ -1,7 +1,7 @@
 -- From the text of a replay to the report on its answers, and from what was read to the input's file.
 use Rattle.std.proofs.Common.{◌≡◌, ◌↔◌, ℕ, ◌+◌, ◌<◌, Bool, IsTrue, List, [], ◌∷◌, ◌++◌, Option, Some, None, Result, Ok, Err, IfOk, IfSome, length, map, refl, sym, ap, subst, ◌∙◌, take, arith, length-append}
 use Rattle.std.proofs.lemmas.List.{length-map}
-use Rattle.chi_replay.specs.Replays.{node_sizes}
+use Rattle.chi_script.specs.Headers.{node_sizes}
 use Rattle.chi_script.specs.declared.commands.Command.{Command}
 use Rattle.chi_config.specs.Config.{Sizes}
 use Rattle.chi_script.specs.declared.faults.Fault.{Fault}

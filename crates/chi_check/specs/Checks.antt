@@ -2,7 +2,7 @@
 use Rattle.std.specs.Prelude.{◌≡◌, ◌↔◌, ℕ, List, [], Bool, IsTrue, Option, Ok, map}
 use Rattle.std.specs.Io.KnownBytes.{Appends}
 use Rattle.chi_devices.specs.Devices.{AppendsFront}
-use Rattle.chi_replay.specs.Replays.{node_sizes}
+use Rattle.chi_script.specs.Headers.{node_sizes}
 use Rattle.chi_script.specs.declared.commands.Command.{Command}
 use Rattle.chi_script.specs.declared.headers.Header.{Header}
 use Rattle.chi_text.specs.Texts.{IsText}

@@ -10,14 +10,11 @@ use Rattle.chi_script.specs.declared.commands.Command.{Command}
 use Rattle.chi_script.specs.declared.faults.Fault.{Fault}
 use Rattle.chi_script.specs.declared.faults.Fault.TheVariants.{NoMemory, BadHeader, BadCommand, MissingNewline, TooLarge, Read, Write}
 use Rattle.chi_script.specs.Files.{file_of}
+use Rattle.chi_script.specs.Headers.{node_sizes}
 use Rattle.chi_devices.specs.Devices.{AppendsFront}
 use Rattle.chi_text.specs.Texts.{IsText}
 
--- the sizes that a header gives
-abbrev pub node_sizes : Header → Sizes
-node_sizes header = record { agents = header.agents; lines = header.lines; slices = header.slices; entries = header.entries; journal = header.journal; profile = header.profile }
-
--- the same sizes, as a node of the profile is made
+-- the sizes of a header, as a node of the profile is made
 abbrev pub sizes_for : Profile → Header → Sizes
 sizes_for Two header = two_types header.agents header.lines header.slices (slice_index_or header.entries 0 0) (slice_index_or header.entries 1 0) header.journal
 sizes_for Four header = four_types header.agents header.lines header.slices header.entries header.journal

@@ -2,12 +2,12 @@
 
 ghost use Rattle.std.specs.Prelude.{◌≡◌, ◌≢◌, ◌+◌, ◌^◌, ◌<◌, IfOk, IfErr, IfSome, OnOk, IsErrOf, string_bytes, true};
 ghost use Rattle.std.specs.Io.KnownBytes.{Keeps};
-ghost use Rattle.chi_script.specs.Headers.{is_in_limits};
+ghost use Rattle.chi_script.specs.Headers.{is_in_limits, node_sizes};
 ghost use Rattle.chi_config.specs.Config.{config_if};
 ghost use Rattle.chi_script.specs.Faults.{Fails};
 ghost use Rattle.chi_script.specs.Files.{file_of};
 ghost use Rattle.chi_script.specs.declared.faults.Fault.{Fault};
-ghost use Rattle.chi_replay.specs.Replays.{IsTextOf, NoText, Refuses, WritesBeginning, WritesText, node_sizes, read_sizes};
+ghost use Rattle.chi_replay.specs.Replays.{IsTextOf, NoText, Refuses, WritesBeginning, WritesText, read_sizes};
 
 use chi_devices::{Failed, Input, Output, read_all};
 use chi_flit::Profile;

@@ -2,7 +2,6 @@
 use Rattle.std.proofs.Common.{◌≡◌, ℕ, ◌≤◌, Bool, true, false, cond, List, [], ◌∷◌, get_or, Option, Some, None, refl, sym, ap, subst, ◌∙◌, codes, arith}
 use Rattle.std.specs.List.{join_with_byte}
 use Rattle.std.specs.Fmt.{decimal}
-use Rattle.std.proofs.lemmas.Bool.Decides.{nat_tests}
 use Rattle.std.proofs.lemmas.List.Splits.{join_with_byte-slice_split}
 use Rattle.std.proofs.lemmas.Slice.Eq.{bytes_eq-Decides}
 use Rattle.chi_flit.specs.declared.credit.Profile.{Profile}
@@ -10,10 +9,11 @@ use Rattle.chi_flit.specs.declared.credit.Profile.TheVariants.{Two, Four}
 use Rattle.chi_script.specs.declared.headers.Header.{Header}
 use Rattle.chi_script.specs.declared.headers.CreditTypes.{CreditTypes}
 use Rattle.chi_script.specs.Words.{◌>>=◌, is_text, words_of, number_of}
-use Rattle.chi_script.specs.Headers.{types_of, sizes_of, kept, header_of, is_from, is_slice_count, are_entries, is_in_limits, IsInLimits}
+use Rattle.chi_config.specs.Config.{are_entries}
+use Rattle.chi_script.specs.Headers.{types_of, sizes_of, kept, header_of, is_in_limits, IsInLimits}
 use Rattle.chi_script.specs.Spelling.{type_words, header_words, IsHeaderLine}
-use Rattle.chi_script.proofs.LimitLemmas.{each_few, limits_of}
-use Rattle.chi_script.proofs.NumberLemmas.{number_read, number_again, bound, both}
+use Rattle.chi_script.proofs.LimitLemmas.{each_few, entries_fit, limits_of, none_left}
+use Rattle.chi_script.proofs.NumberLemmas.{number_read, number_again, bound}
 use Rattle.chi_script.proofs.SpaceLemmas.{no_space, no_spaces, joined_again, decimal_no_space}
 
 -- words that are equal one by one
@@ -88,18 +88,6 @@ few_again n few = number_again n (decimal n) (omega (arith, few), refl)
 
 few_spaceless : (n : ℕ) → n ≤ 65536 → no_space (decimal n) ≡ true
 few_spaceless n few = decimal_no_space n (omega (arith, few))
-
--- a profile of two types has entries of these alone
-none_left : (t0 t1 t2 t3 : ℕ) → are_entries Two (t0 ∷ t1 ∷ t2 ∷ t3 ∷ []) ≡ true → (t2 ≡ 0) × (t3 ≡ 0)
-none_left t0 t1 t2 t3 e = (grind (arith, nat_tests), grind (arith, nat_tests))
-
--- the entries of the types are those of the profile
-entries_fit : (header : Header) → is_in_limits header ≡ true → are_entries header.profile header.entries ≡ true
-entries_fit header e =
-    let agents = both (is_from 1 8 header.agents) _ e in
-    let lines = both (is_from 1 64 header.lines) _ agents.1 in
-    let slices = both (is_slice_count header.lines header.slices) _ lines.1 in
-    (both (are_entries header.profile header.entries) _ slices.1).0
 
 types_again : (profile : Profile) (entries : List ℕ) (journal : ℕ) → are_entries profile entries ≡ true → ((i : ℕ) → get_or entries i 0 ≤ 65536) → journal ≤ 65536
     → types_of (type_words profile entries journal) ≡ Some (record { entries = entries; journal = journal; profile = profile })

@@ -1,5 +1,5 @@
 -- What the limits say of each number of a header, for whoever is given one.
-use Rattle.std.proofs.Common.{◌≡◌, ℕ, ◌+◌, ◌≤◌, Bool, true, false, ◌&&◌, List, [], ◌∷◌, slice_index, sum, length, arith, refl, ⊎_elim, get_or}
+use Rattle.std.proofs.Common.{◌≡◌, ℕ, ◌+◌, ◌≤◌, Bool, true, false, ◌&&◌, nat_le, List, [], ◌∷◌, slice_index, sum, length, arith, refl, ⊎_elim, get_or}
 use Rattle.std.proofs.lemmas.Bool.{cases_lt}
 use Rattle.std.proofs.lemmas.Bool.Decides.{nat_tests}
 use Rattle.std.proofs.lemmas.List.{get_or_past}
@@ -7,13 +7,17 @@ use Rattle.std.proofs.lemmas.List.Sums.{get_or-le-sum_by}
 use Rattle.chi_flit.specs.declared.credit.Profile.{Profile}
 use Rattle.chi_flit.specs.declared.credit.Profile.TheVariants.{Two, Four}
 use Rattle.chi_script.specs.declared.headers.Header.{Header}
-use Rattle.chi_script.specs.Headers.{is_from, is_slice_count, are_entries, is_in_limits, IsInLimits}
+use Rattle.chi_config.specs.Config.{are_entries, is_between, is_slice_count}
+use Rattle.chi_script.specs.Headers.{is_in_limits, IsInLimits}
 
-from_to : (least most n : ℕ) → is_from least most n ≡ true → (least ≤ n) × (n ≤ most)
+from_to : (least most n : ℕ) → is_between least most n ≡ true → (least ≤ n) × (n ≤ most)
 from_to least most n e = (grind (arith, nat_tests), grind (arith, nat_tests))
 
-slice_count : (lines n : ℕ) → is_slice_count lines n ≡ true → (1 ≤ n) × (n ≤ 8) × (n ≤ lines)
-slice_count lines n e = (grind (arith, nat_tests), grind (arith, nat_tests), grind (arith, nat_tests))
+slice_count : (n : ℕ) → is_slice_count n ≡ true → (1 ≤ n) × (n ≤ 8)
+slice_count n e = (grind (arith, nat_tests), grind (arith, nat_tests))
+
+no_more : (n lines : ℕ) → nat_le n lines ≡ true → n ≤ lines
+no_more n lines e = grind (arith, nat_tests)
 
 two_types : (t0 t1 t2 t3 : ℕ) → are_entries Two (t0 ∷ t1 ∷ t2 ∷ t3 ∷ []) ≡ true → (1 ≤ t0) × (1 ≤ t1) × (t0 + t1 + t2 + t3 ≤ 256)
 two_types t0 t1 t2 t3 e = (grind (arith, nat_tests), grind (arith, nat_tests), grind (arith, nat_tests))
@@ -46,19 +50,34 @@ both false b e = cc
 
 pub limits_of : (header : Header) → is_in_limits header ≡ true → IsInLimits header
 limits_of header e =
-    let agents = both (is_from 1 8 header.agents) _ e in
-    let lines = both (is_from 1 64 header.lines) _ agents.1 in
-    let slices = both (is_slice_count header.lines header.slices) _ lines.1 in
-    let entries = both (are_entries header.profile header.entries) _ slices.1 in
-    let types = counted header.profile header.entries entries.0 in
+    let agents = both (is_between 1 8 header.agents) _ e in
+    let lines = both (is_between 1 64 header.lines) _ agents.1 in
+    let slices = both (is_slice_count header.slices) _ lines.1 in
+    let few = both (nat_le header.slices header.lines) _ slices.1 in
+    let journal = both (is_between 1 65536 header.journal) _ few.1 in
+    let types = counted header.profile header.entries journal.1 in
+    let count = slice_count header.slices slices.0 in
     record {
       agents = from_to 1 8 header.agents agents.0;
       lines = from_to 1 64 header.lines lines.0;
-      slices = slice_count header.lines header.slices slices.0;
+      slices = (count.0, count.1, no_more header.slices header.lines few.0);
       entries = types.some;
       total = types.total;
-      journal = from_to 1 65536 header.journal entries.1;
+      journal = from_to 1 65536 header.journal journal.0;
     }
+
+-- the entries are those of the profile
+pub entries_fit : (header : Header) → is_in_limits header ≡ true → are_entries header.profile header.entries ≡ true
+entries_fit header e =
+    let agents = both (is_between 1 8 header.agents) _ e in
+    let lines = both (is_between 1 64 header.lines) _ agents.1 in
+    let slices = both (is_slice_count header.slices) _ lines.1 in
+    let few = both (nat_le header.slices header.lines) _ slices.1 in
+    (both (is_between 1 65536 header.journal) _ few.1).1
+
+-- a profile of two types has entries of these alone
+pub none_left : (t0 t1 t2 t3 : ℕ) → are_entries Two (t0 ∷ t1 ∷ t2 ∷ t3 ∷ []) ≡ true → (t2 ≡ 0) × (t3 ≡ 0)
+none_left t0 t1 t2 t3 e = (grind (arith, nat_tests), grind (arith, nat_tests))
 
 -- each type has at most as many entries as all types together
 pub each_few : (header : Header) → is_in_limits header ≡ true → (i : ℕ) → get_or header.entries i 0 ≤ 256

@@ -1,7 +1,7 @@
 -- The header of a replay file and its limits (docs/PROTOCOL.md, "Replay files" and "Limits").
-use Rattle.std.specs.Prelude.{ℕ, sum, slice_index, ◌+◌, ◌≤◌, ◌==◌, ◌&&◌, ◌||◌, nat_le, Bool, false, List, [], ◌∷◌, Option, Some, None, if◌then◌else◌, codes}
-use Rattle.chi_flit.specs.declared.credit.Profile.{Profile}
+use Rattle.std.specs.Prelude.{ℕ, sum, slice_index, ◌≤◌, ◌&&◌, nat_le, Bool, List, [], ◌∷◌, Option, Some, None, if◌then◌else◌, codes}
 use Rattle.chi_flit.specs.declared.credit.Profile.TheVariants.{Two, Four}
+use Rattle.chi_config.specs.Config as config
 use Rattle.chi_script.specs.declared.headers.Header.{Header}
 use Rattle.chi_script.specs.declared.headers.CreditTypes.{CreditTypes}
 use Rattle.chi_script.specs.declared.headers.Sizes.{Sizes}
@@ -11,24 +11,13 @@ use Rattle.chi_script.specs.Words.{◌>>=◌, is_text, number_of}
 abbrev pub is_from : ℕ → ℕ → ℕ → Bool
 is_from least most n = nat_le least n && nat_le n most
 
--- so many slices, which are no more than the lines
-abbrev pub is_slice_count : ℕ → ℕ → Bool
-is_slice_count lines n = (n == 1 || n == 2 || n == 4 || n == 8) && nat_le n lines
+-- the sizes of a node that a header gives
+abbrev pub node_sizes : Header → config.Sizes
+node_sizes header = config.sizes_of header.agents header.lines header.slices header.entries header.journal header.profile
 
--- the entries of each type, by rising type: none of a type that the profile lacks
-abbrev pub are_entries : Profile → List ℕ → Bool
-are_entries Two (t0 ∷ t1 ∷ t2 ∷ t3 ∷ []) = nat_le 1 t0 && nat_le 1 t1 && t2 == 0 && t3 == 0 && nat_le (t0 + t1) 64
-are_entries Four (t0 ∷ t1 ∷ t2 ∷ t3 ∷ []) = nat_le 1 t0 && nat_le 1 t1 && nat_le 1 t2 && nat_le 1 t3 && nat_le (t0 + t1 + t2 + t3) 256
-are_entries _ _ = false
-
--- the limits, a line for each number
+-- the limits are those of a node
 abbrev pub is_in_limits : Header → Bool
-is_in_limits header =
-    is_from 1 8 header.agents && (
-    is_from 1 64 header.lines && (
-    is_slice_count header.lines header.slices && (
-    are_entries header.profile header.entries &&
-    is_from 1 65536 header.journal)))
+is_in_limits header = config.are_in_limits (node_sizes header)
 
 -- the credit types: T0 T1 K, or T0 T1 T2 T3 K; a type that the profile lacks has no entries
 abbrev pub types_of : List (List ℕ) → Option CreditTypes

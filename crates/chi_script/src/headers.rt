@@ -3,7 +3,8 @@
 ghost use Rattle.std.specs.Prelude.{◌≡◌, IfSome, true};
 ghost use Rattle.std.specs.Option.{option_map};
 ghost use Rattle.chi_script.specs.Words.{texts_of};
-ghost use Rattle.chi_script.specs.Headers.{header_of, sizes_of, types_of, is_from, is_slice_count, are_entries, is_in_limits, kept, sized};
+ghost use Rattle.chi_config.specs.Config.{are_entries, is_slice_count};
+ghost use Rattle.chi_script.specs.Headers.{header_of, sizes_of, types_of, is_from, is_in_limits, kept, sized};
 
 use crate::numbers::number;
 use crate::words::is;
@@ -110,11 +111,11 @@ fn is_from(least: u64, most: u64, number: u64) -> bool
     least <= number && number <= most
 }
 
-/// Whether there may be so many slices of so many lines.
-fn is_slice_count(lines: u64, number: u64) -> bool
-    ensures { result ≡ is_slice_count lines number }
+/// Whether there may be so many slices.
+fn is_slice_count(number: u64) -> bool
+    ensures { result ≡ is_slice_count number }
 {
-    (number == 1 || number == 2 || number == 4 || number == 8) && number <= lines
+    number == 1 || number == 2 || number == 4 || number == 8
 }
 
 /// Whether each type of the profile has entries and no other type has, and all together are no more
@@ -124,8 +125,8 @@ fn are_entries(profile: Profile, entries: [u64; 4]) -> bool
 {
     let [t0, t1, t2, t3] = entries.map(u128::from);
     match profile {
-        Profile::Two => t0 >= 1 && t1 >= 1 && t2 == 0 && t3 == 0 && t0 + t1 <= 64,
-        Profile::Four => t0 >= 1 && t1 >= 1 && t2 >= 1 && t3 >= 1 && t0 + t1 + t2 + t3 <= 256,
+        Profile::Two => t0 >= 1 && t1 >= 1 && t0 + t1 <= 64 && t2 == 0 && t3 == 0,
+        Profile::Four => t0 >= 1 && t1 >= 1 && t2 >= 1 && t3 >= 1 && t0 + (t1 + (t2 + t3)) <= 256,
     }
 }
 
@@ -138,9 +139,10 @@ impl Sizes {
         let entries = self.entries;
         is_from(1, 8, self.agents)
             && is_from(1, 64, self.lines)
-            && is_slice_count(self.lines, self.slices)
-            && are_entries(self.profile, entries)
+            && is_slice_count(self.slices)
+            && self.slices <= self.lines
             && is_from(1, 65_536, self.journal)
+            && are_entries(self.profile, entries)
     }
 
     /// The header of these sizes, where they are within the limits.

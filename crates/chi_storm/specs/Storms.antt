@@ -11,7 +11,7 @@ use Rattle.chi_node.specs.Requester.{RequesterState}
 use Rattle.chi_home.specs.Node.{AreOwn, NodeState}
 use Rattle.chi_storm_script.specs.declared.operations.Deed.{Deed}
 use Rattle.chi_storm_script.specs.Storms.{storm_of}
-use Rattle.chi_replay.specs.Replays.{node_sizes}
+use Rattle.chi_script.specs.Headers.{node_sizes}
 use Rattle.chi_storm.specs.declared.outcome.Outcome.{Outcome}
 use Rattle.chi_storm.specs.Outcomes.{outcome_text}
 use Rattle.chi_storm.specs.Verdicts.{IsOutcome}

@@ -1,6 +1,6 @@
 -- What the commands answered is the text of a replay, and so what was found of it is the report.
 use Rattle.std.proofs.Common.{◌≡◌, List, map, string_bytes, ap, ◌∙◌}
-use Rattle.chi_replay.specs.Replays.{node_sizes}
+use Rattle.chi_script.specs.Headers.{node_sizes}
 use Rattle.chi_text.specs.Texts.{IsText}
 use Rattle.chi_check_script.specs.declared.checks.Check.{Check}
 use Rattle.chi_check_script.specs.Checks.{seen}
