@@ -1,5 +1,6 @@
 /* Runs a replay file or a check file through the calls on a node, and prints what `chihome replay` or `chihome check`
- * prints of it. It takes good files alone: what is wrong with a file is the grammar's, and none of the library's. */
+ * prints of it; the status is 5, as the program's, where answers differ. It takes good files alone: what is wrong with
+ * a file is the grammar's, and none of the library's. */
 #include "chihome.h"
 
 #include <stdio.h>
@@ -237,5 +238,6 @@ int main(int argc, char **argv) {
     fclose(file);
     if (checks && different == 0) printf("checked %d answers\n", wanted);
     if (checks && different != 0) printf("%d of %d answers differ\n", different, wanted);
-    return chi_node_close(&node) == CHI_OK && different == 0 ? 0 : 1;
+    if (chi_node_close(&node) != CHI_OK) return 1;
+    return different == 0 ? 0 : 5;
 }
