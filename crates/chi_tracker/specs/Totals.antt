@@ -31,27 +31,9 @@ is_promised ws agents e = cond (promises_of ws agents e == 0) 0 1
 abbrev pub is_in_hand : List ℕ → ℕ → ℕ → ℕ
 is_in_hand ws agents e = cond (c_of ws e == 0) 0 (cond (promises_of ws agents e == 0) 1 0)
 
--- how many of the entries from `start` on, m of them, are free, in hand, promised
-abbrev pub free_from : List ℕ → ℕ → ℕ → ℕ
-free_from ws start m = below (λ i. is_free ws (start + i)) m
-
-abbrev pub in_hand_from : List ℕ → ℕ → ℕ → ℕ → ℕ
-in_hand_from ws agents start m = below (λ i. is_in_hand ws agents (start + i)) m
-
-abbrev pub promised_from : List ℕ → ℕ → ℕ → ℕ → ℕ
-promised_from ws agents start m = below (λ i. is_promised ws agents (start + i)) m
-
--- how many of them are promised to requester n
-abbrev pub promised_to : List ℕ → ℕ → ℕ → ℕ → ℕ
-promised_to ws n start m = below (λ i. p_of ws n (start + i)) m
-
 -- how many credits of type t are owed to all requesters
 abbrev pub owed_all : List ℕ → ℕ → ℕ → ℕ
 owed_all ws t agents = below (λ n. owed_in t (o_of ws n)) agents
-
--- how many of the first places of a type are set
-abbrev pub owed_below : ℕ → ℕ → ℕ → ℕ
-owed_below word t m = below (λ i. bit_at word (8 * t + i)) m
 
 -- the counts are those of the words
 pub record IsCount (s : Shape) (ws : List ℕ) (counts : Counts) : Type 0 where
@@ -59,6 +41,10 @@ pub record IsCount (s : Shape) (ws : List ℕ) (counts : Counts) : Type 0 where
   pub hand : (t : ℕ) → t < 4 → slice_index counts.hand t ≡ count_of s t (is_in_hand ws s.agents)
   pub promised : (t : ℕ) → t < 4 → slice_index counts.promised t ≡ count_of s t (is_promised ws s.agents)
   pub owed : (t : ℕ) → t < 4 → slice_index counts.owed t ≡ owed_all ws t s.agents
+
+-- the counts are those of some 44 words, loaded one after the other while ports may do steps
+abbrev pub IsGlance : Shape → Counts → Type 0
+IsGlance s counts = (words : List ℕ) × (length words ≡ 44) × IsCount s words counts
 
 abbrev pub no_credits : Credits
 no_credits = record { due = []; owed = []; promised = [] }

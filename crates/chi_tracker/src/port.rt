@@ -15,7 +15,7 @@ use crate::marks::others;
 use crate::paying::{owe_one, pay};
 use crate::released::Released;
 use crate::scan::scan;
-use crate::sets::{counts, lowest};
+use crate::sets::{counts_by_type, lowest};
 use crate::shape::Shape;
 use crate::steps::{free_step, see_step};
 use crate::sweep::{release_entry, tend_type};
@@ -206,7 +206,7 @@ impl Port {
         self.seen[2] = see_step(board, &mut chair, self.number, 2);
         self.seen[3] = see_step(board, &mut chair, self.number, 3);
         self.chair = Some(chair);
-        counts(self.seen, self.shape)
+        counts_by_type(&self.seen, &self.shape)
     }
 
     /// The seen credits by type, as the port has them. It does no step.
@@ -214,7 +214,7 @@ impl Port {
     pub fn seen(&self) -> [u32; 4]
         ensures { (t : ℕ) → t < 4 → slice_index result t ≡ seen_of self.now.port t }
     {
-        counts(self.seen, self.shape)
+        counts_by_type(&self.seen, &self.shape)
     }
 
     /// The credits due by type: retries less spent and returned credits, 0 to 8. It does no step.

@@ -2,7 +2,7 @@
 
 ghost use Rattle.std.specs.Prelude.{◌≡◌, ℕ, ◌+◌, ◌*◌, ◌<◌, ◌≤◌, slice_index};
 ghost use Rattle.std.specs.Int.{bit_at};
-ghost use Rattle.chi_tracker.specs.Sums.{set_at};
+ghost use Rattle.chi_tracker.specs.Sums.{below, set_at};
 ghost use Rattle.chi_tracker.specs.Shape.{low, size};
 ghost use Rattle.chi_tracker.specs.Calls.{set_count};
 ghost use Rattle.chi_tracker.specs.Steps.{first_clear};
@@ -24,28 +24,38 @@ pub(crate) fn first_clear(word: u64, ty: usize) -> usize
     unreachable!()
 }
 
+/// How many of the `count` places of a word from `first` on are set.
+pub(crate) fn ones_from(word: u64, first: usize, count: usize) -> u32
+    requires { (0 < count) × (first + count ≤ 64) }
+    ensures is { result ≡ below (λ i. bit_at word (first + i)) count }
+    ensures few { result ≤ count }
+{
+    ((word >> first) & (u64::MAX >> (64 - count))).count_ones()
+}
+
 /// How many of the `count` entries from `start` on are in the set.
-fn set_count(words: [u64; 4], start: usize, count: usize) -> u32
+fn set_count(words: &[u64; 4], start: usize, count: usize) -> u32
     requires { start + count ≤ 256 }
-    ensures is { result ≡ set_count words start count }
+    ensures is { result ≡ set_count words.now start count }
     ensures few { result ≤ count }
 {
     let mut found = 0;
-    for i in 0..count {
-        let entry = start + i;
-        if is_set(words[entry / 64], entry % 64) {
-            found += 1;
-        }
+    let mut done = 0;
+    while done < count {
+        let entry = start + done;
+        let part = (count - done).min(64 - entry % 64);
+        found += ones_from(words[entry / 64], entry % 64, part);
+        done += part;
     }
     found
 }
 
 /// How many entries of each type are in the set.
-pub(crate) fn counts(words: [u64; 4], shape: Shape) -> [u32; 4]
-    requires { low shape 4 ≤ 256 }
-    ensures { (t : ℕ) → t < 4 → slice_index result t ≡ set_count words (low shape t) (size shape t) }
+pub(crate) fn counts_by_type(words: &[u64; 4], shape: &Shape) -> [u32; 4]
+    requires { low shape.now 4 ≤ 256 }
+    ensures { (t : ℕ) → t < 4 → slice_index result t ≡ set_count words.now (low shape.now t) (size shape.now t) }
 {
-    if words == [0; 4] {
+    if *words == [0; 4] {
         return [0; 4];
     }
     let [zero, one, two, three] = shape.sizes;
