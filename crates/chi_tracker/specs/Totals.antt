@@ -61,10 +61,14 @@ views_of (o ∷ os) = o.port ∷ views_of os
 abbrev pub sum_of : ℕ → (PortView → ℕ) → List PortView → ℕ
 sum_of n f ports = total (of_port n f) ports
 
+-- how many credits of type t requester n has spent or returned
+abbrev pub paid_by : ℕ → ℕ → List PortView → ℕ
+paid_by n t ports = sum_of n (λ x. slice_index x.spent t) ports + sum_of n (λ x. slice_index x.returned t) ports
+
 -- numbers at 4 * requester + type are what is due to the ports
 abbrev pub AreDue : List ℕ → List PortView → Type 0
 AreDue dues ports = (n t : ℕ) → n < 8 → t < 4
-    → slice_index dues (4 * n + t) + (sum_of n (λ x. slice_index x.spent t) ports + sum_of n (λ x. slice_index x.returned t) ports) ≡ sum_of n (λ x. slice_index x.retries t) ports
+    → slice_index dues (4 * n + t) + paid_by n t ports ≡ sum_of n (λ x. slice_index x.retries t) ports
 
 -- the credits of the first m requesters, from the words and what is due
 pub record AreCredits (s : Shape) (ws dues : List ℕ) (m : ℕ) (credits : List Credits) : Type 0 where
@@ -89,7 +93,7 @@ pub record IsClosed (s : Shape) (ports : List PortView) (counts : Counts) (credi
   pub owed : (n t : ℕ) → n < s.agents → t < 4 → slice_index (credits_at credits n).owed t ≡ owed_in t (o_of words n)
   pub promised : (n t : ℕ) → n < s.agents → t < 4 → slice_index (credits_at credits n).promised t ≡ count_of s t (p_of words n)
   pub due : (n t : ℕ) → n < s.agents → t < 4
-      → slice_index (credits_at credits n).due t + (sum_of n (λ x. slice_index x.spent t) ports + sum_of n (λ x. slice_index x.returned t) ports) ≡ sum_of n (λ x. slice_index x.retries t) ports
+      → slice_index (credits_at credits n).due t + paid_by n t ports ≡ sum_of n (λ x. slice_index x.retries t) ports
 
 -- what is due to each requester is what is owed to it and what is promised to it
 abbrev pub IsBalanced : ℕ → List Credits → Type 0

@@ -1,9 +1,8 @@
 //! The end of a tracker: the ports' seats are joined, and what they were due is added up.
 
-ghost use Rattle.std.specs.Prelude.{◌≡◌, ℕ, ◌+◌, ◌*◌, ◌<◌, ◌≤◌, [], All, length, slice_index, cond, ◌==◌};
+ghost use Rattle.std.specs.Prelude.{◌≡◌, ℕ, ◌+◌, ◌*◌, ◌<◌, ◌≤◌, All, length, slice_index, cond, ◌==◌};
 ghost use Rattle.std.specs.Slots.{slots_items, slots_len, IsFull};
-ghost use Rattle.chi_tracker.specs.Shape.{low, count_of, owed_in};
-ghost use Rattle.chi_tracker.specs.Words.{p_of, o_of};
+ghost use Rattle.chi_tracker.specs.Shape.{low};
 ghost use Rattle.chi_tracker.specs.Rule.{TrackerRule};
 ghost use Rattle.chi_tracker.specs.Laws.{duties};
 ghost use Rattle.chi_tracker.specs.Totals.{views_of, closed_state, AreDue, AreCredits};

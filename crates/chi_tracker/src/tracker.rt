@@ -4,7 +4,7 @@ ghost use Rattle.std.specs.Prelude.{◌≡◌, ◌<◌, ◌≤◌, [], All, IfOk
 ghost use Rattle.chi_tracker.specs.Shape.{low};
 ghost use Rattle.chi_tracker.specs.Views.{new_ports};
 ghost use Rattle.chi_tracker.specs.Rule.{all_new};
-ghost use Rattle.chi_tracker.specs.Calls.{owners, shape_of};
+ghost use Rattle.chi_tracker.specs.Calls.{owners, new_owners, shape_of, IsOwnerAt};
 ghost use Rattle.chi_tracker.specs.Totals.{views_of, IsClosed, IsBalanced, IsGlance};
 
 use crate::closing::{Gathered, credits, gather, last_words};
@@ -56,8 +56,8 @@ impl<A: Allocator> Tracker<A> {
         requires agents { (0 < agents) × (agents ≤ 8) }
         requires entries { low (shape_of entries agents) 4 ≤ 256 }
         ensures shape { IfOk result (λ made. made.0.shape ≡ shape_of entries agents) }
-        ensures ports { IfOk result (λ made. made.1.items ≡ owners made.0.table (new_ports (shape_of entries agents) 0 agents)) }
-        ensures own { IfOk result (λ made. All (λ p. (p.table ≡ made.0.table) × (p.port.shape ≡ made.0.shape)) made.1.items) }
+        ensures ports { IfOk result (λ made. made.1.items ≡ new_owners made.0.table (shape_of entries agents)) }
+        ensures own { IfOk result (λ made. All (IsOwnerAt made.0) made.1.items) }
         ensures all { IfOk result (λ made. length made.1.items ≡ agents) }
     {
         let shape = Shape::of(entries, usize::from(agents));
