@@ -1,7 +1,6 @@
 -- The counts of entries and credits by type, and what each requester is due (docs/PROTOCOL.md, "Words of
 -- the tracker").
 use Rattle.std.specs.Prelude.{◌≡◌, ℕ, ◌+◌, ◌*◌, ◌<◌, List, [], ◌∷◌, length, slice_index, slice_index_or, cond, ◌==◌}
-use Rattle.std.specs.Int.{bit_at}
 use Rattle.atomic_table.specs.Table.{State}
 use Rattle.chi_tracker.specs.declared.shape.Shape.{Shape}
 use Rattle.chi_tracker.specs.declared.view.SeatView.{SeatView}
