@@ -48,15 +48,32 @@ ones_run w first count l =
 pub run_few : (w first count : ℕ) → count ≤ 64 → ones (bit_and (w / 2 ^ first) ((2 ^ 64 - 1) / 2 ^ (64 - count))) ≤ count
 run_few w first count l = omega (arith, ones_run w first count l, below_few (λ i. bit_at w (first + i)) count (λ i. bit_at-lt w (first + i)))
 
--- the entries of a set that lie in one word, after the first ones
-pub set_more : (words : List ℕ) (start done part : ℕ) → (start + done) % 64 + part ≤ 64
-    → set_count words start (done + part) ≡ set_count words start done + below (λ i. bit_at (slice_index words ((start + done) / 64)) ((start + done) % 64 + i)) part
-set_more words start done part fits =
-    let word : ℕ = slice_index words ((start + done) / 64) in
-    let same = below_same (λ i. bit_at word ((start + done) % 64 + i)) (λ i. set_at words (start + (done + i))) part (λ i l.
-    let q : (start + (done + i)) / 64 ≡ (start + done) / 64 = omega arith in let r : (start + (done + i)) % 64 ≡ (start + done) % 64 + i = omega arith in
-    ap (λ (k : ℕ). bit_at (slice_index words k) ((start + (done + i)) % 64)) q ∙ ap (bit_at word) r) in
-    omega (arith, below_split (λ i. set_at words (start + i)) done part, same)
+-- the entries of a set that lie in word k, after those of the words before it
+pub rank_more : (words : List ℕ) (k part : ℕ) → part ≤ 64 → below (set_at words) (64 * k + part) ≡ below (set_at words) (64 * k) + below (λ i. bit_at (slice_index words k) (0 + i)) part
+rank_more words k part fits =
+    let same = below_same (λ i. bit_at (slice_index words k) (0 + i)) (λ i. set_at words (64 * k + i)) part (λ i l.
+    let q : (64 * k + i) / 64 ≡ k = omega arith in let r : (64 * k + i) % 64 ≡ 0 + i = omega arith in
+    ap (λ (j : ℕ). bit_at (slice_index words j) ((64 * k + i) % 64)) q ∙ ap (bit_at (slice_index words k)) r) in
+    omega (arith, below_split (set_at words) (64 * k) part, same)
+
+-- all entries of a set below an end, from those of its whole words
+pub rank_whole : (words : List ℕ) (end k : ℕ) → k ≡ end / 64 → end % 64 ≡ 0 → below (set_at words) (64 * k) ≡ below (set_at words) end
+rank_whole words end k is none = ap (below (set_at words)) (let h : 64 * k ≡ end = omega arith in h)
+
+pub rank_rest : (words : List ℕ) (end k : ℕ) → k ≡ end / 64 → below (set_at words) (64 * k) + below (λ i. bit_at (slice_index words (end / 64)) (0 + i)) (end % 64) ≡ below (set_at words) end
+rank_rest words end k is =
+    let h : 64 * (end / 64) + end % 64 ≡ end = omega arith in let same = ap (λ (z : ℕ). below (set_at words) (64 * z)) is in
+    omega (arith, rank_more words (end / 64) (end % 64) (omega arith), ap (below (set_at words)) h, same)
+
+-- the entries of a set in a range, by those below its two ends
+pub rank_between : (words : List ℕ) (start n a b : ℕ) → a ≡ below (set_at words) start → b ≡ below (set_at words) (start + n) → b - a ≡ set_count words start n
+rank_between words start n a b ha hb = omega (arith, below_split (set_at words) start n, ha, hb)
+
+pub rank_up : (words : List ℕ) (start n a b : ℕ) → a ≡ below (set_at words) start → b ≡ below (set_at words) (start + n) → a ≤ b
+rank_up words start n a b ha hb = omega (arith, below_split (set_at words) start n, ha, hb)
+
+pub rank_first : (words : List ℕ) (n a : ℕ) → a ≡ below (set_at words) n → a ≡ set_count words 0 n
+rank_first words n a ha = ha ∙ below_same (λ i. set_at words (0 + i)) (set_at words) n (λ i l. let h : i ≡ 0 + i = omega arith in ap (set_at words) h)
 
 -- a set of four words, by what each of their bits is
 pub four_bits : (f : ℕ → ℕ → ℕ) (a b c d : ℕ) → ((i : ℕ) → i < 64 → bit_at a i ≡ f 0 i) → ((i : ℕ) → i < 64 → bit_at b i ≡ f 1 i) → ((i : ℕ) → i < 64 → bit_at c i ≡ f 2 i) → ((i : ℕ) → i < 64 → bit_at d i ≡ f 3 i)

@@ -33,21 +33,20 @@ pub(crate) fn ones_from(word: u64, first: usize, count: usize) -> u32
     ((word >> first) & (u64::MAX >> (64 - count))).count_ones()
 }
 
-/// How many of the `count` entries from `start` on are in the set.
-fn set_count(words: &[u64; 4], start: usize, count: usize) -> u32
-    requires { start + count ≤ 256 }
-    ensures is { result ≡ set_count words.now start count }
-    ensures few { result ≤ count }
+/// How many of the first `end` entries are in the set.
+fn rank(words: &[u64; 4], end: usize) -> u32
+    requires { end ≤ 256 }
+    ensures { result ≡ below (set_at words.now) end }
 {
     let mut found = 0;
-    let mut done = 0;
-    while done < count {
-        let entry = start + done;
-        let part = (count - done).min(64 - entry % 64);
-        found += ones_from(words[entry / 64], entry % 64, part);
-        done += part;
+    for part in 0..end / 64 {
+        found += ones_from(words[part], 0, 64);
     }
-    found
+    let rest = end % 64;
+    if rest == 0 {
+        return found;
+    }
+    found + ones_from(words[end / 64], 0, rest)
 }
 
 /// How many entries of each type are in the set.
@@ -59,12 +58,11 @@ pub(crate) fn counts_by_type(words: &[u64; 4], shape: &Shape) -> [u32; 4]
         return [0; 4];
     }
     let [zero, one, two, three] = shape.sizes;
-    [
-        set_count(words, 0, zero),
-        set_count(words, zero, one),
-        set_count(words, zero + one, two),
-        set_count(words, zero + one + two, three),
-    ]
+    let first = rank(words, zero);
+    let second = rank(words, zero + one);
+    let third = rank(words, zero + one + two);
+    let all = rank(words, zero + one + two + three);
+    [first, second - first, third - second, all - third]
 }
 
 /// The lowest of the `count` entries from `start` on that is in the set.
