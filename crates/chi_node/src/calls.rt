@@ -209,5 +209,4 @@ fn keeps<A: Allocator>(slice: &Slice<A>, requester: &Requester)
 {
     let agent = requester.number();
     let _ = slice.journal().part_len(agent);
-    let _ = slice.flits(agent, Line(0));
 }
