@@ -57,9 +57,6 @@ rank_more words k part fits =
     omega (arith, below_split (set_at words) (64 * k) part, same)
 
 -- all entries of a set below an end, from those of its whole words
-pub rank_whole : (words : List ℕ) (end k : ℕ) → k ≡ end / 64 → end % 64 ≡ 0 → below (set_at words) (64 * k) ≡ below (set_at words) end
-rank_whole words end k is none = ap (below (set_at words)) (let h : 64 * k ≡ end = omega arith in h)
-
 pub rank_rest : (words : List ℕ) (end k : ℕ) → k ≡ end / 64 → below (set_at words) (64 * k) + below (λ i. bit_at (slice_index words (end / 64)) (0 + i)) (end % 64) ≡ below (set_at words) end
 rank_rest words end k is =
     let h : 64 * (end / 64) + end % 64 ≡ end = omega arith in let same = ap (λ (z : ℕ). below (set_at words) (64 * z)) is in

@@ -1,4 +1,4 @@
-use Rattle.std.proofs.Common.{◌≡◌, ◌+◌, [], ◌∷◌, ap, ◌∙◌, sym, arith, rules, refl, slice_index}
+use Rattle.std.proofs.Common.{◌≡◌, ◌+◌, [], ◌∷◌, ◌∙◌, sym, arith, rules, refl, slice_index}
 use Rattle.chi_tracker.specs.Sums.{set_at}
 use Rattle.chi_tracker.specs.Shape.{low, size}
 use Rattle.chi_tracker.specs.Calls.{set_count}
