@@ -27,7 +27,7 @@ fn say<W: Wording, B: Allocator>(answer: &W, text: &mut String<B>) -> Result<(),
 ///
 /// Refused where memory for the text runs out.
 /// Source: `docs/PROTOCOL.md`, "Replay files".
-pub(crate) fn answer<A: Allocator, B: Allocator>(
+pub fn answer<A: Allocator, B: Allocator>(
     system: &mut System<A>,
     command: Command,
     text: &mut String<B>,
