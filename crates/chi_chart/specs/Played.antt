@@ -7,7 +7,7 @@ use Rattle.chi_system.specs.System.{SystemState}
 use Rattle.chi_text.specs.Session.{machine_of, ports_of}
 use Rattle.chi_text.specs.Texts.{Allowed, Plays, opening_ports}
 use Rattle.chi_text.specs.Turns.{Answer, opening, turn}
-use Rattle.chi_slice.specs.Config.{Sizes}
+use Rattle.chi_config.specs.Config.{Sizes}
 use Rattle.chi_chart.specs.declared.rows.Row as code
 use Rattle.chi_chart.specs.Rows.{Row, bottom_of, row_of, rows_of, top}
 use Rattle.chi_chart.specs.Steps.{Step, steps_of}

@@ -9,7 +9,7 @@ use crate::marks::{Mark, marks_between};
 use chi_flit::{Line, NoMemory};
 use chi_line::LineView;
 use chi_script::Command;
-use chi_slice::Config;
+use chi_config::Config;
 use chi_system::System;
 use chi_text::answer;
 use std::alloc::Allocator;
