@@ -1,4 +1,4 @@
--- The marks of a chart as SVG, each on lines of its own (docs/PROTOCOL.md, "Charts").
+-- The parts of a chart as SVG, each on lines of its own (docs/PROTOCOL.md, "Charts").
 use Rattle.std.specs.Prelude.{ℕ, List, [], ◌∷◌, ◌++◌, Bool, true, false, Option, Some, None, if◌then◌else◌, codes, ◌==◌}
 use Rattle.std.specs.Fmt.{decimal}
 use Rattle.std.specs.List.{flat_map}
@@ -8,42 +8,39 @@ use Rattle.chi_flit.specs.declared.message.Channel.TheVariants as channels
 use Rattle.chi_flit.specs.Message.{channel_text, message_text}
 use Rattle.chi_flit.specs.State.{state_text}
 use Rattle.chi_reply.specs.Replies.{serving_text}
-use Rattle.chi_chart.specs.declared.drawn.Paper.{Paper}
+use Rattle.chi_chart.specs.declared.drawn.Sheet.{Sheet}
 use Rattle.chi_chart.specs.declared.drawn.SliceBox.{SliceBox}
 use Rattle.chi_chart.specs.declared.drawn.Lifeline.{Lifeline}
 use Rattle.chi_chart.specs.declared.drawn.Caption.{Caption}
 use Rattle.chi_chart.specs.declared.drawn.StateMark.{StateMark}
 use Rattle.chi_chart.specs.declared.drawn.Bar.{Bar}
 use Rattle.chi_chart.specs.declared.drawn.Arrow.{Arrow}
-use Rattle.chi_chart.specs.declared.drawn.ArrowTitle.{ArrowTitle}
-use Rattle.chi_chart.specs.declared.drawn.BarTitle.{BarTitle}
-use Rattle.chi_chart.specs.declared.drawn.SliceTitle.{SliceTitle}
-use Rattle.chi_chart.specs.declared.drawn.Title.{Title}
 use Rattle.chi_chart.specs.Commands.{command_text}
 
--- the paper, of the whole size
-abbrev pub paper_text : Paper → List ℕ
-paper_text paper = codes "<rect class='paper' width='" ++ (decimal paper.width ++ (codes "' height='" ++ (decimal paper.height ++ codes "'/>\n")))
+-- the sheet: how large the chart is, and its paper
+abbrev pub sheet_text : Sheet → List ℕ
+sheet_text sheet =
+    codes "<svg xmlns='http://www.w3.org/2000/svg' width='" ++ (decimal sheet.width ++ (codes "' height='" ++ (decimal sheet.height
+    ++ (codes "' viewBox='0 0 " ++ (decimal sheet.width ++ (codes " " ++ (decimal sheet.height
+    ++ (codes "'>\n<rect class='paper' width='" ++ (decimal sheet.width ++ (codes "' height='" ++ (decimal sheet.height ++ codes "'/>\n")))))))))))
 
--- a slice of the home
+-- a slice of the home, and its number
 abbrev pub slice_text : SliceBox → List ℕ
-slice_text slice = codes "<path class='slice' d='M" ++ (decimal slice.x ++ (codes " 64H" ++ (decimal slice.right ++ (codes "V" ++ (decimal slice.bottom ++ (codes "H" ++ (decimal slice.x ++ codes "z'/>\n")))))))
-
--- its number
-abbrev pub slice_title_text : SliceTitle → List ℕ
-slice_title_text title = codes "<text class='small' x='" ++ (decimal title.x ++ (codes "' y='60'>" ++ (decimal title.slice ++ codes "</text>\n")))
-
--- an agent's lifeline
-abbrev pub lifeline_text : Lifeline → List ℕ
-lifeline_text life = codes "<path class='life' d='M" ++ (decimal life.x ++ (codes " 64V" ++ (decimal life.bottom ++ codes "'/>\n")))
+slice_text slice =
+    codes "<path class='slice' d='M" ++ (decimal slice.x ++ (codes " 64H" ++ (decimal slice.right ++ (codes "V" ++ (decimal slice.bottom ++ (codes "H" ++ (decimal slice.x
+    ++ (codes "z'/>\n<text class='small' x='" ++ (decimal slice.x ++ (codes "' y='60'>" ++ (decimal slice.slice ++ codes "</text>\n")))))))))))
 
 -- the name of an agent, or of the home
 abbrev pub name_text : Option Agent → List ℕ
 name_text None = codes "home"
 name_text (Some agent) = codes "agent " ++ decimal agent.0
 
-abbrev pub title_text : Title → List ℕ
-title_text title = codes "<text class='title' x='" ++ (decimal title.x ++ (codes "' y='" ++ (decimal title.y ++ (codes "'>" ++ (name_text title.agent ++ codes "</text>\n")))))
+-- a lifeline, with its name above and below
+abbrev pub lifeline_text : Lifeline → List ℕ
+lifeline_text life =
+    codes "<path class='life' d='M" ++ (decimal life.x ++ (codes " 64V" ++ (decimal life.bottom
+    ++ (codes "'/>\n<text class='title' x='" ++ (decimal life.x ++ (codes "' y='40'>" ++ (name_text life.agent
+    ++ (codes "</text>\n<text class='title' x='" ++ (decimal life.x ++ (codes "' y='" ++ (decimal life.name_y ++ (codes "'>" ++ (name_text life.agent ++ codes "</text>\n")))))))))))))
 
 -- a rule above a row, and its command
 abbrev pub caption_text : Caption → List ℕ
@@ -55,26 +52,24 @@ caption_text caption =
 abbrev pub turned_text : StateMark → List ℕ
 turned_text mark = codes "<text class='state " ++ (state_text mark.state ++ (codes "' x='" ++ (decimal mark.x ++ (codes "' y='" ++ (decimal mark.y ++ (codes "'>" ++ (state_text mark.state ++ codes "</text>\n")))))))
 
--- what the home does at a line, from here to there
+-- what the home does at a line, from here to there, and the words for it
 abbrev pub bar_text : Bar → List ℕ
-bar_text bar = codes "<path class='bar " ++ (serving_text bar.serving ++ (codes "' d='M" ++ (decimal bar.x ++ (codes " " ++ (decimal bar.y ++ (codes "V" ++ (decimal bar.end ++ codes "'/>\n")))))))
-
--- and the words for it
-abbrev pub bar_title_text : BarTitle → List ℕ
-bar_title_text title = codes "<text class='serving' x='" ++ (decimal title.x ++ (codes "' y='" ++ (decimal title.y ++ (codes "'>" ++ (serving_text title.serving ++ codes "</text>\n")))))
+bar_text bar =
+    codes "<path class='bar " ++ (serving_text bar.serving ++ (codes "' d='M" ++ (decimal bar.x ++ (codes " " ++ (decimal bar.y ++ (codes "V" ++ (decimal bar.end
+    ++ (codes "'/>\n<text class='serving' x='" ++ (decimal bar.words_x ++ (codes "' y='" ++ (decimal bar.words_y ++ (codes "'>" ++ (serving_text bar.serving ++ codes "</text>\n")))))))))))))
 
 -- the head of an arrow at the place where its flit is taken, or an open end at the bottom
 abbrev pub end_text : Option ℕ → ℕ → ℕ → List ℕ
 end_text (Some end) to bottom = decimal end ++ (codes "H" ++ (decimal to ++ codes "' marker-end='url(#head)'"))
 end_text None to bottom = decimal bottom ++ codes "' marker-end='url(#open)'"
 
--- a flit, from where it is sent down its lane to where it is taken
+-- a flit, from where it is sent down its lane to where it is taken, and its text
 abbrev pub arrow_text : Arrow → List ℕ
-arrow_text arrow = codes "<path class='flit " ++ (channel_text arrow.channel ++ (codes "' d='M" ++ (decimal arrow.from ++ (codes " " ++ (decimal arrow.y ++ (codes "H" ++ (decimal arrow.lane ++ (codes "V" ++ (end_text arrow.end arrow.to arrow.bottom ++ codes "/>\n")))))))))
-
--- and its text
-abbrev pub arrow_title_text : ArrowTitle → List ℕ
-arrow_title_text title = codes "<text class='flit " ++ (channel_text title.channel ++ (codes "' x='" ++ (decimal title.x ++ (codes "' y='" ++ (decimal title.y ++ (codes "'>" ++ (message_text title.message ++ codes "</text>\n")))))))
+arrow_text arrow =
+    codes "<path class='flit " ++ (channel_text arrow.channel ++ (codes "' d='M" ++ (decimal arrow.from ++ (codes " " ++ (decimal arrow.y
+    ++ (codes "H" ++ (decimal arrow.lane ++ (codes "V" ++ (end_text arrow.end arrow.to arrow.bottom
+    ++ (codes "/>\n<text class='flit " ++ (channel_text arrow.channel ++ (codes "' x='" ++ (decimal arrow.words_x ++ (codes "' y='" ++ (decimal arrow.words_y
+    ++ (codes "'>" ++ (message_text arrow.message ++ codes "</text>\n")))))))))))))))))
 
 -- the bytes that mean something in SVG
 abbrev pub escaped_byte : ℕ → List ℕ

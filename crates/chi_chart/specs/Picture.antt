@@ -1,7 +1,6 @@
 -- A chart as SVG: a function of its rows (docs/PROTOCOL.md, "Charts").
 use Rattle.std.specs.Prelude.{ℕ, ◌+◌, ◌==◌, List, [], ◌∷◌, ◌++◌, Bool, true, false, Option, Some, None, if◌then◌else◌, codes}
 use Rattle.std.specs.List.{flat_map, list_any, range_with_len}
-use Rattle.std.specs.Fmt.{decimal}
 use Rattle.chi_flit.specs.declared.message.Channel.{Channel}
 use Rattle.chi_flit.specs.declared.message.Channel.TheVariants as channels
 use Rattle.chi_flit.specs.declared.message.Msg.{Msg}
@@ -13,7 +12,7 @@ use Rattle.chi_chart.specs.declared.frame.Layout.{Layout}
 use Rattle.chi_chart.specs.declared.marks.Cell.{Cell}
 use Rattle.chi_chart.specs.declared.marks.Mark.{Mark}
 use Rattle.chi_chart.specs.declared.marks.Mark.TheVariants.{Turned, Taken, Sent, Serves}
-use Rattle.chi_chart.specs.Drawn.{arrow_text, arrow_title_text, bar_text, bar_title_text, caption_text, lifeline_text, paper_text, slice_text, slice_title_text, title_text, turned_text}
+use Rattle.chi_chart.specs.Drawn.{arrow_text, bar_text, caption_text, lifeline_text, sheet_text, slice_text, turned_text}
 use Rattle.chi_chart.specs.Layout.{agent_x, home_x, lane_x, serving_x, slice_x, state_x, strip_x, width, words_x}
 use Rattle.chi_chart.specs.Marks.{is_same_cell}
 use Rattle.chi_chart.specs.Notes.{note_text}
@@ -71,15 +70,23 @@ sent_text layout bottom later y cell message =
       end = middle (taken_at cell later);
       to = if is_down cell.channel then agent_x cell.agent.0 else home_x layout;
       bottom = bottom;
+      words_x = words_x cell.agent.0;
+      words_y = y + 27;
+      message = message;
     })
-    ++ arrow_title_text (record { channel = cell.channel; x = words_x cell.agent.0; y = y + 29; message = message })
 
 -- what the home does at a line, until it does something else
 abbrev pub serves_text : Layout → ℕ → List Row → ℕ → Line → Serving → List ℕ
 serves_text layout bottom later y line servings.Idle = []
 serves_text layout bottom later y line serving =
-    bar_text (record { serving = serving; x = strip_x layout line.0 + 5; y = y + 10; end = or_bottom bottom (middle (served_until line later)) })
-    ++ bar_title_text (record { serving = serving; x = serving_x layout; y = y + 14 })
+    bar_text (record {
+      serving = serving;
+      x = strip_x layout line.0 + 5;
+      y = y + 10;
+      end = or_bottom bottom (middle (served_until line later));
+      words_x = serving_x layout;
+      words_y = y + 14;
+    })
 
 -- a mark of a row that begins at top; y is the band of a flit that is sent
 abbrev pub mark_text : Layout → ℕ → ℕ → List Row → ℕ → Mark → List ℕ
@@ -104,26 +111,24 @@ rows_text layout bottom [] = []
 rows_text layout bottom (row ∷ rows) = row_text layout bottom row rows ++ rows_text layout bottom rows
 
 abbrev pub slice_at : Layout → ℕ → ℕ → List ℕ
-slice_at layout bottom n = slice_text (record { x = slice_x layout n; right = slice_x layout (n + 1); bottom = bottom }) ++ slice_title_text (record { slice = n; x = slice_x layout n })
+slice_at layout bottom n = slice_text (record { slice = n; x = slice_x layout n; right = slice_x layout (n + 1); bottom = bottom })
 
--- a name above and below
-abbrev pub titles_text : ℕ → Option Agent → ℕ → List ℕ
-titles_text bottom agent x = title_text (record { agent = agent; x = x; y = 40 }) ++ title_text (record { agent = agent; x = x; y = bottom + 24 })
+-- the lifeline of an agent, or of the home
+abbrev pub lifeline_of : ℕ → Option Agent → ℕ → List ℕ
+lifeline_of bottom agent x = lifeline_text (record { agent = agent; x = x; bottom = bottom; name_y = bottom + 24 })
 
 abbrev pub lifeline_at : ℕ → ℕ → List ℕ
-lifeline_at bottom n = lifeline_text (record { x = agent_x n; bottom = bottom }) ++ titles_text bottom (Some (record { 0 = n })) (agent_x n)
+lifeline_at bottom n = lifeline_of bottom (Some (record { 0 = n })) (agent_x n)
 
--- the frame: the slices of the home, and the lifelines of the agents
+-- the frame: the slices of the home, its lifeline, and those of the agents
 abbrev pub frame_text : Layout → ℕ → List ℕ
 frame_text layout bottom =
-    titles_text bottom None (home_x layout)
-    ++ (flat_map (slice_at layout bottom) (range_with_len 0 layout.slices) ++ flat_map (lifeline_at bottom) (range_with_len 0 layout.agents))
+    flat_map (slice_at layout bottom) (range_with_len 0 layout.slices)
+    ++ (lifeline_of bottom None (home_x layout) ++ flat_map (lifeline_at bottom) (range_with_len 0 layout.agents))
 
--- the head: the size of the chart, its style, and its ground
+-- the head: the size of the chart, its ground, and its style
 abbrev pub head_text : Layout → ℕ → List ℕ
-head_text layout bottom =
-    codes "<svg xmlns='http://www.w3.org/2000/svg' width='" ++ (decimal (width layout) ++ (codes "' height='" ++ (decimal (bottom + 40) ++ (codes "'>\n"
-    ++ (style ++ paper_text (record { width = width layout; height = bottom + 40 }))))))
+head_text layout bottom = sheet_text (record { width = width layout; height = bottom + 40 }) ++ style
 
 -- the whole chart
 abbrev pub svg_of : Layout → ℕ → List Row → List ℕ

@@ -1,8 +1,8 @@
-//! The marks of a chart as SVG, each on lines of its own. Numbers are pixels from the left and from the top.
+//! The parts of a chart as SVG, each on lines of its own. Numbers are pixels from the left and from the top.
 
 ghost use Rattle.std.specs.Prelude.{◌≡◌, ◌++◌, OnOk, Some};
 ghost use Rattle.chi_reply.specs.Replies.{serving_text};
-ghost use Rattle.chi_chart.specs.Drawn.{arrow_text, arrow_title_text, bar_text, bar_title_text, caption_text, end_text, escaped, escaped_byte, lifeline_text, name_text, paper_text, slice_text, slice_title_text, title_text, turned_text};
+ghost use Rattle.chi_chart.specs.Drawn.{arrow_text, bar_text, caption_text, end_text, escaped, escaped_byte, lifeline_text, name_text, sheet_text, slice_text, turned_text};
 
 use crate::commands::Spelled;
 use chi_flit::{Agent, Channel, Msg, NoMemory, State};
@@ -10,41 +10,29 @@ use chi_homeline::Serving;
 use std::alloc::Allocator;
 use std::fmt;
 
-/// The paper, of the whole size.
+/// The sheet: how large the chart is, and its paper.
 #[derive(Drop)]
-pub(crate) struct Paper {
+pub(crate) struct Sheet {
     pub(crate) width: u64,
     pub(crate) height: u64,
 }
 
-/// A slice of the home.
+/// A slice of the home, and its number.
 #[derive(Drop)]
 pub(crate) struct SliceBox {
+    pub(crate) slice: u8,
     pub(crate) x: u64,
     pub(crate) right: u64,
     pub(crate) bottom: u64,
 }
 
-/// The number of a slice.
-#[derive(Drop)]
-pub(crate) struct SliceTitle {
-    pub(crate) slice: u8,
-    pub(crate) x: u64,
-}
-
-/// An agent's lifeline.
+/// The lifeline of an agent, or of the home where there is none, with its name above and below.
 #[derive(Drop)]
 pub(crate) struct Lifeline {
-    pub(crate) x: u64,
-    pub(crate) bottom: u64,
-}
-
-/// The name of an agent, or of the home where there is none.
-#[derive(Drop)]
-pub(crate) struct Title {
     pub(crate) agent: Option<Agent>,
     pub(crate) x: u64,
-    pub(crate) y: u64,
+    pub(crate) bottom: u64,
+    pub(crate) name_y: u64,
 }
 
 /// A rule above a row, and its command.
@@ -64,25 +52,19 @@ pub(crate) struct StateMark {
     pub(crate) state: State,
 }
 
-/// What the home does at a line, from here to there.
+/// What the home does at a line, from here to there, and the words for it.
 #[derive(Drop)]
 pub(crate) struct Bar {
     pub(crate) serving: Serving,
     pub(crate) x: u64,
     pub(crate) y: u64,
     pub(crate) end: u64,
+    pub(crate) words_x: u64,
+    pub(crate) words_y: u64,
 }
 
-/// The words for it.
-#[derive(Drop)]
-pub(crate) struct BarTitle {
-    pub(crate) serving: Serving,
-    pub(crate) x: u64,
-    pub(crate) y: u64,
-}
-
-/// A flit: it leaves one lifeline, goes down its lane, and comes to the other where it is taken; or it is
-/// still in flight at the bottom.
+/// A flit and its text: it leaves one lifeline, goes down its lane, and comes to the other where it is taken;
+/// or it is still in flight at the bottom.
 #[derive(Drop)]
 pub(crate) struct Arrow {
     pub(crate) channel: Channel,
@@ -92,14 +74,8 @@ pub(crate) struct Arrow {
     pub(crate) end: Option<u64>,
     pub(crate) to: u64,
     pub(crate) bottom: u64,
-}
-
-/// The text of a flit.
-#[derive(Drop)]
-pub(crate) struct ArrowTitle {
-    pub(crate) channel: Channel,
-    pub(crate) x: u64,
-    pub(crate) y: u64,
+    pub(crate) words_x: u64,
+    pub(crate) words_y: u64,
     pub(crate) message: Msg,
 }
 
@@ -119,14 +95,14 @@ struct ArrowEnd {
     bottom: u64,
 }
 
-impl fmt::Display for Paper {
-    ghost output = { λ paper. Some (paper_text paper) };
+impl fmt::Display for Sheet {
+    ghost output = { λ sheet. Some (sheet_text sheet) };
 
     fn fmt<W: fmt::Write>(&self, f: &mut fmt::Formatter<W>) -> fmt::Result {
         let (width, height) = (self.width, self.height);
         write!(
             f,
-            "<rect class='paper' width='{width}' height='{height}'/>\n"
+            "<svg xmlns='http://www.w3.org/2000/svg' width='{width}' height='{height}' viewBox='0 0 {width} {height}'>\n<rect class='paper' width='{width}' height='{height}'/>\n"
         )
     }
 }
@@ -136,19 +112,11 @@ impl fmt::Display for SliceBox {
 
     fn fmt<W: fmt::Write>(&self, f: &mut fmt::Formatter<W>) -> fmt::Result {
         let (x, right, bottom) = (self.x, self.right, self.bottom);
+        let slice = self.slice;
         write!(
             f,
-            "<path class='slice' d='M{x} 64H{right}V{bottom}H{x}z'/>\n"
+            "<path class='slice' d='M{x} 64H{right}V{bottom}H{x}z'/>\n<text class='small' x='{x}' y='60'>{slice}</text>\n"
         )
-    }
-}
-
-impl fmt::Display for SliceTitle {
-    ghost output = { λ title. Some (slice_title_text title) };
-
-    fn fmt<W: fmt::Write>(&self, f: &mut fmt::Formatter<W>) -> fmt::Result {
-        let (slice, x) = (self.slice, self.x);
-        write!(f, "<text class='small' x='{x}' y='60'>{slice}</text>\n")
     }
 }
 
@@ -156,18 +124,12 @@ impl fmt::Display for Lifeline {
     ghost output = { λ life. Some (lifeline_text life) };
 
     fn fmt<W: fmt::Write>(&self, f: &mut fmt::Formatter<W>) -> fmt::Result {
-        let (x, bottom) = (self.x, self.bottom);
-        write!(f, "<path class='life' d='M{x} 64V{bottom}'/>\n")
-    }
-}
-
-impl fmt::Display for Title {
-    ghost output = { λ title. Some (title_text title) };
-
-    fn fmt<W: fmt::Write>(&self, f: &mut fmt::Formatter<W>) -> fmt::Result {
-        let (x, y) = (self.x, self.y);
+        let (x, bottom, y) = (self.x, self.bottom, self.name_y);
         let name = Name(self.agent);
-        write!(f, "<text class='title' x='{x}' y='{y}'>{name}</text>\n")
+        write!(
+            f,
+            "<path class='life' d='M{x} 64V{bottom}'/>\n<text class='title' x='{x}' y='40'>{name}</text>\n<text class='title' x='{x}' y='{y}'>{name}</text>\n"
+        )
     }
 }
 
@@ -212,20 +174,11 @@ impl fmt::Display for Bar {
 
     fn fmt<W: fmt::Write>(&self, f: &mut fmt::Formatter<W>) -> fmt::Result {
         let (x, y, end) = (self.x, self.y, self.end);
-        let serving = Served(self.serving);
-        write!(f, "<path class='bar {serving}' d='M{x} {y}V{end}'/>\n")
-    }
-}
-
-impl fmt::Display for BarTitle {
-    ghost output = { λ title. Some (bar_title_text title) };
-
-    fn fmt<W: fmt::Write>(&self, f: &mut fmt::Formatter<W>) -> fmt::Result {
-        let (x, y) = (self.x, self.y);
+        let (words_x, words_y) = (self.words_x, self.words_y);
         let serving = Served(self.serving);
         write!(
             f,
-            "<text class='serving' x='{x}' y='{y}'>{serving}</text>\n"
+            "<path class='bar {serving}' d='M{x} {y}V{end}'/>\n<text class='serving' x='{words_x}' y='{words_y}'>{serving}</text>\n"
         )
     }
 }
@@ -248,7 +201,8 @@ impl fmt::Display for Arrow {
 
     fn fmt<W: fmt::Write>(&self, f: &mut fmt::Formatter<W>) -> fmt::Result {
         let (from, y, lane) = (self.from, self.y, self.lane);
-        let channel = self.channel;
+        let (words_x, words_y) = (self.words_x, self.words_y);
+        let (channel, message) = (self.channel, self.message);
         let end = ArrowEnd {
             end: self.end,
             to: self.to,
@@ -256,20 +210,7 @@ impl fmt::Display for Arrow {
         };
         write!(
             f,
-            "<path class='flit {channel}' d='M{from} {y}H{lane}V{end}/>\n"
-        )
-    }
-}
-
-impl fmt::Display for ArrowTitle {
-    ghost output = { λ title. Some (arrow_title_text title) };
-
-    fn fmt<W: fmt::Write>(&self, f: &mut fmt::Formatter<W>) -> fmt::Result {
-        let (x, y) = (self.x, self.y);
-        let (channel, message) = (self.channel, self.message);
-        write!(
-            f,
-            "<text class='flit {channel}' x='{x}' y='{y}'>{message}</text>\n"
+            "<path class='flit {channel}' d='M{from} {y}H{lane}V{end}/>\n<text class='flit {channel}' x='{words_x}' y='{words_y}'>{message}</text>\n"
         )
     }
 }

@@ -2,14 +2,11 @@
 
 ghost use Rattle.std.specs.Prelude.{◌≡◌, ◌++◌, ◌<◌, IfOk, OnOk, length, map};
 ghost use Rattle.std.specs.List.{flat_map, list_any, range_with_len};
-ghost use Rattle.chi_chart.specs.Picture.{frame_text, head_text, is_down, is_served, is_taken, lifeline_at, mark_text, marks_text, middle, or_bottom, row_text, rows_text, sent_text, served_until, serves_text, slice_at, svg_of, taken_at, titles_text};
+ghost use Rattle.chi_chart.specs.Picture.{frame_text, head_text, is_down, is_served, is_taken, lifeline_at, lifeline_of, mark_text, marks_text, middle, or_bottom, row_text, rows_text, sent_text, served_until, serves_text, slice_at, svg_of, taken_at};
 ghost use Rattle.chi_chart.specs.Played.{row_seen};
 
 use crate::commands::Spelled;
-use crate::drawn::{
-    Arrow, ArrowTitle, Bar, BarTitle, Caption, Lifeline, Paper, SliceBox, SliceTitle, StateMark,
-    Title,
-};
+use crate::drawn::{Arrow, Bar, Caption, Lifeline, Sheet, SliceBox, StateMark};
 use crate::frame::Layout;
 use crate::layout::{agent_x, state_x, words_x};
 use crate::marks::{Cell, Mark};
@@ -141,15 +138,11 @@ impl<A: Allocator> Picture<A> {
             end: middle(taken_at(cell, later)),
             to,
             bottom: u64::from(self.bottom),
-        };
-        write!(self.text, "{arrow}").map_err(|_| NoMemory)?;
-        let title = ArrowTitle {
-            channel: cell.channel,
-            x: words_x(cell.agent),
-            y: u64::from(y) + 29,
+            words_x: words_x(cell.agent),
+            words_y: u64::from(y) + 27,
             message,
         };
-        write!(self.text, "{title}").map_err(|_| NoMemory)
+        write!(self.text, "{arrow}").map_err(|_| NoMemory)
     }
 
     /// What the home does at a line, with the rows below this one.
@@ -173,14 +166,10 @@ impl<A: Allocator> Picture<A> {
             x: self.layout.strip_x(line) + 5,
             y: u64::from(y) + 10,
             end: end.unwrap_or(u64::from(self.bottom)),
+            words_x: self.layout.serving_x(),
+            words_y: u64::from(y) + 14,
         };
-        write!(self.text, "{bar}").map_err(|_| NoMemory)?;
-        let title = BarTitle {
-            serving,
-            x: self.layout.serving_x(),
-            y: u64::from(y) + 14,
-        };
-        write!(self.text, "{title}").map_err(|_| NoMemory)
+        write!(self.text, "{bar}").map_err(|_| NoMemory)
     }
 
     /// A mark of a row that begins at top; y is the band of a flit that is sent.
@@ -261,15 +250,13 @@ impl<A: Allocator> Picture<A> {
         ensures layout { self.new.layout ≡ self.old.layout }
         ensures bottom { self.new.bottom ≡ self.old.bottom }
     {
-        let x = self.layout.slice_x(slice);
         let area = SliceBox {
-            x,
+            slice,
+            x: self.layout.slice_x(slice),
             right: self.layout.slice_x(slice + 1),
             bottom: u64::from(self.bottom),
         };
-        write!(self.text, "{area}").map_err(|_| NoMemory)?;
-        let title = SliceTitle { slice, x };
-        write!(self.text, "{title}").map_err(|_| NoMemory)
+        write!(self.text, "{area}").map_err(|_| NoMemory)
     }
 
     /// The slices of the home.
@@ -284,35 +271,19 @@ impl<A: Allocator> Picture<A> {
         Ok(())
     }
 
-    /// The lifeline of an agent.
-    fn add_lifeline(&mut self, agent: u8) -> Result<(), NoMemory>
-        ensures text { OnOk result (self.new.text.items ≡ self.old.text.items ++ lifeline_at self.old.bottom agent) }
+    /// The lifeline of an agent, or of the home.
+    fn add_lifeline(&mut self, agent: Option<Agent>, x: u64) -> Result<(), NoMemory>
+        ensures text { OnOk result (self.new.text.items ≡ self.old.text.items ++ lifeline_of self.old.bottom agent x) }
         ensures layout { self.new.layout ≡ self.old.layout }
         ensures bottom { self.new.bottom ≡ self.old.bottom }
     {
-        let x = agent_x(Agent(agent));
         let life = Lifeline {
-            x,
-            bottom: u64::from(self.bottom),
-        };
-        write!(self.text, "{life}").map_err(|_| NoMemory)?;
-        self.add_titles(Some(Agent(agent)), x)
-    }
-
-    /// A name above and below.
-    fn add_titles(&mut self, agent: Option<Agent>, x: u64) -> Result<(), NoMemory>
-        ensures text { OnOk result (self.new.text.items ≡ self.old.text.items ++ titles_text self.old.bottom agent x) }
-        ensures layout { self.new.layout ≡ self.old.layout }
-        ensures bottom { self.new.bottom ≡ self.old.bottom }
-    {
-        let above = Title { agent, x, y: 40 };
-        write!(self.text, "{above}").map_err(|_| NoMemory)?;
-        let below = Title {
             agent,
             x,
-            y: u64::from(self.bottom) + 24,
+            bottom: u64::from(self.bottom),
+            name_y: u64::from(self.bottom) + 24,
         };
-        write!(self.text, "{below}").map_err(|_| NoMemory)
+        write!(self.text, "{life}").map_err(|_| NoMemory)
     }
 
     /// The lifelines of the agents.
@@ -322,38 +293,35 @@ impl<A: Allocator> Picture<A> {
         ensures bottom { self.new.bottom ≡ self.old.bottom }
     {
         for agent in 0..self.layout.agents {
-            self.add_lifeline(agent)?;
+            self.add_lifeline(Some(Agent(agent)), agent_x(Agent(agent)))?;
         }
         Ok(())
     }
 
-    /// The head of the text: its size, its style, and its ground.
+    /// The head of the text: its size, its ground, and its style.
     fn add_head(&mut self) -> Result<(), NoMemory>
         ensures text { OnOk result (self.new.text.items ≡ self.old.text.items ++ head_text self.old.layout self.old.bottom) }
         ensures layout { self.new.layout ≡ self.old.layout }
         ensures bottom { self.new.bottom ≡ self.old.bottom }
     {
-        let width = self.layout.width();
-        let height = u64::from(self.bottom) + 40;
-        write!(
-            self.text,
-            "<svg xmlns='http://www.w3.org/2000/svg' width='{width}' height='{height}'>\n"
-        )
-        .map_err(|_| NoMemory)?;
+        let sheet = Sheet {
+            width: self.layout.width(),
+            height: u64::from(self.bottom) + 40,
+        };
+        write!(self.text, "{sheet}").map_err(|_| NoMemory)?;
         self.text.extend_from_slice(STYLE.as_bytes())?;
-        let paper = Paper { width, height };
-        write!(self.text, "{paper}").map_err(|_| NoMemory)
+        Ok(())
     }
 
-    /// The frame: the home's slices, and the lifelines of the agents.
+    /// The frame: the home's slices, its lifeline, and those of the agents.
     fn add_frame(&mut self) -> Result<(), NoMemory>
         ensures text { OnOk result (self.new.text.items ≡ self.old.text.items ++ frame_text self.old.layout self.old.bottom) }
         ensures layout { self.new.layout ≡ self.old.layout }
         ensures bottom { self.new.bottom ≡ self.old.bottom }
     {
         let home = self.layout.home_x();
-        self.add_titles(None, home)?;
         self.add_slices()?;
+        self.add_lifeline(None, home)?;
         self.add_lifelines()
     }
 }

@@ -6,10 +6,10 @@ ghost use Rattle.chi_chart.specs.Rows.{below, below_mark, below_marks, is_line, 
 ghost use Rattle.chi_chart.specs.Played.{IsPlayed, IsRun, row_seen};
 
 use crate::marks::{Mark, marks_between};
+use chi_config::Config;
 use chi_flit::{Line, NoMemory};
 use chi_line::LineView;
 use chi_script::Command;
-use chi_config::Config;
 use chi_system::System;
 use chi_text::answer;
 use std::alloc::Allocator;
