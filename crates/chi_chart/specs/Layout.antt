@@ -12,9 +12,12 @@ agent_x agent = 304 + 318 * agent
 abbrev pub words_x : ℕ → ℕ
 words_x agent = agent_x agent + 84
 
--- where the flit of a cell goes down, right of its agent's lifeline
+-- where the flit of a cell goes down, right of its agent's lifeline: lines stand side by side in a lane of 12 pixels
+abbrev pub line_shift : Layout → ℕ → ℕ
+line_shift layout line = 12 * line / layout.lines
+
 abbrev pub lane_x : Layout → Cell → ℕ
-lane_x layout cell = agent_x cell.agent.0 + 10 + 12 * channel_place cell.channel + 12 * cell.line.0 / layout.lines
+lane_x layout cell = agent_x cell.agent.0 + 10 + 12 * channel_place cell.channel + line_shift layout cell.line.0
 
 -- the home, which has a strip for each line, those of a slice side by side
 abbrev pub home_x : Layout → ℕ

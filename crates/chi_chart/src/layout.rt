@@ -1,7 +1,7 @@
 //! Where the parts of a chart stand.
 
 ghost use Rattle.std.specs.Prelude.{◌≡◌, ◌≤◌};
-ghost use Rattle.chi_chart.specs.Layout.{agent_x, home_words_x, home_x, lane_x, lines_each, right_x, serving_x, slice_x, state_x, strip_x, width, words_x};
+ghost use Rattle.chi_chart.specs.Layout.{agent_x, home_words_x, home_x, lane_x, line_shift, lines_each, right_x, serving_x, slice_x, state_x, strip_x, width, words_x};
 
 use crate::frame::Layout;
 use crate::marks::{Cell, channel_place};
@@ -9,7 +9,8 @@ use chi_flit::{Agent, Line};
 
 /// The lifeline of an agent.
 pub(crate) fn agent_x(agent: Agent) -> u64
-    ensures { result ≡ agent_x agent.0 }
+    ensures is { result ≡ agent_x agent.0 }
+    ensures low { result ≤ 100000 }
 {
     304 + 318 * u64::from(agent.0)
 }
@@ -34,8 +35,15 @@ impl Layout {
         ensures { result ≡ lane_x self.now cell.now }
     {
         let place = u64::from(channel_place(cell.channel));
-        let line = u64::from(cell.line.0);
-        agent_x(cell.agent) + 10 + 12 * place + 12 * line / u64::from(self.lines)
+        agent_x(cell.agent) + 10 + 12 * place + self.line_shift(cell.line)
+    }
+
+    /// How far right in its lane the flit of a line goes.
+    fn line_shift(&self, line: Line) -> u64
+        ensures is { result ≡ line_shift self.now line.0 }
+        ensures low { result ≤ 3060 }
+    {
+        12 * u64::from(line.0) / u64::from(self.lines)
     }
 
     /// The home.

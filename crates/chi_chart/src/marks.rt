@@ -1,6 +1,7 @@
 //! What a command changes at its line.
 
 ghost use Rattle.std.specs.Prelude.{◌≡◌, ◌++◌, ◌<◌, OnOk, IfOk};
+ghost use Rattle.std.specs.List.{flat_map};
 ghost use Rattle.chi_chart.specs.Marks.{agent_marks, cell_marks, channel_marks, channel_place, flit_marks, is_same_cell, marks_between, serving_marks, serving_place, state_marks, state_place, view_marks};
 
 use chi_flit::{Agent, Channel, Line, Msg, NoMemory, State};
@@ -114,6 +115,7 @@ pub(crate) fn marks_between<A: Allocator>(
 }
 
 /// Puts what changed of a line behind the marks.
+#[tactic(auto, using(crate::proofs::Ranges::flat_more))]
 fn add_marks<A: Allocator>(
     marks: &mut Vec<Mark, A>,
     line: Line,
@@ -196,8 +198,22 @@ fn add_flits<A: Allocator>(
 ) -> Result<(), NoMemory>
     ensures { OnOk result (marks.new.items ≡ marks.old.items ++ flit_marks line agent before.now after.now) }
 {
-    for channel in CHANNELS {
-        add_channel(marks, line, agent, channel, before, after)?;
+    add_channels(marks, line, agent, before, after, &CHANNELS)
+}
+
+/// Those on some of the channels, one after the other.
+fn add_channels<A: Allocator>(
+    marks: &mut Vec<Mark, A>,
+    line: Line,
+    agent: Agent,
+    before: &Cells,
+    after: &Cells,
+    channels: &[Channel],
+) -> Result<(), NoMemory>
+    ensures { OnOk result (marks.new.items ≡ marks.old.items ++ flat_map (channel_marks line agent before.now after.now) channels.now) }
+{
+    for channel in channels {
+        add_channel(marks, line, agent, *channel, before, after)?;
     }
     Ok(())
 }
