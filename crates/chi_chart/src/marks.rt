@@ -115,7 +115,6 @@ pub(crate) fn marks_between<A: Allocator>(
 }
 
 /// Puts what changed of a line behind the marks.
-#[tactic(auto, using(crate::proofs::Ranges::flat_more))]
 fn add_marks<A: Allocator>(
     marks: &mut Vec<Mark, A>,
     line: Line,

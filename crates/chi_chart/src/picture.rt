@@ -260,7 +260,6 @@ impl<A: Allocator> Picture<A> {
     }
 
     /// The slices of the home.
-    #[tactic(auto, using(crate::proofs::Ranges::flat_more))]
     fn add_slices(&mut self) -> Result<(), NoMemory>
         ensures text { OnOk result (self.new.text.items ≡ self.old.text.items ++ flat_map (slice_at self.old.layout self.old.bottom) (range_with_len 0 self.old.layout.slices)) }
         ensures layout { self.new.layout ≡ self.old.layout }
@@ -288,7 +287,6 @@ impl<A: Allocator> Picture<A> {
     }
 
     /// The lifelines of the agents.
-    #[tactic(auto, using(crate::proofs::Ranges::flat_more))]
     fn add_lifelines(&mut self) -> Result<(), NoMemory>
         ensures text { OnOk result (self.new.text.items ≡ self.old.text.items ++ flat_map (lifeline_at self.old.bottom) (range_with_len 0 self.old.layout.agents)) }
         ensures layout { self.new.layout ≡ self.old.layout }
