@@ -18,14 +18,14 @@ use Rattle.chi_chart.specs.declared.drawn.Arrow.{Arrow}
 use Rattle.chi_chart.specs.Commands.{command_text}
 
 -- the sheet: how large the chart is, and its paper
-abbrev pub sheet_text : Sheet → List ℕ
+unfoldable pub sheet_text : Sheet → List ℕ
 sheet_text sheet =
     codes "<svg xmlns='http://www.w3.org/2000/svg' width='" ++ (decimal sheet.width ++ (codes "' height='" ++ (decimal sheet.height
     ++ (codes "' viewBox='0 0 " ++ (decimal sheet.width ++ (codes " " ++ (decimal sheet.height
     ++ (codes "'>\n<rect class='paper' width='" ++ (decimal sheet.width ++ (codes "' height='" ++ (decimal sheet.height ++ codes "'/>\n")))))))))))
 
 -- a slice of the home, and its number
-abbrev pub slice_text : SliceBox → List ℕ
+unfoldable pub slice_text : SliceBox → List ℕ
 slice_text slice =
     codes "<path class='slice' d='M" ++ (decimal slice.x ++ (codes " 64H" ++ (decimal slice.right ++ (codes "V" ++ (decimal slice.bottom ++ (codes "H" ++ (decimal slice.x
     ++ (codes "z'/>\n<text class='small' x='" ++ (decimal slice.x ++ (codes "' y='60'>" ++ (decimal slice.slice ++ codes "</text>\n")))))))))))
@@ -36,24 +36,24 @@ name_text None = codes "home"
 name_text (Some agent) = codes "agent " ++ decimal agent.0
 
 -- a lifeline, with its name above and below
-abbrev pub lifeline_text : Lifeline → List ℕ
+unfoldable pub lifeline_text : Lifeline → List ℕ
 lifeline_text life =
     codes "<path class='life' d='M" ++ (decimal life.x ++ (codes " 64V" ++ (decimal life.bottom
     ++ (codes "'/>\n<text class='title' x='" ++ (decimal life.x ++ (codes "' y='40'>" ++ (name_text life.agent
     ++ (codes "</text>\n<text class='title' x='" ++ (decimal life.x ++ (codes "' y='" ++ (decimal life.name_y ++ (codes "'>" ++ (name_text life.agent ++ codes "</text>\n")))))))))))))
 
 -- a rule above a row, and its command
-abbrev pub caption_text : Caption → List ℕ
+unfoldable pub caption_text : Caption → List ℕ
 caption_text caption =
     codes "<path class='rule' d='M0 " ++ (decimal caption.rule ++ (codes "H" ++ (decimal caption.right
     ++ (codes "'/>\n<text class='command' x='10' y='" ++ (decimal caption.y ++ (codes "'>" ++ (command_text caption.command.0 ++ codes "</text>\n")))))))
 
 -- the state that a copy turns to, left of its agent's lifeline
-abbrev pub turned_text : StateMark → List ℕ
+unfoldable pub turned_text : StateMark → List ℕ
 turned_text mark = codes "<text class='state " ++ (state_text mark.state ++ (codes "' x='" ++ (decimal mark.x ++ (codes "' y='" ++ (decimal mark.y ++ (codes "'>" ++ (state_text mark.state ++ codes "</text>\n")))))))
 
 -- what the home does at a line, from here to there, and the words for it
-abbrev pub bar_text : Bar → List ℕ
+unfoldable pub bar_text : Bar → List ℕ
 bar_text bar =
     codes "<path class='bar " ++ (serving_text bar.serving ++ (codes "' d='M" ++ (decimal bar.x ++ (codes " " ++ (decimal bar.y ++ (codes "V" ++ (decimal bar.end
     ++ (codes "'/>\n<text class='serving' x='" ++ (decimal bar.words_x ++ (codes "' y='" ++ (decimal bar.words_y ++ (codes "'>" ++ (serving_text bar.serving ++ codes "</text>\n")))))))))))))
@@ -64,7 +64,7 @@ end_text (Some end) to bottom = decimal end ++ (codes "H" ++ (decimal to ++ code
 end_text None to bottom = decimal bottom ++ codes "' marker-end='url(#open)'"
 
 -- a flit, from where it is sent down its lane to where it is taken, and its text
-abbrev pub arrow_text : Arrow → List ℕ
+unfoldable pub arrow_text : Arrow → List ℕ
 arrow_text arrow =
     codes "<path class='flit " ++ (channel_text arrow.channel ++ (codes "' d='M" ++ (decimal arrow.from ++ (codes " " ++ (decimal arrow.y
     ++ (codes "H" ++ (decimal arrow.lane ++ (codes "V" ++ (end_text arrow.end arrow.to arrow.bottom

@@ -76,16 +76,20 @@ ok_words other = codes "ok "
 abbrev pub behind : List ℕ → List ℕ → Option (List ℕ)
 behind front answer = if begins_with answer front then Some (drop (length front) answer) else None
 
-abbrev pub words_text : List ℕ → ℕ → ℕ → List ℕ → List ℕ → List ℕ
-words_text class x y front words =
-    codes "<text class='" ++ (class ++ (codes "' x='" ++ (decimal x ++ (codes "' y='" ++ (decimal y ++ (codes "'>" ++ (front ++ (escaped words ++ codes "</text>\n"))))))))
+-- what stands before words: their class and place, and their front
+unfoldable pub words_tag : List ℕ → ℕ → ℕ → List ℕ → List ℕ
+words_tag class x y front =
+    codes "<text class='" ++ (class ++ (codes "' x='" ++ (decimal x ++ (codes "' y='" ++ (decimal y ++ (codes "'>" ++ front))))))
+
+unfoldable pub words_text : List ℕ → ℕ → ℕ → List ℕ → List ℕ → List ℕ
+words_text class x y front words = words_tag class x y front ++ (escaped words ++ codes "</text>\n")
 
 abbrev pub done_if : ℕ → List ℕ → Option ℕ → Option (List ℕ) → List ℕ
 done_if y front (Some x) (Some words) = words_text (codes "answer") x y front words
 done_if y front _ _ = []
 
 -- a refusal whole, and another answer without its `ok`, where something stands behind it
-abbrev pub note_text : Layout → ℕ → Command → List ℕ → List ℕ
+unfoldable pub note_text : Layout → ℕ → Command → List ℕ → List ℕ
 note_text layout y command answer =
     if begins_with answer (codes "refused") then words_text (codes "refused") (refused_x layout command) y [] answer
     else done_if y (front_text command) (done_x layout command) (behind (ok_words command) answer)

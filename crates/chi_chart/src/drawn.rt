@@ -98,6 +98,7 @@ struct ArrowEnd {
 impl fmt::Display for Sheet {
     ghost output = { λ sheet. Some (sheet_text sheet) };
 
+    #[tactic(auto, unfolding(crate::specs::Drawn::sheet_text))]
     fn fmt<W: fmt::Write>(&self, f: &mut fmt::Formatter<W>) -> fmt::Result {
         let (width, height) = (self.width, self.height);
         write!(
@@ -110,6 +111,7 @@ impl fmt::Display for Sheet {
 impl fmt::Display for SliceBox {
     ghost output = { λ slice. Some (slice_text slice) };
 
+    #[tactic(auto, unfolding(crate::specs::Drawn::slice_text))]
     fn fmt<W: fmt::Write>(&self, f: &mut fmt::Formatter<W>) -> fmt::Result {
         let (x, right, bottom) = (self.x, self.right, self.bottom);
         let slice = self.slice;
@@ -123,6 +125,7 @@ impl fmt::Display for SliceBox {
 impl fmt::Display for Lifeline {
     ghost output = { λ life. Some (lifeline_text life) };
 
+    #[tactic(auto, unfolding(crate::specs::Drawn::lifeline_text))]
     fn fmt<W: fmt::Write>(&self, f: &mut fmt::Formatter<W>) -> fmt::Result {
         let (x, bottom, y) = (self.x, self.bottom, self.name_y);
         let name = Name(self.agent);
@@ -147,6 +150,7 @@ impl fmt::Display for Name {
 impl fmt::Display for Caption {
     ghost output = { λ caption. Some (caption_text caption) };
 
+    #[tactic(auto, unfolding(crate::specs::Drawn::caption_text))]
     fn fmt<W: fmt::Write>(&self, f: &mut fmt::Formatter<W>) -> fmt::Result {
         let (rule, right, y) = (self.rule, self.right, self.y);
         let command = &self.command;
@@ -160,6 +164,7 @@ impl fmt::Display for Caption {
 impl fmt::Display for StateMark {
     ghost output = { λ mark. Some (turned_text mark) };
 
+    #[tactic(auto, unfolding(crate::specs::Drawn::turned_text))]
     fn fmt<W: fmt::Write>(&self, f: &mut fmt::Formatter<W>) -> fmt::Result {
         let (x, y, state) = (self.x, self.y, self.state);
         write!(
@@ -172,6 +177,7 @@ impl fmt::Display for StateMark {
 impl fmt::Display for Bar {
     ghost output = { λ bar. Some (bar_text bar) };
 
+    #[tactic(auto, unfolding(crate::specs::Drawn::bar_text))]
     fn fmt<W: fmt::Write>(&self, f: &mut fmt::Formatter<W>) -> fmt::Result {
         let (x, y, end) = (self.x, self.y, self.end);
         let (words_x, words_y) = (self.words_x, self.words_y);
@@ -199,6 +205,7 @@ impl fmt::Display for Served {
 impl fmt::Display for Arrow {
     ghost output = { λ arrow. Some (arrow_text arrow) };
 
+    #[tactic(auto, unfolding(crate::specs::Drawn::arrow_text))]
     fn fmt<W: fmt::Write>(&self, f: &mut fmt::Formatter<W>) -> fmt::Result {
         let (from, y, lane) = (self.from, self.y, self.lane);
         let (words_x, words_y) = (self.words_x, self.words_y);

@@ -2,7 +2,7 @@
 
 ghost use Rattle.std.specs.Prelude.{◌≡◌, ◌++◌, OnOk, Some, codes, string_bytes};
 ghost use Rattle.std.specs.Option.{option_map};
-ghost use Rattle.chi_chart.specs.Notes.{agent_of, behind, beside, done_if, done_x, front_text, note_text, ok_words, refused_x, step_front, step_ok, step_x, words_text};
+ghost use Rattle.chi_chart.specs.Notes.{agent_of, behind, beside, done_if, done_x, front_text, note_text, ok_words, refused_x, step_front, step_ok, step_x, words_tag, words_text};
 
 use crate::drawn::add_escaped;
 use crate::frame::Layout;
@@ -128,7 +128,22 @@ fn done_x(layout: &Layout, command: Command) -> Option<u64>
     }
 }
 
+/// Puts behind the text what stands before words of this class.
+#[tactic(auto, unfolding(crate::specs::Notes::words_tag))]
+fn add_words_tag<A: Allocator>(
+    text: &mut Vec<u8, A>,
+    class: &str,
+    x: u64,
+    y: u64,
+    front: &Front,
+) -> Result<(), NoMemory>
+    ensures { OnOk result (text.new.items ≡ text.old.items ++ words_tag class.now x y (front_text front.now.0)) }
+{
+    write!(text, "<text class='{class}' x='{x}' y='{y}'>{front}").map_err(|_| NoMemory)
+}
+
 /// Puts words of this class behind the text.
+#[tactic(auto, unfolding(crate::specs::Notes::words_text))]
 fn add_words<A: Allocator>(
     text: &mut Vec<u8, A>,
     class: &str,
@@ -139,13 +154,14 @@ fn add_words<A: Allocator>(
 ) -> Result<(), NoMemory>
     ensures { OnOk result (text.new.items ≡ text.old.items ++ words_text class.now x y (front_text front.now.0) words.now) }
 {
-    write!(text, "<text class='{class}' x='{x}' y='{y}'>{front}").map_err(|_| NoMemory)?;
+    add_words_tag(text, class, x, y, front)?;
     add_escaped(text, words)?;
     text.extend_from_slice(b"</text>\n")?;
     Ok(())
 }
 
 /// Puts what is told of a command's answer behind the text, so many pixels below the top.
+#[tactic(auto, unfolding(crate::specs::Notes::note_text))]
 pub(crate) fn add_note<A: Allocator>(
     text: &mut Vec<u8, A>,
     layout: &Layout,

@@ -12,7 +12,7 @@ use crate::layout::{agent_x, state_x, words_x};
 use crate::marks::{Cell, Mark};
 use crate::notes::add_note;
 use crate::rows::{Row, below_mark};
-use crate::style::STYLE;
+use crate::style::style;
 use chi_flit::{Agent, Channel, Line, Msg, NoMemory};
 use chi_homeline::Serving;
 use std::alloc::Allocator;
@@ -309,7 +309,7 @@ impl<A: Allocator> Picture<A> {
             height: u64::from(self.bottom) + 40,
         };
         write!(self.text, "{sheet}").map_err(|_| NoMemory)?;
-        self.text.extend_from_slice(STYLE.as_bytes())?;
+        self.text.extend_from_slice(style())?;
         Ok(())
     }
 
