@@ -3,7 +3,7 @@ use Rattle.std.specs.Prelude.{◌≡◌, ℕ, List, Option, Ok}
 use Rattle.std.specs.Io.KnownBytes.{Appends}
 use Rattle.chi_devices.specs.Devices.{AppendsFront}
 use Rattle.chi_flit.specs.declared.numbers.Line.{Line}
-use Rattle.chi_replay.specs.Replays.{node_sizes}
+use Rattle.chi_script.specs.Headers.{node_sizes}
 use Rattle.chi_script.specs.declared.headers.Header.{Header}
 use Rattle.chi_text.specs.Texts.{Allowed, opening_ports}
 use Rattle.chi_text.specs.Turns.{Answer, opening}

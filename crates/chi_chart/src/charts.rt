@@ -1,13 +1,14 @@
 //! From the bytes of a file to the chart that is written.
 
-ghost use Rattle.std.specs.Prelude.{◌≡◌, ◌≢◌, ◌+◌, ◌^◌, ◌<◌, IfOk, IfErr, IfSome, OnOk, IsErrOf, map};
+ghost use Rattle.std.specs.Prelude.{◌≡◌, ◌≢◌, ◌+◌, ◌^◌, ◌<◌, IfOk, IfErr, IfSome, OnOk, IsErrOf, map, true};
 ghost use Rattle.std.specs.Io.KnownBytes.{Keeps};
 ghost use Rattle.chi_script.specs.Faults.{Fails};
 ghost use Rattle.chi_script.specs.declared.faults.Fault.{Fault};
+ghost use Rattle.chi_script.specs.Headers.{is_in_limits};
 ghost use Rattle.chi_replay.specs.Replays.{NoText, Refuses};
 ghost use Rattle.chi_check_script.specs.Checks.{seen};
 ghost use Rattle.chi_check_script.specs.Files.{check_file_of};
-ghost use Rattle.chi_chart.specs.Charts.{IsChart, IsChartOf, WritesBeginning, WritesChart};
+ghost use Rattle.chi_chart.specs.Charts.{IsChart, IsChartOf, IsLayout, WritesBeginning, WritesChart};
 ghost use Rattle.chi_chart.specs.Steps.{commands_in};
 
 use crate::frame::Layout;
@@ -17,7 +18,7 @@ use chi_check_script::{Check, CheckScript, read_checks};
 use chi_devices::{Failed, Input, Output, read_all};
 use chi_flit::{Line, NoMemory};
 use chi_replay::config_of;
-use chi_script::{Command, Fault};
+use chi_script::{Command, Fault, Header};
 use std::alloc::{AllocError, Allocator};
 
 /// The commands of the checks, in order.
@@ -25,6 +26,18 @@ fn commands_of<A: Allocator>(alloc: A, checks: &[Check]) -> Result<Vec<Command, 
     ensures { IfOk result (λ commands. commands.items ≡ commands_in (map seen checks.now)) }
 {
     checks.iter().map(|check| check.command).collect(alloc)
+}
+
+/// How a chart of a node of a header's sizes is laid out.
+fn layout_of(header: &Header) -> Layout
+    requires { is_in_limits header.now ≡ true }
+    ensures { IsLayout header.now result }
+{
+    Layout {
+        agents: header.agents,
+        lines: header.lines,
+        slices: header.slices,
+    }
 }
 
 /// The chart of a good file. Refused where memory runs out.
@@ -38,11 +51,7 @@ fn chart_on<A: Allocator + Copy>(
     let config = config_of(&script.header);
     let commands = commands_of(alloc, &script.checks)?;
     let run = rows_of(alloc, &config, &commands, only)?;
-    let layout = Layout {
-        agents: script.header.agents,
-        lines: script.header.lines,
-        slices: script.header.slices,
-    };
+    let layout = layout_of(&script.header);
     svg_of(alloc, layout, run.bottom, &run.rows)
 }
 
