@@ -7,6 +7,7 @@ use Rattle.chi_flit.specs.declared.message.Channel.{Channel}
 use Rattle.chi_flit.specs.declared.message.Channel.TheVariants as channels
 use Rattle.chi_flit.specs.Message.{channel_text, message_text}
 use Rattle.chi_flit.specs.State.{state_text}
+use Rattle.chi_homeline.specs.declared.serving.Serving.{Serving}
 use Rattle.chi_reply.specs.Replies.{serving_text}
 use Rattle.chi_chart.specs.declared.drawn.Sheet.{Sheet}
 use Rattle.chi_chart.specs.declared.drawn.SliceBox.{SliceBox}
@@ -17,30 +18,40 @@ use Rattle.chi_chart.specs.declared.drawn.Bar.{Bar}
 use Rattle.chi_chart.specs.declared.drawn.Arrow.{Arrow}
 use Rattle.chi_chart.specs.Commands.{command_text}
 
+-- the paper, of the whole size
+unfoldable pub paper_text : ℕ → ℕ → List ℕ
+paper_text width height = codes "<rect class='paper' width='" ++ (decimal width ++ (codes "' height='" ++ (decimal height ++ codes "'/>\n")))
+
 -- the sheet: how large the chart is, and its paper
 unfoldable pub sheet_text : Sheet → List ℕ
 sheet_text sheet =
     codes "<svg xmlns='http://www.w3.org/2000/svg' width='" ++ (decimal sheet.width ++ (codes "' height='" ++ (decimal sheet.height
-    ++ (codes "' viewBox='0 0 " ++ (decimal sheet.width ++ (codes " " ++ (decimal sheet.height
-    ++ (codes "'>\n<rect class='paper' width='" ++ (decimal sheet.width ++ (codes "' height='" ++ (decimal sheet.height ++ codes "'/>\n")))))))))))
+    ++ (codes "' viewBox='0 0 " ++ (decimal sheet.width ++ (codes " " ++ (decimal sheet.height ++ (codes "'>\n" ++ paper_text sheet.width sheet.height))))))))
+
+-- the number of a slice
+unfoldable pub slice_title_text : ℕ → ℕ → List ℕ
+slice_title_text slice x = codes "<text class='small' x='" ++ (decimal x ++ (codes "' y='60'>" ++ (decimal slice ++ codes "</text>\n")))
 
 -- a slice of the home, and its number
 unfoldable pub slice_text : SliceBox → List ℕ
 slice_text slice =
     codes "<path class='slice' d='M" ++ (decimal slice.x ++ (codes " 64H" ++ (decimal slice.right ++ (codes "V" ++ (decimal slice.bottom ++ (codes "H" ++ (decimal slice.x
-    ++ (codes "z'/>\n<text class='small' x='" ++ (decimal slice.x ++ (codes "' y='60'>" ++ (decimal slice.slice ++ codes "</text>\n")))))))))))
+    ++ (codes "z'/>\n" ++ slice_title_text slice.slice slice.x))))))))
 
 -- the name of an agent, or of the home
 abbrev pub name_text : Option Agent → List ℕ
 name_text None = codes "home"
 name_text (Some agent) = codes "agent " ++ decimal agent.0
 
+-- it stands above and below a lifeline
+unfoldable pub title_text : Option Agent → ℕ → ℕ → List ℕ
+title_text agent x y = codes "<text class='title' x='" ++ (decimal x ++ (codes "' y='" ++ (decimal y ++ (codes "'>" ++ (name_text agent ++ codes "</text>\n")))))
+
 -- a lifeline, with its name above and below
 unfoldable pub lifeline_text : Lifeline → List ℕ
 lifeline_text life =
     codes "<path class='life' d='M" ++ (decimal life.x ++ (codes " 64V" ++ (decimal life.bottom
-    ++ (codes "'/>\n<text class='title' x='" ++ (decimal life.x ++ (codes "' y='40'>" ++ (name_text life.agent
-    ++ (codes "</text>\n<text class='title' x='" ++ (decimal life.x ++ (codes "' y='" ++ (decimal life.name_y ++ (codes "'>" ++ (name_text life.agent ++ codes "</text>\n")))))))))))))
+    ++ (codes "'/>\n" ++ (title_text life.agent life.x 40 ++ title_text life.agent life.x life.name_y)))))
 
 -- a rule above a row, and its command
 unfoldable pub caption_text : Caption → List ℕ
@@ -52,11 +63,15 @@ caption_text caption =
 unfoldable pub turned_text : StateMark → List ℕ
 turned_text mark = codes "<text class='state " ++ (state_text mark.state ++ (codes "' x='" ++ (decimal mark.x ++ (codes "' y='" ++ (decimal mark.y ++ (codes "'>" ++ (state_text mark.state ++ codes "</text>\n")))))))
 
+-- the words for what the home does
+unfoldable pub serving_title_text : Serving → ℕ → ℕ → List ℕ
+serving_title_text serving x y = codes "<text class='serving' x='" ++ (decimal x ++ (codes "' y='" ++ (decimal y ++ (codes "'>" ++ (serving_text serving ++ codes "</text>\n")))))
+
 -- what the home does at a line, from here to there, and the words for it
 unfoldable pub bar_text : Bar → List ℕ
 bar_text bar =
     codes "<path class='bar " ++ (serving_text bar.serving ++ (codes "' d='M" ++ (decimal bar.x ++ (codes " " ++ (decimal bar.y ++ (codes "V" ++ (decimal bar.end
-    ++ (codes "'/>\n<text class='serving' x='" ++ (decimal bar.words_x ++ (codes "' y='" ++ (decimal bar.words_y ++ (codes "'>" ++ (serving_text bar.serving ++ codes "</text>\n")))))))))))))
+    ++ (codes "'/>\n" ++ serving_title_text bar.serving bar.words_x bar.words_y))))))))
 
 -- the head of an arrow at the place where its flit is taken, or an open end at the bottom
 abbrev pub end_text : Option ℕ → ℕ → ℕ → List ℕ

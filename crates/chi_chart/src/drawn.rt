@@ -2,7 +2,7 @@
 
 ghost use Rattle.std.specs.Prelude.{◌≡◌, ◌++◌, OnOk, Some};
 ghost use Rattle.chi_reply.specs.Replies.{serving_text};
-ghost use Rattle.chi_chart.specs.Drawn.{arrow_text, bar_text, caption_text, end_text, escaped, escaped_byte, lifeline_text, name_text, sheet_text, slice_text, turned_text};
+ghost use Rattle.chi_chart.specs.Drawn.{arrow_text, bar_text, caption_text, end_text, escaped, escaped_byte, lifeline_text, name_text, paper_text, serving_title_text, sheet_text, slice_text, slice_title_text, title_text, turned_text};
 
 use crate::commands::Spelled;
 use chi_flit::{Agent, Channel, Msg, NoMemory, State};
@@ -79,9 +79,39 @@ pub(crate) struct Arrow {
     pub(crate) message: Msg,
 }
 
+/// The paper, of the whole size.
+#[derive(Drop)]
+struct Paper {
+    width: u64,
+    height: u64,
+}
+
+/// The number of a slice.
+#[derive(Drop)]
+struct SliceTitle {
+    slice: u8,
+    x: u64,
+}
+
+/// A name above or below a lifeline.
+#[derive(Drop)]
+struct Title {
+    agent: Option<Agent>,
+    x: u64,
+    y: u64,
+}
+
 /// The name of an agent, or of the home.
 #[derive(Drop)]
 struct Name(Option<Agent>);
+
+/// The words for what the home does.
+#[derive(Drop)]
+struct ServingTitle {
+    serving: Serving,
+    x: u64,
+    y: u64,
+}
 
 /// What the home does, in the words of an answer.
 #[derive(Drop)]
@@ -101,9 +131,23 @@ impl fmt::Display for Sheet {
     #[tactic(auto, unfolding(crate::specs::Drawn::sheet_text))]
     fn fmt<W: fmt::Write>(&self, f: &mut fmt::Formatter<W>) -> fmt::Result {
         let (width, height) = (self.width, self.height);
+        let paper = Paper { width, height };
         write!(
             f,
-            "<svg xmlns='http://www.w3.org/2000/svg' width='{width}' height='{height}' viewBox='0 0 {width} {height}'>\n<rect class='paper' width='{width}' height='{height}'/>\n"
+            "<svg xmlns='http://www.w3.org/2000/svg' width='{width}' height='{height}' viewBox='0 0 {width} {height}'>\n{paper}"
+        )
+    }
+}
+
+impl fmt::Display for Paper {
+    ghost output = { λ paper. Some (paper_text paper.width paper.height) };
+
+    #[tactic(auto, unfolding(crate::specs::Drawn::paper_text))]
+    fn fmt<W: fmt::Write>(&self, f: &mut fmt::Formatter<W>) -> fmt::Result {
+        let (width, height) = (self.width, self.height);
+        write!(
+            f,
+            "<rect class='paper' width='{width}' height='{height}'/>\n"
         )
     }
 }
@@ -114,11 +158,24 @@ impl fmt::Display for SliceBox {
     #[tactic(auto, unfolding(crate::specs::Drawn::slice_text))]
     fn fmt<W: fmt::Write>(&self, f: &mut fmt::Formatter<W>) -> fmt::Result {
         let (x, right, bottom) = (self.x, self.right, self.bottom);
-        let slice = self.slice;
+        let title = SliceTitle {
+            slice: self.slice,
+            x,
+        };
         write!(
             f,
-            "<path class='slice' d='M{x} 64H{right}V{bottom}H{x}z'/>\n<text class='small' x='{x}' y='60'>{slice}</text>\n"
+            "<path class='slice' d='M{x} 64H{right}V{bottom}H{x}z'/>\n{title}"
         )
+    }
+}
+
+impl fmt::Display for SliceTitle {
+    ghost output = { λ title. Some (slice_title_text title.slice title.x) };
+
+    #[tactic(auto, unfolding(crate::specs::Drawn::slice_title_text))]
+    fn fmt<W: fmt::Write>(&self, f: &mut fmt::Formatter<W>) -> fmt::Result {
+        let (slice, x) = (self.slice, self.x);
+        write!(f, "<text class='small' x='{x}' y='60'>{slice}</text>\n")
     }
 }
 
@@ -127,12 +184,28 @@ impl fmt::Display for Lifeline {
 
     #[tactic(auto, unfolding(crate::specs::Drawn::lifeline_text))]
     fn fmt<W: fmt::Write>(&self, f: &mut fmt::Formatter<W>) -> fmt::Result {
-        let (x, bottom, y) = (self.x, self.bottom, self.name_y);
-        let name = Name(self.agent);
+        let (agent, x, bottom) = (self.agent, self.x, self.bottom);
+        let above = Title { agent, x, y: 40 };
+        let below = Title {
+            agent,
+            x,
+            y: self.name_y,
+        };
         write!(
             f,
-            "<path class='life' d='M{x} 64V{bottom}'/>\n<text class='title' x='{x}' y='40'>{name}</text>\n<text class='title' x='{x}' y='{y}'>{name}</text>\n"
+            "<path class='life' d='M{x} 64V{bottom}'/>\n{above}{below}"
         )
+    }
+}
+
+impl fmt::Display for Title {
+    ghost output = { λ title. Some (title_text title.agent title.x title.y) };
+
+    #[tactic(auto, unfolding(crate::specs::Drawn::title_text))]
+    fn fmt<W: fmt::Write>(&self, f: &mut fmt::Formatter<W>) -> fmt::Result {
+        let (x, y) = (self.x, self.y);
+        let name = Name(self.agent);
+        write!(f, "<text class='title' x='{x}' y='{y}'>{name}</text>\n")
     }
 }
 
@@ -180,11 +253,29 @@ impl fmt::Display for Bar {
     #[tactic(auto, unfolding(crate::specs::Drawn::bar_text))]
     fn fmt<W: fmt::Write>(&self, f: &mut fmt::Formatter<W>) -> fmt::Result {
         let (x, y, end) = (self.x, self.y, self.end);
-        let (words_x, words_y) = (self.words_x, self.words_y);
+        let serving = Served(self.serving);
+        let title = ServingTitle {
+            serving: self.serving,
+            x: self.words_x,
+            y: self.words_y,
+        };
+        write!(
+            f,
+            "<path class='bar {serving}' d='M{x} {y}V{end}'/>\n{title}"
+        )
+    }
+}
+
+impl fmt::Display for ServingTitle {
+    ghost output = { λ title. Some (serving_title_text title.serving title.x title.y) };
+
+    #[tactic(auto, unfolding(crate::specs::Drawn::serving_title_text))]
+    fn fmt<W: fmt::Write>(&self, f: &mut fmt::Formatter<W>) -> fmt::Result {
+        let (x, y) = (self.x, self.y);
         let serving = Served(self.serving);
         write!(
             f,
-            "<path class='bar {serving}' d='M{x} {y}V{end}'/>\n<text class='serving' x='{words_x}' y='{words_y}'>{serving}</text>\n"
+            "<text class='serving' x='{x}' y='{y}'>{serving}</text>\n"
         )
     }
 }
