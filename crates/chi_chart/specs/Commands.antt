@@ -50,4 +50,5 @@ command_text (commands.Arrive agent l) = codes "arrive " ++ (decimal agent.0 ++ 
 command_text (commands.See agent) = codes "see " ++ decimal agent.0
 command_text (commands.GiveBack agent ty) = codes "giveback " ++ (decimal agent.0 ++ (codes " " ++ type_text ty))
 command_text (commands.Tend agent ty) = codes "tend " ++ (decimal agent.0 ++ (codes " " ++ type_text ty))
-command_text (commands.Act action) = step_word action.step ++ (codes " " ++ (decimal action.agent.0 ++ (codes " " ++ (decimal action.line.0 ++ operands_text action.step))))
+command_text (commands.Act action) =
+    step_word action.step ++ (codes " " ++ (decimal action.agent.0 ++ (codes " " ++ (decimal action.line.0 ++ operands_text action.step))))

@@ -35,8 +35,8 @@ slice_title_text slice x = codes "<text class='small' x='" ++ (decimal x ++ (cod
 -- a slice of the home, and its number
 unfoldable pub slice_text : SliceBox → List ℕ
 slice_text slice =
-    codes "<path class='slice' d='M" ++ (decimal slice.x ++ (codes " 64H" ++ (decimal slice.right ++ (codes "V" ++ (decimal slice.bottom ++ (codes "H" ++ (decimal slice.x
-    ++ (codes "z'/>\n" ++ slice_title_text slice.slice slice.x))))))))
+    codes "<path class='slice' d='M" ++ (decimal slice.x ++ (codes " 64H" ++ (decimal slice.right ++ (codes "V" ++ (decimal slice.bottom
+    ++ (codes "H" ++ (decimal slice.x ++ (codes "z'/>\n" ++ slice_title_text slice.slice slice.x))))))))
 
 -- the name of an agent, or of the home
 abbrev pub name_text : Option Agent → List ℕ
@@ -45,7 +45,8 @@ name_text (Some agent) = codes "agent " ++ decimal agent.0
 
 -- it stands above and below a lifeline
 unfoldable pub title_text : Option Agent → ℕ → ℕ → List ℕ
-title_text agent x y = codes "<text class='title' x='" ++ (decimal x ++ (codes "' y='" ++ (decimal y ++ (codes "'>" ++ (name_text agent ++ codes "</text>\n")))))
+title_text agent x y =
+    codes "<text class='title' x='" ++ (decimal x ++ (codes "' y='" ++ (decimal y ++ (codes "'>" ++ (name_text agent ++ codes "</text>\n")))))
 
 -- a lifeline, with its name above and below
 unfoldable pub lifeline_text : Lifeline → List ℕ
@@ -61,17 +62,20 @@ caption_text caption =
 
 -- the state that a copy turns to, left of its agent's lifeline
 unfoldable pub turned_text : StateMark → List ℕ
-turned_text mark = codes "<text class='state " ++ (state_text mark.state ++ (codes "' x='" ++ (decimal mark.x ++ (codes "' y='" ++ (decimal mark.y ++ (codes "'>" ++ (state_text mark.state ++ codes "</text>\n")))))))
+turned_text mark =
+    codes "<text class='state " ++ (state_text mark.state ++ (codes "' x='" ++ (decimal mark.x ++ (codes "' y='" ++ (decimal mark.y
+    ++ (codes "'>" ++ (state_text mark.state ++ codes "</text>\n")))))))
 
 -- the words for what the home does
 unfoldable pub serving_title_text : Serving → ℕ → ℕ → List ℕ
-serving_title_text serving x y = codes "<text class='serving' x='" ++ (decimal x ++ (codes "' y='" ++ (decimal y ++ (codes "'>" ++ (serving_text serving ++ codes "</text>\n")))))
+serving_title_text serving x y =
+    codes "<text class='serving' x='" ++ (decimal x ++ (codes "' y='" ++ (decimal y ++ (codes "'>" ++ (serving_text serving ++ codes "</text>\n")))))
 
 -- what the home does at a line, from here to there, and the words for it
 unfoldable pub bar_text : Bar → List ℕ
 bar_text bar =
-    codes "<path class='bar " ++ (serving_text bar.serving ++ (codes "' d='M" ++ (decimal bar.x ++ (codes " " ++ (decimal bar.y ++ (codes "V" ++ (decimal bar.end
-    ++ (codes "'/>\n" ++ serving_title_text bar.serving bar.words_x bar.words_y))))))))
+    codes "<path class='bar " ++ (serving_text bar.serving ++ (codes "' d='M" ++ (decimal bar.x ++ (codes " " ++ (decimal bar.y
+    ++ (codes "V" ++ (decimal bar.end ++ (codes "'/>\n" ++ serving_title_text bar.serving bar.words_x bar.words_y))))))))
 
 -- the head of an arrow at the place where its flit is taken, or an open end at the bottom
 abbrev pub end_text : Option ℕ → ℕ → ℕ → List ℕ

@@ -43,7 +43,8 @@ cell_marks cell (Some old) (Some new) = []
 
 -- the flit on a channel to or from an agent that was taken or sent, and those on all of them
 abbrev pub channel_marks : Line → Agent → Cells → Cells → Channel → List Mark
-channel_marks line agent before after channel = cell_marks (record { line = line; agent = agent; channel = channel }) (cell_of before channel) (cell_of after channel)
+channel_marks line agent before after channel =
+    cell_marks (record { line = line; agent = agent; channel = channel }) (cell_of before channel) (cell_of after channel)
 
 abbrev pub flit_marks : Line → Agent → Cells → Cells → List Mark
 flit_marks line agent before after = flat_map (channel_marks line agent before after) all_channels

@@ -34,7 +34,12 @@ abbrev pub below : Row → ℕ
 below row = below_marks row.y row.marks + 20
 
 abbrev pub row_of : ℕ → Step → Row
-row_of y step = record { y = y; command = step.command; answer = step.answer; marks = marks_between (line_of step.command) (seen_line step.before (line_of step.command)) (seen_line step.after (line_of step.command)) }
+row_of y step = record {
+  y = y;
+  command = step.command;
+  answer = step.answer;
+  marks = marks_between (line_of step.command) (seen_line step.before (line_of step.command)) (seen_line step.after (line_of step.command));
+}
 
 -- a command that names another line than the one that is wanted isn't shown
 abbrev pub is_line : Option Line → Option Line → Bool
@@ -54,7 +59,9 @@ next_y false row = row.y
 -- the rows of the steps that are shown
 abbrev pub rows_of : Option Line → ℕ → List Step → List Row
 rows_of only y [] = []
-rows_of only y (step ∷ steps) = shown_rows (is_line only (line_of step.command)) (row_of y step) ++ rows_of only (next_y (is_line only (line_of step.command)) (row_of y step)) steps
+rows_of only y (step ∷ steps) =
+    shown_rows (is_line only (line_of step.command)) (row_of y step)
+    ++ rows_of only (next_y (is_line only (line_of step.command)) (row_of y step)) steps
 
 -- where the last row ends
 abbrev pub bottom_of : ℕ → List Row → ℕ

@@ -23,7 +23,12 @@ pub record Step : Type 0 where
 abbrev pub steps_of : Machine → List Command → List Answer → List Step
 steps_of m [] answers = []
 steps_of m (command ∷ rest) answers =
-    record { command = command; answer = (made (turn m command) answers).said ++ (10 ∷ []); before = m.home; after = (made (turn m command) answers).state.home }
+    record {
+      command = command;
+      answer = (made (turn m command) answers).said ++ (10 ∷ []);
+      before = m.home;
+      after = (made (turn m command) answers).state.home;
+    }
     ∷ steps_of (made (turn m command) answers).state rest (made (turn m command) answers).left
 
 -- the line that a command names

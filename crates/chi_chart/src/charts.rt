@@ -8,7 +8,7 @@ ghost use Rattle.chi_script.specs.Headers.{is_in_limits};
 ghost use Rattle.chi_replay.specs.Replays.{NoText, Refuses};
 ghost use Rattle.chi_check_script.specs.Checks.{seen};
 ghost use Rattle.chi_check_script.specs.Files.{check_file_of};
-ghost use Rattle.chi_chart.specs.Charts.{IsChart, IsChartOf, IsLayout, WritesBeginning, WritesChart};
+ghost use Rattle.chi_chart.specs.Charts.{Begins, Draws, IfFaulty, IsChart, IsChartOf, IsLayout, NoChart, OnWriteFault};
 ghost use Rattle.chi_chart.specs.Steps.{commands_in};
 
 use crate::frame::Layout;
@@ -104,10 +104,13 @@ pub fn chart<A: Allocator + Copy, I: Input, O: Output>(
 ) -> Result<(), Fault>
     requires reads { I.failures input.old + 1 < 2 ^ 64 }
     requires writes { O.failures output.old + 1 < 2 ^ 64 }
-    ensures ok { OnOk result (IfSome (I.left input.old) (λ file. WritesChart only file (O.written output.old) (O.written output.new))) }
-    ensures write { IsErrOf result Fault.Write → (O.failures output.new ≡ O.failures output.old + 1) × IfSome (I.left input.old) (λ file. WritesBeginning only file (O.written output.old) (O.written output.new)) }
-    ensures err { IfErr result (λ fault. fault ≢ Fault.Write → NoText check_file_of (I.left input.old) (I.failures input.old) (I.failures input.new) fault × Keeps (O.written output.old) (O.written output.new)) }
-    ensures faulty { IfSome (I.left input.old) (λ file. (fault : Fault) → check_file_of file ≡ Err fault → Refuses fault result × Keeps (O.written output.old) (O.written output.new)) }
+    ensures ok { OnOk result (Draws only (I.left input.old) (O.written output.old) (O.written output.new)) }
+    ensures write { IsErrOf result Fault.Write → O.failures output.new ≡ O.failures output.old + 1 }
+    ensures front { OnWriteFault result (Begins only (I.left input.old) (O.written output.old) (O.written output.new)) }
+    ensures err { IfErr result (NoChart (I.left input.old) (I.failures input.old) (I.failures input.new)) }
+    ensures kept { IfErr result (λ fault. fault ≢ Fault.Write → Keeps (O.written output.old) (O.written output.new)) }
+    ensures faulty { IfFaulty (I.left input.old) (λ fault. Refuses fault result) }
+    ensures unwritten { IfFaulty (I.left input.old) (λ _. Keeps (O.written output.old) (O.written output.new)) }
 {
     let text = chart_of_input(alloc, input, only)?;
     match output.write_all(&text) {
