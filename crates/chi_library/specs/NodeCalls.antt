@@ -1,5 +1,5 @@
 -- What the calls on a node refuse, do and tell, by C's numbers (docs/LIBRARY.md, "A node").
-use Rattle.std.specs.Prelude.{◌≡◌, ℕ, [], ◌∷◌, Bool, true, false, Option, Some, None}
+use Rattle.std.specs.Prelude.{◌≡◌, ℕ, [], ◌∷◌, Bool, true, false, Option, Some, None, replicate}
 use Rattle.atomic_table.specs.Seated.{TableId}
 use Rattle.chi_flit.specs.declared.action.Action.{Action}
 use Rattle.chi_flit.specs.declared.credit.CreditType.{CreditType}
@@ -17,8 +17,9 @@ use Rattle.chi_node.specs.Calls.{is_own_step}
 use Rattle.chi_slice.specs.Audits.{IsAudited}
 use Rattle.chi_config.specs.Config.{Sizes}
 use Rattle.chi_system.specs.Home.{flits_refusal, last_of, line, view_refusal}
-use Rattle.chi_system.specs.System.{SystemState, opening_system, agent_refusal, arrive_refusal, give_back_refusal, step_refusal, tend_refusal, ArrivesIn, GivesBackIn, SeesIn, StepsIn, TendsIn}
+use Rattle.chi_system.specs.System.{SystemState, opening_system, agent_refusal, arrive_refusal, give_back_refusal, step_refusal, tend_refusal, ArrivesIn, GivesBackIn, Glances, SeesIn, StepsIn, TendsIn}
 use Rattle.chi_tracker.specs.declared.released.Released.{Released}
+use Rattle.chi_tracker.specs.declared.totals.Counts.{Counts}
 use Rattle.chi_tracker.specs.declared.released.Released.TheVariants.{Granted, Freed}
 use Rattle.chi_library.specs.declared.actions.ChiAction.{ChiAction}
 use Rattle.chi_library.specs.declared.actions.ChiEffect.{ChiEffect}
@@ -26,6 +27,7 @@ use Rattle.chi_library.specs.declared.node_told.ChiArrival.{ChiArrival}
 use Rattle.chi_library.specs.declared.node_told.ChiAudit.{ChiAudit}
 use Rattle.chi_library.specs.declared.node_told.ChiCredits.{ChiCredits}
 use Rattle.chi_library.specs.declared.node_told.ChiRelease.{ChiRelease}
+use Rattle.chi_library.specs.declared.node_told.ChiTotals.{ChiTotals}
 use Rattle.chi_library.specs.declared.flits.ChiFlits.{ChiFlits}
 use Rattle.chi_library.specs.declared.lines.ChiLine.{ChiLine}
 use Rattle.chi_library.specs.Actions.{action_of, effect_told, no_effect}
@@ -140,6 +142,17 @@ node_show_told l y = told_unless (view_refusal y.home l) no_line_told (line_told
 
 abbrev pub node_flits_told : ℕ → ℕ → SystemState → ChiFlits
 node_flits_told n l y = told_unless (flits_refusal y.home n l) no_flits_told (flits_told (cells_of (line y.home l) n))
+
+-- the totals: counts that a glance may show, each under its own name
+abbrev pub no_totals : ChiTotals
+no_totals = record { free = replicate 4 0; hand = replicate 4 0; promised = replicate 4 0; owed = replicate 4 0 }
+
+abbrev pub totals_told : Counts → ChiTotals
+totals_told counts = record { free = counts.free; hand = counts.hand; promised = counts.promised; owed = counts.owed }
+
+abbrev pub IsTotalsOf : Option SystemState → ChiTotals → Type 0
+IsTotalsOf None told = told ≡ no_totals
+IsTotalsOf (Some y) told = (counts : Counts) × (told ≡ totals_told counts) × Glances y counts
 
 -- an audit
 abbrev pub no_audit : ChiAudit

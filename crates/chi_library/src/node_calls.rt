@@ -6,7 +6,7 @@ ghost use Rattle.chi_library.specs.Calls.{IsOpening, answered, told};
 ghost use Rattle.chi_library.specs.Flits.{no_flits_told};
 ghost use Rattle.chi_library.specs.Lines.{no_line_told};
 ghost use Rattle.chi_library.specs.Numbers.{credit_of, number_if};
-ghost use Rattle.chi_library.specs.NodeCalls.{ArrivalCall, CalledOn, ReturnCall, IsAuditOf, IsOwn, IsUntold, LookCall, OpensNode, StepCall, TendCall, no_arrival, no_credits, no_release, node_flits_told, node_show_told, node_step_refusal, own_of};
+ghost use Rattle.chi_library.specs.NodeCalls.{ArrivalCall, CalledOn, ReturnCall, IsAuditOf, IsOwn, IsTotalsOf, IsUntold, LookCall, OpensNode, StepCall, TendCall, no_arrival, no_credits, no_release, node_flits_told, node_show_told, node_step_refusal, own_of};
 ghost use Rattle.chi_library.specs.Sizes.{config_of};
 ghost use Rattle.chi_node.specs.Calls.{is_own_step};
 ghost use Rattle.chi_system.specs.Home.{flits_refusal, view_refusal};
@@ -237,7 +237,7 @@ pub extern "C" fn chi_node_flits(
 }
 
 /// How many entries of each type are free, in hand and promised, and how many credits are owed, as the
-/// tracker's words show it: of the numbers the contract promises nothing. Those of a closed handle are 0.
+/// tracker's words show it. The numbers of a closed handle are 0.
 ///
 /// Answers 0, or 255 of a closed handle. Nothing changes.
 /// Source: `docs/PROTOCOL.md`, "Totals"; `docs/LIBRARY.md`, "A node".
@@ -245,6 +245,7 @@ pub extern "C" fn chi_node_flits(
 pub extern "C" fn chi_node_totals(alloc: Global, node: &mut ChiNode, totals: &mut ChiTotals) -> u8
     ensures answer { result ≡ answered node.old.value (λ y. None) }
     ensures after { node.new.value ≡ node.old.value }
+    ensures totals { IsTotalsOf node.old.value totals.new }
 {
     *totals = ChiTotals::NONE;
     match node.take(alloc) {
