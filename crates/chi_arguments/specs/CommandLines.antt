@@ -37,9 +37,13 @@ chart_line = with_rule (with_rule (new_app (codes "chart")) file_rule) (option_r
 abbrev pub storm_line : App
 storm_line = with_rule (with_rule (with_rule (new_app (codes "storm")) file_rule) (option_rule (codes "seed"))) (option_rule (codes "turns"))
 
+-- the program itself: one of its commands has to be given
+abbrev pub program_line : App
+program_line = on_top (λ s. record s { subcommand_required = true }) (new_app (codes "chihome"))
+
 -- the program's command lines: these four, and no other
 abbrev pub command_lines : App
-command_lines = with_subcommand (with_subcommand (with_subcommand (with_subcommand (on_top (λ s. record s { subcommand_required = true }) (new_app (codes "chihome"))) replay_line.top) check_line.top) chart_line.top) storm_line.top
+command_lines = with_subcommand (with_subcommand (with_subcommand (with_subcommand program_line replay_line.top) check_line.top) chart_line.top) storm_line.top
 
 -- what a command line asks for: the replay of a file, its check, its chart, of one line alone where one is
 -- given, or a storm with its seed and its turns
