@@ -1,6 +1,6 @@
 -- What a replay writes, and what its faults say (docs/PROTOCOL.md, "Replay files" and "The program").
-use Rattle.std.specs.Prelude.{◌≡◌, ℕ, ◌+◌, List, Option, Result, Ok, Err, IfSome, ◌⊎◌}
-use Rattle.std.specs.Io.KnownBytes.{Appends}
+use Rattle.std.specs.Prelude.{◌≡◌, ◌≢◌, ℕ, ◌+◌, List, Option, Result, Ok, Err, IfSome, ◌⊎◌}
+use Rattle.std.specs.Io.KnownBytes.{Appends, Keeps}
 use Rattle.std.specs.List.{slice_index_or}
 use Rattle.chi_flit.specs.declared.credit.Profile.{Profile}
 use Rattle.chi_flit.specs.declared.credit.Profile.TheVariants.{Two, Four}
@@ -29,13 +29,13 @@ pub record IsTextOf (file bytes : List ℕ) : Type 0 where
   pub good : file_of file ≡ Ok (header, commands)
   pub text : IsText (node_sizes header) commands bytes
 
--- one such text was written, no more
-abbrev pub WritesText : List ℕ → Option (List ℕ) → Option (List ℕ) → Type 0
-WritesText file old new = (text : List ℕ) × IsTextOf file text × Appends old new text
+-- of the file that the input has, where its bytes are known: one such text was written, no more
+abbrev pub WritesText : Option (List ℕ) → Option (List ℕ) → Option (List ℕ) → Type 0
+WritesText input old new = IfSome input (λ file. (text : List ℕ) × IsTextOf file text × Appends old new text)
 
--- a beginning of one such text was written
-abbrev pub WritesBeginning : List ℕ → Option (List ℕ) → Option (List ℕ) → Type 0
-WritesBeginning file old new = (text : List ℕ) × IsTextOf file text × AppendsFront old new text
+-- of that file: a beginning of one such text was written
+abbrev pub WritesFront : Option (List ℕ) → Option (List ℕ) → Option (List ℕ) → Type 0
+WritesFront input old new = IfSome input (λ file. (text : List ℕ) × IsTextOf file text × AppendsFront old new text)
 
 -- why there is no text: the input failed, and counted it; memory ran out; or the first fault of the file,
 -- as it is read
@@ -48,6 +48,18 @@ NoText read file before after (BadCommand line) = IfSome file (λ bytes. read by
 NoText read file before after (MissingNewline line) = IfSome file (λ bytes. read bytes ≡ Err (MissingNewline line))
 NoText read file before after TooLarge = IfSome file (λ bytes. read bytes ≡ Err TooLarge)
 
+-- the same of an end at which a text may have been made, and its writing failed
+abbrev pub NoTextWritten : {F : Type 0} → (List ℕ → Result F Fault) → Option (List ℕ) → ℕ → ℕ → Fault → Type 0
+NoTextWritten read file before after fault = fault ≢ Write → NoText read file before after fault
+
 -- the answer is this fault, unless reading failed or memory ran out first
 abbrev pub Refuses : {A : Type 0} → Fault → Result A Fault → Type 0
 Refuses fault result = (result ≡ Err fault) ⊎ ((result ≡ Err Read) ⊎ (result ≡ Err NoMemory))
+
+-- where a file is faulty, its fault is answered
+abbrev pub RefusesFault : {F A : Type 0} → Result F Fault → Result A Fault → Type 0
+RefusesFault read result = (fault : Fault) → read ≡ Err fault → Refuses fault result
+
+-- where a file is faulty, nothing is written
+abbrev pub KeepsAtFault : {F : Type 0} → Result F Fault → Option (List ℕ) → Option (List ℕ) → Type 0
+KeepsAtFault read old new = (fault : Fault) → read ≡ Err fault → Keeps old new
