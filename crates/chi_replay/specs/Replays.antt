@@ -1,5 +1,5 @@
 -- What a replay writes, and what its faults say (docs/PROTOCOL.md, "Replay files" and "The program").
-use Rattle.std.specs.Prelude.{◌≡◌, ◌≢◌, ℕ, ◌+◌, List, Option, Result, Ok, Err, IfSome, ◌⊎◌}
+use Rattle.std.specs.Prelude.{◌≡◌, ◌≢◌, ℕ, ◌+◌, List, Option, Result, Ok, Err, IfErr, IfSome, IsErrOf, ◌⊎◌}
 use Rattle.std.specs.Io.KnownBytes.{Appends, Keeps}
 use Rattle.std.specs.List.{slice_index_or}
 use Rattle.chi_flit.specs.declared.credit.Profile.{Profile}
@@ -48,18 +48,22 @@ NoText read file before after (BadCommand line) = IfSome file (λ bytes. read by
 NoText read file before after (MissingNewline line) = IfSome file (λ bytes. read bytes ≡ Err (MissingNewline line))
 NoText read file before after TooLarge = IfSome file (λ bytes. read bytes ≡ Err TooLarge)
 
--- the same of an end at which a text may have been made, and its writing failed
-abbrev pub NoTextWritten : {F : Type 0} → (List ℕ → Result F Fault) → Option (List ℕ) → ℕ → ℕ → Fault → Type 0
-NoTextWritten read file before after fault = fault ≢ Write → NoText read file before after fault
+-- where a run ended with a fault other than Write, this is why it has no text
+abbrev pub NoTextAt : {F A : Type 0} → Result A Fault → (List ℕ → Result F Fault) → Option (List ℕ) → ℕ → ℕ → Type 0
+NoTextAt result read file before after = IfErr result (λ fault. fault ≢ Write → NoText read file before after fault)
+
+-- what holds where the writing of a text failed
+abbrev pub AtWrite : {A : Type 0} → Result A Fault → Type 0 → Type 0
+AtWrite result holds = IsErrOf result Write → holds
 
 -- the answer is this fault, unless reading failed or memory ran out first
 abbrev pub Refuses : {A : Type 0} → Fault → Result A Fault → Type 0
 Refuses fault result = (result ≡ Err fault) ⊎ ((result ≡ Err Read) ⊎ (result ≡ Err NoMemory))
 
--- where a file is faulty, its fault is answered
-abbrev pub RefusesFault : {F A : Type 0} → Result F Fault → Result A Fault → Type 0
-RefusesFault read result = (fault : Fault) → read ≡ Err fault → Refuses fault result
+-- where the file that the input has is faulty, its fault is answered
+abbrev pub RefusesFault : {F A : Type 0} → (List ℕ → Result F Fault) → Option (List ℕ) → Result A Fault → Type 0
+RefusesFault read input result = IfSome input (λ file. (fault : Fault) → read file ≡ Err fault → Refuses fault result)
 
--- where a file is faulty, nothing is written
-abbrev pub KeepsAtFault : {F : Type 0} → Result F Fault → Option (List ℕ) → Option (List ℕ) → Type 0
-KeepsAtFault read old new = (fault : Fault) → read ≡ Err fault → Keeps old new
+-- where the file that the input has is faulty, nothing is written
+abbrev pub KeepsAtFault : {F : Type 0} → (List ℕ → Result F Fault) → Option (List ℕ) → Option (List ℕ) → Option (List ℕ) → Type 0
+KeepsAtFault read input old new = IfSome input (λ file. (fault : Fault) → read file ≡ Err fault → Keeps old new)
