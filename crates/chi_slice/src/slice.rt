@@ -214,6 +214,7 @@ impl<A: Allocator> Slice<A> {
     /// Refused as by `act`, and also 3 (Pending) an Issue whose slot is taken elsewhere, and 12 (NoCredit)
     /// a Resend without a credit of its request's type; nothing changes then.
     /// Source: `docs/PROTOCOL.md`, "The actions" and "A requester and its calls".
+    #[inline(always)]
     pub fn act_under(&mut self, action: Action, terms: Terms) -> Result<Done, Refusal>
         ensures refusal { refusal_of result ≡ refused_under terms self.old action }
         ensures step { IfOk result (λ done. IsStep self.old action done.effect self.new) }
