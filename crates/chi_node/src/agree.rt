@@ -100,7 +100,9 @@ fn is_said(place: Place, said: SlotRecord) -> bool
 fn is_said_in<A: Allocator>(slice: &Slice<A>, said: SlotRecord) -> bool
     ensures { result ≡ is_said_in slice.now said }
 {
-    where_of_state(said.state, said.answered).is_some() && slice.has_line(said.line)
+    // (both are asked, so that nothing branches on whether the slot is idle)
+    let here = slice.has_line(said.line);
+    where_of_state(said.state, said.answered).is_some() & here
 }
 
 /// Where the request of a slot is, by the slot's state and whether it is marked as answered.
