@@ -13,13 +13,12 @@ use crate::preparing::{prepare, tend};
 use crate::progress::Progress;
 use crate::scripts::Script;
 use chi_draws::Draws;
-use chi_flit::Line;
 use chi_home::Node;
 use chi_node::Requester;
 use chi_slice::Slice;
 use chi_tallies::Tallies;
 use chi_tracker::Tracker;
-use chi_turns::{Operations, Player};
+use chi_turns::{Operations, Player, line_of};
 use std::alloc::Allocator;
 use std::sync::Wait;
 
@@ -87,7 +86,7 @@ impl<'t, A: Allocator> Runner<'t, A> {
         ensures { IsSameRequester self.old.player.requester self.new.player.requester }
     {
         let config = node.config();
-        let line = Line((x % u32::from(config.lines())) as u8);
+        let line = line_of(config, x);
         let Ok(mut slice) = node.lock(rt, line) else {
             return false;
         };

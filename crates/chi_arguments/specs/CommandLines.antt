@@ -5,12 +5,13 @@ use Rattle.std.specs.Str.{bytes_eq}
 use Rattle.clap.specs.Words.{App, Kinds, Row, Rule, Text, fault_of, first_of, new_app, new_rule, subcommand_of, with_rule, with_subcommand}
 use Rattle.clap.specs.Simple.{on_top}
 use Rattle.clap.specs.declared.builder.action.ArgAction.TheVariants.{Set}
+use Rattle.chi_flit.specs.declared.numbers.Line.{Line}
 use Rattle.chi_script.specs.Words.{◌>>=◌}
-use Rattle.chi_arguments.specs.Options.{seed_of, turns_of}
+use Rattle.chi_arguments.specs.Options.{only_of, seed_of, turns_of}
 use Rattle.chi_arguments.specs.declared.faults.ArgFault.{ArgFault}
 use Rattle.chi_arguments.specs.declared.faults.ArgFault.TheVariants.{Bad, NoMemory}
 use Rattle.chi_arguments.specs.declared.jobs.Job.{Job}
-use Rattle.chi_arguments.specs.declared.jobs.Job.TheVariants.{Check, Replay, Storm}
+use Rattle.chi_arguments.specs.declared.jobs.Job.TheVariants.{Chart, Check, Replay, Storm}
 
 -- FILE: the file is one word, and has to be there
 abbrev pub file_rule : Rule
@@ -28,18 +29,28 @@ replay_line = with_rule (new_app (codes "replay")) file_rule
 abbrev pub check_line : App
 check_line = with_rule (new_app (codes "check")) file_rule
 
+-- `chart FILE [--line L]`
+abbrev pub chart_line : App
+chart_line = with_rule (with_rule (new_app (codes "chart")) file_rule) (option_rule (codes "line"))
+
 -- `storm FILE [--seed N] [--turns N]`
 abbrev pub storm_line : App
 storm_line = with_rule (with_rule (with_rule (new_app (codes "storm")) file_rule) (option_rule (codes "seed"))) (option_rule (codes "turns"))
 
--- the program's command lines: these three, and no other
-abbrev pub command_lines : App
-command_lines = with_subcommand (with_subcommand (with_subcommand (on_top (λ s. record s { subcommand_required = true }) (new_app (codes "chihome"))) replay_line.top) check_line.top) storm_line.top
+-- the program itself: one of its commands has to be given
+abbrev pub program_line : App
+program_line = on_top (λ s. record s { subcommand_required = true }) (new_app (codes "chihome"))
 
--- what a command line asks for: the replay of a file, its check, or a storm with its seed and its turns
+-- the program's command lines: these four, and no other
+abbrev pub command_lines : App
+command_lines = with_subcommand (with_subcommand (with_subcommand (with_subcommand program_line replay_line.top) check_line.top) chart_line.top) storm_line.top
+
+-- what a command line asks for: the replay of a file, its check, its chart, of one line alone where one is
+-- given, or a storm with its seed and its turns
 pub data Asked : Type 0 where
   replay : Text → Asked
   check : Text → Asked
+  chart : Text → Option Line → Asked
   storm : Text → ℕ → ℕ → Asked
 
 -- behind `replay` stands the path
@@ -49,6 +60,13 @@ replay_in rows = option_map replay (first_of (codes "FILE") rows)
 -- and so behind `check`
 abbrev pub check_in : List Row → Option Asked
 check_in rows = option_map check (first_of (codes "FILE") rows)
+
+-- behind `chart` stand the path and the option
+abbrev pub chart_in : List Row → Option Asked
+chart_in rows = do
+  path ← first_of (codes "FILE") rows
+  only ← only_of (first_of (codes "line") rows)
+  Some (chart path only)
 
 -- behind `storm` stand the path and the options
 abbrev pub storm_in : List Row → Option Asked
@@ -63,7 +81,8 @@ abbrev pub asked_behind : Text × List Row → Option Asked
 asked_behind (name, rows) =
     if bytes_eq name (codes "replay") then replay_in rows else (
     if bytes_eq name (codes "check") then check_in rows else (
-    if bytes_eq name (codes "storm") then storm_in rows else None))
+    if bytes_eq name (codes "chart") then chart_in rows else (
+    if bytes_eq name (codes "storm") then storm_in rows else None)))
 
 -- the same, where the words have no fault
 abbrev pub asked_if : Kinds → Option (Text × List Row) → Option Asked
@@ -78,6 +97,7 @@ asked_in words = asked_if (fault_of command_lines words) (subcommand_of command_
 abbrev pub asked_by : Job → Asked
 asked_by (Replay path) = replay path.now
 asked_by (Check path) = check path.now
+asked_by (Chart path only) = chart path.now only
 asked_by (Storm path seed turns) = storm path.now seed turns
 
 -- the job is what was asked for, and the words are bad where nothing is; memory may run out at any words

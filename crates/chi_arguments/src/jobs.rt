@@ -3,10 +3,11 @@
 ghost use Rattle.std.specs.Prelude.{◌≡◌, IfOk, false, map};
 ghost use Rattle.std.specs.Option.{option_and_then, option_map};
 ghost use Rattle.clap.specs.Words.{app_of, first_of, found_of, rows_of, rule_of, subcommand_rows_of};
-ghost use Rattle.chi_arguments.specs.CommandLines.{Asks, asked_behind, asked_by, asked_in, check_in, command_lines, file_rule, option_rule, replay_in, storm_in};
+ghost use Rattle.chi_arguments.specs.CommandLines.{Asks, asked_behind, asked_by, asked_in, chart_in, check_in, command_lines, file_rule, option_rule, replay_in, storm_in};
 
 use crate::faults::ArgFault;
-use crate::options::{seed, turns};
+use crate::options::{only, seed, turns};
+use chi_flit::Line;
 use clap::{Arg, ArgAction, ArgMatches, Command};
 use std::alloc::{AllocError, Global};
 
@@ -19,6 +20,12 @@ pub enum Job<'a> {
     /// `check FILE`: runs the commands of the file at this path, and compares their answers with those that
     /// are wanted.
     Check(&'a str),
+    /// `chart FILE [--line L]`: draws the chart of the file at this path.
+    Chart {
+        path: &'a str,
+        /// The line alone that is shown, 0 to 63; all lines where it isn't given.
+        only: Option<Line>,
+    },
     /// `storm FILE [--seed N] [--turns N]`: runs the scripts of the file at this path in threads.
     Storm {
         path: &'a str,
@@ -49,11 +56,17 @@ const REPLAY: &str = "replay";
 /// The subcommand that checks a file.
 const CHECK: &str = "check";
 
+/// The subcommand that draws a chart.
+const CHART: &str = "chart";
+
 /// The subcommand that runs a storm.
 const STORM: &str = "storm";
 
 /// The argument that is a file's path.
 const FILE: &str = "FILE";
+
+/// The option that is the line alone that a chart shows.
+const LINE: &str = "line";
 
 /// The option that is a storm's seed.
 const SEED: &str = "seed";
@@ -67,6 +80,9 @@ fn command_line<'a>(alloc: Global) -> Result<Command<'a>, AllocError>
 {
     let replay = Command::new(alloc, REPLAY).arg(file(alloc))?;
     let check = Command::new(alloc, CHECK).arg(file(alloc))?;
+    let chart = Command::new(alloc, CHART)
+        .arg(file(alloc))?
+        .arg(option(alloc, LINE))?;
     let storm = Command::new(alloc, STORM)
         .arg(file(alloc))?
         .arg(option(alloc, SEED))?
@@ -75,6 +91,7 @@ fn command_line<'a>(alloc: Global) -> Result<Command<'a>, AllocError>
         .subcommand_required(true)
         .subcommand(replay)?
         .subcommand(check)?
+        .subcommand(chart)?
         .subcommand(storm)
 }
 
@@ -101,6 +118,7 @@ fn read_job<'a>(matches: &ArgMatches<'a>) -> Result<Job<'a>, ArgFault>
     match matches.subcommand() {
         Some((REPLAY, replay)) => read_replay(replay),
         Some((CHECK, check)) => read_check(check),
+        Some((CHART, chart)) => read_chart(chart).ok_or(ArgFault::Bad),
         Some((STORM, storm)) => read_storm(storm).ok_or(ArgFault::Bad),
         _ => Err(ArgFault::Bad),
     }
@@ -124,6 +142,15 @@ fn read_check<'a>(matches: &ArgMatches<'a>) -> Result<Job<'a>, ArgFault>
         Some(path) => Ok(Job::Check(path)),
         None => Err(ArgFault::Bad),
     }
+}
+
+/// The job of `chart FILE` and its option.
+fn read_chart<'a>(matches: &ArgMatches<'a>) -> Option<Job<'a>>
+    ensures { option_map asked_by result ≡ chart_in (rows_of (found_of matches.now)) }
+{
+    let path = text_of(matches, FILE)?;
+    let only = only(text_of(matches, LINE))?;
+    Some(Job::Chart { path, only })
 }
 
 /// The job of `storm FILE` and its options.

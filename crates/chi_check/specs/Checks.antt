@@ -1,5 +1,5 @@
 -- What the check of a file writes (docs/PROTOCOL.md, "Check files" and "The program").
-use Rattle.std.specs.Prelude.{◌≡◌, ◌↔◌, ℕ, List, [], Bool, IsTrue, Option, Ok, map}
+use Rattle.std.specs.Prelude.{◌≡◌, ◌↔◌, ℕ, List, [], Bool, IfSome, IsTrue, Option, Ok, map}
 use Rattle.std.specs.Io.KnownBytes.{Appends}
 use Rattle.chi_devices.specs.Devices.{AppendsFront}
 use Rattle.chi_script.specs.Headers.{node_sizes}
@@ -34,10 +34,10 @@ pub record IsReportOf (file : List ℕ) (hold : Bool) (bytes : List ℕ) : Type 
   pub good : check_file_of file ≡ Ok (header, checks)
   pub report : IsReport header checks hold bytes
 
--- one such report was written, no more
-abbrev pub WritesReport : List ℕ → Bool → Option (List ℕ) → Option (List ℕ) → Type 0
-WritesReport file hold old new = (bytes : List ℕ) × IsReportOf file hold bytes × Appends old new bytes
+-- of the file that the input has, where its bytes are known: one such report was written, no more
+abbrev pub WritesReport : Option (List ℕ) → Option (List ℕ) → Option (List ℕ) → Bool → Type 0
+WritesReport input old new hold = IfSome input (λ file. (bytes : List ℕ) × IsReportOf file hold bytes × Appends old new bytes)
 
--- a beginning of one such report was written
-abbrev pub WritesBeginning : List ℕ → Option (List ℕ) → Option (List ℕ) → Type 0
-WritesBeginning file old new = (hold : Bool) × (bytes : List ℕ) × IsReportOf file hold bytes × AppendsFront old new bytes
+-- of that file: a beginning of one such report was written
+abbrev pub WritesFront : Option (List ℕ) → Option (List ℕ) → Option (List ℕ) → Type 0
+WritesFront input old new = IfSome input (λ file. (hold : Bool) × (bytes : List ℕ) × IsReportOf file hold bytes × AppendsFront old new bytes)

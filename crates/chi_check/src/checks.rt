@@ -1,13 +1,12 @@
 //! From the bytes of a check file to the report that is printed.
 
-ghost use Rattle.std.specs.Prelude.{◌≡◌, ◌≢◌, ◌+◌, ◌^◌, ◌<◌, IfOk, IfErr, IfSome, IsErrOf, map};
+ghost use Rattle.std.specs.Prelude.{◌≡◌, ◌≢◌, ◌+◌, ◌^◌, ◌<◌, IfOk, IfErr, IfSome, map};
 ghost use Rattle.std.specs.Io.KnownBytes.{Keeps};
 ghost use Rattle.chi_script.specs.Faults.{Fails};
-ghost use Rattle.chi_script.specs.declared.faults.Fault.{Fault};
-ghost use Rattle.chi_replay.specs.Replays.{NoText, Refuses};
+ghost use Rattle.chi_replay.specs.Replays.{AtWrite, KeepsAtFault, NoText, NoTextAt, RefusesFault};
 ghost use Rattle.chi_check_script.specs.Checks.{seen};
 ghost use Rattle.chi_check_script.specs.Files.{check_file_of};
-ghost use Rattle.chi_check.specs.Checks.{IsReport, IsReportOf, WritesBeginning, WritesReport, commands_in};
+ghost use Rattle.chi_check.specs.Checks.{IsReport, IsReportOf, WritesFront, WritesReport, commands_in};
 
 use crate::reports::{Report, compare};
 use chi_check_script::{Check, CheckScript, read_checks};
@@ -81,10 +80,13 @@ pub fn check<A: Allocator + Copy, I: Input, O: Output>(
 ) -> Result<bool, Fault>
     requires reads { I.failures input.old + 1 < 2 ^ 64 }
     requires writes { O.failures output.old + 1 < 2 ^ 64 }
-    ensures ok { IfOk result (λ hold. IfSome (I.left input.old) (λ file. WritesReport file hold (O.written output.old) (O.written output.new))) }
-    ensures write { IsErrOf result Fault.Write → (O.failures output.new ≡ O.failures output.old + 1) × IfSome (I.left input.old) (λ file. WritesBeginning file (O.written output.old) (O.written output.new)) }
-    ensures err { IfErr result (λ fault. fault ≢ Fault.Write → NoText check_file_of (I.left input.old) (I.failures input.old) (I.failures input.new) fault × Keeps (O.written output.old) (O.written output.new)) }
-    ensures faulty { IfSome (I.left input.old) (λ file. (fault : Fault) → check_file_of file ≡ Err fault → Refuses fault result × Keeps (O.written output.old) (O.written output.new)) }
+    ensures ok { IfOk result (WritesReport (I.left input.old) (O.written output.old) (O.written output.new)) }
+    ensures write { AtWrite result (O.failures output.new ≡ O.failures output.old + 1) }
+    ensures front { AtWrite result (WritesFront (I.left input.old) (O.written output.old) (O.written output.new)) }
+    ensures err { NoTextAt result check_file_of (I.left input.old) (I.failures input.old) (I.failures input.new) }
+    ensures kept { IfErr result (λ fault. fault ≢ Fault.Write → Keeps (O.written output.old) (O.written output.new)) }
+    ensures faulty { RefusesFault check_file_of (I.left input.old) result }
+    ensures silent { KeepsAtFault check_file_of (I.left input.old) (O.written output.old) (O.written output.new) }
 {
     let report = report_of_input(alloc, input)?;
     match output.write_all(&report.text) {

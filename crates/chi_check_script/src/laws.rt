@@ -1,11 +1,9 @@
 //! Laws of the grammar: what is read is what is written, in the words of the page on check files.
 
-ghost use Rattle.std.specs.Prelude.{◌≡◌, ℕ, List, Some, None, Ok, map, take};
-ghost use Rattle.std.specs.List.{All};
-ghost use Rattle.chi_script.specs.declared.commands.Command.{Command};
-ghost use Rattle.chi_script.specs.declared.headers.Header.{Header};
+ghost use Rattle.std.specs.Prelude.{◌≡◌, ℕ, List, take};
 ghost use Rattle.chi_script.specs.Files.{file_of};
-ghost use Rattle.chi_check_script.specs.Checks.{CheckLine, check_of};
+ghost use Rattle.chi_script.specs.Spelling.{FilesAll, FilesOnly, ReadsAll, ReadsOnly};
+ghost use Rattle.chi_check_script.specs.Checks.{check_of};
 ghost use Rattle.chi_check_script.specs.Files.{check_file_of};
 ghost use Rattle.chi_check_script.specs.Spelling.{IsCheckFile, IsCheckLine, IsReplayed};
 
@@ -13,8 +11,8 @@ ghost use Rattle.chi_check_script.specs.Spelling.{IsCheckFile, IsCheckLine, IsRe
 /// answer behind it where one is wanted.
 /// Source: `docs/PROTOCOL.md`, "Check files".
 pub fn checks_are_lines()
-    ensures read { (n : ℕ) (line : List ℕ) (check : CheckLine) → check_of n line ≡ Some check → IsCheckLine n check line }
-    ensures again { (n : ℕ) (line : List ℕ) (check : CheckLine) → IsCheckLine n check line → check_of n line ≡ Some check }
+    ensures read { (n : ℕ) → ReadsOnly (check_of n) (IsCheckLine n) }
+    ensures again { (n : ℕ) → ReadsAll (check_of n) (IsCheckLine n) }
 {}
 
 /// A file is read as a header and checks exactly where it is lines, each with a line end behind it, that are
@@ -22,14 +20,14 @@ pub fn checks_are_lines()
 /// and has no more bytes than a file may have.
 /// Source: `docs/PROTOCOL.md`, "Check files" and "Limits".
 pub fn check_files_are_lines()
-    ensures read { (header : Header) (checks : List CheckLine) (file : List ℕ) → check_file_of file ≡ Ok (header, checks) → IsCheckFile header checks file }
-    ensures again { (header : Header) (checks : List CheckLine) (file : List ℕ) → IsCheckFile header checks file → check_file_of file ≡ Ok (header, checks) }
+    ensures read { FilesOnly check_file_of (λ script. IsCheckFile script.0 script.1) }
+    ensures again { FilesAll check_file_of (λ script. IsCheckFile script.0 script.1) }
 {}
 
 /// A replay file is a check file with the same header and commands, in which no answer is wanted.
 /// Source: `docs/PROTOCOL.md`, "Check files".
 pub fn replays_are_check_files()
-    ensures { (header : Header) (commands : List Command) (file : List ℕ) → file_of file ≡ Ok (header, commands) → IsReplayed header commands (check_file_of file) }
+    ensures { FilesOnly file_of (λ script file. IsReplayed script.0 script.1 (check_file_of file)) }
 {}
 
 /// One byte more than a file may have is enough of it: the rest changes nothing.

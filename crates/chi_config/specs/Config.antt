@@ -1,5 +1,5 @@
 -- The sizes of a node, and their limits (docs/PROTOCOL.md, "Limits").
-use Rattle.std.specs.Prelude.{ℕ, ◌+◌, List, [], ◌∷◌, Bool, false, ◌&&◌, ◌||◌, ◌==◌, nat_le, Option, Some, None, if◌then◌else◌}
+use Rattle.std.specs.Prelude.{ℕ, ◌+◌, ◌/◌, ◌%◌, List, [], ◌∷◌, Bool, false, ◌&&◌, ◌||◌, ◌==◌, nat_le, nat_lt, Option, Some, None, if◌then◌else◌}
 use Rattle.chi_flit.specs.declared.credit.Profile.{Profile}
 use Rattle.chi_flit.specs.declared.credit.Profile.TheVariants.{Two, Four}
 
@@ -28,6 +28,10 @@ is_between low high n = nat_le low n && nat_le n high
 -- a node has one, two, four or eight slices; line l is in slice l mod slices
 abbrev pub is_slice_count : ℕ → Bool
 is_slice_count n = n == 1 || (n == 2 || (n == 4 || n == 8))
+
+-- the row of a line in the slice of this index; none of a line outside the node or in another slice
+abbrev pub row_in : Sizes → ℕ → ℕ → Option ℕ
+row_in c index line = if nat_lt line c.lines && (line % c.slices == index) then Some (line / c.slices) else None
 
 -- the entries of each type: each type of the profile has at least one, and no other has any
 abbrev pub are_entries : Profile → List ℕ → Bool

@@ -1,8 +1,8 @@
 //! The sizes of a node.
 
-ghost use Rattle.std.specs.Prelude.{◌≡◌, ◌+◌, ◌/◌, ◌%◌, ◌==◌, ◌&&◌, nat_le, nat_lt, true, None, Some, if◌then◌else◌, ⊤};
+ghost use Rattle.std.specs.Prelude.{◌≡◌, ◌+◌, ◌/◌, ◌%◌, ◌&&◌, nat_le, true, None, Some, ⊤};
 ghost use Rattle.chi_flit.specs.declared.credit.Profile.TheVariants.{Four};
-ghost use Rattle.chi_config.specs.Config.{Sizes, are_entries, are_in_limits, config_if, four_types, is_between, is_slice_count, two_types};
+ghost use Rattle.chi_config.specs.Config.{Sizes, are_entries, are_in_limits, config_if, four_types, is_between, is_slice_count, row_in, two_types};
 
 use chi_flit::{Line, Profile};
 use std::alloc::AllocError;
@@ -188,7 +188,7 @@ impl Config {
     /// exactly where the line is outside the node or in another slice.
     /// Source: `docs/PROTOCOL.md`, "Limits".
     pub fn row_in(&self, index: u8, line: u8) -> Option<u8>
-        ensures { result ≡ if nat_lt line self.now.lines && (line % self.now.slices == index) then Some (line / self.now.slices) else None }
+        ensures { result ≡ row_in self.now index line }
     {
         let (slice, row) = self.split(line);
         if line < self.lines && slice == index {

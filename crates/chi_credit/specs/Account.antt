@@ -72,6 +72,10 @@ pub record FallsAt (i : ℕ) (f g : ℕ → ℕ) : Type 0 where
 pub record IsWithinSeen (slots : List SlotRecord) (p : PortView) : Type 0 where
   pub within : (t : ℕ) → t < 4 → riding_of slots t ≤ seen_of p t
 
+-- where a seen credit of type t was left beside those for the Riding slots, these are still within them
+abbrev pub StaysWithinSeen : ℕ → List SlotRecord → List SlotRecord → Type 0
+StaysWithinSeen t old new = (p : PortView) → riding_of old t < seen_of p t → IsWithinSeen old p → IsWithinSeen new p
+
 -- the credits due of each type are those of the slots that are Refused, Retried, Riding or Cancelled
 pub record HasDue (slots : List SlotRecord) (p : PortView) : Type 0 where
   pub due : (t : ℕ) → t < 4 → due_of slots t + (slice_index p.spent t + slice_index p.returned t) ≡ slice_index p.retries t

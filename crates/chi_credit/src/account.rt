@@ -3,11 +3,11 @@
 ghost use Rattle.std.specs.Prelude.{◌≡◌, ◌≢◌, ℕ, ◌<◌, ◌≤◌, true, false, slice_set, position, IfSome, IfNone, IsTrue, ◌↔◌};
 ghost use Rattle.chi_flit.specs.Credit.{credit_number};
 ghost use Rattle.chi_tracker.specs.Shape.{low};
-ghost use Rattle.chi_tracker.specs.Views.{has, PortView};
-ghost use Rattle.chi_tracker.specs.Steps.{spends, returns_credit};
-ghost use Rattle.chi_tracker.specs.Calls.{seen_of, IsLowestSeen, Ended, HasSameCredits, HasOneLess};
+ghost use Rattle.chi_tracker.specs.Views.{has};
+ghost use Rattle.chi_tracker.specs.Steps.{spends};
+ghost use Rattle.chi_tracker.specs.Calls.{seen_of, IsLowestSeen, HasReturned, HasOneLess};
 ghost use Rattle.chi_credit.specs.Slot.{after_answer, after_finish, can_be_answered, idle_slot, is_admitted, is_cancelled_of, opened};
-ghost use Rattle.chi_credit.specs.Account.{all_idle, due_of, holders_of, lowest_cancelled, moved, riding_of, slot_at, state_at, type_at, FallsAt, GrowsAt, HasDue, HasEntries, IsLowestIdle, IsSame, IsWithinSeen};
+ghost use Rattle.chi_credit.specs.Account.{all_idle, due_of, holders_of, lowest_cancelled, moved, riding_of, slot_at, state_at, type_at, FallsAt, GrowsAt, HasDue, HasEntries, IsLowestIdle, IsSame, IsWithinSeen, StaysWithinSeen};
 
 use crate::slot::{IDLE_SLOT, SlotRecord, SlotState, is_cancelled, is_idle, is_riding};
 use chi_flit::{CreditType, Entry, Line, Slot};
@@ -193,7 +193,7 @@ impl Account {
         ensures riding { GrowsAt (type_at self.old slot.0) (riding_of self.old) (riding_of self.new) }
         ensures due { IsSame (due_of self.old) (due_of self.new) }
         ensures entries { IsSame (holders_of self.old) (holders_of self.new) }
-        ensures within { (port : PortView) → riding_of self.old (type_at self.old slot.0) < seen_of port (type_at self.old slot.0) → IsWithinSeen self.old port → IsWithinSeen self.new port }
+        ensures within { StaysWithinSeen (type_at self.old slot.0) self.old self.new }
     {
         self.ride(slot);
     }
@@ -290,7 +290,7 @@ impl Account {
         requires slot { slot.0 < 8 }
         requires riding { state_at self.old slot.0 ≡ SlotState.Riding }
         requires table { port.old.table ≡ tracker.now.table }
-        requires credit { riding_of self.old (type_at self.old slot.0) ≤ seen_of port.old.port (type_at self.old slot.0) }
+        requires credit { let t = type_at self.old slot.0 in riding_of self.old t ≤ seen_of port.old.port t }
         ensures account { self.new ≡ moved self.old slot.0 (SlotState.Admitted result) }
         ensures unanswered { (slot_at self.old slot.0).answered ≡ false }
 
@@ -351,7 +351,7 @@ impl Account {
 
         // what the port did
         ensures table { port.new.table ≡ port.old.table }
-        ensures returned { (e : ℕ) × IsLowestSeen port.old.port (credit_number ty) e × (has e port.old.port ≡ 0) × Ended (returns_credit (credit_number ty) e port.old.port) (credit_number ty) e result port.new.port × HasSameCredits (returns_credit (credit_number ty) e port.old.port) port.new.port }
+        ensures returned { HasReturned (credit_number ty) port.old.port result port.new.port }
         ensures same_hand { (i : ℕ) → has i port.new.port ≡ has i port.old.port }
         ensures fewer { HasOneLess (credit_number ty) port.old.port port.new.port }
 

@@ -94,6 +94,7 @@ impl<A: Allocator> Node<A> {
     ///
     /// Refused 10 (OutOfRange) exactly where the line is outside the node.
     /// Source: `docs/PROTOCOL.md`, "A requester and its calls".
+    #[inline(always)]
     pub fn lock<R: Wait>(&self, rt: &R, line: Line) -> Result<MutexGuard<'_, Slice<A>>, Refusal>
         ensures { refusal_of result ≡ line_refusal self.now line.0 }
     {

@@ -1,5 +1,5 @@
 -- What the calls on a node refuse, do and tell, by C's numbers (docs/LIBRARY.md, "A node").
-use Rattle.std.specs.Prelude.{◌≡◌, ℕ, [], ◌∷◌, Bool, true, false, Option, Some, None}
+use Rattle.std.specs.Prelude.{◌≡◌, ℕ, [], ◌∷◌, Bool, true, false, Option, Some, None, replicate}
 use Rattle.atomic_table.specs.Seated.{TableId}
 use Rattle.chi_flit.specs.declared.action.Action.{Action}
 use Rattle.chi_flit.specs.declared.credit.CreditType.{CreditType}
@@ -17,8 +17,9 @@ use Rattle.chi_node.specs.Calls.{is_own_step}
 use Rattle.chi_slice.specs.Audits.{IsAudited}
 use Rattle.chi_config.specs.Config.{Sizes}
 use Rattle.chi_system.specs.Home.{flits_refusal, last_of, line, view_refusal}
-use Rattle.chi_system.specs.System.{SystemState, opening_system, step_refusal, ArrivesIn, GivesBackIn, SeesIn, StepsIn, TendsIn}
+use Rattle.chi_system.specs.System.{SystemState, opening_system, agent_refusal, arrive_refusal, give_back_refusal, step_refusal, tend_refusal, ArrivesIn, GivesBackIn, Glances, SeesIn, StepsIn, TendsIn}
 use Rattle.chi_tracker.specs.declared.released.Released.{Released}
+use Rattle.chi_tracker.specs.declared.totals.Counts.{Counts}
 use Rattle.chi_tracker.specs.declared.released.Released.TheVariants.{Granted, Freed}
 use Rattle.chi_library.specs.declared.actions.ChiAction.{ChiAction}
 use Rattle.chi_library.specs.declared.actions.ChiEffect.{ChiEffect}
@@ -26,6 +27,7 @@ use Rattle.chi_library.specs.declared.node_told.ChiArrival.{ChiArrival}
 use Rattle.chi_library.specs.declared.node_told.ChiAudit.{ChiAudit}
 use Rattle.chi_library.specs.declared.node_told.ChiCredits.{ChiCredits}
 use Rattle.chi_library.specs.declared.node_told.ChiRelease.{ChiRelease}
+use Rattle.chi_library.specs.declared.node_told.ChiTotals.{ChiTotals}
 use Rattle.chi_library.specs.declared.flits.ChiFlits.{ChiFlits}
 use Rattle.chi_library.specs.declared.lines.ChiLine.{ChiLine}
 use Rattle.chi_library.specs.Actions.{action_of, effect_told, no_effect}
@@ -38,16 +40,16 @@ use Rattle.chi_library.specs.Numbers.{flag_number}
 abbrev pub OpensNode : Sizes → SystemState → Type 0
 OpensNode config y = (table : TableId) × (y ≡ opening_system config table)
 
--- a call that is refused leaves all as it was, and tells nothing; else it did this
-abbrev pub Called : Option Refusal → Type 0 → Type 0 → Type 0
-Called None Did Stayed = Did
-Called (Some refusal) Did Stayed = Stayed
+-- a call that is refused leaves the node as it was, and tells nothing; else it did this
+abbrev pub Called : SystemState → SystemState → Option Refusal → Type 0 → Type 0 → Type 0
+Called y y' None Did Nothing = Did
+Called y y' (Some refusal) Did Nothing = (y' ≡ y) × Nothing
 
--- the same of a handle: what it held, what it holds, why the node refuses, what the call does, and that nothing is told
-abbrev pub CalledOn : Option SystemState → Option SystemState → (SystemState → Option Refusal) → (SystemState → SystemState → Type 0) → Type 0 → Type 0
-CalledOn None new refusal Did Nothing = (new ≡ None) × Nothing
-CalledOn (Some y) None refusal Did Nothing = ⊥
-CalledOn (Some y) (Some y') refusal Did Nothing = Called (refusal y) (Did y y') ((y' ≡ y) × Nothing)
+-- a call on a handle, by what it held and what it holds: a closed one stays closed, and an open one open
+abbrev pub CalledOn : Option SystemState → Option SystemState → (SystemState → SystemState → Type 0) → Type 0
+CalledOn None new Call = new ≡ None
+CalledOn (Some y) None Call = ⊥
+CalledOn (Some y) (Some y') Call = Call y y'
 
 -- an arrival
 abbrev pub no_arrival : ChiArrival
@@ -59,6 +61,9 @@ arrival_told (Retried ty) = record { arrival = 2; entry = 0; credit = credit_num
 
 abbrev pub Arrives : Agent → Line → ChiArrival → SystemState → SystemState → Type 0
 Arrives agent l told y y' = (arrived : Arrived) × (told ≡ arrival_told arrived) × ArrivesIn y y' agent l arrived
+
+abbrev pub ArrivalCall : Agent → Line → ChiArrival → SystemState → SystemState → Type 0
+ArrivalCall agent l told y y' = Called y y' (arrive_refusal y agent.0 l.0) (Arrives agent l told y y') (told ≡ no_arrival)
 
 -- where a released entry went
 abbrev pub no_release : ChiRelease
@@ -96,12 +101,17 @@ node_step_refusal (Some action) y = step_refusal y action
 abbrev pub Steps : Option Action → ChiEffect → ChiRelease → SystemState → SystemState → Type 0
 Steps None effect release y y' = ⊥
 Steps (Some action) effect release y y' =
-    (stepped : Stepped) × (effect ≡ effect_told stepped.effect) × (release ≡ release_if stepped.released) × StepsIn y y' action stepped
+    (stepped : Stepped) × (effect ≡ effect_told stepped.effect) × (release ≡ release_if stepped.released)
+    × StepsIn y y' action stepped
 
 -- a step of which nothing is told
 pub record IsUntold (effect : ChiEffect) (release : ChiRelease) : Type 0 where
   pub nothing : effect ≡ no_effect
   pub unreleased : release ≡ no_release
+
+abbrev pub StepCall : Option Action → ChiEffect → ChiRelease → SystemState → SystemState → Type 0
+StepCall own effect release y y' =
+    Called y y' (node_step_refusal own y) (Steps own effect release y y') (IsUntold effect release)
 
 -- the calls of a requester that need no slice
 abbrev pub no_credits : ChiCredits
@@ -110,11 +120,21 @@ no_credits = record { seen = 0 ∷ 0 ∷ 0 ∷ 0 ∷ [] }
 abbrev pub Looks : Agent → ChiCredits → SystemState → SystemState → Type 0
 Looks agent told y y' = SeesIn y y' agent told.seen
 
+abbrev pub LookCall : Agent → ChiCredits → SystemState → SystemState → Type 0
+LookCall agent told y y' = Called y y' (agent_refusal y agent.0) (Looks agent told y y') (told ≡ no_credits)
+
 abbrev pub GivesBack : Agent → Option CreditType → ChiRelease → SystemState → SystemState → Type 0
 GivesBack agent ty told y y' = (released : Released) × (told ≡ release_told released) × GivesBackIn y y' agent ty released
 
+abbrev pub ReturnCall : Agent → Option CreditType → ChiRelease → SystemState → SystemState → Type 0
+ReturnCall agent ty told y y' =
+    Called y y' (give_back_refusal y agent.0 ty) (GivesBack agent ty told y y') (told ≡ no_release)
+
 abbrev pub Tends : Agent → Option CreditType → ChiRelease → SystemState → SystemState → Type 0
 Tends agent ty told y y' = (released : Option Released) × (told ≡ release_if released) × TendsIn y y' agent ty released
+
+abbrev pub TendCall : Agent → Option CreditType → ChiRelease → SystemState → SystemState → Type 0
+TendCall agent ty told y y' = Called y y' (tend_refusal y agent.0 ty) (Tends agent ty told y y') (told ≡ no_release)
 
 -- a line, and the flits of an agent at one
 abbrev pub node_show_told : ℕ → SystemState → ChiLine
@@ -123,10 +143,22 @@ node_show_told l y = told_unless (view_refusal y.home l) no_line_told (line_told
 abbrev pub node_flits_told : ℕ → ℕ → SystemState → ChiFlits
 node_flits_told n l y = told_unless (flits_refusal y.home n l) no_flits_told (flits_told (cells_of (line y.home l) n))
 
+-- the totals: counts that a glance may show, each under its own name
+abbrev pub no_totals : ChiTotals
+no_totals = record { free = replicate 4 0; hand = replicate 4 0; promised = replicate 4 0; owed = replicate 4 0 }
+
+abbrev pub totals_told : Counts → ChiTotals
+totals_told counts = record { free = counts.free; hand = counts.hand; promised = counts.promised; owed = counts.owed }
+
+abbrev pub IsTotalsOf : Option SystemState → ChiTotals → Type 0
+IsTotalsOf None told = told ≡ no_totals
+IsTotalsOf (Some y) told = (counts : Counts) × (told ≡ totals_told counts) × Glances y counts
+
 -- an audit
 abbrev pub no_audit : ChiAudit
 no_audit = record { loads = 0; stores = 0; coherent = 0 }
 
 abbrev pub IsAuditOf : Option SystemState → ChiAudit → Type 0
 IsAuditOf None told = told ≡ no_audit
-IsAuditOf (Some y) told = (verdict : Bool) × (told.coherent ≡ flag_number verdict) × IsAudited y.home.slices told.loads told.stores verdict
+IsAuditOf (Some y) told =
+    (verdict : Bool) × (told.coherent ≡ flag_number verdict) × IsAudited y.home.slices told.loads told.stores verdict

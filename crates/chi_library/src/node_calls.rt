@@ -6,7 +6,7 @@ ghost use Rattle.chi_library.specs.Calls.{IsOpening, answered, told};
 ghost use Rattle.chi_library.specs.Flits.{no_flits_told};
 ghost use Rattle.chi_library.specs.Lines.{no_line_told};
 ghost use Rattle.chi_library.specs.Numbers.{credit_of, number_if};
-ghost use Rattle.chi_library.specs.NodeCalls.{Arrives, Called, CalledOn, GivesBack, IsAuditOf, IsOwn, IsUntold, Looks, OpensNode, Steps, Tends, no_arrival, no_credits, no_release, node_flits_told, node_show_told, node_step_refusal, own_of};
+ghost use Rattle.chi_library.specs.NodeCalls.{ArrivalCall, CalledOn, ReturnCall, IsAuditOf, IsOwn, IsTotalsOf, IsUntold, LookCall, OpensNode, StepCall, TendCall, no_arrival, no_credits, no_release, node_flits_told, node_show_told, node_step_refusal, own_of};
 ghost use Rattle.chi_library.specs.Sizes.{config_of};
 ghost use Rattle.chi_node.specs.Calls.{is_own_step};
 ghost use Rattle.chi_system.specs.Home.{flits_refusal, view_refusal};
@@ -61,7 +61,8 @@ pub extern "C" fn chi_node_arrive(
     arrival: &mut ChiArrival,
 ) -> u8
     ensures answer { result ≡ answered node.old.value (λ y. arrive_refusal y agent line) }
-    ensures call { CalledOn node.old.value node.new.value (λ y. arrive_refusal y agent line) (Arrives (agent_at agent) (line_at line) arrival.new) (arrival.new ≡ no_arrival) }
+    ensures call { CalledOn node.old.value node.new.value (ArrivalCall (agent_at agent) (line_at line) arrival.new) }
+    ensures closed { node.old.value ≡ None → arrival.new ≡ no_arrival }
 {
     *arrival = ChiArrival::NONE;
     match node.take(alloc) {
@@ -89,7 +90,8 @@ pub extern "C" fn chi_node_step(
     release: &mut ChiRelease,
 ) -> u8
     ensures answer { result ≡ answered node.old.value (node_step_refusal (own_of action.now)) }
-    ensures call { CalledOn node.old.value node.new.value (node_step_refusal (own_of action.now)) (Steps (own_of action.now) effect.new release.new) (IsUntold effect.new release.new) }
+    ensures call { CalledOn node.old.value node.new.value (StepCall (own_of action.now) effect.new release.new) }
+    ensures closed { node.old.value ≡ None → IsUntold effect.new release.new }
 {
     step_on(alloc, node, own_action_at(action), effect, release)
 }
@@ -107,7 +109,8 @@ pub extern "C" fn chi_node_see(
     credits: &mut ChiCredits,
 ) -> u8
     ensures answer { result ≡ answered node.old.value (λ y. agent_refusal y agent) }
-    ensures call { CalledOn node.old.value node.new.value (λ y. agent_refusal y agent) (Looks (agent_at agent) credits.new) (credits.new ≡ no_credits) }
+    ensures call { CalledOn node.old.value node.new.value (LookCall (agent_at agent) credits.new) }
+    ensures closed { node.old.value ≡ None → credits.new ≡ no_credits }
 {
     *credits = ChiCredits::NONE;
     match node.take(alloc) {
@@ -136,7 +139,8 @@ pub extern "C" fn chi_node_give_back(
     release: &mut ChiRelease,
 ) -> u8
     ensures answer { result ≡ answered node.old.value (λ y. give_back_refusal y agent (credit_of credit)) }
-    ensures call { CalledOn node.old.value node.new.value (λ y. give_back_refusal y agent (credit_of credit)) (GivesBack (agent_at agent) (credit_of credit) release.new) (release.new ≡ no_release) }
+    ensures call { CalledOn node.old.value node.new.value (ReturnCall (agent_at agent) (credit_of credit) release.new) }
+    ensures closed { node.old.value ≡ None → release.new ≡ no_release }
 {
     *release = ChiRelease::NONE;
     match node.take(alloc) {
@@ -163,7 +167,8 @@ pub extern "C" fn chi_node_tend(
     release: &mut ChiRelease,
 ) -> u8
     ensures answer { result ≡ answered node.old.value (λ y. tend_refusal y agent (credit_of credit)) }
-    ensures call { CalledOn node.old.value node.new.value (λ y. tend_refusal y agent (credit_of credit)) (Tends (agent_at agent) (credit_of credit) release.new) (release.new ≡ no_release) }
+    ensures call { CalledOn node.old.value node.new.value (TendCall (agent_at agent) (credit_of credit) release.new) }
+    ensures closed { node.old.value ≡ None → release.new ≡ no_release }
 {
     *release = ChiRelease::NONE;
     match node.take(alloc) {
@@ -232,7 +237,7 @@ pub extern "C" fn chi_node_flits(
 }
 
 /// How many entries of each type are free, in hand and promised, and how many credits are owed, as the
-/// tracker's words show it: of the numbers the contract promises nothing. Those of a closed handle are 0.
+/// tracker's words show it. The numbers of a closed handle are 0.
 ///
 /// Answers 0, or 255 of a closed handle. Nothing changes.
 /// Source: `docs/PROTOCOL.md`, "Totals"; `docs/LIBRARY.md`, "A node".
@@ -240,6 +245,7 @@ pub extern "C" fn chi_node_flits(
 pub extern "C" fn chi_node_totals(alloc: Global, node: &mut ChiNode, totals: &mut ChiTotals) -> u8
     ensures answer { result ≡ answered node.old.value (λ y. None) }
     ensures after { node.new.value ≡ node.old.value }
+    ensures totals { IsTotalsOf node.old.value totals.new }
 {
     *totals = ChiTotals::NONE;
     match node.take(alloc) {
@@ -340,7 +346,7 @@ fn opened(alloc: Global, config: &Config) -> Result<Box<System<Global>>, NoMemor
 fn arrive(node: &mut System<Global>, agent: Agent, line: Line, arrival: &mut ChiArrival) -> u8
     requires { arrival.old ≡ no_arrival }
     ensures answer { result ≡ number_if (arrive_refusal node.old agent.0 line.0) }
-    ensures call { Called (arrive_refusal node.old agent.0 line.0) (Arrives agent line arrival.new node.old node.new) ((node.new ≡ node.old) × (arrival.new ≡ no_arrival)) }
+    ensures call { ArrivalCall agent line arrival.new node.old node.new }
 {
     match node.arrive(agent, line) {
         Ok(arrived) => {
@@ -381,7 +387,8 @@ fn step_on(
 ) -> u8
     requires { IsOwn own }
     ensures answer { result ≡ answered node.old.value (node_step_refusal own) }
-    ensures call { CalledOn node.old.value node.new.value (node_step_refusal own) (Steps own effect.new release.new) (IsUntold effect.new release.new) }
+    ensures call { CalledOn node.old.value node.new.value (StepCall own effect.new release.new) }
+    ensures closed { node.old.value ≡ None → IsUntold effect.new release.new }
 {
     *effect = ChiEffect::NONE;
     *release = ChiRelease::NONE;
@@ -406,7 +413,7 @@ fn step(
     requires release { release.old ≡ no_release }
     requires own { IsOwn own }
     ensures answer { result ≡ number_if (node_step_refusal own node.old) }
-    ensures call { Called (node_step_refusal own node.old) (Steps own effect.new release.new node.old node.new) ((node.new ≡ node.old) × IsUntold effect.new release.new) }
+    ensures call { StepCall own effect.new release.new node.old node.new }
 {
     let Some(action) = own else {
         return OUT_OF_RANGE;
@@ -425,7 +432,7 @@ fn step(
 fn see(node: &mut System<Global>, agent: Agent, credits: &mut ChiCredits) -> u8
     requires { credits.old ≡ no_credits }
     ensures answer { result ≡ number_if (agent_refusal node.old agent.0) }
-    ensures call { Called (agent_refusal node.old agent.0) (Looks agent credits.new node.old node.new) ((node.new ≡ node.old) × (credits.new ≡ no_credits)) }
+    ensures call { LookCall agent credits.new node.old node.new }
 {
     match node.see(agent) {
         Ok(seen) => {
@@ -445,7 +452,7 @@ fn give_back(
 ) -> u8
     requires { release.old ≡ no_release }
     ensures answer { result ≡ number_if (give_back_refusal node.old agent.0 credit) }
-    ensures call { Called (give_back_refusal node.old agent.0 credit) (GivesBack agent credit release.new node.old node.new) ((node.new ≡ node.old) × (release.new ≡ no_release)) }
+    ensures call { ReturnCall agent credit release.new node.old node.new }
 {
     match node.give_back(agent, credit) {
         Ok(released) => {
@@ -465,7 +472,7 @@ fn tend(
 ) -> u8
     requires { release.old ≡ no_release }
     ensures answer { result ≡ number_if (tend_refusal node.old agent.0 credit) }
-    ensures call { Called (tend_refusal node.old agent.0 credit) (Tends agent credit release.new node.old node.new) ((node.new ≡ node.old) × (release.new ≡ no_release)) }
+    ensures call { TendCall agent credit release.new node.old node.new }
 {
     match node.tend(agent, credit) {
         Ok(released) => {

@@ -1,9 +1,8 @@
 //! The sizes of a node in C's words.
 
-ghost use Rattle.std.specs.Prelude.{◌≡◌};
+ghost use Rattle.std.specs.Prelude.{◌≡◌, Some};
 ghost use Rattle.chi_flit.specs.declared.credit.Profile.TheVariants.{Two};
-ghost use Rattle.chi_config.specs.Config.{config_if, sizes_of};
-ghost use Rattle.chi_library.specs.Sizes.{config_of};
+ghost use Rattle.chi_library.specs.Sizes.{config_of, sizes_in};
 
 use crate::numbers::profile_at;
 use chi_flit::Profile;
@@ -25,7 +24,7 @@ pub struct ChiConfig {
 
 /// The sizes of a node of two credit types.
 fn two_types(sizes: &ChiConfig) -> Option<Config>
-    ensures { result ≡ config_if (sizes_of sizes.now.agents sizes.now.lines sizes.now.slices sizes.now.entries sizes.now.journal Two) }
+    ensures { result ≡ sizes_in sizes.now (Some Two) }
 {
     let [t0, t1, t2, t3] = sizes.entries;
     if t2 != 0 || t3 != 0 {

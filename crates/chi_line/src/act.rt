@@ -34,6 +34,7 @@ impl Line {
     /// Conditions: the agent's number is below 8, the step's numbers are in their ranges, and the line keeps
     /// what "What a line keeps" says, for some values last stored to its words.
     /// Source: `docs/PROTOCOL.md`, "The actions", "Messages" and "What a line keeps".
+    #[inline(always)]
     pub fn act(&mut self, conditions: Conditions, action: Action) -> Result<Effect, Refusal>
         requires agent { action.agent.0 < 8 }
         requires step { is_step_in_range action.step ≡ true }

@@ -31,6 +31,7 @@ impl Line {
     ///
     /// Conditions: the agent's number is below 8.
     /// Source: `docs/PROTOCOL.md`, "Agreement".
+    #[inline(always)]
     pub fn move_of(&self, agent: Agent, step: Step) -> Move
         requires { agent.0 < 8 }
         ensures slot { result.slot ≡ moved_slot self.now agent step }

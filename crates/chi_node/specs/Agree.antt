@@ -1,6 +1,6 @@
 -- When a requester agrees with a slice: what the slice shows of each of its slots is what the account says of
 -- it, and the slice answered as many loads and stores as were counted (docs/PROTOCOL.md, "Agreement").
-use Rattle.std.specs.Prelude.{◌≡◌, ◌≢◌, ℕ, ◌<◌, Bool, true, Option, Some, None, length, slice_index, ◌==◌, if◌then◌else◌}
+use Rattle.std.specs.Prelude.{◌≡◌, ◌≢◌, ℕ, ◌<◌, Bool, true, Option, Some, None, is_some, length, slice_index, ◌==◌, ◌&&◌, if◌then◌else◌}
 use Rattle.chi_flit.specs.declared.credit.Profile.{Profile}
 use Rattle.chi_flit.specs.declared.numbers.Slot.{Slot}
 use Rattle.chi_journal.specs.Journal.{part_of}
@@ -43,9 +43,12 @@ pub record ShowsRecord (profile : Profile) (z : LineState) (n : ℕ) (slot : Slo
 pub record MatchesRecord (s : SliceState) (n : ℕ) (slot : Slot) (x : SlotRecord) : Type 0 where
   pub lines : (l : ℕ) → is_line_in_range s l ≡ true → ShowsRecord s.config.profile (line s l) n slot x l
 
--- the place in a slice that a slot's record says its request has: none where the record's line isn't the slice's
-abbrev pub said_place : SlotRecord → Bool → Option Place
-said_place x here = if here then placed x.line (where_of_state x.state x.answered) else None
+-- the place that a slot's record says its request has, and whether that is in a slice
+abbrev pub said_place : SlotRecord → Option Place
+said_place x = placed x.line (where_of_state x.state x.answered)
+
+abbrev pub is_said_in : SliceState → SlotRecord → Bool
+is_said_in s x = is_some (where_of_state x.state x.answered) && is_line_in_range s x.line.0
 
 -- the count for the slice is the length of the requester's part of the journal
 pub record Agree (s : SliceState) (r : RequesterState) : Type 0 where

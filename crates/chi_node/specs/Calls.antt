@@ -34,6 +34,7 @@ use Rattle.chi_node.specs.declared.answers.Stepped.{Stepped}
 use Rattle.chi_node.specs.declared.steps.StepPlace.{StepPlace}
 use Rattle.chi_node.specs.Requester.{RequesterKept, RequesterState}
 use Rattle.chi_node.specs.Terms.{is_taken}
+use Rattle.chi_node.specs.Agree.{Agree}
 use Rattle.chi_node.specs.Arrives.{Arrives}
 use Rattle.chi_node.specs.AfterStep.{Finishes}
 
@@ -45,6 +46,10 @@ OrNotOpen None Agrees answer = (Agrees × (answer ≡ None)) ⊎ ((Agrees → �
 -- why nothing of agent n arrives at a line: 10, then 7
 abbrev pub arrival_refusal : SliceState → ℕ → ℕ → Option Refusal
 arrival_refusal s n l = first_of (flits_refusal s n l) (no_flit_unless (is_some (cells_of (line s l) n).req))
+
+-- why nothing arrives where it is also asked whether the requester agrees
+abbrev pub IsArrivalRefusal : SliceState → RequesterState → ℕ → Option Refusal → Type 0
+IsArrivalRefusal s r l answer = OrNotOpen (arrival_refusal s r.number l) (Agree s r) answer
 
 -- what the slice does where a request arrives
 abbrev pub arrival_step : Arrived → Step
@@ -105,6 +110,10 @@ refused_with taken s action = refused_under (slot_terms taken) s action
 -- why a step isn't done, before it is asked whether the requester agrees: the action's numbers, then 12
 abbrev pub call_refusal : SliceState → RequesterState → Action → Option Refusal
 call_refusal s r action = first_of (refused_with (is_slot_taken r.slots action.step) s action) (credit_refusal r (wanted_credit s action))
+
+-- and why where it is asked
+abbrev pub IsStepRefusal : SliceState → RequesterState → Action → Option Refusal → Type 0
+IsStepRefusal s r action answer = OrNotOpen (call_refusal s r action) (Agree s r) answer
 
 -- a step is any but those of an arrival
 abbrev pub is_own_step : Step → Bool

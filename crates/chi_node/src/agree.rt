@@ -1,16 +1,16 @@
 //! Whether a requester agrees with a slice.
 
-ghost use Rattle.std.specs.Prelude.{◌≡◌, ◌<◌, ◌↔◌, ℕ, All, IsTrue, length, slice_index, true};
+ghost use Rattle.std.specs.Prelude.{◌≡◌, ◌<◌, ◌↔◌, ℕ, All, IsTrue, Some, length, slice_index};
 ghost use Rattle.chi_journal.specs.Journal.{part_of};
 ghost use Rattle.chi_credit.specs.Account.{slot_at};
 ghost use Rattle.chi_slice.specs.Slice.{SliceKept};
 ghost use Rattle.chi_node.specs.Requester.{RequesterKept};
-ghost use Rattle.chi_node.specs.Agree.{said_place, where_of_state, Agree, MatchesRecord};
+ghost use Rattle.chi_node.specs.Agree.{is_said_in, said_place, where_of_state, Agree, MatchesRecord};
 ghost use Rattle.chi_node.specs.Table.{AgreeByTable};
 
 use crate::requester::Requester;
 use chi_credit::{SlotRecord, SlotState};
-use chi_flit::Slot;
+use chi_flit::{Agent, Slot};
 use chi_slice::{Place, Slice, Where};
 use std::alloc::Allocator;
 
@@ -60,45 +60,49 @@ fn has_count<A: Allocator>(slice: &Slice<A>, requester: &Requester) -> bool
 fn matches_account<A: Allocator>(slice: &Slice<A>, requester: &Requester) -> bool
     ensures { IsTrue result ↔ ((slot : Slot) → slot.0 < 8 → MatchesRecord slice.now requester.now.number slot (slot_at requester.now.slots slot.0)) }
 {
+    let agent = requester.number();
     let mut found = true;
     for slot in 0..8 {
-        found &= matches_record(slice, requester, Slot(slot));
+        found &= matches_record(slice, agent, Slot(slot), requester.slot(Slot(slot)));
     }
     found
 }
 
-/// Whether the slice shows of a slot what the account says of it.
-fn matches_record<A: Allocator>(slice: &Slice<A>, requester: &Requester, slot: Slot) -> bool
-    requires { slot.0 < 8 }
-    ensures { IsTrue result ↔ MatchesRecord slice.now requester.now.number slot (slot_at requester.now.slots slot.0) }
+/// Whether the slice shows of an agent's slot what a record says of it. An idle slot has no place in the slice,
+/// and nothing more is asked of it.
+fn matches_record<A: Allocator>(
+    slice: &Slice<A>,
+    agent: Agent,
+    slot: Slot,
+    said: SlotRecord,
+) -> bool
+    requires agent { agent.0 < 8 }
+    requires slot { slot.0 < 8 }
+    ensures { IsTrue result ↔ MatchesRecord slice.now agent.0 slot said }
 {
-    let agent = requester.number();
-    let said = requester.slot(slot);
+    match slice.place(agent, slot) {
+        Some(place) => is_said(place, said) && slice.has_type(agent, slot, said.credit),
+        None => !is_said_in(slice, said),
+    }
+}
+
+/// Whether a record says that its request is at this place.
+fn is_said(place: Place, said: SlotRecord) -> bool
+    ensures { IsTrue result ↔ (Some place ≡ said_place said) }
+{
+    match where_of_state(said.state, said.answered) {
+        Some(at) => place.line.0 == said.line.0 && place.at == at,
+        None => false,
+    }
+}
+
+/// Whether a record says that its request is in the slice.
+fn is_said_in<A: Allocator>(slice: &Slice<A>, said: SlotRecord) -> bool
+    ensures { result ≡ is_said_in slice.now said }
+{
+    // (both are asked, so that nothing branches on whether the slot is idle)
     let here = slice.has_line(said.line);
-    let (place, typed) = slice.typed_place(agent, slot, said.credit);
-    typed && are_same(place, said_place(said, here))
-}
-
-/// The place that a record says its slot has in the slice, its line being one of the slice's or not.
-fn said_place(said: SlotRecord, here: bool) -> Option<Place>
-    ensures { result ≡ said_place said here }
-{
-    if !here {
-        return None;
-    }
-    let line = said.line;
-    where_of_state(said.state, said.answered).map(|at| Place { line, at })
-}
-
-/// Whether two places, if there are any, are the same.
-fn are_same(place: Option<Place>, said: Option<Place>) -> bool
-    ensures { IsTrue result ↔ (place ≡ said) }
-{
-    match (place, said) {
-        (None, None) => true,
-        (None, Some(_)) | (Some(_), None) => false,
-        (Some(place), Some(said)) => place.line.0 == said.line.0 && place.at == said.at,
-    }
+    where_of_state(said.state, said.answered).is_some() & here
 }
 
 /// Where the request of a slot is, by the slot's state and whether it is marked as answered.

@@ -4,7 +4,7 @@ ghost use Rattle.std.specs.Prelude.{◌≡◌, true, IfOk, OnErr, OnOk};
 ghost use Rattle.chi_flit.specs.Refusal.{refusal_of};
 ghost use Rattle.chi_node.specs.Agree.{Agree, KeepsAgreement};
 ghost use Rattle.chi_node.specs.Calls.{arrival_refusal, arrival_step, call_refusal, is_own_step};
-ghost use Rattle.chi_node.specs.Calls.{ArrivesOn, BothKept, CanArriveOn, CountsStep, IsArrivalStep, IsSameRequester, IsSameSlice, IsStep, OrNotOpen, StepsTo};
+ghost use Rattle.chi_node.specs.Calls.{ArrivesOn, BothKept, CanArriveOn, CountsStep, IsArrivalRefusal, IsArrivalStep, IsSameRequester, IsSameSlice, IsStep, IsStepRefusal, StepsTo};
 ghost use Rattle.chi_node.specs.Parts.{HasTypes};
 
 use crate::agree::agrees;
@@ -35,8 +35,7 @@ pub fn arrive_on<A: Allocator, B: Allocator>(
 ) -> Result<Arrived, Refusal>
     requires table { requester.old.table ≡ tracker.now.table }
     requires types { HasTypes slice.old.config requester.old.port.shape }
-    ensures refusal { OrNotOpen (arrival_refusal slice.old requester.old.number line.0)
-        (Agree slice.old requester.old) (refusal_of result) }
+    ensures refusal { IsArrivalRefusal slice.old requester.old line.0 (refusal_of result) }
     ensures ok { IfOk result (λ arrived. ArrivesOn slice.old slice.new line requester.old requester.new arrived) }
     ensures step { IfOk result (λ arrived. IsArrivalStep slice.old slice.new requester.old.number line arrived) }
     ensures err { OnErr result ((slice.new ≡ slice.old) × (requester.new ≡ requester.old)) }
@@ -130,8 +129,7 @@ pub fn step_on<A: Allocator, B: Allocator>(
     requires table { requester.old.table ≡ tracker.now.table }
     requires agent { action.agent.0 ≡ requester.old.number }
     requires step { is_own_step action.step ≡ true }
-    ensures refusal { OrNotOpen (call_refusal slice.old requester.old action) (Agree slice.old requester.old)
-        (refusal_of result) }
+    ensures refusal { IsStepRefusal slice.old requester.old action (refusal_of result) }
     ensures ok { IfOk result (λ stepped. StepsTo slice.old slice.new action requester.old requester.new stepped) }
     ensures step { IfOk result (λ stepped. IsStep slice.old action stepped.effect slice.new) }
     ensures err { OnErr result ((slice.new ≡ slice.old) × (requester.new ≡ requester.old)) }
@@ -209,5 +207,4 @@ fn keeps<A: Allocator>(slice: &Slice<A>, requester: &Requester)
 {
     let agent = requester.number();
     let _ = slice.journal().part_len(agent);
-    let _ = slice.flits(agent, Line(0));
 }

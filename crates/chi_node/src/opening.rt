@@ -1,10 +1,9 @@
 //! The parts of a node: its slices, its tracker and its requesters.
 
-ghost use Rattle.std.specs.Prelude.{◌≡◌, ℕ, ◌<◌, nat_lt, true, IfOk};
-ghost use Rattle.chi_tracker.specs.Shape.{size};
+ghost use Rattle.std.specs.Prelude.{◌≡◌, true, IfOk};
 ghost use Rattle.chi_tracker.specs.Calls.{shape_of};
 ghost use Rattle.chi_config.specs.Config.{are_in_limits};
-ghost use Rattle.chi_node.specs.Parts.{AllAgree, is_of_profile, opening_requesters, opening_slices};
+ghost use Rattle.chi_node.specs.Parts.{AllAgree, HasOwnTypes, opening_slices, requesters_of};
 
 use crate::requester::Requester;
 use arrayvec::ArrayVec;
@@ -33,8 +32,8 @@ fn requesters<A: Allocator>(
     config: &Config,
 ) -> Result<(Tracker<A>, ArrayVec<Requester, 8>), NoMemory>
     ensures tracker { IfOk result (λ made. made.0.shape ≡ shape_of config.now.entries config.now.agents) }
-    ensures types { IfOk result (λ made. (t : ℕ) → t < 4 → nat_lt 0 (size made.0.shape t) ≡ is_of_profile config.now.profile t) }
-    ensures requesters { IfOk result (λ made. made.1.items ≡ opening_requesters made.0.table made.0.shape config.now.agents) }
+    ensures types { IfOk result (λ made. HasOwnTypes config.now made.0.shape) }
+    ensures requesters { IfOk result (λ made. made.1.items ≡ requesters_of made.0 config.now.agents) }
     ensures agree { IfOk result (λ made. AllAgree config.now made.0.table made.0.shape) }
 {
     let (entries, agents) = (config.entries(), config.agents());
@@ -59,10 +58,8 @@ pub fn parts<A: Allocator + Copy>(
     ensures limits { are_in_limits config.now ≡ true }
     ensures slices { IfOk result (λ made. made.0.items ≡ opening_slices config.now config.now.slices) }
     ensures tracker { IfOk result (λ made. made.1.shape ≡ shape_of config.now.entries config.now.agents) }
-    ensures types { IfOk result (λ made. (t : ℕ) → t < 4
-        → nat_lt 0 (size made.1.shape t) ≡ is_of_profile config.now.profile t) }
-    ensures requesters { IfOk result (λ made. made.2.items
-        ≡ opening_requesters made.1.table made.1.shape config.now.agents) }
+    ensures types { IfOk result (λ made. HasOwnTypes config.now made.1.shape) }
+    ensures requesters { IfOk result (λ made. made.2.items ≡ requesters_of made.1 config.now.agents) }
     ensures agree { IfOk result (λ made. AllAgree config.now made.1.table made.1.shape) }
 {
     let slices = slices(alloc, config)?;

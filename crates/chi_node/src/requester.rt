@@ -1,18 +1,16 @@
 //! A requester, with its port and its account.
 
-ghost use Rattle.std.specs.Prelude.{◌≡◌, ◌≢◌, ℕ, ◌<◌, ◌≤◌, IfOk, OnErr, IfSome, IfNone, IsTrue, ◌↔◌, slice_index, slice_set};
+ghost use Rattle.std.specs.Prelude.{◌≡◌, ◌≢◌, ℕ, ◌<◌, ◌≤◌, IfOk, OnErr, IfSome, IfNone, IsTrue, ◌↔◌, slice_index};
 ghost use Rattle.chi_flit.specs.Credit.{credit_number};
 ghost use Rattle.chi_flit.specs.Refusal.{refusal_of};
 ghost use Rattle.chi_tracker.specs.Sums.{set_at};
 ghost use Rattle.chi_tracker.specs.Shape.{low};
 ghost use Rattle.chi_tracker.specs.Views.{has, new_port};
-ghost use Rattle.chi_tracker.specs.Steps.{returns_credit};
-ghost use Rattle.chi_tracker.specs.Calls.{saw_all, seen_of, Ended, HasSameCredits, IsLowestSeen, Tended};
-ghost use Rattle.chi_credit.specs.Slot.{idle_slot};
-ghost use Rattle.chi_credit.specs.Account.{lowest_cancelled, riding_of, slot_at, state_at, IsLowestIdle};
+ghost use Rattle.chi_tracker.specs.Calls.{saw_all, seen_of, HasSameCredits, Tended};
+ghost use Rattle.chi_credit.specs.Account.{slot_at, state_at, IsLowestIdle};
 ghost use Rattle.chi_slice.specs.Slice.{SliceState};
 ghost use Rattle.chi_node.specs.Agree.{Agree};
-ghost use Rattle.chi_node.specs.Requester.{can_give_back, give_back_refusal, has_type, no_requester, opening_requester, tend_refusal, with_port, RequesterKept};
+ghost use Rattle.chi_node.specs.Requester.{can_give_back, give_back_refusal, has_type, no_requester, opening_requester, tend_refusal, with_port, without_cancelled, HasCancelled, HasSpare, RequesterKept, ReturnsCredit};
 
 use chi_credit::{Account, SlotRecord, SlotState};
 use chi_flit::{Agent, CreditType, Refusal, Slot};
@@ -129,8 +127,7 @@ impl Requester {
     /// Whether a seen credit of the type is left beside those for the Riding slots.
     /// Source: `docs/PROTOCOL.md`, "Slots and accounts", can_resend.
     pub fn can_resend(&self, ty: CreditType) -> bool
-        ensures { IsTrue result ↔ (riding_of self.now.slots (credit_number ty) < seen_of self.now.port
-            (credit_number ty)) }
+        ensures { IsTrue result ↔ HasSpare self.now (credit_number ty) }
     {
         let seen = self.port.seen();
         self.account.can_resend(ty, seen[usize::from(ty.number())])
@@ -192,19 +189,10 @@ impl Requester {
     ) -> Result<Released, Refusal>
         requires { self.old.table ≡ tracker.now.table }
         ensures refusal { refusal_of result ≡ give_back_refusal self.old (credit_number ty) }
-        ensures cancelled { IfOk result (λ _. state_at self.old.slots
-            (lowest_cancelled self.old.slots (credit_number ty)) ≡ SlotState.Cancelled) }
-        ensures returned { IfOk result (λ released. (e : ℕ) × IsLowestSeen self.old.port (credit_number ty) e
-            × (has e self.old.port ≡ 0) × Ended (returns_credit (credit_number ty) e self.old.port)
-            (credit_number ty) e released self.new.port
-            × HasSameCredits (returns_credit (credit_number ty) e self.old.port) self.new.port) }
+        ensures cancelled { IfOk result (λ _. HasCancelled self.old (credit_number ty)) }
+        ensures returned { IfOk result (λ released. ReturnsCredit (credit_number ty) released self.old self.new) }
         ensures err { OnErr result (self.new ≡ self.old) }
-        ensures others { IfOk result (λ _. self.new
-            ≡ record self.old {
-              port = self.new.port;
-              slots = slice_set self.old.slots
-                  (lowest_cancelled self.old.slots (credit_number ty)) idle_slot;
-            }) }
+        ensures others { IfOk result (λ _. self.new ≡ without_cancelled (credit_number ty) self.new.port self.old) }
         ensures agreement { (s : SliceState) → Agree s self.old → Agree s self.new }
     {
         if !self.has_type(ty) {

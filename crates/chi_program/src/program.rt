@@ -7,8 +7,10 @@ ghost use Rattle.chi_program.specs.declared.program.Stop.TheVariants.{Arguments,
 ghost use Rattle.chi_program.specs.Stops.{check_end, end_status, run_status, statuses, stop_status, stop_text, storm_end, words_fault};
 
 use chi_arguments::{ArgFault, Job, arguments};
+use chi_chart::chart;
 use chi_check::check;
 use chi_devices::{FileInput, StandardOutput};
+use chi_flit::Line;
 use chi_replay::replay;
 use chi_script::Fault;
 use chi_storm::storm;
@@ -131,6 +133,7 @@ fn follow<R: Env + Files + AllocGlobal + Print + Threads + Wait + Clock + Sync>(
     match arguments(rt.alloc(), &words)? {
         Job::Replay(path) => Ok(replay_file(rt, path)?),
         Job::Check(path) => Ok(check_file(rt, path)?),
+        Job::Chart { path, only } => Ok(chart_file(rt, path, only)?),
         Job::Storm { path, seed, turns } => Ok(storm_file(rt, path, seed, turns)?),
     }
 }
@@ -182,6 +185,18 @@ fn check_end(hold: bool) -> End
     ensures { result ≡ check_end hold }
 {
     if hold { End::Done } else { End::Differs }
+}
+
+/// Writes the chart of the file at the path to standard output.
+fn chart_file<R: Files + AllocGlobal + Print>(
+    rt: &R,
+    path: &str,
+    only: Option<Line>,
+) -> Result<End, Fault> {
+    let mut input = FileInput::open(rt, path)?;
+    let mut output = StandardOutput::new(io::writer(rt));
+    chart(rt.alloc(), &mut input, &mut output, only)?;
+    Ok(End::Done)
 }
 
 /// Runs the storm of the file at the path, and writes to standard output what came of it.

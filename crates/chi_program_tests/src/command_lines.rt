@@ -1,6 +1,7 @@
 //! Command lines, good and bad, by `docs/PROTOCOL.md`, "The program".
 
 use chi_arguments::{ArgFault, Job, arguments};
+use chi_flit::Line;
 use std::alloc::Global;
 use std::process::Abort;
 
@@ -31,6 +32,55 @@ const BAD_CHECKS: [&[&str]; 8] = [
 #[test]
 fn a_check_with_more_or_other_words_is_bad(rt: HostRuntime) {
     are_bad(&rt, &BAD_CHECKS);
+}
+
+/// Command lines of a chart, each with the line alone that it shows.
+const CHARTS: [(&[&str], Option<u8>); 5] = [
+    (&["chihome", "chart", "a.chi"], None),
+    (&["chihome", "chart", "a.chi", "--line", "0"], Some(0)),
+    (&["chihome", "chart", "a.chi", "--line", "63"], Some(63)),
+    (&["chihome", "chart", "--line", "7", "a.chi"], Some(7)),
+    (&["chihome", "chart", "--line=7", "a.chi"], Some(7)),
+];
+
+#[test]
+fn a_chart_has_its_path_and_its_line(rt: HostRuntime) {
+    for (words, line) in &CHARTS {
+        draws(&rt, words, *line);
+    }
+}
+
+/// The words ask for a chart of `a.chi`, of this line alone.
+fn draws<'a>(rt: &(impl Abort + AllocGlobal), words: &'a [&'a str], line: Option<u8>) {
+    let path = "a.chi";
+    let only = match line {
+        Some(line) => Some(Line(line)),
+        None => None,
+    };
+    let job = Job::Chart { path, only };
+    assert!(rt; arguments(rt.alloc(), words) == Ok(job), "{words:?}");
+}
+
+/// Other command lines than `chart FILE [--line L]`.
+const BAD_CHARTS: [&[&str]; 13] = [
+    &["chihome", "chart"],
+    &["chihome", "charts", "a"],
+    &["chihome", "chart", "a", "b"],
+    &["chihome", "chart", "--line", "1"],
+    &["chihome", "chart", "a", "--line"],
+    &["chihome", "chart", "a", "--line", ""],
+    &["chihome", "chart", "a", "--line", "x"],
+    &["chihome", "chart", "a", "--line", "01"],
+    &["chihome", "chart", "a", "--line", "-1"],
+    &["chihome", "chart", "a", "--line", "64"],
+    &["chihome", "chart", "a", "--line", "1", "--line", "1"],
+    &["chihome", "chart", "a", "--seed", "1"],
+    &["chihome", "chart", "--help"],
+];
+
+#[test]
+fn a_chart_with_other_options_or_lines_is_bad(rt: HostRuntime) {
+    are_bad(&rt, &BAD_CHARTS);
 }
 
 /// Command lines of a storm, each with its seed and its turns.

@@ -1,6 +1,6 @@
 -- What a replay writes, and what its faults say (docs/PROTOCOL.md, "Replay files" and "The program").
-use Rattle.std.specs.Prelude.{◌≡◌, ℕ, ◌+◌, List, Option, Result, Ok, Err, IfSome, ◌⊎◌}
-use Rattle.std.specs.Io.KnownBytes.{Appends}
+use Rattle.std.specs.Prelude.{◌≡◌, ◌≢◌, ℕ, ◌+◌, List, Option, Result, Ok, Err, IfErr, IfSome, IsErrOf, ◌⊎◌}
+use Rattle.std.specs.Io.KnownBytes.{Appends, Keeps}
 use Rattle.std.specs.List.{slice_index_or}
 use Rattle.chi_flit.specs.declared.credit.Profile.{Profile}
 use Rattle.chi_flit.specs.declared.credit.Profile.TheVariants.{Two, Four}
@@ -29,13 +29,13 @@ pub record IsTextOf (file bytes : List ℕ) : Type 0 where
   pub good : file_of file ≡ Ok (header, commands)
   pub text : IsText (node_sizes header) commands bytes
 
--- one such text was written, no more
-abbrev pub WritesText : List ℕ → Option (List ℕ) → Option (List ℕ) → Type 0
-WritesText file old new = (text : List ℕ) × IsTextOf file text × Appends old new text
+-- of the file that the input has, where its bytes are known: one such text was written, no more
+abbrev pub WritesText : Option (List ℕ) → Option (List ℕ) → Option (List ℕ) → Type 0
+WritesText input old new = IfSome input (λ file. (text : List ℕ) × IsTextOf file text × Appends old new text)
 
--- a beginning of one such text was written
-abbrev pub WritesBeginning : List ℕ → Option (List ℕ) → Option (List ℕ) → Type 0
-WritesBeginning file old new = (text : List ℕ) × IsTextOf file text × AppendsFront old new text
+-- of that file: a beginning of one such text was written
+abbrev pub WritesFront : Option (List ℕ) → Option (List ℕ) → Option (List ℕ) → Type 0
+WritesFront input old new = IfSome input (λ file. (text : List ℕ) × IsTextOf file text × AppendsFront old new text)
 
 -- why there is no text: the input failed, and counted it; memory ran out; or the first fault of the file,
 -- as it is read
@@ -48,6 +48,22 @@ NoText read file before after (BadCommand line) = IfSome file (λ bytes. read by
 NoText read file before after (MissingNewline line) = IfSome file (λ bytes. read bytes ≡ Err (MissingNewline line))
 NoText read file before after TooLarge = IfSome file (λ bytes. read bytes ≡ Err TooLarge)
 
+-- where a run ended with a fault other than Write, this is why it has no text
+abbrev pub NoTextAt : {F A : Type 0} → Result A Fault → (List ℕ → Result F Fault) → Option (List ℕ) → ℕ → ℕ → Type 0
+NoTextAt result read file before after = IfErr result (λ fault. fault ≢ Write → NoText read file before after fault)
+
+-- what holds where the writing of a text failed
+abbrev pub AtWrite : {A : Type 0} → Result A Fault → Type 0 → Type 0
+AtWrite result holds = IsErrOf result Write → holds
+
 -- the answer is this fault, unless reading failed or memory ran out first
 abbrev pub Refuses : {A : Type 0} → Fault → Result A Fault → Type 0
 Refuses fault result = (result ≡ Err fault) ⊎ ((result ≡ Err Read) ⊎ (result ≡ Err NoMemory))
+
+-- where the file that the input has is faulty, its fault is answered
+abbrev pub RefusesFault : {F A : Type 0} → (List ℕ → Result F Fault) → Option (List ℕ) → Result A Fault → Type 0
+RefusesFault read input result = IfSome input (λ file. (fault : Fault) → read file ≡ Err fault → Refuses fault result)
+
+-- where the file that the input has is faulty, nothing is written
+abbrev pub KeepsAtFault : {F : Type 0} → (List ℕ → Result F Fault) → Option (List ℕ) → Option (List ℕ) → Option (List ℕ) → Type 0
+KeepsAtFault read input old new = IfSome input (λ file. (fault : Fault) → read file ≡ Err fault → Keeps old new)

@@ -1,13 +1,12 @@
 //! From the bytes of a file to the text that is printed.
 
-ghost use Rattle.std.specs.Prelude.{◌≡◌, ◌≢◌, ◌+◌, ◌^◌, ◌<◌, IfOk, IfErr, IfSome, OnOk, IsErrOf, string_bytes, true};
+ghost use Rattle.std.specs.Prelude.{◌≡◌, ◌≢◌, ◌+◌, ◌^◌, ◌<◌, IfOk, IfErr, IfSome, OnOk, string_bytes, true};
 ghost use Rattle.std.specs.Io.KnownBytes.{Keeps};
 ghost use Rattle.chi_script.specs.Headers.{is_in_limits, node_sizes};
 ghost use Rattle.chi_config.specs.Config.{config_if};
 ghost use Rattle.chi_script.specs.Faults.{Fails};
 ghost use Rattle.chi_script.specs.Files.{file_of};
-ghost use Rattle.chi_script.specs.declared.faults.Fault.{Fault};
-ghost use Rattle.chi_replay.specs.Replays.{IsTextOf, NoText, Refuses, WritesBeginning, WritesText, read_sizes};
+ghost use Rattle.chi_replay.specs.Replays.{AtWrite, IsTextOf, KeepsAtFault, NoText, NoTextAt, RefusesFault, WritesFront, WritesText, read_sizes};
 
 use chi_devices::{Failed, Input, Output, read_all};
 use chi_flit::Profile;
@@ -80,10 +79,13 @@ pub fn replay<A: Allocator + Copy, I: Input, O: Output>(
 ) -> Result<(), Fault>
     requires reads { I.failures input.old + 1 < 2 ^ 64 }
     requires writes { O.failures output.old + 1 < 2 ^ 64 }
-    ensures ok { OnOk result (IfSome (I.left input.old) (λ file. WritesText file (O.written output.old) (O.written output.new))) }
-    ensures write { IsErrOf result Fault.Write → (O.failures output.new ≡ O.failures output.old + 1) × IfSome (I.left input.old) (λ file. WritesBeginning file (O.written output.old) (O.written output.new)) }
-    ensures err { IfErr result (λ fault. fault ≢ Fault.Write → NoText file_of (I.left input.old) (I.failures input.old) (I.failures input.new) fault × Keeps (O.written output.old) (O.written output.new)) }
-    ensures faulty { IfSome (I.left input.old) (λ file. (fault : Fault) → file_of file ≡ Err fault → Refuses fault result × Keeps (O.written output.old) (O.written output.new)) }
+    ensures ok { OnOk result (WritesText (I.left input.old) (O.written output.old) (O.written output.new)) }
+    ensures write { AtWrite result (O.failures output.new ≡ O.failures output.old + 1) }
+    ensures front { AtWrite result (WritesFront (I.left input.old) (O.written output.old) (O.written output.new)) }
+    ensures err { NoTextAt result file_of (I.left input.old) (I.failures input.old) (I.failures input.new) }
+    ensures kept { IfErr result (λ fault. fault ≢ Fault.Write → Keeps (O.written output.old) (O.written output.new)) }
+    ensures faulty { RefusesFault file_of (I.left input.old) result }
+    ensures silent { KeepsAtFault file_of (I.left input.old) (O.written output.old) (O.written output.new) }
 {
     let text = text_of_input(alloc, input)?;
     match output.write_all(text.as_bytes()) {

@@ -12,10 +12,10 @@ use Rattle.chi_flit.specs.declared.action.Step.{Step}
 use Rattle.chi_flit.specs.declared.action.Step.TheVariants.{Load, Store, Drop, Issue, Admit, Retry, RecvRetry, Resend, Cancel, Start, RecvSnp, RecvSnpResp, RecvData, RecvComp, RecvAck, RecvDbid, RecvWrData}
 use Rattle.chi_script.specs.declared.commands.Command.{Command}
 use Rattle.chi_script.specs.declared.commands.Command.TheVariants.{Totals, Audit, Show, Flits, Arrive, See, GiveBack, Tend, Act}
-use Rattle.chi_script.specs.Words.{◌>>=◌, is_text, words_of, number_of, small_of}
+use Rattle.chi_script.specs.Words.{◌>>=◌, is_text, words_of, number_of, small_of, has_no_space}
 use Rattle.chi_script.specs.Commands.{agent_at, line_at, slot_at, word_at, act_at, credit_of, kind_of, step_of, step_with_one, step_with_two, command_bare, command_one, command_two, command_of}
 use Rattle.chi_script.specs.Spelling.{IsSmall, IsNumber, IsKind, IsCredit, WithOne, WithTwo, WithCredit, SpellsStep, Spells, IsLine}
-use Rattle.chi_script.proofs.SpaceLemmas.{no_space, joined_again, decimal_no_space}
+use Rattle.chi_script.proofs.SpaceLemmas.{joined_again, decimal_no_space}
 use Rattle.chi_script.proofs.NumberLemmas.{number_read, number_again, small_read, small_again, bound}
 use Rattle.chi_script.proofs.CreditLemmas.{credit_read, credit_again}
 
@@ -206,13 +206,13 @@ command_again words (Act action) is = step_again action.step action.agent.0 acti
 pub line_read : (line : List ℕ) (command : Command) → command_of (words_of line) ≡ Some command → IsLine command line
 line_read line command e = (words_of line, command_read (words_of line) command e, sym (join_with_byte-slice_split 32 line))
 
-small_spaceless : (n : ℕ) (word : List ℕ) → IsSmall n word → no_space word ≡ true
+small_spaceless : (n : ℕ) (word : List ℕ) → IsSmall n word → has_no_space word ≡ true
 small_spaceless n word is = rw is.1.1 (decimal_no_space is.0 is.1.0)
 
-number_spaceless : (n : ℕ) (word : List ℕ) → IsNumber n word → no_space word ≡ true
+number_spaceless : (n : ℕ) (word : List ℕ) → IsNumber n word → has_no_space word ≡ true
 number_spaceless n word is = rw is.1 (decimal_no_space n is.0)
 
-kind_spaceless : (kind : Kind) (word : List ℕ) → IsKind kind word → no_space word ≡ true
+kind_spaceless : (kind : Kind) (word : List ℕ) → IsKind kind word → has_no_space word ≡ true
 kind_spaceless ReadNotSharedDirty word is = rw is refl
 kind_spaceless ReadShared word is = rw is refl
 kind_spaceless ReadUnique word is = rw is refl
@@ -222,17 +222,17 @@ kind_spaceless WriteBackFull word is = rw is refl
 kind_spaceless WriteCleanFull word is = rw is refl
 kind_spaceless WriteEvictFull word is = rw is refl
 
-credit_spaceless : (credit : Option CreditType) (word : List ℕ) → IsCredit credit word → no_space word ≡ true
+credit_spaceless : (credit : Option CreditType) (word : List ℕ) → IsCredit credit word → has_no_space word ≡ true
 credit_spaceless (Some ty) word is = number_spaceless (credit_number ty) word is
 credit_spaceless None word is = number_spaceless is.0 word is.1
 
-one_joined : (verb : List ℕ) (l : ℕ) (words : List (List ℕ)) → no_space verb ≡ true → WithOne verb l words → words_of (join_with_byte 32 words) ≡ words
+one_joined : (verb : List ℕ) (l : ℕ) (words : List (List ℕ)) → has_no_space verb ≡ true → WithOne verb l words → words_of (join_with_byte 32 words) ≡ words
 one_joined verb l words plain is = rw is.2 (joined_again verb (is.0 ∷ []) (rw (plain, small_spaceless l is.0 is.1) refl))
 
-two_joined : (verb : List ℕ) (n l : ℕ) (words : List (List ℕ)) → no_space verb ≡ true → WithTwo verb n l words → words_of (join_with_byte 32 words) ≡ words
+two_joined : (verb : List ℕ) (n l : ℕ) (words : List (List ℕ)) → has_no_space verb ≡ true → WithTwo verb n l words → words_of (join_with_byte 32 words) ≡ words
 two_joined verb n l words plain is = rw is.4 (joined_again verb (is.0 ∷ is.1 ∷ []) (rw (plain, small_spaceless n is.0 is.2, small_spaceless l is.1 is.3) refl))
 
-credit_joined : (verb : List ℕ) (n : ℕ) (credit : Option CreditType) (words : List (List ℕ)) → no_space verb ≡ true → WithCredit verb n credit words → words_of (join_with_byte 32 words) ≡ words
+credit_joined : (verb : List ℕ) (n : ℕ) (credit : Option CreditType) (words : List (List ℕ)) → has_no_space verb ≡ true → WithCredit verb n credit words → words_of (join_with_byte 32 words) ≡ words
 credit_joined verb n credit words plain is = rw is.4 (joined_again verb (is.0 ∷ is.1 ∷ []) (rw (plain, small_spaceless n is.0 is.2, credit_spaceless credit is.1 is.3) refl))
 
 step_joined : (step : Step) (n l : ℕ) (words : List (List ℕ)) → SpellsStep step n l words → words_of (join_with_byte 32 words) ≡ words

@@ -7,29 +7,22 @@ use Rattle.chi_script.specs.declared.headers.Header.{Header}
 use Rattle.chi_script.specs.declared.commands.Command.{Command}
 use Rattle.chi_script.specs.declared.faults.Fault.{Fault}
 use Rattle.chi_script.specs.Faults.{Fails}
-use Rattle.chi_script.specs.Files.{◌>>=◌, lines_of, header_at, commands_of, file_of}
+use Rattle.chi_script.specs.Files.{◌>>=◌, lines_of, header_at, commands_of, script_of, file_of}
 use Rattle.chi_script.proofs.FaultLemmas.{failed}
 use Rattle.chi_script.proofs.LineLemmas.{parts_of}
 
-not_large : (n : ℕ) → n ≤ 1048576 → nat_lt 1048576 n ≡ false
-not_large n le = grind (arith, nat_tests)
+pub whole : (file line rest : List ℕ) → lines_of file ≡ line ∷ lines_of rest
+    → script_of (lines_of file) ≡ (header_at 1 line >>= λ header. commands_of 2 (lines_of rest) >>= λ commands. Ok (header, commands))
+whole file line rest e = let more = parts_of (λ b. b == 10) rest in rw (e, more.2) refl
 
-pub whole : (file line rest : List ℕ) → length file ≤ 1048576 → lines_of file ≡ line ∷ lines_of rest
-    → file_of file ≡ (header_at 1 line >>= λ header. commands_of 2 (lines_of rest) >>= λ commands. Ok (header, commands))
-unfolding file_of
-whole file line rest small e =
-    let more = parts_of (λ b. b == 10) rest in
-    let fits = not_large (length file) small in
-    rw (fits, e, more.2) refl
+pub bad_header : (fault : Fault) (file line rest : List ℕ) → lines_of file ≡ line ∷ lines_of rest → Fails fault (header_at 1 line) → Fails fault (script_of (lines_of file))
+bad_header fault file line rest e is = rw (whole file line rest e) (failed fault _ _ is)
 
-pub bad_header : (fault : Fault) (file line rest : List ℕ) → length file ≤ 1048576 → lines_of file ≡ line ∷ lines_of rest → Fails fault (header_at 1 line) → Fails fault (file_of file)
-bad_header fault file line rest small e is = rw (whole file line rest small e) (failed fault _ _ is)
+pub bad_commands : (fault : Fault) (file line rest : List ℕ) (header : Header) → lines_of file ≡ line ∷ lines_of rest → header_at 1 line ≡ Ok header → Fails fault (commands_of 2 (lines_of rest)) → Fails fault (script_of (lines_of file))
+bad_commands fault file line rest header e read is = rw (whole file line rest e, read) (failed fault _ _ is)
 
-pub bad_commands : (fault : Fault) (file line rest : List ℕ) (header : Header) → length file ≤ 1048576 → lines_of file ≡ line ∷ lines_of rest → header_at 1 line ≡ Ok header → Fails fault (commands_of 2 (lines_of rest)) → Fails fault (file_of file)
-bad_commands fault file line rest header small e read is = rw (whole file line rest small e, read) (failed fault _ _ is)
-
-pub good : (file line rest : List ℕ) (header : Header) (commands : List Command) → length file ≤ 1048576 → lines_of file ≡ line ∷ lines_of rest → header_at 1 line ≡ Ok header → commands_of 2 (lines_of rest) ≡ Ok commands → file_of file ≡ Ok (header, commands)
-good file line rest header commands small e read all = whole file line rest small e ∙ rw (read, all) refl
+pub good : (file line rest : List ℕ) (header : Header) (commands : List Command) → lines_of file ≡ line ∷ lines_of rest → header_at 1 line ≡ Ok header → commands_of 2 (lines_of rest) ≡ Ok commands → script_of (lines_of file) ≡ Ok (header, commands)
+good file line rest header commands e read all = whole file line rest e ∙ rw (read, all) refl
 
 large : (n : ℕ) → 1048576 < n → nat_lt 1048576 n ≡ true
 large n more = grind (arith, nat_tests)

@@ -8,13 +8,13 @@ use Rattle.chi_flit.specs.declared.credit.Profile.{Profile}
 use Rattle.chi_flit.specs.declared.credit.Profile.TheVariants.{Two, Four}
 use Rattle.chi_script.specs.declared.headers.Header.{Header}
 use Rattle.chi_script.specs.declared.headers.CreditTypes.{CreditTypes}
-use Rattle.chi_script.specs.Words.{◌>>=◌, is_text, words_of, number_of}
+use Rattle.chi_script.specs.Words.{◌>>=◌, is_text, words_of, number_of, has_no_space}
 use Rattle.chi_config.specs.Config.{are_entries}
 use Rattle.chi_script.specs.Headers.{types_of, sizes_of, kept, header_of, is_in_limits, IsInLimits}
 use Rattle.chi_script.specs.Spelling.{type_words, header_words, IsHeaderLine}
 use Rattle.chi_script.proofs.LimitLemmas.{each_few, entries_fit, limits_of, none_left}
 use Rattle.chi_script.proofs.NumberLemmas.{number_read, number_again, bound}
-use Rattle.chi_script.proofs.SpaceLemmas.{no_space, no_spaces, joined_again, decimal_no_space}
+use Rattle.chi_script.proofs.SpaceLemmas.{no_spaces, joined_again, decimal_no_space}
 
 -- words that are equal one by one
 front : (a b : List ℕ) (x y : List (List ℕ)) → a ≡ b → x ≡ y → a ∷ x ≡ b ∷ y
@@ -86,7 +86,7 @@ header_line line header e =
 few_again : (n : ℕ) → n ≤ 65536 → number_of (decimal n) ≡ Some n
 few_again n few = number_again n (decimal n) (omega (arith, few), refl)
 
-few_spaceless : (n : ℕ) → n ≤ 65536 → no_space (decimal n) ≡ true
+few_spaceless : (n : ℕ) → n ≤ 65536 → has_no_space (decimal n) ≡ true
 few_spaceless n few = decimal_no_space n (omega (arith, few))
 
 types_again : (profile : Profile) (entries : List ℕ) (journal : ℕ) → are_entries profile entries ≡ true → ((i : ℕ) → get_or entries i 0 ≤ 65536) → journal ≤ 65536

@@ -9,5 +9,5 @@ pub mod CommandLemmas
 pub mod SpaceLemmas
 pub mod HeaderLemmas
 pub mod WordLemmas
-pub mod TextLemmas
+pub mod UsualLemmas
 pub mod LackLemmas

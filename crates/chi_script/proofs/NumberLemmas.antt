@@ -1,5 +1,5 @@
 -- Numbers are read as they are written, and only so.
-use Rattle.std.proofs.Common.{◌≡◌, ℕ, zero, suc, ◌+◌, ◌-◌, ◌*◌, ◌^◌, ◌<◌, ◌≤◌, ◌&&◌, Bool, true, false, min, List, [], ◌∷◌, length, get_or, Option, Some, None, rules, arith, lit<, refl, sym, ap, ◌∙◌}
+use Rattle.std.proofs.Common.{◌≡◌, ℕ, zero, suc, ◌+◌, ◌-◌, ◌*◌, ◌^◌, ◌<◌, ◌≤◌, ◌==◌, ◌&&◌, Bool, true, false, min, List, [], ◌∷◌, length, get_or, Option, Some, None, rules, arith, lit<, refl, sym, ap, ◌∙◌}
 use Rattle.std.specs.Str.{all_ascii_digits}
 use Rattle.std.specs.Char.{is_ascii_digit}
 use Rattle.std.specs.Fmt.{decimal}
@@ -110,3 +110,37 @@ small_read word n e =
 
 pub small_again : (n : ℕ) (word : List ℕ) → IsSmall n word → small_of word ≡ Some n
 small_again n word is = rw (number_again is.0 word is.1, is.2) refl
+
+-- what is below 256 is read as it is
+uncapped : (o : Option ℕ) → ((m : ℕ) → o ≡ Some m → m ≤ 255) → o ≡ ((o >>= λ m. Some m) >>= λ n. Some (min n 255))
+uncapped None low = refl
+uncapped (Some m) low = let few = low m refl in ap Some (omega (arith, few))
+
+low_digit : (d m : ℕ) → with_digit 0 d ≡ Some m → m < 10
+low_digit d m e = let one = digit_some 0 d m e in grind (arith, nat_tests)
+
+low_pair : (n d m : ℕ) → n < 10 → with_digit n d ≡ Some m → m < 100
+low_pair n d m low e = let one = digit_some n d m e in grind (arith, nat_tests)
+
+-- a word of one digit, read as a small number
+pub one_small : (word : List ℕ) (d : ℕ) → 1 ≤ length word → length word < 2 → with_digit 0 (get_or word 0 d) ≡ small_of word
+unfolding digits_of
+one_small [] d low high = absurd (omega (arith, low))
+one_small (b ∷ []) d low high = uncapped (with_digit 0 b) (λ m e. let few = low_digit b m e in omega (arith, few))
+one_small (b ∷ next ∷ more) d low high = absurd (omega (arith, high))
+
+-- a second digit behind the first
+second_digit : (o : Option ℕ) (b : ℕ) → ((m : ℕ) → o ≡ Some m → m < 10) → (o >>= λ m. with_digit m b) ≡ ((o >>= λ m. with_digit m b >>= λ k. Some k) >>= λ n. Some (min n 255))
+second_digit None b low = refl
+second_digit (Some m) b low = uncapped (with_digit m b) (λ k e. let few = low_pair m b k (low m refl) e in omega (arith, few))
+
+-- a word of two digits, read as a small number
+pub two_small : (a b : ℕ) → (a == 48) ≡ false → (with_digit 0 a >>= λ m. with_digit m b) ≡ small_of (a ∷ b ∷ [])
+unfolding digits_of
+two_small a b other = rw other (second_digit (with_digit 0 a) b (low_digit a))
+
+pub two_bytes : (word : List ℕ) (d e : ℕ) → 2 ≤ length word → length word < 3 → small_of (get_or word 0 d ∷ get_or word 1 e ∷ []) ≡ small_of word
+two_bytes [] d e low high = absurd (omega (arith, low))
+two_bytes (a ∷ []) d e low high = absurd (omega (arith, low))
+two_bytes (a ∷ b ∷ []) d e low high = refl
+two_bytes (a ∷ b ∷ c ∷ more) d e low high = absurd (omega (arith, high))

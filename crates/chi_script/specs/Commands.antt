@@ -14,7 +14,7 @@ use Rattle.chi_flit.specs.declared.action.Step.{Step}
 use Rattle.chi_flit.specs.declared.action.Step.TheVariants.{Load, Store, Drop, Issue, RecvRetry, Resend, Cancel, Start, RecvSnp, RecvSnpResp, RecvData, RecvComp, RecvAck, RecvDbid, RecvWrData}
 use Rattle.chi_script.specs.declared.commands.Command.{Command}
 use Rattle.chi_script.specs.declared.commands.Command.TheVariants.{Totals, Audit, Show, Flits, Arrive, See, GiveBack, Tend, Act}
-use Rattle.chi_script.specs.Words.{◌>>=◌, is_text, number_of, small_of}
+use Rattle.chi_script.specs.Words.{◌>>=◌, is_text, number_of, small_of, words_of}
 
 abbrev pub agent_at : ℕ → Agent
 agent_at n = record { 0 = n }
@@ -110,3 +110,7 @@ command_of (verb ∷ a ∷ b ∷ []) = small_of a >>= λ n. small_of b >>= λ l.
 command_of (verb ∷ a ∷ b ∷ c ∷ []) = step_with_one verb c >>= λ step. command_step a b step
 command_of (verb ∷ a ∷ b ∷ c ∷ d ∷ []) = step_with_two verb c d >>= λ step. command_step a b step
 command_of _ = None
+
+-- the command that a line is
+abbrev pub line_command : List ℕ → Option Command
+line_command line = command_of (words_of line)

@@ -5,7 +5,7 @@ use Rattle.chi_config.specs.Config as config
 use Rattle.chi_script.specs.declared.headers.Header.{Header}
 use Rattle.chi_script.specs.declared.headers.CreditTypes.{CreditTypes}
 use Rattle.chi_script.specs.declared.headers.Sizes.{Sizes}
-use Rattle.chi_script.specs.Words.{◌>>=◌, is_text, number_of}
+use Rattle.chi_script.specs.Words.{◌>>=◌, is_text, number_of, words_of}
 
 -- whether n is one of the numbers from least to most
 abbrev pub is_from : ℕ → ℕ → ℕ → Bool
@@ -53,6 +53,10 @@ kept header = if is_in_limits header then Some header else None
 abbrev pub header_of : List (List ℕ) → Option Header
 header_of [] = None
 header_of (verb ∷ numbers) = if is_text verb (codes "node") then (sizes_of numbers >>= kept) else None
+
+-- the header that a line is
+abbrev pub line_header : List ℕ → Option Header
+line_header line = header_of (words_of line)
 
 -- the same sizes, read but not yet held against the limits
 abbrev pub sized : Sizes → Header

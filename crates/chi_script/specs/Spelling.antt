@@ -1,6 +1,6 @@
 -- How numbers, commands and headers are written (docs/PROTOCOL.md, "Replay files"): apart from how they
 -- are read.
-use Rattle.std.specs.Prelude.{◌≡◌, ℕ, ◌^◌, ◌<◌, min, List, [], ◌∷◌, Option, Some, None, codes, slice_index, true}
+use Rattle.std.specs.Prelude.{◌≡◌, ℕ, ◌^◌, ◌<◌, min, List, [], ◌∷◌, Option, Some, None, Result, Ok, codes, slice_index, true}
 use Rattle.std.specs.List.{join_with_byte}
 use Rattle.std.specs.Fmt.{decimal}
 use Rattle.chi_flit.specs.Credit.{credit_number}
@@ -12,6 +12,7 @@ use Rattle.chi_flit.specs.declared.credit.CreditType.{CreditType}
 use Rattle.chi_flit.specs.declared.credit.Profile.{Profile}
 use Rattle.chi_flit.specs.declared.credit.Profile.TheVariants.{Two, Four}
 use Rattle.chi_script.specs.declared.headers.Header.{Header}
+use Rattle.chi_script.specs.declared.faults.Fault.{Fault}
 use Rattle.chi_script.specs.Headers.{is_in_limits}
 use Rattle.chi_script.specs.declared.commands.Command.{Command}
 use Rattle.chi_script.specs.declared.commands.Command.TheVariants.{Totals, Audit, Show, Flits, Arrive, See, GiveBack, Tend, Act}
@@ -113,3 +114,18 @@ header_words header =
 -- a header within the limits, and its one line
 abbrev pub IsHeaderLine : Header → List ℕ → Type 0
 IsHeaderLine header line = (is_in_limits header ≡ true) × (line ≡ join_with_byte 32 (header_words header))
+
+-- whatever a text is read as, it spells that
+abbrev pub ReadsOnly : {X : Type 0} → (List ℕ → Option X) → (X → List ℕ → Type 0) → Type 0
+ReadsOnly {X = X} read IsSpelled = (text : List ℕ) (x : X) → read text ≡ Some x → IsSpelled x text
+
+-- whatever a text spells, it is read as that
+abbrev pub ReadsAll : {X : Type 0} → (List ℕ → Option X) → (X → List ℕ → Type 0) → Type 0
+ReadsAll {X = X} read IsSpelled = (text : List ℕ) (x : X) → IsSpelled x text → read text ≡ Some x
+
+-- the same of whole files, in which there may be a fault
+abbrev pub FilesOnly : {X : Type 0} → (List ℕ → Result X Fault) → (X → List ℕ → Type 0) → Type 0
+FilesOnly {X = X} read IsSpelled = (file : List ℕ) (x : X) → read file ≡ Ok x → IsSpelled x file
+
+abbrev pub FilesAll : {X : Type 0} → (List ℕ → Result X Fault) → (X → List ℕ → Type 0) → Type 0
+FilesAll {X = X} read IsSpelled = (file : List ℕ) (x : X) → IsSpelled x file → read file ≡ Ok x

@@ -1,5 +1,5 @@
 -- Words of a line, and the numbers among them (docs/PROTOCOL.md, "Replay files").
-use Rattle.std.specs.Prelude.{ℕ, ◌+◌, ◌-◌, ◌*◌, ◌^◌, ◌==◌, ◌&&◌, min, nat_lt, Bool, List, [], ◌∷◌, Option, Some, None, if◌then◌else◌, map, bytes_eq}
+use Rattle.std.specs.Prelude.{ℕ, ◌+◌, ◌-◌, ◌*◌, ◌^◌, ◌==◌, ◌&&◌, min, nat_lt, not, Bool, true, List, [], ◌∷◌, Option, Some, None, if◌then◌else◌, map, bytes_eq}
 use Rattle.std.specs.List.{slice_split}
 use denote.Ref.{Bor}
 use Rattle.std.specs.Char.{is_ascii_digit}
@@ -12,6 +12,11 @@ None >>= next = None
 -- one space stands between two words
 abbrev pub words_of : List ℕ → List (List ℕ)
 words_of line = slice_split (λ b. b == 32) line
+
+-- whether a text may be one word
+abbrev pub has_no_space : List ℕ → Bool
+has_no_space [] = true
+has_no_space (b ∷ bs) = not (b == 32) && has_no_space bs
 
 -- what references to words point to
 abbrev pub texts_of : List (Bor (List ℕ)) → List (List ℕ)

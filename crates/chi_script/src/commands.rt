@@ -5,7 +5,8 @@ ghost use Rattle.chi_script.specs.Words.{words_of};
 ghost use Rattle.chi_script.specs.Commands.{command_of, command_bare, command_one, command_two, command_step, act_at, credit_of, step_of, step_with_one, step_with_two, kind_of};
 
 use crate::numbers::{number, small};
-use crate::words::{first_word, is};
+use crate::usual_lines::usual_command;
+use crate::words::{first_argument, first_word, is};
 use chi_flit::{Action, Agent, CreditType, Kind, Line, Slot, Step, WordNo};
 
 /// One command of a replay file.
@@ -57,6 +58,16 @@ pub enum Command {
 pub fn read_command(line: &[u8]) -> Option<Command>
     ensures { result ≡ command_of (words_of line.now) }
 {
+    match usual_command(line) {
+        Some(command) => Some(command),
+        None => worded_command(line),
+    }
+}
+
+/// The command that a line is, by its words.
+fn worded_command(line: &[u8]) -> Option<Command>
+    ensures { result ≡ command_of (words_of line.now) }
+{
     match first_word(line) {
         None => bare(line),
         Some((verb, rest)) => after_one(verb, rest),
@@ -64,10 +75,10 @@ pub fn read_command(line: &[u8]) -> Option<Command>
 }
 
 /// The command of a verb and what stands behind it.
-fn after_one(verb: &[u8], rest: &[u8]) -> Option<Command>
+pub(crate) fn after_one(verb: &[u8], rest: &[u8]) -> Option<Command>
     ensures { result ≡ command_of (verb.now ∷ words_of rest.now) }
 {
-    match first_word(rest) {
+    match first_argument(rest) {
         None => with_one(verb, small(rest)?),
         Some((first, rest)) => after_two(verb, first, rest),
     }
@@ -77,7 +88,7 @@ fn after_one(verb: &[u8], rest: &[u8]) -> Option<Command>
 fn after_two(verb: &[u8], first: &[u8], rest: &[u8]) -> Option<Command>
     ensures { result ≡ command_of (verb.now ∷ first.now ∷ words_of rest.now) }
 {
-    match first_word(rest) {
+    match first_argument(rest) {
         None => with_two(verb, small(first)?, small(rest)?),
         Some((second, rest)) => after_three(verb, first, second, rest),
     }
@@ -87,7 +98,7 @@ fn after_two(verb: &[u8], first: &[u8], rest: &[u8]) -> Option<Command>
 fn after_three(verb: &[u8], first: &[u8], second: &[u8], rest: &[u8]) -> Option<Command>
     ensures { result ≡ command_of (verb.now ∷ first.now ∷ second.now ∷ words_of rest.now) }
 {
-    match first_word(rest) {
+    match first_argument(rest) {
         None => stepped(first, second, step_with_one(verb, rest)?),
         Some((third, rest)) => after_four(verb, first, second, third, rest),
     }
@@ -103,7 +114,7 @@ fn after_four(
 ) -> Option<Command>
     ensures { result ≡ command_of (verb.now ∷ first.now ∷ second.now ∷ third.now ∷ words_of rest.now) }
 {
-    match first_word(rest) {
+    match first_argument(rest) {
         None => stepped(first, second, step_with_two(verb, third, rest)?),
         Some(_) => None,
     }
@@ -179,7 +190,7 @@ fn stepped(first: &[u8], second: &[u8], step: Step) -> Option<Command>
 }
 
 /// The command that is this step of an agent on a line.
-fn act(first: u8, second: u8, step: Step) -> Command
+pub(crate) fn act(first: u8, second: u8, step: Step) -> Command
     ensures { result ≡ act_at first second step }
 {
     let agent = Agent(first);

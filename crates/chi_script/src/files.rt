@@ -4,7 +4,7 @@ ghost use Rattle.std.specs.Prelude.{◌≡◌, ◌<◌, ◌+◌, ◌==◌, ◌�
 ghost use Rattle.std.specs.List.{position};
 ghost use Rattle.chi_script.specs.Headers.{is_in_limits};
 ghost use Rattle.chi_script.specs.Faults.{Gives};
-ghost use Rattle.chi_script.specs.Files.{lines_of, header_at, command_at, commands_of, file_of};
+ghost use Rattle.chi_script.specs.Files.{lines_of, header_at, command_at, commands_of, file_of, script_of};
 
 use crate::commands::{Command, read_command};
 use crate::faults::Fault;
@@ -39,6 +39,13 @@ pub fn read_file<A: Allocator + Copy>(alloc: A, bytes: &[u8]) -> Result<Script<A
     if bytes.len() > MOST_BYTES {
         return Err(Fault::TooLarge);
     }
+    read_lines(alloc, bytes)
+}
+
+/// The header and the commands of the lines from line 1 on.
+fn read_lines<A: Allocator + Copy>(alloc: A, bytes: &[u8]) -> Result<Script<A>, Fault>
+    ensures { Gives (λ script. (script.header, script.commands.items)) result (script_of (lines_of bytes.now)) }
+{
     match first_line(bytes) {
         None if bytes.is_empty() => Err(Fault::BadHeader(1)),
         None => Err(Fault::MissingNewline(1)),
@@ -52,7 +59,6 @@ pub fn read_file<A: Allocator + Copy>(alloc: A, bytes: &[u8]) -> Result<Script<A
 
 /// The commands of the lines from line 2 on.
 fn read_commands<A: Allocator + Copy>(alloc: A, bytes: &[u8]) -> Result<Vec<Command, A>, Fault>
-    requires { length bytes.now ≤ 1048576 }
     ensures { Gives (λ commands. commands.items) result (commands_of 2 (lines_of bytes.now)) }
 {
     let mut commands = Vec::new(alloc);
@@ -93,7 +99,8 @@ fn command_in(line: &[u8], number: usize) -> Result<Command, Fault>
 /// The bytes before the first line end, and those after it. `None` where there is no line end.
 /// Source: `docs/PROTOCOL.md`, "Bytes, lines and numbers".
 pub fn first_line(bytes: &[u8]) -> Option<(&[u8], &[u8])>
-    ensures some { IfSome result (λ parts. (lines_of bytes.now ≡ parts.0.now ∷ lines_of parts.1.now) × (length parts.1.now < length bytes.now)) }
+    ensures some { IfSome result (λ parts. lines_of bytes.now ≡ parts.0.now ∷ lines_of parts.1.now) }
+    ensures shorter { IfSome result (λ parts. length parts.1.now < length bytes.now) }
     ensures none { IfNone result (lines_of bytes.now ≡ bytes.now ∷ []) }
 {
     let end = line_end(bytes)?;

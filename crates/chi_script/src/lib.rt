@@ -10,6 +10,7 @@ mod files;
 mod headers;
 mod laws;
 mod numbers;
+mod usual_lines;
 mod words;
 
 pub use commands::{Command, read_command};

@@ -1,6 +1,6 @@
 //! Numbers as a file writes them.
 
-ghost use Rattle.std.specs.Prelude.{◌≡◌};
+ghost use Rattle.std.specs.Prelude.{◌≡◌, ◌<◌, ◌∷◌, [], IfSome};
 ghost use Rattle.chi_script.specs.Words.{number_of, small_of, with_digit, digits_of};
 
 /// The number that the word writes: `0`, or decimal digits without a leading zero, at most
@@ -23,8 +23,44 @@ pub fn number(word: &[u8]) -> Option<u64>
 pub fn small(word: &[u8]) -> Option<u8>
     ensures { result ≡ small_of word.now }
 {
+    match word {
+        [digit] => with_small_digit(0, *digit),
+        [high, low] => pair(*high, *low),
+        _ => capped(word),
+    }
+}
+
+/// The number that two bytes write.
+#[tactic(auto, using(crate::proofs::NumberLemmas::two_small))]
+fn pair(high: u8, low: u8) -> Option<u8>
+    ensures { result ≡ small_of (high ∷ low ∷ []) }
+{
+    if high == b'0' {
+        return None;
+    }
+    let tens = with_small_digit(0, high)?;
+    with_small_digit(tens, low)
+}
+
+/// The same of a word of any length, by all its digits.
+#[inline(never)]
+fn capped(word: &[u8]) -> Option<u8>
+    ensures { result ≡ small_of word.now }
+{
     let written = number(word)?;
     Some(u8::try_from(written).unwrap_or(u8::MAX))
+}
+
+/// The number with one more digit at its end.
+fn with_small_digit(number: u8, digit: u8) -> Option<u8>
+    requires { number < 10 }
+    ensures digit { result ≡ with_digit number digit }
+    ensures small { number ≡ 0 → IfSome result (λ more. more < 10) }
+{
+    if !digit.is_ascii_digit() {
+        return None;
+    }
+    Some(number * 10 + (digit - b'0'))
 }
 
 /// The number whose digits are those of `high` and then all of `word`.

@@ -30,6 +30,16 @@ pub fn first_word(line: &[u8]) -> Option<(&[u8], &[u8])>
     Some((&line[..end], &line[end + 1..]))
 }
 
+/// The same as `first_word`, sooner where the first word has one byte or two, as most numbers have.
+#[inline(always)]
+pub(crate) fn first_argument(line: &[u8]) -> Option<(&[u8], &[u8])>
+    ensures some { IfSome result (λ parts. words_of line.now ≡ parts.0.now ∷ words_of parts.1.now) }
+    ensures none { IfNone result (words_of line.now ≡ line.now ∷ []) }
+{
+    let end = argument_end(line)?;
+    Some((&line[..end], &line[end + 1..]))
+}
+
 /// Where the first space stands. It isn't inlined, so that its loop stays small.
 #[inline(never)]
 fn word_end(line: &[u8]) -> Option<usize>
@@ -38,11 +48,25 @@ fn word_end(line: &[u8]) -> Option<usize>
     line.iter().position(|byte| *byte == b' ')
 }
 
+/// Where the first space stands; the places behind no more than two bytes are looked at without a loop.
+#[inline(always)]
+fn argument_end(line: &[u8]) -> Option<usize>
+    ensures { result ≡ position (λ byte. byte == 32) line.now }
+{
+    match line {
+        [b' ', ..] => Some(0),
+        [_, b' ', ..] => Some(1),
+        [_, _, b' ', ..] => Some(2),
+        [] | [_] | [_, _] => None,
+        _ => word_end(line),
+    }
+}
+
 /// Whether a word is just this text.
 /// Source: `docs/PROTOCOL.md`, "Bytes, lines and numbers".
 #[inline(always)]
 pub fn is(word: &[u8], text: &str) -> bool
     ensures { result ≡ is_text word.now text.now }
 {
-    word.len() == text.len() && word.starts_with(text.as_bytes())
+    word == text.as_bytes()
 }

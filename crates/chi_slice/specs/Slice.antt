@@ -5,7 +5,6 @@ use Rattle.std.specs.Prelude.{false, ◌&&◌, ◌||◌, ◌==◌, nat_lt, Optio
 use Rattle.std.specs.Prelude.{length, replicate, slice_set, if◌then◌else◌}
 use Rattle.std.specs.List.{list_any, slice_index_or}
 use Rattle.chi_flit.specs.declared.numbers.Slot.{Slot}
-use Rattle.chi_flit.specs.declared.credit.CreditType.{CreditType}
 use Rattle.chi_flit.specs.declared.action.Action.{Action}
 use Rattle.chi_flit.specs.declared.action.Step.{Step}
 use Rattle.chi_flit.specs.declared.action.Effect.{Effect}
@@ -15,15 +14,14 @@ use Rattle.chi_journal.specs.declared.record.Record.{Record}
 use Rattle.chi_journal.specs.Journal.{IsLegal, Log, appended, is_full, last_words, opening_log}
 use Rattle.chi_config.specs.Config.{Sizes, are_in_limits}
 use Rattle.chi_slice.specs.declared.terms.Terms.{Terms}
-use Rattle.chi_line.specs.LineState.{LineState, opening_line, rn_of}
+use Rattle.chi_line.specs.LineState.{LineState, opening_line}
 use Rattle.chi_line.specs.declared.act.Conditions.{Conditions}
-use Rattle.chi_line.specs.Step.{after, effect_of, is_step_in_range, issued_slot, line_uses, pending_slot, record_of, slot_unless}
+use Rattle.chi_line.specs.Step.{after, effect_of, is_step_in_range, issued_slot, line_uses, record_of, slot_unless}
 use Rattle.chi_line.specs.LineStep.{LineStep}
 use Rattle.chi_line.specs.Moves.{moved_slot}
 use Rattle.chi_line.specs.Refused.{line_refusal}
 use Rattle.chi_line.specs.Traffic.{KeepsFlits}
 use Rattle.chi_line.specs.Kept.{Kept}
-use Rattle.chi_line.specs.Types.{pending_credit}
 
 pub record SliceState : Type 0 where
   pub config : Sizes
@@ -54,13 +52,6 @@ row_of_line s l = l / s.config.slices
 -- the line l
 abbrev pub line : SliceState → ℕ → LineState
 line s l = line_at s (row_of_line s l)
-
--- an agent's request to a line that is pending: its slot, and its credit type
-abbrev pub slot_at : SliceState → ℕ → ℕ → Option Slot
-slot_at s n l = pending_slot (rn_of (line s l) n).pending
-
-abbrev pub credit_at : SliceState → ℕ → ℕ → Option CreditType
-credit_at s n l = pending_credit s.config.profile (rn_of (line s l) n).pending
 
 -- whether an agent's slot is in use at any line of the slice
 abbrev pub uses : SliceState → ℕ → Slot → Bool

@@ -1,6 +1,6 @@
 //! A slice: some of the node's lines, and all that belongs to them.
 
-ghost use Rattle.std.specs.Prelude.{◌≡◌, ℕ, ◌<◌, ◌&&◌, nat_lt, true, false, None, Some, is_some, replicate, IfOk, IfSome, OnOk, OnErr};
+ghost use Rattle.std.specs.Prelude.{◌≡◌, ◌↔◌, ℕ, ◌<◌, ◌&&◌, nat_lt, true, false, None, Some, is_some, replicate, IfOk, IfSome, IsTrue, OnOk, OnErr};
 ghost use Rattle.chi_flit.specs.Refusal.{refusal_of};
 ghost use Rattle.chi_journal.specs.Journal.{IsLegal};
 ghost use Rattle.chi_line.specs.Coherent.{Coherent};
@@ -13,7 +13,7 @@ ghost use Rattle.chi_slice.specs.Coherence.{IsCoherentSlice};
 ghost use Rattle.chi_config.specs.Config.{are_in_limits};
 ghost use Rattle.chi_slice.specs.Index.{HasType, IsInside, IsShown, SlotsInRange, is_slot_of, typed_at};
 ghost use Rattle.chi_slice.specs.Run.{IsRun};
-ghost use Rattle.chi_slice.specs.Slice.{IsBalanced, IsStep, OtherLinesStay, SliceKept, acted, are_in_range, completes, conditions_under, credit_at, entry_of, flits_refusal, is_in_range, is_line_in_range, is_slot_used, last_of, line as line_of_slice, moved_by, no_terms, opening_slice, range_refusal, recorded, refused, refused_under, row_count, row_of_line, run_after, run_done, slot_at, uses, view_refusal};
+ghost use Rattle.chi_slice.specs.Slice.{IsBalanced, IsStep, OtherLinesStay, SliceKept, acted, are_in_range, completes, conditions_under, entry_of, flits_refusal, is_in_range, is_line_in_range, is_slot_used, last_of, line as line_of_slice, moved_by, no_terms, opening_slice, range_refusal, recorded, refused, refused_under, row_count, row_of_line, run_after, run_done, uses, view_refusal};
 ghost use Rattle.chi_slice.specs.Table.{IsByTable};
 
 use crate::agent_line::AgentLine;
@@ -23,7 +23,7 @@ use crate::terms::{Done, Terms};
 use chi_config::Config;
 use chi_flit::{Action, Agent, CreditType, Effect, Line, NoMemory, Refusal, Slot, Step};
 use chi_journal::Journal;
-use chi_line::{Conditions, LineView, TypedSlot, pending_credit, pending_slot};
+use chi_line::{Conditions, LineView, TypedSlot};
 use chi_wires::Cells;
 use std::alloc::Allocator;
 use std::marker::Model;
@@ -214,6 +214,7 @@ impl<A: Allocator> Slice<A> {
     /// Refused as by `act`, and also 3 (Pending) an Issue whose slot is taken elsewhere, and 12 (NoCredit)
     /// a Resend without a credit of its request's type; nothing changes then.
     /// Source: `docs/PROTOCOL.md`, "The actions" and "A requester and its calls".
+    #[inline(always)]
     pub fn act_under(&mut self, action: Action, terms: Terms) -> Result<Done, Refusal>
         ensures refusal { refusal_of result ≡ refused_under terms self.old action }
         ensures step { IfOk result (λ done. IsStep self.old action done.effect self.new) }
@@ -366,21 +367,6 @@ impl<A: Allocator> Slice<A> {
         line.0 < self.config.lines() && self.config.slice_of(line) == self.index
     }
 
-    /// The slot of the agent's request to the line that is pending.
-    ///
-    /// Refused 10 (OutOfRange) exactly where the agent or the line is outside the node, or the line is in
-    /// another slice.
-    /// Source: `docs/PROTOCOL.md`, "One line".
-    pub fn pending(&self, agent: Agent, line: Line) -> Result<Option<Slot>, Refusal>
-        ensures pending { IfOk result (λ slot. slot ≡ slot_at self.now agent.0 line.0) }
-        ensures refusal { refusal_of result ≡ flits_refusal self.now agent.0 line.0 }
-        ensures kept { SliceKept self.now }
-        ensures slots { SlotsInRange self.now }
-    {
-        let at = self.line_for(agent, line)?;
-        Ok(pending_slot(at.copy(agent).pending()))
-    }
-
     /// The place of the request that uses an agent's slot: its line, which is in this slice, and where the
     /// request is there, by the rows of the table. `None` where no row holds of the slot at any line of the
     /// slice, and for an agent or slot outside the eight of each.
@@ -411,26 +397,21 @@ impl<A: Allocator> Slice<A> {
         }
     }
 
-    /// The place of an agent's slot, as `place` answers it, and whether the slot has this credit type
-    /// wherever a line of the slice still keeps the kind of its request: true for an agent or slot outside
-    /// the eight of each. Both come of one look at the index.
+    /// Whether an agent's slot has this credit type wherever a line of the slice still keeps the kind of its
+    /// request: true where the slice has no place of the slot, and for an agent or slot outside the eight of
+    /// each. No line is looked at but that of the place.
     /// Source: `docs/PROTOCOL.md`, "Agreement".
-    pub fn typed_place(&self, agent: Agent, slot: Slot, credit: CreditType) -> (Option<Place>, bool)
-        ensures shows { agent.0 < 8 → slot.0 < 8 → IsShown self.now agent.0 slot result.0 }
-        ensures line { agent.0 < 8 → slot.0 < 8 → IsInside self.now result.0 }
-        ensures nowhere { is_slot_of agent.0 slot ≡ false → result.0 ≡ None }
-        ensures all { agent.0 < 8 → slot.0 < 8 → result.1 ≡ true → HasType self.now credit agent.0 slot }
-        ensures only { agent.0 < 8 → slot.0 < 8 → HasType self.now credit agent.0 slot → result.1 ≡ true }
-        ensures outside { is_slot_of agent.0 slot ≡ false → result.1 ≡ true }
+    pub fn has_type(&self, agent: Agent, slot: Slot, credit: CreditType) -> bool
+        ensures typed { agent.0 < 8 → slot.0 < 8 → IsTrue result ↔ HasType self.now credit agent.0 slot }
+        ensures outside { is_slot_of agent.0 slot ≡ false → result ≡ true }
         ensures kept { SliceKept self.now }
     {
-        let place = self.place(agent, slot);
         let typed = TypedSlot {
             agent,
             slot,
             credit,
         };
-        (place, self.is_type_in(place, typed))
+        self.is_type_in(self.place(agent, slot), typed)
     }
 
     /// The loads and stores that were answered, in their order: each load had the value that was stored
@@ -440,6 +421,7 @@ impl<A: Allocator> Slice<A> {
         ensures journal { result.now ≡ self.now.journal }
         ensures legal { IsLegal self.now.journal.entries }
         ensures kept { SliceKept self.now }
+        ensures slots { SlotsInRange self.now }
     {
         &self.journal
     }
@@ -468,18 +450,5 @@ impl<A: Allocator> Slice<A> {
         ensures { result ≡ self.now.index }
     {
         self.index
-    }
-
-    /// The credit type of the agent's request to the line that is pending, by the node's profile.
-    ///
-    /// Refused 10 (OutOfRange) exactly where the agent or the line is outside the node, or the line is in
-    /// another slice.
-    /// Source: `docs/PROTOCOL.md`, "Kinds of request".
-    pub fn pending_credit(&self, agent: Agent, line: Line) -> Result<Option<CreditType>, Refusal>
-        ensures credit { IfOk result (λ credit. credit ≡ credit_at self.now agent.0 line.0) }
-        ensures refusal { refusal_of result ≡ flits_refusal self.now agent.0 line.0 }
-    {
-        let at = self.line_for(agent, line)?;
-        Ok(pending_credit(self.config.profile(), at.copy(agent).pending()))
     }
 }

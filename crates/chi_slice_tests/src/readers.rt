@@ -48,7 +48,8 @@ type Pending = Result<Option<Slot>, Refusal>;
 
 /// The slot that the slice tells.
 fn pending(slice: &Slice<Global>, agent: u8, line: u8) -> Pending {
-    slice.pending(Agent(agent), Line(line))
+    let at = slice.agent_line(Agent(agent), Line(line))?;
+    Ok(at.copy.pending().map(|request| request.slot))
 }
 
 /// The slot of the agent's pending request to the line.
@@ -103,7 +104,7 @@ fn tells_the_pending_slot(rt: HostRuntime) {
 
 /// Whether the slot has the type.
 fn has(slice: &Slice<Global>, agent: u8, slot: u8, credit: CreditType) -> bool {
-    slice.typed_place(Agent(agent), Slot(slot), credit).1
+    slice.has_type(Agent(agent), Slot(slot), credit)
 }
 
 /// Which of the four types the slot has.

@@ -1,5 +1,5 @@
 -- What a storm writes (docs/PROTOCOL.md, "Storm files" and "The output of a storm").
-use Rattle.std.specs.Prelude.{◌≡◌, ◌↔◌, ℕ, ◌+◌, List, Bool, IsTrue, Option, Ok}
+use Rattle.std.specs.Prelude.{◌≡◌, ◌↔◌, ℕ, ◌+◌, List, Bool, IfSome, IsTrue, Option, Ok}
 use Rattle.std.specs.Io.KnownBytes.{Appends, Keeps}
 use Rattle.chi_reports.specs.declared.reports.Report.{Report}
 use Rattle.chi_devices.specs.Devices.{AppendsFront}
@@ -35,15 +35,19 @@ pub record IsStormOf (file : List ℕ) (o : Outcome) : Type 0 where
   pub comes : ComesOf (node_sizes header) o
 
 -- the four lines of such an outcome were written, no more; whether each agent's script finished
-pub record WritesOutcome (file : List ℕ) (all : Bool) (old new : Option (List ℕ)) : Type 0 where
+pub record IsWritten (file : List ℕ) (all : Bool) (old new : Option (List ℕ)) : Type 0 where
   pub came : Outcome
   pub storm : IsStormOf file came
   pub finished : IsTrue all ↔ (came.finished ≡ came.agents)
   pub written : Appends old new (outcome_text came)
 
--- a beginning of them was written
-abbrev pub WritesFront : List ℕ → Option (List ℕ) → Option (List ℕ) → Type 0
-WritesFront file old new = (o : Outcome) × IsStormOf file o × AppendsFront old new (outcome_text o)
+-- of the file that the input has, where its bytes are known: its four lines were written
+abbrev pub WritesOutcome : Option (List ℕ) → Option (List ℕ) → Option (List ℕ) → Bool → Type 0
+WritesOutcome input old new all = IfSome input (λ file. IsWritten file all old new)
+
+-- of that file: a beginning of them was written
+abbrev pub WritesFront : Option (List ℕ) → Option (List ℕ) → Option (List ℕ) → Type 0
+WritesFront input old new = IfSome input (λ file. (o : Outcome) × IsStormOf file o × AppendsFront old new (outcome_text o))
 
 -- why an outcome wasn't written: the output failed, and counted it, and a beginning was written; or memory ran
 -- out, and nothing was

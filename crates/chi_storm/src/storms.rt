@@ -1,11 +1,11 @@
 //! From the bytes of a file of scripts to the four lines that are written.
 
-ghost use Rattle.std.specs.Prelude.{◌≡◌, ◌≢◌, ◌↔◌, ◌+◌, ◌^◌, ◌<◌, Err, IfOk, IfErr, IfSome, IsErrOf, IsTrue};
+ghost use Rattle.std.specs.Prelude.{◌≡◌, ◌≢◌, ◌↔◌, ◌+◌, ◌^◌, ◌<◌, IfOk, IfErr, IfSome, IsTrue};
 ghost use Rattle.std.specs.Io.KnownBytes.{Appends, Keeps};
 ghost use Rattle.chi_script.specs.Faults.{Fails};
 ghost use Rattle.chi_script.specs.declared.faults.Fault.{Fault};
 ghost use Rattle.chi_storm_script.specs.Storms.{storm_of};
-ghost use Rattle.chi_replay.specs.Replays.{NoText, Refuses};
+ghost use Rattle.chi_replay.specs.Replays.{AtWrite, KeepsAtFault, NoText, NoTextAt, RefusesFault};
 ghost use Rattle.chi_storm.specs.Outcomes.{outcome_text};
 ghost use Rattle.chi_storm.specs.Storms.{ComesOf, IsStormOf, NotTold, WritesFront, WritesOutcome};
 
@@ -127,10 +127,13 @@ pub fn storm<R: Threads + Wait + Clock + Sync, I: Input, O: Output>(
 ) -> Result<bool, Fault>
     requires reads { I.failures input.old + 1 < 2 ^ 64 }
     requires writes { O.failures output.old + 1 < 2 ^ 64 }
-    ensures ok { IfOk result (λ all. IfSome (I.left input.old) (λ file. WritesOutcome file all (O.written output.old) (O.written output.new))) }
-    ensures write { IsErrOf result Fault.Write → (O.failures output.new ≡ O.failures output.old + 1) × IfSome (I.left input.old) (λ file. WritesFront file (O.written output.old) (O.written output.new)) }
-    ensures err { IfErr result (λ fault. fault ≢ Fault.Write → NoText storm_of (I.left input.old) (I.failures input.old) (I.failures input.new) fault × Keeps (O.written output.old) (O.written output.new)) }
-    ensures faulty { IfSome (I.left input.old) (λ file. (fault : Fault) → storm_of file ≡ Err fault → Refuses fault result × Keeps (O.written output.old) (O.written output.new)) }
+    ensures ok { IfOk result (WritesOutcome (I.left input.old) (O.written output.old) (O.written output.new)) }
+    ensures write { AtWrite result (O.failures output.new ≡ O.failures output.old + 1) }
+    ensures front { AtWrite result (WritesFront (I.left input.old) (O.written output.old) (O.written output.new)) }
+    ensures err { NoTextAt result storm_of (I.left input.old) (I.failures input.old) (I.failures input.new) }
+    ensures kept { IfErr result (λ fault. fault ≢ Fault.Write → Keeps (O.written output.old) (O.written output.new)) }
+    ensures faulty { RefusesFault storm_of (I.left input.old) result }
+    ensures silent { KeepsAtFault storm_of (I.left input.old) (O.written output.old) (O.written output.new) }
 {
     let outcome = outcome_of_input(rt, alloc, input, seed, turns)?;
     told(alloc, outcome, output)

@@ -10,10 +10,10 @@ use Rattle.chi_flit.specs.declared.operation.Task.TheVariants.{Load, Share, Stor
 use Rattle.chi_script.specs.declared.headers.Header.{Header}
 use Rattle.chi_script.specs.Headers.{is_in_limits, IsInLimits}
 use Rattle.chi_script.specs.Commands.{word_at}
-use Rattle.chi_script.specs.Words.{◌>>=◌, is_text, words_of, number_of}
+use Rattle.chi_script.specs.Words.{◌>>=◌, is_text, words_of, number_of, has_no_space}
 use Rattle.chi_script.proofs.LimitLemmas.{limits_of}
 use Rattle.chi_script.proofs.NumberLemmas.{number_read, number_again, bound}
-use Rattle.chi_script.proofs.SpaceLemmas.{no_space, joined_again, decimal_no_space}
+use Rattle.chi_script.proofs.SpaceLemmas.{joined_again, decimal_no_space}
 use Rattle.chi_storm_script.specs.declared.operations.Deed.{Deed}
 use Rattle.chi_storm_script.specs.Operations.{number_below, task_of, task_with_word, task_with_value, deed_on, deed_with, deed_of}
 use Rattle.chi_storm_script.specs.Spelling.{verb_of, words_behind, deed_words, IsTaskInRange, IsInRange, IsDeedLine}
@@ -140,8 +140,8 @@ line_read header line deed e =
 record AreRead (header : Header) (deed : Deed) : Type 0 where
   agent : number_below header.agents (decimal deed.agent.0) ≡ Some deed.agent.0
   line : number_below header.lines (decimal deed.operation.line.0) ≡ Some deed.operation.line.0
-  agent_plain : no_space (decimal deed.agent.0) ≡ true
-  line_plain : no_space (decimal deed.operation.line.0) ≡ true
+  agent_plain : has_no_space (decimal deed.agent.0) ≡ true
+  line_plain : has_no_space (decimal deed.operation.line.0) ≡ true
 
 are_read : (header : Header) (deed : Deed) → is_in_limits header ≡ true → IsInRange header deed → AreRead header deed
 are_read header deed limits is =

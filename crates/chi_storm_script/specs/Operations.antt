@@ -5,7 +5,7 @@ use Rattle.chi_flit.specs.declared.operation.Task.{Task}
 use Rattle.chi_flit.specs.declared.operation.Task.TheVariants.{Load, Share, Store, WriteBack, WriteClean, WriteEvict, Evict, Drop}
 use Rattle.chi_script.specs.declared.headers.Header.{Header}
 use Rattle.chi_script.specs.Commands.{agent_at, line_at, word_at}
-use Rattle.chi_script.specs.Words.{◌>>=◌, is_text, number_of}
+use Rattle.chi_script.specs.Words.{◌>>=◌, is_text, number_of, words_of}
 use Rattle.chi_storm_script.specs.declared.operations.Deed.{Deed}
 
 -- a number that is below the end of its range
@@ -45,3 +45,7 @@ deed_of header (verb ∷ agent ∷ line ∷ []) = task_of verb >>= λ task. deed
 deed_of header (verb ∷ agent ∷ line ∷ word ∷ []) = task_with_word verb word >>= λ task. deed_with header agent line task
 deed_of header (verb ∷ agent ∷ line ∷ word ∷ value ∷ []) = task_with_value verb word value >>= λ task. deed_with header agent line task
 deed_of header _ = None
+
+-- the operation that a line is
+abbrev pub line_deed : Header → List ℕ → Option Deed
+line_deed header line = deed_of header (words_of line)

@@ -1,11 +1,10 @@
 //! Laws of the grammar: what is read is what is written, in the words of the page on storm files.
 
-ghost use Rattle.std.specs.Prelude.{◌≡◌, ℕ, List, Some, Ok, take, true};
+ghost use Rattle.std.specs.Prelude.{◌≡◌, ℕ, List, take, true};
 ghost use Rattle.chi_script.specs.declared.headers.Header.{Header};
 ghost use Rattle.chi_script.specs.Headers.{is_in_limits};
-ghost use Rattle.chi_script.specs.Words.{words_of};
-ghost use Rattle.chi_storm_script.specs.declared.operations.Deed.{Deed};
-ghost use Rattle.chi_storm_script.specs.Operations.{deed_of};
+ghost use Rattle.chi_script.specs.Spelling.{FilesAll, FilesOnly, ReadsAll, ReadsOnly};
+ghost use Rattle.chi_storm_script.specs.Operations.{line_deed};
 ghost use Rattle.chi_storm_script.specs.Spelling.{IsDeedLine, IsStormFile};
 ghost use Rattle.chi_storm_script.specs.Storms.{storm_of};
 
@@ -13,8 +12,8 @@ ghost use Rattle.chi_storm_script.specs.Storms.{storm_of};
 /// words, and its numbers are within the ranges of a header.
 /// Source: `docs/PROTOCOL.md`, "Storm files".
 pub fn operations_are_lines()
-    ensures read { (header : Header) (line : List ℕ) (deed : Deed) → deed_of header (words_of line) ≡ Some deed → IsDeedLine header deed line }
-    ensures again { (header : Header) (line : List ℕ) (deed : Deed) → is_in_limits header ≡ true → IsDeedLine header deed line → deed_of header (words_of line) ≡ Some deed }
+    ensures read { (header : Header) → ReadsOnly (line_deed header) (IsDeedLine header) }
+    ensures again { (header : Header) → is_in_limits header ≡ true → ReadsAll (line_deed header) (IsDeedLine header) }
 {}
 
 /// A file is read as a header and operations exactly where it is the one text of them: a line each, with a
@@ -22,8 +21,8 @@ pub fn operations_are_lines()
 /// more bytes than a file may have.
 /// Source: `docs/PROTOCOL.md`, "Storm files" and "Limits".
 pub fn storms_are_files()
-    ensures read { (header : Header) (deeds : List Deed) (file : List ℕ) → storm_of file ≡ Ok (header, deeds) → IsStormFile header deeds file }
-    ensures again { (header : Header) (deeds : List Deed) (file : List ℕ) → IsStormFile header deeds file → storm_of file ≡ Ok (header, deeds) }
+    ensures read { FilesOnly storm_of (λ storm. IsStormFile storm.0 storm.1) }
+    ensures again { FilesAll storm_of (λ storm. IsStormFile storm.0 storm.1) }
 {}
 
 /// One byte more than a file may have is enough of it: the rest changes nothing.

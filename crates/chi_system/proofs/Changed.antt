@@ -8,6 +8,7 @@ use Rattle.std.specs.List.{refill}
 use Rattle.std.specs.Prelude.{IfOk}
 use Rattle.arrayvec.proofs.ArrayVecLemmas.{items-with_items}
 use Rattle.atomic_table.specs.Seated.{TableId}
+use Rattle.chi_tracker.specs.Calls.{Home}
 use Rattle.chi_flit.specs.Refusal.{refusal_of}
 use Rattle.chi_flit.specs.declared.action.Action.{Action}
 use Rattle.chi_flit.specs.declared.numbers.Agent.{Agent}
@@ -64,11 +65,11 @@ pub record CanCall (table : TableId) (n : ℕ) (s : SliceState) (r : RequesterSt
   pub types : HasTypes s.config r.port.shape
   pub agrees : Agree s r
 
-pub can_call : (table : TableId) (y y' : SystemState) (n l : ℕ) (s s' : SliceState) (r r' : RequesterState) → IsOf table y → Called y y' n l s s' r r' → CanCall table n s r
-can_call table y y' n l s s' r r' own call =
+pub can_call : (tracker : Home) (y y' : SystemState) (n l : ℕ) (s s' : SliceState) (r r' : RequesterState) → IsOf tracker y → Called y y' n l s s' r r' → CanCall tracker.table n s r
+can_call tracker y y' n l s s' r r' own call =
     let k : IsSystem y = own.system in
     let low = has_requester y n k call.near in
-    subst₂ (CanCall table n) call.slice call.requester (record {
+    subst₂ (CanCall tracker.table n) call.slice call.requester (record {
       of_table = own.tables n no_requester low;
       number = sym (k.numbers n call.near);
       types = subst (λ (z : Sizes). HasTypes z (requester_of y n).port.shape) (sym (sizes_at y.home l k.home)) (have_types y k n no_requester low);
@@ -76,9 +77,9 @@ can_call table y y' n l s s' r r' own call =
     })
 
 -- the node keeps what it keeps
-pub still_system : (table : TableId) (y y' : SystemState) (n l : ℕ) (s s' : SliceState) (r r' : RequesterState) → IsOf table y → Called y y' n l s s' r r' → IsSameSlice s s' → IsSameRequester r r' → KeepsAgreement s s' r r' → IsOf table y'
-still_system table y y' n l s s' r r' own call slice requester agreement =
-    subst (IsOf table) call.left (visited table y n l s' r' own call.near (subst (λ (x : SliceState). IsSameSlice x s') (sym call.slice) slice)
+pub still_system : (tracker : Home) (y y' : SystemState) (n l : ℕ) (s s' : SliceState) (r r' : RequesterState) → IsOf tracker y → Called y y' n l s s' r r' → IsSameSlice s s' → IsSameRequester r r' → KeepsAgreement s s' r r' → IsOf tracker y'
+still_system tracker y y' n l s s' r r' own call slice requester agreement =
+    subst (IsOf tracker) call.left (visited tracker y n l s' r' own call.near (subst (λ (x : SliceState). IsSameSlice x s') (sym call.slice) slice)
     (subst (λ (q : RequesterState). IsSameRequester q r') (sym call.requester) requester) (subst₂ (λ (x : SliceState) (q : RequesterState). KeepsAgreement x s' q r') (sym call.slice) (sym call.requester) agreement))
 
 -- what is answered: why the call is refused, or what it did; refused, it changes nothing

@@ -4,7 +4,7 @@ use Rattle.std.proofs.Math.ListN.{set, length-set}
 use Rattle.std.proofs.lemmas.Bool.{cases_eq}
 use Rattle.std.proofs.lemmas.Grind.{get_or-set_at}
 use Rattle.std.specs.List.{refill}
-use Rattle.atomic_table.specs.Seated.{TableId}
+use Rattle.chi_tracker.specs.Calls.{Home}
 use Rattle.chi_flit.specs.declared.refusal.Refusal.{Refusal}
 use Rattle.chi_tracker.specs.declared.released.Released.{Released}
 use Rattle.chi_slice.specs.Slice.{SliceState}
@@ -53,14 +53,14 @@ tended t r r' (Ok released) tried = tends_alike t released r r' tried.ok
 tended t r r' (Err refusal) tried = stays_alike r r' tried.err
 
 -- the node's slices stay, and one requester is as alike
-pub still_alike : (table : TableId) (y : SystemState) (n : ℕ) (lent back : List RequesterState) (r : RequesterState) → IsOf table y → n < y.home.config.agents → lent ≡ y.requesters → back ≡ set lent n r → IsAlike (get_or lent n no_requester) r
-    → IsOf table (record { home = y.home; requesters = refill (length y.requesters) y.requesters back })
-still_alike table y n lent back r own near value changed lent_alike =
+pub still_alike : (tracker : Home) (y : SystemState) (n : ℕ) (lent back : List RequesterState) (r : RequesterState) → IsOf tracker y → n < y.home.config.agents → lent ≡ y.requesters → back ≡ set lent n r → IsAlike (get_or lent n no_requester) r
+    → IsOf tracker (record { home = y.home; requesters = refill (length y.requesters) y.requesters back })
+still_alike tracker y n lent back r own near value changed lent_alike =
     let k : IsSystem y = own.system in
     let low = has_requester y n k near in
     let alike : IsAlike (requester_of y n) r = subst (λ (xs : List RequesterState). IsAlike (get_or xs n no_requester) r) value lent_alike in
     let all : AllAgree y.home.slices (set y.requesters n r) = λ j d inside. λ m e within. agree_after y n r k low alike j d inside m e within in
-    subst (λ (rs : List RequesterState). IsOf table (record { home = y.home; requesters = rs })) (sym (written_back y.requesters lent back n r value changed)) (renewed table y y.home n r own near k.home refl alike.same all)
+    subst (λ (rs : List RequesterState). IsOf tracker (record { home = y.home; requesters = rs })) (sym (written_back y.requesters lent back n r value changed)) (renewed tracker y y.home n r own near k.home refl alike.same all)
   where
     agree_after : (y : SystemState) (n : ℕ) (r : RequesterState) (k : IsSystem y) → n < length y.requesters → IsAlike (requester_of y n) r → (j : ℕ) (d : SliceState) → j < length y.home.slices → (m : ℕ) (e : RequesterState) → m < length (set y.requesters n r) → Agree (get_or y.home.slices j d) (get_or (set y.requesters n r) m e)
     agree_after y n r k low alike j d inside m e within = ⊎_elim

@@ -9,7 +9,7 @@ use Rattle.std.proofs.lemmas.List.Elements.{All-set}
 use Rattle.atomic_table.specs.Seated.{TableId}
 use Rattle.chi_tracker.specs.declared.shape.Shape.{Shape}
 use Rattle.chi_tracker.specs.Shape.{size}
-use Rattle.chi_tracker.specs.Calls.{shape_of}
+use Rattle.chi_tracker.specs.Calls.{Home, shape_of}
 use Rattle.chi_config.specs.Config.{Sizes, are_in_limits}
 use Rattle.chi_slice.specs.Slice.{SliceState, opening_slice}
 use Rattle.chi_slice.proofs.Rows.{InLimits, in_limits}
@@ -29,9 +29,11 @@ requester_at table shape n i d low = get_or-map-range_with_len (opening_requeste
 pub agree_at : (s s' : SliceState) (r r' : RequesterState) → s ≡ s' → r ≡ r' → Agree s' r' → Agree s r
 agree_at s s' r r' same_slice same a = subst (λ (t : SliceState). Agree t r) (sym same_slice) (subst (λ (q : RequesterState). Agree s' q) (sym same) a)
 
-pub opening_is_system : (config : Sizes) (table : TableId) → are_in_limits config ≡ true → parts.AllAgree config table (shape_of config.entries config.agents) → IsOf table (opening_system config table)
-opening_is_system config table limits all =
+pub opening_is_system : (config : Sizes) (tracker : Home) → are_in_limits config ≡ true → parts.AllAgree config tracker.table tracker.shape → tracker.shape ≡ shape_of config.entries config.agents → IsOf tracker (opening_system config tracker.table)
+opening_is_system config tracker limits agreed is =
+    let table = tracker.table in
     let shape = shape_of config.entries config.agents in
+    let all : parts.AllAgree config table shape = subst (λ (z : Shape). parts.AllAgree config tracker.table z) is agreed in
     let home : IsHome (opening_home config) = opening_is_home config limits in
     let count = length-map-range_with_len (opening_requester table shape) 0 config.agents in
     let own : (i : ℕ) (d : RequesterState) → i < length (opening_requesters table shape config.agents) → get_or (opening_requesters table shape config.agents) i d ≡ opening_requester table shape i = λ i d low. requester_at table shape config.agents i d (subst (λ m. i < m) count low) in
@@ -46,6 +48,7 @@ opening_is_system config table limits all =
             agree_at _ _ _ _ (opening_at config config.slices j d here) (own m e low) (all.agree j m here (subst (λ k. m < k) count low));
       };
       tables = λ i d low. ap (λ (r : RequesterState). r.table) (own i d low);
+      shape = is;
     }
 
 -- an agent of the node has a requester, one of eight
@@ -65,9 +68,9 @@ few_requesters : (y : SystemState) → IsSystem y → length y.requesters ≤ 8
 few_requesters y k = let l : InLimits y.home.config = in_limits y.home.config k.home.limits in omega (arith, k.count, l.agents)
 
 -- one requester is another one that keeps its number and its tracker
-pub renewed : (table : TableId) (y : SystemState) (h : HomeState) (n : ℕ) (r : RequesterState) → IsOf table y → n < y.home.config.agents → IsHome h → h.config ≡ y.home.config → IsSameRequester (requester_of y n) r → AllAgree h.slices (set y.requesters n r)
-    → IsOf table (record { home = h; requesters = set y.requesters n r })
-renewed table y h n r own near home config same all =
+pub renewed : (tracker : Home) (y : SystemState) (h : HomeState) (n : ℕ) (r : RequesterState) → IsOf tracker y → n < y.home.config.agents → IsHome h → h.config ≡ y.home.config → IsSameRequester (requester_of y n) r → AllAgree h.slices (set y.requesters n r)
+    → IsOf tracker (record { home = h; requesters = set y.requesters n r })
+renewed tracker y h n r own near home config same all =
     let k : IsSystem y = own.system in
     let low = has_requester y n k near in
     record {
@@ -82,7 +85,8 @@ renewed table y h n r own near home config same all =
             (All-set (λ (q : RequesterState). q.port.shape ≡ shape_of y.home.config.entries y.home.config.agents) y.requesters n r (same.shape ∙ k.shapes n no_requester low) k.shapes);
         agree = all;
       };
-      tables = All-set (λ (q : RequesterState). q.table ≡ table) y.requesters n r (same.table ∙ own.tables n no_requester low) own.tables;
+      tables = All-set (λ (q : RequesterState). q.table ≡ tracker.table) y.requesters n r (same.table ∙ own.tables n no_requester low) own.tables;
+      shape = own.shape ∙ ap (λ (c : Sizes). shape_of c.entries c.agents) (sym config);
     }
 
 index_of_place : (y : SystemState) (j : ℕ) (d : SliceState) → IsSystem y → j < length y.home.slices → (get_or y.home.slices j d).index ≡ j
@@ -111,15 +115,15 @@ visit_agrees y n l s r k near same keeps = λ j d inside. λ m e within.
     (cases_eq j i)
 
 -- a call on the slice of a line
-pub visited : (table : TableId) (y : SystemState) (n l : ℕ) (s : SliceState) (r : RequesterState) → IsOf table y → n < y.home.config.agents → IsSameSlice (slice_of y.home l) s → IsSameRequester (requester_of y n) r → KeepsAgreement (slice_of y.home l) s (requester_of y n) r
-    → IsOf table (record { home = with_slice y.home l s; requesters = set y.requesters n r })
-visited table y n l s r own near same_slice same keeps = renewed table y (with_slice y.home l s) n r own near (still_home y.home l s own.system.home same_slice) refl same (visit_agrees y n l s r own.system near same_slice keeps)
+pub visited : (tracker : Home) (y : SystemState) (n l : ℕ) (s : SliceState) (r : RequesterState) → IsOf tracker y → n < y.home.config.agents → IsSameSlice (slice_of y.home l) s → IsSameRequester (requester_of y n) r → KeepsAgreement (slice_of y.home l) s (requester_of y n) r
+    → IsOf tracker (record { home = with_slice y.home l s; requesters = set y.requesters n r })
+visited tracker y n l s r own near same_slice same keeps = renewed tracker y (with_slice y.home l s) n r own near (still_home y.home l s own.system.home same_slice) refl same (visit_agrees y n l s r own.system near same_slice keeps)
 
 -- what was made of the parts of a node
-pub made_system : (config : Sizes) (table : TableId) (shape : Shape) (ss : List SliceState) (rs : List RequesterState) → are_in_limits config ≡ true → parts.AllAgree config table shape → shape ≡ shape_of config.entries config.agents → ss ≡ opening_slices config config.slices
-    → rs ≡ opening_requesters table shape config.agents → IsOf table (record { home = record { config = config; slices = ss }; requesters = rs })
-made_system config table shape ss rs limits all is slices requesters =
-    let opened = opening_is_system config table limits (subst (λ (z : Shape). parts.AllAgree config table z) is all) in
-    let same : rs ≡ opening_requesters table (shape_of config.entries config.agents) config.agents = requesters ∙ ap (λ (z : Shape). opening_requesters table z config.agents) is in
-    subst (λ (xs : List SliceState). IsOf table (record { home = record { config = config; slices = xs }; requesters = rs })) (sym slices)
-    (subst (λ (qs : List RequesterState). IsOf table (record { home = opening_home config; requesters = qs })) (sym same) opened)
+pub made_system : (config : Sizes) (tracker : Home) (ss : List SliceState) (rs : List RequesterState) → are_in_limits config ≡ true → parts.AllAgree config tracker.table tracker.shape → tracker.shape ≡ shape_of config.entries config.agents → ss ≡ opening_slices config config.slices
+    → rs ≡ opening_requesters tracker.table tracker.shape config.agents → IsOf tracker (record { home = record { config = config; slices = ss }; requesters = rs })
+made_system config tracker ss rs limits all is slices requesters =
+    let opened = opening_is_system config tracker limits all is in
+    let same : rs ≡ opening_requesters tracker.table (shape_of config.entries config.agents) config.agents = requesters ∙ ap (λ (z : Shape). opening_requesters tracker.table z config.agents) is in
+    subst (λ (xs : List SliceState). IsOf tracker (record { home = record { config = config; slices = xs }; requesters = rs })) (sym slices)
+    (subst (λ (qs : List RequesterState). IsOf tracker (record { home = opening_home config; requesters = qs })) (sym same) opened)

@@ -10,7 +10,9 @@ use Rattle.chi_flit.specs.declared.numbers.Line.{Line}
 use Rattle.chi_flit.specs.declared.refusal.Refusal.{Refusal}
 use Rattle.chi_flit.specs.declared.refusal.Refusal.TheVariants.{OutOfRange}
 use Rattle.chi_tracker.specs.declared.released.Released.{Released}
-use Rattle.chi_tracker.specs.Calls.{shape_of}
+use Rattle.chi_tracker.specs.declared.totals.Counts.{Counts}
+use Rattle.chi_tracker.specs.Calls.{Home, shape_of}
+use Rattle.chi_tracker.specs.Totals.{IsGlance}
 use Rattle.chi_line.specs.LineState.{cells_of}
 use Rattle.chi_line.specs.Refused.{first_of}
 use Rattle.chi_line.specs.Step.{effect_of}
@@ -105,7 +107,12 @@ pub record IsSystem (y : SystemState) : Type 0 where
   pub shapes : All (λ r. r.port.shape ≡ shape_of y.home.config.entries y.home.config.agents) y.requesters
   pub agree : AllAgree y.home.slices y.requesters
 
--- and all ports are those of one tracker
-pub record IsOf (table : TableId) (y : SystemState) : Type 0 where
+-- and all ports are those of one tracker, which has the node's entries and agents
+pub record IsOf (tracker : Home) (y : SystemState) : Type 0 where
   pub system : IsSystem y
-  pub tables : All (λ r. r.table ≡ table) y.requesters
+  pub tables : All (λ r. r.table ≡ tracker.table) y.requesters
+  pub shape : tracker.shape ≡ shape_of y.home.config.entries y.home.config.agents
+
+-- a glance at the node's tracker shows these counts: those of some words of a tracker of its entries and agents
+abbrev pub Glances : SystemState → Counts → Type 0
+Glances y counts = IsGlance (shape_of y.home.config.entries y.home.config.agents) counts

@@ -13,7 +13,7 @@ ghost use Rattle.chi_node.specs.Requester.{RequesterState, no_requester};
 ghost use Rattle.chi_slice.specs.Audits.{IsAudited};
 ghost use Rattle.chi_system.specs.Home.{flits_refusal, index_of, last_of, line as line_of_home, slice_of, view_refusal};
 ghost use Rattle.chi_system.specs.Credits.{GiveBackTry, Sees, TendTry, typed_refusal};
-ghost use Rattle.chi_system.specs.System.{agent_refusal, arrive_refusal, give_back_refusal, opening_system, step_refusal, tend_refusal, AllAgree, ArrivesIn, GivesBackIn, IsSystem, SeesIn, StepsIn, TendsIn};
+ghost use Rattle.chi_system.specs.System.{agent_refusal, arrive_refusal, give_back_refusal, opening_system, step_refusal, tend_refusal, AllAgree, ArrivesIn, GivesBackIn, Glances, IsSystem, SeesIn, StepsIn, TendsIn};
 
 use crate::agreement::all_agree;
 use arrayvec::ArrayVec;
@@ -46,7 +46,7 @@ impl<A: Allocator> Model for System<A> {
 
     ghost view = { λ y. record { home = record { config = y.config; slices = y.slices.items }; requesters = y.requesters.items } };
 
-    ghost invariant = { λ y. IsOf y.tracker.table (record { home = record { config = y.config; slices = y.slices.items }; requesters = y.requesters.items }) };
+    ghost invariant = { λ y. IsOf y.tracker (record { home = record { config = y.config; slices = y.slices.items }; requesters = y.requesters.items }) };
 }
 
 impl<A: Allocator + Copy> System<A> {
@@ -280,9 +280,12 @@ impl<A: Allocator> System<A> {
     }
 
     /// How many entries of each type are free, in hand and promised, and how many credits are owed, as the
-    /// tracker's words show it. The contract promises only that the call returns.
+    /// tracker's words show it, loaded one after the other: the counts of some words of a tracker of the
+    /// node's entries and agents.
     /// Source: `docs/PROTOCOL.md`, "Totals".
-    pub fn glance(&self) -> Counts {
+    pub fn glance(&self) -> Counts
+        ensures { Glances self.now result }
+    {
         self.tracker.glance()
     }
 }

@@ -228,6 +228,10 @@ pub said_on : (y y' : SystemState) (t : Turn) (said before after : List ℕ) →
 said_on y y' t said before after plays is = (plays.0, said, plays.1, is)
 
 -- a turn that ends at once, where it isn't refused
+pub answered_on : (y y' : SystemState) (t : Turn) (said before after : List ℕ) {T E : Type 0} (put : Result T E) → PlaysOn t y y' said → OnOk put (after ≡ before ++ (said ++ (10 ∷ []))) → OnOk put (SaysOn t y y' before after)
+answered_on y y' t said before after (Ok x) plays bytes = said_on y y' t said before after plays bytes
+answered_on y y' t said before after (Err e) plays bytes = bytes
+
 pub shown_on : (y : SystemState) (o : Option Refusal) (said before after : List ℕ) → None ≡ o → after ≡ before ++ (said ++ (10 ∷ [])) → SaysOn (or_refused o (machine_of y) (Ends said (machine_of y))) y y before after
 shown_on y o said before after h is = said_on y y (or_refused o (machine_of y) (Ends said (machine_of y))) said before after (allowed_plays y y o (Ends said (machine_of y)) said h ([], (refl, refl, refl))) is
 

@@ -1,10 +1,11 @@
 -- Of the code alone, no public promise cites it: a node that commands are played on, as the table of the
 -- commands sees it (docs/PROTOCOL.md, "Replay files").
 use Rattle.std.specs.Prelude.{ℕ, List, map}
+use Rattle.chi_script.specs.declared.commands.Command.{Command}
 use Rattle.chi_tracker.specs.Views.{PortView}
 use Rattle.chi_system.specs.System.{SystemState}
 use Rattle.chi_text.specs.Ports.{seen_counts}
-use Rattle.chi_text.specs.Turns.{Answer, Machine, Turn}
+use Rattle.chi_text.specs.Turns.{Answer, Machine, Turn, turn}
 use Rattle.chi_text.specs.Texts.{Plays, Says}
 
 -- its state in the table: the slices, and each requester's slots and seen credits
@@ -22,3 +23,7 @@ PlaysOn played y y' said = (answers : List Answer) × Plays played (ports_of y) 
 -- and its line, with its end, was put behind the bytes
 abbrev pub SaysOn : Turn → SystemState → SystemState → List ℕ → List ℕ → Type 0
 SaysOn played y y' before after = Says played (ports_of y) (machine_of y') (ports_of y') before after
+
+-- so was the turn of a command
+abbrev pub SaysTurn : Command → SystemState → SystemState → List ℕ → List ℕ → Type 0
+SaysTurn command y y' before after = SaysOn (turn (machine_of y) command) y y' before after

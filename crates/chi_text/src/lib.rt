@@ -6,4 +6,5 @@ mod session;
 mod told;
 
 pub use runs::run;
+pub use session::answer;
 pub use told::totals_told;

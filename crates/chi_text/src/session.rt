@@ -4,11 +4,11 @@ ghost use Rattle.std.specs.Prelude.{◌≡◌, [], ◌∷◌, ◌++◌, OnOk, st
 ghost use Rattle.chi_node.specs.Calls.{is_own_step};
 ghost use Rattle.chi_reply.specs.Replies.{reply_text};
 ghost use Rattle.chi_script.specs.declared.commands.Command.TheVariants as commands;
-ghost use Rattle.chi_text.specs.Turns.{arrive as arrive_turn, turn};
-ghost use Rattle.chi_text.specs.Session.{PlaysOn, SaysOn, machine_of};
+ghost use Rattle.chi_text.specs.Turns.{turn};
+ghost use Rattle.chi_text.specs.Session.{PlaysOn, SaysTurn, machine_of};
 
 use crate::told::{arrival_reply, give_back_reply, step_reply, tend_reply, totals_told};
-use chi_flit::{Action, Agent, CreditType, Line, NoMemory, Step};
+use chi_flit::{Agent, CreditType, Line, NoMemory, Step};
 use chi_reply::{Audit, Credits, InFlight, Reply, Shown, Wording};
 use chi_script::Command;
 use chi_system::System;
@@ -27,12 +27,12 @@ fn say<W: Wording, B: Allocator>(answer: &W, text: &mut String<B>) -> Result<(),
 ///
 /// Refused where memory for the text runs out.
 /// Source: `docs/PROTOCOL.md`, "Replay files".
-pub(crate) fn answer<A: Allocator, B: Allocator>(
+pub fn answer<A: Allocator, B: Allocator>(
     system: &mut System<A>,
     command: Command,
     text: &mut String<B>,
 ) -> Result<(), NoMemory>
-    ensures { OnOk result (SaysOn (turn (machine_of system.old) command) system.old system.new (string_bytes text.old) (string_bytes text.new)) }
+    ensures { OnOk result (SaysTurn command system.old system.new (string_bytes text.old) (string_bytes text.new)) }
 {
     match command {
         Command::Totals => say_totals(system, text),
@@ -41,8 +41,8 @@ pub(crate) fn answer<A: Allocator, B: Allocator>(
         Command::Flits { agent, line } => say_flits(system, agent, line, text),
         Command::See { agent } => say_credits(system, agent, text),
         Command::Arrive { agent, line } => {
-            let reply = arrive(system, agent, line);
-            say(&reply, text)
+            let arrived = system.arrive(agent, line);
+            say(&arrival_reply(arrived), text)
         }
         Command::GiveBack { agent, credit } => {
             let reply = give_back(system, agent, credit);
@@ -52,9 +52,13 @@ pub(crate) fn answer<A: Allocator, B: Allocator>(
             let reply = tend(system, agent, credit);
             say(&reply, text)
         }
+        Command::Act(action) if is_own_step(action.step) => {
+            let stepped = system.step(action);
+            say(&step_reply(stepped), text)
+        }
         Command::Act(action) => {
-            let reply = act(system, action);
-            say(&reply, text)
+            let arrived = system.arrive(action.agent, action.line);
+            say(&arrival_reply(arrived), text)
         }
     }
 }
@@ -64,7 +68,7 @@ fn say_totals<A: Allocator, B: Allocator>(
     system: &System<A>,
     text: &mut String<B>,
 ) -> Result<(), NoMemory>
-    ensures { OnOk result (SaysOn (turn (machine_of system.now) commands.Totals) system.now system.now (string_bytes text.old) (string_bytes text.new)) }
+    ensures { OnOk result (SaysTurn commands.Totals system.now system.now (string_bytes text.old) (string_bytes text.new)) }
 {
     let counts = system.glance();
     let profile = system.config().profile();
@@ -78,7 +82,7 @@ fn say_audit<A: Allocator, B: Allocator>(
     system: &System<A>,
     text: &mut String<B>,
 ) -> Result<(), NoMemory>
-    ensures { OnOk result (SaysOn (turn (machine_of system.now) commands.Audit) system.now system.now (string_bytes text.old) (string_bytes text.new)) }
+    ensures { OnOk result (SaysTurn commands.Audit system.now system.now (string_bytes text.old) (string_bytes text.new)) }
 {
     let found = system.audit();
     let (loads, stores, coherent) = (found.loads, found.stores, found.coherent);
@@ -97,7 +101,7 @@ fn say_line<A: Allocator, B: Allocator>(
     line: Line,
     text: &mut String<B>,
 ) -> Result<(), NoMemory>
-    ensures { OnOk result (SaysOn (turn (machine_of system.now) (commands.Show line)) system.now system.now (string_bytes text.old) (string_bytes text.new)) }
+    ensures { OnOk result (SaysTurn (commands.Show line) system.now system.now (string_bytes text.old) (string_bytes text.new)) }
 {
     match system.view(line) {
         Ok(view) => {
@@ -120,7 +124,7 @@ fn say_flits<A: Allocator, B: Allocator>(
     line: Line,
     text: &mut String<B>,
 ) -> Result<(), NoMemory>
-    ensures { OnOk result (SaysOn (turn (machine_of system.now) (commands.Flits agent line)) system.now system.now (string_bytes text.old) (string_bytes text.new)) }
+    ensures { OnOk result (SaysTurn (commands.Flits agent line) system.now system.now (string_bytes text.old) (string_bytes text.new)) }
 {
     match system.flits(agent, line) {
         Ok(cells) => {
@@ -138,7 +142,7 @@ fn say_credits<A: Allocator, B: Allocator>(
     agent: Agent,
     text: &mut String<B>,
 ) -> Result<(), NoMemory>
-    ensures { OnOk result (SaysOn (turn (machine_of system.old) (commands.See agent)) system.old system.new (string_bytes text.old) (string_bytes text.new)) }
+    ensures { OnOk result (SaysTurn (commands.See agent) system.old system.new (string_bytes text.old) (string_bytes text.new)) }
 {
     let profile = system.config().profile();
     match system.see(agent) {
@@ -149,14 +153,6 @@ fn say_credits<A: Allocator, B: Allocator>(
         }
         Err(refusal) => say(&Reply::Refused(refusal), text),
     }
-}
-
-/// The agent's request that is in flight arrives.
-fn arrive<A: Allocator>(system: &mut System<A>, agent: Agent, line: Line) -> Reply
-    ensures { PlaysOn (arrive_turn (machine_of system.old) agent line) system.old system.new (reply_text result) }
-{
-    let arrived = system.arrive(agent, line);
-    arrival_reply(arrived)
 }
 
 /// The agent gives a credit of the type back.
@@ -177,18 +173,6 @@ fn tend<A: Allocator>(system: &mut System<A>, agent: Agent, credit: Option<Credi
 {
     let tended = system.tend(agent, credit);
     tend_reply(tended)
-}
-
-/// An action of an agent: a step of its own, or an arrival.
-fn act<A: Allocator>(system: &mut System<A>, action: Action) -> Reply
-    ensures { PlaysOn (turn (machine_of system.old) (commands.Act action)) system.old system.new (reply_text result) }
-{
-    if is_own_step(action.step) {
-        let stepped = system.step(action);
-        step_reply(stepped)
-    } else {
-        arrive(system, action.agent, action.line)
-    }
 }
 
 /// Whether a step is none of an arrival's.

@@ -1,4 +1,5 @@
 pub mod Adding
+mod Counting
 pub mod BitLaws
 pub mod Entries
 mod Moving

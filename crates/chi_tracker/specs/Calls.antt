@@ -1,6 +1,7 @@
 -- What contracts see of a tracker and of a port, and what each call does to the port's view
 -- (docs/PROTOCOL.md, "Steps of the tracker").
 use Rattle.std.specs.Prelude.{◌≡◌, ◌≢◌, ◌⊎◌, ℕ, zero, suc, ◌+◌, ◌-◌, ◌<◌, ◌≤◌, List, [], ◌∷◌, Option, Some, None, slice_index}
+use Rattle.std.specs.Int.{bit_at}
 use Rattle.atomic_table.specs.Table.{Me}
 use Rattle.atomic_table.specs.Seated.{TableId}
 use Rattle.atomic_table.specs.declared.shared.Seat.{Seat}
@@ -8,10 +9,10 @@ use Rattle.chi_tracker.specs.declared.shape.Shape.{Shape}
 use Rattle.chi_tracker.specs.declared.view.SeatView.{SeatView}
 use Rattle.chi_tracker.specs.Sums.{below, raised, with_bit, dropped, set_at}
 use Rattle.chi_tracker.specs.Shape.{low, size, IsOf, IsShape}
-use Rattle.chi_tracker.specs.Views.{PortView, Sweep, has, new_port, was_freed, was_promised}
+use Rattle.chi_tracker.specs.Views.{PortView, Sweep, has, IsDue, new_port, new_ports, was_freed, was_promised}
 use Rattle.chi_tracker.specs.declared.released.Released.{Released}
 use Rattle.chi_tracker.specs.declared.released.Released.TheVariants.{Granted, Freed}
-use Rattle.chi_tracker.specs.Steps.{solo, port_of, no_shape}
+use Rattle.chi_tracker.specs.Steps.{solo, port_of, no_shape, returns_credit}
 
 -- a tracker: which table its words are, its entries by type and its requesters
 pub record Home : Type 0 where
@@ -43,7 +44,7 @@ pub record IsHeld (me : Me ℕ SeatView) (number : ℕ) (shape : Shape) (seen du
   pub shape_is : (port_of me).shape ≡ shape
   pub shaped : IsShape shape
   pub seen_is : (port_of me).seen ≡ seen
-  pub due_is : (t : ℕ) → t < 4 → slice_index due t + (slice_index (port_of me).spent t + slice_index (port_of me).returned t) ≡ slice_index (port_of me).retries t
+  pub due_is : (t : ℕ) → t < 4 → IsDue (port_of me) t (slice_index due t)
   pub few : (t : ℕ) → t < 4 → slice_index due t ≤ 8
   pub no_duty : (port_of me).duty ≡ None
   pub no_note : (port_of me).noted ≡ None
@@ -61,9 +62,21 @@ first_entries s t (suc n) = with_bit (first_entries s t n) (low s t + n)
 abbrev pub scanned : ℕ → ℕ → PortView → PortView
 scanned t n p = record p { found = first_entries p.shape t n; scans = p.scans + 1; scan_kind = t }
 
+-- a scan of type t was opened, and has found each entry of the type claimed
+abbrev pub scanned_all : ℕ → PortView → PortView
+scanned_all t p = scanned t (size p.shape t) p
+
+-- each entry of type t was found claimed by the port's last scan
+abbrev pub FoundAll : Shape → ℕ → PortView → Type 0
+FoundAll s t p = (e : ℕ) → IsOf s t e → bit_at p.found e ≡ 1
+
 -- the entry e came to hand
 abbrev pub into_hand : ℕ → PortView → PortView
 into_hand e p = record p { hand = with_bit p.hand e }
+
+-- entry e of type t, which wasn't in hand, came to hand in a scan that found each lower one of the type claimed
+abbrev pub HasClaimed : ℕ → ℕ → PortView → PortView → Type 0
+HasClaimed t e p q = IsOf p.shape t e × (has e p ≡ 0) × (q ≡ into_hand e (scanned t (e - low p.shape t) p))
 
 -- a seat's ports without the first
 abbrev pub rest_ports : List PortView → List PortView
@@ -74,6 +87,14 @@ rest_ports (p ∷ ps) = ps
 abbrev pub owners : TableId → List PortView → List Owner
 owners table [] = []
 owners table (p ∷ ps) = record { table = table; port = p } ∷ owners table ps
+
+-- the ports of a new tracker, of all requesters in rising order
+abbrev pub new_owners : TableId → Shape → List Owner
+new_owners table s = owners table (new_ports s 0 s.agents)
+
+-- a port of this tracker, with its shape
+abbrev pub IsOwnerAt : Home → Owner → Type 0
+IsOwnerAt home p = (p.table ≡ home.table) × (p.port.shape ≡ home.shape)
 
 abbrev pub shape_of : List ℕ → ℕ → Shape
 shape_of entries agents = record { sizes = entries; agents = agents }
@@ -138,16 +159,27 @@ abbrev pub Ended : PortView → ℕ → ℕ → Released → PortView → Type 0
 Ended p t e (Granted m) q = (m.0 < p.shape.agents) × ((left : ℕ) × (q ≡ granted_to m.0 e (stands_at t m.0 left p)))
 Ended p t e Freed q = q ≡ freed_entry e (swept_all t p)
 
+-- how the release of entry e ends, by the entry's type
+abbrev pub EndedAsItsType : PortView → ℕ → Released → PortView → Type 0
+EndedAsItsType p e released q = (t : ℕ) × (t < 4) × IsOf p.shape t e × Ended p t e released q
+
 -- How a tend of type t ends: where a sweep showed an owed credit of the type, an entry was claimed in a
 -- scan and ended as in a release, or each entry of the type was found claimed; or no requester showed a
 -- bit of the type.
 abbrev pub Tended : PortView → ℕ → Option Released → PortView → Type 0
-Tended p t (Some released) q = (x : PortView) × ShowsOwed t p x × ((e : ℕ) × IsOf p.shape t e × (has e p ≡ 0) × Ended (into_hand e (scanned t (e - low p.shape t) x)) t e released q)
+Tended p t (Some released) q =
+    (x : PortView) × ShowsOwed t p x
+    × ((e : ℕ) × IsOf p.shape t e × (has e p ≡ 0) × Ended (into_hand e (scanned t (e - low p.shape t) x)) t e released q)
 Tended p t None q = (q ≡ swept_all t p) ⊎ ((x : PortView) × ShowsOwed t p x × (q ≡ scanned t (size p.shape t) x))
 
 -- what a port knows of itself and of its credits is the same
 abbrev pub HasSameCredits : PortView → PortView → Type 0
 HasSameCredits p q = (q.who ≡ p.who) × (q.shape ≡ p.shape) × (q.seen ≡ p.seen) × (q.retries ≡ p.retries) × (q.spent ≡ p.spent) × (q.returned ≡ p.returned)
+
+-- the lowest seen credit of type t was returned, and its entry, which wasn't in hand, released
+abbrev pub HasReturned : ℕ → PortView → Released → PortView → Type 0
+HasReturned t p released q =
+    (e : ℕ) × IsLowestSeen p t e × (has e p ≡ 0) × Ended (returns_credit t e p) t e released q × HasSameCredits (returns_credit t e p) q
 
 -- one seen credit less of type t, and as many of each other type
 abbrev pub HasOneLess : ℕ → PortView → PortView → Type 0

@@ -55,7 +55,9 @@ duties n t ports = total (λ x. duty_is n t x.duty) ports
 -- requester n has exactly one port, and of it retries = owed + duties + promised + spent + returned
 abbrev pub Ledger : Shape → (ℕ → ℕ → ℕ) → (ℕ → ℕ) → List PortView → ℕ → ℕ → Type 0
 Ledger s p o ports n t = (i : ℕ) × (i < length ports) × ((port_at ports i).who ≡ n) × ((j : ℕ) → j < length ports → j ≢ i → (port_at ports j).who ≢ n)
-    × (slice_index (port_at ports i).retries t ≡ owed_in t (o n) + duties n t ports + count_of s t (p n) + slice_index (port_at ports i).spent t + slice_index (port_at ports i).returned t)
+    × (slice_index (port_at ports i).retries t
+    ≡ owed_in t (o n) + duties n t ports + count_of s t (p n)
+    + slice_index (port_at ports i).spent t + slice_index (port_at ports i).returned t)
 
 abbrev pub Ledgers : Shape → State ℕ SeatView → Type 0
 Ledgers key st = (n t : ℕ) → n < key.agents → t < 4 → Ledger key (p_of st.words) (o_of st.words) (all_ports st.views) n t

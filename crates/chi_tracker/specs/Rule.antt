@@ -55,7 +55,9 @@ pub record Fits (s : Shape) (c : ℕ → ℕ) (p : ℕ → ℕ → ℕ) (o : ℕ
   pub seen : (n e : ℕ) → n < s.agents → e < 256 → weigh (of_port n (λ x. set_at x.seen e)) vs ≤ p n e
   pub noted : (n k : ℕ) → n < s.agents → weigh (of_port n (λ x. note_is k x.noted)) vs + bit_at (o n) k ≤ 1
   pub ledger : (n t : ℕ) → n < s.agents → t < 4
-      → weigh (of_port n (λ x. slice_index x.retries t)) vs ≡ owed_in t (o n) + weigh (λ x. duty_is n t x.duty) vs + count_of s t (p n) + weigh (of_port n (λ x. slice_index x.spent t)) vs + weigh (of_port n (λ x. slice_index x.returned t)) vs
+      → weigh (of_port n (λ x. slice_index x.retries t)) vs
+      ≡ owed_in t (o n) + weigh (λ x. duty_is n t x.duty) vs + count_of s t (p n)
+      + weigh (of_port n (λ x. slice_index x.spent t)) vs + weigh (of_port n (λ x. slice_index x.returned t)) vs
   pub one_port : (n : ℕ) → n < s.agents → weigh (of_port n (λ _. 1)) vs ≡ 1
   pub ports : weigh (λ _. 1) vs ≡ s.agents
   pub sound : AllSeatsSound s vs

@@ -1,6 +1,6 @@
 -- What the looks and settles of a port's sweep come to (docs/PROTOCOL.md, "Steps of the tracker", look
 -- and settle).
-use Rattle.std.specs.Prelude.{◌≡◌, ◌⊎◌, ℕ, ◌+◌, ◌*◌, ◌<◌, List, [], ◌∷◌, ◌++◌}
+use Rattle.std.specs.Prelude.{◌≡◌, ◌≢◌, ◌⊎◌, ℕ, ◌+◌, ◌*◌, ◌<◌, List, [], ◌∷◌, ◌++◌}
 use Rattle.std.specs.Int.{bit_at}
 use Rattle.chi_tracker.specs.Views.{PortView, Sweep}
 use Rattle.chi_tracker.specs.Steps.{sweeps, settles}
@@ -31,3 +31,7 @@ WasSwept acts t m left = (word : ℕ) × (later before : List Act) × (acts ≡ 
 -- those that the sweep has left
 abbrev pub IsInOrder : List Act → Sweep → Type 0
 IsInOrder acts s = ((m : ℕ) → m < s.at → WasSwept acts s.kind m 0) × WasSwept acts s.kind s.at s.left
+
+-- a sweep that was opened by these looks and settles of a port is in order
+abbrev pub SweepsInOrder : PortView → List Act → Type 0
+SweepsInOrder p acts = (port_after p acts).sweep.opened ≢ p.sweep.opened → IsInOrder acts (port_after p acts).sweep

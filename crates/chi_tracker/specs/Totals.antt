@@ -1,7 +1,6 @@
 -- The counts of entries and credits by type, and what each requester is due (docs/PROTOCOL.md, "Words of
 -- the tracker").
 use Rattle.std.specs.Prelude.{◌≡◌, ℕ, ◌+◌, ◌*◌, ◌<◌, List, [], ◌∷◌, length, slice_index, slice_index_or, cond, ◌==◌}
-use Rattle.std.specs.Int.{bit_at}
 use Rattle.atomic_table.specs.Table.{State}
 use Rattle.chi_tracker.specs.declared.shape.Shape.{Shape}
 use Rattle.chi_tracker.specs.declared.view.SeatView.{SeatView}
@@ -31,27 +30,9 @@ is_promised ws agents e = cond (promises_of ws agents e == 0) 0 1
 abbrev pub is_in_hand : List ℕ → ℕ → ℕ → ℕ
 is_in_hand ws agents e = cond (c_of ws e == 0) 0 (cond (promises_of ws agents e == 0) 1 0)
 
--- how many of the entries from `start` on, m of them, are free, in hand, promised
-abbrev pub free_from : List ℕ → ℕ → ℕ → ℕ
-free_from ws start m = below (λ i. is_free ws (start + i)) m
-
-abbrev pub in_hand_from : List ℕ → ℕ → ℕ → ℕ → ℕ
-in_hand_from ws agents start m = below (λ i. is_in_hand ws agents (start + i)) m
-
-abbrev pub promised_from : List ℕ → ℕ → ℕ → ℕ → ℕ
-promised_from ws agents start m = below (λ i. is_promised ws agents (start + i)) m
-
--- how many of them are promised to requester n
-abbrev pub promised_to : List ℕ → ℕ → ℕ → ℕ → ℕ
-promised_to ws n start m = below (λ i. p_of ws n (start + i)) m
-
 -- how many credits of type t are owed to all requesters
 abbrev pub owed_all : List ℕ → ℕ → ℕ → ℕ
 owed_all ws t agents = below (λ n. owed_in t (o_of ws n)) agents
-
--- how many of the first places of a type are set
-abbrev pub owed_below : ℕ → ℕ → ℕ → ℕ
-owed_below word t m = below (λ i. bit_at word (8 * t + i)) m
 
 -- the counts are those of the words
 pub record IsCount (s : Shape) (ws : List ℕ) (counts : Counts) : Type 0 where
@@ -59,6 +40,10 @@ pub record IsCount (s : Shape) (ws : List ℕ) (counts : Counts) : Type 0 where
   pub hand : (t : ℕ) → t < 4 → slice_index counts.hand t ≡ count_of s t (is_in_hand ws s.agents)
   pub promised : (t : ℕ) → t < 4 → slice_index counts.promised t ≡ count_of s t (is_promised ws s.agents)
   pub owed : (t : ℕ) → t < 4 → slice_index counts.owed t ≡ owed_all ws t s.agents
+
+-- the counts are those of some 44 words, loaded one after the other while ports may do steps
+abbrev pub IsGlance : Shape → Counts → Type 0
+IsGlance s counts = (words : List ℕ) × (length words ≡ 44) × IsCount s words counts
 
 abbrev pub no_credits : Credits
 no_credits = record { due = []; owed = []; promised = [] }
@@ -75,10 +60,14 @@ views_of (o ∷ os) = o.port ∷ views_of os
 abbrev pub sum_of : ℕ → (PortView → ℕ) → List PortView → ℕ
 sum_of n f ports = total (of_port n f) ports
 
+-- how many credits of type t requester n has spent or returned
+abbrev pub paid_by : ℕ → ℕ → List PortView → ℕ
+paid_by n t ports = sum_of n (λ x. slice_index x.spent t) ports + sum_of n (λ x. slice_index x.returned t) ports
+
 -- numbers at 4 * requester + type are what is due to the ports
 abbrev pub AreDue : List ℕ → List PortView → Type 0
 AreDue dues ports = (n t : ℕ) → n < 8 → t < 4
-    → slice_index dues (4 * n + t) + (sum_of n (λ x. slice_index x.spent t) ports + sum_of n (λ x. slice_index x.returned t) ports) ≡ sum_of n (λ x. slice_index x.retries t) ports
+    → slice_index dues (4 * n + t) + paid_by n t ports ≡ sum_of n (λ x. slice_index x.retries t) ports
 
 -- the credits of the first m requesters, from the words and what is due
 pub record AreCredits (s : Shape) (ws dues : List ℕ) (m : ℕ) (credits : List Credits) : Type 0 where
@@ -103,7 +92,7 @@ pub record IsClosed (s : Shape) (ports : List PortView) (counts : Counts) (credi
   pub owed : (n t : ℕ) → n < s.agents → t < 4 → slice_index (credits_at credits n).owed t ≡ owed_in t (o_of words n)
   pub promised : (n t : ℕ) → n < s.agents → t < 4 → slice_index (credits_at credits n).promised t ≡ count_of s t (p_of words n)
   pub due : (n t : ℕ) → n < s.agents → t < 4
-      → slice_index (credits_at credits n).due t + (sum_of n (λ x. slice_index x.spent t) ports + sum_of n (λ x. slice_index x.returned t) ports) ≡ sum_of n (λ x. slice_index x.retries t) ports
+      → slice_index (credits_at credits n).due t + paid_by n t ports ≡ sum_of n (λ x. slice_index x.retries t) ports
 
 -- what is due to each requester is what is owed to it and what is promised to it
 abbrev pub IsBalanced : ℕ → List Credits → Type 0

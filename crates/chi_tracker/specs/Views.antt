@@ -1,5 +1,5 @@
 -- What a port knows (docs/PROTOCOL.md, "Words of the tracker").
-use Rattle.std.specs.Prelude.{ℕ, zero, suc, ◌+◌, List, [], ◌∷◌, Option, None}
+use Rattle.std.specs.Prelude.{◌≡◌, ℕ, zero, suc, ◌+◌, ◌<◌, List, [], ◌∷◌, Option, None, slice_index}
 use Rattle.std.specs.Int.{bit_at}
 use Rattle.chi_tracker.specs.declared.shape.Shape.{Shape}
 
@@ -49,9 +49,41 @@ pub record PortView : Type 0 where
 abbrev pub has : ℕ → PortView → ℕ
 has e p = bit_at p.hand e
 
+-- how many credits of type t a port has spent or returned
+abbrev pub paid_of : PortView → ℕ → ℕ
+paid_of p t = slice_index p.spent t + slice_index p.returned t
+
+-- n credits of type t are due to a port: its retries less those that it has spent or returned
+abbrev pub IsDue : PortView → ℕ → ℕ → Type 0
+IsDue p t n = n + paid_of p t ≡ slice_index p.retries t
+
+-- fewer than 8 credits of type t are due to a port
+abbrev pub CanOwe : PortView → ℕ → Type 0
+CanOwe p t = slice_index p.retries t < 8 + paid_of p t
+
+-- no sweep was opened
+abbrev pub no_sweep : Sweep
+no_sweep = record { opened = 0; kind = 0; at = 0; left = 0 }
+
 -- a port that has done nothing yet
 abbrev pub new_port : Shape → ℕ → PortView
-new_port s n = record { who = n; shape = s; hand = 0; found = 0; seen = 0 ∷ 0 ∷ 0 ∷ 0 ∷ []; duty = None; noted = None; retries = []; spent = []; returned = []; scans = 0; scan_kind = 0; sees = []; ended = no_end; sweep = record { opened = 0; kind = 0; at = 0; left = 0 } }
+new_port s n = record {
+  who = n;
+  shape = s;
+  hand = 0;
+  found = 0;
+  seen = 0 ∷ 0 ∷ 0 ∷ 0 ∷ [];
+  duty = None;
+  noted = None;
+  retries = [];
+  spent = [];
+  returned = [];
+  scans = 0;
+  scan_kind = 0;
+  sees = [];
+  ended = no_end;
+  sweep = no_sweep;
+}
 
 -- the ports from n on, m of them
 abbrev pub new_ports : Shape → ℕ → ℕ → List PortView

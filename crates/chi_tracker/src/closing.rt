@@ -1,9 +1,8 @@
 //! The end of a tracker: the ports' seats are joined, and what they were due is added up.
 
-ghost use Rattle.std.specs.Prelude.{◌≡◌, ℕ, ◌+◌, ◌*◌, ◌<◌, ◌≤◌, [], All, length, slice_index, cond, ◌==◌};
+ghost use Rattle.std.specs.Prelude.{◌≡◌, ℕ, ◌+◌, ◌*◌, ◌<◌, ◌≤◌, All, length, slice_index, cond, ◌==◌};
 ghost use Rattle.std.specs.Slots.{slots_items, slots_len, IsFull};
-ghost use Rattle.chi_tracker.specs.Shape.{low, count_of, owed_in};
-ghost use Rattle.chi_tracker.specs.Words.{p_of, o_of};
+ghost use Rattle.chi_tracker.specs.Shape.{low};
 ghost use Rattle.chi_tracker.specs.Rule.{TrackerRule};
 ghost use Rattle.chi_tracker.specs.Laws.{duties};
 ghost use Rattle.chi_tracker.specs.Totals.{views_of, closed_state, AreDue, AreCredits};
@@ -102,18 +101,18 @@ pub(crate) fn last_words<A: Allocator>(
 }
 
 /// What is due to a requester, by type.
-fn due_of(dues: Dues, agent: usize) -> [u32; 4]
+fn due_of(dues: &Dues, agent: usize) -> [u32; 4]
     requires { agent < 8 }
-    ensures { (t : ℕ) → t < 4 → slice_index result t ≡ slice_index dues (4 * agent + t) }
+    ensures { (t : ℕ) → t < 4 → slice_index result t ≡ slice_index dues.now (4 * agent + t) }
 {
     let at = 4 * agent;
     [dues[at], dues[at + 1], dues[at + 2], dues[at + 3]]
 }
 
 /// The credits of each requester, in rising order.
-pub(crate) fn credits(words: Words, shape: Shape, dues: Dues) -> ArrayVec<Credits, 8>
-    requires { (shape.agents ≤ 8) × (low shape 4 ≤ 256) }
-    ensures { AreCredits shape words dues shape.agents result.items }
+pub(crate) fn credits(words: &Words, shape: &Shape, dues: &Dues) -> ArrayVec<Credits, 8>
+    requires { (shape.now.agents ≤ 8) × (low shape.now 4 ≤ 256) }
+    ensures { AreCredits shape.now words.now dues.now shape.now.agents result.items }
 {
     let mut all = ArrayVec::new();
     for agent in 0..shape.agents {

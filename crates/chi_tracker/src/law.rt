@@ -21,10 +21,10 @@ impl Law {
     ghost use Rattle.atomic_table.specs.Table.{State};
     ghost use Rattle.chi_tracker.specs.declared.shape.Shape.{Shape};
     ghost use Rattle.chi_tracker.specs.declared.view.SeatView.{SeatView};
-    ghost use Rattle.std.specs.Prelude.{◌≢◌, List};
+    ghost use Rattle.std.specs.Prelude.{List};
     ghost use Rattle.chi_tracker.specs.Laws.{Places, Ledgers, AllKnow};
     ghost use Rattle.chi_tracker.specs.Views.{PortView};
-    ghost use Rattle.chi_tracker.specs.Sweeping.{Act, port_after, IsInOrder};
+    ghost use Rattle.chi_tracker.specs.Sweeping.{Act, SweepsInOrder};
 
     /// Between any two atomic steps each entry is free, in the hand of exactly one port, or promised to
     /// exactly one requester. Does nothing: its contract is the law.
@@ -54,7 +54,7 @@ impl Law {
     /// nothing: its contract is the law.
     /// Source: `docs/PROTOCOL.md`, "Steps of the tracker", look and settle.
     pub fn sweep()
-        ensures { (p : PortView) (acts : List Act) → (port_after p acts).sweep.opened ≢ p.sweep.opened → IsInOrder acts (port_after p acts).sweep }
+        ensures { (p : PortView) (acts : List Act) → SweepsInOrder p acts }
     {}
 }
 

@@ -1,6 +1,6 @@
 //! Single bits of a word.
 
-ghost use Rattle.std.specs.Prelude.{◌≡◌, ◌^◌, ◌<◌, MatchBool};
+ghost use Rattle.std.specs.Prelude.{◌≡◌, ℕ, ◌-◌, ◌^◌, ◌<◌, MatchBool};
 ghost use Rattle.std.specs.Int.{bit_at};
 ghost use Rattle.chi_tracker.specs.Sums.{all_but};
 
@@ -18,6 +18,13 @@ pub(crate) fn others(k: usize) -> u64
     ensures { result ≡ all_but k }
 {
     !(1u64 << k)
+}
+
+/// The word in which the clear bits are set, and the set ones clear.
+pub(crate) fn inverse(word: u64) -> u64
+    ensures { (i : ℕ) → i < 64 → bit_at result i ≡ 1 - bit_at word i }
+{
+    !word
 }
 
 /// Whether bit `k` of the word is set.

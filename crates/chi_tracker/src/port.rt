@@ -1,21 +1,20 @@
 //! A requester's port to the tracker.
 
-ghost use Rattle.std.specs.Prelude.{◌≡◌, None, ℕ, ◌+◌, ◌<◌, ◌≤◌, ◌-◌, IfSome, IfNone, slice_index};
+ghost use Rattle.std.specs.Prelude.{◌≡◌, None, ℕ, ◌<◌, ◌≤◌, IfSome, IfNone, slice_index};
 ghost use Rattle.chi_flit.specs.Credit.{credit_number};
-ghost use Rattle.std.specs.Int.{bit_at};
 ghost use Rattle.chi_tracker.specs.Sums.{set_at, dropped};
-ghost use Rattle.chi_tracker.specs.Shape.{low, size, IsOf, IsShape};
-ghost use Rattle.chi_tracker.specs.Views.{has, new_port};
+ghost use Rattle.chi_tracker.specs.Shape.{low, size, IsShape};
+ghost use Rattle.chi_tracker.specs.Views.{has, new_port, IsDue, CanOwe};
 ghost use Rattle.chi_tracker.specs.Rule.{IsOfRunning};
-ghost use Rattle.chi_tracker.specs.Steps.{solo, frees, spends, returns_credit};
-ghost use Rattle.chi_tracker.specs.Calls.{no_owner, scanned, into_hand, owed_one, saw_all, seen_of, IsLowestSeen, Ended, Tended, HasSameCredits, HasOneLess};
+ghost use Rattle.chi_tracker.specs.Steps.{solo, frees, spends};
+ghost use Rattle.chi_tracker.specs.Calls.{no_owner, scanned_all, owed_one, saw_all, seen_of, FoundAll, HasClaimed, IsLowestSeen, EndedAsItsType, Tended, HasReturned, HasSameCredits, HasOneLess};
 
 use crate::law::Chair;
 use crate::marks::others;
 use crate::paying::{owe_one, pay};
 use crate::released::Released;
 use crate::scan::scan;
-use crate::sets::{counts, lowest};
+use crate::sets::{counts_by_type, lowest};
 use crate::shape::Shape;
 use crate::steps::{free_step, see_step};
 use crate::sweep::{release_entry, tend_type};
@@ -94,7 +93,7 @@ impl Port {
         requires { 0 < self.table.words }
         ensures chair { (result.chair.table_id ≡ self.table) × (result.chair.me ≡ solo self.port) }
         ensures number { (result.number ≡ self.port.who) × (self.port.duty ≡ None) }
-        ensures due { (t : ℕ) → t < 4 → slice_index result.due t + (slice_index self.port.spent t + slice_index self.port.returned t) ≡ slice_index self.port.retries t }
+        ensures due { (t : ℕ) → t < 4 → IsDue self.port t (slice_index result.due t) }
         ensures few { (t : ℕ) → t < 4 → slice_index result.due t ≤ 8 }
     {
         let Port {
@@ -121,9 +120,9 @@ impl Port {
         requires table { self.old.table ≡ tracker.now.table }
         requires entries { 0 < size self.old.port.shape (credit_number ty) }
         ensures table { self.new.table ≡ self.old.table }
-        ensures some { IfSome result (λ e. IsOf self.old.port.shape (credit_number ty) e.0 × (has e.0 self.old.port ≡ 0) × (self.new.port ≡ into_hand e.0 (scanned (credit_number ty) (e.0 - low self.old.port.shape (credit_number ty)) self.old.port))) }
-        ensures none { IfNone result (self.new.port ≡ scanned (credit_number ty) (size self.old.port.shape (credit_number ty)) self.old.port) }
-        ensures found { IfNone result ((e : ℕ) → IsOf self.old.port.shape (credit_number ty) e → bit_at self.new.port.found e ≡ 1) }
+        ensures some { IfSome result (λ e. HasClaimed (credit_number ty) e.0 self.old.port self.new.port) }
+        ensures none { IfNone result (self.new.port ≡ scanned_all (credit_number ty) self.old.port) }
+        ensures found { IfNone result (FoundAll self.old.port.shape (credit_number ty) self.new.port) }
         ensures mine { IfSome result (λ e. has e.0 self.new.port ≡ 1) }
         ensures entry { IfSome result (λ e. e.0 < low self.new.port.shape 4) }
     {
@@ -168,7 +167,7 @@ impl Port {
     pub fn owe<A: Allocator>(&mut self, tracker: &Tracker<A>, ty: CreditType)
         requires table { self.old.table ≡ tracker.now.table }
         requires entries { 0 < size self.old.port.shape (credit_number ty) }
-        requires few { slice_index self.old.port.retries (credit_number ty) < 8 + (slice_index self.old.port.spent (credit_number ty) + slice_index self.old.port.returned (credit_number ty)) }
+        requires few { CanOwe self.old.port (credit_number ty) }
         ensures table { self.new.table ≡ self.old.table }
         ensures port { self.new.port ≡ owed_one (credit_number ty) self.old.port }
     {
@@ -206,7 +205,7 @@ impl Port {
         self.seen[2] = see_step(board, &mut chair, self.number, 2);
         self.seen[3] = see_step(board, &mut chair, self.number, 3);
         self.chair = Some(chair);
-        counts(self.seen, self.shape)
+        counts_by_type(&self.seen, &self.shape)
     }
 
     /// The seen credits by type, as the port has them. It does no step.
@@ -214,14 +213,14 @@ impl Port {
     pub fn seen(&self) -> [u32; 4]
         ensures { (t : ℕ) → t < 4 → slice_index result t ≡ seen_of self.now.port t }
     {
-        counts(self.seen, self.shape)
+        counts_by_type(&self.seen, &self.shape)
     }
 
     /// The credits due by type: retries less spent and returned credits, 0 to 8. It does no step.
     /// Source: `docs/PROTOCOL.md`, "The rule between steps".
     pub fn due(&self) -> [u32; 4]
         ensures few { (t : ℕ) → t < 4 → slice_index result t ≤ 8 }
-        ensures is { (t : ℕ) → t < 4 → slice_index result t + (slice_index self.now.port.spent t + slice_index self.now.port.returned t) ≡ slice_index self.now.port.retries t }
+        ensures is { (t : ℕ) → t < 4 → IsDue self.now.port t (slice_index result t) }
     {
         let due = self.due;
         due
@@ -275,7 +274,7 @@ impl Port {
         requires table { self.old.table ≡ tracker.now.table }
         requires entry { (entry.0 < low self.old.port.shape 4) × (has entry.0 self.old.port ≡ 1) }
         ensures table { self.new.table ≡ self.old.table }
-        ensures port { (t : ℕ) × (t < 4) × IsOf self.old.port.shape t entry.0 × Ended self.old.port t entry.0 result self.new.port }
+        ensures port { EndedAsItsType self.old.port entry.0 result self.new.port }
         ensures credits { HasSameCredits self.old.port self.new.port }
         ensures hand { self.new.port.hand ≡ dropped self.old.port.hand entry.0 }
     {
@@ -301,7 +300,7 @@ impl Port {
         requires table { self.old.table ≡ tracker.now.table }
         requires credit { 0 < seen_of self.old.port (credit_number ty) }
         ensures table { self.new.table ≡ self.old.table }
-        ensures port { (e : ℕ) × IsLowestSeen self.old.port (credit_number ty) e × (has e self.old.port ≡ 0) × Ended (returns_credit (credit_number ty) e self.old.port) (credit_number ty) e result self.new.port × HasSameCredits (returns_credit (credit_number ty) e self.old.port) self.new.port }
+        ensures port { HasReturned (credit_number ty) self.old.port result self.new.port }
         ensures hand { (i : ℕ) → has i self.new.port ≡ has i self.old.port }
         ensures fewer { HasOneLess (credit_number ty) self.old.port self.new.port }
     {

@@ -2,7 +2,7 @@
 
 ghost use Rattle.std.specs.Prelude.{◌≡◌, ℕ, ◌+◌, ◌*◌, ◌<◌, ◌≤◌, slice_index};
 ghost use Rattle.std.specs.Int.{bit_at};
-ghost use Rattle.chi_tracker.specs.Sums.{set_at};
+ghost use Rattle.chi_tracker.specs.Sums.{below, set_at};
 ghost use Rattle.chi_tracker.specs.Shape.{low, size};
 ghost use Rattle.chi_tracker.specs.Calls.{set_count};
 ghost use Rattle.chi_tracker.specs.Steps.{first_clear};
@@ -24,37 +24,45 @@ pub(crate) fn first_clear(word: u64, ty: usize) -> usize
     unreachable!()
 }
 
-/// How many of the `count` entries from `start` on are in the set.
-fn set_count(words: [u64; 4], start: usize, count: usize) -> u32
-    requires { start + count ≤ 256 }
-    ensures is { result ≡ set_count words start count }
+/// How many of the `count` places of a word from `first` on are set.
+pub(crate) fn ones_from(word: u64, first: usize, count: usize) -> u32
+    requires { (0 < count) × (first + count ≤ 64) }
+    ensures is { result ≡ below (λ i. bit_at word (first + i)) count }
     ensures few { result ≤ count }
 {
+    ((word >> first) & (u64::MAX >> (64 - count))).count_ones()
+}
+
+/// How many of the first `end` entries are in the set.
+fn rank(words: &[u64; 4], end: usize) -> u32
+    requires { end ≤ 256 }
+    ensures { result ≡ below (set_at words.now) end }
+{
     let mut found = 0;
-    for i in 0..count {
-        let entry = start + i;
-        if is_set(words[entry / 64], entry % 64) {
-            found += 1;
-        }
+    for part in 0..end / 64 {
+        found += ones_from(words[part], 0, 64);
     }
-    found
+    let rest = end % 64;
+    if rest == 0 {
+        return found;
+    }
+    found + ones_from(words[end / 64], 0, rest)
 }
 
 /// How many entries of each type are in the set.
-pub(crate) fn counts(words: [u64; 4], shape: Shape) -> [u32; 4]
-    requires { low shape 4 ≤ 256 }
-    ensures { (t : ℕ) → t < 4 → slice_index result t ≡ set_count words (low shape t) (size shape t) }
+pub(crate) fn counts_by_type(words: &[u64; 4], shape: &Shape) -> [u32; 4]
+    requires { low shape.now 4 ≤ 256 }
+    ensures { (t : ℕ) → t < 4 → slice_index result t ≡ set_count words.now (low shape.now t) (size shape.now t) }
 {
-    if words == [0; 4] {
+    if *words == [0; 4] {
         return [0; 4];
     }
     let [zero, one, two, three] = shape.sizes;
-    [
-        set_count(words, 0, zero),
-        set_count(words, zero, one),
-        set_count(words, zero + one, two),
-        set_count(words, zero + one + two, three),
-    ]
+    let first = rank(words, zero);
+    let second = rank(words, zero + one);
+    let third = rank(words, zero + one + two);
+    let all = rank(words, zero + one + two + three);
+    [first, second - first, third - second, all - third]
 }
 
 /// The lowest of the `count` entries from `start` on that is in the set.

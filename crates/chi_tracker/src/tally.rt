@@ -1,152 +1,123 @@
 //! Counting entries and credits in the tracker's words.
 
-ghost use Rattle.std.specs.Prelude.{◌≡◌, ℕ, ◌+◌, ◌*◌, ◌<◌, ◌≤◌, length, slice_index, MatchBool};
-ghost use Rattle.chi_tracker.specs.Shape.{low, size, count_of, owed_in};
+ghost use Rattle.std.specs.Prelude.{◌≡◌, ℕ, ◌+◌, ◌*◌, ◌<◌, ◌≤◌, slice_index};
+ghost use Rattle.chi_tracker.specs.Sums.{set_at};
+ghost use Rattle.chi_tracker.specs.Shape.{low, count_of, owed_in};
 ghost use Rattle.chi_tracker.specs.Words.{p_of, o_of};
-ghost use Rattle.chi_tracker.specs.Totals.{promises_of, free_from, in_hand_from, promised_from, promised_to, owed_all, owed_below, IsCount};
+ghost use Rattle.chi_tracker.specs.Totals.{is_free, is_in_hand, is_promised, owed_all, IsCount};
 
-use crate::marks::is_set;
+use crate::marks::inverse;
+use crate::sets::{counts_by_type, ones_from};
 use crate::shape::Shape;
 use crate::totals::Counts;
 
 /// The tracker's words, as they were read.
 pub(crate) type Words = [u64; 44];
 
-/// How many of some entries are free, in hand and promised.
-#[derive(Clone, Copy)]
-struct Part {
-    free: u32,
-    hand: u32,
-    promised: u32,
-}
-
-/// Whether the entry is promised to a requester.
-fn is_promised(words: Words, agents: usize, entry: usize) -> bool
-    requires { (agents ≤ 8) × (entry < 256) }
-    ensures { MatchBool result (0 < promises_of words agents entry) (promises_of words agents entry ≡ 0) }
+/// The entries that are promised to some requester.
+fn promised_set(words: &Words, agents: usize) -> [u64; 4]
+    requires { agents ≤ 8 }
+    ensures { (e : ℕ) → e < 256 → set_at result e ≡ is_promised words.now agents e }
 {
+    let mut set = [0; 4];
     for agent in 0..agents {
-        if is_set(words[4 + 5 * agent + entry / 64], entry % 64) {
-            return true;
-        }
+        let at = 4 + 5 * agent;
+        let more = [
+            set[0] | words[at],
+            set[1] | words[at + 1],
+            set[2] | words[at + 2],
+            set[3] | words[at + 3],
+        ];
+        set = more;
     }
-    false
+    set
 }
 
-/// Counts the `count` entries from `start` on.
-fn count_part(words: Words, agents: usize, start: usize, count: usize) -> Part
-    requires { (agents ≤ 8) × (start + count ≤ 256) }
-    ensures free { result.free ≡ free_from words start count }
-    ensures hand { result.hand ≡ in_hand_from words agents start count }
-    ensures promised { result.promised ≡ promised_from words agents start count }
+/// How many entries are free, by type.
+fn free_counts(words: &Words, shape: &Shape) -> [u32; 4]
+    requires { low shape.now 4 ≤ 256 }
+    ensures { (t : ℕ) → t < 4 → slice_index result t ≡ count_of shape.now t (is_free words.now) }
 {
-    let mut part = Part {
-        free: 0,
-        hand: 0,
-        promised: 0,
-    };
-    for i in 0..count {
-        let entry = start + i;
-        let free = !is_set(words[entry / 64], entry % 64);
-        let promised = is_promised(words, agents, entry);
-        part.free += u32::from(free);
-        part.promised += u32::from(promised);
-        part.hand += u32::from(!free && !promised);
-    }
-    part
+    let free = [
+        inverse(words[0]),
+        inverse(words[1]),
+        inverse(words[2]),
+        inverse(words[3]),
+    ];
+    counts_by_type(&free, shape)
 }
 
-/// How many places of the type are set in a word of owed credits.
-fn owed_places(word: u64, ty: usize) -> u32
-    requires { ty < 4 }
-    ensures is { result ≡ owed_in ty word }
-    ensures few { result ≤ 8 }
+/// How many entries are in hand, by type: claimed, and promised to no requester.
+fn hand_counts(words: &Words, promised: &[u64; 4], shape: &Shape) -> [u32; 4]
+    requires entries { low shape.now 4 ≤ 256 }
+    requires promised { (e : ℕ) → e < 256 → set_at promised.now e ≡ is_promised words.now shape.now.agents e }
+    ensures { (t : ℕ) → t < 4 → slice_index result t ≡ count_of shape.now t (is_in_hand words.now shape.now.agents) }
 {
-    let mut found = 0;
-    for place in 0..8 {
-        found += u32::from(is_set(word, 8 * ty + place));
-    }
-    found
+    let hand = [
+        words[0] & inverse(promised[0]),
+        words[1] & inverse(promised[1]),
+        words[2] & inverse(promised[2]),
+        words[3] & inverse(promised[3]),
+    ];
+    counts_by_type(&hand, shape)
 }
 
 /// The credits owed to a requester, by type.
-pub(crate) fn owed_to(words: Words, agent: usize) -> [u32; 4]
+pub(crate) fn owed_to(words: &Words, agent: usize) -> [u32; 4]
     requires { agent < 8 }
-    ensures is { (t : ℕ) → t < 4 → slice_index result t ≡ owed_in t (o_of words agent) }
+    ensures is { (t : ℕ) → t < 4 → slice_index result t ≡ owed_in t (o_of words.now agent) }
     ensures few { (t : ℕ) → t < 4 → slice_index result t ≤ 8 }
 {
     let word = words[8 + 5 * agent];
     [
-        owed_places(word, 0),
-        owed_places(word, 1),
-        owed_places(word, 2),
-        owed_places(word, 3),
+        ones_from(word, 0, 8),
+        ones_from(word, 8, 8),
+        ones_from(word, 16, 8),
+        ones_from(word, 24, 8),
     ]
-}
-
-/// How many of the `count` entries from `start` on are promised to the requester.
-fn promised_part(words: Words, agent: usize, start: usize, count: usize) -> u32
-    requires { (agent < 8) × (start + count ≤ 256) }
-    ensures is { result ≡ promised_to words agent start count }
-{
-    let mut found = 0;
-    for i in 0..count {
-        let entry = start + i;
-        found += u32::from(is_set(words[4 + 5 * agent + entry / 64], entry % 64));
-    }
-    found
 }
 
 /// The entries promised to a requester, by type.
-pub(crate) fn promised_of(words: Words, agent: usize, shape: Shape) -> [u32; 4]
-    requires { (agent < 8) × (low shape 4 ≤ 256) }
-    ensures { (t : ℕ) → t < 4 → slice_index result t ≡ promised_to words agent (low shape t) (size shape t) }
+pub(crate) fn promised_of(words: &Words, agent: usize, shape: &Shape) -> [u32; 4]
+    requires { (agent < 8) × (low shape.now 4 ≤ 256) }
+    ensures { (t : ℕ) → t < 4 → slice_index result t ≡ count_of shape.now t (p_of words.now agent) }
 {
-    let [zero, one, two, three] = shape.sizes;
-    [
-        promised_part(words, agent, 0, zero),
-        promised_part(words, agent, zero, one),
-        promised_part(words, agent, zero + one, two),
-        promised_part(words, agent, zero + one + two, three),
-    ]
+    let at = 4 + 5 * agent;
+    let set = [words[at], words[at + 1], words[at + 2], words[at + 3]];
+    counts_by_type(&set, shape)
 }
 
-/// The credits owed to all requesters, of one type.
-fn owed_by_all(words: Words, agents: usize, ty: usize) -> u32
-    requires { (agents ≤ 8) × (ty < 4) }
-    ensures { result ≡ owed_all words ty agents }
+/// The credits owed to all requesters, by type.
+fn owed_by_all(words: &Words, agents: usize) -> [u32; 4]
+    requires { agents ≤ 8 }
+    ensures { (t : ℕ) → t < 4 → slice_index result t ≡ owed_all words.now t agents }
 {
-    let mut found = 0;
+    let mut owed = [0; 4];
     for agent in 0..agents {
-        found += owed_places(words[8 + 5 * agent], ty);
+        if words[8 + 5 * agent] != 0 {
+            let own = owed_to(words, agent);
+            let sums = [
+                owed[0] + own[0],
+                owed[1] + own[1],
+                owed[2] + own[2],
+                owed[3] + own[3],
+            ];
+            owed = sums;
+        }
     }
-    found
+    owed
 }
 
 /// Counts all entries and owed credits.
-pub(crate) fn counts(words: Words, shape: Shape) -> Counts
-    requires { (shape.agents ≤ 8) × (low shape 4 ≤ 256) }
-    ensures { IsCount shape words result }
+pub(crate) fn counts(words: &Words, shape: &Shape) -> Counts
+    requires { (shape.now.agents ≤ 8) × (low shape.now 4 ≤ 256) }
+    ensures { IsCount shape.now words.now result }
 {
-    let [zero, one, two, three] = shape.sizes;
-    let agents = shape.agents;
-    let a = count_part(words, agents, 0, zero);
-    let b = count_part(words, agents, zero, one);
-    let c = count_part(words, agents, zero + one, two);
-    let d = count_part(words, agents, zero + one + two, three);
-    let free = [a.free, b.free, c.free, d.free];
-    let hand = [a.hand, b.hand, c.hand, d.hand];
-    let promised = [a.promised, b.promised, c.promised, d.promised];
-    let owed = [
-        owed_by_all(words, agents, 0),
-        owed_by_all(words, agents, 1),
-        owed_by_all(words, agents, 2),
-        owed_by_all(words, agents, 3),
-    ];
+    let promised = promised_set(words, shape.agents);
     Counts {
-        free,
-        hand,
-        promised,
-        owed,
+        free: free_counts(words, shape),
+        hand: hand_counts(words, &promised, shape),
+        promised: counts_by_type(&promised, shape),
+        owed: owed_by_all(words, shape.agents),
     }
 }

@@ -4,8 +4,8 @@ ghost use Rattle.std.specs.Prelude.{◌≡◌, ◌<◌, ◌≤◌, [], All, IfOk
 ghost use Rattle.chi_tracker.specs.Shape.{low};
 ghost use Rattle.chi_tracker.specs.Views.{new_ports};
 ghost use Rattle.chi_tracker.specs.Rule.{all_new};
-ghost use Rattle.chi_tracker.specs.Calls.{owners, shape_of};
-ghost use Rattle.chi_tracker.specs.Totals.{views_of, IsClosed, IsBalanced};
+ghost use Rattle.chi_tracker.specs.Calls.{owners, new_owners, shape_of, IsOwnerAt};
+ghost use Rattle.chi_tracker.specs.Totals.{views_of, IsClosed, IsBalanced, IsGlance};
 
 use crate::closing::{Gathered, credits, gather, last_words};
 use crate::law::{Board, Chair, Law};
@@ -56,8 +56,8 @@ impl<A: Allocator> Tracker<A> {
         requires agents { (0 < agents) × (agents ≤ 8) }
         requires entries { low (shape_of entries agents) 4 ≤ 256 }
         ensures shape { IfOk result (λ made. made.0.shape ≡ shape_of entries agents) }
-        ensures ports { IfOk result (λ made. made.1.items ≡ owners made.0.table (new_ports (shape_of entries agents) 0 agents)) }
-        ensures own { IfOk result (λ made. All (λ p. (p.table ≡ made.0.table) × (p.port.shape ≡ made.0.shape)) made.1.items) }
+        ensures ports { IfOk result (λ made. made.1.items ≡ new_owners made.0.table (shape_of entries agents)) }
+        ensures own { IfOk result (λ made. All (IsOwnerAt made.0) made.1.items) }
         ensures all { IfOk result (λ made. length made.1.items ≡ agents) }
     {
         let shape = Shape::of(entries, usize::from(agents));
@@ -107,20 +107,24 @@ impl<A: Allocator> Tracker<A> {
         let Tracker { table, shape } = self;
         let Gathered { chair, dues } = gather(&table.shared, ports);
         let words = last_words(table, chair);
-        let counts = counts(words, shape);
-        let requesters = credits(words, shape, dues);
+        let counts = counts(&words, &shape);
+        let requesters = credits(&words, &shape, &dues);
         Totals { counts, requesters }
     }
 
-    /// Loads the words one after the other and counts what they held, by type. Ports may do steps between two
-    /// loads; the contract promises only that the call returns.
+    /// Loads the words one after the other, those of C and of each requester, and counts what they held, by
+    /// type. Ports may do steps between two loads: the contract promises that the counts are those of the
+    /// same 44 words, and nothing of when each was what it was.
     /// Source: `docs/PROTOCOL.md`, "Totals".
-    pub fn glance(&self) -> Counts {
+    pub fn glance(&self) -> Counts
+        ensures { IsGlance self.now.shape result }
+    {
         let board = self.board();
+        let shape = &self.shape;
         let mut words = [0; 44];
-        for i in 0..44 {
+        for i in 0..4 + 5 * shape.agents {
             words[i] = board.peek(i);
         }
-        counts(words, self.shape)
+        counts(&words, shape)
     }
 }

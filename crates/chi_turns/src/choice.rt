@@ -1,6 +1,6 @@
 //! What a turn has a requester do on the slice of its line.
 
-ghost use Rattle.std.specs.Prelude.{◌≡◌, IfSome};
+ghost use Rattle.std.specs.Prelude.{◌≡◌, ◌/◌, IfSome};
 ghost use Rattle.chi_turns.specs.Choice.{choice, choice_at, line_of, IsOwn};
 
 use crate::deliveries::delivery_at;
@@ -36,10 +36,25 @@ pub enum Choice {
 }
 
 /// The line of a turn: the word of the draw, modulo the number of lines.
-pub(crate) fn line_of(config: &Config, x: u32) -> Line
+/// Source: `docs/PROTOCOL.md`, "A turn".
+pub fn line_of(config: &Config, x: u32) -> Line
     ensures { result ≡ line_of config.now x }
 {
-    Line((x % u32::from(config.lines())) as u8)
+    // (the largest node by a constant, so that its turns have no division)
+    match config.lines() {
+        64 => Line((x % 64) as u8),
+        lines => Line((x % u32::from(lines)) as u8),
+    }
+}
+
+/// The number by which a turn picks a delivery: the word of the draw, divided by the number of lines.
+fn number_of(config: &Config, x: u32) -> u32
+    ensures { result ≡ x / config.now.lines }
+{
+    match config.lines() {
+        64 => x / 64,
+        lines => x / u32::from(lines),
+    }
 }
 
 /// What is done at a line of the slice: the first of the three parts that has a choice.
@@ -76,7 +91,7 @@ pub(crate) fn choose<A: Allocator, B: Allocator>(
     ensures own { IfSome result (IsOwn operations.now) }
 {
     let line = line_of(slice.config(), x);
-    let number = x / u32::from(slice.config().lines());
+    let number = number_of(slice.config(), x);
     let sight = Sight::of(slice, requester, line)?;
     choose_at(&sight, operations, stopped, number)
 }

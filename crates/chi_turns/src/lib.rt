@@ -12,6 +12,6 @@ mod retries;
 mod sight;
 mod tries;
 
-pub use choice::{Call, Choice};
+pub use choice::{Call, Choice, line_of};
 pub use operations::{Operations, Place, Unfinished};
 pub use player::Player;

@@ -10,12 +10,12 @@ use Rattle.chi_check_script.proofs.files.checks_from.Goals as goal
 pub returns-in_err-add_check : goal.returns-in_err-add_check
 returns-in_err-add_check g c =
     let p = err_from_is_err_and c.from_residual.result c.from_residual.ensures.1 in
-    rw (p.1, p.2) (stops c.in_err-add_check.field-0.0 (map seen c.loop-line.checks.items) c.loop-line.number c.loop-line.rest.now c.in-Some.line.now c.in-Some.after.now (checks_of c.args.first (lines_of c.args.bytes.now)) c.in-Some.ensures.some.0 c.in_err-add_check.ensures c.loop-line.invariant.so_far)
+    rw (p.1, p.2) (stops c.in_err-add_check.field-0.0 (map seen c.loop-line.checks.items) c.loop-line.number c.loop-line.rest.now c.in-Some.line.now c.in-Some.after.now (checks_of c.args.first (lines_of c.args.bytes.now)) c.in-Some.ensures.some c.in_err-add_check.ensures c.loop-line.invariant.so_far)
 
 pub loop-line-preserved : goal.loop-line-preserved
 loop-line-preserved g c = record {
-  so_far = goes_on (map seen c.loop-line.checks.items) (map seen c.add_check.new.checks.items) c.loop-line.number c.loop-line.rest.now c.in-Some.line.now c.in-Some.after.now (checks_of c.args.first (lines_of c.args.bytes.now)) c.in-Some.ensures.some.0 c.in_ok-add_check.ensures c.loop-line.invariant.so_far;
-  count = omega (arith, c.in-Some.ensures.some.1, c.loop-line.invariant.count);
+  so_far = goes_on (map seen c.loop-line.checks.items) (map seen c.add_check.new.checks.items) c.loop-line.number c.loop-line.rest.now c.in-Some.line.now c.in-Some.after.now (checks_of c.args.first (lines_of c.args.bytes.now)) c.in-Some.ensures.some c.in_ok-add_check.ensures c.loop-line.invariant.so_far;
+  count = omega (arith, c.in-Some.ensures.shorter, c.loop-line.invariant.count);
 }
 
 pub returns-then-is_empty : goal.returns-then-is_empty

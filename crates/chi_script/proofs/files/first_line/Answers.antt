@@ -6,4 +6,7 @@ pub returns-in_err-end-clause-none : goal.returns-in_err-end-clause-none
 returns-in_err-end-clause-none c = let whole = uncut _ c.args.bytes.now c.in_err-end.ensures in search rules
 
 pub returns-clause-some : goal.returns-clause-some
-returns-clause-some c = cut_at _ c.args.bytes.now 0 c.in_ok-end.end c.in_ok-end.ensures
+returns-clause-some c = (cut_at _ c.args.bytes.now 0 c.in_ok-end.end c.in_ok-end.ensures).0
+
+pub returns-clause-shorter : goal.returns-clause-shorter
+returns-clause-shorter c = (cut_at _ c.args.bytes.now 0 c.in_ok-end.end c.in_ok-end.ensures).1

@@ -5,4 +5,4 @@ pub returns-clause-read : goal.returns-clause-read
 returns-clause-read c = line_read
 
 pub returns-clause-again : goal.returns-clause-again
-returns-clause-again c = line_again
+returns-clause-again c = λ header limits line deed is. line_again header line deed limits is

@@ -8,12 +8,12 @@ use Rattle.chi_storm_script.proofs.storms.read_deeds.Goals as goal
 pub returns-in_err-deed : goal.returns-in_err-deed
 returns-in_err-deed g c =
     let p = err_from_is_err_and c.from_residual.result c.from_residual.ensures.1 in
-    rw (p.1, p.2) (stops c.args.header.now c.in_err-deed.field-0.0 c.loop-line.deeds.items c.loop-line.number c.loop-line.rest.now c.in-Some.line.now c.in-Some.after.now (deeds_of c.args.header.now 2 (lines_of c.args.bytes.now)) c.in-Some.ensures.some.0 c.in_err-deed.ensures c.loop-line.invariant.so_far)
+    rw (p.1, p.2) (stops c.args.header.now c.in_err-deed.field-0.0 c.loop-line.deeds.items c.loop-line.number c.loop-line.rest.now c.in-Some.line.now c.in-Some.after.now (deeds_of c.args.header.now 2 (lines_of c.args.bytes.now)) c.in-Some.ensures.some c.in_err-deed.ensures c.loop-line.invariant.so_far)
 
 pub loop-line-preserved : goal.loop-line-preserved
 loop-line-preserved g c = record {
-  so_far = rw c.in_ok-push.ensures.items (goes_on c.args.header.now c.loop-line.deeds.items c.loop-line.number c.loop-line.rest.now c.in-Some.line.now c.in-Some.after.now c.in_ok-deed.deed (deeds_of c.args.header.now 2 (lines_of c.args.bytes.now)) c.in-Some.ensures.some.0 c.in_ok-deed.ensures c.loop-line.invariant.so_far);
-  count = omega (arith, c.in-Some.ensures.some.1, c.loop-line.invariant.count);
+  so_far = rw c.in_ok-push.ensures.items (goes_on c.args.header.now c.loop-line.deeds.items c.loop-line.number c.loop-line.rest.now c.in-Some.line.now c.in-Some.after.now c.in_ok-deed.deed (deeds_of c.args.header.now 2 (lines_of c.args.bytes.now)) c.in-Some.ensures.some c.in_ok-deed.ensures c.loop-line.invariant.so_far);
+  count = omega (arith, c.in-Some.ensures.shorter, c.loop-line.invariant.count);
 }
 
 pub returns-then-is_empty : goal.returns-then-is_empty

@@ -1,0 +1,12 @@
+-- What was read is enough of the input's file.
+use Rattle.chi_check_script.specs.Files.{check_file_of}
+use Rattle.chi_check_script.proofs.FileLemmas.{front_enough}
+use Rattle.chi_replay.proofs.Enough.{fault_of_known}
+use Rattle.chi_chart.proofs.Enough.{chart_of_known}
+use Rattle.chi_chart.proofs.charts.chart_of_input.Goals as goal
+
+pub returns-clause-ok : goal.returns-clause-ok
+returns-clause-ok g c = chart_of_known (g.I.Input.left c.args.input.now) c.in_ok-bytes.bytes.items c.args.only (λ text. text.items) c.chart_of.result c.in_ok-bytes.ensures.front (rw (← c.deref.ensures.value) c.chart_of.ensures.ok)
+
+pub returns-clause-err : goal.returns-clause-err
+returns-clause-err g c = fault_of_known check_file_of front_enough (g.I.Input.left c.args.input.now) _ _ c.in_ok-bytes.bytes.items c.chart_of.result c.in_ok-bytes.ensures.front (rw (← c.deref.ensures.value) c.chart_of.ensures.err)

@@ -1,0 +1,63 @@
+-- What the chart of a file writes (docs/PROTOCOL.md, "Charts" and "The program").
+use Rattle.std.specs.Prelude.{◌≡◌, ◌≢◌, ℕ, List, Option, Result, Ok, Err, IfSome, IsErrOf}
+use Rattle.std.specs.Io.KnownBytes.{Appends}
+use Rattle.chi_devices.specs.Devices.{AppendsFront}
+use Rattle.chi_flit.specs.declared.numbers.Line.{Line}
+use Rattle.chi_script.specs.Headers.{node_sizes}
+use Rattle.chi_replay.specs.Replays.{NoText}
+use Rattle.chi_script.specs.declared.faults.Fault.{Fault}
+use Rattle.chi_script.specs.declared.faults.Fault.TheVariants.{Write}
+use Rattle.chi_script.specs.declared.headers.Header.{Header}
+use Rattle.chi_text.specs.Texts.{Allowed, opening_ports}
+use Rattle.chi_text.specs.Turns.{Answer, opening}
+use Rattle.chi_check_script.specs.Checks.{CheckLine}
+use Rattle.chi_check_script.specs.Files.{check_file_of}
+use Rattle.chi_chart.specs.declared.frame.Layout.{Layout}
+use Rattle.chi_chart.specs.Picture.{svg_of}
+use Rattle.chi_chart.specs.Rows.{Row, bottom_of, rows_of, top}
+use Rattle.chi_chart.specs.Steps.{commands_in, steps_of}
+
+-- the rows of the commands of a header and checks, where the tracker answers so
+abbrev pub rows_in : Header → List CheckLine → Option Line → List Answer → List Row
+rows_in header checks only tracked = rows_of only top (steps_of (opening (node_sizes header)) (commands_in checks) tracked)
+
+-- the layout of a node of the header's size
+pub record IsLayout (header : Header) (layout : Layout) : Type 0 where
+  pub agents : layout.agents ≡ header.agents
+  pub lines : layout.lines ≡ header.lines
+  pub slices : layout.slices ≡ header.slices
+
+-- the bytes are the chart of the steps of the commands, under answers that the tracker may give
+pub record IsChart (header : Header) (checks : List CheckLine) (only : Option Line) (bytes : List ℕ) : Type 0 where
+  pub answers : List Answer
+  pub allowed : Allowed (opening (node_sizes header)) (opening_ports (node_sizes header)) (commands_in checks) answers
+  pub layout : Layout
+  pub sizes : IsLayout header layout
+  pub same : bytes ≡ svg_of layout (bottom_of top (rows_in header checks only answers)) (rows_in header checks only answers)
+
+-- the chart of a good file
+pub record IsChartOf (only : Option Line) (file bytes : List ℕ) : Type 0 where
+  pub header : Header
+  pub checks : List CheckLine
+  pub good : check_file_of file ≡ Ok (header, checks)
+  pub chart : IsChart header checks only bytes
+
+-- the chart of the file that an input had was written, no more
+abbrev pub Draws : Option Line → Option (List ℕ) → Option (List ℕ) → Option (List ℕ) → Type 0
+Draws only left old new = IfSome left (λ file. (bytes : List ℕ) × IsChartOf only file bytes × Appends old new bytes)
+
+-- a beginning of it was written
+abbrev pub Begins : Option Line → Option (List ℕ) → Option (List ℕ) → Option (List ℕ) → Type 0
+Begins only left old new = IfSome left (λ file. (bytes : List ℕ) × IsChartOf only file bytes × AppendsFront old new bytes)
+
+-- what holds where writing failed
+abbrev pub OnWriteFault : {T : Type 0} → Result T Fault → Type 0 → Type 0
+OnWriteFault result holds = IsErrOf result Write → holds
+
+-- a fault of no output comes of the file that an input had, of reading it, or of memory
+abbrev pub NoChart : Option (List ℕ) → ℕ → ℕ → Fault → Type 0
+NoChart left old new fault = fault ≢ Write → NoText check_file_of left old new fault
+
+-- what holds of the first fault of the file that an input had
+abbrev pub IfFaulty : Option (List ℕ) → (Fault → Type 0) → Type 0
+IfFaulty left holds = IfSome left (λ file. (fault : Fault) → check_file_of file ≡ Err fault → holds fault)

@@ -1,0 +1,11 @@
+pub mod Steps
+pub mod Marks
+pub mod Rows
+pub mod Layout
+pub mod Commands
+pub mod Drawn
+pub mod Notes
+pub mod Style
+pub mod Picture
+pub mod Charts
+pub mod Played

@@ -1,0 +1,57 @@
+-- The steps of a run: what each command says, and what the node is before and after it (docs/PROTOCOL.md,
+-- "Charts").
+use Rattle.std.specs.Prelude.{◌≡◌, ℕ, List, [], ◌∷◌, ◌++◌, Option, Some, None, map}
+use Rattle.chi_flit.specs.declared.numbers.Line.{Line}
+use Rattle.chi_flit.specs.declared.refusal.Refusal.{Refusal}
+use Rattle.chi_line.specs.declared.view.LineView.{LineView}
+use Rattle.chi_line.specs.View.{shown}
+use Rattle.chi_script.specs.declared.commands.Command.{Command}
+use Rattle.chi_check_script.specs.Checks.{CheckLine}
+use Rattle.chi_script.specs.declared.commands.Command.TheVariants as commands
+use Rattle.chi_system.specs.Home.{HomeState, last_of, line, view_refusal}
+use Rattle.chi_text.specs.Texts.{made}
+use Rattle.chi_text.specs.Turns.{Answer, Machine, turn}
+
+-- a command, the line that a replay prints for it, with its end, and the home before and after
+pub record Step : Type 0 where
+  pub command : Command
+  pub answer : List ℕ
+  pub before : HomeState
+  pub after : HomeState
+
+-- the steps of commands one after the other, where the tracker answers so
+abbrev pub steps_of : Machine → List Command → List Answer → List Step
+steps_of m [] answers = []
+steps_of m (command ∷ rest) answers =
+    record {
+      command = command;
+      answer = (made (turn m command) answers).said ++ (10 ∷ []);
+      before = m.home;
+      after = (made (turn m command) answers).state.home;
+    }
+    ∷ steps_of (made (turn m command) answers).state rest (made (turn m command) answers).left
+
+-- the line that a command names
+abbrev pub line_of : Command → Option Line
+line_of commands.Totals = None
+line_of commands.Audit = None
+line_of (commands.Show l) = Some l
+line_of (commands.Flits agent l) = Some l
+line_of (commands.Arrive agent l) = Some l
+line_of (commands.See agent) = None
+line_of (commands.GiveBack agent ty) = None
+line_of (commands.Tend agent ty) = None
+line_of (commands.Act action) = Some action.line
+
+abbrev pub view_if : Option Refusal → LineView → Option LineView
+view_if None view = Some view
+view_if (Some refusal) view = None
+
+-- a line as it is shown, where there is one of that number
+abbrev pub seen_line : HomeState → Option Line → Option LineView
+seen_line home None = None
+seen_line home (Some l) = view_if (view_refusal home l.0) (shown (line home l.0) (last_of home l.0))
+
+-- the commands of a file
+abbrev pub commands_in : List CheckLine → List Command
+commands_in checks = map (λ check. check.command) checks

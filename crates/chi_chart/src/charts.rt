@@ -1,0 +1,120 @@
+//! From the bytes of a file to the chart that is written.
+
+ghost use Rattle.std.specs.Prelude.{◌≡◌, ◌≢◌, ◌+◌, ◌^◌, ◌<◌, IfOk, IfErr, IfSome, OnOk, IsErrOf, map, true};
+ghost use Rattle.std.specs.Io.KnownBytes.{Keeps};
+ghost use Rattle.chi_script.specs.Faults.{Fails};
+ghost use Rattle.chi_script.specs.declared.faults.Fault.{Fault};
+ghost use Rattle.chi_script.specs.Headers.{is_in_limits};
+ghost use Rattle.chi_replay.specs.Replays.{NoText, Refuses};
+ghost use Rattle.chi_check_script.specs.Checks.{seen};
+ghost use Rattle.chi_check_script.specs.Files.{check_file_of};
+ghost use Rattle.chi_chart.specs.Charts.{Begins, Draws, IfFaulty, IsChart, IsChartOf, IsLayout, NoChart, OnWriteFault};
+ghost use Rattle.chi_chart.specs.Steps.{commands_in};
+
+use crate::frame::Layout;
+use crate::picture::svg_of;
+use crate::rows::rows_of;
+use chi_check_script::{Check, CheckScript, read_checks};
+use chi_devices::{Failed, Input, Output, read_all};
+use chi_flit::{Line, NoMemory};
+use chi_replay::config_of;
+use chi_script::{Command, Fault, Header};
+use std::alloc::{AllocError, Allocator};
+
+/// The commands of the checks, in order.
+fn commands_of<A: Allocator>(alloc: A, checks: &[Check]) -> Result<Vec<Command, A>, AllocError>
+    ensures { IfOk result (λ commands. commands.items ≡ commands_in (map seen checks.now)) }
+{
+    checks.iter().map(|check| check.command).collect(alloc)
+}
+
+/// How a chart of a node of a header's sizes is laid out.
+fn layout_of(header: &Header) -> Layout
+    requires { is_in_limits header.now ≡ true }
+    ensures { IsLayout header.now result }
+{
+    Layout {
+        agents: header.agents,
+        lines: header.lines,
+        slices: header.slices,
+    }
+}
+
+/// The chart of a good file. Refused where memory runs out.
+fn chart_on<A: Allocator + Copy>(
+    alloc: A,
+    script: &CheckScript<'_, A>,
+    only: Option<Line>,
+) -> Result<Vec<u8, A>, NoMemory>
+    ensures { IfOk result (λ text. IsChart script.now.header (map seen script.now.checks.items) only text.items) }
+{
+    let config = config_of(&script.header);
+    let commands = commands_of(alloc, &script.checks)?;
+    let run = rows_of(alloc, &config, &commands, only)?;
+    let layout = layout_of(&script.header);
+    svg_of(alloc, layout, run.bottom, &run.rows)
+}
+
+/// The chart of a file, whose bytes these are; else its first fault, or want of memory.
+fn chart_of<A: Allocator + Copy>(
+    alloc: A,
+    bytes: &[u8],
+    only: Option<Line>,
+) -> Result<Vec<u8, A>, Fault>
+    ensures ok { IfOk result (λ text. IsChartOf only bytes.now text.items) }
+    ensures err { IfErr result (λ fault. Fails fault (check_file_of bytes.now)) }
+{
+    let script = read_checks(alloc, bytes)?;
+    match chart_on(alloc, &script, only) {
+        Ok(text) => Ok(text),
+        Err(_) => Err(Fault::NoMemory),
+    }
+}
+
+/// The same of an input's bytes; `Read` where reading them failed.
+fn chart_of_input<A: Allocator + Copy, I: Input>(
+    alloc: A,
+    input: &mut I,
+    only: Option<Line>,
+) -> Result<Vec<u8, A>, Fault>
+    requires { I.failures input.old + 1 < 2 ^ 64 }
+    ensures ok { IfOk result (λ text. IfSome (I.left input.old) (λ file. IsChartOf only file text.items)) }
+    ensures err { IfErr result (NoText check_file_of (I.left input.old) (I.failures input.old) (I.failures input.new)) }
+{
+    let bytes = read_all(alloc, input)?;
+    chart_of(alloc, &bytes, only)
+}
+
+/// Runs the commands of the replay or check file that the input has, on one thread, and writes their message
+/// sequence chart, an SVG: of one line alone, and of commands that name none, where one is wanted.
+///
+/// At `Ok` the input was a good file, and the chart of the steps of its commands, under answers that the
+/// tracker may give, was written, no more. Where the file is faulty nothing is written, and the fault is that
+/// of its first faulty line, or `TooLarge`, unless `Read` or `NoMemory` came first. `Read` and `Write` come
+/// only where that device counted a failure. After `Write` a beginning of such a chart was written; after any
+/// other fault nothing was. `NoMemory` also stands for a chart that is higher than a number of 32 bits says.
+///
+/// Conditions: the counts of failures of the input and of the output are below 2 ^ 64 - 1.
+/// Source: `docs/PROTOCOL.md`, "Charts" and "The program".
+pub fn chart<A: Allocator + Copy, I: Input, O: Output>(
+    alloc: A,
+    input: &mut I,
+    output: &mut O,
+    only: Option<Line>,
+) -> Result<(), Fault>
+    requires reads { I.failures input.old + 1 < 2 ^ 64 }
+    requires writes { O.failures output.old + 1 < 2 ^ 64 }
+    ensures ok { OnOk result (Draws only (I.left input.old) (O.written output.old) (O.written output.new)) }
+    ensures write { IsErrOf result Fault.Write → O.failures output.new ≡ O.failures output.old + 1 }
+    ensures front { OnWriteFault result (Begins only (I.left input.old) (O.written output.old) (O.written output.new)) }
+    ensures err { IfErr result (NoChart (I.left input.old) (I.failures input.old) (I.failures input.new)) }
+    ensures kept { IfErr result (λ fault. fault ≢ Fault.Write → Keeps (O.written output.old) (O.written output.new)) }
+    ensures faulty { IfFaulty (I.left input.old) (λ fault. Refuses fault result) }
+    ensures unwritten { IfFaulty (I.left input.old) (λ _. Keeps (O.written output.old) (O.written output.new)) }
+{
+    let text = chart_of_input(alloc, input, only)?;
+    match output.write_all(&text) {
+        Ok(()) => Ok(()),
+        Err(Failed) => Err(Fault::Write),
+    }
+}

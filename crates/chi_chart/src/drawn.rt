@@ -1,0 +1,349 @@
+//! The parts of a chart as SVG, each on lines of its own. Numbers are pixels from the left and from the top.
+
+ghost use Rattle.std.specs.Prelude.{◌≡◌, ◌++◌, OnOk, Some};
+ghost use Rattle.chi_reply.specs.Replies.{serving_text};
+ghost use Rattle.chi_chart.specs.Drawn.{arrow_text, bar_text, caption_text, end_text, escaped, escaped_byte, lifeline_text, name_text, paper_text, serving_title_text, sheet_text, slice_text, slice_title_text, title_text, turned_text};
+
+use crate::commands::Spelled;
+use chi_flit::{Agent, Channel, Msg, NoMemory, State};
+use chi_homeline::Serving;
+use std::alloc::Allocator;
+use std::fmt;
+
+/// The sheet: how large the chart is, and its paper.
+#[derive(Drop)]
+pub(crate) struct Sheet {
+    pub(crate) width: u64,
+    pub(crate) height: u64,
+}
+
+/// A slice of the home, and its number.
+#[derive(Drop)]
+pub(crate) struct SliceBox {
+    pub(crate) slice: u8,
+    pub(crate) x: u64,
+    pub(crate) right: u64,
+    pub(crate) bottom: u64,
+}
+
+/// The lifeline of an agent, or of the home where there is none, with its name above and below.
+#[derive(Drop)]
+pub(crate) struct Lifeline {
+    pub(crate) agent: Option<Agent>,
+    pub(crate) x: u64,
+    pub(crate) bottom: u64,
+    pub(crate) name_y: u64,
+}
+
+/// A rule above a row, and its command.
+#[derive(Drop)]
+pub(crate) struct Caption {
+    pub(crate) rule: u64,
+    pub(crate) right: u64,
+    pub(crate) y: u64,
+    pub(crate) command: Spelled,
+}
+
+/// The state that a copy turns to.
+#[derive(Drop)]
+pub(crate) struct StateMark {
+    pub(crate) x: u64,
+    pub(crate) y: u64,
+    pub(crate) state: State,
+}
+
+/// What the home does at a line, from here to there, and the words for it.
+#[derive(Drop)]
+pub(crate) struct Bar {
+    pub(crate) serving: Serving,
+    pub(crate) x: u64,
+    pub(crate) y: u64,
+    pub(crate) end: u64,
+    pub(crate) words_x: u64,
+    pub(crate) words_y: u64,
+}
+
+/// A flit and its text: it leaves one lifeline, goes down its lane, and comes to the other where it is taken;
+/// or it is still in flight at the bottom.
+#[derive(Drop)]
+pub(crate) struct Arrow {
+    pub(crate) channel: Channel,
+    pub(crate) from: u64,
+    pub(crate) y: u64,
+    pub(crate) lane: u64,
+    pub(crate) end: Option<u64>,
+    pub(crate) to: u64,
+    pub(crate) bottom: u64,
+    pub(crate) words_x: u64,
+    pub(crate) words_y: u64,
+    pub(crate) message: Msg,
+}
+
+/// The paper, of the whole size.
+#[derive(Drop)]
+struct Paper {
+    width: u64,
+    height: u64,
+}
+
+/// The number of a slice.
+#[derive(Drop)]
+struct SliceTitle {
+    slice: u8,
+    x: u64,
+}
+
+/// A name above or below a lifeline.
+#[derive(Drop)]
+struct Title {
+    agent: Option<Agent>,
+    x: u64,
+    y: u64,
+}
+
+/// The name of an agent, or of the home.
+#[derive(Drop)]
+struct Name(Option<Agent>);
+
+/// The words for what the home does.
+#[derive(Drop)]
+struct ServingTitle {
+    serving: Serving,
+    x: u64,
+    y: u64,
+}
+
+/// What the home does, in the words of an answer.
+#[derive(Drop)]
+struct Served(Serving);
+
+/// The end of an arrow.
+#[derive(Drop)]
+struct ArrowEnd {
+    end: Option<u64>,
+    to: u64,
+    bottom: u64,
+}
+
+impl fmt::Display for Sheet {
+    ghost output = { λ sheet. Some (sheet_text sheet) };
+
+    #[tactic(auto, unfolding(crate::specs::Drawn::sheet_text))]
+    fn fmt<W: fmt::Write>(&self, f: &mut fmt::Formatter<W>) -> fmt::Result {
+        let (width, height) = (self.width, self.height);
+        let paper = Paper { width, height };
+        write!(
+            f,
+            "<svg xmlns='http://www.w3.org/2000/svg' width='{width}' height='{height}' viewBox='0 0 {width} {height}'>\n{paper}"
+        )
+    }
+}
+
+impl fmt::Display for Paper {
+    ghost output = { λ paper. Some (paper_text paper.width paper.height) };
+
+    #[tactic(auto, unfolding(crate::specs::Drawn::paper_text))]
+    fn fmt<W: fmt::Write>(&self, f: &mut fmt::Formatter<W>) -> fmt::Result {
+        let (width, height) = (self.width, self.height);
+        write!(
+            f,
+            "<rect class='paper' width='{width}' height='{height}'/>\n"
+        )
+    }
+}
+
+impl fmt::Display for SliceBox {
+    ghost output = { λ slice. Some (slice_text slice) };
+
+    #[tactic(auto, unfolding(crate::specs::Drawn::slice_text))]
+    fn fmt<W: fmt::Write>(&self, f: &mut fmt::Formatter<W>) -> fmt::Result {
+        let (x, right, bottom) = (self.x, self.right, self.bottom);
+        let title = SliceTitle {
+            slice: self.slice,
+            x,
+        };
+        write!(
+            f,
+            "<path class='slice' d='M{x} 64H{right}V{bottom}H{x}z'/>\n{title}"
+        )
+    }
+}
+
+impl fmt::Display for SliceTitle {
+    ghost output = { λ title. Some (slice_title_text title.slice title.x) };
+
+    #[tactic(auto, unfolding(crate::specs::Drawn::slice_title_text))]
+    fn fmt<W: fmt::Write>(&self, f: &mut fmt::Formatter<W>) -> fmt::Result {
+        let (slice, x) = (self.slice, self.x);
+        write!(f, "<text class='small' x='{x}' y='60'>{slice}</text>\n")
+    }
+}
+
+impl fmt::Display for Lifeline {
+    ghost output = { λ life. Some (lifeline_text life) };
+
+    #[tactic(auto, unfolding(crate::specs::Drawn::lifeline_text))]
+    fn fmt<W: fmt::Write>(&self, f: &mut fmt::Formatter<W>) -> fmt::Result {
+        let (agent, x, bottom) = (self.agent, self.x, self.bottom);
+        let above = Title { agent, x, y: 40 };
+        let below = Title {
+            agent,
+            x,
+            y: self.name_y,
+        };
+        write!(
+            f,
+            "<path class='life' d='M{x} 64V{bottom}'/>\n{above}{below}"
+        )
+    }
+}
+
+impl fmt::Display for Title {
+    ghost output = { λ title. Some (title_text title.agent title.x title.y) };
+
+    #[tactic(auto, unfolding(crate::specs::Drawn::title_text))]
+    fn fmt<W: fmt::Write>(&self, f: &mut fmt::Formatter<W>) -> fmt::Result {
+        let (x, y) = (self.x, self.y);
+        let name = Name(self.agent);
+        write!(f, "<text class='title' x='{x}' y='{y}'>{name}</text>\n")
+    }
+}
+
+impl fmt::Display for Name {
+    ghost output = { λ name. Some (name_text name.0) };
+
+    fn fmt<W: fmt::Write>(&self, f: &mut fmt::Formatter<W>) -> fmt::Result {
+        match self.0 {
+            Some(agent) => write!(f, "agent {agent}"),
+            None => write!(f, "home"),
+        }
+    }
+}
+
+impl fmt::Display for Caption {
+    ghost output = { λ caption. Some (caption_text caption) };
+
+    #[tactic(auto, unfolding(crate::specs::Drawn::caption_text))]
+    fn fmt<W: fmt::Write>(&self, f: &mut fmt::Formatter<W>) -> fmt::Result {
+        let (rule, right, y) = (self.rule, self.right, self.y);
+        let command = &self.command;
+        write!(
+            f,
+            "<path class='rule' d='M0 {rule}H{right}'/>\n<text class='command' x='10' y='{y}'>{command}</text>\n"
+        )
+    }
+}
+
+impl fmt::Display for StateMark {
+    ghost output = { λ mark. Some (turned_text mark) };
+
+    #[tactic(auto, unfolding(crate::specs::Drawn::turned_text))]
+    fn fmt<W: fmt::Write>(&self, f: &mut fmt::Formatter<W>) -> fmt::Result {
+        let (x, y, state) = (self.x, self.y, self.state);
+        write!(
+            f,
+            "<text class='state {state}' x='{x}' y='{y}'>{state}</text>\n"
+        )
+    }
+}
+
+impl fmt::Display for Bar {
+    ghost output = { λ bar. Some (bar_text bar) };
+
+    #[tactic(auto, unfolding(crate::specs::Drawn::bar_text))]
+    fn fmt<W: fmt::Write>(&self, f: &mut fmt::Formatter<W>) -> fmt::Result {
+        let (x, y, end) = (self.x, self.y, self.end);
+        let serving = Served(self.serving);
+        let title = ServingTitle {
+            serving: self.serving,
+            x: self.words_x,
+            y: self.words_y,
+        };
+        write!(
+            f,
+            "<path class='bar {serving}' d='M{x} {y}V{end}'/>\n{title}"
+        )
+    }
+}
+
+impl fmt::Display for ServingTitle {
+    ghost output = { λ title. Some (serving_title_text title.serving title.x title.y) };
+
+    #[tactic(auto, unfolding(crate::specs::Drawn::serving_title_text))]
+    fn fmt<W: fmt::Write>(&self, f: &mut fmt::Formatter<W>) -> fmt::Result {
+        let (x, y) = (self.x, self.y);
+        let serving = Served(self.serving);
+        write!(
+            f,
+            "<text class='serving' x='{x}' y='{y}'>{serving}</text>\n"
+        )
+    }
+}
+
+impl fmt::Display for Served {
+    ghost output = { λ served. Some (serving_text served.0) };
+
+    fn fmt<W: fmt::Write>(&self, f: &mut fmt::Formatter<W>) -> fmt::Result {
+        match self.0 {
+            Serving::Idle => write!(f, "none"),
+            Serving::Snooping { agent, .. } => write!(f, "snooping {agent}"),
+            Serving::AwaitingCompAck { agent, .. } => write!(f, "compack {agent}"),
+            Serving::AwaitingWriteData { agent, .. } => write!(f, "wrdata {agent}"),
+        }
+    }
+}
+
+impl fmt::Display for Arrow {
+    ghost output = { λ arrow. Some (arrow_text arrow) };
+
+    #[tactic(auto, unfolding(crate::specs::Drawn::arrow_text))]
+    fn fmt<W: fmt::Write>(&self, f: &mut fmt::Formatter<W>) -> fmt::Result {
+        let (from, y, lane) = (self.from, self.y, self.lane);
+        let (words_x, words_y) = (self.words_x, self.words_y);
+        let (channel, message) = (self.channel, self.message);
+        let end = ArrowEnd {
+            end: self.end,
+            to: self.to,
+            bottom: self.bottom,
+        };
+        write!(
+            f,
+            "<path class='flit {channel}' d='M{from} {y}H{lane}V{end}/>\n<text class='flit {channel}' x='{words_x}' y='{words_y}'>{message}</text>\n"
+        )
+    }
+}
+
+impl fmt::Display for ArrowEnd {
+    ghost output = { λ arrow. Some (end_text arrow.end arrow.to arrow.bottom) };
+
+    fn fmt<W: fmt::Write>(&self, f: &mut fmt::Formatter<W>) -> fmt::Result {
+        let (to, bottom) = (self.to, self.bottom);
+        match self.end {
+            Some(end) => write!(f, "{end}H{to}' marker-end='url(#head)'"),
+            None => write!(f, "{bottom}' marker-end='url(#open)'"),
+        }
+    }
+}
+
+/// Puts bytes behind the text, with those that mean something in SVG written otherwise.
+pub(crate) fn add_escaped<A: Allocator>(text: &mut Vec<u8, A>, bytes: &[u8]) -> Result<(), NoMemory>
+    ensures { OnOk result (text.new.items ≡ text.old.items ++ escaped bytes.now) }
+{
+    for byte in bytes {
+        add_byte(text, *byte)?;
+    }
+    Ok(())
+}
+
+/// The same of one byte.
+fn add_byte<A: Allocator>(text: &mut Vec<u8, A>, byte: u8) -> Result<(), NoMemory>
+    ensures { OnOk result (text.new.items ≡ text.old.items ++ escaped_byte byte) }
+{
+    match byte {
+        b'&' => text.extend_from_slice(b"&amp;")?,
+        b'<' => text.extend_from_slice(b"&lt;")?,
+        b'>' => text.extend_from_slice(b"&gt;")?,
+        _ => text.push(byte)?,
+    }
+    Ok(())
+}

@@ -1,0 +1,17 @@
+//! The chart of a file: its commands are replayed, and drawn as a message sequence chart.
+//!
+//! Source: `docs/PROTOCOL.md`, "Charts".
+#![tactic(auto)]
+
+mod charts;
+mod commands;
+mod drawn;
+mod frame;
+mod layout;
+mod marks;
+mod notes;
+mod picture;
+mod rows;
+mod style;
+
+pub use charts::chart;

@@ -1,0 +1,350 @@
+//! A chart as SVG.
+
+ghost use Rattle.std.specs.Prelude.{◌≡◌, ◌++◌, ◌<◌, IfOk, OnOk, length, map};
+ghost use Rattle.std.specs.List.{flat_map, list_any, range_with_len};
+ghost use Rattle.chi_chart.specs.Picture.{frame_text, head_text, is_down, is_served, is_taken, lifeline_at, lifeline_of, mark_text, marks_text, middle, or_bottom, row_text, rows_text, sent_text, served_until, serves_text, slice_at, svg_of, taken_at};
+ghost use Rattle.chi_chart.specs.Played.{row_seen};
+
+use crate::commands::Spelled;
+use crate::drawn::{Arrow, Bar, Caption, Lifeline, Sheet, SliceBox, StateMark};
+use crate::frame::Layout;
+use crate::layout::{agent_x, state_x, words_x};
+use crate::marks::{Cell, Mark};
+use crate::notes::add_note;
+use crate::rows::{Row, below_mark};
+use crate::style::style;
+use chi_flit::{Agent, Channel, Line, Msg, NoMemory};
+use chi_homeline::Serving;
+use std::alloc::Allocator;
+use std::io::Write;
+
+/// Whether the flit of a cell is taken.
+fn is_taken(cell: &Cell, mark: &Mark) -> bool
+    ensures { result ≡ is_taken cell.now mark.now }
+{
+    match mark {
+        Mark::Taken(other) => cell.is(other),
+        _ => false,
+    }
+}
+
+/// Whether one of the marks takes the flit of a cell.
+fn take(cell: &Cell, marks: &[Mark]) -> bool
+    ensures { result ≡ list_any (is_taken cell.now) marks.now }
+{
+    for mark in marks {
+        if is_taken(cell, mark) {
+            return true;
+        }
+    }
+    false
+}
+
+/// The first of the rows that takes the flit of a cell.
+fn taken_at<A: Allocator>(cell: &Cell, rows: &[Row<A>]) -> Option<u32>
+    ensures { result ≡ taken_at cell.now (map row_seen rows.now) }
+{
+    for row in rows {
+        if take(cell, &row.marks) {
+            return Some(row.y);
+        }
+    }
+    None
+}
+
+/// Whether the home comes to do something else at a line.
+fn is_served(line: Line, mark: &Mark) -> bool
+    ensures { result ≡ is_served line mark.now }
+{
+    match mark {
+        Mark::Serves(other, _) => line.0 == other.0,
+        _ => false,
+    }
+}
+
+/// Whether one of the marks says so.
+fn serve(line: Line, marks: &[Mark]) -> bool
+    ensures { result ≡ list_any (is_served line) marks.now }
+{
+    for mark in marks {
+        if is_served(line, mark) {
+            return true;
+        }
+    }
+    false
+}
+
+/// The first of the rows in which the home comes to do something else at a line.
+fn served_until<A: Allocator>(line: Line, rows: &[Row<A>]) -> Option<u32>
+    ensures { result ≡ served_until line (map row_seen rows.now) }
+{
+    for row in rows {
+        if serve(line, &row.marks) {
+            return Some(row.y);
+        }
+    }
+    None
+}
+
+/// A row's middle.
+fn middle(y: Option<u32>) -> Option<u64>
+    ensures { result ≡ middle y }
+{
+    match y {
+        Some(y) => Some(u64::from(y) + 10),
+        None => None,
+    }
+}
+
+/// Whether a message goes to a requester.
+fn is_down(channel: Channel) -> bool
+    ensures { result ≡ is_down channel }
+{
+    matches!(channel, Channel::Snp | Channel::RspDown | Channel::DatDown)
+}
+
+/// The chart so far: where its parts stand, where its last row ends, and its text.
+#[derive(Drop)]
+pub(crate) struct Picture<A: Allocator> {
+    pub(crate) layout: Layout,
+    pub(crate) bottom: u32,
+    pub(crate) text: Vec<u8, A>,
+}
+
+impl<A: Allocator> Picture<A> {
+    /// A flit that is sent in the band that begins at y, with the rows below its own.
+    fn add_sent(
+        &mut self,
+        later: &[Row<A>],
+        y: u32,
+        cell: &Cell,
+        message: Msg,
+    ) -> Result<(), NoMemory>
+        ensures text { OnOk result (self.new.text.items ≡ self.old.text.items ++ sent_text self.old.layout self.old.bottom (map row_seen later.now) y cell.now message) }
+        ensures layout { self.new.layout ≡ self.old.layout }
+        ensures bottom { self.new.bottom ≡ self.old.bottom }
+    {
+        let (agent, home) = (agent_x(cell.agent), self.layout.home_x());
+        let (from, to) = if is_down(cell.channel) {
+            (home, agent)
+        } else {
+            (agent, home)
+        };
+        let arrow = Arrow {
+            channel: cell.channel,
+            from,
+            y: u64::from(y) + 32,
+            lane: self.layout.lane_x(cell),
+            end: middle(taken_at(cell, later)),
+            to,
+            bottom: u64::from(self.bottom),
+            words_x: words_x(cell.agent),
+            words_y: u64::from(y) + 27,
+            message,
+        };
+        write!(self.text, "{arrow}").map_err(|_| NoMemory)
+    }
+
+    /// What the home does at a line, with the rows below this one.
+    fn add_serving(
+        &mut self,
+        later: &[Row<A>],
+        y: u32,
+        line: Line,
+        serving: Serving,
+    ) -> Result<(), NoMemory>
+        ensures text { OnOk result (self.new.text.items ≡ self.old.text.items ++ serves_text self.old.layout self.old.bottom (map row_seen later.now) y line serving) }
+        ensures layout { self.new.layout ≡ self.old.layout }
+        ensures bottom { self.new.bottom ≡ self.old.bottom }
+    {
+        if let Serving::Idle = serving {
+            return Ok(());
+        }
+        let end = middle(served_until(line, later));
+        let bar = Bar {
+            serving,
+            x: self.layout.strip_x(line) + 5,
+            y: u64::from(y) + 10,
+            end: end.unwrap_or(u64::from(self.bottom)),
+            words_x: self.layout.serving_x(),
+            words_y: u64::from(y) + 14,
+        };
+        write!(self.text, "{bar}").map_err(|_| NoMemory)
+    }
+
+    /// A mark of a row that begins at top; y is the band of a flit that is sent.
+    fn add_mark(&mut self, top: u32, later: &[Row<A>], y: u32, mark: &Mark) -> Result<(), NoMemory>
+        ensures text { OnOk result (self.new.text.items ≡ self.old.text.items ++ mark_text self.old.layout self.old.bottom top (map row_seen later.now) y mark.now) }
+        ensures layout { self.new.layout ≡ self.old.layout }
+        ensures bottom { self.new.bottom ≡ self.old.bottom }
+    {
+        match mark {
+            Mark::Turned(agent, state) => {
+                let mark = StateMark {
+                    x: state_x(*agent),
+                    y: u64::from(top) + 14,
+                    state: *state,
+                };
+                write!(self.text, "{mark}").map_err(|_| NoMemory)
+            }
+            Mark::Taken(_) => Ok(()),
+            Mark::Sent(cell, message) => self.add_sent(later, y, cell, *message),
+            Mark::Serves(line, serving) => self.add_serving(later, top, *line, *serving),
+        }
+    }
+
+    /// The marks of a row.
+    fn add_marks(&mut self, top: u32, later: &[Row<A>], marks: &[Mark]) -> Result<(), NoMemory>
+        ensures text { OnOk result (self.new.text.items ≡ self.old.text.items ++ marks_text self.old.layout self.old.bottom top (map row_seen later.now) top marks.now) }
+        ensures layout { self.new.layout ≡ self.old.layout }
+        ensures bottom { self.new.bottom ≡ self.old.bottom }
+    {
+        let mut y = top;
+        for mark in marks {
+            self.add_mark(top, later, y, mark)?;
+            y = below_mark(y, mark)?;
+        }
+        Ok(())
+    }
+
+    /// A row, with the rows below it.
+    fn add_row(&mut self, row: &Row<A>, later: &[Row<A>]) -> Result<(), NoMemory>
+        ensures text { OnOk result (self.new.text.items ≡ self.old.text.items ++ row_text self.old.layout self.old.bottom (row_seen row.now) (map row_seen later.now)) }
+        ensures layout { self.new.layout ≡ self.old.layout }
+        ensures bottom { self.new.bottom ≡ self.old.bottom }
+    {
+        let caption = Caption {
+            rule: u64::from(row.y),
+            right: self.layout.home_x(),
+            y: u64::from(row.y) + 14,
+            command: Spelled(row.command),
+        };
+        write!(self.text, "{caption}").map_err(|_| NoMemory)?;
+        let words_y = u64::from(row.y) + 14;
+        add_note(
+            &mut self.text,
+            &self.layout,
+            words_y,
+            row.command,
+            row.answer.as_bytes(),
+        )?;
+        self.add_marks(row.y, later, &row.marks)
+    }
+
+    /// All rows.
+    fn add_rows(&mut self, rows: &[Row<A>]) -> Result<(), NoMemory>
+        ensures text { OnOk result (self.new.text.items ≡ self.old.text.items ++ rows_text self.old.layout self.old.bottom (map row_seen rows.now)) }
+        ensures layout { self.new.layout ≡ self.old.layout }
+        ensures bottom { self.new.bottom ≡ self.old.bottom }
+    {
+        for place in 0..rows.len() {
+            self.add_row(&rows[place], &rows[place + 1..])?;
+        }
+        Ok(())
+    }
+
+    /// A slice of the home.
+    fn add_slice(&mut self, slice: u8) -> Result<(), NoMemory>
+        requires { slice < 255 }
+        ensures text { OnOk result (self.new.text.items ≡ self.old.text.items ++ slice_at self.old.layout self.old.bottom slice) }
+        ensures layout { self.new.layout ≡ self.old.layout }
+        ensures bottom { self.new.bottom ≡ self.old.bottom }
+    {
+        let area = SliceBox {
+            slice,
+            x: self.layout.slice_x(slice),
+            right: self.layout.slice_x(slice + 1),
+            bottom: u64::from(self.bottom),
+        };
+        write!(self.text, "{area}").map_err(|_| NoMemory)
+    }
+
+    /// The slices of the home.
+    fn add_slices(&mut self) -> Result<(), NoMemory>
+        ensures text { OnOk result (self.new.text.items ≡ self.old.text.items ++ flat_map (slice_at self.old.layout self.old.bottom) (range_with_len 0 self.old.layout.slices)) }
+        ensures layout { self.new.layout ≡ self.old.layout }
+        ensures bottom { self.new.bottom ≡ self.old.bottom }
+    {
+        for slice in 0..self.layout.slices {
+            self.add_slice(slice)?;
+        }
+        Ok(())
+    }
+
+    /// The lifeline of an agent, or of the home.
+    fn add_lifeline(&mut self, agent: Option<Agent>, x: u64) -> Result<(), NoMemory>
+        ensures text { OnOk result (self.new.text.items ≡ self.old.text.items ++ lifeline_of self.old.bottom agent x) }
+        ensures layout { self.new.layout ≡ self.old.layout }
+        ensures bottom { self.new.bottom ≡ self.old.bottom }
+    {
+        let life = Lifeline {
+            agent,
+            x,
+            bottom: u64::from(self.bottom),
+            name_y: u64::from(self.bottom) + 24,
+        };
+        write!(self.text, "{life}").map_err(|_| NoMemory)
+    }
+
+    /// The lifelines of the agents.
+    fn add_lifelines(&mut self) -> Result<(), NoMemory>
+        ensures text { OnOk result (self.new.text.items ≡ self.old.text.items ++ flat_map (lifeline_at self.old.bottom) (range_with_len 0 self.old.layout.agents)) }
+        ensures layout { self.new.layout ≡ self.old.layout }
+        ensures bottom { self.new.bottom ≡ self.old.bottom }
+    {
+        for agent in 0..self.layout.agents {
+            self.add_lifeline(Some(Agent(agent)), agent_x(Agent(agent)))?;
+        }
+        Ok(())
+    }
+
+    /// The head of the text: its size, its ground, and its style.
+    fn add_head(&mut self) -> Result<(), NoMemory>
+        ensures text { OnOk result (self.new.text.items ≡ self.old.text.items ++ head_text self.old.layout self.old.bottom) }
+        ensures layout { self.new.layout ≡ self.old.layout }
+        ensures bottom { self.new.bottom ≡ self.old.bottom }
+    {
+        let sheet = Sheet {
+            width: self.layout.width(),
+            height: u64::from(self.bottom) + 40,
+        };
+        write!(self.text, "{sheet}").map_err(|_| NoMemory)?;
+        self.text.extend_from_slice(style())?;
+        Ok(())
+    }
+
+    /// The frame: the home's slices, its lifeline, and those of the agents.
+    fn add_frame(&mut self) -> Result<(), NoMemory>
+        ensures text { OnOk result (self.new.text.items ≡ self.old.text.items ++ frame_text self.old.layout self.old.bottom) }
+        ensures layout { self.new.layout ≡ self.old.layout }
+        ensures bottom { self.new.bottom ≡ self.old.bottom }
+    {
+        let home = self.layout.home_x();
+        self.add_slices()?;
+        self.add_lifeline(None, home)?;
+        self.add_lifelines()
+    }
+}
+
+/// The SVG of rows. Refused where memory runs out.
+/// Source: `docs/PROTOCOL.md`, "Charts".
+pub(crate) fn svg_of<A: Allocator>(
+    alloc: A,
+    layout: Layout,
+    bottom: u32,
+    rows: &[Row<A>],
+) -> Result<Vec<u8, A>, NoMemory>
+    ensures { IfOk result (λ text. text.items ≡ svg_of layout bottom (map row_seen rows.now)) }
+{
+    let mut picture = Picture {
+        layout,
+        bottom,
+        text: Vec::new(alloc),
+    };
+    picture.add_head()?;
+    picture.add_frame()?;
+    picture.add_rows(rows)?;
+    picture.text.extend_from_slice(b"</svg>\n")?;
+    let Picture { text, .. } = picture;
+    Ok(text)
+}

@@ -1,0 +1,44 @@
+//! How a chart looks.
+
+ghost use Rattle.std.specs.Prelude.{◌≡◌};
+ghost use Rattle.chi_chart.specs.Style.{style};
+
+/// Its colours on light and on dark ground, its fonts, and the ends of its arrows.
+/// Source: `docs/PROTOCOL.md`, "Charts".
+const STYLE: &str = "<style>\n\
+    svg{--paper:#fff;--ink:#1c2024;--faint:#dfe3e8;--slice:#eef1f5;--life:#9aa3ad;--req:#1f5fbf;\
+    --snp:#b3540a;--rsp:#5b6570;--dat:#12764a;--bad:#c4161c;--bar:#7d5bd0}\n\
+    @media (prefers-color-scheme:dark){svg{--paper:#15181c;--ink:#e4e7ea;--faint:#2b3138;\
+    --slice:#21262c;--life:#6b747e;--req:#7db1ff;--snp:#f0a35e;--rsp:#aab4be;--dat:#5fd39c;\
+    --bad:#ff7b7b;--bar:#a58bef}}\n\
+    text{font:11px ui-monospace,Menlo,Consolas,'DejaVu Sans Mono','Liberation Mono',monospace;\
+    fill:var(--ink)}\n\
+    path{fill:none}\n\
+    .title{font:bold 13px system-ui,'Segoe UI',Arial,'DejaVu Sans','Liberation Sans',sans-serif;\
+    text-anchor:middle}\n\
+    .paper{fill:var(--paper)}\n\
+    .slice{fill:var(--slice);stroke:var(--faint)}\n\
+    .life{stroke:var(--life);stroke-width:1.5}\n\
+    .rule{stroke:var(--faint)}\n\
+    .Req{stroke:var(--req)}.Snp{stroke:var(--snp)}.RspDown,.RspUp{stroke:var(--rsp)}.DatDown,\
+    .DatUp{stroke:var(--dat)}\n\
+    text.flit{stroke:none}\n\
+    text.Req{fill:var(--req)}text.Snp{fill:var(--snp)}text.RspDown,text.RspUp{fill:var(--rsp)}\
+    text.DatDown,text.DatUp{fill:var(--dat)}\n\
+    .state{text-anchor:end;font-weight:bold}.UD,.SD{fill:var(--snp)}\n\
+    .refused{fill:var(--bad);font-weight:bold}\n\
+    .bar{stroke:var(--bar);stroke-width:10}.compack{stroke-opacity:.6}.wrdata{stroke-opacity:.35}\n\
+    .serving{fill:var(--bar)}\n\
+    </style>\n\
+    <defs><marker id='head' viewBox='0 0 8 8' refX='8' refY='4' markerWidth='8' markerHeight='8' \
+    orient='auto'><path d='M0 0L8 4L0 8z' style='fill:context-stroke'/></marker>\n\
+    <marker id='open' viewBox='0 0 8 8' refX='4' refY='4' markerWidth='8' markerHeight='8'>\
+    <circle cx='4' cy='4' r='3' style='fill:var(--paper);stroke:context-stroke'/></marker></defs>\n";
+
+/// Its bytes.
+#[tactic(auto, unfolding(crate::specs::Style::style))]
+pub(crate) fn style() -> &'static [u8]
+    ensures { result.now ≡ style }
+{
+    STYLE.as_bytes()
+}

@@ -1,0 +1,12 @@
+//! Tests of charts: what is drawn of a file, of one line of it alone, with devices that fail and too little
+//! memory too.
+//!
+//! Source: `docs/PROTOCOL.md`, "Charts".
+#![tactic(auto)]
+
+#[cfg(test)]
+mod charts;
+#[cfg(test)]
+mod devices;
+#[cfg(test)]
+mod told;
