@@ -6,7 +6,7 @@ ghost use Rattle.chi_script.specs.Faults.{Fails};
 ghost use Rattle.chi_script.specs.declared.faults.Fault.{Fault};
 ghost use Rattle.chi_script.specs.Headers.{is_in_limits};
 ghost use Rattle.chi_replay.specs.Replays.{NoText, Refuses};
-ghost use Rattle.chi_check_script.specs.Checks.{seen};
+ghost use Rattle.chi_check_script.specs.Checks.{line_of_check};
 ghost use Rattle.chi_check_script.specs.Files.{check_file_of};
 ghost use Rattle.chi_chart.specs.Charts.{Begins, Draws, IfFaulty, IsChart, IsChartOf, IsLayout, NoChart, OnWriteFault};
 ghost use Rattle.chi_chart.specs.Steps.{commands_in};
@@ -23,7 +23,7 @@ use std::alloc::{AllocError, Allocator};
 
 /// The commands of the checks, in order.
 fn commands_of<A: Allocator>(alloc: A, checks: &[Check]) -> Result<Vec<Command, A>, AllocError>
-    ensures { IfOk result (λ commands. commands.items ≡ commands_in (map seen checks.now)) }
+    ensures { IfOk result (λ commands. commands.items ≡ commands_in (map line_of_check checks.now)) }
 {
     checks.iter().map(|check| check.command).collect(alloc)
 }
@@ -46,7 +46,7 @@ fn chart_on<A: Allocator + Copy>(
     script: &CheckScript<'_, A>,
     only: Option<Line>,
 ) -> Result<Vec<u8, A>, NoMemory>
-    ensures { IfOk result (λ text. IsChart script.now.header (map seen script.now.checks.items) only text.items) }
+    ensures { IfOk result (λ text. IsChart script.now.header (map line_of_check script.now.checks.items) only text.items) }
 {
     let config = config_of(&script.header);
     let commands = commands_of(alloc, &script.checks)?;

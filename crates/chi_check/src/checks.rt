@@ -4,7 +4,7 @@ ghost use Rattle.std.specs.Prelude.{◌≡◌, ◌≢◌, ◌+◌, ◌^◌, ◌<
 ghost use Rattle.std.specs.Io.KnownBytes.{Keeps};
 ghost use Rattle.chi_script.specs.Faults.{Fails};
 ghost use Rattle.chi_replay.specs.Replays.{AtWrite, KeepsAtFault, NoText, NoTextAt, RefusesFault};
-ghost use Rattle.chi_check_script.specs.Checks.{seen};
+ghost use Rattle.chi_check_script.specs.Checks.{line_of_check};
 ghost use Rattle.chi_check_script.specs.Files.{check_file_of};
 ghost use Rattle.chi_check.specs.Checks.{IsReport, IsReportOf, WritesFront, WritesReport, commands_in};
 
@@ -19,7 +19,7 @@ use std::alloc::{AllocError, Allocator};
 
 /// The commands of the checks, in order.
 fn commands_of<A: Allocator>(alloc: A, checks: &[Check]) -> Result<Vec<Command, A>, AllocError>
-    ensures { IfOk result (λ commands. commands.items ≡ commands_in (map seen checks.now)) }
+    ensures { IfOk result (λ commands. commands.items ≡ commands_in (map line_of_check checks.now)) }
 {
     checks.iter().map(|check| check.command).collect(alloc)
 }
@@ -29,7 +29,7 @@ fn report_on<A: Allocator + Copy>(
     alloc: A,
     script: &CheckScript<'_, A>,
 ) -> Result<Report<A>, NoMemory>
-    ensures { IfOk result (λ report. IsReport script.now.header (map seen script.now.checks.items) report.hold report.text.items) }
+    ensures { IfOk result (λ report. IsReport script.now.header (map line_of_check script.now.checks.items) report.hold report.text.items) }
 {
     let config = config_of(&script.header);
     let commands = commands_of(alloc, &script.checks)?;

@@ -4,7 +4,7 @@ ghost use Rattle.std.specs.Prelude.{◌≡◌, ◌<◌, ℕ, List, IfOk, OnErr, 
 ghost use Rattle.chi_flit.specs.Kind.{snoop_of};
 ghost use Rattle.chi_flit.specs.Refusal.{refusal_of};
 ghost use Rattle.chi_filter.specs.Filter.{is_named};
-ghost use Rattle.chi_homeline.specs.Home.{Home, acknowledged, acks_for, admitted, answer_taken, asks, completed, completes_unique, completion_message, data_to_send, finished_home, finished_sends, idle_home, leaves, served, served_kind, served_sends, served_slot, snoop_answered, snoop_answered_sends, start_refusal, started, started_as, started_sends, started_with, waiting_of, writes_for, written};
+ghost use Rattle.chi_homeline.specs.Home.{Home, home_after_ack, acks_for, home_after_admit, answer_taken, asks, home_after_completion, completes_unique, completion_message, data_to_send, finished_home, finished_sends, idle_home, leaves, home_after_service, served_kind, served_sends, served_slot, snoop_answered, snoop_answered_sends, start_refusal, home_after_start, started_as, started_sends, started_with, waiting_of, writes_for, home_after_write};
 ghost use Rattle.chi_flit.specs.declared.kind.Kind.{Kind};
 ghost use Rattle.chi_flit.specs.declared.numbers.Slot.{Slot};
 ghost use Rattle.chi_homeline.specs.declared.serving.Completion.{Completion};
@@ -58,7 +58,7 @@ impl HomeLine {
     /// Source: `docs/PROTOCOL.md`, "The actions", Admit.
     pub fn admit(&mut self, agent: Agent, request: Waiting)
         requires { agent.0 < 8 }
-        ensures { self.new ≡ admitted self.old agent.0 request }
+        ensures { self.new ≡ home_after_admit self.old agent.0 request }
     {
         self.waiting[usize::from(agent.0)] = Some(request);
     }
@@ -102,7 +102,7 @@ impl HomeLine {
         ensures sends { IfOk result (λ begun. (request : Waiting) → waiting_of self.old agent.0 ≡ Some request
             → started_with begun self.old.memory ≡ started_sends self.old agent request) }
         ensures ok { IfOk result (λ _. (request : Waiting) → waiting_of self.old agent.0 ≡ Some request
-            → self.new ≡ started self.old agent request) }
+            → self.new ≡ home_after_start self.old agent request) }
         ensures memory { IfOk result (λ _. self.new.memory ≡ self.old.memory) }
         ensures err { OnErr result (self.new ≡ self.old) }
     {
@@ -140,7 +140,7 @@ impl HomeLine {
         requires { agent.0 < 8 }
         ensures sends { started_with result self.old.memory ≡ served_sends self.old snoop agent }
         ensures memory { self.new.memory ≡ self.old.memory }
-        ensures after { self.new ≡ served self.old kind snoop agent slot }
+        ensures after { self.new ≡ home_after_service self.old kind snoop agent slot }
     {
         let agents = asked(&self.filter, snoop, agent);
         if has_any(&agents) {
@@ -157,7 +157,7 @@ impl HomeLine {
     fn complete(&mut self, agent: Agent, snoop: Snoop, slot: Slot) -> bool
         requires { agent.0 < 8 }
         ensures unique { result ≡ completes_unique snoop self.old.filter agent.0 }
-        ensures after { self.new ≡ completed self.old snoop agent slot }
+        ensures after { self.new ≡ home_after_completion self.old snoop agent slot }
     {
         let unique = completes_unique(&self.filter, snoop, agent);
         if unique {
@@ -176,7 +176,7 @@ impl HomeLine {
     pub fn ack(&mut self, agent: Agent) -> Option<Slot>
         ensures answers { is_some result ≡ acks_for self.old.serving agent.0 }
         ensures slot { (slot : Slot) → result ≡ Some slot → served_slot self.old.serving ≡ Some slot }
-        ensures after { acks_for self.old.serving agent.0 ≡ true → self.new ≡ acknowledged self.old }
+        ensures after { acks_for self.old.serving agent.0 ≡ true → self.new ≡ home_after_ack self.old }
         ensures stays { acks_for self.old.serving agent.0 ≡ false → self.new ≡ self.old }
     {
         match self.serving {
@@ -329,7 +329,7 @@ impl HomeLine {
         ensures answers { is_some result ≡ writes_for self.old.serving agent.0 }
         ensures slot { (slot : Slot) → result ≡ Some slot → served_slot self.old.serving ≡ Some slot }
         ensures after { (kind : Kind) → writes_for self.old.serving agent.0 ≡ true
-            → served_kind self.old.serving ≡ Some kind → self.new ≡ written self.old agent.0 kind form words }
+            → served_kind self.old.serving ≡ Some kind → self.new ≡ home_after_write self.old agent.0 kind form words }
         ensures stays { writes_for self.old.serving agent.0 ≡ false → self.new ≡ self.old }
     {
         match self.serving {

@@ -2,7 +2,7 @@
 
 ghost use Rattle.std.specs.Prelude.{◌≡◌, ◌<◌, IfOk, None, Some};
 ghost use Rattle.chi_library.specs.Actions.{action_of, no_effect};
-ghost use Rattle.chi_library.specs.Calls.{IsOpening, answered, left, told};
+ghost use Rattle.chi_library.specs.Calls.{IsOpening, answer_number, state_after, output_of};
 ghost use Rattle.chi_library.specs.Flits.{no_flits_told};
 ghost use Rattle.chi_library.specs.Lines.{no_line_told};
 ghost use Rattle.chi_library.specs.Numbers.{number_if};
@@ -61,9 +61,9 @@ pub extern "C" fn chi_slice_act(
     action: &ChiAction,
     effect: &mut ChiEffect,
 ) -> u8
-    ensures answer { result ≡ answered slice.old.value (act_refusal (action_of action.now)) }
-    ensures after { slice.new.value ≡ left slice.old.value (act_after (action_of action.now)) }
-    ensures effect { effect.new ≡ told slice.old.value no_effect (act_told (action_of action.now)) }
+    ensures answer { result ≡ answer_number slice.old.value (act_refusal (action_of action.now)) }
+    ensures after { slice.new.value ≡ state_after slice.old.value (act_after (action_of action.now)) }
+    ensures effect { effect.new ≡ output_of slice.old.value no_effect (act_told (action_of action.now)) }
 {
     *effect = ChiEffect::NONE;
     match slice.take(alloc) {
@@ -82,7 +82,7 @@ pub extern "C" fn chi_slice_act(
 /// Source: `docs/PROTOCOL.md`, "The actions"; `docs/LIBRARY.md`, "A slice".
 #[unsafe(no_mangle)]
 pub extern "C" fn chi_slice_refusal(alloc: Global, slice: &mut ChiSlice, action: &ChiAction) -> u8
-    ensures answer { result ≡ answered slice.old.value (act_refusal (action_of action.now)) }
+    ensures answer { result ≡ answer_number slice.old.value (act_refusal (action_of action.now)) }
     ensures after { slice.new.value ≡ slice.old.value }
 {
     match slice.take(alloc) {
@@ -107,9 +107,9 @@ pub extern "C" fn chi_slice_show(
     line: u8,
     shown: &mut ChiLine,
 ) -> u8
-    ensures answer { result ≡ answered slice.old.value (λ s. view_refusal s line) }
+    ensures answer { result ≡ answer_number slice.old.value (λ s. view_refusal s line) }
     ensures after { slice.new.value ≡ slice.old.value }
-    ensures shown { shown.new ≡ told slice.old.value no_line_told (show_told line) }
+    ensures shown { shown.new ≡ output_of slice.old.value no_line_told (show_told line) }
 {
     *shown = ChiLine::NONE;
     match slice.take(alloc) {
@@ -135,9 +135,9 @@ pub extern "C" fn chi_slice_flits(
     line: u8,
     flits: &mut ChiFlits,
 ) -> u8
-    ensures answer { result ≡ answered slice.old.value (λ s. flits_refusal s agent line) }
+    ensures answer { result ≡ answer_number slice.old.value (λ s. flits_refusal s agent line) }
     ensures after { slice.new.value ≡ slice.old.value }
-    ensures flits { flits.new ≡ told slice.old.value no_flits_told (flits_shown agent line) }
+    ensures flits { flits.new ≡ output_of slice.old.value no_flits_told (flits_shown agent line) }
 {
     *flits = ChiFlits::NONE;
     match slice.take(alloc) {
@@ -162,9 +162,9 @@ pub extern "C" fn chi_slice_journal(
     place: u32,
     entry: &mut ChiRecord,
 ) -> u8
-    ensures answer { result ≡ answered slice.old.value (λ s. entry_refusal (entry_at s place)) }
+    ensures answer { result ≡ answer_number slice.old.value (λ s. entry_refusal (entry_at s place)) }
     ensures after { slice.new.value ≡ slice.old.value }
-    ensures entry { entry.new ≡ told slice.old.value no_record (λ s. entry_told (entry_at s place)) }
+    ensures entry { entry.new ≡ output_of slice.old.value no_record (λ s. entry_told (entry_at s place)) }
 {
     *entry = ChiRecord::NONE;
     match slice.take(alloc) {
@@ -183,7 +183,7 @@ pub extern "C" fn chi_slice_journal(
 /// Source: `docs/LIBRARY.md`, "Handles".
 #[unsafe(no_mangle)]
 pub extern "C" fn chi_slice_close(alloc: Global, slice: &mut ChiSlice) -> u8
-    ensures answer { result ≡ answered slice.old.value (λ s. None) }
+    ensures answer { result ≡ answer_number slice.old.value (λ s. None) }
     ensures after { slice.new.value ≡ None }
 {
     match slice.take(alloc) {

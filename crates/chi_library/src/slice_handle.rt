@@ -4,7 +4,7 @@ ghost use Rattle.std.specs.Prelude.{◌≡◌, None, Some};
 ghost use Rattle.std.specs.declared.option.Option.{Option};
 ghost use Rattle.std.specs.Option.{MatchOption};
 ghost use Rattle.chi_slice.specs.Slice.{SliceState};
-ghost use Rattle.chi_library.specs.SliceHandle.{coded, held};
+ghost use Rattle.chi_library.specs.SliceHandle.{slice_code, slice_ownership};
 
 use crate::box_pointer::BoxPointer;
 use chi_slice::Slice;
@@ -24,7 +24,7 @@ pub struct ChiSlice {
 }
 
 impl Model for ChiSlice {
-    ghost also_owns = { λ h. held h.alloc h.at h.value };
+    ghost also_owns = { λ h. slice_ownership h.alloc h.at h.value };
 }
 
 impl ChiSlice {

@@ -7,7 +7,7 @@ ghost use Rattle.chi_flit.specs.Credit.{credit_number};
 ghost use Rattle.chi_flit.specs.Refusal.{refusal_of};
 ghost use Rattle.chi_line.specs.LineState.{cells_of};
 ghost use Rattle.chi_line.specs.Refused.{first_of};
-ghost use Rattle.chi_line.specs.View.{shown};
+ghost use Rattle.chi_line.specs.View.{line_view};
 ghost use Rattle.chi_node.specs.Calls.{is_own_step};
 ghost use Rattle.chi_node.specs.Requester.{RequesterState, no_requester};
 ghost use Rattle.chi_slice.specs.Audits.{IsAudited};
@@ -234,8 +234,8 @@ impl<A: Allocator> System<A> {
     /// Refused 10 (OutOfRange) exactly where the line is outside the node.
     /// Source: `docs/PROTOCOL.md`, "One line".
     pub fn view(&self, line: Line) -> Result<LineView, Refusal>
-        ensures shown { IfOk result (λ view. view
-            ≡ shown (line_of_home self.now.home line.0) (last_of self.now.home line.0)) }
+        ensures line_view { IfOk result (λ view. view
+            ≡ line_view (line_of_home self.now.home line.0) (last_of self.now.home line.0)) }
         ensures refusal { refusal_of result ≡ view_refusal self.now.home line.0 }
     {
         self.slice_of(line).view(line)
