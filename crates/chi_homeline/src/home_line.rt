@@ -142,7 +142,7 @@ impl HomeLine {
         ensures memory { self.new.memory ≡ self.old.memory }
         ensures after { self.new ≡ home_after_service self.old kind snoop agent slot }
     {
-        let agents = asked(&self.filter, snoop, agent);
+        let agents = agents_to_ask(&self.filter, snoop, agent);
         if has_any(&agents) {
             self.serving = Serving::Snooping { agent, kind, slot };
             self.awaited = agents;
@@ -375,7 +375,7 @@ fn leaves(kind: Kind, form: State) -> bool
 }
 
 /// Whom a request asks, by the snoop that serves it.
-fn asked(filter: &Filter, snoop: Snoop, agent: Agent) -> [bool; 8]
+fn agents_to_ask(filter: &Filter, snoop: Snoop, agent: Agent) -> [bool; 8]
     requires { agent.0 < 8 }
     ensures { result ≡ asks snoop filter.now agent.0 }
 {

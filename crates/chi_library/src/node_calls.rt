@@ -325,7 +325,7 @@ fn open(alloc: Global, node: &mut ChiNode, config: &Config) -> u8
     requires closed { node.old.value ≡ None }
     ensures { IsOpening OpensNode (Some config.now) None result node.new.value }
 {
-    match opened(alloc, config) {
+    match boxed_node(alloc, config) {
         Ok(held) => {
             node.put(held);
             DONE
@@ -335,7 +335,7 @@ fn open(alloc: Global, node: &mut ChiNode, config: &Config) -> u8
 }
 
 /// A new node on the heap.
-fn opened(alloc: Global, config: &Config) -> Result<Box<System<Global>>, NoMemory>
+fn boxed_node(alloc: Global, config: &Config) -> Result<Box<System<Global>>, NoMemory>
     ensures { IfOk result (λ held. OpensNode config.now held.value) }
 {
     let node = System::new(alloc, config)?;

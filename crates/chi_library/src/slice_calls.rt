@@ -198,7 +198,7 @@ fn open(alloc: Global, slice: &mut ChiSlice, config: &Config, index: u8) -> u8
     requires index { index < config.now.slices }
     ensures { IsOpening (Opens index) (Some config.now) None result slice.new.value }
 {
-    match opened(alloc, config, index) {
+    match boxed_slice(alloc, config, index) {
         Ok(held) => {
             slice.put(held);
             DONE
@@ -208,7 +208,7 @@ fn open(alloc: Global, slice: &mut ChiSlice, config: &Config, index: u8) -> u8
 }
 
 /// A new slice on the heap.
-fn opened(alloc: Global, config: &Config, index: u8) -> Result<Box<Slice<Global>>, NoMemory>
+fn boxed_slice(alloc: Global, config: &Config, index: u8) -> Result<Box<Slice<Global>>, NoMemory>
     requires { index < config.now.slices }
     ensures { IfOk result (λ held. held.value ≡ opening_slice config.now index) }
 {

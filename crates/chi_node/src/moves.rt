@@ -12,7 +12,7 @@ use chi_flit::{CreditType, Line, Slot};
 
 impl Requester {
     /// The slice of that index answered one more load or store.
-    pub(crate) fn counted(&mut self, index: u8)
+    pub(crate) fn count_access(&mut self, index: u8)
         requires index { index < 8 }
         requires room { slice_index self.old.counts index < 65536 }
         ensures { self.new ≡ with_count index self.old }

@@ -18,9 +18,9 @@ pub(crate) fn usual_command(line: &[u8]) -> Option<Command>
     match line {
         [b'a', b'r', ..] => arrival(line),
         [b'a', ..] => step_on(line, b"ack", Step::RecvAck),
-        [b'i', ..] => worded(line, b"issue"),
+        [b'i', ..] => command_with_verb(line, b"issue"),
         [b's', b't', b'a', ..] => step_on(line, b"start", Step::Start),
-        [b's', b't', ..] => worded(line, b"store"),
+        [b's', b't', ..] => command_with_verb(line, b"store"),
         [b's', b'n', b'p', b' ', ..] => step_on(line, b"snp", Step::RecvSnp),
         [b's', b'n', ..] => step_on(line, b"snpresp", Step::RecvSnpResp),
         [b'd', b'a', ..] => step_on(line, b"data", Step::RecvData),
@@ -29,7 +29,7 @@ pub(crate) fn usual_command(line: &[u8]) -> Option<Command>
         [b'r', ..] => step_on(line, b"resend", Step::Resend),
         [b'c', b'o', ..] => step_on(line, b"comp", Step::RecvComp),
         [b'w', ..] => step_on(line, b"wrdata", Step::RecvWrData),
-        [b'l', ..] => worded(line, b"load"),
+        [b'l', ..] => command_with_verb(line, b"load"),
         _ => None,
     }
 }
@@ -70,7 +70,7 @@ fn two_behind(line: &[u8], verb: &[u8]) -> Option<(u8, u8)>
 }
 
 /// The command of a line that begins with the verb, by its words.
-fn worded(line: &[u8], verb: &[u8]) -> Option<Command>
+fn command_with_verb(line: &[u8], verb: &[u8]) -> Option<Command>
     requires { has_no_space verb.now ≡ true }
     ensures { IfSome result (λ command. command_of (words_of line.now) ≡ Some command) }
 {

@@ -278,7 +278,7 @@ impl<A: Allocator> Slice<A> {
         ensures { result ≡ completes self.now action }
     {
         match self.row_in_range(action) {
-            Some(row) => self.lines[usize::from(row)].completed(action.agent, action.step),
+            Some(row) => self.lines[usize::from(row)].completed_slot(action.agent, action.step),
             None => None,
         }
     }

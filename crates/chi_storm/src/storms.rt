@@ -93,7 +93,7 @@ fn outcome_of_input<R: Threads + Wait + Clock + Sync, I: Input>(
 }
 
 /// Writes what came of a storm, and answers whether each agent's script finished.
-fn told<O: Output>(alloc: Global, outcome: Outcome, output: &mut O) -> Result<bool, Fault>
+fn write_outcome<O: Output>(alloc: Global, outcome: Outcome, output: &mut O) -> Result<bool, Fault>
     requires { O.failures output.old + 1 < 2 ^ 64 }
     ensures ok { IfOk result (λ all. (IsTrue all ↔ (outcome.finished ≡ outcome.agents)) × Appends (O.written output.old) (O.written output.new) (outcome_text outcome)) }
     ensures err { IfErr result (NotTold outcome (O.failures output.old) (O.failures output.new) (O.written output.old) (O.written output.new)) }
@@ -136,5 +136,5 @@ pub fn storm<R: Threads + Wait + Clock + Sync, I: Input, O: Output>(
     ensures silent { KeepsAtFault storm_of (I.left input.old) (O.written output.old) (O.written output.new) }
 {
     let outcome = outcome_of_input(rt, alloc, input, seed, turns)?;
-    told(alloc, outcome, output)
+    write_outcome(alloc, outcome, output)
 }

@@ -20,7 +20,7 @@ use Rattle.chi_reply.specs.declared.replies.Reply.TheVariants as replies
 use Rattle.chi_text.specs.Ports.{GivesBack, Sees, Tends, seen_counts}
 use Rattle.chi_text.specs.Turns.{Machine, Saw, Tended, Went, credits_of, give_back, less_one, slots_of, tend, turn_after_tend, turn, type_refusal, with_credits, with_slots}
 use Rattle.chi_text.specs.Texts.{Plays}
-use Rattle.chi_text.specs.Told.{give_back_reply, tend_reply}
+use Rattle.chi_text.specs.NodeReplies.{give_back_reply, tend_reply}
 use Rattle.chi_text.specs.Session.{PlaysOn, machine_of, ports_of}
 use Rattle.chi_text.proofs.Machines.{at_port, credits_at, machine_after, machine_same, machine_slots_same, ports_after, slots_at}
 use Rattle.chi_text.proofs.Reasons.{agent_low, few_there, give_back_same, tend_same, typed_low}

@@ -43,7 +43,7 @@ use Rattle.chi_reply.specs.Replies.{audit_text, reply_text, totals_text}
 use Rattle.chi_reply.specs.declared.replies.Reply.TheVariants as replies
 use Rattle.chi_text.specs.Ports.{Claims, Owes, Releases, Spends, seen_counts}
 use Rattle.chi_text.specs.Turns.{Claimed, Ends, Glanced, Judged, Machine, Owed, Spent, Turn, Went, act, act_refusal, acting, machine_after_admission, arrive, arriving, turn_of_attempt, by_type, completing, credits_of, turn_after_action, less_one, or_refused, slots_after, slots_of, with_action, with_arrival, with_credits, with_end, turn}
-use Rattle.chi_text.specs.Told.{arrival_reply, done_reply, step_reply, totals_told}
+use Rattle.chi_text.specs.NodeReplies.{arrival_reply, done_reply, step_reply, totals_told}
 use Rattle.chi_text.specs.Session.{PlaysOn, SaysOn, machine_of, ports_of}
 use Rattle.chi_text.proofs.Machines.{at_port, at_port_again, credits_at, machine_after, machine_seen_same, ports_after, ports_same, slots_at}
 use Rattle.chi_text.proofs.Reasons.{act_same, arrives_low, few_there, steps_low}

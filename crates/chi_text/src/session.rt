@@ -7,7 +7,7 @@ ghost use Rattle.chi_script.specs.declared.commands.Command.TheVariants as comma
 ghost use Rattle.chi_text.specs.Turns.{turn};
 ghost use Rattle.chi_text.specs.Session.{PlaysOn, SaysTurn, machine_of};
 
-use crate::told::{arrival_reply, give_back_reply, step_reply, tend_reply, totals_told};
+use crate::node_replies::{arrival_reply, give_back_reply, step_reply, tend_reply, totals_told};
 use chi_flit::{Agent, CreditType, Line, NoMemory, Step};
 use chi_reply::{Audit, Credits, InFlight, Reply, Shown, Wording};
 use chi_script::Command;

@@ -74,7 +74,7 @@ impl Default for Port {
 
 impl Port {
     // The port of requester `number`, which has done nothing yet.
-    pub(crate) fn seated(chair: Chair, number: usize, shape: Shape) -> Port
+    pub(crate) fn on_chair(chair: Chair, number: usize, shape: Shape) -> Port
         requires view { chair.me ≡ solo (new_port shape number) }
         requires shape { IsShape shape × (number < shape.agents) }
         ensures { result ≡ record { table = chair.table_id; port = new_port shape number } }

@@ -79,7 +79,7 @@ impl<A: Allocator> Tracker<A> {
         let mut ports = ArrayVec::new();
         for number in 0..shape.agents {
             let own = board.split_seat::<Deal>(&mut chair);
-            ports.push(Port::seated(own, number, shape));
+            ports.push(Port::on_chair(own, number, shape));
         }
         ports
     }
