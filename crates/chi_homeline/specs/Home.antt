@@ -7,8 +7,6 @@ use Rattle.chi_flit.specs.declared.numbers.Agent.{Agent}
 use Rattle.chi_flit.specs.declared.numbers.Slot.{Slot}
 use Rattle.chi_flit.specs.declared.state.State.{State}
 use Rattle.chi_flit.specs.declared.kind.Kind.{Kind}
-use Rattle.chi_flit.specs.declared.kind.Kind.TheVariants.{ReadNotSharedDirty, ReadShared, ReadUnique, CleanUnique, Evict, WriteBackFull}
-use Rattle.chi_flit.specs.declared.kind.Kind.TheVariants.{WriteCleanFull, WriteEvictFull}
 use Rattle.chi_flit.specs.declared.snoop.Snoop.{Snoop}
 use Rattle.chi_flit.specs.declared.snoop.Snoop.TheVariants.{SnpNotSharedDirty, SnpShared, SnpUnique, SnpCleanInvalid}
 use Rattle.chi_flit.specs.declared.message.RspDown.TheVariants.{CompUC, CompDBIDResp}
@@ -22,6 +20,8 @@ use Rattle.chi_flit.specs.State.{is_dirty, is_valid}
 use Rattle.chi_filter.specs.Filter.{FilterState, filter_with, empty_filter, has_any, nobody, only_named, others_than, owner_set, owner_without, filter_without, filter_without_flag}
 use Rattle.chi_homeline.specs.declared.serving.Begun.{Begun}
 use Rattle.chi_homeline.specs.declared.serving.Begun.TheVariants as begins
+use Rattle.chi_homeline.specs.declared.serving.CompletionForm.{CompletionForm}
+use Rattle.chi_homeline.specs.declared.serving.CompletionForm.TheVariants as forms
 use Rattle.chi_homeline.specs.declared.serving.Waiting.{Waiting}
 use Rattle.chi_homeline.specs.declared.serving.Serving.{Serving}
 use Rattle.chi_homeline.specs.declared.serving.Serving.TheVariants.{Idle, Snooping, AwaitingCompAck, AwaitingWriteData}
@@ -95,12 +95,20 @@ home_after_completion home snoop agent slot = record home {
   serving = AwaitingCompAck agent slot;
 }
 
--- the message of a completion, with the data that is sent: a CleanUnique, served by SnpCleanInvalid, has none
+-- the form of a completion: a CleanUnique, served by SnpCleanInvalid, has no data
+abbrev pub completion_form : Snoop → Bool → CompletionForm
+completion_form SnpNotSharedDirty unique = forms.Data unique
+completion_form SnpShared unique = forms.Data unique
+completion_form SnpUnique unique = forms.Data unique
+completion_form SnpCleanInvalid unique = forms.NoData
+
+-- the message of a form, with the data that is sent
+abbrev pub form_message : CompletionForm → List ℕ → Msg
+form_message (forms.Data unique) sent = messages.DatDown (record { unique = unique; words = sent })
+form_message forms.NoData sent = messages.RspDown CompUC
+
 abbrev pub completion_message : Snoop → Bool → List ℕ → Msg
-completion_message SnpNotSharedDirty unique sent = messages.DatDown (record { unique = unique; words = sent })
-completion_message SnpShared unique sent = messages.DatDown (record { unique = unique; words = sent })
-completion_message SnpUnique unique sent = messages.DatDown (record { unique = unique; words = sent })
-completion_message SnpCleanInvalid unique sent = messages.RspDown CompUC
+completion_message snoop unique sent = form_message (completion_form snoop unique) sent
 
 abbrev pub completion_of : Home → Snoop → Agent → List ℕ → Msg
 completion_of home snoop agent sent = completion_message snoop (completes_unique snoop home.filter agent.0) sent
@@ -133,8 +141,7 @@ started_sends_as kind None home agent slot = if is_copy_back kind then Sends (me
 
 -- what a start sends, with the memory as the data of a completion
 abbrev pub started_with : Begun → List ℕ → Started
-started_with (begins.Data unique) memory = Sends (messages.DatDown (record { unique = unique; words = memory }))
-started_with begins.Unique memory = Sends (messages.RspDown CompUC)
+started_with (begins.Completes form) memory = Sends (form_message form memory)
 started_with begins.WriteData memory = Sends (messages.RspDown CompDBIDResp)
 started_with (begins.Evicted slot) memory = Evicted slot
 started_with (begins.Snoops snoop agents) memory = Snoops snoop agents

@@ -4,16 +4,16 @@ ghost use Rattle.std.specs.Prelude.{◌≡◌, ◌<◌, ℕ, List, IfOk, OnErr, 
 ghost use Rattle.chi_flit.specs.Kind.{snoop_of};
 ghost use Rattle.chi_flit.specs.Refusal.{refusal_of};
 ghost use Rattle.chi_filter.specs.Filter.{is_named};
-ghost use Rattle.chi_homeline.specs.Home.{Home, home_after_ack, acks_for, home_after_admit, answer_taken, asks, home_after_completion, completes_unique, completion_message, data_to_send, finished_home, finished_sends, idle_home, leaves, home_after_service, served_kind, served_sends, served_slot, snoop_answered, snoop_answered_sends, start_refusal, home_after_start, started_as, started_sends, started_with, waiting_of, writes_for, home_after_write};
+ghost use Rattle.chi_homeline.specs.Home.{Home, home_after_ack, acks_for, home_after_admit, answer_taken, asks, home_after_completion, completes_unique, completion_form, data_to_send, finished_home, finished_sends, idle_home, leaves, home_after_service, served_kind, served_sends, served_slot, snoop_answered, snoop_answered_sends, start_refusal, home_after_start, started_as, started_sends, started_with, waiting_of, writes_for, home_after_write};
 ghost use Rattle.chi_flit.specs.declared.kind.Kind.{Kind};
 ghost use Rattle.chi_flit.specs.declared.numbers.Slot.{Slot};
 ghost use Rattle.chi_homeline.specs.declared.serving.Completion.{Completion};
 ghost use Rattle.chi_homeline.specs.declared.serving.Waiting.{Waiting};
 ghost use Rattle.chi_homeline.specs.declared.serving.Started.TheVariants.{Sends};
 
-use crate::serving::{Begun, Completion, Serving, SnoopAnswer, Waiting};
+use crate::serving::{Begun, Completion, CompletionForm, Serving, SnoopAnswer, Waiting};
 use chi_filter::{Filter, has_any};
-use chi_flit::{Agent, CompData, Data, Kind, Msg, NO_DATA, Refusal, RspDown, Slot, Snoop, State};
+use chi_flit::{Agent, Data, Kind, NO_DATA, Refusal, Slot, Snoop, State};
 use std::marker::Model;
 
 /// What the home keeps of one line. Contracts see it as a `Home`. Each agent's number is below 8.
@@ -148,15 +148,14 @@ impl HomeLine {
             self.awaited = agents;
             return Begun::Snoops { snoop, agents };
         }
-        let unique = self.complete(agent, snoop, slot);
-        completion_begun(snoop, unique)
+        Begun::Completes(self.complete(agent, snoop, slot))
     }
 
-    /// Completes a request. Answers whether its agent is left the only one named.
+    /// Completes a request. Answers the form of its completion.
     /// Source: `docs/PROTOCOL.md`, "Completion".
-    fn complete(&mut self, agent: Agent, snoop: Snoop, slot: Slot) -> bool
+    fn complete(&mut self, agent: Agent, snoop: Snoop, slot: Slot) -> CompletionForm
         requires { agent.0 < 8 }
-        ensures unique { result ≡ completes_unique snoop self.old.filter agent.0 }
+        ensures form { result ≡ completion_form snoop (completes_unique snoop self.old.filter agent.0) }
         ensures after { self.new ≡ home_after_completion self.old snoop agent slot }
     {
         let unique = completes_unique(&self.filter, snoop, agent);
@@ -167,7 +166,7 @@ impl HomeLine {
             self.filter.add(agent);
         }
         self.serving = Serving::AwaitingCompAck { agent, slot };
-        unique
+        completion_form(snoop, unique)
     }
 
     /// Takes the agent's CompAck: the line is idle. Answers the slot of the request that is complete, or
@@ -314,8 +313,7 @@ impl HomeLine {
             return None;
         }
         let snoop = kind.snoop()?;
-        let unique = self.complete(agent, snoop, slot);
-        let message = completion_message(snoop, unique, sent);
+        let message = self.complete(agent, snoop, slot).message(sent);
         Some(Completion { agent, message })
     }
 
@@ -403,27 +401,15 @@ fn completes_unique(filter: &Filter, snoop: Snoop, agent: Agent) -> bool
     }
 }
 
-/// What a start sends by which a request completes.
-fn completion_begun(snoop: Snoop, unique: bool) -> Begun
-    ensures { (memory : List ℕ) → started_with result memory ≡ Sends (completion_message snoop unique memory) }
-{
-    match snoop {
-        Snoop::SnpNotSharedDirty | Snoop::SnpShared | Snoop::SnpUnique => Begun::Data { unique },
-        Snoop::SnpCleanInvalid => Begun::Unique,
-    }
-}
-
-/// The message of a completion, with the data that is sent.
-fn completion_message(snoop: Snoop, unique: bool, sent: Data) -> Msg
-    ensures { result ≡ completion_message snoop unique sent }
+/// The form of a completion, by the snoop that serves the request: a CleanUnique's has no data.
+/// Source: `docs/PROTOCOL.md`, "Completion".
+fn completion_form(snoop: Snoop, unique: bool) -> CompletionForm
+    ensures { result ≡ completion_form snoop unique }
 {
     match snoop {
         Snoop::SnpNotSharedDirty | Snoop::SnpShared | Snoop::SnpUnique => {
-            Msg::DatDown(CompData {
-                unique,
-                words: sent,
-            })
+            CompletionForm::Data { unique }
         }
-        Snoop::SnpCleanInvalid => Msg::RspDown(RspDown::CompUC),
+        Snoop::SnpCleanInvalid => CompletionForm::NoData,
     }
 }

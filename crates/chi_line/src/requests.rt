@@ -17,11 +17,10 @@ use crate::act::Conditions;
 use crate::line::Line;
 use crate::refusals::to_resend;
 use chi_flit::{
-    Agent, Channel, CompData, Effect, Kind, Msg, Profile, Refusal, Request, RspDown, Slot,
-    credit_type,
+    Agent, Channel, Effect, Kind, Msg, Profile, Refusal, Request, RspDown, Slot, credit_type,
 };
 use chi_homeline::{Begun, Waiting};
-use chi_wires::{clear, exchange, put, put_data, put_snoops};
+use chi_wires::{clear, exchange, put, put_snoops};
 
 impl Line {
     /// Issue: the agent's request is pending, and in flight with AllowRetry.
@@ -169,13 +168,8 @@ impl Line {
         ensures err { OnErr result (self.new ≡ self.old) }
     {
         match self.home.begin(agent)? {
-            Begun::Data { unique } => {
-                let words = self.home.memory();
-                put_data(&mut self.flits, agent, CompData { unique, words });
-                Ok(Effect::Nothing)
-            }
-            Begun::Unique => {
-                put(&mut self.flits, agent, Msg::RspDown(RspDown::CompUC));
+            Begun::Completes(form) => {
+                put(&mut self.flits, agent, form.message(self.home.memory()));
                 Ok(Effect::Nothing)
             }
             Begun::WriteData => {

@@ -4,7 +4,7 @@ use Rattle.chi_flit.specs.declared.action.Action.{Action}
 use Rattle.chi_line.specs.LineState.{LineState}
 use Rattle.chi_line.specs.Step.{after}
 use Rattle.chi_line.proofs.MoveLaw.{Moved}
-use Rattle.chi_line.proofs.Moves.{moves}
+use Rattle.chi_line.proofs.RequestMoves.{moves}
 use Rattle.chi_slice.specs.Slice.{OtherLinesStay, SliceKept, SliceState, slice_after, last_of, line, action_refusal, row_of_line}
 use Rattle.chi_slice.proofs.Acts.{Allowed, allowed, names_unused}
 use Rattle.chi_slice.proofs.Rows.{InRange, in_range, rows_apart}

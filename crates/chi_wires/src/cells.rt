@@ -63,13 +63,6 @@ impl Cells {
         }
     }
 
-    /// The data of a read is in flight; all else stays.
-    pub(crate) fn put_data(&mut self, sent: CompData)
-        ensures { self.new ≡ with_message self.old (messages.DatDown sent) }
-    {
-        self.dat_down = Some(sent);
-    }
-
     /// Nothing is in flight on `channel`; all else stays.
     pub(crate) fn clear(&mut self, channel: Channel)
         ensures { self.new ≡ without_message self.old channel }

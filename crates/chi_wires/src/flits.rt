@@ -41,21 +41,6 @@ pub fn put(flits: &mut [Cells; 8], agent: Agent, message: Msg)
     flits[usize::from(agent.0)].put(message);
 }
 
-/// Puts the data of a read on its channel, to the agent. All else stays.
-///
-/// Conditions: the agent's number is below 8, and the cell of that channel is empty.
-/// Source: `docs/PROTOCOL.md`, "Messages".
-#[tactic(auto, using(crate::proofs::Moved::put_adds))]
-pub fn put_data(flits: &mut [Cells; 8], agent: Agent, sent: CompData)
-    requires agent { agent.0 < 8 }
-    requires empty { (cells_at flits.old agent.0).dat_down ≡ None }
-    ensures after { flits.new
-        ≡ slice_set flits.old agent.0 (with_message (cells_at flits.old agent.0) (messages.DatDown sent)) }
-    ensures adds { IsPermutation (in_flight flits.new) (flit agent (messages.DatDown sent) ∷ in_flight flits.old) }
-{
-    flits[usize::from(agent.0)].put_data(sent);
-}
-
 /// Takes what is in flight on the channel, to or from the agent: its cell is empty then, and all else stays.
 ///
 /// Conditions: the agent's number is below 8.
