@@ -55,7 +55,7 @@ struct CreditTypes {
 /// Source: `docs/PROTOCOL.md`, "Replay files" and "Limits".
 pub fn read_header(words: &[&[u8]]) -> Option<Header>
     ensures read { result ≡ header_of (texts_of words.now) }
-    ensures header_in_limits { IfSome result (λ header. is_in_limits header ≡ true) }
+    ensures kept { IfSome result (λ header. is_in_limits header ≡ true) }
 {
     match words {
         [verb, numbers @ ..] if is(verb, "node") => read_sizes(numbers)?.header(),
@@ -148,7 +148,7 @@ impl Sizes {
     /// The header of these sizes, where they are within the limits.
     fn header(&self) -> Option<Header>
         ensures read { result ≡ header_in_limits (header_of_sizes self.now) }
-        ensures header_in_limits { IfSome result (λ header. is_in_limits header ≡ true) }
+        ensures kept { IfSome result (λ header. is_in_limits header ≡ true) }
     {
         if !self.is_in_limits() {
             return None;

@@ -314,7 +314,7 @@ impl<A: Allocator> Slice<A> {
     /// Refused 10 (OutOfRange) exactly where the line is outside the node or in another slice.
     /// Source: `docs/PROTOCOL.md`, "One line" and "Coherence".
     pub fn view(&self, line: Line) -> Result<LineView, Refusal>
-        ensures line_view { IfOk result (λ view. view ≡ line_view (line_of_slice self.now line.0) (last_of self.now line.0)) }
+        ensures shown { IfOk result (λ view. view ≡ line_view (line_of_slice self.now line.0) (last_of self.now line.0)) }
         ensures coherent { OnOk result (Coherent (last_of self.now line.0) (line_of_slice self.now line.0)) }
         ensures refusal { refusal_of result ≡ view_refusal self.now line.0 }
     {

@@ -234,7 +234,7 @@ impl<A: Allocator> System<A> {
     /// Refused 10 (OutOfRange) exactly where the line is outside the node.
     /// Source: `docs/PROTOCOL.md`, "One line".
     pub fn view(&self, line: Line) -> Result<LineView, Refusal>
-        ensures line_view { IfOk result (λ view. view
+        ensures shown { IfOk result (λ view. view
             ≡ line_view (line_of_home self.now.home line.0) (last_of self.now.home line.0)) }
         ensures refusal { refusal_of result ≡ view_refusal self.now.home line.0 }
     {
