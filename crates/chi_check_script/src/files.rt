@@ -33,7 +33,8 @@ pub fn read_checks<'a, A: Allocator + Copy>(
     alloc: A,
     bytes: &'a [u8],
 ) -> Result<CheckScript<'a, A>, Fault>
-    ensures { Gives (λ script. (script.header, map line_of_check script.checks.items)) result (check_file_of bytes.now) }
+    ensures { Gives (λ script. (script.header, map line_of_check script.checks.items)) result
+        (check_file_of bytes.now) }
 {
     if bytes.len() > MOST_BYTES {
         return Err(Fault::TooLarge);
@@ -47,7 +48,8 @@ fn read_lines<'a, A: Allocator + Copy>(
     bytes: &'a [u8],
 ) -> Result<CheckScript<'a, A>, Fault>
     requires { length bytes.now ≤ 1048576 }
-    ensures { Gives (λ script. (script.header, map line_of_check script.checks.items)) result (script_of 1 (lines_of bytes.now)) }
+    ensures { Gives (λ script. (script.header, map line_of_check script.checks.items)) result
+        (script_of 1 (lines_of bytes.now)) }
 {
     let mut rest = bytes;
     let mut number = 1;
@@ -98,7 +100,8 @@ fn add_check<'a, A: Allocator>(
     line: &'a [u8],
     number: usize,
 ) -> Result<(), Fault>
-    ensures { Gives (λ _. map line_of_check checks.new.items) result (with_line (map line_of_check checks.old.items) number line.now) }
+    ensures { Gives (λ _. map line_of_check checks.new.items) result
+        (with_line (map line_of_check checks.old.items) number line.now) }
 {
     if is_comment(line) {
         return Ok(());

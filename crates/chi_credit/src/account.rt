@@ -346,8 +346,10 @@ impl Account {
         requires cancelled { lowest_cancelled self.old (credit_number ty) < 8 }
         requires table { port.old.table ≡ tracker.now.table }
         requires credit { riding_of self.old (credit_number ty) < seen_of port.old.port (credit_number ty) }
-        ensures account { self.new ≡ slice_set self.old (lowest_cancelled self.old (credit_number ty)) idle_slot }
-        ensures cancelled { state_at self.old (lowest_cancelled self.old (credit_number ty)) ≡ SlotState.Cancelled }
+        ensures account { self.new
+            ≡ slice_set self.old (lowest_cancelled self.old (credit_number ty)) idle_slot }
+        ensures cancelled { state_at self.old (lowest_cancelled self.old (credit_number ty))
+            ≡ SlotState.Cancelled }
 
         // what the port did
         ensures table { port.new.table ≡ port.old.table }
@@ -371,8 +373,10 @@ impl Account {
     #[tactic(auto, using(crate::proofs::Counts::found_cancelled, crate::proofs::Counts::found_riding, crate::proofs::Counts::found_due, crate::proofs::Counts::found_entries))]
     fn end_cancelled(&mut self, ty: CreditType)
         requires { lowest_cancelled self.old (credit_number ty) < 8 }
-        ensures account { self.new ≡ slice_set self.old (lowest_cancelled self.old (credit_number ty)) idle_slot }
-        ensures cancelled { state_at self.old (lowest_cancelled self.old (credit_number ty)) ≡ SlotState.Cancelled }
+        ensures account { self.new
+            ≡ slice_set self.old (lowest_cancelled self.old (credit_number ty)) idle_slot }
+        ensures cancelled { state_at self.old (lowest_cancelled self.old (credit_number ty))
+            ≡ SlotState.Cancelled }
         ensures riding { IsSame (riding_of self.old) (riding_of self.new) }
         ensures due { FallsAt (credit_number ty) (due_of self.old) (due_of self.new) }
         ensures entries { IsSame (holders_of self.old) (holders_of self.new) }

@@ -117,7 +117,8 @@ impl HomeLine {
         requires { agent.0 < 8 }
         ensures sends { started_with result self.old.memory ≡ started_sends self.old agent request }
         ensures memory { self.new.memory ≡ self.old.memory }
-        ensures after { self.new ≡ started_as request.kind (snoop_of request.kind) self.old agent request.slot }
+        ensures after { self.new
+            ≡ started_as request.kind (snoop_of request.kind) self.old agent request.slot }
     {
         let kind = request.kind;
         let slot = request.slot;

@@ -1,5 +1,5 @@
--- What is counted beside a list of records, one record more at a time (docs/PROTOCOL.md, "The journal and
--- last values").
+-- Of the representation alone: what is counted beside a list of records, one record more at a time
+-- (docs/PROTOCOL.md, "The journal and last values").
 use Rattle.std.specs.Prelude.{ℕ, ◌+◌, ◌==◌, ◌&&◌, List, true, replicate, get_or, slice_set}
 use Rattle.chi_journal.specs.declared.record.Record.{Record}
 use Rattle.chi_journal.specs.declared.record.Record.TheVariants.{Load, Store}

@@ -61,7 +61,8 @@ pub extern "C" fn chi_node_arrive(
     arrival: &mut ChiArrival,
 ) -> u8
     ensures answer { result ≡ answer_number node.old.value (λ y. arrive_refusal y agent line) }
-    ensures call { CalledOn node.old.value node.new.value (ArrivalCall (agent_at agent) (line_at line) arrival.new) }
+    ensures call { CalledOn node.old.value node.new.value
+        (ArrivalCall (agent_at agent) (line_at line) arrival.new) }
     ensures closed { node.old.value ≡ None → arrival.new ≡ no_arrival }
 {
     *arrival = ChiArrival::NONE;
@@ -90,7 +91,8 @@ pub extern "C" fn chi_node_step(
     release: &mut ChiRelease,
 ) -> u8
     ensures answer { result ≡ answer_number node.old.value (node_step_refusal (own_of action.now)) }
-    ensures call { CalledOn node.old.value node.new.value (StepCall (own_of action.now) effect.new release.new) }
+    ensures call { CalledOn node.old.value node.new.value
+        (StepCall (own_of action.now) effect.new release.new) }
     ensures closed { node.old.value ≡ None → IsUntold effect.new release.new }
 {
     step_on(alloc, node, own_action_at(action), effect, release)
@@ -138,8 +140,10 @@ pub extern "C" fn chi_node_give_back(
     credit: u8,
     release: &mut ChiRelease,
 ) -> u8
-    ensures answer { result ≡ answer_number node.old.value (λ y. give_back_refusal y agent (credit_of credit)) }
-    ensures call { CalledOn node.old.value node.new.value (ReturnCall (agent_at agent) (credit_of credit) release.new) }
+    ensures answer { result
+        ≡ answer_number node.old.value (λ y. give_back_refusal y agent (credit_of credit)) }
+    ensures call { CalledOn node.old.value node.new.value
+        (ReturnCall (agent_at agent) (credit_of credit) release.new) }
     ensures closed { node.old.value ≡ None → release.new ≡ no_release }
 {
     *release = ChiRelease::NONE;
@@ -167,7 +171,8 @@ pub extern "C" fn chi_node_tend(
     release: &mut ChiRelease,
 ) -> u8
     ensures answer { result ≡ answer_number node.old.value (λ y. tend_refusal y agent (credit_of credit)) }
-    ensures call { CalledOn node.old.value node.new.value (TendCall (agent_at agent) (credit_of credit) release.new) }
+    ensures call { CalledOn node.old.value node.new.value
+        (TendCall (agent_at agent) (credit_of credit) release.new) }
     ensures closed { node.old.value ≡ None → release.new ≡ no_release }
 {
     *release = ChiRelease::NONE;

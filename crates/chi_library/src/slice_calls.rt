@@ -36,7 +36,8 @@ pub extern "C" fn chi_slice_open(
     config: &ChiConfig,
     index: u8,
 ) -> u8
-    ensures { IsOpening (Opens index) (sizes_at (config_of config.now) index) slice.old.value result slice.new.value }
+    ensures { IsOpening (Opens index)
+        (sizes_at (config_of config.now) index) slice.old.value result slice.new.value }
 {
     if let Some(held) = slice.take(alloc) {
         slice.put(held);

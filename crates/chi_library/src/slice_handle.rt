@@ -66,7 +66,8 @@ impl ChiSlice {
 
     /// Takes the slice out, if there is one: the handle is closed then.
     pub(crate) fn take(&mut self, alloc: Global) -> Option<Box<Slice<Global>>>
-        ensures slice { MatchOption result (self.old.value ≡ None) (λ held. self.old.value ≡ Some held.value) }
+        ensures slice { MatchOption result (self.old.value ≡ None)
+            (λ held. self.old.value ≡ Some held.value) }
         ensures closed { self.new.value ≡ None }
     {
         let handle = mem::replace(self, ChiSlice::none(alloc));

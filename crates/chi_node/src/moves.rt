@@ -46,7 +46,8 @@ impl Requester {
     pub(crate) fn resend(&mut self, slot: Slot)
         requires slot { slot.0 < 8 }
         requires retried { state_at self.old.slots slot.0 ≡ SlotState.Retried }
-        requires credit { riding_of self.old.slots (type_at self.old.slots slot.0) < seen_of self.old.port (type_at self.old.slots slot.0) }
+        requires credit { riding_of self.old.slots (type_at self.old.slots slot.0)
+            < seen_of self.old.port (type_at self.old.slots slot.0) }
         ensures { self.new ≡ with_slots (slots_with_state self.old.slots slot.0 SlotState.Riding) self.old }
     {
         self.account.resend(slot);
@@ -57,7 +58,8 @@ impl Requester {
     pub(crate) fn cancel(&mut self, slot: Slot)
         requires slot { slot.0 < 8 }
         requires retried { state_at self.old.slots slot.0 ≡ SlotState.Retried }
-        ensures { self.new ≡ with_slots (slots_with_state self.old.slots slot.0 SlotState.Cancelled) self.old }
+        ensures { self.new
+            ≡ with_slots (slots_with_state self.old.slots slot.0 SlotState.Cancelled) self.old }
     {
         self.account.cancel(slot);
     }
@@ -67,7 +69,9 @@ impl Requester {
     pub(crate) fn answered(&mut self, slot: Slot)
         requires slot { slot.0 < 8 }
         requires waits { can_be_answered (state_at self.old.slots slot.0) ≡ true }
-        ensures { self.new ≡ with_slots (slice_set self.old.slots slot.0 (after_answer (slot_at self.old.slots slot.0))) self.old }
+        ensures { self.new
+            ≡ with_slots
+            (slice_set self.old.slots slot.0 (after_answer (slot_at self.old.slots slot.0))) self.old }
     {
         self.account.answered(slot);
     }

@@ -198,10 +198,12 @@ impl<A: Allocator> Slice<A> {
     pub fn act(&mut self, action: Action) -> Result<Effect, Refusal>
         ensures refusal { refusal_of result ≡ action_refusal self.old action }
         ensures step { IfOk result (λ effect. IsStep self.old action effect self.new) }
-        ensures journal { OnOk result (self.new.journal ≡ log_after self.old.journal (entry_of self.old action)) }
+        ensures journal { OnOk result
+            (self.new.journal ≡ log_after self.old.journal (entry_of self.old action)) }
         ensures flits { OnOk result (IsBalanced self.old action self.new) }
         ensures others { OnOk result (OtherLinesStay self.old self.new action.line.0) }
-        ensures effect { IfOk result (λ effect. effect ≡ effect_of (line_of_slice self.old action.line.0) action) }
+        ensures effect { IfOk result
+            (λ effect. effect ≡ effect_of (line_of_slice self.old action.line.0) action) }
         ensures after { OnOk result (self.new ≡ slice_after self.old action) }
         ensures err { OnErr result (self.new ≡ self.old) }
     {
@@ -218,10 +220,12 @@ impl<A: Allocator> Slice<A> {
     pub fn act_under(&mut self, action: Action, terms: Terms) -> Result<Done, Refusal>
         ensures refusal { refusal_of result ≡ refused_under terms self.old action }
         ensures step { IfOk result (λ done. IsStep self.old action done.effect self.new) }
-        ensures journal { OnOk result (self.new.journal ≡ log_after self.old.journal (entry_of self.old action)) }
+        ensures journal { OnOk result
+            (self.new.journal ≡ log_after self.old.journal (entry_of self.old action)) }
         ensures flits { OnOk result (IsBalanced self.old action self.new) }
         ensures others { OnOk result (OtherLinesStay self.old self.new action.line.0) }
-        ensures effect { IfOk result (λ done. done.effect ≡ effect_of (line_of_slice self.old action.line.0) action) }
+        ensures effect { IfOk result
+            (λ done. done.effect ≡ effect_of (line_of_slice self.old action.line.0) action) }
         ensures slot { IfOk result (λ done. done.slot ≡ moved_by self.old action) }
         ensures after { OnOk result (self.new ≡ slice_after self.old action) }
         ensures err { OnErr result (self.new ≡ self.old) }
@@ -314,7 +318,8 @@ impl<A: Allocator> Slice<A> {
     /// Refused 10 (OutOfRange) exactly where the line is outside the node or in another slice.
     /// Source: `docs/PROTOCOL.md`, "One line" and "Coherence".
     pub fn view(&self, line: Line) -> Result<LineView, Refusal>
-        ensures shown { IfOk result (λ view. view ≡ line_view (line_of_slice self.now line.0) (last_of self.now line.0)) }
+        ensures shown { IfOk result
+            (λ view. view ≡ line_view (line_of_slice self.now line.0) (last_of self.now line.0)) }
         ensures coherent { OnOk result (Coherent (last_of self.now line.0) (line_of_slice self.now line.0)) }
         ensures refusal { refusal_of result ≡ view_refusal self.now line.0 }
     {

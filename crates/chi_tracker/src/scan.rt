@@ -20,9 +20,12 @@ pub(crate) fn scan(
 ) -> Option<usize>
     requires table { (chair.old.table_id ≡ board.now.table_id) × (board.now.table_id.words ≡ 44) }
     requires view { (chair.old.me ≡ solo (port_of chair.old.me)) × ((port_of chair.old.me).duty ≡ None) }
-    requires range { (first ≡ low (port_of chair.old.me).shape ty) × (count ≡ size (port_of chair.old.me).shape ty) × (0 < count) × (first + count ≤ 256) }
+    requires range { (first ≡ low (port_of chair.old.me).shape ty)
+        × (count ≡ size (port_of chair.old.me).shape ty) × (0 < count) × (first + count ≤ 256) }
     ensures table { chair.new.table_id ≡ chair.old.table_id }
-    ensures some { IfSome result (λ e. IsOf (port_of chair.old.me).shape ty e × (has e (port_of chair.old.me) ≡ 0) × (chair.new.me ≡ solo (into_hand e (port_after_scan ty (e - first) (port_of chair.old.me))))) }
+    ensures some { IfSome result
+        (λ e. IsOf (port_of chair.old.me).shape ty e × (has e (port_of chair.old.me) ≡ 0)
+        × (chair.new.me ≡ solo (into_hand e (port_after_scan ty (e - first) (port_of chair.old.me))))) }
     ensures none { IfNone result (chair.new.me ≡ solo (port_after_scan ty count (port_of chair.old.me))) }
 {
     let word = claim_step(board, chair, ty, first);

@@ -35,7 +35,8 @@ pub fn cells_of(flits: &[Cells; 8], agent: Agent) -> &Cells
 pub fn put(flits: &mut [Cells; 8], agent: Agent, message: Msg)
     requires agent { agent.0 < 8 }
     requires empty { cell_of (cells_at flits.old agent.0) (channel_of message) ≡ None }
-    ensures after { flits.new ≡ slice_set flits.old agent.0 (with_message (cells_at flits.old agent.0) message) }
+    ensures after { flits.new
+        ≡ slice_set flits.old agent.0 (with_message (cells_at flits.old agent.0) message) }
     ensures adds { IsPermutation (in_flight flits.new) (flit agent message ∷ in_flight flits.old) }
 {
     flits[usize::from(agent.0)].put(message);
@@ -48,8 +49,10 @@ pub fn put(flits: &mut [Cells; 8], agent: Agent, message: Msg)
 #[tactic(auto, using(crate::proofs::Moved::clear_removes))]
 pub fn clear(flits: &mut [Cells; 8], agent: Agent, channel: Channel)
     requires { agent.0 < 8 }
-    ensures after { flits.new ≡ slice_set flits.old agent.0 (without_message (cells_at flits.old agent.0) channel) }
-    ensures removes { IsPermutation (cell_flit flits.old agent channel ++ in_flight flits.new) (in_flight flits.old) }
+    ensures after { flits.new
+        ≡ slice_set flits.old agent.0 (without_message (cells_at flits.old agent.0) channel) }
+    ensures removes { IsPermutation (cell_flit flits.old agent channel ++ in_flight flits.new)
+        (in_flight flits.old) }
 {
     flits[usize::from(agent.0)].clear(channel);
 }
@@ -63,7 +66,8 @@ pub fn clear(flits: &mut [Cells; 8], agent: Agent, channel: Channel)
 #[tactic(auto, using(crate::proofs::Moved::exchange_swaps))]
 pub fn exchange(flits: &mut [Cells; 8], agent: Agent, taken: Channel, message: Msg)
     requires agent { agent.0 < 8 }
-    requires empty { cell_of (without_message (cells_at flits.old agent.0) taken) (channel_of message) ≡ None }
+    requires empty { cell_of (without_message (cells_at flits.old agent.0) taken) (channel_of message)
+        ≡ None }
     ensures after { flits.new
         ≡ slice_set flits.old agent.0 (with_message (without_message (cells_at flits.old agent.0) taken) message) }
     ensures swaps { IsPermutation (cell_flit flits.old agent taken ++ in_flight flits.new)
