@@ -1,5 +1,5 @@
--- Of the representation alone: the index of the slots in use that a slice keeps, and what it says of the
--- lines (docs/PROTOCOL.md, "Agreement").
+-- The index of the slots in use that a slice keeps, and what it says of the lines (docs/PROTOCOL.md,
+-- "Agreement").
 use Rattle.std.specs.Prelude.{◌≡◌, ℕ, ◌+◌, ◌*◌, ◌<◌, ◌≤◌, List, length, replicate, slice_set, Bool, true, false}
 use Rattle.std.specs.Prelude.{Option, Some, None, ◌&&◌, ◌==◌, nat_lt}
 use Rattle.std.specs.Prelude.{if◌then◌else◌}
