@@ -197,20 +197,20 @@ module _ (key : Shape) (slots id : ℕ) (m : Me ℕ SeatView) (alone : m ≡ sol
       → Allows (TrackerRule key) slots id m (4 + 5 * x.who + a.entry / 64) (λ n. bit_and n (all_but (a.entry % 64))) (TakesEffect spend a (step slots (4 + 5 * x.who + a.entry / 64) (all_but (a.entry % 64)) 0 none) m)
   unfolding Steps
   spend_allowed a lt duty is_of seen = allowed (4 + 5 * x.who + a.entry / 64) (λ n. bit_and n (all_but (a.entry % 64))) (TakesEffect spend a (step slots (4 + 5 * x.who + a.entry / 64) (all_but (a.entry % 64)) 0 none) m) (λ ws homes vs rule at sound.
-      let one_more : slice_index (one_more x.spent a.kind) a.kind + slice_index x.returned a.kind ≡ slice_index x.spent a.kind + slice_index x.returned a.kind + 1 = omega (arith, raised_here x.spent a.kind) in
+      let more : slice_index (one_more x.spent a.kind) a.kind + slice_index x.returned a.kind ≡ slice_index x.spent a.kind + slice_index x.returned a.kind + 1 = omega (arith, raised_here x.spent a.kind) in
       let same : (u : ℕ) → u ≢ a.kind → slice_index (one_more x.spent a.kind) u + slice_index x.returned u ≡ slice_index x.spent u + slice_index x.returned u = λ u d. omega (arith, raised_else x.spent a.kind u d) in (
         spends a.kind a.entry x,
-        paid_rule a lt duty is_of seen (one_more x.spent a.kind) x.returned one_more same ws homes vs rule at sound,
-        λ _. (refl, spendable a lt duty is_of seen (one_more x.spent a.kind) x.returned one_more same ws homes vs rule at sound),
+        paid_rule a lt duty is_of seen (one_more x.spent a.kind) x.returned more same ws homes vs rule at sound,
+        λ _. (refl, spendable a lt duty is_of seen (one_more x.spent a.kind) x.returned more same ws homes vs rule at sound),
       ))
 
   pub return_allowed : (a : Aim) → a.kind < 4 → x.duty ≡ None → IsOf x.shape a.kind a.entry → set_at x.seen a.entry ≡ 1
       → Allows (TrackerRule key) slots id m (4 + 5 * x.who + a.entry / 64) (λ n. bit_and n (all_but (a.entry % 64))) (TakesEffect give a (step slots (4 + 5 * x.who + a.entry / 64) (all_but (a.entry % 64)) 0 none) m)
   unfolding Steps
   return_allowed a lt duty is_of seen = allowed (4 + 5 * x.who + a.entry / 64) (λ n. bit_and n (all_but (a.entry % 64))) (TakesEffect give a (step slots (4 + 5 * x.who + a.entry / 64) (all_but (a.entry % 64)) 0 none) m) (λ ws homes vs rule at sound.
-      let one_more : slice_index x.spent a.kind + slice_index (one_more x.returned a.kind) a.kind ≡ slice_index x.spent a.kind + slice_index x.returned a.kind + 1 = omega (arith, raised_here x.returned a.kind) in
+      let more : slice_index x.spent a.kind + slice_index (one_more x.returned a.kind) a.kind ≡ slice_index x.spent a.kind + slice_index x.returned a.kind + 1 = omega (arith, raised_here x.returned a.kind) in
       let same : (u : ℕ) → u ≢ a.kind → slice_index x.spent u + slice_index (one_more x.returned a.kind) u ≡ slice_index x.spent u + slice_index x.returned u = λ u d. omega (arith, raised_else x.returned a.kind u d) in (
         returns_credit a.kind a.entry x,
-        paid_rule a lt duty is_of seen x.spent (one_more x.returned a.kind) one_more same ws homes vs rule at sound,
-        λ _. (refl, spendable a lt duty is_of seen x.spent (one_more x.returned a.kind) one_more same ws homes vs rule at sound),
+        paid_rule a lt duty is_of seen x.spent (one_more x.returned a.kind) more same ws homes vs rule at sound,
+        λ _. (refl, spendable a lt duty is_of seen x.spent (one_more x.returned a.kind) more same ws homes vs rule at sound),
       ))
