@@ -10,9 +10,9 @@ ghost use Rattle.chi_replay.specs.Replays.{AtWrite, IsTextOf, KeepsAtFault, NoTe
 
 use chi_devices::{Failed, Input, Output, read_all};
 use chi_flit::Profile;
-use chi_script::{Fault, Header, read_file};
+use chi_script::{Fault, Header, read_head};
 use chi_slice::Config;
-use chi_text::run;
+use chi_text::run_lines;
 use std::alloc::Allocator;
 
 /// The sizes of a header, where a node may have them.
@@ -44,12 +44,9 @@ fn text_of<A: Allocator + Copy>(alloc: A, bytes: &[u8]) -> Result<String<A>, Fau
     ensures ok { IfOk result (λ text. IsTextOf bytes.now (string_bytes text)) }
     ensures err { IfErr result (λ fault. Fails fault (file_of bytes.now)) }
 {
-    let script = read_file(alloc, bytes)?;
-    let config = config_of(&script.header);
-    match run(alloc, &config, &script.commands) {
-        Ok(text) => Ok(text),
-        Err(_) => Err(Fault::NoMemory),
-    }
+    let (header, lines) = read_head(alloc, bytes)?;
+    let config = config_of(&header);
+    run_lines(alloc, &config, lines)
 }
 
 /// The same of an input's bytes; `Read` where reading them failed.

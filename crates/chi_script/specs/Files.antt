@@ -48,6 +48,10 @@ script_of (line ∷ next ∷ rest) = do
   commands ← commands_of 2 (next ∷ rest)
   Ok (header, commands)
 
+-- a header that was read, and what is read behind it
+abbrev pub with_header : Header → Result (List Command) Fault → Result (Header × List Command) Fault
+with_header header read = read >>= λ commands. Ok (header, commands)
+
 -- a file's header and commands, or its first fault
 unfoldable pub file_of : List ℕ → Result (Header × List Command) Fault
 file_of file = if nat_lt 1048576 (length file) then Err TooLarge else script_of (lines_of file)
