@@ -1,10 +1,11 @@
 -- The text of a list of commands, under the tracker's answers, and which answers are allowed
 -- (docs/PROTOCOL.md, "Replay files").
-use Rattle.std.specs.Prelude.{◌≡◌, ◌⊎◌, ◌↔◌, ℕ, All, IsTrue, List, [], ◌∷◌, ◌++◌, Some, codes, slice_get, slice_set}
+use Rattle.std.specs.Prelude.{◌≡◌, ◌⊎◌, ◌↔◌, ℕ, All, IsTrue, List, [], ◌∷◌, ◌++◌, Some, codes, slice_get, slice_set, Ok}
 use Rattle.std.specs.Fmt.{decimal}
 use Rattle.chi_flit.specs.declared.numbers.Agent.{Agent}
 use Rattle.chi_script.specs.declared.commands.Command.{Command}
 use Rattle.chi_script.specs.declared.commands.Command.TheVariants as commands
+use Rattle.chi_script.specs.Files.{commands_of, lines_of}
 use Rattle.chi_slice.specs.Coherence.{IsCoherentSlice}
 use Rattle.chi_config.specs.Config.{Sizes}
 use Rattle.chi_slice.specs.Slice.{SliceState}
@@ -103,3 +104,9 @@ pub record IsText (config : Sizes) (all : List Command) (bytes : List ℕ) : Typ
   pub allowed : Allowed (opening config) (opening_ports config) all answers
   pub same : bytes ≡ text (opening config) all answers
   pub audits : AuditsTell (opening config) all answers
+
+-- and of the commands that the lines behind a header are
+pub record IsTextOfLines (config : Sizes) (lines bytes : List ℕ) : Type 0 where
+  pub commands : List Command
+  pub good : commands_of 2 (lines_of lines) ≡ Ok commands
+  pub text : IsText config commands bytes

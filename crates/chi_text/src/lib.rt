@@ -6,5 +6,5 @@ mod runs;
 mod session;
 
 pub use node_replies::totals_told;
-pub use runs::run;
+pub use runs::{run, run_lines};
 pub use session::answer;
