@@ -1,10 +1,16 @@
 //! Prints how fast a slice's actions are on one thread: those of a fixed mix of eight requesters, and cold
 //! reads, each over 64 lines, over 8 and over one. It measures where it is given an argument, as by
 //! `rt run -- now`, and prints nothing without one.
+//!
+//! `act LINES COUNT` does about `COUNT` actions of the mix over 64 lines, 8 or one, one action at a time, and
+//! prints what `tests/c/speed.c` prints of the same through the library for C: nanoseconds, actions, and the
+//! sum of what the effects told.
 #![tactic(auto)]
 
+mod acts;
 mod mix;
 
+use acts::run_acts;
 use chi_slice::{Action, Config, Slice};
 use mix::{cold_reads, mix};
 use std::alloc::Global;
@@ -78,29 +84,43 @@ fn measure<R: Print + Clock>(
     println!(rt; "{lines} lines: {thousands} thousand {what} a second")
 }
 
-fn main(rt: HostRuntime) -> io::Result<()> {
-    if env::args(&rt)?.count() < 2 {
-        return Ok(());
-    }
+/// Prints how fast each script is over 64 lines, over 8 and over one.
+fn measure_all<R: Print + Clock>(rt: &R, alloc: Global) -> io::Result<()> {
     for (blocks, width, lines) in [(8, 8, 64), (1, 8, 8), (1, 1, 1)] {
-        let actions = mix(rt.alloc(), blocks, width)?;
+        let actions = mix(alloc, blocks, width)?;
         measure(
-            &rt,
-            rt.alloc(),
+            rt,
+            alloc,
             lines,
             &actions,
             actions.len(),
             "actions of the mix",
         )?;
-        let reads = cold_reads(rt.alloc(), lines)?;
-        measure(
+        let reads = cold_reads(alloc, lines)?;
+        measure(rt, alloc, lines, &reads, usize::from(lines), "cold reads")?;
+    }
+    Ok(())
+}
+
+/// Prints what a run of so many actions over so many lines came to.
+fn print_acts<R: Print + Clock>(rt: &R, alloc: Global, lines: &str, count: &str) -> io::Result<()> {
+    let (Ok(lines), Ok(count)) = (lines.parse::<u8>(), count.parse::<usize>()) else {
+        return Err(io::Error::from(io::ErrorKind::InvalidInput));
+    };
+    let run = run_acts(rt, alloc, lines, count)?;
+    println!(rt; "{} {} {}", run.nanos, run.count, run.told)
+}
+
+fn main(rt: HostRuntime) -> io::Result<()> {
+    let words: Vec<String> = env::args(&rt)?.collect(rt.alloc())?;
+    match words.as_slice() {
+        [] | [_] => Ok(()),
+        [_, command, lines, count] if command.as_str() == "act" => print_acts(
             &rt,
             rt.alloc(),
             lines,
-            &reads,
-            usize::from(lines),
-            "cold reads",
-        )?;
+            count,
+        ),
+        _ => measure_all(&rt, rt.alloc()),
     }
-    Ok(())
 }
