@@ -1,6 +1,7 @@
 /* How fast chi_slice_act is: about COUNT actions of the mix of crates/chi_slice_speed over LINES lines (64, 8 or one),
  * on a new slice. Each effect is read. Prints what `act LINES COUNT` of that crate prints: nanoseconds, actions, and the
  * sum of what the effects told. */
+#define _POSIX_C_SOURCE 200809L /* clock_gettime */
 #include "chihome.h"
 
 #include <inttypes.h>
@@ -114,9 +115,9 @@ static uint64_t nanoseconds(void) {
 /* Does the script's actions, and answers the sum of their effects' numbers. */
 static uint64_t act_all(ChiSlice *slice, size_t count) {
     uint64_t told = 0;
-    for (size_t place = 0; place < count; place++) {
+    for (const ChiAction *action = script; action < script + count; action++) {
         ChiEffect effect;
-        if (chi_slice_act(slice, &script[place], &effect) != CHI_OK) exit(1);
+        if (chi_slice_act(slice, action, &effect) != CHI_OK) exit(1);
         told += effect.value + effect.slot;
     }
     return told;

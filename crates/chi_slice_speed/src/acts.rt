@@ -51,8 +51,8 @@ fn act_all(slice: &mut Slice<Global>, actions: &[Action]) -> io::Result<u64> {
     Ok(told)
 }
 
-/// Does all the actions so many times.
-fn act_times(slice: &mut Slice<Global>, actions: &[Action], times: usize) -> io::Result<u64> {
+/// Does all the actions so many times. It is the one caller of `Slice::act`, which so stands inlined in it.
+pub fn act_times(slice: &mut Slice<Global>, actions: &[Action], times: usize) -> io::Result<u64> {
     let mut told: u64 = 0;
     for _ in 0..times {
         told = told.wrapping_add(act_all(slice, actions)?);

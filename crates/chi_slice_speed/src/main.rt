@@ -10,7 +10,7 @@
 mod acts;
 mod mix;
 
-use acts::run_acts;
+use acts::{act_times, run_acts};
 use chi_slice::{Action, Config, Slice};
 use mix::{cold_reads, mix};
 use std::alloc::Global;
@@ -35,16 +35,6 @@ fn opened(alloc: Global, lines: u8) -> io::Result<Slice<Global>> {
     }
 }
 
-/// Does all the actions so many times; it is an error where one is refused.
-fn run_all(slice: &mut Slice<Global>, actions: &[Action], times: usize) -> io::Result<()> {
-    for _ in 0..times {
-        if slice.run(actions) != actions.len() {
-            return Err(io::Error::from(io::ErrorKind::InvalidData));
-        }
-    }
-    Ok(())
-}
-
 /// The nanoseconds that the script takes so many times over, in the fastest of all runs.
 fn fastest<R: Clock>(
     rt: &R,
@@ -57,7 +47,7 @@ fn fastest<R: Clock>(
     for _ in 0..RUNS {
         let mut slice = opened(alloc, lines)?;
         let start = Instant::now(rt)?;
-        run_all(&mut slice, actions, times)?;
+        act_times(&mut slice, actions, times)?;
         best = best.min(start.elapsed(rt)?.as_nanos());
     }
     Ok(best)
