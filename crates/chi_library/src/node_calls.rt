@@ -12,7 +12,7 @@ ghost use Rattle.chi_node.specs.Calls.{is_own_step};
 ghost use Rattle.chi_system.specs.Home.{flits_refusal, view_refusal};
 ghost use Rattle.chi_system.specs.System.{agent_refusal, arrive_refusal, give_back_refusal, tend_refusal};
 
-use crate::actions::{ChiAction, ChiEffect, action_at, effect_told};
+use crate::actions::{ChiAction, ChiEffect, action_at, tell_effect};
 use crate::answers::{ALREADY_OPEN, CLOSED, DONE, NO_MEMORY, NOT_OPEN, OUT_OF_RANGE};
 use crate::flits::{ChiFlits, flits_told};
 use crate::lines::{ChiLine, line_told};
@@ -425,7 +425,7 @@ fn step(
     };
     match node.step(action) {
         Ok(stepped) => {
-            *effect = effect_told(stepped.effect);
+            tell_effect(effect, stepped.effect);
             *release = release_if(stepped.released);
             DONE
         }

@@ -20,7 +20,7 @@ use std::ptr::null_mut;
 pub struct ChiNode {
     at: *mut u8,
     alloc: Global,
-    pub ghost value: { Option SystemState } by { coded },
+    pub ghost value: { Option SystemState } by { node_code },
 }
 
 impl Model for ChiNode {

@@ -11,7 +11,7 @@ ghost use Rattle.chi_library.specs.Sizes.{config_of};
 ghost use Rattle.chi_library.specs.SliceCalls.{Opens, act_after, act_refusal, act_told, entry_at, entry_refusal, entry_told, flits_shown, show_told, sizes_at};
 ghost use Rattle.chi_slice.specs.Slice.{flits_refusal, opening_slice, view_refusal};
 
-use crate::actions::{ChiAction, ChiEffect, action_at, effect_told};
+use crate::actions::{ChiAction, ChiEffect, action_at, tell_effect};
 use crate::answers::{ALREADY_OPEN, CLOSED, DONE, NO_MEMORY, OUT_OF_RANGE, number_if};
 use crate::flits::{ChiFlits, flits_told};
 use crate::lines::{ChiLine, line_told};
@@ -229,7 +229,7 @@ fn act(slice: &mut Slice<Global>, action: &ChiAction, effect: &mut ChiEffect) ->
     };
     match slice.act(action) {
         Ok(done) => {
-            *effect = effect_told(done);
+            tell_effect(effect, done);
             DONE
         }
         Err(reason) => reason.number(),

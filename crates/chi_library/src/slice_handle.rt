@@ -20,7 +20,7 @@ use std::ptr::null_mut;
 pub struct ChiSlice {
     at: *mut u8,
     alloc: Global,
-    pub ghost value: { Option SliceState } by { coded },
+    pub ghost value: { Option SliceState } by { slice_code },
 }
 
 impl Model for ChiSlice {
