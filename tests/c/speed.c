@@ -1,7 +1,10 @@
-/* How fast chi_slice_act is: the mix of crates/chi_slice_speed, over 64 lines, over 8 and over one. Each effect is read.
- * Prints thousands of actions a second, the best of seven runs. */
+/* How fast chi_slice_act is: about COUNT actions of the mix of crates/chi_slice_speed over LINES lines (64, 8 or one),
+ * on a new slice. Each effect is read. Prints what `act LINES COUNT` of that crate prints: nanoseconds, actions, and the
+ * sum of what the effects told. */
+#define _POSIX_C_SOURCE 200809L /* clock_gettime */
 #include "chihome.h"
 
+#include <inttypes.h>
 #include <stdio.h>
 #include <stdlib.h>
 #include <time.h>
@@ -85,12 +88,9 @@ static const ChiAction CYCLE[] = {
     {.agent = 2, .step = CHI_RecvComp},
 };
 
-enum { ROWS = sizeof CYCLE / sizeof *CYCLE, RUNS = 7, ACTIONS = 960000 };
+enum { ROWS = sizeof CYCLE / sizeof *CYCLE };
 
 static ChiAction script[ROWS * 64];
-
-/* The sum of all that the effects told, so that they are read as a bench reads them. */
-static volatile uint64_t told;
 
 /* Blocks of lines take their turns, and those of a block go side by side. */
 static size_t mix(int blocks, int width) {
@@ -106,42 +106,34 @@ static size_t mix(int blocks, int width) {
     return count;
 }
 
-static double seconds(void) {
+static uint64_t nanoseconds(void) {
     struct timespec now;
     clock_gettime(CLOCK_MONOTONIC, &now);
-    return (double)now.tv_sec + (double)now.tv_nsec * 1e-9;
+    return (uint64_t)now.tv_sec * 1000000000 + (uint64_t)now.tv_nsec;
 }
 
-static double run(ChiConfig config, size_t count) {
-    ChiSlice slice = {0};
-    if (chi_slice_open(&slice, &config, 0) != CHI_OK) exit(1);
-    uint64_t sum = 0;
-    double start = seconds();
-    for (size_t time = 0; time < ACTIONS / count; time++)
-        for (size_t place = 0; place < count; place++) {
-            ChiEffect effect;
-            if (chi_slice_act(&slice, &script[place], &effect) != CHI_OK) exit(1);
-            sum += effect.value + effect.slot;
-        }
-    told = sum;
-    double taken = seconds() - start;
-    chi_slice_close(&slice);
-    return taken;
-}
-
-int main(void) {
-    const int shapes[][3] = {{8, 8, 64}, {1, 8, 8}, {1, 1, 1}};
-    for (int shape = 0; shape < 3; shape++) {
-        ChiConfig config = {.agents = 8, .slices = 1, .entries = {32, 32}, .journal = 65536};
-        config.lines = (uint8_t)shapes[shape][2];
-        size_t count = mix(shapes[shape][0], shapes[shape][1]);
-        double best = 1e9;
-        for (int time = 0; time < RUNS; time++) {
-            double taken = run(config, count);
-            if (taken < best) best = taken;
-        }
-        printf("%d lines: %.0f thousand actions of the mix a second\n", config.lines,
-               (double)(ACTIONS / count * count) / best / 1e3);
+/* Does the script's actions, and answers the sum of their effects' numbers. */
+static uint64_t act_all(ChiSlice *slice, size_t count) {
+    uint64_t told = 0;
+    for (const ChiAction *action = script; action < script + count; action++) {
+        ChiEffect effect;
+        if (chi_slice_act(slice, action, &effect) != CHI_OK) exit(1);
+        told += effect.value + effect.slot;
     }
-    return 0;
+    return told;
+}
+
+int main(int words, char **word) {
+    if (words != 3) return 2;
+    int lines = atoi(word[1]);
+    if (lines != 64 && lines != 8 && lines != 1) return 2;
+    size_t count = lines == 64 ? mix(8, 8) : mix(1, lines);
+    size_t times = strtoul(word[2], NULL, 10) / count;
+    ChiConfig config = {.agents = 8, .lines = (uint8_t)lines, .slices = 1, .entries = {32, 32}, .journal = 65536};
+    ChiSlice slice = {0};
+    if (chi_slice_open(&slice, &config, 0) != CHI_OK) return 1;
+    uint64_t told = 0, start = nanoseconds();
+    for (size_t time = 0; time < times; time++) told += act_all(&slice, count);
+    printf("%" PRIu64 " %zu %" PRIu64 "\n", nanoseconds() - start, times * count, told);
+    return chi_slice_close(&slice) == CHI_OK ? 0 : 1;
 }

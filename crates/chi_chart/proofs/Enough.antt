@@ -8,7 +8,7 @@ use Rattle.chi_script.specs.declared.headers.Header.{Header}
 use Rattle.chi_script.specs.Headers.{node_sizes}
 use Rattle.chi_config.specs.Config.{Sizes}
 use Rattle.chi_check_script.specs.declared.checks.Check.{Check}
-use Rattle.chi_check_script.specs.Checks.{CheckLine, seen}
+use Rattle.chi_check_script.specs.Checks.{CheckLine, line_of_check}
 use Rattle.chi_check_script.specs.Files.{check_file_of}
 use Rattle.chi_check_script.proofs.FileLemmas.{front_enough}
 use Rattle.chi_chart.specs.declared.frame.Layout.{Layout}
@@ -18,7 +18,7 @@ use Rattle.chi_chart.specs.Played.{IsRun}
 use Rattle.chi_chart.specs.Rows.{Row, bottom_of, top}
 use Rattle.chi_chart.specs.Steps.{commands_in}
 
-pub same_commands : (checks : List Check) → map (λ check. check.command) checks ≡ commands_in (map seen checks)
+pub same_commands : (checks : List Check) → map (λ check. check.command) checks ≡ commands_in (map line_of_check checks)
 same_commands [] = refl
 same_commands (check ∷ checks) = ap (λ (cs : List Command). check.command ∷ cs) (same_commands checks)
 

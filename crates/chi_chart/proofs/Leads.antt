@@ -8,7 +8,7 @@ use Rattle.chi_config.specs.Config.{Sizes}
 use Rattle.chi_tracker.specs.Views.{PortView}
 use Rattle.chi_system.specs.System.{SystemState, opening_system}
 use Rattle.chi_text.specs.Session.{machine_of, ports_of}
-use Rattle.chi_text.specs.Texts.{Allowed, Made, opening_ports}
+use Rattle.chi_text.specs.Texts.{Allowed, Ending, opening_ports}
 use Rattle.chi_text.specs.Turns.{Answer, Machine, opening, turn}
 use Rattle.chi_text.proofs.Openings.{opening_machine, opening_views}
 use Rattle.chi_text.proofs.Playing.{made_plays}
@@ -43,7 +43,7 @@ leads_further config all only rows rows' y y' old new command rest row leads pla
     let whole = leads (mine ++ later) (mine, later, said, machine_of new, ports_of new, refl, played.plays, allowed) in
     let made = made_plays (turn (machine_of old) command) (ports_of old) mine later said (machine_of new) (ports_of new) played.plays in
     let steps : steps_of (machine_of old) (command ∷ rest) (mine ++ later) ≡ record { command = command; answer = said ++ (10 ∷ []); before = old.home; after = new.home } ∷ steps_of (machine_of new) rest later =
-    ap (λ (x : Made). record { command = command; answer = x.said ++ (10 ∷ []); before = old.home; after = x.state.home } ∷ steps_of x.state rest x.left) made in
+    ap (λ (x : Ending). record { command = command; answer = x.said ++ (10 ∷ []); before = old.home; after = x.state.home } ∷ steps_of x.state rest x.left) made in
     let here : rows_of only y (steps_of (machine_of old) (command ∷ rest) (mine ++ later)) ≡ shown_rows b row ++ rows_of only (next_y b row) (steps_of (machine_of new) rest later) =
     ap (rows_of only y) steps ∙ ap (λ (r : Row). shown_rows b r ++ rows_of only (next_y b r) (steps_of (machine_of new) rest later)) (sym played.is) in
     let next : shown_rows b row ++ rows_of only (next_y b row) (steps_of (machine_of new) rest later) ≡ shown_rows b row ++ rows_of only y' (steps_of (machine_of new) rest later) =

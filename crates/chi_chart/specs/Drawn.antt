@@ -94,5 +94,5 @@ arrow_text arrow =
 abbrev pub escaped_byte : ℕ → List ℕ
 escaped_byte byte = if byte == 38 then codes "&amp;" else (if byte == 60 then codes "&lt;" else (if byte == 62 then codes "&gt;" else (byte ∷ [])))
 
-abbrev pub escaped : List ℕ → List ℕ
-escaped bytes = flat_map escaped_byte bytes
+abbrev pub escaped_text : List ℕ → List ℕ
+escaped_text bytes = flat_map escaped_byte bytes

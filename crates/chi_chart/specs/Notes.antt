@@ -9,7 +9,7 @@ use Rattle.chi_script.specs.declared.commands.Command.TheVariants as commands
 use Rattle.chi_check_script.specs.Checks.{begins_with}
 use Rattle.chi_chart.specs.declared.frame.Layout.{Layout}
 use Rattle.chi_chart.specs.Layout.{home_words_x, words_x}
-use Rattle.chi_chart.specs.Drawn.{escaped}
+use Rattle.chi_chart.specs.Drawn.{escaped_text}
 
 -- the agent whose command it is
 abbrev pub agent_of : Command → Option Agent
@@ -82,7 +82,7 @@ words_tag class x y front =
     codes "<text class='" ++ (class ++ (codes "' x='" ++ (decimal x ++ (codes "' y='" ++ (decimal y ++ (codes "'>" ++ front))))))
 
 unfoldable pub words_text : List ℕ → ℕ → ℕ → List ℕ → List ℕ → List ℕ
-words_text class x y front words = words_tag class x y front ++ (escaped words ++ codes "</text>\n")
+words_text class x y front words = words_tag class x y front ++ (escaped_text words ++ codes "</text>\n")
 
 abbrev pub done_if : ℕ → List ℕ → Option ℕ → Option (List ℕ) → List ℕ
 done_if y front (Some x) (Some words) = words_text (codes "answer") x y front words

@@ -4,12 +4,12 @@ use Rattle.std.specs.Prelude.{◌≡◌, ℕ, List, [], ◌∷◌, ◌++◌, Opt
 use Rattle.chi_flit.specs.declared.numbers.Line.{Line}
 use Rattle.chi_flit.specs.declared.refusal.Refusal.{Refusal}
 use Rattle.chi_line.specs.declared.view.LineView.{LineView}
-use Rattle.chi_line.specs.View.{shown}
+use Rattle.chi_line.specs.View.{line_view}
 use Rattle.chi_script.specs.declared.commands.Command.{Command}
 use Rattle.chi_check_script.specs.Checks.{CheckLine}
 use Rattle.chi_script.specs.declared.commands.Command.TheVariants as commands
 use Rattle.chi_system.specs.Home.{HomeState, last_of, line, view_refusal}
-use Rattle.chi_text.specs.Texts.{made}
+use Rattle.chi_text.specs.Texts.{ending}
 use Rattle.chi_text.specs.Turns.{Answer, Machine, turn}
 
 -- a command, the line that a replay prints for it, with its end, and the home before and after
@@ -25,11 +25,11 @@ steps_of m [] answers = []
 steps_of m (command ∷ rest) answers =
     record {
       command = command;
-      answer = (made (turn m command) answers).said ++ (10 ∷ []);
+      answer = (ending (turn m command) answers).said ++ (10 ∷ []);
       before = m.home;
-      after = (made (turn m command) answers).state.home;
+      after = (ending (turn m command) answers).state.home;
     }
-    ∷ steps_of (made (turn m command) answers).state rest (made (turn m command) answers).left
+    ∷ steps_of (ending (turn m command) answers).state rest (ending (turn m command) answers).left
 
 -- the line that a command names
 abbrev pub line_of : Command → Option Line
@@ -50,7 +50,7 @@ view_if (Some refusal) view = None
 -- a line as it is shown, where there is one of that number
 abbrev pub seen_line : HomeState → Option Line → Option LineView
 seen_line home None = None
-seen_line home (Some l) = view_if (view_refusal home l.0) (shown (line home l.0) (last_of home l.0))
+seen_line home (Some l) = view_if (view_refusal home l.0) (line_view (line home l.0) (last_of home l.0))
 
 -- the commands of a file
 abbrev pub commands_in : List CheckLine → List Command

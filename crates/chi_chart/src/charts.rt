@@ -6,7 +6,7 @@ ghost use Rattle.chi_script.specs.Faults.{Fails};
 ghost use Rattle.chi_script.specs.declared.faults.Fault.{Fault};
 ghost use Rattle.chi_script.specs.Headers.{is_in_limits};
 ghost use Rattle.chi_replay.specs.Replays.{NoText, Refuses};
-ghost use Rattle.chi_check_script.specs.Checks.{seen};
+ghost use Rattle.chi_check_script.specs.Checks.{line_of_check};
 ghost use Rattle.chi_check_script.specs.Files.{check_file_of};
 ghost use Rattle.chi_chart.specs.Charts.{Begins, Draws, IfFaulty, IsChart, IsChartOf, IsLayout, NoChart, OnWriteFault};
 ghost use Rattle.chi_chart.specs.Steps.{commands_in};
@@ -23,7 +23,7 @@ use std::alloc::{AllocError, Allocator};
 
 /// The commands of the checks, in order.
 fn commands_of<A: Allocator>(alloc: A, checks: &[Check]) -> Result<Vec<Command, A>, AllocError>
-    ensures { IfOk result (λ commands. commands.items ≡ commands_in (map seen checks.now)) }
+    ensures { IfOk result (λ commands. commands.items ≡ commands_in (map line_of_check checks.now)) }
 {
     checks.iter().map(|check| check.command).collect(alloc)
 }
@@ -46,7 +46,9 @@ fn chart_on<A: Allocator + Copy>(
     script: &CheckScript<'_, A>,
     only: Option<Line>,
 ) -> Result<Vec<u8, A>, NoMemory>
-    ensures { IfOk result (λ text. IsChart script.now.header (map seen script.now.checks.items) only text.items) }
+    ensures { IfOk result
+        (λ text. IsChart script.now.header
+        (map line_of_check script.now.checks.items) only text.items) }
 {
     let config = config_of(&script.header);
     let commands = commands_of(alloc, &script.checks)?;
@@ -79,7 +81,8 @@ fn chart_of_input<A: Allocator + Copy, I: Input>(
 ) -> Result<Vec<u8, A>, Fault>
     requires { I.failures input.old + 1 < 2 ^ 64 }
     ensures ok { IfOk result (λ text. IfSome (I.left input.old) (λ file. IsChartOf only file text.items)) }
-    ensures err { IfErr result (NoText check_file_of (I.left input.old) (I.failures input.old) (I.failures input.new)) }
+    ensures err { IfErr result
+        (NoText check_file_of (I.left input.old) (I.failures input.old) (I.failures input.new)) }
 {
     let bytes = read_all(alloc, input)?;
     chart_of(alloc, &bytes, only)
@@ -106,11 +109,14 @@ pub fn chart<A: Allocator + Copy, I: Input, O: Output>(
     requires writes { O.failures output.old + 1 < 2 ^ 64 }
     ensures ok { OnOk result (Draws only (I.left input.old) (O.written output.old) (O.written output.new)) }
     ensures write { IsErrOf result Fault.Write → O.failures output.new ≡ O.failures output.old + 1 }
-    ensures front { OnWriteFault result (Begins only (I.left input.old) (O.written output.old) (O.written output.new)) }
+    ensures front { OnWriteFault result
+        (Begins only (I.left input.old) (O.written output.old) (O.written output.new)) }
     ensures err { IfErr result (NoChart (I.left input.old) (I.failures input.old) (I.failures input.new)) }
-    ensures kept { IfErr result (λ fault. fault ≢ Fault.Write → Keeps (O.written output.old) (O.written output.new)) }
+    ensures kept { IfErr result
+        (λ fault. fault ≢ Fault.Write → Keeps (O.written output.old) (O.written output.new)) }
     ensures faulty { IfFaulty (I.left input.old) (λ fault. Refuses fault result) }
-    ensures unwritten { IfFaulty (I.left input.old) (λ _. Keeps (O.written output.old) (O.written output.new)) }
+    ensures unwritten { IfFaulty (I.left input.old)
+        (λ _. Keeps (O.written output.old) (O.written output.new)) }
 {
     let text = chart_of_input(alloc, input, only)?;
     match output.write_all(&text) {

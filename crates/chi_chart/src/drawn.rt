@@ -2,7 +2,7 @@
 
 ghost use Rattle.std.specs.Prelude.{◌≡◌, ◌++◌, OnOk, Some};
 ghost use Rattle.chi_reply.specs.Replies.{serving_text};
-ghost use Rattle.chi_chart.specs.Drawn.{arrow_text, bar_text, caption_text, end_text, escaped, escaped_byte, lifeline_text, name_text, paper_text, serving_title_text, sheet_text, slice_text, slice_title_text, title_text, turned_text};
+ghost use Rattle.chi_chart.specs.Drawn.{arrow_text, bar_text, caption_text, end_text, escaped_text, escaped_byte, lifeline_text, name_text, paper_text, serving_title_text, sheet_text, slice_text, slice_title_text, title_text, turned_text};
 
 use crate::commands::Spelled;
 use chi_flit::{Agent, Channel, Msg, NoMemory, State};
@@ -327,7 +327,7 @@ impl fmt::Display for ArrowEnd {
 
 /// Puts bytes behind the text, with those that mean something in SVG written otherwise.
 pub(crate) fn add_escaped<A: Allocator>(text: &mut Vec<u8, A>, bytes: &[u8]) -> Result<(), NoMemory>
-    ensures { OnOk result (text.new.items ≡ text.old.items ++ escaped bytes.now) }
+    ensures { OnOk result (text.new.items ≡ text.old.items ++ escaped_text bytes.now) }
 {
     for byte in bytes {
         add_byte(text, *byte)?;

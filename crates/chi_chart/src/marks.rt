@@ -209,7 +209,9 @@ fn add_channels<A: Allocator>(
     after: &Cells,
     channels: &[Channel],
 ) -> Result<(), NoMemory>
-    ensures { OnOk result (marks.new.items ≡ marks.old.items ++ flat_map (channel_marks line agent before.now after.now) channels.now) }
+    ensures { OnOk result
+        (marks.new.items
+        ≡ marks.old.items ++ flat_map (channel_marks line agent before.now after.now) channels.now) }
 {
     for channel in channels {
         add_channel(marks, line, agent, *channel, before, after)?;
@@ -226,7 +228,8 @@ fn add_channel<A: Allocator>(
     before: &Cells,
     after: &Cells,
 ) -> Result<(), NoMemory>
-    ensures { OnOk result (marks.new.items ≡ marks.old.items ++ channel_marks line agent before.now after.now channel) }
+    ensures { OnOk result
+        (marks.new.items ≡ marks.old.items ++ channel_marks line agent before.now after.now channel) }
 {
     let cell = Cell {
         line,

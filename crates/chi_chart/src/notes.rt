@@ -137,7 +137,8 @@ fn add_words_tag<A: Allocator>(
     y: u64,
     front: &Front,
 ) -> Result<(), NoMemory>
-    ensures { OnOk result (text.new.items ≡ text.old.items ++ words_tag class.now x y (front_text front.now.0)) }
+    ensures { OnOk result
+        (text.new.items ≡ text.old.items ++ words_tag class.now x y (front_text front.now.0)) }
 {
     write!(text, "<text class='{class}' x='{x}' y='{y}'>{front}").map_err(|_| NoMemory)
 }
@@ -152,7 +153,9 @@ fn add_words<A: Allocator>(
     front: &Front,
     words: &[u8],
 ) -> Result<(), NoMemory>
-    ensures { OnOk result (text.new.items ≡ text.old.items ++ words_text class.now x y (front_text front.now.0) words.now) }
+    ensures { OnOk result
+        (text.new.items
+        ≡ text.old.items ++ words_text class.now x y (front_text front.now.0) words.now) }
 {
     add_words_tag(text, class, x, y, front)?;
     add_escaped(text, words)?;

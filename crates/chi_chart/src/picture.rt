@@ -120,7 +120,10 @@ impl<A: Allocator> Picture<A> {
         cell: &Cell,
         message: Msg,
     ) -> Result<(), NoMemory>
-        ensures text { OnOk result (self.new.text.items ≡ self.old.text.items ++ sent_text self.old.layout self.old.bottom (map row_seen later.now) y cell.now message) }
+        ensures text { OnOk result
+            (self.new.text.items
+            ≡ self.old.text.items
+            ++ sent_text self.old.layout self.old.bottom (map row_seen later.now) y cell.now message) }
         ensures layout { self.new.layout ≡ self.old.layout }
         ensures bottom { self.new.bottom ≡ self.old.bottom }
     {
@@ -153,7 +156,10 @@ impl<A: Allocator> Picture<A> {
         line: Line,
         serving: Serving,
     ) -> Result<(), NoMemory>
-        ensures text { OnOk result (self.new.text.items ≡ self.old.text.items ++ serves_text self.old.layout self.old.bottom (map row_seen later.now) y line serving) }
+        ensures text { OnOk result
+            (self.new.text.items
+            ≡ self.old.text.items
+            ++ serves_text self.old.layout self.old.bottom (map row_seen later.now) y line serving) }
         ensures layout { self.new.layout ≡ self.old.layout }
         ensures bottom { self.new.bottom ≡ self.old.bottom }
     {
@@ -174,7 +180,10 @@ impl<A: Allocator> Picture<A> {
 
     /// A mark of a row that begins at top; y is the band of a flit that is sent.
     fn add_mark(&mut self, top: u32, later: &[Row<A>], y: u32, mark: &Mark) -> Result<(), NoMemory>
-        ensures text { OnOk result (self.new.text.items ≡ self.old.text.items ++ mark_text self.old.layout self.old.bottom top (map row_seen later.now) y mark.now) }
+        ensures text { OnOk result
+            (self.new.text.items
+            ≡ self.old.text.items
+            ++ mark_text self.old.layout self.old.bottom top (map row_seen later.now) y mark.now) }
         ensures layout { self.new.layout ≡ self.old.layout }
         ensures bottom { self.new.bottom ≡ self.old.bottom }
     {
@@ -195,7 +204,10 @@ impl<A: Allocator> Picture<A> {
 
     /// The marks of a row.
     fn add_marks(&mut self, top: u32, later: &[Row<A>], marks: &[Mark]) -> Result<(), NoMemory>
-        ensures text { OnOk result (self.new.text.items ≡ self.old.text.items ++ marks_text self.old.layout self.old.bottom top (map row_seen later.now) top marks.now) }
+        ensures text { OnOk result
+            (self.new.text.items
+            ≡ self.old.text.items
+            ++ marks_text self.old.layout self.old.bottom top (map row_seen later.now) top marks.now) }
         ensures layout { self.new.layout ≡ self.old.layout }
         ensures bottom { self.new.bottom ≡ self.old.bottom }
     {
@@ -209,7 +221,10 @@ impl<A: Allocator> Picture<A> {
 
     /// A row, with the rows below it.
     fn add_row(&mut self, row: &Row<A>, later: &[Row<A>]) -> Result<(), NoMemory>
-        ensures text { OnOk result (self.new.text.items ≡ self.old.text.items ++ row_text self.old.layout self.old.bottom (row_seen row.now) (map row_seen later.now)) }
+        ensures text { OnOk result
+            (self.new.text.items
+            ≡ self.old.text.items
+            ++ row_text self.old.layout self.old.bottom (row_seen row.now) (map row_seen later.now)) }
         ensures layout { self.new.layout ≡ self.old.layout }
         ensures bottom { self.new.bottom ≡ self.old.bottom }
     {
@@ -233,7 +248,10 @@ impl<A: Allocator> Picture<A> {
 
     /// All rows.
     fn add_rows(&mut self, rows: &[Row<A>]) -> Result<(), NoMemory>
-        ensures text { OnOk result (self.new.text.items ≡ self.old.text.items ++ rows_text self.old.layout self.old.bottom (map row_seen rows.now)) }
+        ensures text { OnOk result
+            (self.new.text.items
+            ≡ self.old.text.items
+            ++ rows_text self.old.layout self.old.bottom (map row_seen rows.now)) }
         ensures layout { self.new.layout ≡ self.old.layout }
         ensures bottom { self.new.bottom ≡ self.old.bottom }
     {
@@ -246,7 +264,9 @@ impl<A: Allocator> Picture<A> {
     /// A slice of the home.
     fn add_slice(&mut self, slice: u8) -> Result<(), NoMemory>
         requires { slice < 255 }
-        ensures text { OnOk result (self.new.text.items ≡ self.old.text.items ++ slice_at self.old.layout self.old.bottom slice) }
+        ensures text { OnOk result
+            (self.new.text.items
+            ≡ self.old.text.items ++ slice_at self.old.layout self.old.bottom slice) }
         ensures layout { self.new.layout ≡ self.old.layout }
         ensures bottom { self.new.bottom ≡ self.old.bottom }
     {
@@ -261,7 +281,11 @@ impl<A: Allocator> Picture<A> {
 
     /// The slices of the home.
     fn add_slices(&mut self) -> Result<(), NoMemory>
-        ensures text { OnOk result (self.new.text.items ≡ self.old.text.items ++ flat_map (slice_at self.old.layout self.old.bottom) (range_with_len 0 self.old.layout.slices)) }
+        ensures text { OnOk result
+            (self.new.text.items
+            ≡ self.old.text.items
+            ++ flat_map (slice_at self.old.layout self.old.bottom)
+            (range_with_len 0 self.old.layout.slices)) }
         ensures layout { self.new.layout ≡ self.old.layout }
         ensures bottom { self.new.bottom ≡ self.old.bottom }
     {
@@ -273,7 +297,8 @@ impl<A: Allocator> Picture<A> {
 
     /// The lifeline of an agent, or of the home.
     fn add_lifeline(&mut self, agent: Option<Agent>, x: u64) -> Result<(), NoMemory>
-        ensures text { OnOk result (self.new.text.items ≡ self.old.text.items ++ lifeline_of self.old.bottom agent x) }
+        ensures text { OnOk result
+            (self.new.text.items ≡ self.old.text.items ++ lifeline_of self.old.bottom agent x) }
         ensures layout { self.new.layout ≡ self.old.layout }
         ensures bottom { self.new.bottom ≡ self.old.bottom }
     {
@@ -288,7 +313,10 @@ impl<A: Allocator> Picture<A> {
 
     /// The lifelines of the agents.
     fn add_lifelines(&mut self) -> Result<(), NoMemory>
-        ensures text { OnOk result (self.new.text.items ≡ self.old.text.items ++ flat_map (lifeline_at self.old.bottom) (range_with_len 0 self.old.layout.agents)) }
+        ensures text { OnOk result
+            (self.new.text.items
+            ≡ self.old.text.items
+            ++ flat_map (lifeline_at self.old.bottom) (range_with_len 0 self.old.layout.agents)) }
         ensures layout { self.new.layout ≡ self.old.layout }
         ensures bottom { self.new.bottom ≡ self.old.bottom }
     {
@@ -300,7 +328,8 @@ impl<A: Allocator> Picture<A> {
 
     /// The head of the text: its size, its ground, and its style.
     fn add_head(&mut self) -> Result<(), NoMemory>
-        ensures text { OnOk result (self.new.text.items ≡ self.old.text.items ++ head_text self.old.layout self.old.bottom) }
+        ensures text { OnOk result
+            (self.new.text.items ≡ self.old.text.items ++ head_text self.old.layout self.old.bottom) }
         ensures layout { self.new.layout ≡ self.old.layout }
         ensures bottom { self.new.bottom ≡ self.old.bottom }
     {
@@ -315,7 +344,8 @@ impl<A: Allocator> Picture<A> {
 
     /// The frame: the home's slices, its lifeline, and those of the agents.
     fn add_frame(&mut self) -> Result<(), NoMemory>
-        ensures text { OnOk result (self.new.text.items ≡ self.old.text.items ++ frame_text self.old.layout self.old.bottom) }
+        ensures text { OnOk result
+            (self.new.text.items ≡ self.old.text.items ++ frame_text self.old.layout self.old.bottom) }
         ensures layout { self.new.layout ≡ self.old.layout }
         ensures bottom { self.new.bottom ≡ self.old.bottom }
     {

@@ -132,8 +132,11 @@ fn below<A: Allocator>(row: &Row<A>) -> Result<u32, NoMemory>
 impl<A: Allocator> Rows<A> {
     /// Puts a row behind the others, where it is shown.
     fn add(&mut self, shown: bool, row: Row<A>) -> Result<(), NoMemory>
-        ensures rows { OnOk result (map row_seen self.new.rows.items ≡ map row_seen self.old.rows.items ++ shown_rows shown (row_seen row)) }
-        ensures bottom { OnOk result (row.y ≡ self.old.bottom → self.new.bottom ≡ next_y shown (row_seen row)) }
+        ensures rows { OnOk result
+            (map row_seen self.new.rows.items
+            ≡ map row_seen self.old.rows.items ++ shown_rows shown (row_seen row)) }
+        ensures bottom { OnOk result
+            (row.y ≡ self.old.bottom → self.new.bottom ≡ next_y shown (row_seen row)) }
     {
         if shown {
             self.bottom = below(&row)?;
@@ -153,7 +156,8 @@ pub(crate) fn rows_of<A: Allocator + Copy>(
     commands: &[Command],
     only: Option<Line>,
 ) -> Result<Rows<A>, NoMemory>
-    ensures { IfOk result (λ rows. IsRun config.now commands.now only (map row_seen rows.rows.items) rows.bottom) }
+    ensures { IfOk result
+        (λ rows. IsRun config.now commands.now only (map row_seen rows.rows.items) rows.bottom) }
 {
     let mut system = System::new(alloc, config)?;
     let mut rows = Rows {

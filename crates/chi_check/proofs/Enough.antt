@@ -10,7 +10,7 @@ use Rattle.chi_script.specs.Files.{lines_of}
 use Rattle.chi_text.specs.Texts.{IsText, text}
 use Rattle.chi_text.specs.Turns.{opening}
 use Rattle.chi_check_script.specs.declared.checks.Check.{Check}
-use Rattle.chi_check_script.specs.Checks.{CheckLine, seen}
+use Rattle.chi_check_script.specs.Checks.{CheckLine, line_of_check}
 use Rattle.chi_check_script.specs.Files.{check_file_of}
 use Rattle.chi_check_script.proofs.FileLemmas.{front_enough}
 use Rattle.chi_check.specs.Checks.{IsReport, IsReportOf, answers_in, commands_in}
@@ -18,7 +18,7 @@ use Rattle.chi_check.specs.Reports.{differing, report_text}
 use Rattle.chi_check.proofs.AnswerLines.{are_lines, one_each}
 use Rattle.chi_check.proofs.ReportLemmas.{same_differing, same_report}
 
-pub same_commands : (checks : List Check) → map (λ check. check.command) checks ≡ commands_in (map seen checks)
+pub same_commands : (checks : List Check) → map (λ check. check.command) checks ≡ commands_in (map line_of_check checks)
 same_commands [] = refl
 same_commands (check ∷ checks) = ap (λ (cs : List Command). check.command ∷ cs) (same_commands checks)
 
@@ -54,17 +54,17 @@ reported header checks bytes printed hold is report verdict =
     }
 
 -- the same of checks and a text that were lent
-pub lent_enough : (lent checks : List Check) (bytes text : List ℕ) → lent ≡ checks → bytes ≡ text → length (map seen checks) < length (lines_of text) → length lent < length (lines_of bytes)
-lent_enough lent checks bytes text same is enough = omega (arith, ap length same, length-map checks seen, ap (λ (l : List ℕ). length (lines_of l)) is, enough)
+pub lent_enough : (lent checks : List Check) (bytes text : List ℕ) → lent ≡ checks → bytes ≡ text → length (map line_of_check checks) < length (lines_of text) → length lent < length (lines_of bytes)
+lent_enough lent checks bytes text same is enough = omega (arith, ap length same, length-map checks line_of_check, ap (λ (l : List ℕ). length (lines_of l)) is, enough)
 
 pub lent_reported : {T E : Type 0} (hold_of : T → Bool) (bytes_of : T → List ℕ) (result : Result T E) (header : Header) (lent checks : List Check) (bytes text : List ℕ) → lent ≡ checks → bytes ≡ text
-    → IsText (node_sizes header) (commands_in (map seen checks)) text
-    → IfOk result (λ report. bytes_of report ≡ report_text (map seen lent) (lines_of bytes)) → IfOk result (λ report. IsTrue (hold_of report) ↔ (differing (map seen lent) (lines_of bytes) ≡ []))
-    → IfOk result (λ report. IsReport header (map seen checks) (hold_of report) (bytes_of report))
+    → IsText (node_sizes header) (commands_in (map line_of_check checks)) text
+    → IfOk result (λ report. bytes_of report ≡ report_text (map line_of_check lent) (lines_of bytes)) → IfOk result (λ report. IsTrue (hold_of report) ↔ (differing (map line_of_check lent) (lines_of bytes) ≡ []))
+    → IfOk result (λ report. IsReport header (map line_of_check checks) (hold_of report) (bytes_of report))
 lent_reported hold_of bytes_of (Ok report) header lent checks bytes text same is replayed printed verdict =
-    let whole : report_text (map seen lent) (lines_of bytes) ≡ report_text (map seen checks) (lines_of text) = ap (λ (cs : List Check). report_text (map seen cs) (lines_of bytes)) same ∙ ap (λ (l : List ℕ). report_text (map seen checks) (lines_of l)) is in
-    let found : differing (map seen lent) (lines_of bytes) ≡ differing (map seen checks) (lines_of text) = ap (λ (cs : List Check). differing (map seen cs) (lines_of bytes)) same ∙ ap (λ (l : List ℕ). differing (map seen checks) (lines_of l)) is in
-    reported header (map seen checks) text (bytes_of report) (hold_of report) replayed (printed ∙ whole) (λ holds. sym found ∙ verdict.0 holds, λ none. verdict.1 (found ∙ none))
+    let whole : report_text (map line_of_check lent) (lines_of bytes) ≡ report_text (map line_of_check checks) (lines_of text) = ap (λ (cs : List Check). report_text (map line_of_check cs) (lines_of bytes)) same ∙ ap (λ (l : List ℕ). report_text (map line_of_check checks) (lines_of l)) is in
+    let found : differing (map line_of_check lent) (lines_of bytes) ≡ differing (map line_of_check checks) (lines_of text) = ap (λ (cs : List Check). differing (map line_of_check cs) (lines_of bytes)) same ∙ ap (λ (l : List ℕ). differing (map line_of_check checks) (lines_of l)) is in
+    reported header (map line_of_check checks) text (bytes_of report) (hold_of report) replayed (printed ∙ whole) (λ holds. sym found ∙ verdict.0 holds, λ none. verdict.1 (found ∙ none))
 lent_reported hold_of bytes_of (Err lack) header lent checks bytes text same is replayed printed verdict = printed
 
 -- the report on what was read is that on the input's file

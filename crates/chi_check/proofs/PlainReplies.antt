@@ -39,7 +39,7 @@ use Rattle.chi_reply.specs.declared.credits.Credits.{Credits}
 use Rattle.chi_reply.specs.declared.replies.Reply.{Reply}
 use Rattle.chi_reply.specs.declared.replies.Reply.TheVariants.{Done, Value, Admitted, Retry, Completed, Paid, Idle, Refused}
 use Rattle.chi_reply.specs.declared.totals.Totals.{Totals}
-use Rattle.chi_reply.specs.Replies.{agents_text, audit_text, copy_text, counts_text, credits_text, flits_text, joined, members, messages_in, messages_text, released_text, reply_text, serving_text, shown_text, spaced, totals_text, type_count, verdict_text, yes_no}
+use Rattle.chi_reply.specs.Replies.{agents_text, audit_text, copy_text, counts_text, credits_text, flits_text, joined_texts, members, messages_in, messages_text, released_text, reply_text, serving_text, shown_text, spaced_texts, totals_text, type_count, verdict_text, yes_no}
 use Rattle.chi_script.proofs.LackLemmas.{chained, decimal_lacks, lacks}
 
 -- a text without a line end
@@ -59,7 +59,7 @@ both {front} {back} is more = word (chained 10 front back is.plain more.plain)
 behind : (front : List ℕ) {back : List ℕ} → lacks 10 front ≡ true → IsPlain back → IsPlain (front ++ back)
 behind front {back} is more = word (chained 10 front back is more.plain)
 
-spaced_plain : {A : Type 0} (text : A → List ℕ) → ((x : A) → IsPlain (text x)) → (all : List A) → IsPlain (spaced text all)
+spaced_plain : {A : Type 0} (text : A → List ℕ) → ((x : A) → IsPlain (text x)) → (all : List A) → IsPlain (spaced_texts text all)
 spaced_plain text each [] = word refl
 spaced_plain text each (x ∷ xs) = both (behind (codes " ") refl (each x)) (spaced_plain text each xs)
 
@@ -67,7 +67,7 @@ others_plain : {A : Type 0} (text : A → List ℕ) → ((x : A) → IsPlain (te
 others_plain text each [] = word refl
 others_plain text each (x ∷ xs) = both (behind (codes ",") refl (each x)) (others_plain text each xs)
 
-joined_plain : {A : Type 0} (text : A → List ℕ) → ((x : A) → IsPlain (text x)) → (all : List A) → IsPlain (joined text all)
+joined_plain : {A : Type 0} (text : A → List ℕ) → ((x : A) → IsPlain (text x)) → (all : List A) → IsPlain (joined_texts text all)
 joined_plain text each [] = word refl
 joined_plain text each (x ∷ xs) = both (each x) (others_plain text each xs)
 

@@ -2,14 +2,14 @@
 use Rattle.std.specs.Prelude.{◌≡◌, ℕ, List, [], ◌∷◌, ◌++◌, length}
 use Rattle.chi_script.specs.declared.commands.Command.{Command}
 use Rattle.chi_script.specs.Files.{lines_of}
-use Rattle.chi_text.specs.Texts.{made, text}
+use Rattle.chi_text.specs.Texts.{ending, text}
 use Rattle.chi_text.specs.Turns.{Answer, Machine, turn}
 
 -- what each command says in its turn: the lines of a replay's text
 abbrev pub answers_of : Machine → List Command → List Answer → List (List ℕ)
 answers_of m [] answers = []
 answers_of m (command ∷ rest) answers =
-    (made (turn m command) answers).said ∷ answers_of (made (turn m command) answers).state rest (made (turn m command) answers).left
+    (ending (turn m command) answers).said ∷ answers_of (ending (turn m command) answers).state rest (ending (turn m command) answers).left
 
 -- they are the lines of the text; nothing stands behind its last line end
 abbrev pub AreLines : Machine → List Command → List Answer → Type 0

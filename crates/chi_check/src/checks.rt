@@ -4,7 +4,7 @@ ghost use Rattle.std.specs.Prelude.{◌≡◌, ◌≢◌, ◌+◌, ◌^◌, ◌<
 ghost use Rattle.std.specs.Io.KnownBytes.{Keeps};
 ghost use Rattle.chi_script.specs.Faults.{Fails};
 ghost use Rattle.chi_replay.specs.Replays.{AtWrite, KeepsAtFault, NoText, NoTextAt, RefusesFault};
-ghost use Rattle.chi_check_script.specs.Checks.{seen};
+ghost use Rattle.chi_check_script.specs.Checks.{line_of_check};
 ghost use Rattle.chi_check_script.specs.Files.{check_file_of};
 ghost use Rattle.chi_check.specs.Checks.{IsReport, IsReportOf, WritesFront, WritesReport, commands_in};
 
@@ -19,7 +19,7 @@ use std::alloc::{AllocError, Allocator};
 
 /// The commands of the checks, in order.
 fn commands_of<A: Allocator>(alloc: A, checks: &[Check]) -> Result<Vec<Command, A>, AllocError>
-    ensures { IfOk result (λ commands. commands.items ≡ commands_in (map seen checks.now)) }
+    ensures { IfOk result (λ commands. commands.items ≡ commands_in (map line_of_check checks.now)) }
 {
     checks.iter().map(|check| check.command).collect(alloc)
 }
@@ -29,7 +29,9 @@ fn report_on<A: Allocator + Copy>(
     alloc: A,
     script: &CheckScript<'_, A>,
 ) -> Result<Report<A>, NoMemory>
-    ensures { IfOk result (λ report. IsReport script.now.header (map seen script.now.checks.items) report.hold report.text.items) }
+    ensures { IfOk result
+        (λ report. IsReport script.now.header
+        (map line_of_check script.now.checks.items) report.hold report.text.items) }
 {
     let config = config_of(&script.header);
     let commands = commands_of(alloc, &script.checks)?;
@@ -55,8 +57,10 @@ fn report_of_input<A: Allocator + Copy, I: Input>(
     input: &mut I,
 ) -> Result<Report<A>, Fault>
     requires { I.failures input.old + 1 < 2 ^ 64 }
-    ensures ok { IfOk result (λ report. IfSome (I.left input.old) (λ file. IsReportOf file report.hold report.text.items)) }
-    ensures err { IfErr result (NoText check_file_of (I.left input.old) (I.failures input.old) (I.failures input.new)) }
+    ensures ok { IfOk result
+        (λ report. IfSome (I.left input.old) (λ file. IsReportOf file report.hold report.text.items)) }
+    ensures err { IfErr result
+        (NoText check_file_of (I.left input.old) (I.failures input.old) (I.failures input.new)) }
 {
     let bytes = read_all(alloc, input)?;
     report_of(alloc, &bytes)
@@ -82,11 +86,15 @@ pub fn check<A: Allocator + Copy, I: Input, O: Output>(
     requires writes { O.failures output.old + 1 < 2 ^ 64 }
     ensures ok { IfOk result (WritesReport (I.left input.old) (O.written output.old) (O.written output.new)) }
     ensures write { AtWrite result (O.failures output.new ≡ O.failures output.old + 1) }
-    ensures front { AtWrite result (WritesFront (I.left input.old) (O.written output.old) (O.written output.new)) }
-    ensures err { NoTextAt result check_file_of (I.left input.old) (I.failures input.old) (I.failures input.new) }
-    ensures kept { IfErr result (λ fault. fault ≢ Fault.Write → Keeps (O.written output.old) (O.written output.new)) }
+    ensures front { AtWrite result
+        (WritesFront (I.left input.old) (O.written output.old) (O.written output.new)) }
+    ensures err { NoTextAt result check_file_of (I.left input.old) (I.failures input.old)
+        (I.failures input.new) }
+    ensures kept { IfErr result
+        (λ fault. fault ≢ Fault.Write → Keeps (O.written output.old) (O.written output.new)) }
     ensures faulty { RefusesFault check_file_of (I.left input.old) result }
-    ensures silent { KeepsAtFault check_file_of (I.left input.old) (O.written output.old) (O.written output.new) }
+    ensures silent { KeepsAtFault check_file_of (I.left input.old) (O.written output.old)
+        (O.written output.new) }
 {
     let report = report_of_input(alloc, input)?;
     match output.write_all(&report.text) {

@@ -2,7 +2,7 @@
 
 ghost use Rattle.std.specs.Prelude.{◌≡◌, ◌↔◌, ◌<◌, ◌+◌, ◌^◌, [], ◌∷◌, ◌++◌, IfOk, IsTrue, OnOk, length, map};
 ghost use Rattle.chi_script.specs.Files.{lines_of};
-ghost use Rattle.chi_check_script.specs.Checks.{seen};
+ghost use Rattle.chi_check_script.specs.Checks.{line_of_check};
 ghost use Rattle.chi_check.specs.Reports.{difference_line, differing, differing_text, report_text, verdict_line, wanted_in};
 
 use chi_check_script::Check;
@@ -29,8 +29,11 @@ pub(crate) fn compare<A: Allocator>(
     text: &[u8],
 ) -> Result<Report<A>, NoMemory>
     requires { length checks.now < length (lines_of text.now) }
-    ensures text { IfOk result (λ report. report.text.items ≡ report_text (map seen checks.now) (lines_of text.now)) }
-    ensures hold { IfOk result (λ report. IsTrue report.hold ↔ (differing (map seen checks.now) (lines_of text.now) ≡ [])) }
+    ensures text { IfOk result
+        (λ report. report.text.items ≡ report_text (map line_of_check checks.now) (lines_of text.now)) }
+    ensures hold { IfOk result
+        (λ report. IsTrue report.hold
+        ↔ (differing (map line_of_check checks.now) (lines_of text.now) ≡ [])) }
 {
     let mut found = Comparison::new(alloc);
     let mut rest = text;
@@ -80,9 +83,15 @@ impl<A: Allocator> Comparison<A> {
     fn add(&mut self, check: &Check, answer: &[u8]) -> Result<(), NoMemory>
         requires wanted { self.old.wanted + 1 < 2 ^ 64 }
         requires differing { self.old.differing + 1 < 2 ^ 64 }
-        ensures text { OnOk result (self.new.text.items ≡ self.old.text.items ++ differing_text (seen check.now ∷ []) (answer.now ∷ [])) }
-        ensures wanted { OnOk result (self.new.wanted ≡ self.old.wanted + length (wanted_in (seen check.now ∷ []))) }
-        ensures differing { OnOk result (self.new.differing ≡ self.old.differing + length (differing (seen check.now ∷ []) (answer.now ∷ []))) }
+        ensures text { OnOk result
+            (self.new.text.items
+            ≡ self.old.text.items ++ differing_text (line_of_check check.now ∷ []) (answer.now ∷ [])) }
+        ensures wanted { OnOk result
+            (self.new.wanted ≡ self.old.wanted + length (wanted_in (line_of_check check.now ∷ []))) }
+        ensures differing { OnOk result
+            (self.new.differing
+            ≡ self.old.differing
+            + length (differing (line_of_check check.now ∷ []) (answer.now ∷ []))) }
     {
         let Some(wanted) = check.wanted else {
             return Ok(());
@@ -97,7 +106,8 @@ impl<A: Allocator> Comparison<A> {
 
     /// What came of all checks.
     fn report(self) -> Result<Report<A>, NoMemory>
-        ensures text { IfOk result (λ report. report.text.items ≡ self.text.items ++ verdict_line self.wanted self.differing) }
+        ensures text { IfOk result
+            (λ report. report.text.items ≡ self.text.items ++ verdict_line self.wanted self.differing) }
         ensures hold { IfOk result (λ report. IsTrue report.hold ↔ (self.differing ≡ 0)) }
     {
         let Comparison {

@@ -38,5 +38,5 @@ abbrev pub check_of : ℕ → List ℕ → Option CheckLine
 check_of n line = command_of (words_of (parts_of line).0) >>= λ command. Some (record { line = n; command = command; wanted = (parts_of line).1 })
 
 -- the same of a check that was read
-abbrev pub seen : Check → CheckLine
-seen check = record { line = check.line; command = check.command; wanted = option_map (λ text. text.now) check.wanted }
+abbrev pub line_of_check : Check → CheckLine
+line_of_check check = record { line = check.line; command = check.command; wanted = option_map (λ text. text.now) check.wanted }

@@ -3,7 +3,7 @@
 ghost use Rattle.std.specs.Prelude.{◌≡◌};
 ghost use Rattle.std.specs.Option.{option_map};
 ghost use Rattle.chi_script.specs.Faults.{Gives};
-ghost use Rattle.chi_check_script.specs.Checks.{is_comment, parts_of, seen};
+ghost use Rattle.chi_check_script.specs.Checks.{is_comment, parts_of, line_of_check};
 ghost use Rattle.chi_check_script.specs.Files.{check_at};
 
 use chi_script::{Command, Fault, read_command};
@@ -50,7 +50,7 @@ fn parts(line: &[u8]) -> (&[u8], Option<&[u8]>)
 /// fault. `BadCommand` where what stands before its first arrow is no command.
 /// Source: `docs/PROTOCOL.md`, "Check files".
 pub(crate) fn check_in(line: &[u8], number: usize) -> Result<Check<'_>, Fault>
-    ensures { Gives seen result (check_at number line.now) }
+    ensures { Gives line_of_check result (check_at number line.now) }
 {
     let (front, wanted) = parts(line);
     let command = read_command(front).ok_or(Fault::BadCommand(number))?;

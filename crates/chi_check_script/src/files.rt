@@ -4,7 +4,7 @@ ghost use Rattle.std.specs.Prelude.{◌≡◌, ◌≤◌, ◌+◌, length, map, 
 ghost use Rattle.chi_script.specs.Faults.{Gives};
 ghost use Rattle.chi_script.specs.Files.{lines_of};
 ghost use Rattle.chi_script.specs.Headers.{is_in_limits};
-ghost use Rattle.chi_check_script.specs.Checks.{seen};
+ghost use Rattle.chi_check_script.specs.Checks.{line_of_check};
 ghost use Rattle.chi_check_script.specs.Files.{check_file_of, checks_of, script_of, with_line};
 
 use crate::checks::{Check, check_in, is_comment};
@@ -33,7 +33,8 @@ pub fn read_checks<'a, A: Allocator + Copy>(
     alloc: A,
     bytes: &'a [u8],
 ) -> Result<CheckScript<'a, A>, Fault>
-    ensures { Gives (λ script. (script.header, map seen script.checks.items)) result (check_file_of bytes.now) }
+    ensures { Gives (λ script. (script.header, map line_of_check script.checks.items)) result
+        (check_file_of bytes.now) }
 {
     if bytes.len() > MOST_BYTES {
         return Err(Fault::TooLarge);
@@ -47,7 +48,8 @@ fn read_lines<'a, A: Allocator + Copy>(
     bytes: &'a [u8],
 ) -> Result<CheckScript<'a, A>, Fault>
     requires { length bytes.now ≤ 1048576 }
-    ensures { Gives (λ script. (script.header, map seen script.checks.items)) result (script_of 1 (lines_of bytes.now)) }
+    ensures { Gives (λ script. (script.header, map line_of_check script.checks.items)) result
+        (script_of 1 (lines_of bytes.now)) }
 {
     let mut rest = bytes;
     let mut number = 1;
@@ -74,7 +76,7 @@ fn checks_from<'a, A: Allocator + Copy>(
     first: usize,
 ) -> Result<Vec<Check<'a>, A>, Fault>
     requires { first + length bytes.now ≤ 1048577 }
-    ensures { Gives (λ checks. map seen checks.items) result (checks_of first (lines_of bytes.now)) }
+    ensures { Gives (λ checks. map line_of_check checks.items) result (checks_of first (lines_of bytes.now)) }
 {
     let mut checks = Vec::new(alloc);
     let mut rest = bytes;
@@ -98,7 +100,8 @@ fn add_check<'a, A: Allocator>(
     line: &'a [u8],
     number: usize,
 ) -> Result<(), Fault>
-    ensures { Gives (λ _. map seen checks.new.items) result (with_line (map seen checks.old.items) number line.now) }
+    ensures { Gives (λ _. map line_of_check checks.new.items) result
+        (with_line (map line_of_check checks.old.items) number line.now) }
 {
     if is_comment(line) {
         return Ok(());

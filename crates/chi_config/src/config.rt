@@ -61,7 +61,10 @@ fn is_slice_count(n: u8) -> bool
 
 /// Whether all but the entries is in the limits.
 fn are_sizes(agents: u8, lines: u8, slices: u8, journal: u32) -> bool
-    ensures { result ≡ (is_between 1 8 agents && (is_between 1 64 lines && (is_slice_count slices && (nat_le slices lines && is_between 1 65536 journal)))) }
+    ensures { result
+        ≡ (is_between 1 8 agents &&
+        (is_between 1 64 lines &&
+        (is_slice_count slices && (nat_le slices lines && is_between 1 65536 journal)))) }
 {
     is_between(1, 8, u32::from(agents))
         && is_between(1, 64, u32::from(lines))

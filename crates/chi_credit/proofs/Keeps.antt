@@ -3,7 +3,7 @@ use Rattle.std.proofs.Common.{◌≡◌, ℕ, ◌+◌, ◌<◌, List, slice_inde
 use Rattle.std.specs.Int.{bit_at}
 use mathlib.Core.Logic.{dite}
 use native.Mathlib.Decide.{ℕ_discrete}
-use Rattle.chi_tracker.specs.Sums.{raised, with_bit}
+use Rattle.chi_tracker.specs.Sums.{one_more, with_bit}
 use Rattle.chi_tracker.specs.Views.{PortView, has}
 use Rattle.chi_tracker.specs.Steps.{spends, returns_credit}
 use Rattle.chi_tracker.specs.Calls.{seen_of, HasSameCredits, HasOneLess}
@@ -13,8 +13,8 @@ use Rattle.chi_credit.specs.declared.slot.SlotRecord.{SlotRecord}
 use Rattle.chi_credit.specs.Account.{riding_of, due_of, holders_of, FallsAt, GrowsAt, IsSame, IsWithinSeen, HasDue, HasEntries}
 
 -- one number of a row more
-raised_at : (ns : List ℕ) (t u : ℕ) → u ≡ t → slice_index (raised ns t) u ≡ slice_index ns u + 1
-raised_at ns t u e = subst (λ (k : ℕ). slice_index (raised ns t) k ≡ slice_index ns k + 1) (sym e) (raised_here ns t)
+raised_at : (ns : List ℕ) (t u : ℕ) → u ≡ t → slice_index (one_more ns t) u ≡ slice_index ns u + 1
+raised_at ns t u e = subst (λ (k : ℕ). slice_index (one_more ns t) k ≡ slice_index ns k + 1) (sym e) (raised_here ns t)
 
 falls_at : (f g : ℕ → ℕ) (t u : ℕ) → FallsAt t f g → u ≡ t → g u + 1 ≡ f u
 falls_at f g t u falls e = subst (λ (k : ℕ). g k + 1 ≡ f k) (sym e) falls.less
@@ -41,7 +41,7 @@ spent_within a b p q t falls less keeps = record {
 pub spent_due : (a b : List SlotRecord) (p q : PortView) (t e : ℕ) → FallsAt t (due_of a) (due_of b) → q ≡ spends t e p → HasDue a p → HasDue b q
 spent_due a b p q t e falls is keeps = record {
   due = λ u l.
-      let s : slice_index q.spent u ≡ slice_index (raised p.spent t) u = ap (λ z. slice_index z.spent u) is in
+      let s : slice_index q.spent u ≡ slice_index (one_more p.spent t) u = ap (λ z. slice_index z.spent u) is in
       let r : slice_index q.returned u ≡ slice_index p.returned u = ap (λ z. slice_index z.returned u) is in
       let m : slice_index q.retries u ≡ slice_index p.retries u = ap (λ z. slice_index z.retries u) is in
       dite (ℕ_discrete u t)
@@ -72,7 +72,7 @@ returned_due a b p q t e falls same keeps = record {
   due = λ u l.
       let m : slice_index q.retries u ≡ slice_index p.retries u = ap (λ ns. slice_index ns u) same.3 in
       let s : slice_index q.spent u ≡ slice_index p.spent u = ap (λ ns. slice_index ns u) same.4 in
-      let r : slice_index q.returned u ≡ slice_index (raised p.returned t) u = ap (λ ns. slice_index ns u) same.5 in
+      let r : slice_index q.returned u ≡ slice_index (one_more p.returned t) u = ap (λ ns. slice_index ns u) same.5 in
       dite (ℕ_discrete u t)
       (λ i. omega (arith, falls_at (due_of a) (due_of b) t u falls i, raised_at p.returned t u i, keeps.due u l))
       (λ d. omega (arith, falls.others u d, raised_else p.returned t u d, keeps.due u l));

@@ -31,8 +31,8 @@ abbrev pub type_at : List SlotRecord → ℕ → ℕ
 type_at slots s = credit_number (slot_at slots s).credit
 
 -- the state of slot s becomes another one
-abbrev pub moved : List SlotRecord → ℕ → SlotState → List SlotRecord
-moved slots s state = slice_set slots s (in_state state (slot_at slots s))
+abbrev pub slots_with_state : List SlotRecord → ℕ → SlotState → List SlotRecord
+slots_with_state slots s state = slice_set slots s (in_state state (slot_at slots s))
 
 -- how many slots of type t are Riding
 abbrev pub riding_of : List SlotRecord → ℕ → ℕ

@@ -102,8 +102,8 @@ abbrev pub idle_slot : SlotRecord
 idle_slot = record { state = Idle; line = record { 0 = 0 }; credit = T0; answered = false }
 
 -- open: the first attempt of a request was sent
-abbrev pub opened : Line → CreditType → SlotRecord
-opened line ty = record { state = Sent; line = line; credit = ty; answered = false }
+abbrev pub opened_slot : Line → CreditType → SlotRecord
+opened_slot line ty = record { state = Sent; line = line; credit = ty; answered = false }
 
 -- the state becomes another one, and all else stays
 abbrev pub in_state : SlotState → SlotRecord → SlotRecord

@@ -6,8 +6,8 @@ ghost use Rattle.chi_tracker.specs.Shape.{low};
 ghost use Rattle.chi_tracker.specs.Views.{has};
 ghost use Rattle.chi_tracker.specs.Steps.{spends};
 ghost use Rattle.chi_tracker.specs.Calls.{seen_of, IsLowestSeen, HasReturned, HasOneLess};
-ghost use Rattle.chi_credit.specs.Slot.{after_answer, after_finish, can_be_answered, idle_slot, is_admitted, is_cancelled_of, opened};
-ghost use Rattle.chi_credit.specs.Account.{all_idle, due_of, holders_of, lowest_cancelled, moved, riding_of, slot_at, state_at, type_at, FallsAt, GrowsAt, HasDue, HasEntries, IsLowestIdle, IsSame, IsWithinSeen, StaysWithinSeen};
+ghost use Rattle.chi_credit.specs.Slot.{after_answer, after_finish, can_be_answered, idle_slot, is_admitted, is_cancelled_of, opened_slot};
+ghost use Rattle.chi_credit.specs.Account.{all_idle, due_of, holders_of, lowest_cancelled, slots_with_state, riding_of, slot_at, state_at, type_at, FallsAt, GrowsAt, HasDue, HasEntries, IsLowestIdle, IsSame, IsWithinSeen, StaysWithinSeen};
 
 use crate::slot::{IDLE_SLOT, SlotRecord, SlotState, is_cancelled, is_idle, is_riding};
 use chi_flit::{CreditType, Entry, Line, Slot};
@@ -116,7 +116,7 @@ impl Account {
     pub fn open(&mut self, slot: Slot, line: Line, ty: CreditType)
         requires slot { slot.0 < 8 }
         requires idle { state_at self.old slot.0 ≡ SlotState.Idle }
-        ensures account { self.new ≡ slice_set self.old slot.0 (opened line ty) }
+        ensures account { self.new ≡ slice_set self.old slot.0 (opened_slot line ty) }
         ensures riding { IsSame (riding_of self.old) (riding_of self.new) }
         ensures due { IsSame (due_of self.old) (due_of self.new) }
         ensures entries { IsSame (holders_of self.old) (holders_of self.new) }
@@ -137,7 +137,7 @@ impl Account {
     pub fn admitted(&mut self, slot: Slot, entry: Entry)
         requires slot { slot.0 < 8 }
         requires sent { state_at self.old slot.0 ≡ SlotState.Sent }
-        ensures account { self.new ≡ moved self.old slot.0 (SlotState.Admitted entry) }
+        ensures account { self.new ≡ slots_with_state self.old slot.0 (SlotState.Admitted entry) }
         ensures unanswered { (slot_at self.old slot.0).answered ≡ false }
         ensures riding { IsSame (riding_of self.old) (riding_of self.new) }
         ensures due { IsSame (due_of self.old) (due_of self.new) }
@@ -154,7 +154,7 @@ impl Account {
     pub fn refused(&mut self, slot: Slot)
         requires slot { slot.0 < 8 }
         requires sent { state_at self.old slot.0 ≡ SlotState.Sent }
-        ensures account { self.new ≡ moved self.old slot.0 SlotState.Refused }
+        ensures account { self.new ≡ slots_with_state self.old slot.0 SlotState.Refused }
         ensures few { due_of self.old (type_at self.old slot.0) < 8 }
         ensures riding { IsSame (riding_of self.old) (riding_of self.new) }
         ensures due { GrowsAt (type_at self.old slot.0) (due_of self.old) (due_of self.new) }
@@ -171,7 +171,7 @@ impl Account {
     pub fn retry_seen(&mut self, slot: Slot)
         requires slot { slot.0 < 8 }
         requires refused { state_at self.old slot.0 ≡ SlotState.Refused }
-        ensures account { self.new ≡ moved self.old slot.0 SlotState.Retried }
+        ensures account { self.new ≡ slots_with_state self.old slot.0 SlotState.Retried }
         ensures riding { IsSame (riding_of self.old) (riding_of self.new) }
         ensures due { IsSame (due_of self.old) (due_of self.new) }
         ensures entries { IsSame (holders_of self.old) (holders_of self.new) }
@@ -189,7 +189,7 @@ impl Account {
     pub fn resend(&mut self, slot: Slot)
         requires slot { slot.0 < 8 }
         requires retried { state_at self.old slot.0 ≡ SlotState.Retried }
-        ensures account { self.new ≡ moved self.old slot.0 SlotState.Riding }
+        ensures account { self.new ≡ slots_with_state self.old slot.0 SlotState.Riding }
         ensures riding { GrowsAt (type_at self.old slot.0) (riding_of self.old) (riding_of self.new) }
         ensures due { IsSame (due_of self.old) (due_of self.new) }
         ensures entries { IsSame (holders_of self.old) (holders_of self.new) }
@@ -202,7 +202,7 @@ impl Account {
     fn ride(&mut self, slot: Slot)
         requires slot { slot.0 < 8 }
         requires retried { state_at self.old slot.0 ≡ SlotState.Retried }
-        ensures account { self.new ≡ moved self.old slot.0 SlotState.Riding }
+        ensures account { self.new ≡ slots_with_state self.old slot.0 SlotState.Riding }
         ensures riding { GrowsAt (type_at self.old slot.0) (riding_of self.old) (riding_of self.new) }
         ensures due { IsSame (due_of self.old) (due_of self.new) }
         ensures entries { IsSame (holders_of self.old) (holders_of self.new) }
@@ -218,7 +218,7 @@ impl Account {
     pub fn cancel(&mut self, slot: Slot)
         requires slot { slot.0 < 8 }
         requires retried { state_at self.old slot.0 ≡ SlotState.Retried }
-        ensures account { self.new ≡ moved self.old slot.0 SlotState.Cancelled }
+        ensures account { self.new ≡ slots_with_state self.old slot.0 SlotState.Cancelled }
         ensures riding { IsSame (riding_of self.old) (riding_of self.new) }
         ensures due { IsSame (due_of self.old) (due_of self.new) }
         ensures entries { IsSame (holders_of self.old) (holders_of self.new) }
@@ -291,7 +291,7 @@ impl Account {
         requires riding { state_at self.old slot.0 ≡ SlotState.Riding }
         requires table { port.old.table ≡ tracker.now.table }
         requires credit { let t = type_at self.old slot.0 in riding_of self.old t ≤ seen_of port.old.port t }
-        ensures account { self.new ≡ moved self.old slot.0 (SlotState.Admitted result) }
+        ensures account { self.new ≡ slots_with_state self.old slot.0 (SlotState.Admitted result) }
         ensures unanswered { (slot_at self.old slot.0).answered ≡ false }
 
         // what the port did
@@ -320,7 +320,7 @@ impl Account {
     fn arrived(&mut self, slot: Slot, entry: Entry)
         requires slot { slot.0 < 8 }
         requires riding { state_at self.old slot.0 ≡ SlotState.Riding }
-        ensures account { self.new ≡ moved self.old slot.0 (SlotState.Admitted entry) }
+        ensures account { self.new ≡ slots_with_state self.old slot.0 (SlotState.Admitted entry) }
         ensures unanswered { (slot_at self.old slot.0).answered ≡ false }
         ensures riding { FallsAt (type_at self.old slot.0) (riding_of self.old) (riding_of self.new) }
         ensures due { FallsAt (type_at self.old slot.0) (due_of self.old) (due_of self.new) }
@@ -346,8 +346,10 @@ impl Account {
         requires cancelled { lowest_cancelled self.old (credit_number ty) < 8 }
         requires table { port.old.table ≡ tracker.now.table }
         requires credit { riding_of self.old (credit_number ty) < seen_of port.old.port (credit_number ty) }
-        ensures account { self.new ≡ slice_set self.old (lowest_cancelled self.old (credit_number ty)) idle_slot }
-        ensures cancelled { state_at self.old (lowest_cancelled self.old (credit_number ty)) ≡ SlotState.Cancelled }
+        ensures account { self.new
+            ≡ slice_set self.old (lowest_cancelled self.old (credit_number ty)) idle_slot }
+        ensures cancelled { state_at self.old (lowest_cancelled self.old (credit_number ty))
+            ≡ SlotState.Cancelled }
 
         // what the port did
         ensures table { port.new.table ≡ port.old.table }
@@ -371,8 +373,10 @@ impl Account {
     #[tactic(auto, using(crate::proofs::Counts::found_cancelled, crate::proofs::Counts::found_riding, crate::proofs::Counts::found_due, crate::proofs::Counts::found_entries))]
     fn end_cancelled(&mut self, ty: CreditType)
         requires { lowest_cancelled self.old (credit_number ty) < 8 }
-        ensures account { self.new ≡ slice_set self.old (lowest_cancelled self.old (credit_number ty)) idle_slot }
-        ensures cancelled { state_at self.old (lowest_cancelled self.old (credit_number ty)) ≡ SlotState.Cancelled }
+        ensures account { self.new
+            ≡ slice_set self.old (lowest_cancelled self.old (credit_number ty)) idle_slot }
+        ensures cancelled { state_at self.old (lowest_cancelled self.old (credit_number ty))
+            ≡ SlotState.Cancelled }
         ensures riding { IsSame (riding_of self.old) (riding_of self.new) }
         ensures due { FallsAt (credit_number ty) (due_of self.old) (due_of self.new) }
         ensures entries { IsSame (holders_of self.old) (holders_of self.new) }

@@ -30,13 +30,13 @@ impl<F: Read> FileInput<F> {
     {
         match fs::open(rt, path) {
             Ok(file) => Ok(FileInput { file, failures: 0 }),
-            Err(error) => Err(unopened(error.kind())),
+            Err(error) => Err(open_fault(error.kind())),
         }
     }
 }
 
 /// The fault where a file can't be opened for this cause.
-fn unopened(kind: ErrorKind) -> Fault
+fn open_fault(kind: ErrorKind) -> Fault
     ensures fault { result ≡ unopened_fault kind }
     ensures one { IsUnopened result }
 {
@@ -210,8 +210,8 @@ mod tests {
 
     #[test]
     fn only_want_of_memory_is_told_so(rt: HostRuntime) {
-        assert_eq!(rt; unopened(ErrorKind::OutOfMemory), Fault::NoMemory);
-        assert_eq!(rt; unopened(ErrorKind::NotFound), Fault::Read);
-        assert_eq!(rt; unopened(ErrorKind::Other), Fault::Read);
+        assert_eq!(rt; open_fault(ErrorKind::OutOfMemory), Fault::NoMemory);
+        assert_eq!(rt; open_fault(ErrorKind::NotFound), Fault::Read);
+        assert_eq!(rt; open_fault(ErrorKind::Other), Fault::Read);
     }
 }

@@ -51,20 +51,20 @@ abbrev pub empty_filter : FilterState
 empty_filter = record { named = nobody; unique = false; owner = None }
 
 -- the agent named too: the flag stays only for an agent that was named already
-abbrev pub added : FilterState → ℕ → FilterState
-added f n = record { named = slice_set f.named n true; unique = f.unique && is_named f n; owner = f.owner }
+abbrev pub filter_with : FilterState → ℕ → FilterState
+filter_with f n = record { named = slice_set f.named n true; unique = f.unique && is_named f n; owner = f.owner }
 
 -- the agent named no more, and no owner: the flag ends with its only member
-abbrev pub removed : FilterState → ℕ → FilterState
-removed f n = record { named = others_than n f.named; unique = f.unique && has_any (others_than n f.named); owner = owner_without f.owner n }
+abbrev pub filter_without : FilterState → ℕ → FilterState
+filter_without f n = record { named = others_than n f.named; unique = f.unique && has_any (others_than n f.named); owner = owner_without f.owner n }
 
 -- the agent alone, with the flag and without an owner
 abbrev pub only_named : ℕ → FilterState
 only_named n = record { named = only_set n; unique = true; owner = None }
 
 -- the flag cleared
-abbrev pub shared : FilterState → FilterState
-shared f = record f { unique = false }
+abbrev pub filter_without_flag : FilterState → FilterState
+filter_without_flag f = record f { unique = false }
 
 -- the agent the owner, in place of any other, where it is named
 abbrev pub owner_made : FilterState → Agent → FilterState

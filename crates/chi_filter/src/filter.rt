@@ -1,7 +1,7 @@
 //! The agents that may hold one line.
 
 ghost use Rattle.std.specs.Prelude.{◌≡◌, ◌<◌, true};
-ghost use Rattle.chi_filter.specs.Filter.{FilterState, IsFilter, added, empty_filter, has_any, is_named, only_named, others_than, owner_ended, owner_made, owner_set, owner_without, removed, shared};
+ghost use Rattle.chi_filter.specs.Filter.{FilterState, IsFilter, filter_with, empty_filter, has_any, is_named, only_named, others_than, owner_ended, owner_made, owner_set, owner_without, filter_without, filter_without_flag};
 
 use crate::sets::{only_set, others_than};
 use chi_flit::Agent;
@@ -77,7 +77,7 @@ impl Filter {
     /// Source: `docs/PROTOCOL.md`, "The filter".
     pub fn add(&mut self, agent: Agent)
         requires { agent.0 < 8 }
-        ensures { self.new ≡ added self.old agent.0 }
+        ensures { self.new ≡ filter_with self.old agent.0 }
     {
         self.unique = self.unique && self.named[usize::from(agent.0)];
         self.named[usize::from(agent.0)] = true;
@@ -90,7 +90,7 @@ impl Filter {
     /// Source: `docs/PROTOCOL.md`, "The filter".
     pub fn remove(&mut self, agent: Agent)
         requires { agent.0 < 8 }
-        ensures { self.new ≡ removed self.old agent.0 }
+        ensures { self.new ≡ filter_without self.old agent.0 }
     {
         self.named = others_than(self.named, agent);
         self.unique = self.unique && has_any(&self.named);
@@ -113,7 +113,7 @@ impl Filter {
     /// Clears the flag; who is named and who is the owner stay.
     /// Source: `docs/PROTOCOL.md`, "Answers of snooped agents".
     pub fn share(&mut self)
-        ensures { self.new ≡ shared self.old }
+        ensures { self.new ≡ filter_without_flag self.old }
     {
         self.unique = false;
     }

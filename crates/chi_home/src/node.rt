@@ -52,7 +52,8 @@ impl<A: Allocator + Copy> Node<A> {
     /// Source: `docs/PROTOCOL.md`, "A requester and its calls".
     pub fn new(alloc: A, config: &Config) -> Result<(Node<A>, ArrayVec<Requester, 8>), NoMemory>
         ensures config { IfOk result (λ made. made.0.config ≡ config.now) }
-        ensures tracker { IfOk result (λ made. made.0.tracker.shape ≡ shape_of config.now.entries config.now.agents) }
+        ensures tracker { IfOk result
+            (λ made. made.0.tracker.shape ≡ shape_of config.now.entries config.now.agents) }
         ensures requesters { IfOk result (λ made. made.1.items
             ≡ opening_requesters made.0.tracker.table made.0.tracker.shape config.now.agents) }
         ensures own { IfOk result (λ made. AreOwn made.0 made.1.items) }
@@ -120,7 +121,8 @@ impl<A: Allocator> Node<A> {
     ) -> Result<Arrived, Refusal>
         requires own { IsOwn self.now requester.old }
         ensures outside { nat_lt line.0 self.now.config.lines ≡ false → refusal_of result ≡ Some OutOfRange }
-        ensures ok { IfOk result (λ arrived. ArrivesLocked self.now.config line requester.old requester.new arrived) }
+        ensures ok { IfOk result
+            (λ arrived. ArrivesLocked self.now.config line requester.old requester.new arrived) }
         ensures err { OnErr result (requester.new ≡ requester.old) }
         ensures same { IsSameRequester requester.old requester.new }
     {
@@ -145,7 +147,8 @@ impl<A: Allocator> Node<A> {
         requires own { IsOwn self.now requester.old }
         requires agent { action.agent.0 ≡ requester.old.number }
         requires step { is_own_step action.step ≡ true }
-        ensures outside { nat_lt action.line.0 self.now.config.lines ≡ false → refusal_of result ≡ Some OutOfRange }
+        ensures outside { nat_lt action.line.0 self.now.config.lines ≡ false
+            → refusal_of result ≡ Some OutOfRange }
         ensures ok { IfOk result (λ stepped. StepsLocked action requester.old requester.new stepped) }
         ensures err { OnErr result (requester.new ≡ requester.old) }
         ensures same { IsSameRequester requester.old requester.new }

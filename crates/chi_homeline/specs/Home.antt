@@ -7,8 +7,6 @@ use Rattle.chi_flit.specs.declared.numbers.Agent.{Agent}
 use Rattle.chi_flit.specs.declared.numbers.Slot.{Slot}
 use Rattle.chi_flit.specs.declared.state.State.{State}
 use Rattle.chi_flit.specs.declared.kind.Kind.{Kind}
-use Rattle.chi_flit.specs.declared.kind.Kind.TheVariants.{ReadNotSharedDirty, ReadShared, ReadUnique, CleanUnique, Evict, WriteBackFull}
-use Rattle.chi_flit.specs.declared.kind.Kind.TheVariants.{WriteCleanFull, WriteEvictFull}
 use Rattle.chi_flit.specs.declared.snoop.Snoop.{Snoop}
 use Rattle.chi_flit.specs.declared.snoop.Snoop.TheVariants.{SnpNotSharedDirty, SnpShared, SnpUnique, SnpCleanInvalid}
 use Rattle.chi_flit.specs.declared.message.RspDown.TheVariants.{CompUC, CompDBIDResp}
@@ -19,9 +17,11 @@ use Rattle.chi_flit.specs.declared.refusal.Refusal.TheVariants.{LineBusy, NotWai
 use Rattle.chi_flit.specs.Kind.{gives_up, snoop_of, is_copy_back}
 use Rattle.chi_flit.specs.Message.{no_words}
 use Rattle.chi_flit.specs.State.{is_dirty, is_valid}
-use Rattle.chi_filter.specs.Filter.{FilterState, added, empty_filter, has_any, nobody, only_named, others_than, owner_set, owner_without, removed, shared}
+use Rattle.chi_filter.specs.Filter.{FilterState, filter_with, empty_filter, has_any, nobody, only_named, others_than, owner_set, owner_without, filter_without, filter_without_flag}
 use Rattle.chi_homeline.specs.declared.serving.Begun.{Begun}
 use Rattle.chi_homeline.specs.declared.serving.Begun.TheVariants as begins
+use Rattle.chi_homeline.specs.declared.serving.CompletionForm.{CompletionForm}
+use Rattle.chi_homeline.specs.declared.serving.CompletionForm.TheVariants as forms
 use Rattle.chi_homeline.specs.declared.serving.Waiting.{Waiting}
 use Rattle.chi_homeline.specs.declared.serving.Serving.{Serving}
 use Rattle.chi_homeline.specs.declared.serving.Serving.TheVariants.{Idle, Snooping, AwaitingCompAck, AwaitingWriteData}
@@ -51,8 +51,8 @@ abbrev pub waiting_of : Home → ℕ → Option Waiting
 waiting_of home n = slice_index_or home.waiting n None
 
 -- Admit: the request waits
-abbrev pub admitted : Home → ℕ → Waiting → Home
-admitted home n request = record home { waiting = slice_set home.waiting n (Some request) }
+abbrev pub home_after_admit : Home → ℕ → Waiting → Home
+home_after_admit home n request = record home { waiting = slice_set home.waiting n (Some request) }
 
 -- what is left of a line when a waiting request is taken up
 abbrev pub taken_up : Home → ℕ → Home
@@ -86,31 +86,39 @@ completes_unique SnpCleanInvalid f n = true
 -- the filter after a completion
 abbrev pub completed_filter : Bool → FilterState → ℕ → FilterState
 completed_filter true f n = only_named n
-completed_filter false f n = added (shared f) n
+completed_filter false f n = filter_with (filter_without_flag f) n
 
 -- Completion: the filter is as above, and the CompAck is awaited
-abbrev pub completed : Home → Snoop → Agent → Slot → Home
-completed home snoop agent slot = record home {
+abbrev pub home_after_completion : Home → Snoop → Agent → Slot → Home
+home_after_completion home snoop agent slot = record home {
   filter = completed_filter (completes_unique snoop home.filter agent.0) home.filter agent.0;
   serving = AwaitingCompAck agent slot;
 }
 
--- the message of a completion, with the data that is sent: a CleanUnique, served by SnpCleanInvalid, has none
+-- the form of a completion: a CleanUnique, served by SnpCleanInvalid, has no data
+abbrev pub completion_form : Snoop → Bool → CompletionForm
+completion_form SnpNotSharedDirty unique = forms.Data unique
+completion_form SnpShared unique = forms.Data unique
+completion_form SnpUnique unique = forms.Data unique
+completion_form SnpCleanInvalid unique = forms.NoData
+
+-- the message of a form, with the data that is sent
+abbrev pub form_message : CompletionForm → List ℕ → Msg
+form_message (forms.Data unique) sent = messages.DatDown (record { unique = unique; words = sent })
+form_message forms.NoData sent = messages.RspDown CompUC
+
 abbrev pub completion_message : Snoop → Bool → List ℕ → Msg
-completion_message SnpNotSharedDirty unique sent = messages.DatDown (record { unique = unique; words = sent })
-completion_message SnpShared unique sent = messages.DatDown (record { unique = unique; words = sent })
-completion_message SnpUnique unique sent = messages.DatDown (record { unique = unique; words = sent })
-completion_message SnpCleanInvalid unique sent = messages.RspDown CompUC
+completion_message snoop unique sent = form_message (completion_form snoop unique) sent
 
 abbrev pub completion_of : Home → Snoop → Agent → List ℕ → Msg
 completion_of home snoop agent sent = completion_message snoop (completes_unique snoop home.filter agent.0) sent
 
 -- the home snoops for a request, or completes it at once where there is nobody to ask
-abbrev pub served : Home → Kind → Snoop → Agent → Slot → Home
-served home kind snoop agent slot =
+abbrev pub home_after_service : Home → Kind → Snoop → Agent → Slot → Home
+home_after_service home kind snoop agent slot =
     if has_any (asks snoop home.filter agent.0)
     then record home { serving = Snooping agent kind slot; awaited = asks snoop home.filter agent.0 }
-    else completed home snoop agent slot
+    else home_after_completion home snoop agent slot
 
 abbrev pub served_sends : Home → Snoop → Agent → Started
 served_sends home snoop agent =
@@ -121,11 +129,11 @@ served_sends home snoop agent =
 -- a request that is taken up, by its kind and the kind's snoop: served with it; or, a copy-back, asked
 -- for its write data; or, an Evict, done, its agent named no more
 abbrev pub started_as : Kind → Option Snoop → Home → Agent → Slot → Home
-started_as kind (Some snoop) home agent slot = served home kind snoop agent slot
+started_as kind (Some snoop) home agent slot = home_after_service home kind snoop agent slot
 started_as kind None home agent slot =
     if is_copy_back kind
     then record home { serving = AwaitingWriteData agent kind slot }
-    else record home { filter = removed home.filter agent.0 }
+    else record home { filter = filter_without home.filter agent.0 }
 
 abbrev pub started_sends_as : Kind → Option Snoop → Home → Agent → Slot → Started
 started_sends_as kind (Some snoop) home agent slot = served_sends home snoop agent
@@ -133,15 +141,14 @@ started_sends_as kind None home agent slot = if is_copy_back kind then Sends (me
 
 -- what a start sends, with the memory as the data of a completion
 abbrev pub started_with : Begun → List ℕ → Started
-started_with (begins.Data unique) memory = Sends (messages.DatDown (record { unique = unique; words = memory }))
-started_with begins.Unique memory = Sends (messages.RspDown CompUC)
+started_with (begins.Completes form) memory = Sends (form_message form memory)
 started_with begins.WriteData memory = Sends (messages.RspDown CompDBIDResp)
 started_with (begins.Evicted slot) memory = Evicted slot
 started_with (begins.Snoops snoop agents) memory = Snoops snoop agents
 
 -- Start of a request that waits
-abbrev pub started : Home → Agent → Waiting → Home
-started home agent request = started_as request.kind (snoop_of request.kind) (taken_up home agent.0) agent request.slot
+abbrev pub home_after_start : Home → Agent → Waiting → Home
+home_after_start home agent request = started_as request.kind (snoop_of request.kind) (taken_up home agent.0) agent request.slot
 
 abbrev pub started_sends : Home → Agent → Waiting → Started
 started_sends home agent request = started_sends_as request.kind (snoop_of request.kind) home agent request.slot
@@ -186,12 +193,12 @@ served_kind (AwaitingCompAck agent slot) = None
 served_kind (AwaitingWriteData agent kind slot) = Some kind
 
 -- RecvAck: the line is idle
-abbrev pub acknowledged : Home → Home
-acknowledged home = record home { serving = Idle }
+abbrev pub home_after_ack : Home → Home
+home_after_ack home = record home { serving = Idle }
 
 -- the home once an agent's answer to its snoop is in: the memory and the filter are these
-abbrev pub answered : Home → ℕ → List ℕ → FilterState → Home
-answered home n memory filter = record home { memory = memory; filter = filter; awaited = others_than n home.awaited }
+abbrev pub home_with_answer : Home → ℕ → List ℕ → FilterState → Home
+home_with_answer home n memory filter = record home { memory = memory; filter = filter; awaited = others_than n home.awaited }
 
 -- the filter after an answer that leaves a copy, and no responsibility: shared
 abbrev pub left_shared : FilterState → ℕ → FilterState
@@ -211,9 +218,9 @@ memory_after (answers.SD words) memory = memory
 
 -- the filter after an answer
 abbrev pub filter_after : SnoopAnswer → FilterState → Agent → FilterState
-filter_after answers.I f agent = removed f agent.0
+filter_after answers.I f agent = filter_without f agent.0
 filter_after answers.SC f agent = left_shared f agent.0
-filter_after (answers.IPD words) f agent = removed f agent.0
+filter_after (answers.IPD words) f agent = filter_without f agent.0
 filter_after (answers.SCPD words) f agent = left_shared f agent.0
 filter_after (answers.SD words) f agent = left_owner f agent
 
@@ -228,12 +235,12 @@ data_to_send (answers.SD words) memory = words
 
 -- the home once an answer is in
 abbrev pub answer_taken : Home → Agent → SnoopAnswer → Home
-answer_taken home agent answer = answered home agent.0 (memory_after answer home.memory) (filter_after answer home.filter agent)
+answer_taken home agent answer = home_with_answer home agent.0 (memory_after answer home.memory) (filter_after answer home.filter agent)
 
 -- the completion of the request that is served, by the snoop that serves it
 abbrev pub completed_by : Home → Option Snoop → Agent → Slot → Home
 completed_by home None agent slot = home
-completed_by home (Some snoop) agent slot = completed home snoop agent slot
+completed_by home (Some snoop) agent slot = home_after_completion home snoop agent slot
 
 abbrev pub completion_by : Home → Option Snoop → Agent → List ℕ → Option Completion
 completion_by home None agent sent = None
@@ -272,12 +279,12 @@ leaves kind form = gives_up kind || not (is_valid form)
 
 -- the filter after write data: its sender is no owner any more
 abbrev pub written_filter : Bool → FilterState → ℕ → FilterState
-written_filter true f n = removed f n
+written_filter true f n = filter_without f n
 written_filter false f n = record f { owner = owner_without f.owner n }
 
 -- RecvWrData of a request of the kind: dirty data becomes the memory, and the line is idle
-abbrev pub written : Home → ℕ → Kind → State → List ℕ → Home
-written home n kind form words = record home {
+abbrev pub home_after_write : Home → ℕ → Kind → State → List ℕ → Home
+home_after_write home n kind form words = record home {
   memory = if is_dirty form then words else home.memory;
   filter = written_filter (leaves kind form) home.filter n;
   serving = Idle;

@@ -4,16 +4,16 @@ ghost use Rattle.std.specs.Prelude.{◌≡◌, ◌<◌, ℕ, List, IfOk, OnErr, 
 ghost use Rattle.chi_flit.specs.Kind.{snoop_of};
 ghost use Rattle.chi_flit.specs.Refusal.{refusal_of};
 ghost use Rattle.chi_filter.specs.Filter.{is_named};
-ghost use Rattle.chi_homeline.specs.Home.{Home, acknowledged, acks_for, admitted, answer_taken, asks, completed, completes_unique, completion_message, data_to_send, finished_home, finished_sends, idle_home, leaves, served, served_kind, served_sends, served_slot, snoop_answered, snoop_answered_sends, start_refusal, started, started_as, started_sends, started_with, waiting_of, writes_for, written};
+ghost use Rattle.chi_homeline.specs.Home.{Home, home_after_ack, acks_for, home_after_admit, answer_taken, asks, home_after_completion, completes_unique, completion_form, data_to_send, finished_home, finished_sends, idle_home, leaves, home_after_service, served_kind, served_sends, served_slot, snoop_answered, snoop_answered_sends, start_refusal, home_after_start, started_as, started_sends, started_with, waiting_of, writes_for, home_after_write};
 ghost use Rattle.chi_flit.specs.declared.kind.Kind.{Kind};
 ghost use Rattle.chi_flit.specs.declared.numbers.Slot.{Slot};
 ghost use Rattle.chi_homeline.specs.declared.serving.Completion.{Completion};
 ghost use Rattle.chi_homeline.specs.declared.serving.Waiting.{Waiting};
 ghost use Rattle.chi_homeline.specs.declared.serving.Started.TheVariants.{Sends};
 
-use crate::serving::{Begun, Completion, Serving, SnoopAnswer, Waiting};
+use crate::serving::{Begun, Completion, CompletionForm, Serving, SnoopAnswer, Waiting};
 use chi_filter::{Filter, has_any};
-use chi_flit::{Agent, CompData, Data, Kind, Msg, NO_DATA, Refusal, RspDown, Slot, Snoop, State};
+use chi_flit::{Agent, Data, Kind, NO_DATA, Refusal, Slot, Snoop, State};
 use std::marker::Model;
 
 /// What the home keeps of one line. Contracts see it as a `Home`. Each agent's number is below 8.
@@ -58,7 +58,7 @@ impl HomeLine {
     /// Source: `docs/PROTOCOL.md`, "The actions", Admit.
     pub fn admit(&mut self, agent: Agent, request: Waiting)
         requires { agent.0 < 8 }
-        ensures { self.new ≡ admitted self.old agent.0 request }
+        ensures { self.new ≡ home_after_admit self.old agent.0 request }
     {
         self.waiting[usize::from(agent.0)] = Some(request);
     }
@@ -102,7 +102,7 @@ impl HomeLine {
         ensures sends { IfOk result (λ begun. (request : Waiting) → waiting_of self.old agent.0 ≡ Some request
             → started_with begun self.old.memory ≡ started_sends self.old agent request) }
         ensures ok { IfOk result (λ _. (request : Waiting) → waiting_of self.old agent.0 ≡ Some request
-            → self.new ≡ started self.old agent request) }
+            → self.new ≡ home_after_start self.old agent request) }
         ensures memory { IfOk result (λ _. self.new.memory ≡ self.old.memory) }
         ensures err { OnErr result (self.new ≡ self.old) }
     {
@@ -117,7 +117,8 @@ impl HomeLine {
         requires { agent.0 < 8 }
         ensures sends { started_with result self.old.memory ≡ started_sends self.old agent request }
         ensures memory { self.new.memory ≡ self.old.memory }
-        ensures after { self.new ≡ started_as request.kind (snoop_of request.kind) self.old agent request.slot }
+        ensures after { self.new
+            ≡ started_as request.kind (snoop_of request.kind) self.old agent request.slot }
     {
         let kind = request.kind;
         let slot = request.slot;
@@ -140,24 +141,23 @@ impl HomeLine {
         requires { agent.0 < 8 }
         ensures sends { started_with result self.old.memory ≡ served_sends self.old snoop agent }
         ensures memory { self.new.memory ≡ self.old.memory }
-        ensures after { self.new ≡ served self.old kind snoop agent slot }
+        ensures after { self.new ≡ home_after_service self.old kind snoop agent slot }
     {
-        let agents = asked(&self.filter, snoop, agent);
+        let agents = agents_to_ask(&self.filter, snoop, agent);
         if has_any(&agents) {
             self.serving = Serving::Snooping { agent, kind, slot };
             self.awaited = agents;
             return Begun::Snoops { snoop, agents };
         }
-        let unique = self.complete(agent, snoop, slot);
-        completion_begun(snoop, unique)
+        Begun::Completes(self.complete(agent, snoop, slot))
     }
 
-    /// Completes a request. Answers whether its agent is left the only one named.
+    /// Completes a request. Answers the form of its completion.
     /// Source: `docs/PROTOCOL.md`, "Completion".
-    fn complete(&mut self, agent: Agent, snoop: Snoop, slot: Slot) -> bool
+    fn complete(&mut self, agent: Agent, snoop: Snoop, slot: Slot) -> CompletionForm
         requires { agent.0 < 8 }
-        ensures unique { result ≡ completes_unique snoop self.old.filter agent.0 }
-        ensures after { self.new ≡ completed self.old snoop agent slot }
+        ensures form { result ≡ completion_form snoop (completes_unique snoop self.old.filter agent.0) }
+        ensures after { self.new ≡ home_after_completion self.old snoop agent slot }
     {
         let unique = completes_unique(&self.filter, snoop, agent);
         if unique {
@@ -167,7 +167,7 @@ impl HomeLine {
             self.filter.add(agent);
         }
         self.serving = Serving::AwaitingCompAck { agent, slot };
-        unique
+        completion_form(snoop, unique)
     }
 
     /// Takes the agent's CompAck: the line is idle. Answers the slot of the request that is complete, or
@@ -176,7 +176,7 @@ impl HomeLine {
     pub fn ack(&mut self, agent: Agent) -> Option<Slot>
         ensures answers { is_some result ≡ acks_for self.old.serving agent.0 }
         ensures slot { (slot : Slot) → result ≡ Some slot → served_slot self.old.serving ≡ Some slot }
-        ensures after { acks_for self.old.serving agent.0 ≡ true → self.new ≡ acknowledged self.old }
+        ensures after { acks_for self.old.serving agent.0 ≡ true → self.new ≡ home_after_ack self.old }
         ensures stays { acks_for self.old.serving agent.0 ≡ false → self.new ≡ self.old }
     {
         match self.serving {
@@ -314,8 +314,7 @@ impl HomeLine {
             return None;
         }
         let snoop = kind.snoop()?;
-        let unique = self.complete(agent, snoop, slot);
-        let message = completion_message(snoop, unique, sent);
+        let message = self.complete(agent, snoop, slot).message(sent);
         Some(Completion { agent, message })
     }
 
@@ -329,7 +328,7 @@ impl HomeLine {
         ensures answers { is_some result ≡ writes_for self.old.serving agent.0 }
         ensures slot { (slot : Slot) → result ≡ Some slot → served_slot self.old.serving ≡ Some slot }
         ensures after { (kind : Kind) → writes_for self.old.serving agent.0 ≡ true
-            → served_kind self.old.serving ≡ Some kind → self.new ≡ written self.old agent.0 kind form words }
+            → served_kind self.old.serving ≡ Some kind → self.new ≡ home_after_write self.old agent.0 kind form words }
         ensures stays { writes_for self.old.serving agent.0 ≡ false → self.new ≡ self.old }
     {
         match self.serving {
@@ -375,7 +374,7 @@ fn leaves(kind: Kind, form: State) -> bool
 }
 
 /// Whom a request asks, by the snoop that serves it.
-fn asked(filter: &Filter, snoop: Snoop, agent: Agent) -> [bool; 8]
+fn agents_to_ask(filter: &Filter, snoop: Snoop, agent: Agent) -> [bool; 8]
     requires { agent.0 < 8 }
     ensures { result ≡ asks snoop filter.now agent.0 }
 {
@@ -403,27 +402,15 @@ fn completes_unique(filter: &Filter, snoop: Snoop, agent: Agent) -> bool
     }
 }
 
-/// What a start sends by which a request completes.
-fn completion_begun(snoop: Snoop, unique: bool) -> Begun
-    ensures { (memory : List ℕ) → started_with result memory ≡ Sends (completion_message snoop unique memory) }
-{
-    match snoop {
-        Snoop::SnpNotSharedDirty | Snoop::SnpShared | Snoop::SnpUnique => Begun::Data { unique },
-        Snoop::SnpCleanInvalid => Begun::Unique,
-    }
-}
-
-/// The message of a completion, with the data that is sent.
-fn completion_message(snoop: Snoop, unique: bool, sent: Data) -> Msg
-    ensures { result ≡ completion_message snoop unique sent }
+/// The form of a completion, by the snoop that serves the request: a CleanUnique's has no data.
+/// Source: `docs/PROTOCOL.md`, "Completion".
+fn completion_form(snoop: Snoop, unique: bool) -> CompletionForm
+    ensures { result ≡ completion_form snoop unique }
 {
     match snoop {
         Snoop::SnpNotSharedDirty | Snoop::SnpShared | Snoop::SnpUnique => {
-            Msg::DatDown(CompData {
-                unique,
-                words: sent,
-            })
+            CompletionForm::Data { unique }
         }
-        Snoop::SnpCleanInvalid => Msg::RspDown(RspDown::CompUC),
+        Snoop::SnpCleanInvalid => CompletionForm::NoData,
     }
 }

@@ -1,6 +1,9 @@
 //! Requests at the home: those that wait, and the one that is served.
 
-use chi_flit::{Agent, Data, Kind, Msg, Slot, Snoop};
+ghost use Rattle.std.specs.Prelude.{◌≡◌};
+ghost use Rattle.chi_homeline.specs.Home.{form_message};
+
+use chi_flit::{Agent, CompData, Data, Kind, Msg, RspDown, Slot, Snoop};
 
 /// A request that was let in and not started yet.
 /// Source: `docs/PROTOCOL.md`, "One line".
@@ -47,14 +50,36 @@ pub enum Started {
     Snoops { snoop: Snoop, agents: [bool; 8] },
 }
 
+/// A completion, before its data is added.
+/// Source: `docs/PROTOCOL.md`, "Completion".
+#[derive(Clone, Copy, Debug, PartialEq, Eq)]
+pub enum CompletionForm {
+    /// CompData, and whether the copy is unique.
+    Data { unique: bool },
+    /// Comp_UC: the agent has the data.
+    NoData,
+}
+
+impl CompletionForm {
+    /// The completion's message, with this data where it has any.
+    /// Source: `docs/PROTOCOL.md`, "Completion".
+    #[inline(always)]
+    pub fn message(self, words: Data) -> Msg
+        ensures { result ≡ form_message self words }
+    {
+        match self {
+            CompletionForm::Data { unique } => Msg::DatDown(CompData { unique, words }),
+            CompletionForm::NoData => Msg::RspDown(RspDown::CompUC),
+        }
+    }
+}
+
 /// What a start sends, before the data of a completion is added.
 /// Source: `docs/PROTOCOL.md`, "Start".
 #[derive(Clone, Copy, Debug, PartialEq, Eq)]
 pub enum Begun {
-    /// CompData with the line's data, and whether the copy may be unique.
-    Data { unique: bool },
-    /// Comp_UC.
-    Unique,
+    /// A completion of this form.
+    Completes(CompletionForm),
     /// CompDBIDResp.
     WriteData,
     /// Comp_I, and the request of this slot is complete.

@@ -11,7 +11,7 @@ use Rattle.chi_journal.specs.declared.record.Record.TheVariants.{Load, Store}
 use Rattle.chi_journal.specs.declared.totals.Totals.{Totals}
 use Rattle.chi_journal.specs.Record.{is_load, is_record_of, is_store, record_agent, record_line, record_word}
 use Rattle.chi_journal.specs.LastValues.{rows_after, value_at, words_of}
-use Rattle.chi_journal.specs.Totals.{counted, part_counted}
+use Rattle.chi_journal.specs.Totals.{totals_with, part_counted}
 use Rattle.chi_journal.specs.Journal.{AreLegalAfter, IsLegal, IsLegalAfter, last_value, last_words, loads_of, part_of, stores_of, words_after, words_after_all}
 use Rattle.chi_journal.specs.Tracked.{IsTracked}
 
@@ -121,7 +121,7 @@ pub record Appends (entries : List Record) (limit capacity : ℕ) (rows : List (
 
 pub tracked_after : (entries : List Record) (limit capacity : ℕ) (rows : List (List ℕ)) (totals : Totals) (entry : Record)
     → Appends entries limit capacity rows totals entry
-    → IsTracked (entries ++ entry ∷ []) limit capacity (rows_after rows entry) (counted totals entry (value_at rows (record_line entry).0 (record_word entry).0))
+    → IsTracked (entries ++ entry ∷ []) limit capacity (rows_after rows entry) (totals_with totals entry (value_at rows (record_line entry).0 (record_word entry).0))
 tracked_after entries limit capacity rows totals (Load agent line word value) h = record {
   narrow = h.was.narrow;
   within = fits_more entries (Load agent line word value) limit h.was.within h.not_full;
@@ -153,7 +153,7 @@ part_room entries limit capacity rows totals n kept not_full low = room_more (ge
 -- the same, of what was counted and pushed
 pub tracked_new : (entries new : List Record) (limit capacity grown : ℕ) (rows next : List (List ℕ)) (totals counts : Totals) (entry : Record) (line : Line) (word : WordNo) (last : ℕ)
     → Appends entries limit capacity rows totals entry
-    → new ≡ entries ++ entry ∷ [] → grown ≡ capacity → next ≡ rows_after rows entry → counts ≡ counted totals entry last
+    → new ≡ entries ++ entry ∷ [] → grown ≡ capacity → next ≡ rows_after rows entry → counts ≡ totals_with totals entry last
     → last ≡ value_at rows line.0 word.0 → line ≡ record_line entry → word ≡ record_word entry
     → IsTracked new limit grown next counts
 tracked_new entries new limit capacity grown rows next totals counts entry line word last h is_new is_grown is_next is_grow is_last is_line is_word =

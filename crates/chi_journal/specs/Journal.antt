@@ -28,8 +28,8 @@ abbrev pub append_refusal : Log → Option Refusal
 append_refusal log = if is_full log then Some JournalFull else None
 
 -- a record more, as the last one
-abbrev pub appended : Log → Record → Log
-appended log entry = record log { entries = log.entries ++ entry ∷ [] }
+abbrev pub log_with : Log → Record → Log
+log_with log entry = record log { entries = log.entries ++ entry ∷ [] }
 
 -- the words of a line after a record: a store to the line changes its word
 abbrev pub words_after : ℕ → List ℕ → Record → List ℕ

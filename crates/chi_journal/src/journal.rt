@@ -3,7 +3,7 @@
 ghost use Rattle.std.specs.Prelude.{◌≡◌, ◌<◌, ◌≤◌, ◌↔◌, length, IfOk, OnErr, IsTrue};
 ghost use Rattle.chi_flit.specs.Refusal.{refusal_of};
 ghost use Rattle.chi_journal.specs.Record.{record_agent, record_line, record_word};
-ghost use Rattle.chi_journal.specs.Journal.{IsLegal, Log, append_refusal, appended, is_full, last_value, last_words, loads_of, opening_log, part_of, stores_of};
+ghost use Rattle.chi_journal.specs.Journal.{IsLegal, Log, append_refusal, log_with, is_full, last_value, last_words, loads_of, opening_log, part_of, stores_of};
 
 use crate::last_values::LastValues;
 use crate::record::Record;
@@ -67,7 +67,7 @@ impl<A: Allocator> Journal<A> {
         requires line { (record_line entry).0 < self.old.lines }
         requires word { (record_word entry).0 < 8 }
         ensures refusal { refusal_of result ≡ append_refusal self.old }
-        ensures ok { IfOk result (λ _. self.new ≡ appended self.old entry) }
+        ensures ok { IfOk result (λ _. self.new ≡ log_with self.old entry) }
         ensures err { OnErr result (self.new ≡ self.old) }
     {
         if self.is_full() {

@@ -2,7 +2,7 @@
 
 ghost use Rattle.std.specs.Prelude.{◌≡◌, ◌+◌, ◌<◌, ◌^◌, slice_index_or};
 ghost use Rattle.chi_journal.specs.Record.{record_agent};
-ghost use Rattle.chi_journal.specs.Totals.{counted, no_totals};
+ghost use Rattle.chi_journal.specs.Totals.{totals_with, no_totals};
 
 use crate::record::Record;
 
@@ -35,7 +35,7 @@ impl Totals {
         requires loads { self.old.loads + 1 < 2 ^ 32 }
         requires stores { self.old.stores + 1 < 2 ^ 32 }
         requires part { slice_index_or self.old.parts (record_agent entry).0 0 + 1 < 2 ^ 32 }
-        ensures { self.new ≡ counted self.old entry last }
+        ensures { self.new ≡ totals_with self.old entry last }
     {
         match entry {
             Record::Load { value, .. } => {

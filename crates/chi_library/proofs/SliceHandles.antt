@@ -28,7 +28,7 @@ use Rattle.std.specs.declared.option.Option.{Option}
 use Rattle.std.specs.declared.option.Option.TheVariants.{None, Some}
 use Rattle.std.specs.Box.Ownership.{box_owns}
 use Rattle.chi_slice.specs.Slice.{SliceState}
-use Rattle.chi_library.specs.SliceHandle.{held, slice_row}
+use Rattle.chi_library.specs.SliceHandle.{slice_ownership, slice_row}
 use Rattle.chi_library.proofs.Fields.{both, fields_in, fields_out}
 use Rattle.chi_library.specs.contracts.slice_handle.ChiSlice as handle
 
@@ -49,21 +49,21 @@ module _ {M : Type 1} {𝓤 : Ura M} (𝓛 : Logic 𝓤) (a : Global) (p : Ptr) 
 
 module _ {M : Type 1} {𝓤 : Ura M} {𝓛 : Logic 𝓤} {K : Type 0} {Γ : List (Item 𝓤)} {G : Goal 𝓤 𝓛.H} where
   pub handle_out : K → (d : Handle.Denot) (vs : List Val)
-      → ((h : Val) → vs ≡ both (ptr_val d.at) h ∷ [] → Good (layout Z) h → Seq K 𝓛 (‵ (held d.alloc d.at d.value) ∷ ‵ (Z.own_val d.alloc (h ∷ [])) ∷ Γ) G)
+      → ((h : Val) → vs ≡ both (ptr_val d.at) h ∷ [] → Good (layout Z) h → Seq K 𝓛 (‵ (slice_ownership d.alloc d.at d.value) ∷ ‵ (Z.own_val d.alloc (h ∷ [])) ∷ Γ) G)
       → Seq K 𝓛 (‵ (Handle.own_val d vs) ∷ Γ) G
   handle_out t d vs k = let S = shape handle.the_type in
       fsplit t $ fields_out S.name S.args S.types Z heap_laws.the_row_laws ghosts t d.at d.alloc vs (λ h is fits. move t (1 ∷ []) $ k h is fits)
 
   pub handle_in : K → (p : Ptr) (h : Val) (a : Z.Denot) (x : Option SliceState)
       → Step K 𝓛 (‵ (Handle.own_val (record { at = p; alloc = a; value = x }) (both (ptr_val p) h ∷ [])) ∷ Γ) G
-      (‵ (held a p x) ∷ ‵ (Z.own_val a (h ∷ [])) ∷ Γ) G
+      (‵ (slice_ownership a p x) ∷ ‵ (Z.own_val a (h ∷ [])) ∷ Γ) G
   handle_in t p h a x = step (λ s. let S = shape handle.the_type in
       move t (1 ∷ []) $ fields_in S.name S.args S.types Z heap_laws.the_row_laws ghosts t p a h $ fjoin t $ s)
 
   pub either : K → (a : Global) (p : Ptr) (x : Option SliceState)
       → (p ≡ null_ptr → x ≡ None → Seq K 𝓛 Γ G)
       → ((b o : ℕ) (s : SliceState) → p ≡ block_ptr b o → x ≡ Some s → Testable (block_ptr b o) → Seq K 𝓛 (‵ (Boxed a (block_ptr b o) s) ∷ Γ) G)
-      → Seq K 𝓛 (‵ (held a p x) ∷ Γ) G
+      → Seq K 𝓛 (‵ (slice_ownership a p x) ∷ Γ) G
   either t a null_ptr None none one = drop t $ none refl refl
   either t a (block_ptr b o) None none one = fpick t (λ wrong. absurd wrong)
   either t a p (Some s) none one =

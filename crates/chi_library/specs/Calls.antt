@@ -4,26 +4,26 @@ use Rattle.chi_flit.specs.declared.refusal.Refusal.{Refusal}
 use Rattle.chi_library.specs.Numbers.{number_if}
 
 -- 255: the handle is closed; 254: it is open already
-abbrev pub closed : ℕ
-closed = 255
+abbrev pub closed_number : ℕ
+closed_number = 255
 
 abbrev pub already_open : ℕ
 already_open = 254
 
 -- 0, or the number of the refusal of what the handle holds
-abbrev pub answered : {S : Type 0} → Option S → (S → Option Refusal) → ℕ
-answered None refusal = closed
-answered (Some s) refusal = number_if (refusal s)
+abbrev pub answer_number : {S : Type 0} → Option S → (S → Option Refusal) → ℕ
+answer_number None refusal = closed_number
+answer_number (Some s) refusal = number_if (refusal s)
 
 -- a closed handle stays closed
-abbrev pub left : {S : Type 0} → Option S → (S → S) → Option S
-left None after = None
-left (Some s) after = Some (after s)
+abbrev pub state_after : {S : Type 0} → Option S → (S → S) → Option S
+state_after None after = None
+state_after (Some s) after = Some (after s)
 
 -- of a closed handle nothing is told
-abbrev pub told : {S X : Type 0} → Option S → X → (S → X) → X
-told None nothing tells = nothing
-told (Some s) nothing tells = tells s
+abbrev pub output_of : {S X : Type 0} → Option S → X → (S → X) → X
+output_of None nothing tells = nothing
+output_of (Some s) nothing tells = tells s
 
 -- what is told of a call that may be refused
 abbrev pub told_unless : {X : Type 0} → Option Refusal → X → X → X

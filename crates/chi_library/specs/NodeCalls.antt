@@ -9,7 +9,7 @@ use Rattle.chi_flit.specs.declared.refusal.Refusal.{Refusal}
 use Rattle.chi_flit.specs.declared.refusal.Refusal.TheVariants.{OutOfRange}
 use Rattle.chi_flit.specs.Credit.{credit_number}
 use Rattle.chi_line.specs.LineState.{cells_of}
-use Rattle.chi_line.specs.View.{shown}
+use Rattle.chi_line.specs.View.{line_view}
 use Rattle.chi_node.specs.declared.answers.Arrived.{Arrived}
 use Rattle.chi_node.specs.declared.answers.Arrived.TheVariants.{Admitted, Retried}
 use Rattle.chi_node.specs.declared.answers.Stepped.{Stepped}
@@ -138,7 +138,7 @@ TendCall agent ty told y y' = Called y y' (tend_refusal y agent.0 ty) (Tends age
 
 -- a line, and the flits of an agent at one
 abbrev pub node_show_told : ℕ → SystemState → ChiLine
-node_show_told l y = told_unless (view_refusal y.home l) no_line_told (line_told (shown (line y.home l) (last_of y.home l)))
+node_show_told l y = told_unless (view_refusal y.home l) no_line_told (line_told (line_view (line y.home l) (last_of y.home l)))
 
 abbrev pub node_flits_told : ℕ → ℕ → SystemState → ChiFlits
 node_flits_told n l y = told_unless (flits_refusal y.home n l) no_flits_told (flits_told (cells_of (line y.home l) n))

@@ -15,11 +15,11 @@ use Rattle.chi_system.specs.contracts.system.System as system
 abbrev pub node_row : RattleType
 node_row = system.the_row heap.the_row ghosts
 
-abbrev pub coded : Coded (Option SystemState)
-coded = coded_option node_row.coded
+abbrev pub node_code : Coded (Option SystemState)
+node_code = coded_option node_row.coded
 
 -- at null there is no node
-abbrev pub held : Global → Ptr → Option SystemState → Fml
-held alloc null_ptr None = ftrue
-held alloc (block_ptr b o) None = fex ⊥ (λ _. ftrue)
-held alloc p (Some y) = box_owns (ghosts.dealloc_token alloc) node_row p y
+abbrev pub node_ownership : Global → Ptr → Option SystemState → Fml
+node_ownership alloc null_ptr None = ftrue
+node_ownership alloc (block_ptr b o) None = fex ⊥ (λ _. ftrue)
+node_ownership alloc p (Some y) = box_owns (ghosts.dealloc_token alloc) node_row p y

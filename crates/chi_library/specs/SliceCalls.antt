@@ -6,9 +6,9 @@ use Rattle.chi_flit.specs.declared.refusal.Refusal.TheVariants.{OutOfRange}
 use Rattle.chi_journal.specs.declared.record.Record.{Record}
 use Rattle.chi_line.specs.LineState.{cells_of}
 use Rattle.chi_line.specs.Step.{effect_of}
-use Rattle.chi_line.specs.View.{shown}
+use Rattle.chi_line.specs.View.{line_view}
 use Rattle.chi_config.specs.Config.{Sizes}
-use Rattle.chi_slice.specs.Slice.{SliceState, flits_refusal, last_of, line, opening_slice, refused, tried, view_refusal}
+use Rattle.chi_slice.specs.Slice.{SliceState, flits_refusal, last_of, line, opening_slice, action_refusal, slice_after_try, view_refusal}
 use Rattle.chi_library.specs.declared.actions.ChiEffect.{ChiEffect}
 use Rattle.chi_library.specs.declared.flits.ChiFlits.{ChiFlits}
 use Rattle.chi_library.specs.declared.lines.ChiLine.{ChiLine}
@@ -31,19 +31,19 @@ Opens index config s = s ≡ opening_slice config index
 -- an action of C's: 10 where its numbers name none, else as the slice does it
 abbrev pub act_refusal : Option Action → SliceState → Option Refusal
 act_refusal None s = Some OutOfRange
-act_refusal (Some action) s = refused s action
+act_refusal (Some action) s = action_refusal s action
 
 abbrev pub act_after : Option Action → SliceState → SliceState
 act_after None s = s
-act_after (Some action) s = tried s action
+act_after (Some action) s = slice_after_try s action
 
 abbrev pub act_told : Option Action → SliceState → ChiEffect
 act_told None s = no_effect
-act_told (Some action) s = told_unless (refused s action) no_effect (effect_told (effect_of (line s action.line.0) action))
+act_told (Some action) s = told_unless (action_refusal s action) no_effect (effect_told (effect_of (line s action.line.0) action))
 
 -- a line, and the flits of an agent at one
 abbrev pub show_told : ℕ → SliceState → ChiLine
-show_told l s = told_unless (view_refusal s l) no_line_told (line_told (shown (line s l) (last_of s l)))
+show_told l s = told_unless (view_refusal s l) no_line_told (line_told (line_view (line s l) (last_of s l)))
 
 abbrev pub flits_shown : ℕ → ℕ → SliceState → ChiFlits
 flits_shown n l s = told_unless (flits_refusal s n l) no_flits_told (flits_told (cells_of (line s l) n))

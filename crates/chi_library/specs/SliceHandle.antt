@@ -15,11 +15,11 @@ use Rattle.chi_slice.specs.contracts.slice.Slice as slice
 abbrev pub slice_row : RattleType
 slice_row = slice.the_row heap.the_row ghosts
 
-abbrev pub coded : Coded (Option SliceState)
-coded = coded_option slice_row.coded
+abbrev pub slice_code : Coded (Option SliceState)
+slice_code = coded_option slice_row.coded
 
 -- at null there is no slice
-abbrev pub held : Global → Ptr → Option SliceState → Fml
-held alloc null_ptr None = ftrue
-held alloc (block_ptr b o) None = fex ⊥ (λ _. ftrue)
-held alloc p (Some s) = box_owns (ghosts.dealloc_token alloc) slice_row p s
+abbrev pub slice_ownership : Global → Ptr → Option SliceState → Fml
+slice_ownership alloc null_ptr None = ftrue
+slice_ownership alloc (block_ptr b o) None = fex ⊥ (λ _. ftrue)
+slice_ownership alloc p (Some s) = box_owns (ghosts.dealloc_token alloc) slice_row p s

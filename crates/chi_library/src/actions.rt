@@ -1,7 +1,7 @@
 //! An action in C's words, and what it gives.
 
 ghost use Rattle.std.specs.Prelude.{◌≡◌};
-ghost use Rattle.chi_library.specs.Actions.{action_of, effect_told, issue_of, step_of};
+ghost use Rattle.chi_library.specs.Actions.{action_of, effect_told, issue_of, no_effect, step_of};
 
 use crate::numbers::kind_at;
 use chi_flit::{Action, Agent, Effect, Line, Slot, Step, WordNo};
@@ -84,21 +84,21 @@ pub(crate) fn action_at(action: &ChiAction) -> Option<Action>
     })
 }
 
-/// What an action gives, in C's words.
-pub(crate) fn effect_told(effect: Effect) -> ChiEffect
-    ensures { result ≡ effect_told effect }
+/// Tells what an action gives, where all numbers are 0: those that stay 0, nearly all of them, aren't written
+/// again.
+pub(crate) fn tell_effect(effect: &mut ChiEffect, given: Effect)
+    requires { effect.old ≡ no_effect }
+    ensures { effect.new ≡ effect_told given }
 {
-    match effect {
-        Effect::Nothing => ChiEffect::NONE,
-        Effect::Value(value) => ChiEffect {
-            effect: 1,
-            slot: 0,
-            value,
-        },
-        Effect::Completed(slot) => ChiEffect {
-            effect: 2,
-            slot: slot.0,
-            value: 0,
-        },
+    match given {
+        Effect::Nothing => {}
+        Effect::Value(value) => {
+            effect.effect = 1;
+            effect.value = value;
+        }
+        Effect::Completed(slot) => {
+            effect.effect = 2;
+            effect.slot = slot.0;
+        }
     }
 }

@@ -2,7 +2,7 @@
 
 ghost use Rattle.std.specs.Prelude.{◌≡◌, IfOk, None, Some};
 ghost use Rattle.chi_library.specs.Actions.{agent_at, line_at, no_effect};
-ghost use Rattle.chi_library.specs.Calls.{IsOpening, answered, told};
+ghost use Rattle.chi_library.specs.Calls.{IsOpening, answer_number, output_of};
 ghost use Rattle.chi_library.specs.Flits.{no_flits_told};
 ghost use Rattle.chi_library.specs.Lines.{no_line_told};
 ghost use Rattle.chi_library.specs.Numbers.{credit_of, number_if};
@@ -12,7 +12,7 @@ ghost use Rattle.chi_node.specs.Calls.{is_own_step};
 ghost use Rattle.chi_system.specs.Home.{flits_refusal, view_refusal};
 ghost use Rattle.chi_system.specs.System.{agent_refusal, arrive_refusal, give_back_refusal, tend_refusal};
 
-use crate::actions::{ChiAction, ChiEffect, action_at, effect_told};
+use crate::actions::{ChiAction, ChiEffect, action_at, tell_effect};
 use crate::answers::{ALREADY_OPEN, CLOSED, DONE, NO_MEMORY, NOT_OPEN, OUT_OF_RANGE};
 use crate::flits::{ChiFlits, flits_told};
 use crate::lines::{ChiLine, line_told};
@@ -60,8 +60,9 @@ pub extern "C" fn chi_node_arrive(
     line: u8,
     arrival: &mut ChiArrival,
 ) -> u8
-    ensures answer { result ≡ answered node.old.value (λ y. arrive_refusal y agent line) }
-    ensures call { CalledOn node.old.value node.new.value (ArrivalCall (agent_at agent) (line_at line) arrival.new) }
+    ensures answer { result ≡ answer_number node.old.value (λ y. arrive_refusal y agent line) }
+    ensures call { CalledOn node.old.value node.new.value
+        (ArrivalCall (agent_at agent) (line_at line) arrival.new) }
     ensures closed { node.old.value ≡ None → arrival.new ≡ no_arrival }
 {
     *arrival = ChiArrival::NONE;
@@ -89,8 +90,9 @@ pub extern "C" fn chi_node_step(
     effect: &mut ChiEffect,
     release: &mut ChiRelease,
 ) -> u8
-    ensures answer { result ≡ answered node.old.value (node_step_refusal (own_of action.now)) }
-    ensures call { CalledOn node.old.value node.new.value (StepCall (own_of action.now) effect.new release.new) }
+    ensures answer { result ≡ answer_number node.old.value (node_step_refusal (own_of action.now)) }
+    ensures call { CalledOn node.old.value node.new.value
+        (StepCall (own_of action.now) effect.new release.new) }
     ensures closed { node.old.value ≡ None → IsUntold effect.new release.new }
 {
     step_on(alloc, node, own_action_at(action), effect, release)
@@ -108,7 +110,7 @@ pub extern "C" fn chi_node_see(
     agent: u8,
     credits: &mut ChiCredits,
 ) -> u8
-    ensures answer { result ≡ answered node.old.value (λ y. agent_refusal y agent) }
+    ensures answer { result ≡ answer_number node.old.value (λ y. agent_refusal y agent) }
     ensures call { CalledOn node.old.value node.new.value (LookCall (agent_at agent) credits.new) }
     ensures closed { node.old.value ≡ None → credits.new ≡ no_credits }
 {
@@ -138,8 +140,10 @@ pub extern "C" fn chi_node_give_back(
     credit: u8,
     release: &mut ChiRelease,
 ) -> u8
-    ensures answer { result ≡ answered node.old.value (λ y. give_back_refusal y agent (credit_of credit)) }
-    ensures call { CalledOn node.old.value node.new.value (ReturnCall (agent_at agent) (credit_of credit) release.new) }
+    ensures answer { result
+        ≡ answer_number node.old.value (λ y. give_back_refusal y agent (credit_of credit)) }
+    ensures call { CalledOn node.old.value node.new.value
+        (ReturnCall (agent_at agent) (credit_of credit) release.new) }
     ensures closed { node.old.value ≡ None → release.new ≡ no_release }
 {
     *release = ChiRelease::NONE;
@@ -166,8 +170,9 @@ pub extern "C" fn chi_node_tend(
     credit: u8,
     release: &mut ChiRelease,
 ) -> u8
-    ensures answer { result ≡ answered node.old.value (λ y. tend_refusal y agent (credit_of credit)) }
-    ensures call { CalledOn node.old.value node.new.value (TendCall (agent_at agent) (credit_of credit) release.new) }
+    ensures answer { result ≡ answer_number node.old.value (λ y. tend_refusal y agent (credit_of credit)) }
+    ensures call { CalledOn node.old.value node.new.value
+        (TendCall (agent_at agent) (credit_of credit) release.new) }
     ensures closed { node.old.value ≡ None → release.new ≡ no_release }
 {
     *release = ChiRelease::NONE;
@@ -193,9 +198,9 @@ pub extern "C" fn chi_node_show(
     line: u8,
     shown: &mut ChiLine,
 ) -> u8
-    ensures answer { result ≡ answered node.old.value (λ y. view_refusal y.home line) }
+    ensures answer { result ≡ answer_number node.old.value (λ y. view_refusal y.home line) }
     ensures after { node.new.value ≡ node.old.value }
-    ensures shown { shown.new ≡ told node.old.value no_line_told (node_show_told line) }
+    ensures shown { shown.new ≡ output_of node.old.value no_line_told (node_show_told line) }
 {
     *shown = ChiLine::NONE;
     match node.take(alloc) {
@@ -221,9 +226,9 @@ pub extern "C" fn chi_node_flits(
     line: u8,
     flits: &mut ChiFlits,
 ) -> u8
-    ensures answer { result ≡ answered node.old.value (λ y. flits_refusal y.home agent line) }
+    ensures answer { result ≡ answer_number node.old.value (λ y. flits_refusal y.home agent line) }
     ensures after { node.new.value ≡ node.old.value }
-    ensures flits { flits.new ≡ told node.old.value no_flits_told (node_flits_told agent line) }
+    ensures flits { flits.new ≡ output_of node.old.value no_flits_told (node_flits_told agent line) }
 {
     *flits = ChiFlits::NONE;
     match node.take(alloc) {
@@ -243,7 +248,7 @@ pub extern "C" fn chi_node_flits(
 /// Source: `docs/PROTOCOL.md`, "Totals"; `docs/LIBRARY.md`, "A node".
 #[unsafe(no_mangle)]
 pub extern "C" fn chi_node_totals(alloc: Global, node: &mut ChiNode, totals: &mut ChiTotals) -> u8
-    ensures answer { result ≡ answered node.old.value (λ y. None) }
+    ensures answer { result ≡ answer_number node.old.value (λ y. None) }
     ensures after { node.new.value ≡ node.old.value }
     ensures totals { IsTotalsOf node.old.value totals.new }
 {
@@ -265,7 +270,7 @@ pub extern "C" fn chi_node_totals(alloc: Global, node: &mut ChiNode, totals: &mu
 /// Source: `docs/PROTOCOL.md`, "Agreement"; `docs/LIBRARY.md`, "A node".
 #[unsafe(no_mangle)]
 pub extern "C" fn chi_node_agrees(alloc: Global, node: &mut ChiNode) -> u8
-    ensures answer { result ≡ answered node.old.value (λ y. None) }
+    ensures answer { result ≡ answer_number node.old.value (λ y. None) }
     ensures after { node.new.value ≡ node.old.value }
 {
     match node.take(alloc) {
@@ -285,7 +290,7 @@ pub extern "C" fn chi_node_agrees(alloc: Global, node: &mut ChiNode) -> u8
 /// Source: `docs/PROTOCOL.md`, "Replay files"; `docs/LIBRARY.md`, "A node".
 #[unsafe(no_mangle)]
 pub extern "C" fn chi_node_audit(alloc: Global, node: &mut ChiNode, audit: &mut ChiAudit) -> u8
-    ensures answer { result ≡ answered node.old.value (λ y. None) }
+    ensures answer { result ≡ answer_number node.old.value (λ y. None) }
     ensures after { node.new.value ≡ node.old.value }
     ensures audit { IsAuditOf node.old.value audit.new }
 {
@@ -311,7 +316,7 @@ pub extern "C" fn chi_node_audit(alloc: Global, node: &mut ChiNode, audit: &mut 
 /// Source: `docs/LIBRARY.md`, "Handles".
 #[unsafe(no_mangle)]
 pub extern "C" fn chi_node_close(alloc: Global, node: &mut ChiNode) -> u8
-    ensures answer { result ≡ answered node.old.value (λ y. None) }
+    ensures answer { result ≡ answer_number node.old.value (λ y. None) }
     ensures after { node.new.value ≡ None }
 {
     match node.take(alloc) {
@@ -325,7 +330,7 @@ fn open(alloc: Global, node: &mut ChiNode, config: &Config) -> u8
     requires closed { node.old.value ≡ None }
     ensures { IsOpening OpensNode (Some config.now) None result node.new.value }
 {
-    match opened(alloc, config) {
+    match boxed_node(alloc, config) {
         Ok(held) => {
             node.put(held);
             DONE
@@ -335,7 +340,7 @@ fn open(alloc: Global, node: &mut ChiNode, config: &Config) -> u8
 }
 
 /// A new node on the heap.
-fn opened(alloc: Global, config: &Config) -> Result<Box<System<Global>>, NoMemory>
+fn boxed_node(alloc: Global, config: &Config) -> Result<Box<System<Global>>, NoMemory>
     ensures { IfOk result (λ held. OpensNode config.now held.value) }
 {
     let node = System::new(alloc, config)?;
@@ -386,7 +391,7 @@ fn step_on(
     release: &mut ChiRelease,
 ) -> u8
     requires { IsOwn own }
-    ensures answer { result ≡ answered node.old.value (node_step_refusal own) }
+    ensures answer { result ≡ answer_number node.old.value (node_step_refusal own) }
     ensures call { CalledOn node.old.value node.new.value (StepCall own effect.new release.new) }
     ensures closed { node.old.value ≡ None → IsUntold effect.new release.new }
 {
@@ -420,7 +425,7 @@ fn step(
     };
     match node.step(action) {
         Ok(stepped) => {
-            *effect = effect_told(stepped.effect);
+            tell_effect(effect, stepped.effect);
             *release = release_if(stepped.released);
             DONE
         }

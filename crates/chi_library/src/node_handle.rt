@@ -4,7 +4,7 @@ ghost use Rattle.std.specs.Prelude.{◌≡◌, None, Some};
 ghost use Rattle.std.specs.declared.option.Option.{Option};
 ghost use Rattle.std.specs.Option.{MatchOption};
 ghost use Rattle.chi_system.specs.System.{SystemState};
-ghost use Rattle.chi_library.specs.NodeHandle.{coded, held};
+ghost use Rattle.chi_library.specs.NodeHandle.{node_code, node_ownership};
 
 use crate::box_pointer::BoxPointer;
 use chi_system::System;
@@ -20,11 +20,11 @@ use std::ptr::null_mut;
 pub struct ChiNode {
     at: *mut u8,
     alloc: Global,
-    pub ghost value: { Option SystemState } by { coded },
+    pub ghost value: { Option SystemState } by { node_code },
 }
 
 impl Model for ChiNode {
-    ghost also_owns = { λ h. held h.alloc h.at h.value };
+    ghost also_owns = { λ h. node_ownership h.alloc h.at h.value };
 }
 
 impl ChiNode {

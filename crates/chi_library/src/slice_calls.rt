@@ -2,7 +2,7 @@
 
 ghost use Rattle.std.specs.Prelude.{◌≡◌, ◌<◌, IfOk, None, Some};
 ghost use Rattle.chi_library.specs.Actions.{action_of, no_effect};
-ghost use Rattle.chi_library.specs.Calls.{IsOpening, answered, left, told};
+ghost use Rattle.chi_library.specs.Calls.{IsOpening, answer_number, state_after, output_of};
 ghost use Rattle.chi_library.specs.Flits.{no_flits_told};
 ghost use Rattle.chi_library.specs.Lines.{no_line_told};
 ghost use Rattle.chi_library.specs.Numbers.{number_if};
@@ -11,7 +11,7 @@ ghost use Rattle.chi_library.specs.Sizes.{config_of};
 ghost use Rattle.chi_library.specs.SliceCalls.{Opens, act_after, act_refusal, act_told, entry_at, entry_refusal, entry_told, flits_shown, show_told, sizes_at};
 ghost use Rattle.chi_slice.specs.Slice.{flits_refusal, opening_slice, view_refusal};
 
-use crate::actions::{ChiAction, ChiEffect, action_at, effect_told};
+use crate::actions::{ChiAction, ChiEffect, action_at, tell_effect};
 use crate::answers::{ALREADY_OPEN, CLOSED, DONE, NO_MEMORY, OUT_OF_RANGE, number_if};
 use crate::flits::{ChiFlits, flits_told};
 use crate::lines::{ChiLine, line_told};
@@ -36,7 +36,8 @@ pub extern "C" fn chi_slice_open(
     config: &ChiConfig,
     index: u8,
 ) -> u8
-    ensures { IsOpening (Opens index) (sizes_at (config_of config.now) index) slice.old.value result slice.new.value }
+    ensures { IsOpening (Opens index)
+        (sizes_at (config_of config.now) index) slice.old.value result slice.new.value }
 {
     if let Some(held) = slice.take(alloc) {
         slice.put(held);
@@ -61,9 +62,9 @@ pub extern "C" fn chi_slice_act(
     action: &ChiAction,
     effect: &mut ChiEffect,
 ) -> u8
-    ensures answer { result ≡ answered slice.old.value (act_refusal (action_of action.now)) }
-    ensures after { slice.new.value ≡ left slice.old.value (act_after (action_of action.now)) }
-    ensures effect { effect.new ≡ told slice.old.value no_effect (act_told (action_of action.now)) }
+    ensures answer { result ≡ answer_number slice.old.value (act_refusal (action_of action.now)) }
+    ensures after { slice.new.value ≡ state_after slice.old.value (act_after (action_of action.now)) }
+    ensures effect { effect.new ≡ output_of slice.old.value no_effect (act_told (action_of action.now)) }
 {
     *effect = ChiEffect::NONE;
     match slice.take(alloc) {
@@ -82,7 +83,7 @@ pub extern "C" fn chi_slice_act(
 /// Source: `docs/PROTOCOL.md`, "The actions"; `docs/LIBRARY.md`, "A slice".
 #[unsafe(no_mangle)]
 pub extern "C" fn chi_slice_refusal(alloc: Global, slice: &mut ChiSlice, action: &ChiAction) -> u8
-    ensures answer { result ≡ answered slice.old.value (act_refusal (action_of action.now)) }
+    ensures answer { result ≡ answer_number slice.old.value (act_refusal (action_of action.now)) }
     ensures after { slice.new.value ≡ slice.old.value }
 {
     match slice.take(alloc) {
@@ -107,9 +108,9 @@ pub extern "C" fn chi_slice_show(
     line: u8,
     shown: &mut ChiLine,
 ) -> u8
-    ensures answer { result ≡ answered slice.old.value (λ s. view_refusal s line) }
+    ensures answer { result ≡ answer_number slice.old.value (λ s. view_refusal s line) }
     ensures after { slice.new.value ≡ slice.old.value }
-    ensures shown { shown.new ≡ told slice.old.value no_line_told (show_told line) }
+    ensures shown { shown.new ≡ output_of slice.old.value no_line_told (show_told line) }
 {
     *shown = ChiLine::NONE;
     match slice.take(alloc) {
@@ -135,9 +136,9 @@ pub extern "C" fn chi_slice_flits(
     line: u8,
     flits: &mut ChiFlits,
 ) -> u8
-    ensures answer { result ≡ answered slice.old.value (λ s. flits_refusal s agent line) }
+    ensures answer { result ≡ answer_number slice.old.value (λ s. flits_refusal s agent line) }
     ensures after { slice.new.value ≡ slice.old.value }
-    ensures flits { flits.new ≡ told slice.old.value no_flits_told (flits_shown agent line) }
+    ensures flits { flits.new ≡ output_of slice.old.value no_flits_told (flits_shown agent line) }
 {
     *flits = ChiFlits::NONE;
     match slice.take(alloc) {
@@ -162,9 +163,9 @@ pub extern "C" fn chi_slice_journal(
     place: u32,
     entry: &mut ChiRecord,
 ) -> u8
-    ensures answer { result ≡ answered slice.old.value (λ s. entry_refusal (entry_at s place)) }
+    ensures answer { result ≡ answer_number slice.old.value (λ s. entry_refusal (entry_at s place)) }
     ensures after { slice.new.value ≡ slice.old.value }
-    ensures entry { entry.new ≡ told slice.old.value no_record (λ s. entry_told (entry_at s place)) }
+    ensures entry { entry.new ≡ output_of slice.old.value no_record (λ s. entry_told (entry_at s place)) }
 {
     *entry = ChiRecord::NONE;
     match slice.take(alloc) {
@@ -183,7 +184,7 @@ pub extern "C" fn chi_slice_journal(
 /// Source: `docs/LIBRARY.md`, "Handles".
 #[unsafe(no_mangle)]
 pub extern "C" fn chi_slice_close(alloc: Global, slice: &mut ChiSlice) -> u8
-    ensures answer { result ≡ answered slice.old.value (λ s. None) }
+    ensures answer { result ≡ answer_number slice.old.value (λ s. None) }
     ensures after { slice.new.value ≡ None }
 {
     match slice.take(alloc) {
@@ -198,7 +199,7 @@ fn open(alloc: Global, slice: &mut ChiSlice, config: &Config, index: u8) -> u8
     requires index { index < config.now.slices }
     ensures { IsOpening (Opens index) (Some config.now) None result slice.new.value }
 {
-    match opened(alloc, config, index) {
+    match boxed_slice(alloc, config, index) {
         Ok(held) => {
             slice.put(held);
             DONE
@@ -208,7 +209,7 @@ fn open(alloc: Global, slice: &mut ChiSlice, config: &Config, index: u8) -> u8
 }
 
 /// A new slice on the heap.
-fn opened(alloc: Global, config: &Config, index: u8) -> Result<Box<Slice<Global>>, NoMemory>
+fn boxed_slice(alloc: Global, config: &Config, index: u8) -> Result<Box<Slice<Global>>, NoMemory>
     requires { index < config.now.slices }
     ensures { IfOk result (λ held. held.value ≡ opening_slice config.now index) }
 {
@@ -228,7 +229,7 @@ fn act(slice: &mut Slice<Global>, action: &ChiAction, effect: &mut ChiEffect) ->
     };
     match slice.act(action) {
         Ok(done) => {
-            *effect = effect_told(done);
+            tell_effect(effect, done);
             DONE
         }
         Err(reason) => reason.number(),

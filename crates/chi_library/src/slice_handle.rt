@@ -4,7 +4,7 @@ ghost use Rattle.std.specs.Prelude.{◌≡◌, None, Some};
 ghost use Rattle.std.specs.declared.option.Option.{Option};
 ghost use Rattle.std.specs.Option.{MatchOption};
 ghost use Rattle.chi_slice.specs.Slice.{SliceState};
-ghost use Rattle.chi_library.specs.SliceHandle.{coded, held};
+ghost use Rattle.chi_library.specs.SliceHandle.{slice_code, slice_ownership};
 
 use crate::box_pointer::BoxPointer;
 use chi_slice::Slice;
@@ -20,11 +20,11 @@ use std::ptr::null_mut;
 pub struct ChiSlice {
     at: *mut u8,
     alloc: Global,
-    pub ghost value: { Option SliceState } by { coded },
+    pub ghost value: { Option SliceState } by { slice_code },
 }
 
 impl Model for ChiSlice {
-    ghost also_owns = { λ h. held h.alloc h.at h.value };
+    ghost also_owns = { λ h. slice_ownership h.alloc h.at h.value };
 }
 
 impl ChiSlice {
@@ -66,7 +66,8 @@ impl ChiSlice {
 
     /// Takes the slice out, if there is one: the handle is closed then.
     pub(crate) fn take(&mut self, alloc: Global) -> Option<Box<Slice<Global>>>
-        ensures slice { MatchOption result (self.old.value ≡ None) (λ held. self.old.value ≡ Some held.value) }
+        ensures slice { MatchOption result (self.old.value ≡ None)
+            (λ held. self.old.value ≡ Some held.value) }
         ensures closed { self.new.value ≡ None }
     {
         let handle = mem::replace(self, ChiSlice::none(alloc));

@@ -11,14 +11,14 @@ use Rattle.chi_flit.specs.declared.kind.Kind.{Kind}
 use Rattle.chi_flit.specs.declared.snoop.Snoop.{Snoop}
 use Rattle.chi_flit.specs.Kind.{snoop_of}
 use Rattle.chi_flit.specs.State.{is_dirty}
-use Rattle.chi_filter.specs.Filter.{FilterState, has_any, is_in, is_named, others_than, owned_by, owner_without, removed}
+use Rattle.chi_filter.specs.Filter.{FilterState, has_any, is_in, is_named, others_than, owned_by, owner_without, filter_without}
 use Rattle.chi_wires.specs.declared.cells.Cells.{Cells}
-use Rattle.chi_wires.specs.Cell.{emptied}
+use Rattle.chi_wires.specs.Cell.{without_message}
 use Rattle.chi_homeline.specs.declared.serving.Serving.{Serving}
 use Rattle.chi_homeline.specs.declared.serving.Serving.TheVariants.{Snooping}
 use Rattle.chi_homeline.specs.declared.serving.SnoopAnswer.{SnoopAnswer}
 use Rattle.chi_homeline.specs.declared.serving.SnoopAnswer.TheVariants as answers
-use Rattle.chi_homeline.specs.Home.{answered, completed_by, completion_by, data_to_send, filter_after, finished_as, finished_sends_as, left_owner, left_shared, memory_after}
+use Rattle.chi_homeline.specs.Home.{home_with_answer, completed_by, completion_by, data_to_send, filter_after, finished_as, finished_sends_as, left_owner, left_shared, memory_after}
 use Rattle.chi_line.specs.LineState.{LineState, rn_of, cells_of}
 use Rattle.chi_line.specs.Coherent.{IsClean}
 use Rattle.chi_line.specs.Kept.{Lane, LaneKept, IsServedInRange, Kept, invalidates, is_read, lane, shares, snoop_out}
@@ -65,7 +65,7 @@ flag_ends : (a b : Bool) → (a ≡ true → b ≡ false) → (a && b) ≡ false
 flag_ends true b ends = ends refl
 flag_ends false b ends = refl
 
-removed_clear : (last : List ℕ) (s : LineState) (n : ℕ) → AwaitsAnswer s n → Kept last s → (removed s.home.filter n).unique ≡ false
+removed_clear : (last : List ℕ) (s : LineState) (n : ℕ) → AwaitsAnswer s n → Kept last s → (filter_without s.home.filter n).unique ≡ false
 removed_clear last s n may k = flag_ends s.home.filter.unique (has_any (others_than n s.home.filter.named))
     (λ flag. nobody_in (others_than n s.home.filter.named) (length-set s.home.filter.named n false ∙ k.named)
     (λ m at. none_other n m s.home.filter.named may.here k.named (alone_named last s n may k flag m at)))
@@ -87,7 +87,7 @@ lonely last s n may k shared m at other = go (owned_by s.home.filter.owner n) re
 
 -- the line once an answer is in: memory, filter and cells are these
 abbrev answered_line : LineState → ℕ → List ℕ → FilterState → Cells → LineState
-answered_line s n memory filter cells = record s { home = answered s.home n memory filter; flits = set s.flits n cells }
+answered_line s n memory filter cells = record s { home = home_with_answer s.home n memory filter; flits = set s.flits n cells }
 
 -- the filter after an answer of n
 record FilterLeft (f after : FilterState) (n : ℕ) (named owns : Bool) : Type 0 where
@@ -199,7 +199,7 @@ nobody_owns last s n may k shared m at = ⊎_elim
     (cases_eq m n)
 
 -- the filter that each answer leaves
-removed_left : (last : List ℕ) (s : LineState) (n : ℕ) → AwaitsAnswer s n → Kept last s → FilterLeft s.home.filter (removed s.home.filter n) n false false
+removed_left : (last : List ℕ) (s : LineState) (n : ℕ) → AwaitsAnswer s n → Kept last s → FilterLeft s.home.filter (filter_without s.home.filter n) n false false
 removed_left last s n may k = record {
   puts = record { at = left_out n s.home.filter.named may.here k.named; others = λ m other. left_in n m s.home.filter.named other; long = length-set s.home.filter.named n false };
   clear = removed_clear last s n may k;
@@ -229,7 +229,7 @@ abbrev IsBrought : LineState → ℕ → SnoopAnswer → Type 0
 IsBrought s n answer = Brings (cells_of s n).rsp_up (cells_of s n).dat_up answer
 
 abbrev with_answer : LineState → Agent → SnoopAnswer → LineState
-with_answer s agent answer = answered_line s agent.0 (memory_after answer s.home.memory) (filter_after answer s.home.filter agent) (emptied (cells_of s agent.0) (answer_channel answer))
+with_answer s agent answer = answered_line s agent.0 (memory_after answer s.home.memory) (filter_after answer s.home.filter agent) (without_message (cells_of s agent.0) (answer_channel answer))
 
 abbrev LeftBy : LineState → Agent → SnoopAnswer → Type 0
 LeftBy s agent answer = FilterLeft s.home.filter (filter_after answer s.home.filter agent) agent.0 (named_after answer (is_named s.home.filter agent.0)) (owns_after answer)

@@ -10,7 +10,7 @@ use Rattle.chi_flit.specs.Kind.{snoop_of}
 use Rattle.chi_flit.specs.Message.{channel_of}
 use Rattle.chi_filter.specs.Filter.{has_any}
 use Rattle.chi_wires.specs.declared.cells.Cells.{Cells}
-use Rattle.chi_wires.specs.Cell.{cell_of, emptied, no_flits}
+use Rattle.chi_wires.specs.Cell.{cell_of, without_message, no_flits}
 use Rattle.chi_wires.specs.Flits.{cells_at}
 use Rattle.chi_wires.specs.Flight.{in_flight}
 use Rattle.chi_wires.proofs.Moved.{taken_sent}
@@ -61,15 +61,15 @@ same_at f (x ∷ l) (suc n) zero c same = refl
 same_at f (x ∷ l) (suc n) (suc m) c same = same_at f l n m c same
 
 -- taking an answer leaves the cells down
-pub response_stays : (answer : SnoopAnswer) (cells : Cells) → (emptied cells (answer_channel answer)).rsp_down ≡ cells.rsp_down
+pub response_stays : (answer : SnoopAnswer) (cells : Cells) → (without_message cells (answer_channel answer)).rsp_down ≡ cells.rsp_down
 response_stays answer cells = search arith
 
-pub data_stays : (answer : SnoopAnswer) (cells : Cells) → (emptied cells (answer_channel answer)).dat_down ≡ cells.dat_down
+pub data_stays : (answer : SnoopAnswer) (cells : Cells) → (without_message cells (answer_channel answer)).dat_down ≡ cells.dat_down
 data_stays answer cells = search arith
 
 -- the completion finds its cell empty, once the answer is taken
 pub completion_finds_empty : (s : LineState) (agent : Agent) (answer : SnoopAnswer) (flits : List Cells) (completion : Completion)
-    → flits ≡ set s.flits agent.0 (emptied (cells_of s agent.0) (answer_channel answer))
+    → flits ≡ set s.flits agent.0 (without_message (cells_of s agent.0) (answer_channel answer))
     → snoop_answered_sends s.home agent answer ≡ Some completion
     → ((other : ℕ) → snoops_for s.home.serving other ≡ true → ((cells_of s other).rsp_down ≡ None) × ((cells_of s other).dat_down ≡ None))
     → cell_of (cells_at flits completion.agent.0) (channel_of completion.message) ≡ None
@@ -77,7 +77,7 @@ completion_finds_empty s agent answer flits completion taken sends down =
     let to : Completes s.home.serving completion = answer_completes s.home agent answer completion sends in
     let n = completion.agent.0 in
     let empty = down n to.agent in
-    let left = emptied (cells_of s agent.0) (answer_channel answer) in
+    let left = without_message (cells_of s agent.0) (answer_channel answer) in
     subst (λ (v : List Cells). cell_of (cells_at v n) (channel_of completion.message) ≡ None) (sym taken)
     (to.down (cells_at (set s.flits agent.0 left) n)
     (same_at (λ cells. cells.rsp_down) s.flits agent.0 n left (response_stays answer _) ∙ empty.0)

@@ -14,7 +14,7 @@ use Rattle.chi_filter.specs.Filter.{FilterState, nobody, only_named, only_set, i
 use Rattle.chi_wires.specs.declared.cells.Cells.{Cells}
 use Rattle.chi_wires.specs.Cell.{no_flits, with_message}
 use Rattle.chi_homeline.specs.declared.serving.Serving.TheVariants.{Snooping, AwaitingCompAck}
-use Rattle.chi_homeline.specs.Home.{completed, completed_filter, completes_unique, completion_message, completion_of}
+use Rattle.chi_homeline.specs.Home.{home_after_completion, completed_filter, completes_unique, completion_message, completion_of}
 use Rattle.chi_line.specs.LineState.{LineState, cells_of}
 use Rattle.chi_line.specs.Kept.{Kept, LaneKept, invalidates, is_read, lane}
 use Rattle.chi_line.proofs.Frame.{IsCleanLane, Puts, kept_moved, memory_by, moves_home, puts_nothing, puts_set, nothing_waiting, within}
@@ -23,7 +23,7 @@ use Rattle.chi_line.proofs.CompleteLanes.{read_completes, clean_completes, no_ow
 
 -- the line after a completion, with the data that is sent
 abbrev pub completed_line : LineState → Snoop → Agent → Slot → List ℕ → LineState
-completed_line s snoop agent slot sent = record s { home = completed s.home snoop agent slot; flits = slice_set s.flits agent.0 (with_message (cells_of s agent.0) (completion_of s.home snoop agent sent)) }
+completed_line s snoop agent slot sent = record s { home = home_after_completion s.home snoop agent slot; flits = slice_set s.flits agent.0 (with_message (cells_of s agent.0) (completion_of s.home snoop agent sent)) }
 
 -- what a completion needs
 pub record MayComplete (last : List ℕ) (s : LineState) (agent : Agent) (kind : Kind) (snoop : Snoop) (slot : Slot) (sent : List ℕ) : Type 0 where

@@ -14,7 +14,7 @@ use Rattle.chi_flit.specs.Snoop.{answer_of}
 use Rattle.chi_flit.specs.State.{is_dirty}
 use Rattle.chi_wires.specs.declared.cells.Cells.{Cells}
 use Rattle.chi_wires.specs.Cell.{with_message}
-use Rattle.chi_rnline.specs.Rn.{comp_received, snoop_received, dbid_received, state_after_comp, state_after_write}
+use Rattle.chi_rnline.specs.Rn.{rn_after_comp, rn_after_snoop, rn_after_dbid, state_after_comp, state_after_write}
 use Rattle.chi_homeline.specs.declared.serving.Serving.{Serving}
 use Rattle.chi_homeline.specs.declared.serving.Serving.TheVariants.{Snooping, AwaitingWriteData}
 use Rattle.chi_homeline.specs.Home.{acks_for}
@@ -80,9 +80,9 @@ kept_snooped last s n snoop low here k =
     let no_dat : (cells_of s n).dat_up ≡ None = snoop_no_data snooping.agent snooping.kind snooping.slot unique owner last n (lane s n) snoop here before in
     let cells : with_message (record (cells_of s n) { snp = None }) answer.1 ≡ record (cells_of s n) { snp = None; rsp_up = rsp_of answer.1; dat_up = dat_of answer.1 } =
     with_up (record (cells_of s n) { snp = None }) answer.1 row.1 no_rsp no_dat in
-    kept_by last s n (snoop_received rn snoop) (with_message (record (cells_of s n) { snp = None }) answer.1) low k
-    (subst (λ v. LaneKept v unique owner last n (record (lane s n) { rn = snoop_received rn snoop; flits = with_message (record (cells_of s n) { snp = None }) answer.1 })) (sym snooping.serving_is)
-    (subst (λ c. LaneKept (Snooping snooping.agent snooping.kind snooping.slot) unique owner last n (record (lane s n) { rn = snoop_received rn snoop; flits = c })) (sym cells)
+    kept_by last s n (rn_after_snoop rn snoop) (with_message (record (cells_of s n) { snp = None }) answer.1) low k
+    (subst (λ v. LaneKept v unique owner last n (record (lane s n) { rn = rn_after_snoop rn snoop; flits = with_message (record (cells_of s n) { snp = None }) answer.1 })) (sym snooping.serving_is)
+    (subst (λ c. LaneKept (Snooping snooping.agent snooping.kind snooping.slot) unique owner last n (record (lane s n) { rn = rn_after_snoop rn snoop; flits = c })) (sym cells)
     (snoop_lane snooping.agent snooping.kind snooping.slot unique owner last n (lane s n) snoop answer.0 (rsp_of answer.1) (dat_of answer.1) here row.0 before)))
     (λ clean. record {
       copy = row.0.stays_dirty clean.copy (subst (λ (c : Cells). passes_dirty c.dat_up ≡ false) cells clean.on_its_way);
@@ -104,7 +104,7 @@ kept_comp_received last s n low here k =
     let unique = s.home.filter.unique in
     let owner = s.home.filter.owner in
     kept_by last s n _ _ low k
-    (subst (λ v. LaneKept v unique owner last n (record (lane s n) { rn = comp_received (rn_of s n); flits = record (cells_of s n) { rsp_down = None; rsp_up = Some CompAck } })) (sym awaits.serving_is)
+    (subst (λ v. LaneKept v unique owner last n (record (lane s n) { rn = rn_after_comp (rn_of s n); flits = record (cells_of s n) { rsp_down = None; rsp_up = Some CompAck } })) (sym awaits.serving_is)
     (comp_received_lane awaits.agent awaits.slot unique owner last n (lane s n) (state_after_comp (rn_of s n).state) here (comp_is (rn_of s n).state)
     (subst (λ v. LaneKept v unique owner last n (lane s n)) awaits.serving_is (k.lanes n low))))
     (λ clean. record { copy = comp_stays_dirty (rn_of s n).state clean.copy; on_its_way = clean.on_its_way })
@@ -129,9 +129,9 @@ dbid_awaited last s n low here awaits k =
     let before : LaneKept (AwaitingWriteData awaits.agent awaits.kind awaits.slot) unique owner last n (lane s n) =
     subst (λ v. LaneKept v unique owner last n (lane s n)) awaits.serving_is (k.lanes n low) in
     let sent : write_data_of rn.state rn.words ≡ CopyBackWrData rn.state (words_sent rn.state rn.words) = write_data_is rn.state rn.words in
-    kept_by last s n (dbid_received rn awaits.kind) (record (cells_of s n) { rsp_down = None; dat_up = Some (write_data_of rn.state rn.words) }) low k
-    (subst (λ v. LaneKept v unique owner last n (record (lane s n) { rn = dbid_received rn awaits.kind; flits = record (cells_of s n) { rsp_down = None; dat_up = Some (write_data_of rn.state rn.words) } })) (sym awaits.serving_is)
-    (subst (λ (d : DatUp). LaneKept (AwaitingWriteData awaits.agent awaits.kind awaits.slot) unique owner last n (record (lane s n) { rn = dbid_received rn awaits.kind; flits = record (cells_of s n) { rsp_down = None; dat_up = Some d } })) (sym sent)
+    kept_by last s n (rn_after_dbid rn awaits.kind) (record (cells_of s n) { rsp_down = None; dat_up = Some (write_data_of rn.state rn.words) }) low k
+    (subst (λ v. LaneKept v unique owner last n (record (lane s n) { rn = rn_after_dbid rn awaits.kind; flits = record (cells_of s n) { rsp_down = None; dat_up = Some (write_data_of rn.state rn.words) } })) (sym awaits.serving_is)
+    (subst (λ (d : DatUp). LaneKept (AwaitingWriteData awaits.agent awaits.kind awaits.slot) unique owner last n (record (lane s n) { rn = rn_after_dbid rn awaits.kind; flits = record (cells_of s n) { rsp_down = None; dat_up = Some d } })) (sym sent)
     (dbid_received_lane awaits.agent awaits.kind awaits.slot unique owner last n (lane s n) (state_after_write awaits.kind rn.state) rn.state (words_sent rn.state rn.words) here (write_is awaits.kind rn.state rn.words) before)))
     (λ clean. record {
       copy = subst (λ (d : DatUp). passes_dirty (Some d) ≡ false) sent clean.on_its_way;

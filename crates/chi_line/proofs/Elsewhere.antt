@@ -17,9 +17,9 @@ use Rattle.chi_flit.specs.declared.message.Msg.TheVariants as messages
 use Rattle.chi_flit.specs.declared.state.State.{State}
 use Rattle.chi_flit.specs.Snoop.{answer_of}
 use Rattle.chi_flit.specs.Kind.{snoop_of, is_copy_back}
-use Rattle.chi_filter.specs.Filter.{has_any, removed}
+use Rattle.chi_filter.specs.Filter.{has_any, filter_without}
 use Rattle.chi_wires.specs.declared.cells.Cells.{Cells}
-use Rattle.chi_wires.specs.Cell.{emptied, no_flits, with_message}
+use Rattle.chi_wires.specs.Cell.{without_message, no_flits, with_message}
 use Rattle.chi_rnline.specs.Rn.{Rn, no_line}
 use Rattle.chi_rnline.specs.declared.pending.Pending.{Pending}
 use Rattle.chi_rnline.specs.declared.pending.Phase.{Phase}
@@ -30,14 +30,14 @@ use Rattle.chi_homeline.specs.declared.serving.Serving.TheVariants.{Idle, Snoopi
 use Rattle.chi_homeline.specs.declared.serving.Started.{Started}
 use Rattle.chi_homeline.specs.declared.serving.Started.TheVariants.{Sends, Evicted, Snoops}
 use Rattle.chi_homeline.specs.declared.serving.SnoopAnswer.{SnoopAnswer}
-use Rattle.chi_homeline.specs.Home.{Home, acks_for, answer_taken, asks, completed, completed_by, completes_unique, completion_by, completion_message, completion_of, data_to_send, finished_as, finished_sends_as, started_as, started_sends, started_sends_as, taken_up, waiting_of}
+use Rattle.chi_homeline.specs.Home.{Home, acks_for, answer_taken, asks, home_after_completion, completed_by, completes_unique, completion_by, completion_message, completion_of, data_to_send, finished_as, finished_sends_as, started_as, started_sends, started_sends_as, taken_up, waiting_of}
 use Rattle.chi_line.specs.declared.act.Conditions.{Conditions}
 use Rattle.chi_line.specs.LineState.{LineState, rn_of, cells_of}
 use Rattle.chi_line.specs.Kept.{Kept, Lane, LaneKept, is_write_data, lane, served_kind, snoops_for, writes_for}
 use Rattle.chi_line.specs.Places.{is_at_home, phase_at, Seen, seen_of, sent_at, unasked_at, where_at, where_by, where_in}
 use Rattle.chi_line.specs.Refused.{step_refusal}
 use Rattle.chi_line.specs.Snooped.{answer_channel, completion_put}
-use Rattle.chi_line.specs.Step.{admitted_line, after_step, answer_in, answered_by, completion_received, data_written, dbid_received_line, is_ack, is_slot, pending_slot, received_line, resent_line, retried_line, sent, slot_served_for, snooped_line, started_line, waiting_slot, where_some}
+use Rattle.chi_line.specs.Step.{admitted_line, after_step, answer_in, answered_by, completion_received, data_written, dbid_received_line, is_ack, is_slot, pending_slot, received_line, resent_line, retried_line, flits_after_start, slot_served_for, snooped_line, started_line, waiting_slot, where_some}
 use Rattle.chi_line.proofs.After.{flit_there, start_allowed}
 use Rattle.chi_line.proofs.Facts.{acked_for_ack}
 use Rattle.chi_line.proofs.Finds.{idle_is}
@@ -126,24 +126,24 @@ unserved b slot apart = ap (λ (x : Bool). if x then Some slot else None) apart
 started_serves : (kind : Kind) (o : Option Snoop) (home : Home) (agent : Agent) (slot : Slot) (m : ℕ) → m ≢ agent.0 → home.serving ≡ Idle → slot_served_for (started_as kind o home agent slot).serving m ≡ None
 started_serves kind (Some snoop) home agent slot m apart idle = go (has_any (asks snoop home.filter agent.0))
   where
-    go : (b : Bool) → slot_served_for (if b then record home { serving = Snooping agent kind slot; awaited = asks snoop home.filter agent.0 } else completed home snoop agent slot).serving m ≡ None
+    go : (b : Bool) → slot_served_for (if b then record home { serving = Snooping agent kind slot; awaited = asks snoop home.filter agent.0 } else home_after_completion home snoop agent slot).serving m ≡ None
     go true = unserved (agent.0 == m) slot (differ agent.0 m apart)
     go false = unserved (agent.0 == m) slot (differ agent.0 m apart)
 started_serves kind None home agent slot m apart idle = go (is_copy_back kind)
   where
-    go : (b : Bool) → slot_served_for (if b then record home { serving = AwaitingWriteData agent kind slot } else record home { filter = removed home.filter agent.0 }).serving m ≡ None
+    go : (b : Bool) → slot_served_for (if b then record home { serving = AwaitingWriteData agent kind slot } else record home { filter = filter_without home.filter agent.0 }).serving m ≡ None
     go true = unserved (agent.0 == m) slot (differ agent.0 m apart)
     go false = ap (λ (v : Serving). slot_served_for v m) idle
 
 pub started_waits : (kind : Kind) (o : Option Snoop) (home : Home) (agent : Agent) (slot : Slot) → (started_as kind o home agent slot).waiting ≡ home.waiting
 started_waits kind (Some snoop) home agent slot = go (has_any (asks snoop home.filter agent.0))
   where
-    go : (b : Bool) → (if b then record home { serving = Snooping agent kind slot; awaited = asks snoop home.filter agent.0 } else completed home snoop agent slot).waiting ≡ home.waiting
+    go : (b : Bool) → (if b then record home { serving = Snooping agent kind slot; awaited = asks snoop home.filter agent.0 } else home_after_completion home snoop agent slot).waiting ≡ home.waiting
     go true = refl
     go false = refl
 started_waits kind None home agent slot = go (is_copy_back kind)
   where
-    go : (b : Bool) → (if b then record home { serving = AwaitingWriteData agent kind slot } else record home { filter = removed home.filter agent.0 }).waiting ≡ home.waiting
+    go : (b : Bool) → (if b then record home { serving = AwaitingWriteData agent kind slot } else record home { filter = filter_without home.filter agent.0 }).waiting ≡ home.waiting
     go true = refl
     go false = refl
 
@@ -158,7 +158,7 @@ same_cells c c' same = record { request = ap (λ (x : Cells). x.req) same; respo
 snoop_put : (marked : Bool) (snoop : Snoop) (cells : Cells) → SameCells cells (snooped_cells marked snoop cells)
 snoop_put marked snoop cells = search arith
 
-sent_elsewhere : (flits : List Cells) (n m : ℕ) (started : Started) → m ≢ n → m < length flits → SameCells (get_or flits m no_flits) (get_or (sent flits n started) m no_flits)
+sent_elsewhere : (flits : List Cells) (n m : ℕ) (started : Started) → m ≢ n → m < length flits → SameCells (get_or flits m no_flits) (get_or (flits_after_start flits n started) m no_flits)
 sent_elsewhere flits n m (Sends message) apart low = same_cells _ _ (get_or-set_other flits n m _ no_flits apart)
 sent_elsewhere flits n m (Evicted slot) apart low = same_cells _ _ (get_or-set_other flits n m _ no_flits apart)
 sent_elsewhere flits n m (Snoops snoop agents) apart low =
@@ -199,15 +199,15 @@ completion_request snoop unique words cells = search arith
 
 -- what a start sends leaves the cell of requests
 pub sent_request : (kind : Kind) (o : Option Snoop) (home : Home) (agent : Agent) (own : Slot) (flits : List Cells) → agent.0 < length flits
-    → (get_or (sent flits agent.0 (started_sends_as kind o home agent own)) agent.0 no_flits).req ≡ (get_or flits agent.0 no_flits).req
+    → (get_or (flits_after_start flits agent.0 (started_sends_as kind o home agent own)) agent.0 no_flits).req ≡ (get_or flits agent.0 no_flits).req
 sent_request kind (Some snoop) home agent own flits low = go (has_any (asks snoop home.filter agent.0))
   where
-    go : (b : Bool) → (get_or (sent flits agent.0 (if b then Snoops snoop (asks snoop home.filter agent.0) else Sends (completion_of home snoop agent home.memory))) agent.0 no_flits).req ≡ (get_or flits agent.0 no_flits).req
+    go : (b : Bool) → (get_or (flits_after_start flits agent.0 (if b then Snoops snoop (asks snoop home.filter agent.0) else Sends (completion_of home snoop agent home.memory))) agent.0 no_flits).req ≡ (get_or flits agent.0 no_flits).req
     go true = ap (λ (c : Cells). c.req) (snooped_at (asks snoop home.filter agent.0) snoop flits agent.0 low) ∙ (snoop_put (get_or (asks snoop home.filter agent.0) agent.0 false) snoop (get_or flits agent.0 no_flits)).request
     go false = ap (λ (c : Cells). c.req) (get_or-set_same flits agent.0 _ no_flits low) ∙ completion_request snoop (completes_unique snoop home.filter agent.0) home.memory (get_or flits agent.0 no_flits)
 sent_request kind None home agent own flits low = go (is_copy_back kind)
   where
-    go : (b : Bool) → (get_or (sent flits agent.0 (if b then Sends (messages.RspDown CompDBIDResp) else Evicted own)) agent.0 no_flits).req ≡ (get_or flits agent.0 no_flits).req
+    go : (b : Bool) → (get_or (flits_after_start flits agent.0 (if b then Sends (messages.RspDown CompDBIDResp) else Evicted own)) agent.0 no_flits).req ≡ (get_or flits agent.0 no_flits).req
     go true = ap (λ (c : Cells). c.req) (get_or-set_same flits agent.0 _ no_flits low)
     go false = ap (λ (c : Cells). c.req) (get_or-set_same flits agent.0 _ no_flits low)
 
@@ -238,14 +238,14 @@ put_elsewhere (Snooping agent kind slot) home words flits m low = go (has_any ho
         record { request = ap (λ (c : Cells). c.req) other; response = inl (ap (λ (c : Cells). c.rsp_down) other) }
 put_elsewhere serving home words flits m low = record { request = refl; response = inl refl }
 
-emptied_cells : (answer : SnoopAnswer) (cells : Cells) → SameCells cells (emptied cells (answer_channel answer))
+emptied_cells : (answer : SnoopAnswer) (cells : Cells) → SameCells cells (without_message cells (answer_channel answer))
 emptied_cells answer cells = search arith
 
 -- the cells of an answer that is taken: those of its sender are emptied
-taken_at : (flits : List Cells) (n m : ℕ) (answer : SnoopAnswer) → m < length flits → SameCells (get_or flits m no_flits) (get_or (set flits n (emptied (get_or flits n no_flits) (answer_channel answer))) m no_flits)
+taken_at : (flits : List Cells) (n m : ℕ) (answer : SnoopAnswer) → m < length flits → SameCells (get_or flits m no_flits) (get_or (set flits n (without_message (get_or flits n no_flits) (answer_channel answer))) m no_flits)
 taken_at flits n m answer low = ⊎_elim
-    (λ (own : m ≡ n). subst (λ (k : ℕ). SameCells (get_or flits m no_flits) (get_or (set flits k (emptied (get_or flits k no_flits) (answer_channel answer))) m no_flits)) own
-    (subst (SameCells (get_or flits m no_flits)) (sym (get_or-set_same flits m (emptied (get_or flits m no_flits) (answer_channel answer)) no_flits low)) (emptied_cells answer (get_or flits m no_flits))))
+    (λ (own : m ≡ n). subst (λ (k : ℕ). SameCells (get_or flits m no_flits) (get_or (set flits k (without_message (get_or flits k no_flits) (answer_channel answer))) m no_flits)) own
+    (subst (SameCells (get_or flits m no_flits)) (sym (get_or-set_same flits m (without_message (get_or flits m no_flits) (answer_channel answer)) no_flits low)) (emptied_cells answer (get_or flits m no_flits))))
     (λ (apart : m ≢ n). same_cells _ _ (get_or-set_other flits n m _ no_flits apart))
     (cases_eq m n)
 
@@ -253,7 +253,7 @@ pub answered_stays : (last : List ℕ) (s : LineState) (agent : Agent) (answer :
 answered_stays last s agent answer m low k = parts
   where
     taken : List Cells
-    taken = set s.flits agent.0 (emptied (cells_of s agent.0) (answer_channel answer))
+    taken = set s.flits agent.0 (without_message (cells_of s agent.0) (answer_channel answer))
 
     home : Home
     home = answer_taken s.home agent answer
@@ -262,7 +262,7 @@ answered_stays last s agent answer m low k = parts
     there = taken_at s.flits agent.0 m answer (omega (arith, low, k.flits))
 
     cells : Answers s.home.serving m (get_or taken m no_flits) (get_or (completion_put taken (finished_sends_as s.home.serving home (data_to_send answer s.home.memory))) m no_flits)
-    cells = put_elsewhere s.home.serving home (data_to_send answer s.home.memory) taken m (omega (arith, low, k.flits, length-set s.flits agent.0 (emptied (cells_of s agent.0) (answer_channel answer))))
+    cells = put_elsewhere s.home.serving home (data_to_send answer s.home.memory) taken m (omega (arith, low, k.flits, length-set s.flits agent.0 (without_message (cells_of s agent.0) (answer_channel answer))))
 
     parts : Stays s (answered_by s agent answer) m
     parts = record {

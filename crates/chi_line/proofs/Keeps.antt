@@ -12,9 +12,9 @@ use Rattle.chi_flit.specs.Kind.{is_needed}
 use Rattle.chi_flit.specs.State.{is_dirty}
 use Rattle.chi_wires.specs.Cell.{with_message}
 use Rattle.chi_rnline.specs.declared.pending.Phase.TheVariants.{Sent}
-use Rattle.chi_rnline.specs.Rn.{received, request_message}
+use Rattle.chi_rnline.specs.Rn.{rn_after_data, request_message}
 use Rattle.chi_homeline.specs.declared.serving.Serving.TheVariants.{AwaitingCompAck}
-use Rattle.chi_homeline.specs.Home.{acknowledged, admitted, waiting_of}
+use Rattle.chi_homeline.specs.Home.{home_after_ack, home_after_admit, waiting_of}
 use Rattle.chi_line.specs.LineState.{LineState, rn_of, cells_of}
 use Rattle.chi_line.specs.Kept.{LaneKept, Kept, lane}
 use Rattle.chi_line.specs.Step.{is_ack, is_slot, line_uses, slot_served_for, pending_slot, waiting_slot, issued_line, admitted_line, received_line, acknowledged_line}
@@ -66,7 +66,7 @@ kept_issued last s n kind slot low none needed free k =
 pub kept_admitted : (last : List ℕ) (s : LineState) (n : ℕ) (request : Request) → n < 8
     → (cells_of s n).req ≡ Some request → Kept last s → Kept last (admitted_line s n request)
 kept_admitted last s n request low here k =
-    let moves = moves_home s n (admitted s.home n (record { kind = request.kind; slot = request.slot })) _
+    let moves = moves_home s n (home_after_admit s.home n (record { kind = request.kind; slot = request.slot })) _
     (record (lane s n) { waiting = Some (record { kind = request.kind; slot = request.slot }); flits = record (cells_of s n) { req = None } }) refl
     (puts_set _ s.flits n _ (within n _ low k.flits)) (puts_nothing _ s.home.filter.named n) (puts_nothing _ s.home.awaited n) (puts_set _ s.home.waiting n _ (within n _ low k.waiting)) in
     kept_moved last last s _ n _ moves k k.in_range
@@ -84,7 +84,7 @@ kept_received last s n message low here k =
     let own : LaneKept s.home.serving s.home.filter.unique s.home.filter.owner last n (lane s n) = k.lanes n low in
     let awaits : AwaitsAck s.home.serving n = awaits_ack s.home.serving n (acked_for_data s.home.serving s.home.filter.unique s.home.filter.owner last n (lane s n) message here own) in
     kept_by last s n _ _ low k
-    (subst (λ v. LaneKept v s.home.filter.unique s.home.filter.owner last n (record (lane s n) { rn = received (rn_of s n) message; flits = record (cells_of s n) { dat_down = None; rsp_up = Some CompAck } })) (sym awaits.serving_is)
+    (subst (λ v. LaneKept v s.home.filter.unique s.home.filter.owner last n (record (lane s n) { rn = rn_after_data (rn_of s n) message; flits = record (cells_of s n) { dat_down = None; rsp_up = Some CompAck } })) (sym awaits.serving_is)
     (receive_lane awaits.agent awaits.slot s.home.filter.unique s.home.filter.owner last n (lane s n) message here
     (subst (λ v. LaneKept v s.home.filter.unique s.home.filter.owner last n (lane s n)) awaits.serving_is own)))
     (λ clean. record { copy = not_dirty_none (rn_of s n).state (own.read_finds_none (ap is_some here)); on_its_way = clean.on_its_way })
@@ -101,7 +101,7 @@ kept_acknowledged last s n low here k =
     let awaits : AwaitsAck s.home.serving n = awaits_ack s.home.serving n (acked_for_ack s.home.serving unique owner last n (lane s n) here (k.lanes n low)) in
     let before : (m : ℕ) → m < 8 → LaneKept (AwaitingCompAck awaits.agent awaits.slot) unique owner last m (lane s m) =
     λ m at. subst (λ v. LaneKept v unique owner last m (lane s m)) awaits.serving_is (k.lanes m at) in
-    let moves = moves_home s n (acknowledged s.home) _ (record (lane s n) { flits = record (cells_of s n) { rsp_up = None } }) refl
+    let moves = moves_home s n (home_after_ack s.home) _ (record (lane s n) { flits = record (cells_of s n) { rsp_up = None } }) refl
     (puts_set _ s.flits n _ (within n _ low k.flits)) (puts_nothing _ s.home.filter.named n) (puts_nothing _ s.home.awaited n) (puts_nothing _ s.home.waiting n) in
     kept_moved last last s _ n _ moves k tt
     (acknowledge_lane awaits.agent awaits.slot unique owner last n (lane s n) here (before n low))

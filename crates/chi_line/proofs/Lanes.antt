@@ -10,7 +10,7 @@ use Rattle.chi_flit.specs.declared.message.RspUp.TheVariants.{CompAck}
 use Rattle.chi_flit.specs.Kind.{is_needed}
 use Rattle.chi_wires.specs.Cell.{with_message}
 use Rattle.chi_rnline.specs.declared.pending.Phase.TheVariants.{Sent}
-use Rattle.chi_rnline.specs.Rn.{issued, received, request_message}
+use Rattle.chi_rnline.specs.Rn.{rn_after_issue, rn_after_data, request_message}
 use Rattle.chi_homeline.specs.declared.serving.Serving.{Serving}
 use Rattle.chi_homeline.specs.declared.serving.Serving.TheVariants.{Idle, AwaitingCompAck}
 use Rattle.chi_homeline.specs.Home.{acks_for, served_slot}
@@ -32,7 +32,7 @@ pub evict_lane : (serving : Serving) (unique : Bool) (owner : Option Agent) (las
     → (acks_for serving n ≡ true → Some slot ≢ served_slot serving)
     → (writes_for serving n ≡ true → Some slot ≢ served_slot serving)
     → LaneKept serving unique owner last n x
-    → LaneKept serving unique owner last n (record x { rn = issued x.rn Evict slot; flits = with_message x.flits (request_message Evict slot true) })
+    → LaneKept serving unique owner last n (record x { rn = rn_after_issue x.rn Evict slot; flits = with_message x.flits (request_message Evict slot true) })
 evict_lane serving unique owner last n x slot free needed acks writes k = search (arith, k)
 
 -- Admit
@@ -46,7 +46,7 @@ admit_lane serving unique owner last n x request here k = search (arith, k)
 pub receive_lane : (agent : Agent) (slot : Slot) (unique : Bool) (owner : Option Agent) (last : List ℕ) (n : ℕ) (x : Lane) (message : CompData)
     → x.flits.dat_down ≡ Some message
     → LaneKept (AwaitingCompAck agent slot) unique owner last n x
-    → LaneKept (AwaitingCompAck agent slot) unique owner last n (record x { rn = received x.rn message; flits = record x.flits { dat_down = None; rsp_up = Some CompAck } })
+    → LaneKept (AwaitingCompAck agent slot) unique owner last n (record x { rn = rn_after_data x.rn message; flits = record x.flits { dat_down = None; rsp_up = Some CompAck } })
 receive_lane agent slot unique owner last n x message here k = search (arith, k)
 
 -- RecvAck

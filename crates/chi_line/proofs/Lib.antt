@@ -31,5 +31,5 @@ pub mod Trails
 pub mod TableRows
 pub mod Typed
 pub mod MoveLaw
-pub mod Moves
+pub mod RequestMoves
 pub mod EqualSlots

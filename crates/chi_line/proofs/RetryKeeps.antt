@@ -12,7 +12,7 @@ use Rattle.chi_flit.specs.State.{is_unique, is_dirty}
 use Rattle.chi_filter.specs.Filter.{is_named}
 use Rattle.chi_rnline.specs.declared.pending.Pending.{Pending}
 use Rattle.chi_rnline.specs.declared.pending.Phase.TheVariants.{Retried}
-use Rattle.chi_rnline.specs.Rn.{is_clean_copy, stored}
+use Rattle.chi_rnline.specs.Rn.{is_clean_copy, rn_after_store}
 use Rattle.chi_line.specs.LineState.{LineState, rn_of, cells_of}
 use Rattle.chi_line.specs.Kept.{Lane, Kept, lane}
 use Rattle.chi_line.specs.Step.{stored_line, dropped_line, retried_line, retry_received_line, resent_line, cancelled_line, evict_received_line}
@@ -34,7 +34,7 @@ kept_dropped last s n low none clean_copy k =
 pub kept_stored : (last : List ℕ) (s : LineState) (n word value : ℕ) → n < 8
     → (rn_of s n).pending ≡ None → is_unique (rn_of s n).state ≡ true → Kept last s → Kept (set last word value) (stored_line s n word value)
 kept_stored last s n word value low none alone k =
-    let moves : Moves s (stored_line s n word value) n (record (lane s n) { rn = stored (rn_of s n) word value }) = moves_by s (stored_line s n word value) n _
+    let moves : Moves s (stored_line s n word value) n (record (lane s n) { rn = rn_after_store (rn_of s n) word value }) = moves_by s (stored_line s n word value) n _
     (puts_set _ s.requesters n _ (within n _ low k.requesters)) (puts_nothing _ s.flits n) (puts_nothing _ s.home.filter.named n) (puts_nothing _ s.home.awaited n) (puts_nothing _ s.home.waiting n) in
     let named_here : is_named s.home.filter n ≡ true = (k.lanes n low).holder_named (unique_valid (rn_of s n).state alone) in
     let flagged : s.home.filter.unique ≡ true = (k.lanes n low).unique_flagged alone in

@@ -13,7 +13,7 @@ use Rattle.chi_flit.specs.declared.snoop.Snoop.TheVariants.{SnpShared, SnpNotSha
 use Rattle.chi_flit.specs.declared.message.RspDown.TheVariants.{CompI, CompDBIDResp}
 use Rattle.chi_flit.specs.declared.message.Msg.TheVariants as messages
 use Rattle.chi_flit.specs.Kind.{snoop_of, is_copy_back}
-use Rattle.chi_filter.specs.Filter.{FilterState, is_in, has_any, others_than, is_named, owned_by, owner_without, removed}
+use Rattle.chi_filter.specs.Filter.{FilterState, is_in, has_any, others_than, is_named, owned_by, owner_without, filter_without}
 use Rattle.chi_wires.specs.declared.cells.Cells.{Cells}
 use Rattle.chi_wires.specs.Cell.{no_flits}
 use Rattle.chi_wires.specs.Flits.{with_snoops}
@@ -21,9 +21,9 @@ use Rattle.chi_homeline.specs.declared.serving.Waiting.{Waiting}
 use Rattle.chi_homeline.specs.declared.serving.Serving.TheVariants.{Idle, Snooping, AwaitingWriteData}
 use Rattle.chi_homeline.specs.declared.serving.Started.{Started}
 use Rattle.chi_homeline.specs.declared.serving.Started.TheVariants.{Sends, Evicted, Snoops}
-use Rattle.chi_homeline.specs.Home.{Home, asks, asks_shared, completes_unique, completed, completion_of, is_idle, started_as, started_sends_as, taken_up, waiting_of}
+use Rattle.chi_homeline.specs.Home.{Home, asks, asks_shared, completes_unique, home_after_completion, completion_of, is_idle, started_as, started_sends_as, taken_up, waiting_of}
 use Rattle.chi_line.specs.LineState.{LineState, cells_of}
-use Rattle.chi_line.specs.Step.{sent, started_line}
+use Rattle.chi_line.specs.Step.{flits_after_start, started_line}
 use Rattle.chi_line.specs.Coherent.{IsClean, passes_dirty}
 use Rattle.chi_line.specs.Kept.{Kept, Lane, LaneKept, allows, invalidates, lane}
 use Rattle.chi_line.proofs.Frame.{IsCleanLane, kept_moved, memory_by, moves_home, puts_nothing, puts_set, nothing_waiting, same_lane, within}
@@ -221,16 +221,16 @@ allows_evict state fits = search arith
 evicting_kept : (last : List ℕ) (s : LineState) (agent : Agent) (request : Waiting)
     → MayStart last s agent request → request.kind ≡ Evict
     → Kept last (record s {
-      home = record (taken_up s.home agent.0) { filter = removed s.home.filter agent.0 };
+      home = record (taken_up s.home agent.0) { filter = filter_without s.home.filter agent.0 };
       flits = slice_set s.flits agent.0 (record (cells_of s agent.0) { rsp_down = Some CompI });
     })
 evicting_kept last s agent request may evicts =
     let k = may.kept in
     let f = s.home.filter in
-    let f' : FilterState = removed s.home.filter agent.0 in
+    let f' : FilterState = filter_without s.home.filter agent.0 in
     let c : Cells = record (cells_of s agent.0) { rsp_down = Some CompI } in
     let x : Lane = record (lane s agent.0) { waiting = None; named = false; flits = c } in
-    let moves = moves_home s agent.0 (record (taken_up s.home agent.0) { filter = removed s.home.filter agent.0 }) _ x refl
+    let moves = moves_home s agent.0 (record (taken_up s.home agent.0) { filter = filter_without s.home.filter agent.0 }) _ x refl
     (puts_set no_flits s.flits agent.0 c (within agent.0 _ may.here k.flits)) (puts_set false f.named agent.0 false (within agent.0 _ may.here k.named)) (puts_nothing false s.home.awaited agent.0)
     (puts_set nothing_waiting s.home.waiting agent.0 nothing_waiting (within agent.0 _ may.here k.waiting)) in
     let own : LaneKept Idle f.unique f.owner last agent.0 (lane s agent.0) = idle_lanes last s agent request may agent.0 may.here in
@@ -255,12 +255,12 @@ is_evict kind unserved not_back = search arith
 
 -- the line after a start, where it is known what there is to do
 abbrev started_parts : LineState → Agent → Home → Started → LineState
-started_parts s agent home sends = record s { home = home; flits = sent s.flits agent.0 sends }
+started_parts s agent home sends = record s { home = home; flits = flits_after_start s.flits agent.0 sends }
 
 unserved_kept : (back : Bool) (last : List ℕ) (s : LineState) (agent : Agent) (request : Waiting)
     → MayStart last s agent request → snoop_of request.kind ≡ None → is_copy_back request.kind ≡ back
     → Kept last (started_parts s agent
-    (if back then record (taken_up s.home agent.0) { serving = AwaitingWriteData agent request.kind request.slot } else record (taken_up s.home agent.0) { filter = removed s.home.filter agent.0 })
+    (if back then record (taken_up s.home agent.0) { serving = AwaitingWriteData agent request.kind request.slot } else record (taken_up s.home agent.0) { filter = filter_without s.home.filter agent.0 })
     (if back then Sends (messages.RspDown CompDBIDResp) else Evicted request.slot))
 unserved_kept true last s agent request may unserved is = writing_kept last s agent request may
 unserved_kept false last s agent request may unserved is = evicting_kept last s agent request may (is_evict request.kind unserved is)
@@ -268,7 +268,7 @@ unserved_kept false last s agent request may unserved is = evicting_kept last s 
 served_kept : (asked : Bool) (last : List ℕ) (s : LineState) (agent : Agent) (request : Waiting) (snoop : Snoop)
     → MayStart last s agent request → snoop_of request.kind ≡ Some snoop → has_any (asks snoop s.home.filter agent.0) ≡ asked
     → Kept last (started_parts s agent
-    (if asked then record (taken_up s.home agent.0) { serving = Snooping agent request.kind request.slot; awaited = asks snoop s.home.filter agent.0 } else completed (taken_up s.home agent.0) snoop agent request.slot)
+    (if asked then record (taken_up s.home agent.0) { serving = Snooping agent request.kind request.slot; awaited = asks snoop s.home.filter agent.0 } else home_after_completion (taken_up s.home agent.0) snoop agent request.slot)
     (if asked then Snoops snoop (asks snoop s.home.filter agent.0) else Sends (completion_of s.home snoop agent s.home.memory)))
 served_kept true last s agent request snoop may is asked =
     snooping_kept last s agent request snoop (asks snoop s.home.filter agent.0) may is (asks_fit snoop s.home.filter agent.0 may.here may.kept.named)

@@ -17,7 +17,7 @@ use Rattle.chi_flit.specs.declared.message.DatUp.{DatUp}
 use Rattle.chi_flit.specs.declared.message.DatUp.TheVariants.{CopyBackWrData}
 use Rattle.chi_flit.specs.Kind.{snoop_of, is_copy_back}
 use Rattle.chi_flit.specs.Credit.{credit_number, credit_type_of}
-use Rattle.chi_filter.specs.Filter.{has_any, removed}
+use Rattle.chi_filter.specs.Filter.{has_any, filter_without}
 use Rattle.chi_wires.specs.declared.cells.Cells.{Cells}
 use Rattle.chi_wires.specs.Cell.{no_flits}
 use Rattle.chi_rnline.specs.Rn.{Rn, no_line}
@@ -26,7 +26,7 @@ use Rattle.chi_homeline.specs.declared.serving.Waiting.{Waiting}
 use Rattle.chi_homeline.specs.declared.serving.Serving.{Serving}
 use Rattle.chi_homeline.specs.declared.serving.Serving.TheVariants.{Idle, Snooping, AwaitingCompAck, AwaitingWriteData}
 use Rattle.chi_homeline.specs.declared.serving.SnoopAnswer.{SnoopAnswer}
-use Rattle.chi_homeline.specs.Home.{Home, answer_taken, asks, completed, completed_by, finished_as, served_kind, started_as, taken_up, waiting_of}
+use Rattle.chi_homeline.specs.Home.{Home, answer_taken, asks, home_after_completion, completed_by, finished_as, served_kind, started_as, taken_up, waiting_of}
 use Rattle.chi_line.specs.LineState.{LineState, rn_of, cells_of}
 use Rattle.chi_line.specs.Step.{admitted_line, after_step, answer_in, answered_by, completion_received, data_written, dbid_received_line, is_slot, issued_line, received_line, resent_line, retried_line, slot_served_for, snooped_line, started_line, waiting_slot, where_some}
 use Rattle.chi_line.specs.Types.{has_type, is_of_type, pending_kind_of, requested_kind_of, served_kind_of, waiting_kind_of}
@@ -102,11 +102,11 @@ started_kind profile ty kind o home agent own n slot waits t = by o
     serves : Has profile ty (if (agent.0 == n) && (own.0 == slot.0) then Some kind else None)
     serves = at (agent.0 == n) refl
 
-    snooped : (snoop : Snoop) (b : Bool) → Has profile ty (served_kind_of (if b then record home { serving = Snooping agent kind own; awaited = asks snoop home.filter agent.0 } else completed home snoop agent own).serving n slot)
+    snooped : (snoop : Snoop) (b : Bool) → Has profile ty (served_kind_of (if b then record home { serving = Snooping agent kind own; awaited = asks snoop home.filter agent.0 } else home_after_completion home snoop agent own).serving n slot)
     snooped snoop true = serves
     snooped snoop false = refl
 
-    unsnooped : (b : Bool) → Has profile ty (served_kind_of (if b then record home { serving = AwaitingWriteData agent kind own } else record home { filter = removed home.filter agent.0 }).serving n slot)
+    unsnooped : (b : Bool) → Has profile ty (served_kind_of (if b then record home { serving = AwaitingWriteData agent kind own } else record home { filter = filter_without home.filter agent.0 }).serving n slot)
     unsnooped true = serves
     unsnooped false = t
 

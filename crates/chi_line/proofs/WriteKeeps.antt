@@ -10,7 +10,7 @@ use Rattle.chi_flit.specs.declared.kind.Kind.{Kind}
 use Rattle.chi_flit.specs.declared.kind.Kind.TheVariants.{ReadNotSharedDirty, ReadShared, ReadUnique, CleanUnique, Evict, WriteBackFull, WriteCleanFull, WriteEvictFull}
 use Rattle.chi_flit.specs.declared.message.DatUp.TheVariants.{CopyBackWrData}
 use Rattle.chi_flit.specs.State.{is_valid, is_dirty}
-use Rattle.chi_filter.specs.Filter.{FilterState, has_any, is_named, others_than, owned_by, owner_without, removed}
+use Rattle.chi_filter.specs.Filter.{FilterState, has_any, is_named, others_than, owned_by, owner_without, filter_without}
 use Rattle.chi_homeline.specs.declared.serving.Serving.{Serving}
 use Rattle.chi_homeline.specs.declared.serving.Serving.TheVariants.{Idle, AwaitingWriteData}
 use Rattle.chi_homeline.specs.Home.{leaves, written_filter}
@@ -51,7 +51,7 @@ pub record FilterAfter (f after : FilterState) (n : ℕ) (valid : Bool) : Type 0
 and_first : (a b : Bool) → (a && b) ≡ true → a ≡ true
 and_first a b e = grind arith
 
-pub removed_after : (f : FilterState) (n : ℕ) (valid : Bool) → n < 8 → length f.named ≡ 8 → valid ≡ false → FilterAfter f (removed f n) n valid
+pub removed_after : (f : FilterState) (n : ℕ) (valid : Bool) → n < 8 → length f.named ≡ 8 → valid ≡ false → FilterAfter f (filter_without f n) n valid
 removed_after f n valid low eight gone = record {
   puts = record { at = refl; others = λ m apart. left_in n m f.named apart; long = length-set f.named n false };
   named_stays = λ is. absurd (both_ways valid gone is);
@@ -152,7 +152,7 @@ written_as : (b : Bool) (last : List ℕ) (s : LineState) (n : ℕ) (form : Stat
     → Kept last (taken_line s n (if is_dirty form then words else s.home.memory) (written_filter b s.home.filter n))
 written_as true last s n form words low here awaits gone k =
     let fits = removed_after s.home.filter n (is_valid (rn_of s n).state) low k.named (gone refl) in
-    taken_kept last s n form words _ _ low here awaits fits (memory_written last s n form words (removed s.home.filter n) (is_dirty form) low here refl fits k) k
+    taken_kept last s n form words _ _ low here awaits fits (memory_written last s n form words (filter_without s.home.filter n) (is_dirty form) low here refl fits k) k
 written_as false last s n form words low here awaits gone k =
     let fits = unowned_after s.home.filter n (is_valid (rn_of s n).state) in
     taken_kept last s n form words _ _ low here awaits fits (memory_written last s n form words (record s.home.filter { owner = owner_without s.home.filter.owner n }) (is_dirty form) low here refl fits k) k

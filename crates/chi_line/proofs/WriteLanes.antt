@@ -12,7 +12,7 @@ use Rattle.chi_flit.specs.declared.message.DatUp.TheVariants.{SnpRespDataIPD, Sn
 use Rattle.chi_flit.specs.State.{is_valid, is_dirty}
 use Rattle.chi_flit.specs.Kind.{snoop_of}
 use Rattle.chi_filter.specs.Filter.{owned_by}
-use Rattle.chi_wires.specs.Cell.{emptied}
+use Rattle.chi_wires.specs.Cell.{without_message}
 use Rattle.chi_homeline.specs.declared.serving.SnoopAnswer.{SnoopAnswer}
 use Rattle.chi_homeline.specs.declared.serving.SnoopAnswer.TheVariants as answers
 use Rattle.chi_homeline.specs.declared.serving.Serving.{Serving}
@@ -66,7 +66,7 @@ pub answered_lane : (answer : SnoopAnswer) (agent : Agent) (kind : Kind) (slot :
     → Brings x.flits.rsp_up x.flits.dat_up answer → owned_by owner' n ≡ owns_after answer
     → (shares (snoop_of kind) ≡ true → invalidates (snoop_of kind) ≡ false)
     → LaneKept (Snooping agent kind slot) unique owner last n x
-    → LaneKept (Snooping agent kind slot) false owner' last n (record x { named = named_after answer x.named; awaited = false; flits = emptied x.flits (answer_channel answer) })
+    → LaneKept (Snooping agent kind slot) false owner' last n (record x { named = named_after answer x.named; awaited = false; flits = without_message x.flits (answer_channel answer) })
 answered_lane answers.I agent kind slot unique owner owner' last n x here owns either k = search (arith, k)
 answered_lane other agent kind slot unique owner owner' last n x here owns either k = search (arith, k)
 

@@ -31,11 +31,11 @@ use Rattle.chi_flit.specs.declared.refusal.Refusal.{Refusal}
 use Rattle.chi_journal.specs.declared.record.Record.{Record}
 use Rattle.chi_journal.specs.declared.record.Record.TheVariants as records
 use Rattle.chi_wires.specs.declared.cells.Cells.{Cells}
-use Rattle.chi_wires.specs.Cell.{emptied, no_flits, with_message}
+use Rattle.chi_wires.specs.Cell.{without_message, no_flits, with_message}
 use Rattle.chi_wires.specs.Flits.{with_snoops}
 use Rattle.chi_rnline.specs.declared.pending.Pending.{Pending}
-use Rattle.chi_rnline.specs.Rn.{cancelled, comp_received, dbid_received, dropped, evict_received, issued, received, request_message, resent}
-use Rattle.chi_rnline.specs.Rn.{retry_received, snoop_received, stored, word_of}
+use Rattle.chi_rnline.specs.Rn.{rn_after_cancel, rn_after_comp, rn_after_dbid, rn_after_drop, rn_after_evict, rn_after_issue, rn_after_data, request_message, rn_after_resend}
+use Rattle.chi_rnline.specs.Rn.{rn_after_retry, rn_after_snoop, rn_after_store, word_of}
 use Rattle.chi_homeline.specs.declared.serving.Serving.{Serving}
 use Rattle.chi_homeline.specs.declared.serving.Serving.TheVariants.{Idle, Snooping, AwaitingCompAck, AwaitingWriteData}
 use Rattle.chi_homeline.specs.declared.serving.Waiting.{Waiting}
@@ -43,53 +43,53 @@ use Rattle.chi_homeline.specs.declared.serving.SnoopAnswer.{SnoopAnswer}
 use Rattle.chi_homeline.specs.declared.serving.SnoopAnswer.TheVariants as answers
 use Rattle.chi_homeline.specs.declared.serving.Started.{Started}
 use Rattle.chi_homeline.specs.declared.serving.Started.TheVariants.{Sends, Evicted, Snoops}
-use Rattle.chi_homeline.specs.Home.{Home, acknowledged, admitted, served_kind, served_slot, snoop_answered, snoop_answered_sends, started}
-use Rattle.chi_homeline.specs.Home.{started_sends, waiting_of, written}
+use Rattle.chi_homeline.specs.Home.{Home, home_after_ack, home_after_admit, served_kind, served_slot, snoop_answered, snoop_answered_sends, home_after_start}
+use Rattle.chi_homeline.specs.Home.{started_sends, waiting_of, home_after_write}
 use Rattle.chi_line.specs.LineState.{LineState, rn_of, cells_of}
 use Rattle.chi_line.specs.Snooped.{answer_channel, completion_put}
 
 -- Issue: the request is pending, and in flight with AllowRetry
 abbrev pub issued_line : LineState → ℕ → Kind → Slot → LineState
 issued_line s n kind slot = record s {
-  requesters = slice_set s.requesters n (issued (rn_of s n) kind slot);
+  requesters = slice_set s.requesters n (rn_after_issue (rn_of s n) kind slot);
   flits = slice_set s.flits n (with_message (cells_of s n) (request_message kind slot true));
 }
 
 -- Admit: the request that was in flight waits
 abbrev pub admitted_line : LineState → ℕ → Request → LineState
 admitted_line s n request = record s {
-  home = admitted s.home n (record { kind = request.kind; slot = request.slot });
+  home = home_after_admit s.home n (record { kind = request.kind; slot = request.slot });
   flits = slice_set s.flits n (record (cells_of s n) { req = None });
 }
 
 -- what a start leaves in flight
-abbrev pub sent : List Cells → ℕ → Started → List Cells
-sent flits n (Sends message) = slice_set flits n (with_message (slice_index_or flits n no_flits) message)
-sent flits n (Evicted slot) = slice_set flits n (with_message (slice_index_or flits n no_flits) (messages.RspDown CompI))
-sent flits n (Snoops snoop agents) = with_snoops agents snoop flits
+abbrev pub flits_after_start : List Cells → ℕ → Started → List Cells
+flits_after_start flits n (Sends message) = slice_set flits n (with_message (slice_index_or flits n no_flits) message)
+flits_after_start flits n (Evicted slot) = slice_set flits n (with_message (slice_index_or flits n no_flits) (messages.RspDown CompI))
+flits_after_start flits n (Snoops snoop agents) = with_snoops agents snoop flits
 
 -- Start: the home serves the request that waited, and sends what the start sends
 abbrev pub started_line : LineState → Agent → Waiting → LineState
-started_line s agent request = record s { home = started s.home agent request; flits = sent s.flits agent.0 (started_sends s.home agent request) }
+started_line s agent request = record s { home = home_after_start s.home agent request; flits = flits_after_start s.flits agent.0 (started_sends s.home agent request) }
 
 -- RecvData: the copy is the message's, nothing is pending, and CompAck is in flight
 abbrev pub received_line : LineState → ℕ → CompData → LineState
 received_line s n message = record s {
-  requesters = slice_set s.requesters n (received (rn_of s n) message);
+  requesters = slice_set s.requesters n (rn_after_data (rn_of s n) message);
   flits = slice_set s.flits n (record (cells_of s n) { dat_down = None; rsp_up = Some CompAck });
 }
 
 -- RecvAck: the CompAck is taken, and the line is idle
 abbrev pub acknowledged_line : LineState → ℕ → LineState
-acknowledged_line s n = record s { home = acknowledged s.home; flits = slice_set s.flits n (record (cells_of s n) { rsp_up = None }) }
+acknowledged_line s n = record s { home = home_after_ack s.home; flits = slice_set s.flits n (record (cells_of s n) { rsp_up = None }) }
 
 -- Store: the word of the copy has the value
 abbrev pub stored_line : LineState → ℕ → ℕ → ℕ → LineState
-stored_line s n word value = record s { requesters = slice_set s.requesters n (stored (rn_of s n) word value) }
+stored_line s n word value = record s { requesters = slice_set s.requesters n (rn_after_store (rn_of s n) word value) }
 
 -- Drop: no copy
 abbrev pub dropped_line : LineState → ℕ → LineState
-dropped_line s n = record s { requesters = slice_set s.requesters n (dropped (rn_of s n)) }
+dropped_line s n = record s { requesters = slice_set s.requesters n (rn_after_drop (rn_of s n)) }
 
 -- Retry: the request is taken, and RetryAck of its credit type is in flight
 abbrev pub retried_line : Profile → LineState → ℕ → Request → LineState
@@ -100,52 +100,52 @@ retried_line profile s n request = record s {
 -- RecvRetry: the request is in phase Retried
 abbrev pub retry_received_line : LineState → ℕ → LineState
 retry_received_line s n = record s {
-  requesters = slice_set s.requesters n (retry_received (rn_of s n));
+  requesters = slice_set s.requesters n (rn_after_retry (rn_of s n));
   flits = slice_set s.flits n (record (cells_of s n) { rsp_down = None });
 }
 
 -- Resend: the request is in flight without AllowRetry
 abbrev pub resent_line : LineState → ℕ → Pending → LineState
 resent_line s n request = record s {
-  requesters = slice_set s.requesters n (resent (rn_of s n));
+  requesters = slice_set s.requesters n (rn_after_resend (rn_of s n));
   flits = slice_set s.flits n (with_message (cells_of s n) (request_message request.kind request.slot false));
 }
 
 -- Cancel: nothing is pending
 abbrev pub cancelled_line : LineState → ℕ → LineState
-cancelled_line s n = record s { requesters = slice_set s.requesters n (cancelled (rn_of s n)) }
+cancelled_line s n = record s { requesters = slice_set s.requesters n (rn_after_cancel (rn_of s n)) }
 
 -- RecvSnp: the snoop is taken, and its answer is in flight
 abbrev pub snooped_line : LineState → ℕ → Snoop → LineState
 snooped_line s n snoop = record s {
-  requesters = slice_set s.requesters n (snoop_received (rn_of s n) snoop);
+  requesters = slice_set s.requesters n (rn_after_snoop (rn_of s n) snoop);
   flits = slice_set s.flits n (with_message (record (cells_of s n) { snp = None }) (answer_of (rn_of s n).state snoop (rn_of s n).words).1);
 }
 
 -- RecvComp of Comp_UC: CompAck is in flight
 abbrev pub comp_received_line : LineState → ℕ → LineState
 comp_received_line s n = record s {
-  requesters = slice_set s.requesters n (comp_received (rn_of s n));
+  requesters = slice_set s.requesters n (rn_after_comp (rn_of s n));
   flits = slice_set s.flits n (record (cells_of s n) { rsp_down = None; rsp_up = Some CompAck });
 }
 
 -- RecvComp of Comp_I
 abbrev pub evict_received_line : LineState → ℕ → LineState
 evict_received_line s n = record s {
-  requesters = slice_set s.requesters n (evict_received (rn_of s n));
+  requesters = slice_set s.requesters n (rn_after_evict (rn_of s n));
   flits = slice_set s.flits n (record (cells_of s n) { rsp_down = None });
 }
 
 -- RecvDbid of a request of the kind: the write data is in flight
 abbrev pub dbid_received_line : LineState → ℕ → Kind → LineState
 dbid_received_line s n kind = record s {
-  requesters = slice_set s.requesters n (dbid_received (rn_of s n) kind);
+  requesters = slice_set s.requesters n (rn_after_dbid (rn_of s n) kind);
   flits = slice_set s.flits n (record (cells_of s n) { rsp_down = None; dat_up = Some (write_data_of (rn_of s n).state (rn_of s n).words) });
 }
 
 -- RecvWrData of a request of the kind: the data is taken, and the line is idle
 abbrev pub written_line : LineState → ℕ → Kind → State → List ℕ → LineState
-written_line s n kind form words = record s { home = written s.home n kind form words; flits = slice_set s.flits n (record (cells_of s n) { dat_up = None }) }
+written_line s n kind form words = record s { home = home_after_write s.home n kind form words; flits = slice_set s.flits n (record (cells_of s n) { dat_up = None }) }
 
 -- a step that takes something away: none where there is nothing
 abbrev pub where_some : {A : Type 0} → LineState → Option A → (A → LineState) → LineState
@@ -174,7 +174,7 @@ answer_in cells = response_answer cells.rsp_up (data_answer cells.dat_up)
 abbrev pub answered_by : LineState → Agent → SnoopAnswer → LineState
 answered_by s agent answer = record s {
   home = snoop_answered s.home agent answer;
-  flits = completion_put (slice_set s.flits agent.0 (emptied (cells_of s agent.0) (answer_channel answer))) (snoop_answered_sends s.home agent answer);
+  flits = completion_put (slice_set s.flits agent.0 (without_message (cells_of s agent.0) (answer_channel answer))) (snoop_answered_sends s.home agent answer);
 }
 
 -- RecvComp of each completion

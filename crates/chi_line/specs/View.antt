@@ -13,8 +13,8 @@ abbrev pub pending_shown : Rn → Option Pending
 pending_shown rn = rn.pending
 
 -- the plain data of a line, with the values last stored to its words
-abbrev pub shown : LineState → List ℕ → LineView
-shown s last = record {
+abbrev pub line_view : LineState → List ℕ → LineView
+line_view s last = record {
   copies = map copy_shown s.requesters;
   pending = map pending_shown s.requesters;
   memory = s.home.memory;

@@ -84,7 +84,8 @@ impl Line {
         requires awaited { is_ack (cells_of self.old agent.0).rsp_up ≡ true
             → acks_for self.old.home.serving agent.0 ≡ true }
         ensures refusal { refusal_of result ≡ no_flit_unless (is_ack (cells_of self.old agent.0).rsp_up) }
-        ensures effect { IfOk result (λ effect. effect ≡ completed_effect (served_slot self.old.home.serving)) }
+        ensures effect { IfOk result
+            (λ effect. effect ≡ completed_effect (served_slot self.old.home.serving)) }
         ensures after { OnOk result (self.new ≡ acknowledged_line self.old agent.0) }
         ensures flits { OnOk result (Balances (flit_on self.old agent channels.RspUp) [] self.old self.new) }
         ensures err { OnErr result (self.new ≡ self.old) }
@@ -144,8 +145,10 @@ impl Line {
         requires agent { agent.0 < 8 }
         requires awaited { is_write_data (cells_of self.old agent.0).dat_up ≡ true
             → writes_for self.old.home.serving agent.0 ≡ true }
-        ensures refusal { refusal_of result ≡ no_flit_unless (is_write_data (cells_of self.old agent.0).dat_up) }
-        ensures effect { IfOk result (λ effect. effect ≡ completed_effect (served_slot self.old.home.serving)) }
+        ensures refusal { refusal_of result
+            ≡ no_flit_unless (is_write_data (cells_of self.old agent.0).dat_up) }
+        ensures effect { IfOk result
+            (λ effect. effect ≡ completed_effect (served_slot self.old.home.serving)) }
         ensures after { OnOk result (self.new
             ≡ where_some self.old (served_kind self.old.home.serving)
             (λ kind. data_written self.old agent.0 kind (cells_of self.old agent.0).dat_up)) }

@@ -20,7 +20,8 @@ impl Line {
     pub(crate) fn load(&self, agent: Agent, word: WordNo, full: bool) -> Result<Effect, Refusal>
         requires agent { agent.0 < 8 }
         requires word { word.0 < 8 }
-        ensures refusal { refusal_of result ≡ first_of (load_refusal (rn_of self.now agent.0)) (full_if full) }
+        ensures refusal { refusal_of result
+            ≡ first_of (load_refusal (rn_of self.now agent.0)) (full_if full) }
         ensures effect { IfOk result (λ effect. effect ≡ Value (word_of (rn_of self.now agent.0) word.0)) }
     {
         let value = self.requesters[usize::from(agent.0)].load(word)?;
@@ -45,7 +46,8 @@ impl Line {
     ) -> Result<Effect, Refusal>
         requires agent { agent.0 < 8 }
         requires word { word.0 < 8 }
-        ensures refusal { refusal_of result ≡ first_of (store_refusal (rn_of self.old agent.0)) (full_if full) }
+        ensures refusal { refusal_of result
+            ≡ first_of (store_refusal (rn_of self.old agent.0)) (full_if full) }
         ensures effect { IfOk result (λ effect. effect ≡ Nothing) }
         ensures after { OnOk result (self.new ≡ stored_line self.old agent.0 word.0 value) }
         ensures err { OnErr result (self.new ≡ self.old) }

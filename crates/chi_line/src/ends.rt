@@ -18,7 +18,7 @@ impl Line {
     ///
     /// Conditions: the agent's number is below 8.
     /// Source: `docs/PROTOCOL.md`, "The actions".
-    pub fn completed(&self, agent: Agent, step: Step) -> Option<Slot>
+    pub fn completed_slot(&self, agent: Agent, step: Step) -> Option<Slot>
         requires { agent.0 < 8 }
         ensures { result ≡ completed_at self.now.home (cells_of self.now agent.0) agent step }
     {
@@ -54,7 +54,7 @@ fn evicted_slot(home: &HomeLine, agent: Agent) -> Option<Slot>
 {
     let request = home.waiting(agent)?;
     match home.serving() {
-        Serving::Idle => evicted(request),
+        Serving::Idle => slot_of_evict(request),
         Serving::Snooping { .. }
         | Serving::AwaitingCompAck { .. }
         | Serving::AwaitingWriteData { .. } => None,
@@ -62,7 +62,7 @@ fn evicted_slot(home: &HomeLine, agent: Agent) -> Option<Slot>
 }
 
 /// The slot of a request that its start completes: that of an Evict.
-pub fn evicted(request: Waiting) -> Option<Slot>
+pub fn slot_of_evict(request: Waiting) -> Option<Slot>
     ensures { result ≡ evicted_if (snoop_of request.kind) (is_copy_back request.kind) request.slot }
 {
     if request.kind.snoop().is_some() || request.kind.is_copy_back() {

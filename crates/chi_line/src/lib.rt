@@ -7,7 +7,7 @@ mod completions;
 mod copies;
 mod ends;
 mod line;
-mod moved;
+mod moves;
 mod refusals;
 mod requests;
 mod seen;
@@ -18,7 +18,7 @@ mod view;
 
 pub use act::Conditions;
 pub use line::Line;
-pub use moved::Move;
+pub use moves::Move;
 pub use seen::Where;
 pub use slots::pending_slot;
 pub use types::{TypedSlot, pending_credit};

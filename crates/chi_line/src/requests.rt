@@ -17,11 +17,10 @@ use crate::act::Conditions;
 use crate::line::Line;
 use crate::refusals::to_resend;
 use chi_flit::{
-    Agent, Channel, CompData, Effect, Kind, Msg, Profile, Refusal, Request, RspDown, Slot,
-    credit_type,
+    Agent, Channel, Effect, Kind, Msg, Profile, Refusal, Request, RspDown, Slot, credit_type,
 };
 use chi_homeline::{Begun, Waiting};
-use chi_wires::{clear, exchange, put, put_data, put_snoops};
+use chi_wires::{clear, exchange, put, put_snoops};
 
 impl Line {
     /// Issue: the agent's request is pending, and in flight with AllowRetry.
@@ -42,7 +41,8 @@ impl Line {
             ≡ if used then Some refusals.Pending else issue_refusal (rn_of self.old agent.0) kind }
         ensures effect { IfOk result (λ effect. effect ≡ Nothing) }
         ensures after { OnOk result (self.new ≡ issued_line self.old agent.0 kind slot) }
-        ensures flits { OnOk result (Balances [] (flit agent (request_message kind slot true) ∷ []) self.old self.new) }
+        ensures flits { OnOk result
+            (Balances [] (flit agent (request_message kind slot true) ∷ []) self.old self.new) }
         ensures err { OnErr result (self.new ≡ self.old) }
     {
         if used {
@@ -80,7 +80,8 @@ impl Line {
     /// Source: `docs/PROTOCOL.md`, "The actions", Retry.
     pub(crate) fn retry(&mut self, agent: Agent, profile: Profile) -> Result<Effect, Refusal>
         requires agent { agent.0 < 8 }
-        requires empty { is_some (cells_of self.old agent.0).req ≡ true → (cells_of self.old agent.0).rsp_down ≡ None }
+        requires empty { is_some (cells_of self.old agent.0).req ≡ true
+            → (cells_of self.old agent.0).rsp_down ≡ None }
         ensures refusal { refusal_of result ≡ retry_refusal (cells_of self.old agent.0).req }
         ensures effect { IfOk result (λ effect. effect ≡ Nothing) }
         ensures after { OnOk result (self.new
@@ -108,7 +109,8 @@ impl Line {
         ensures refusal { refusal_of result ≡ no_flit_unless (is_retry (cells_of self.old agent.0).rsp_down) }
         ensures effect { IfOk result (λ effect. effect ≡ Nothing) }
         ensures after { OnOk result (self.new ≡ retry_received_line self.old agent.0) }
-        ensures flits { OnOk result (Balances (flit_on self.old agent channels.RspDown) [] self.old self.new) }
+        ensures flits { OnOk result
+            (Balances (flit_on self.old agent channels.RspDown) [] self.old self.new) }
         ensures err { OnErr result (self.new ≡ self.old) }
     {
         let cells = &self.flits[usize::from(agent.0)];
@@ -132,7 +134,8 @@ impl Line {
     /// Source: `docs/PROTOCOL.md`, "The actions", Resend.
     pub(crate) fn resend(&mut self, agent: Agent, conditions: Conditions) -> Result<Effect, Refusal>
         requires agent { agent.0 < 8 }
-        requires empty { resend_refusal (rn_of self.old agent.0) ≡ None → (cells_of self.old agent.0).req ≡ None }
+        requires empty { resend_refusal (rn_of self.old agent.0) ≡ None
+            → (cells_of self.old agent.0).req ≡ None }
         ensures refusal { refusal_of result ≡ resend_step_refusal conditions (rn_of self.old agent.0) }
         ensures effect { IfOk result (λ effect. effect ≡ Nothing) }
         ensures after { OnOk result (self.new
@@ -158,7 +161,8 @@ impl Line {
         requires agent { agent.0 < 8 }
         requires down { is_some (waiting_of self.old.home agent.0) ≡ true
             → ((cells_of self.old agent.0).rsp_down ≡ None) × ((cells_of self.old agent.0).dat_down ≡ None) }
-        requires no_snoops { is_idle self.old.home.serving ≡ true → (other : ℕ) → (cells_of self.old other).snp ≡ None }
+        requires no_snoops { is_idle self.old.home.serving ≡ true → (other : ℕ)
+            → (cells_of self.old other).snp ≡ None }
         ensures refusal { refusal_of result ≡ start_refusal self.old.home agent.0 }
         ensures effect { IfOk result
             (λ effect. effect ≡ waiting_effect self.old.home agent (waiting_of self.old.home agent.0)) }
@@ -169,13 +173,8 @@ impl Line {
         ensures err { OnErr result (self.new ≡ self.old) }
     {
         match self.home.begin(agent)? {
-            Begun::Data { unique } => {
-                let words = self.home.memory();
-                put_data(&mut self.flits, agent, CompData { unique, words });
-                Ok(Effect::Nothing)
-            }
-            Begun::Unique => {
-                put(&mut self.flits, agent, Msg::RspDown(RspDown::CompUC));
+            Begun::Completes(form) => {
+                put(&mut self.flits, agent, form.message(self.home.memory()));
                 Ok(Effect::Nothing)
             }
             Begun::WriteData => {

@@ -58,7 +58,8 @@ impl Line {
             → is_named self.old.home.filter agent.0 ≡ true }
         requires down { (other : ℕ) → snoops_for self.old.home.serving other ≡ true
             → ((cells_of self.old other).rsp_down ≡ None) × ((cells_of self.old other).dat_down ≡ None) }
-        ensures refusal { refusal_of result ≡ no_flit_unless (is_some (answer_in (cells_of self.old agent.0))) }
+        ensures refusal { refusal_of result
+            ≡ no_flit_unless (is_some (answer_in (cells_of self.old agent.0))) }
         ensures effect { IfOk result (λ effect. effect ≡ Nothing) }
         ensures after { OnOk result (self.new
             ≡ where_some self.old (answer_in (cells_of self.old agent.0)) (answered_by self.old agent)) }

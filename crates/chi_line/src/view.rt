@@ -1,7 +1,7 @@
 //! A line as plain data.
 
 ghost use Rattle.std.specs.Prelude.{◌≡◌, map};
-ghost use Rattle.chi_line.specs.View.{copy_shown, pending_shown, shown};
+ghost use Rattle.chi_line.specs.View.{copy_shown, pending_shown, line_view};
 
 use crate::line::Line;
 use chi_flit::{Agent, Data, NO_DATA, State};
@@ -58,7 +58,7 @@ impl Line {
     /// The line as plain data; last are the values last stored to its words.
     /// Source: `docs/PROTOCOL.md`, "One line" and "The journal and last values".
     pub fn view(&self, last: Data) -> LineView
-        ensures { result ≡ shown self.now last }
+        ensures { result ≡ line_view self.now last }
     {
         let home = &self.home;
         let filter = home.filter();

@@ -4,7 +4,7 @@ ghost use Rattle.std.specs.Prelude.{◌<◌};
 
 use crate::told::same;
 use chi_flit::{Agent, Kind, NO_DATA, Refusal, Slot, Snoop, State};
-use chi_homeline::{Begun, HomeLine, Serving, Waiting};
+use chi_homeline::{Begun, CompletionForm, HomeLine, Serving, Waiting};
 use std::process::Abort;
 
 const NOBODY: [bool; 8] = [false; 8];
@@ -71,7 +71,11 @@ fn completes_a_read_and_waits_for_its_ack(rt: HostRuntime) {
     );
 
     // nobody else is named: the copy is unique
-    same(&rt, starts(&mut home, 0), Ok(Begun::Data { unique: true }));
+    same(
+        &rt,
+        starts(&mut home, 0),
+        Ok(Begun::Completes(CompletionForm::Data { unique: true })),
+    );
     same(&rt, home.waiting(Agent(0)), None);
     same(&rt, names(&home), (FIRST, true));
     let served = Serving::AwaitingCompAck {
@@ -99,7 +103,11 @@ fn completes_a_read_and_waits_for_its_ack(rt: HostRuntime) {
 fn starts_evictions_and_copy_backs(rt: HostRuntime) {
     let mut home = HomeLine::new();
     waits(&mut home, 0, Kind::ReadUnique, 0);
-    same(&rt, starts(&mut home, 0), Ok(Begun::Data { unique: true }));
+    same(
+        &rt,
+        starts(&mut home, 0),
+        Ok(Begun::Completes(CompletionForm::Data { unique: true })),
+    );
     let served = Serving::AwaitingCompAck {
         agent: Agent(0),
         slot: Slot(0),
@@ -128,6 +136,10 @@ fn starts_evictions_and_copy_backs(rt: HostRuntime) {
 fn completes_a_clean_unique_without_data(rt: HostRuntime) {
     let mut home = HomeLine::new();
     waits(&mut home, 7, Kind::CleanUnique, 4);
-    same(&rt, starts(&mut home, 7), Ok(Begun::Unique));
+    same(
+        &rt,
+        starts(&mut home, 7),
+        Ok(Begun::Completes(CompletionForm::NoData)),
+    );
     same(&rt, names(&home), (LAST, true));
 }

@@ -22,11 +22,11 @@ use Rattle.chi_line.specs.LineState.{cells_of}
 use Rattle.chi_line.specs.Moves.{requested_slot}
 use Rattle.chi_line.proofs.MoveLaw.{flit_at}
 use Rattle.chi_line.specs.Refused.{no_flit_unless, retry_refusal}
-use Rattle.chi_slice.specs.Slice.{SliceState, acted, is_in_range, is_line_in_range, line, refused}
+use Rattle.chi_slice.specs.Slice.{SliceState, slice_after, is_in_range, is_line_in_range, line, action_refusal}
 use Rattle.chi_line.specs.Types.{has_type, is_of_type, pending_kind_of, requested_kind_of}
 use Rattle.chi_slice.proofs.Rows.{both}
 use Rattle.chi_credit.specs.declared.slot.SlotState.TheVariants as states
-use Rattle.chi_credit.specs.Account.{moved, slot_at, type_at}
+use Rattle.chi_credit.specs.Account.{slots_with_state, slot_at, type_at}
 use Rattle.chi_node.specs.declared.answers.Arrived.{Arrived}
 use Rattle.chi_node.specs.declared.answers.Arrived.TheVariants.{Admitted, Retried}
 use Rattle.chi_node.specs.Parts.{is_of_profile}
@@ -53,12 +53,12 @@ with_step false b h = h
 not_refused : (b : Bool) (by : Option Refusal) → b ≡ true → by ≡ None → (if b then by else Some OutOfRange) ≡ None
 not_refused b by inside none = ap (λ (c : Bool). if c then by else Some OutOfRange) inside ∙ none
 
-admit_allowed : (s : SliceState) (r : RequesterState) (l : Line) (request : Request) → CanArriveOn s r l request → refused s (action_of (agent_of r) l steps.Admit) ≡ None
+admit_allowed : (s : SliceState) (r : RequesterState) (l : Line) (request : Request) → CanArriveOn s r l request → action_refusal s (action_of (agent_of r) l steps.Admit) ≡ None
 admit_allowed s r l request can =
     not_refused (is_in_range s (action_of (agent_of r) l steps.Admit)) _ (with_step (nat_lt r.number s.config.agents) (is_line_in_range s l.0) can.inside)
     (ap (λ (o : Option Request). no_flit_unless (is_some o)) can.flit)
 
-retry_allowed : (s : SliceState) (r : RequesterState) (l : Line) (request : Request) → CanArriveOn s r l request → request.allow_retry ≡ true → refused s (action_of (agent_of r) l steps.Retry) ≡ None
+retry_allowed : (s : SliceState) (r : RequesterState) (l : Line) (request : Request) → CanArriveOn s r l request → request.allow_retry ≡ true → action_refusal s (action_of (agent_of r) l steps.Retry) ≡ None
 retry_allowed s r l request can first =
     not_refused (is_in_range s (action_of (agent_of r) l steps.Retry)) _ (with_step (nat_lt r.number s.config.agents) (is_line_in_range s l.0) can.inside)
     (ap retry_refusal can.flit ∙ ap (λ (b : Bool). if b then None else Some refusals.MustAccept) first)
@@ -115,7 +115,7 @@ can_arrive s r l request can agrees types = go request.allow_retry refl
 
 -- the slot's record follows what arrives
 admits : (s : SliceState) (r r' : RequesterState) (l : Line) (request : Request) (b : Bool) (e : Entry) (port : PortView) → CanArriveOn s r l request → Agree s r → request.allow_retry ≡ b → (slot_at r.slots request.slot.0).answered ≡ false
-    → r' ≡ with_both port (moved r.slots request.slot.0 (states.Admitted e)) r → OwnFollows s (agent_of r) l steps.Admit r r'
+    → r' ≡ with_both port (slots_with_state r.slots request.slot.0 (states.Admitted e)) r → OwnFollows s (agent_of r) l steps.Admit r r'
 admits s r r' l request b e port can agrees is unanswered new =
     let own : Own s (agent_of r) l steps.Admit r (from_by b) request.slot = own_admit s r l request b can agrees is in
     let ready : Ready s (agent_of r) l steps.Admit r = ready_admit s r l request can agrees in
@@ -123,7 +123,7 @@ admits s r r' l request b e port can agrees is unanswered new =
     (ap (λ (x : Bool). if x then Some places.Answered else Some places.Admitted) unanswered))
 
 retries : (s : SliceState) (r r' : RequesterState) (l : Line) (request : Request) (port : PortView) → CanArriveOn s r l request → Agree s r → request.allow_retry ≡ true
-    → r' ≡ with_both port (moved r.slots request.slot.0 states.Refused) r → OwnFollows s (agent_of r) l steps.Retry r r'
+    → r' ≡ with_both port (slots_with_state r.slots request.slot.0 states.Refused) r → OwnFollows s (agent_of r) l steps.Retry r r'
 retries s r r' l request port can agrees first new =
     let ready : Ready s (agent_of r) l steps.Retry r = ready_by s (agent_of r) l steps.Retry r refl can.kept can.numbers (retry_allowed s r l request can first) agrees can.requester in
     let own : Own s (agent_of r) l steps.Retry r places.Sent request.slot = own_at s (agent_of r) l steps.Retry r places.Sent request.slot ready (ap requested_slot can.flit) refl in
@@ -131,7 +131,7 @@ retries s r r' l request port can agrees first new =
 
 -- what the slice and the requester have to do together
 pub record ArrivalKept (s : SliceState) (r r' : RequesterState) (l : Line) (arrived : Arrived) : Type 0 where
-  pub allowed : refused s (arrival_action r.number l arrived) ≡ None
+  pub allowed : action_refusal s (arrival_action r.number l arrived) ≡ None
   pub follows : OwnFollows s (agent_of r) l (arrival_step arrived) r r'
 
 pub arrival_kept : (s : SliceState) (r r' : RequesterState) (l : Line) (request : Request) (arrived : Arrived) → CanArriveOn s r l request → Agree s r → Arrives request.allow_retry request.slot.0 arrived r r' → ArrivalKept s r r' l arrived
@@ -143,7 +143,7 @@ arrival_kept s r r' l request arrived can agrees = go request.allow_retry refl a
     go false is (Admitted e) a = record { allowed = admit_allowed s r l request can; follows = admits s r r' l request false e _ can agrees is a.0 a.3 }
     go false is (Retried ty) a = absurd a
 
-pub keeps_arrival : (s s' : SliceState) (r r' : RequesterState) (l : Line) (request : Request) (arrived : Arrived) → CanArriveOn s r l request → Agree s r → Arrives request.allow_retry request.slot.0 arrived r r' → s' ≡ acted s (arrival_action r.number l arrived) → KeepsAgreement s s' r r'
+pub keeps_arrival : (s s' : SliceState) (r r' : RequesterState) (l : Line) (request : Request) (arrived : Arrived) → CanArriveOn s r l request → Agree s r → Arrives request.allow_retry request.slot.0 arrived r r' → s' ≡ slice_after s (arrival_action r.number l arrived) → KeepsAgreement s s' r r'
 keeps_arrival s s' r r' l request arrived can agrees a after =
     let k : ArrivalKept s r r' l arrived = arrival_kept s r r' l request arrived can agrees a in
     let ready : Ready s (agent_of r) l (arrival_step arrived) r = ready_by s (agent_of r) l (arrival_step arrived) r refl can.kept can.numbers k.allowed agrees can.requester in

@@ -11,7 +11,7 @@ use Rattle.chi_flit.specs.declared.numbers.Entry.{Entry}
 use Rattle.chi_flit.specs.declared.credit.CreditType.{CreditType}
 use Rattle.chi_flit.specs.Credit.{credit_number}
 use Rattle.chi_tracker.specs.declared.shape.Shape.{Shape}
-use Rattle.chi_tracker.specs.Sums.{below, set_at, raised, with_bit, dropped}
+use Rattle.chi_tracker.specs.Sums.{below, set_at, one_more, with_bit, without_bit}
 use Rattle.chi_tracker.specs.Shape.{low, size}
 use Rattle.chi_tracker.specs.Views.{PortView, has}
 use Rattle.chi_tracker.specs.Calls.{saw_all, seen_of, set_count}
@@ -72,18 +72,18 @@ pub taken_inside : (p q : PortView) (e n : ℕ) → e < n → q.hand ≡ with_bi
 taken_inside p q e n below is inside i l = ap (λ (z : ℕ). bit_at z i) is ∙ with_else p.hand e i (λ k. absurd (omega arith)) ∙ inside i l
 
 -- a slot's entry left the hand
-pub left_entries : (a b : List SlotRecord) (p q : PortView) (e : ℕ) → FallsAt e (holders_of a) (holders_of b) → q.hand ≡ dropped p.hand e → HasEntries a p → HasEntries b q
+pub left_entries : (a b : List SlotRecord) (p q : PortView) (e : ℕ) → FallsAt e (holders_of a) (holders_of b) → q.hand ≡ without_bit p.hand e → HasEntries a p → HasEntries b q
 left_entries a b p q e falls is keeps = record {
   entries = λ i.
-      let h : has i q ≡ bit_at (dropped p.hand e) i = ap (λ (z : ℕ). bit_at z i) is in
+      let h : has i q ≡ bit_at (without_bit p.hand e) i = ap (λ (z : ℕ). bit_at z i) is in
       dite (ℕ_discrete i e)
-      (λ k. subst (λ (x : ℕ). has x q ≡ holders_of b x) (sym k) (let here : has e q ≡ bit_at (dropped p.hand e) e = ap (λ (z : ℕ). bit_at z e) is in omega (arith, dropped_here p.hand e, bit_at-lt p.hand e, falls.less, keeps.entries e)))
+      (λ k. subst (λ (x : ℕ). has x q ≡ holders_of b x) (sym k) (let here : has e q ≡ bit_at (without_bit p.hand e) e = ap (λ (z : ℕ). bit_at z e) is in omega (arith, dropped_here p.hand e, bit_at-lt p.hand e, falls.less, keeps.entries e)))
       (λ d. omega (arith, dropped_else p.hand e i d, falls.others i d, keeps.entries i));
 }
 
-pub left_inside : (p q : PortView) (e n : ℕ) → q.hand ≡ dropped p.hand e → ((i : ℕ) → n ≤ i → has i p ≡ 0) → (i : ℕ) → n ≤ i → has i q ≡ 0
+pub left_inside : (p q : PortView) (e n : ℕ) → q.hand ≡ without_bit p.hand e → ((i : ℕ) → n ≤ i → has i p ≡ 0) → (i : ℕ) → n ≤ i → has i q ≡ 0
 left_inside p q e n is inside i l = dite (ℕ_discrete i e)
-    (λ k. ap (λ (z : ℕ). bit_at z i) is ∙ ap (bit_at (dropped p.hand e)) k ∙ dropped_here p.hand e)
+    (λ k. ap (λ (z : ℕ). bit_at z i) is ∙ ap (bit_at (without_bit p.hand e)) k ∙ dropped_here p.hand e)
     (λ d. ap (λ (z : ℕ). bit_at z i) is ∙ dropped_else p.hand e i d ∙ inside i l)
 
 -- the entry of an Admitted slot is in hand, and one of the tracker's
@@ -100,15 +100,15 @@ in_hand entries r b was found kept falls at = λ e is. subst (λ (x : Entry). ha
     same a c h = cc (h)
 
 -- one more credit is owed, and due to one more slot
-pub owed_due : (a b : List SlotRecord) (p q : PortView) (t : ℕ) → GrowsAt t (due_of a) (due_of b) → q.retries ≡ raised p.retries t → q.spent ≡ p.spent → q.returned ≡ p.returned → HasDue a p → HasDue b q
+pub owed_due : (a b : List SlotRecord) (p q : PortView) (t : ℕ) → GrowsAt t (due_of a) (due_of b) → q.retries ≡ one_more p.retries t → q.spent ≡ p.spent → q.returned ≡ p.returned → HasDue a p → HasDue b q
 owed_due a b p q t grows retries spent returned keeps = record {
   due = λ u l.
-      let m : slice_index q.retries u ≡ slice_index (raised p.retries t) u = ap (λ (z : List ℕ). slice_index z u) retries in
+      let m : slice_index q.retries u ≡ slice_index (one_more p.retries t) u = ap (λ (z : List ℕ). slice_index z u) retries in
       let s : slice_index q.spent u ≡ slice_index p.spent u = ap (λ (z : List ℕ). slice_index z u) spent in
       let g : slice_index q.returned u ≡ slice_index p.returned u = ap (λ (z : List ℕ). slice_index z u) returned in
       dite (ℕ_discrete u t)
       (λ k. let more : due_of b u ≡ due_of a u + 1 = subst (λ (z : ℕ). due_of b z ≡ due_of a z + 1) (sym k) grows.more in
-      let r : slice_index (raised p.retries t) u ≡ slice_index p.retries u + 1 = subst (λ (z : ℕ). slice_index (raised p.retries t) z ≡ slice_index p.retries z + 1) (sym k) (raised_here p.retries t) in omega (arith, keeps.due u l))
+      let r : slice_index (one_more p.retries t) u ≡ slice_index p.retries u + 1 = subst (λ (z : ℕ). slice_index (one_more p.retries t) z ≡ slice_index p.retries z + 1) (sym k) (raised_here p.retries t) in omega (arith, keeps.due u l))
       (λ d. omega (arith, grows.others u d, raised_else p.retries t u d, keeps.due u l));
 }
 

@@ -5,7 +5,7 @@ use Rattle.std.specs.Prelude.{IsTrue}
 use Rattle.chi_flit.specs.declared.numbers.Slot.{Slot}
 use Rattle.chi_slice.specs.declared.places.Place.{Place}
 use Rattle.chi_line.specs.declared.seen.Where.{Where}
-use Rattle.chi_slice.specs.Index.{HasType, IsInside, IsShown, at_line, placed}
+use Rattle.chi_slice.specs.Index.{HasType, IsInside, IsShown, at_line, place_of_where}
 use Rattle.chi_line.specs.Places.{where_at}
 use Rattle.chi_config.specs.Config.{is_slice_count}
 use Rattle.chi_slice.specs.Slice.{SliceKept, SliceState, is_line_in_range, last_of, line}
@@ -62,7 +62,7 @@ ShowsSaid s n slot x = (l : ℕ) → is_line_in_range s l ≡ true → where_at 
 placed_shows : (s : SliceState) (n : ℕ) (slot : Slot) (x : SlotRecord) (place : Option Place) → IsShown s n slot place → place ≡ said_place x → ShowsSaid s n slot x
 placed_shows s n slot x place seen same l there = seen l there ∙ (ap (λ (o : Option Place). at_line o l) same ∙ says (where_of_state x.state x.answered))
   where
-    says : (at : Option Where) → at_line (placed x.line at) l ≡ shown_at x.line.0 at l
+    says : (at : Option Where) → at_line (place_of_where x.line at) l ≡ shown_at x.line.0 at l
     says None = sym (shown_nothing x.line.0 l)
     says (Some at) = refl
 
@@ -75,10 +75,10 @@ unplaced_shows s n slot x seen out l there = seen l there ∙ says (where_of_sta
 
 -- and so it says, where each line shows it
 placed_said : (s : SliceState) (n : ℕ) (slot : Slot) (x : SlotRecord) (p : Place) (at : Option Where) → IsShown s n slot (Some p) → is_line_in_range s p.line.0 ≡ true
-    → ((l : ℕ) → is_line_in_range s l ≡ true → where_at (line s l) n slot ≡ shown_at x.line.0 at l) → Some p ≡ placed x.line at
+    → ((l : ℕ) → is_line_in_range s l ≡ true → where_at (line s l) n slot ≡ shown_at x.line.0 at l) → Some p ≡ place_of_where x.line at
 placed_said s n slot x p at seen there shows =
     let own : (x.line.0 ≡ p.line.0) × (at ≡ Some p.at) = shown_some x.line.0 p.line.0 at p.at (sym (shows p.line.0 there) ∙ (seen p.line.0 there ∙ shown_here p.line.0 (Some p.at))) in
-    sym (ap (placed x.line) own.1 ∙ (λ i. Some (record { line = record { 0 = own.0 i }; at = p.at })))
+    sym (ap (place_of_where x.line) own.1 ∙ (λ i. Some (record { line = record { 0 = own.0 i }; at = p.at })))
 
 unplaced_said : (s : SliceState) (n : ℕ) (slot : Slot) (x : SlotRecord) (at : Option Where) (here : Bool) → IsShown s n slot None → here ≡ is_line_in_range s x.line.0
     → ((l : ℕ) → is_line_in_range s l ≡ true → where_at (line s l) n slot ≡ shown_at x.line.0 at l) → (is_some at && here) ≡ false

@@ -27,7 +27,7 @@ use Rattle.chi_slice.specs.Index.{SlotsInRange}
 use Rattle.chi_line.specs.LineState.{cells_of, rn_of}
 use Rattle.chi_line.specs.Refused.{first_of, full_if, line_refusal}
 use Rattle.chi_line.specs.Refused.{credit_refusal as line_credit_refusal}
-use Rattle.chi_slice.specs.Slice.{SliceKept, SliceState, acted, conditions_under, is_in_range, is_slot_used, line, moved_by, refused, refused_under}
+use Rattle.chi_slice.specs.Slice.{SliceKept, SliceState, slice_after, conditions_under, is_in_range, is_slot_used, line, moved_by, action_refusal, refused_under}
 use Rattle.chi_slice.proofs.Refusing.{allowed_alone}
 use Rattle.chi_line.specs.Step.{effect_of, is_comp, pending_slot}
 use Rattle.chi_line.specs.Types.{has_type, is_of_type, pending_credit, pending_kind_of}
@@ -52,7 +52,7 @@ use Rattle.chi_node.proofs.Agreement.{action_of, counts_step, keeps}
 use Rattle.chi_node.proofs.Records.{restated, tells_of}
 use Rattle.chi_node.proofs.Stepping.{Fine, Ready, answer_fine, change_fine, comp_fine, fine_end, fine_load, fine_start, fine_step, issue_fine, no_slot_moves}
 
-pub ready_by : (s : SliceState) (agent : Agent) (l : Line) (step : Step) (r : RequesterState) → agent.0 ≡ r.number → SliceKept s → SlotsInRange s → refused s (action_of agent l step) ≡ None → Agree s r → RequesterKept r.port.shape.sizes r → Ready s agent l step r
+pub ready_by : (s : SliceState) (agent : Agent) (l : Line) (step : Step) (r : RequesterState) → agent.0 ≡ r.number → SliceKept s → SlotsInRange s → action_refusal s (action_of agent l step) ≡ None → Agree s r → RequesterKept r.port.shape.sizes r → Ready s agent l step r
 ready_by s agent l step r own kept numbers may agrees requester =
     let by : Allowed s (action_of agent l step) = allowed s (action_of agent l step) may in
     let inside : InRange s (action_of agent l step) = in_range s (action_of agent l step) kept by.inside in
@@ -204,7 +204,7 @@ pub record StepKept (s s' : SliceState) (action : Action) (r r' : RequesterState
   pub agreement : KeepsAgreement s s' r r'
   pub history : CountsStep s s' action r r'
 
-pub step_kept : (s s' : SliceState) (r r' : RequesterState) (action : Action) (at : StepPlace) (effect : Effect) (released : Option Released) → CanStep s r action → effect ≡ effect_of (line s action.line.0) action → s' ≡ acted s action → at ≡ place_at s action
+pub step_kept : (s s' : SliceState) (r r' : RequesterState) (action : Action) (at : StepPlace) (effect : Effect) (released : Option Released) → CanStep s r action → effect ≡ effect_of (line s action.line.0) action → s' ≡ slice_after s action → at ≡ place_at s action
     → Finishes at action.step effect released r r' → StepKept s s' action r r'
 step_kept s s' r r' action at effect released can is after place finishes =
     let ready = ready_of s action.agent action.line action.step r can in
@@ -215,7 +215,7 @@ step_kept s s' r r' action at effect released can is after place finishes =
       history = counts_step s action.agent action.line action.step r r' can.both.slice ready.here can.own follows can.agrees legal;
     })
 
-pub place_is : (s s' : SliceState) (action : Action) (index : ℕ) (profile : Profile) (slot : Option Slot) → s' ≡ acted s action → index ≡ s'.index → profile ≡ s'.config.profile → slot ≡ moved_by s action
+pub place_is : (s s' : SliceState) (action : Action) (index : ℕ) (profile : Profile) (slot : Option Slot) → s' ≡ slice_after s action → index ≡ s'.index → profile ≡ s'.config.profile → slot ≡ moved_by s action
     → record { line = action.line; index = index; profile = profile; slot = slot } ≡ place_at s action
 place_is s s' action index profile slot after here of_slice moved =
     let i : index ≡ s.index = here ∙ ap (λ (z : SliceState). z.index) after in

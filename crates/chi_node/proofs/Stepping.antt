@@ -31,8 +31,8 @@ use Rattle.chi_line.proofs.Wheres.{unused_shows}
 use Rattle.chi_credit.specs.declared.slot.SlotState.{SlotState}
 use Rattle.chi_credit.specs.declared.slot.SlotState.TheVariants as states
 use Rattle.chi_credit.specs.declared.slot.SlotRecord.{SlotRecord}
-use Rattle.chi_credit.specs.Slot.{after_answer, after_finish, can_be_answered, in_state, is_admitted, opened}
-use Rattle.chi_credit.specs.Account.{moved, slot_at, state_at}
+use Rattle.chi_credit.specs.Slot.{after_answer, after_finish, can_be_answered, in_state, is_admitted, opened_slot}
+use Rattle.chi_credit.specs.Account.{slots_with_state, slot_at, state_at}
 use Rattle.chi_node.specs.Requester.{RequesterState, with_both}
 use Rattle.chi_node.specs.Agree.{MatchesRecord, where_of_state}
 use Rattle.chi_node.specs.AfterStep.{CanFinish, CanFollow, Completes, Finishes, SlotMeets, account_after, changed_at, counts_after, requester_after}
@@ -130,7 +130,7 @@ fine_load s agent l step r value ready f = record { can = f.0; after = λ releas
 
 pub issue_fine : (s : SliceState) (agent : Agent) (l : Line) (kind : Kind) (slot : Slot) (r : RequesterState) → Ready s agent l (steps.Issue kind slot) r → slot.0 < 8 → state_at r.slots slot.0 ≡ states.Idle → SlotsFine s agent l (steps.Issue kind slot) r
 issue_fine s agent l kind slot r ready low idle =
-    let new : SlotRecord = opened l (credit_type_of s.config.profile kind) in (
+    let new : SlotRecord = opened_slot l (credit_type_of s.config.profile kind) in (
       (low, idle),
       one_moves s agent l (steps.Issue kind slot) r.slots slot new ready.eight ready.here ready.moves refl ready.matching
           (moves_to s agent l (steps.Issue kind slot) slot (slot_at r.slots slot.0) new ready.moves (is_itself (Some slot) slot refl)
@@ -209,7 +209,7 @@ fine_start s agent l r (Completed slot) ready is =
 
 -- a request that arrives at the home
 pub arrival_follows : (s : SliceState) (agent : Agent) (l : Line) (step : Step) (r : RequesterState) (from : Where) (slot : Slot) (state : SlotState) (port : PortView) → Ready s agent l step r → Own s agent l step r from slot → issued_slot step ≡ None → record_of (line s l.0) (action_of agent l step) ≡ None
-    → where_of_state state (slot_at r.slots slot.0).answered ≡ moved_to (line s l.0) agent step → OwnFollows s agent l step r (with_both port (moved r.slots slot.0 state) r)
+    → where_of_state state (slot_at r.slots slot.0).answered ≡ moved_to (line s l.0) agent step → OwnFollows s agent l step r (with_both port (slots_with_state r.slots slot.0 state) r)
 arrival_follows s agent l step r from slot state port ready own unissued unrecorded to = record {
   number = refl;
   slots = slot_moves s agent l step r from slot (in_state state (slot_at r.slots slot.0)) ready own unissued (restated (slot_at r.slots slot.0) state (moved_to (line s l.0) agent step) to);

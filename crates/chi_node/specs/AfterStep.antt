@@ -14,7 +14,7 @@ use Rattle.chi_tracker.specs.Views.{has}
 use Rattle.chi_tracker.specs.Calls.{seen_of, Ended, HasSameCredits}
 use Rattle.chi_credit.specs.declared.slot.SlotState.TheVariants.{Admitted, Idle, Refused, Retried, Riding, Cancelled}
 use Rattle.chi_credit.specs.declared.slot.SlotRecord.{SlotRecord}
-use Rattle.chi_credit.specs.Slot.{after_answer, after_finish, can_be_answered, in_state, is_admitted, opened}
+use Rattle.chi_credit.specs.Slot.{after_answer, after_finish, can_be_answered, in_state, is_admitted, opened_slot}
 use Rattle.chi_credit.specs.Account.{riding_of, slot_at, state_at, type_at}
 use Rattle.chi_node.specs.declared.steps.StepPlace.{StepPlace}
 use Rattle.chi_node.specs.Requester.{RequesterState, with_both}
@@ -26,7 +26,7 @@ changed_at (Some slot) change slots = slice_set slots slot.0 (change (slot_at sl
 
 -- the slots of an account after a step at a place
 abbrev pub account_after : StepPlace → Step → List SlotRecord → List SlotRecord
-account_after at (steps.Issue kind slot) slots = slice_set slots slot.0 (opened at.line (credit_type_of at.profile kind))
+account_after at (steps.Issue kind slot) slots = slice_set slots slot.0 (opened_slot at.line (credit_type_of at.profile kind))
 account_after at steps.RecvRetry slots = changed_at at.slot (in_state Retried) slots
 account_after at steps.Resend slots = changed_at at.slot (in_state Riding) slots
 account_after at steps.Cancel slots = changed_at at.slot (in_state Cancelled) slots

@@ -5,7 +5,7 @@ use Rattle.chi_flit.specs.declared.credit.Profile.{Profile}
 use Rattle.chi_flit.specs.declared.numbers.Slot.{Slot}
 use Rattle.chi_journal.specs.Journal.{part_of}
 use Rattle.chi_slice.specs.declared.places.Place.{Place}
-use Rattle.chi_slice.specs.Index.{placed}
+use Rattle.chi_slice.specs.Index.{place_of_where}
 use Rattle.chi_line.specs.declared.seen.Where.{Where}
 use Rattle.chi_line.specs.declared.seen.Where.TheVariants as places
 use Rattle.chi_slice.specs.Slice.{SliceState, is_line_in_range, line}
@@ -45,7 +45,7 @@ pub record MatchesRecord (s : SliceState) (n : ℕ) (slot : Slot) (x : SlotRecor
 
 -- the place that a slot's record says its request has, and whether that is in a slice
 abbrev pub said_place : SlotRecord → Option Place
-said_place x = placed x.line (where_of_state x.state x.answered)
+said_place x = place_of_where x.line (where_of_state x.state x.answered)
 
 abbrev pub is_said_in : SliceState → SlotRecord → Bool
 is_said_in s x = is_some (where_of_state x.state x.answered) && is_line_in_range s x.line.0

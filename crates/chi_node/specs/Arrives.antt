@@ -5,9 +5,9 @@ use Rattle.chi_flit.specs.Credit.{credit_number}
 use Rattle.chi_tracker.specs.Shape.{low, size, IsOf}
 use Rattle.chi_tracker.specs.Views.{has}
 use Rattle.chi_tracker.specs.Steps.{spends}
-use Rattle.chi_tracker.specs.Calls.{into_hand, owed_one, scanned, IsLowestSeen}
+use Rattle.chi_tracker.specs.Calls.{into_hand, owed_one, port_after_scan, IsLowestSeen}
 use Rattle.chi_credit.specs.declared.slot.SlotState.TheVariants as states
-use Rattle.chi_credit.specs.Account.{moved, slot_at, state_at, type_at}
+use Rattle.chi_credit.specs.Account.{slots_with_state, slot_at, state_at, type_at}
 use Rattle.chi_node.specs.declared.answers.Arrived.{Arrived}
 use Rattle.chi_node.specs.declared.answers.Arrived.TheVariants.{Admitted, Retried}
 use Rattle.chi_node.specs.Requester.{RequesterState, with_both}
@@ -17,17 +17,17 @@ use Rattle.chi_node.specs.Requester.{RequesterState, with_both}
 abbrev pub ArrivesFirst : ℕ → Arrived → RequesterState → RequesterState → Type 0
 ArrivesFirst s (Admitted e) old new =
     ((slot_at old.slots s).answered ≡ false) × IsOf old.port.shape (type_at old.slots s) e.0 × (has e.0 old.port ≡ 0)
-    × (new ≡ with_both (into_hand e.0 (scanned (type_at old.slots s) (e.0 - low old.port.shape (type_at old.slots s)) old.port))
-    (moved old.slots s (states.Admitted e)) old)
+    × (new ≡ with_both (into_hand e.0 (port_after_scan (type_at old.slots s) (e.0 - low old.port.shape (type_at old.slots s)) old.port))
+    (slots_with_state old.slots s (states.Admitted e)) old)
 ArrivesFirst s (Retried ty) old new =
     (credit_number ty ≡ type_at old.slots s) × ((e : ℕ) → IsOf old.port.shape (type_at old.slots s) e → bit_at new.port.found e ≡ 1)
-    × (new ≡ with_both (owed_one (type_at old.slots s) (scanned (type_at old.slots s) (size old.port.shape (type_at old.slots s)) old.port))
-    (moved old.slots s states.Refused) old)
+    × (new ≡ with_both (owed_one (type_at old.slots s) (port_after_scan (type_at old.slots s) (size old.port.shape (type_at old.slots s)) old.port))
+    (slots_with_state old.slots s states.Refused) old)
 
 abbrev pub ArrivesResent : ℕ → Arrived → RequesterState → RequesterState → Type 0
 ArrivesResent s (Admitted e) old new =
     ((slot_at old.slots s).answered ≡ false) × IsLowestSeen old.port (type_at old.slots s) e.0 × (has e.0 old.port ≡ 0)
-    × (new ≡ with_both (spends (type_at old.slots s) e.0 old.port) (moved old.slots s (states.Admitted e)) old)
+    × (new ≡ with_both (spends (type_at old.slots s) e.0 old.port) (slots_with_state old.slots s (states.Admitted e)) old)
 ArrivesResent s (Retried ty) old new = ⊥
 
 -- when a request of slot s, with AllowRetry or without, can arrive

@@ -19,7 +19,7 @@ use Rattle.chi_rnline.specs.declared.pending.Pending.{Pending}
 use Rattle.chi_line.specs.LineState.{cells_of, rn_of}
 use Rattle.chi_line.specs.LineStep.{LineStep}
 use Rattle.chi_line.specs.Refused.{first_of, no_flit_unless}
-use Rattle.chi_slice.specs.Slice.{SliceKept, SliceState, acted, are_in_range, flits_refusal, line, moved_by, refused_under}
+use Rattle.chi_slice.specs.Slice.{SliceKept, SliceState, slice_after, are_in_range, flits_refusal, line, moved_by, refused_under}
 use Rattle.chi_slice.specs.declared.terms.Terms.{Terms}
 use Rattle.chi_slice.specs.Index.{SlotsInRange}
 use Rattle.chi_line.specs.Types.{pending_credit}
@@ -78,7 +78,7 @@ place_at s action = record { line = action.line; index = s.index; profile = s.co
 
 -- what a step that is done leaves of the slice and of its requester, and what is answered
 pub record StepsTo (s s' : SliceState) (action : Action) (r r' : RequesterState) (stepped : Stepped) : Type 0 where
-  pub slice : s' ≡ acted s action
+  pub slice : s' ≡ slice_after s action
   pub effect : stepped.effect ≡ effect_of (line s action.line.0) action
   pub requester : Finishes (place_at s action) action.step stepped.effect stepped.released r r'
 
@@ -138,7 +138,7 @@ pub record CanArriveOn (s : SliceState) (r : RequesterState) (l : Line) (request
 
 -- what an arrival leaves of the slice and of its requester
 pub record ArrivesOn (s s' : SliceState) (l : Line) (r r' : RequesterState) (arrived : Arrived) : Type 0 where
-  pub slice : s' ≡ acted s (arrival_action r.number l arrived)
+  pub slice : s' ≡ slice_after s (arrival_action r.number l arrived)
   pub requester : ArrivesAt (cells_of (line s l.0) r.number).req arrived r r'
 
 -- a requester stays that of its number and of its tracker

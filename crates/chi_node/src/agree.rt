@@ -48,7 +48,9 @@ pub fn agree_with<A: Allocator>(slice: &Slice<A>, requesters: &[Requester]) -> b
 
 /// Whether the requester's count for the slice is the length of its part of the journal.
 fn has_count<A: Allocator>(slice: &Slice<A>, requester: &Requester) -> bool
-    ensures is { IsTrue result ↔ (slice_index requester.now.counts slice.now.index ≡ length (part_of slice.now.journal.entries requester.now.number)) }
+    ensures is { IsTrue result
+        ↔ (slice_index requester.now.counts slice.now.index
+        ≡ length (part_of slice.now.journal.entries requester.now.number)) }
     ensures slice { SliceKept slice.now }
     ensures requester { RequesterKept requester.now.port.shape.sizes requester.now }
 {
@@ -58,7 +60,9 @@ fn has_count<A: Allocator>(slice: &Slice<A>, requester: &Requester) -> bool
 
 /// Whether the slice shows of each slot what the account says of it.
 fn matches_account<A: Allocator>(slice: &Slice<A>, requester: &Requester) -> bool
-    ensures { IsTrue result ↔ ((slot : Slot) → slot.0 < 8 → MatchesRecord slice.now requester.now.number slot (slot_at requester.now.slots slot.0)) }
+    ensures { IsTrue result
+        ↔ ((slot : Slot) → slot.0 < 8
+        → MatchesRecord slice.now requester.now.number slot (slot_at requester.now.slots slot.0)) }
 {
     let agent = requester.number();
     let mut found = true;

@@ -5,9 +5,9 @@ ghost use Rattle.std.specs.Int.{bit_at};
 ghost use Rattle.chi_tracker.specs.Shape.{low, size, IsOf};
 ghost use Rattle.chi_tracker.specs.Views.{has};
 ghost use Rattle.chi_tracker.specs.Steps.{spends};
-ghost use Rattle.chi_tracker.specs.Calls.{into_hand, owed_one, scanned, Ended, HasSameCredits, IsLowestSeen};
+ghost use Rattle.chi_tracker.specs.Calls.{into_hand, owed_one, port_after_scan, Ended, HasSameCredits, IsLowestSeen};
 ghost use Rattle.chi_credit.specs.Slot.{after_finish, is_admitted};
-ghost use Rattle.chi_credit.specs.Account.{moved, slot_at, state_at, type_at};
+ghost use Rattle.chi_credit.specs.Account.{slots_with_state, slot_at, state_at, type_at};
 ghost use Rattle.chi_node.specs.Arrives.{Arrives, CanArrive};
 ghost use Rattle.chi_node.specs.Requester.{with_both};
 
@@ -33,10 +33,20 @@ impl Requester {
         requires sent { state_at self.old.slots slot.0 ≡ SlotState.Sent }
         requires entries { 0 < size self.old.port.shape (type_at self.old.slots slot.0) }
         ensures unanswered { IfSome result (λ _. (slot_at self.old.slots slot.0).answered ≡ false) }
-        ensures claimed { IfSome result (λ e. IsOf self.old.port.shape (type_at self.old.slots slot.0) e.0 × (has e.0 self.old.port ≡ 0)) }
-        ensures some { IfSome result (λ e. self.new ≡ with_both (into_hand e.0 (scanned (type_at self.old.slots slot.0) (e.0 - low self.old.port.shape (type_at self.old.slots slot.0)) self.old.port)) (moved self.old.slots slot.0 (SlotState.Admitted e)) self.old) }
-        ensures found { IfNone result ((e : ℕ) → IsOf self.old.port.shape (type_at self.old.slots slot.0) e → bit_at self.new.port.found e ≡ 1) }
-        ensures none { IfNone result (self.new ≡ with_both (owed_one (type_at self.old.slots slot.0) (scanned (type_at self.old.slots slot.0) (size self.old.port.shape (type_at self.old.slots slot.0)) self.old.port)) (moved self.old.slots slot.0 SlotState.Refused) self.old) }
+        ensures claimed { IfSome result
+            (λ e. IsOf self.old.port.shape (type_at self.old.slots slot.0) e.0
+            × (has e.0 self.old.port ≡ 0)) }
+        ensures some { IfSome result (λ e. self.new ≡ with_both
+            (into_hand e.0 (port_after_scan (type_at self.old.slots slot.0)
+            (e.0 - low self.old.port.shape (type_at self.old.slots slot.0)) self.old.port))
+            (slots_with_state self.old.slots slot.0 (SlotState.Admitted e)) self.old) }
+        ensures found { IfNone result
+            ((e : ℕ) → IsOf self.old.port.shape (type_at self.old.slots slot.0) e
+            → bit_at self.new.port.found e ≡ 1) }
+        ensures none { IfNone result (self.new ≡ with_both
+            (owed_one (type_at self.old.slots slot.0) (port_after_scan (type_at self.old.slots slot.0)
+            (size self.old.port.shape (type_at self.old.slots slot.0)) self.old.port))
+            (slots_with_state self.old.slots slot.0 SlotState.Refused) self.old) }
     {
         let ty = self.account.slot(slot).credit;
         let claimed = self.port.claim(tracker, ty);
@@ -60,7 +70,9 @@ impl Requester {
         ensures unanswered { (slot_at self.old.slots slot.0).answered ≡ false }
         ensures lowest { IsLowestSeen self.old.port (type_at self.old.slots slot.0) result.0 }
         ensures held { has result.0 self.old.port ≡ 0 }
-        ensures after { self.new ≡ with_both (spends (type_at self.old.slots slot.0) result.0 self.old.port) (moved self.old.slots slot.0 (SlotState.Admitted result)) self.old }
+        ensures after { self.new
+            ≡ with_both (spends (type_at self.old.slots slot.0) result.0 self.old.port)
+            (slots_with_state self.old.slots slot.0 (SlotState.Admitted result)) self.old }
     {
         self.account.arrive(slot, tracker, &mut self.port)
     }
@@ -94,10 +106,14 @@ impl Requester {
         requires table { self.old.table ≡ tracker.now.table }
         requires slot { slot.0 < 8 }
         requires admitted { is_admitted (state_at self.old.slots slot.0) ≡ true }
-        ensures released { (e : Entry) × (state_at self.old.slots slot.0 ≡ SlotState.Admitted e) × ((t : ℕ) × (t < 4) × IsOf self.old.port.shape t e.0 × Ended self.old.port t e.0 result self.new.port) }
-        ensures held { (e : Entry) → state_at self.old.slots slot.0 ≡ SlotState.Admitted e → has e.0 self.old.port ≡ 1 }
+        ensures released { (e : Entry) × (state_at self.old.slots slot.0 ≡ SlotState.Admitted e)
+            × ((t : ℕ) × (t < 4) × IsOf self.old.port.shape t e.0
+            × Ended self.old.port t e.0 result self.new.port) }
+        ensures held { (e : Entry) → state_at self.old.slots slot.0 ≡ SlotState.Admitted e
+            → has e.0 self.old.port ≡ 1 }
         ensures credits { HasSameCredits self.old.port self.new.port }
-        ensures after { self.new ≡ with_both self.new.port (slice_set self.old.slots slot.0 (after_finish (slot_at self.old.slots slot.0))) self.old }
+        ensures after { self.new ≡ with_both self.new.port
+            (slice_set self.old.slots slot.0 (after_finish (slot_at self.old.slots slot.0))) self.old }
     {
         let entry = self.account.finished(slot);
         self.port.release(tracker, entry)

@@ -36,8 +36,10 @@ pub fn arrive_on<A: Allocator, B: Allocator>(
     requires table { requester.old.table ≡ tracker.now.table }
     requires types { HasTypes slice.old.config requester.old.port.shape }
     ensures refusal { IsArrivalRefusal slice.old requester.old line.0 (refusal_of result) }
-    ensures ok { IfOk result (λ arrived. ArrivesOn slice.old slice.new line requester.old requester.new arrived) }
-    ensures step { IfOk result (λ arrived. IsArrivalStep slice.old slice.new requester.old.number line arrived) }
+    ensures ok { IfOk result
+        (λ arrived. ArrivesOn slice.old slice.new line requester.old requester.new arrived) }
+    ensures step { IfOk result
+        (λ arrived. IsArrivalStep slice.old slice.new requester.old.number line arrived) }
     ensures err { OnErr result ((slice.new ≡ slice.old) × (requester.new ≡ requester.old)) }
     ensures agreement { KeepsAgreement slice.old slice.new requester.old requester.new }
     ensures same { IsSameRequester requester.old requester.new }
@@ -66,8 +68,10 @@ pub fn arrive_agreed<A: Allocator, B: Allocator>(
     requires types { HasTypes slice.old.config requester.old.port.shape }
     requires agrees { Agree slice.old requester.old }
     ensures refusal { refusal_of result ≡ arrival_refusal slice.old requester.old.number line.0 }
-    ensures ok { IfOk result (λ arrived. ArrivesOn slice.old slice.new line requester.old requester.new arrived) }
-    ensures step { IfOk result (λ arrived. IsArrivalStep slice.old slice.new requester.old.number line arrived) }
+    ensures ok { IfOk result
+        (λ arrived. ArrivesOn slice.old slice.new line requester.old requester.new arrived) }
+    ensures step { IfOk result
+        (λ arrived. IsArrivalStep slice.old slice.new requester.old.number line arrived) }
     ensures err { OnErr result ((slice.new ≡ slice.old) × (requester.new ≡ requester.old)) }
     ensures agreement { KeepsAgreement slice.old slice.new requester.old requester.new }
     ensures same { IsSameRequester requester.old requester.new }
@@ -130,7 +134,8 @@ pub fn step_on<A: Allocator, B: Allocator>(
     requires agent { action.agent.0 ≡ requester.old.number }
     requires step { is_own_step action.step ≡ true }
     ensures refusal { IsStepRefusal slice.old requester.old action (refusal_of result) }
-    ensures ok { IfOk result (λ stepped. StepsTo slice.old slice.new action requester.old requester.new stepped) }
+    ensures ok { IfOk result
+        (λ stepped. StepsTo slice.old slice.new action requester.old requester.new stepped) }
     ensures step { IfOk result (λ stepped. IsStep slice.old action stepped.effect slice.new) }
     ensures err { OnErr result ((slice.new ≡ slice.old) × (requester.new ≡ requester.old)) }
     ensures agreement { KeepsAgreement slice.old slice.new requester.old requester.new }
@@ -163,7 +168,8 @@ pub fn step_agreed<A: Allocator, B: Allocator>(
     requires step { is_own_step action.step ≡ true }
     requires agrees { Agree slice.old requester.old }
     ensures refusal { refusal_of result ≡ call_refusal slice.old requester.old action }
-    ensures ok { IfOk result (λ stepped. StepsTo slice.old slice.new action requester.old requester.new stepped) }
+    ensures ok { IfOk result
+        (λ stepped. StepsTo slice.old slice.new action requester.old requester.new stepped) }
     ensures step { IfOk result (λ stepped. IsStep slice.old action stepped.effect slice.new) }
     ensures err { OnErr result ((slice.new ≡ slice.old) × (requester.new ≡ requester.old)) }
     ensures agreement { KeepsAgreement slice.old slice.new requester.old requester.new }

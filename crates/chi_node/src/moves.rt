@@ -2,8 +2,8 @@
 
 ghost use Rattle.std.specs.Prelude.{◌≡◌, ◌<◌, true, slice_index, slice_set};
 ghost use Rattle.chi_tracker.specs.Calls.{seen_of};
-ghost use Rattle.chi_credit.specs.Slot.{after_answer, can_be_answered, opened};
-ghost use Rattle.chi_credit.specs.Account.{moved, riding_of, slot_at, state_at, type_at};
+ghost use Rattle.chi_credit.specs.Slot.{after_answer, can_be_answered, opened_slot};
+ghost use Rattle.chi_credit.specs.Account.{slots_with_state, riding_of, slot_at, state_at, type_at};
 ghost use Rattle.chi_node.specs.Requester.{with_count, with_slots};
 
 use crate::requester::Requester;
@@ -12,7 +12,7 @@ use chi_flit::{CreditType, Line, Slot};
 
 impl Requester {
     /// The slice of that index answered one more load or store.
-    pub(crate) fn counted(&mut self, index: u8)
+    pub(crate) fn count_access(&mut self, index: u8)
         requires index { index < 8 }
         requires room { slice_index self.old.counts index < 65536 }
         ensures { self.new ≡ with_count index self.old }
@@ -25,7 +25,7 @@ impl Requester {
     pub(crate) fn open(&mut self, slot: Slot, line: Line, ty: CreditType)
         requires slot { slot.0 < 8 }
         requires idle { state_at self.old.slots slot.0 ≡ SlotState.Idle }
-        ensures { self.new ≡ with_slots (slice_set self.old.slots slot.0 (opened line ty)) self.old }
+        ensures { self.new ≡ with_slots (slice_set self.old.slots slot.0 (opened_slot line ty)) self.old }
     {
         self.account.open(slot, line, ty);
     }
@@ -35,7 +35,7 @@ impl Requester {
     pub(crate) fn retry_seen(&mut self, slot: Slot)
         requires slot { slot.0 < 8 }
         requires refused { state_at self.old.slots slot.0 ≡ SlotState.Refused }
-        ensures { self.new ≡ with_slots (moved self.old.slots slot.0 SlotState.Retried) self.old }
+        ensures { self.new ≡ with_slots (slots_with_state self.old.slots slot.0 SlotState.Retried) self.old }
     {
         self.account.retry_seen(slot);
     }
@@ -46,8 +46,9 @@ impl Requester {
     pub(crate) fn resend(&mut self, slot: Slot)
         requires slot { slot.0 < 8 }
         requires retried { state_at self.old.slots slot.0 ≡ SlotState.Retried }
-        requires credit { riding_of self.old.slots (type_at self.old.slots slot.0) < seen_of self.old.port (type_at self.old.slots slot.0) }
-        ensures { self.new ≡ with_slots (moved self.old.slots slot.0 SlotState.Riding) self.old }
+        requires credit { riding_of self.old.slots (type_at self.old.slots slot.0)
+            < seen_of self.old.port (type_at self.old.slots slot.0) }
+        ensures { self.new ≡ with_slots (slots_with_state self.old.slots slot.0 SlotState.Riding) self.old }
     {
         self.account.resend(slot);
     }
@@ -57,7 +58,8 @@ impl Requester {
     pub(crate) fn cancel(&mut self, slot: Slot)
         requires slot { slot.0 < 8 }
         requires retried { state_at self.old.slots slot.0 ≡ SlotState.Retried }
-        ensures { self.new ≡ with_slots (moved self.old.slots slot.0 SlotState.Cancelled) self.old }
+        ensures { self.new
+            ≡ with_slots (slots_with_state self.old.slots slot.0 SlotState.Cancelled) self.old }
     {
         self.account.cancel(slot);
     }
@@ -67,7 +69,9 @@ impl Requester {
     pub(crate) fn answered(&mut self, slot: Slot)
         requires slot { slot.0 < 8 }
         requires waits { can_be_answered (state_at self.old.slots slot.0) ≡ true }
-        ensures { self.new ≡ with_slots (slice_set self.old.slots slot.0 (after_answer (slot_at self.old.slots slot.0))) self.old }
+        ensures { self.new
+            ≡ with_slots
+            (slice_set self.old.slots slot.0 (after_answer (slot_at self.old.slots slot.0))) self.old }
     {
         self.account.answered(slot);
     }

@@ -190,9 +190,11 @@ impl Requester {
         requires { self.old.table ≡ tracker.now.table }
         ensures refusal { refusal_of result ≡ give_back_refusal self.old (credit_number ty) }
         ensures cancelled { IfOk result (λ _. HasCancelled self.old (credit_number ty)) }
-        ensures returned { IfOk result (λ released. ReturnsCredit (credit_number ty) released self.old self.new) }
+        ensures returned { IfOk result
+            (λ released. ReturnsCredit (credit_number ty) released self.old self.new) }
         ensures err { OnErr result (self.new ≡ self.old) }
-        ensures others { IfOk result (λ _. self.new ≡ without_cancelled (credit_number ty) self.new.port self.old) }
+        ensures others { IfOk result
+            (λ _. self.new ≡ without_cancelled (credit_number ty) self.new.port self.old) }
         ensures agreement { (s : SliceState) → Agree s self.old → Agree s self.new }
     {
         if !self.has_type(ty) {
@@ -219,7 +221,8 @@ impl Requester {
     ) -> Result<Option<Released>, Refusal>
         requires { self.old.table ≡ tracker.now.table }
         ensures refusal { refusal_of result ≡ tend_refusal self.old (credit_number ty) }
-        ensures tended { IfOk result (λ released. Tended self.old.port (credit_number ty) released self.new.port) }
+        ensures tended { IfOk result
+            (λ released. Tended self.old.port (credit_number ty) released self.new.port) }
         ensures credits { IfOk result (λ _. HasSameCredits self.old.port self.new.port) }
         ensures hand { IfOk result (λ _. (e : ℕ) → has e self.new.port ≡ has e self.old.port) }
         ensures err { OnErr result (self.new ≡ self.old) }

@@ -25,7 +25,7 @@ impl Requester {
         ensures { self.new ≡ requester_after at step self.old }
     {
         match step {
-            Step::Load(_) | Step::Store(_, _) => self.counted(at.index),
+            Step::Load(_) | Step::Store(_, _) => self.count_access(at.index),
             Step::Issue(kind, slot) => self.open(slot, at.line, credit_type(at.profile, kind)),
             Step::RecvRetry => self.retry_seen(moved_slot(at)),
             Step::Resend => self.resend(moved_slot(at)),

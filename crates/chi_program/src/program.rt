@@ -105,11 +105,11 @@ pub fn serve<R: Env + Files + AllocGlobal + Print + Eprint + Threads + Wait + Cl
 ) -> u8
     ensures { Contains statuses result }
 {
-    told(rt, follow(rt))
+    report_end(rt, follow(rt))
 }
 
 /// The exit status of a run, which came to an end or was stopped. A stop is told on standard error.
-fn told<R: Eprint>(rt: &R, run: Result<End, Stop>) -> u8
+fn report_end<R: Eprint>(rt: &R, run: Result<End, Stop>) -> u8
     ensures { result ≡ run_status run }
 {
     match run {
@@ -126,7 +126,7 @@ fn follow<R: Env + Files + AllocGlobal + Print + Threads + Wait + Clock + Sync>(
     rt: &R,
 ) -> Result<End, Stop> {
     let texts = match env::args(rt) {
-        Ok(given) => kept(rt.alloc(), given)?,
+        Ok(given) => arguments_of(rt.alloc(), given)?,
         Err(error) => return Err(Stop::Arguments(fault_of(error.kind()))),
     };
     let words = words_of(rt.alloc(), &texts)?;
@@ -139,7 +139,7 @@ fn follow<R: Env + Files + AllocGlobal + Print + Threads + Wait + Clock + Sync>(
 }
 
 /// The words that were given, in their order; `NoMemory` where memory runs out.
-fn kept(alloc: Global, given: Args) -> Result<Vec<String>, ArgFault>
+fn arguments_of(alloc: Global, given: Args) -> Result<Vec<String>, ArgFault>
     ensures ok { IfOk result (λ texts. texts.items ≡ into_iter_items given) }
     ensures err { IfErr result (λ fault. fault ≡ ArgFault.NoMemory) }
 {

@@ -1,2 +1,3 @@
 pub mod Fits
 pub mod Enough
+pub mod Lines

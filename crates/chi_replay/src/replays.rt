@@ -5,14 +5,15 @@ ghost use Rattle.std.specs.Io.KnownBytes.{Keeps};
 ghost use Rattle.chi_script.specs.Headers.{is_in_limits, node_sizes};
 ghost use Rattle.chi_config.specs.Config.{config_if};
 ghost use Rattle.chi_script.specs.Faults.{Fails};
-ghost use Rattle.chi_script.specs.Files.{file_of};
+ghost use Rattle.chi_script.specs.Files.{commands_of, file_of, lines_of};
+ghost use Rattle.chi_text.specs.Texts.{IsTextOfLines};
 ghost use Rattle.chi_replay.specs.Replays.{AtWrite, IsTextOf, KeepsAtFault, NoText, NoTextAt, RefusesFault, WritesFront, WritesText, read_sizes};
 
 use chi_devices::{Failed, Input, Output, read_all};
 use chi_flit::Profile;
-use chi_script::{Fault, Header, read_file};
+use chi_script::{Fault, Header, check_lines, read_head};
 use chi_slice::Config;
-use chi_text::run;
+use chi_text::run_lines;
 use std::alloc::Allocator;
 
 /// The sizes of a header, where a node may have them.
@@ -44,11 +45,27 @@ fn text_of<A: Allocator + Copy>(alloc: A, bytes: &[u8]) -> Result<String<A>, Fau
     ensures ok { IfOk result (λ text. IsTextOf bytes.now (string_bytes text)) }
     ensures err { IfErr result (λ fault. Fails fault (file_of bytes.now)) }
 {
-    let script = read_file(alloc, bytes)?;
-    let config = config_of(&script.header);
-    match run(alloc, &config, &script.commands) {
-        Ok(text) => Ok(text),
-        Err(_) => Err(Fault::NoMemory),
+    let (header, lines) = read_head(alloc, bytes)?;
+    let config = config_of(&header);
+    text_of_lines(alloc, &config, lines)
+}
+
+/// The same of the lines behind a header. Each is played as soon as it is read; where memory runs out, those
+/// that are left are read all the same, so that a faulty file is told as one.
+fn text_of_lines<A: Allocator + Copy>(
+    alloc: A,
+    config: &Config,
+    lines: &[u8],
+) -> Result<String<A>, Fault>
+    ensures ok { IfOk result (λ text. IsTextOfLines config.now lines.now (string_bytes text)) }
+    ensures err { IfErr result (λ fault. Fails fault (commands_of 2 (lines_of lines.now))) }
+{
+    match run_lines(alloc, config, lines) {
+        Err(Fault::NoMemory) => match check_lines(lines) {
+            Ok(()) => Err(Fault::NoMemory),
+            Err(fault) => Err(fault),
+        },
+        played => played,
     }
 }
 

@@ -45,20 +45,20 @@ reply_text Idle = codes "ok idle"
 reply_text (Refused refusal) = codes "refused " ++ (decimal (refusal_number refusal) ++ (codes " " ++ refusal_text refusal))
 
 -- the texts of a list with commas between them, and `-` where it is empty
-abbrev pub joined : {A : Type 0} → (A → List ℕ) → List A → List ℕ
-joined text [] = codes "-"
-joined text (first ∷ others) = text first ++ flat_map (λ next. codes "," ++ text next) others
+abbrev pub joined_texts : {A : Type 0} → (A → List ℕ) → List A → List ℕ
+joined_texts text [] = codes "-"
+joined_texts text (first ∷ others) = text first ++ flat_map (λ next. codes "," ++ text next) others
 
 -- the texts of a list with a space before each
-abbrev pub spaced : {A : Type 0} → (A → List ℕ) → List A → List ℕ
-spaced text all = flat_map (λ next. codes " " ++ text next) all
+abbrev pub spaced_texts : {A : Type 0} → (A → List ℕ) → List A → List ℕ
+spaced_texts text all = flat_map (λ next. codes " " ++ text next) all
 
 -- the numbers that are in a set of eight marks, in rising order
 abbrev pub members : List Bool → List ℕ
 members set = filter (λ n. is_in set n) (range_with_len 0 8)
 
 abbrev pub agents_text : List Bool → List ℕ
-agents_text set = joined decimal (members set)
+agents_text set = joined_texts decimal (members set)
 
 -- a copy is shown by its state alone
 abbrev pub copy_text : CopyView → List ℕ
@@ -78,12 +78,12 @@ serving_text (servings.AwaitingWriteData agent kind slot) = codes "wrdata " ++ d
 -- `show` of a line, with the copies of so many agents
 abbrev pub shown_text : ℕ → LineView → List ℕ
 shown_text agents view =
-    codes "ok copies " ++ (joined copy_text (take agents view.copies)
+    codes "ok copies " ++ (joined_texts copy_text (take agents view.copies)
     ++ (codes " named " ++ (agents_text view.named
     ++ (codes " unique " ++ (yes_no view.unique
     ++ (codes " serving " ++ (serving_text view.serving
     ++ (codes " waiting " ++ (agents_text (map is_some view.waiting)
-    ++ (codes " memory" ++ spaced decimal view.memory))))))))))
+    ++ (codes " memory" ++ spaced_texts decimal view.memory))))))))))
 
 -- the order in which `flits` shows the channels
 abbrev pub shown_channels : List Channel
@@ -105,7 +105,7 @@ has_none (message ∷ messages) = false
 -- each after a space, and ` none` where there is none
 abbrev pub messages_text : List Msg → List ℕ
 messages_text [] = codes " none"
-messages_text (message ∷ messages) = spaced message_text (message ∷ messages)
+messages_text (message ∷ messages) = spaced_texts message_text (message ∷ messages)
 
 -- `flits` of an agent and a line
 abbrev pub flits_text : Cells → List ℕ
@@ -118,7 +118,7 @@ type_count Four = 4
 
 -- the numbers by type, of the types that there are
 abbrev pub counts_text : Profile → List ℕ → List ℕ
-counts_text profile counts = spaced decimal (take (type_count profile) counts)
+counts_text profile counts = spaced_texts decimal (take (type_count profile) counts)
 
 -- `see`
 abbrev pub credits_text : Credits → List ℕ

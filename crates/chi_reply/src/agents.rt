@@ -2,7 +2,7 @@
 
 ghost use Rattle.std.specs.Prelude.{◌≡◌, Some};
 ghost use Rattle.std.specs.Fmt.{decimal};
-ghost use Rattle.chi_reply.specs.Replies.{joined, members};
+ghost use Rattle.chi_reply.specs.Replies.{joined_texts, members};
 
 use arrayvec::ArrayVec;
 use std::fmt;
@@ -12,7 +12,7 @@ use std::fmt;
 pub(crate) struct Agents<'a>(pub &'a [u8]);
 
 impl<'a> fmt::Display for Agents<'a> {
-    ghost output = { λ agents. Some (joined decimal agents.0.now) };
+    ghost output = { λ agents. Some (joined_texts decimal agents.0.now) };
 
     fn fmt<W: fmt::Write>(&self, f: &mut fmt::Formatter<W>) -> fmt::Result {
         match self.0 {

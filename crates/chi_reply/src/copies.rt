@@ -1,7 +1,7 @@
 //! The states of copies inside an answer.
 
 ghost use Rattle.std.specs.Prelude.{◌≡◌, Some, take};
-ghost use Rattle.chi_reply.specs.Replies.{copy_text, joined};
+ghost use Rattle.chi_reply.specs.Replies.{copy_text, joined_texts};
 
 use chi_line::CopyView;
 use std::fmt;
@@ -11,7 +11,7 @@ use std::fmt;
 pub(crate) struct States<'a>(pub &'a [CopyView]);
 
 impl<'a> fmt::Display for States<'a> {
-    ghost output = { λ copies. Some (joined copy_text copies.0.now) };
+    ghost output = { λ copies. Some (joined_texts copy_text copies.0.now) };
 
     fn fmt<W: fmt::Write>(&self, f: &mut fmt::Formatter<W>) -> fmt::Result {
         match self.0 {

@@ -2,7 +2,7 @@
 
 ghost use Rattle.std.specs.Prelude.{◌≡◌, Some};
 ghost use Rattle.chi_flit.specs.Message.{message_text};
-ghost use Rattle.chi_reply.specs.Replies.{flits_text, has_none, message_list, messages_in, spaced};
+ghost use Rattle.chi_reply.specs.Replies.{flits_text, has_none, message_list, messages_in, spaced_texts};
 
 use crate::prints::Wording;
 use chi_flit::{Channel, Msg};
@@ -55,7 +55,7 @@ impl<'a> Wording for InFlight<'a> {
 }
 
 impl fmt::Display for Flit {
-    ghost output = { λ flit. Some (spaced message_text (message_list flit.0)) };
+    ghost output = { λ flit. Some (spaced_texts message_text (message_list flit.0)) };
 
     fn fmt<W: fmt::Write>(&self, f: &mut fmt::Formatter<W>) -> fmt::Result {
         match self.0 {

@@ -2,7 +2,7 @@
 
 ghost use Rattle.std.specs.Prelude.{◌≡◌, Some};
 ghost use Rattle.std.specs.Fmt.{decimal};
-ghost use Rattle.chi_reply.specs.Replies.{spaced, type_count};
+ghost use Rattle.chi_reply.specs.Replies.{spaced_texts, type_count};
 
 use chi_flit::Profile;
 use std::fmt;
@@ -12,7 +12,7 @@ use std::fmt;
 pub(crate) struct Words<'a>(pub &'a [u64]);
 
 impl<'a> fmt::Display for Words<'a> {
-    ghost output = { λ words. Some (spaced decimal words.0.now) };
+    ghost output = { λ words. Some (spaced_texts decimal words.0.now) };
 
     fn fmt<W: fmt::Write>(&self, f: &mut fmt::Formatter<W>) -> fmt::Result {
         for word in self.0 {

@@ -2,7 +2,7 @@
 
 ghost use Rattle.std.specs.Prelude.{◌≡◌, ◌<◌, ◌≤◌, ◌++◌, ℕ, List, OnOk, string_bytes};
 ghost use Rattle.std.specs.Fmt.{decimal};
-ghost use Rattle.chi_reply.specs.Replies.{spaced};
+ghost use Rattle.chi_reply.specs.Replies.{spaced_texts};
 
 use std::alloc::{AllocError, Allocator};
 
@@ -56,7 +56,7 @@ pub(crate) fn print_numbers<A: Allocator>(
     numbers: &[u32],
     printed: &mut String<A>,
 ) -> Result<(), AllocError>
-    ensures { OnOk result (string_bytes printed.new ≡ string_bytes printed.old ++ spaced decimal numbers.now) }
+    ensures { OnOk result (string_bytes printed.new ≡ string_bytes printed.old ++ spaced_texts decimal numbers.now) }
 {
     for number in numbers {
         printed.push(' ')?;

@@ -2,7 +2,7 @@
 
 ghost use Rattle.std.specs.Prelude.{◌≡◌, ◌++◌, OnOk, string_bytes};
 ghost use Rattle.std.specs.Fmt.{decimal};
-ghost use Rattle.chi_reply.specs.Replies.{holdings_text, spaced, totals_text};
+ghost use Rattle.chi_reply.specs.Replies.{holdings_text, spaced_texts, totals_text};
 
 use crate::numbers::type_count;
 use crate::prints::{Wording, print_numbers};
@@ -55,7 +55,7 @@ fn print_named<A: Allocator>(
     numbers: &[u32],
     printed: &mut String<A>,
 ) -> Result<(), AllocError>
-    ensures { OnOk result (string_bytes printed.new ≡ string_bytes printed.old ++ (name.now ++ spaced decimal numbers.now)) }
+    ensures { OnOk result (string_bytes printed.new ≡ string_bytes printed.old ++ (name.now ++ spaced_texts decimal numbers.now)) }
 {
     printed.push_str(name)?;
     print_numbers(numbers, printed)

@@ -9,7 +9,7 @@ use lib.ListN.{get_elem?}
 use Rattle.crossbeam_channel.specs.Fifo.{Pushes, Pops, Forks, Learns}
 use Rattle.chi_reports.specs.declared.reports.Report.{Report}
 use Rattle.chi_reports.specs.declared.views.View.{View}
-use Rattle.chi_reports.specs.Boxes.{opener, sending, spent, one, times, weight, total, OneEach}
+use Rattle.chi_reports.specs.Boxes.{opener, sending, spent_view, one, times, weight, total, OneEach}
 
 total_set : (a : ℕ) (vs : List View) (i : ℕ) (v w : View) → get_elem? vs i ≡ some v → total a (set vs i w) + weight a v ≡ total a vs + weight a w
 total_set a [] i v w e = absurd (some-ne-none v (sym e))
@@ -50,13 +50,13 @@ above n a = dite (ℕ_discrete n a)
 pub begins : OneEach [] (opener 0 [] ∷ [])
 begins a = let few : one (nat_le 0 a) ≤ 1 = one_le (nat_le 0 a) in omega arith
 
-pub sends : (n pass : ℕ) (v : View) (r : Report) → v ≡ sending r.agent → Pushes OneEach n pass v r (λ w. w ≡ spent)
+pub sends : (n pass : ℕ) (v : View) (r : Report) → v ≡ sending r.agent → Pushes OneEach n pass v r (λ w. w ≡ spent_view)
 sends n pass v r is items views room holds at = (
-  spent,
+  spent_view,
   (λ a.
-      let kept = total_set a views pass v spent at in
+      let kept = total_set a views pass v spent_view at in
       let own : weight a v ≡ one (r.agent == a) + (0 + 0) = ap (weight a) is in
-      let none : weight a spent ≡ 0 = refl in
+      let none : weight a spent_view ≡ 0 = refl in
       let before = holds a in
       let more = times_snoc a items r in
       omega arith),

@@ -12,8 +12,8 @@ abbrev pub sending : ℕ → View
 sending agent = record { opens = false; sends = true; from = agent; got = [] }
 
 -- it has sent
-abbrev pub spent : View
-spent = record { opens = false; sends = false; from = 0; got = [] }
+abbrev pub spent_view : View
+spent_view = record { opens = false; sends = false; from = 0; got = [] }
 
 -- 1 where it is so
 abbrev pub one : Bool → ℕ

@@ -1,7 +1,7 @@
 //! The rule of the channel of reports, and what its steps tell.
 
 ghost use Rattle.std.specs.Prelude.{◌≡◌, ◌+◌, ◌++◌, ◌∷◌, [], ⊤};
-ghost use Rattle.chi_reports.specs.Boxes.{OneEach, opener, sending, spent};
+ghost use Rattle.chi_reports.specs.Boxes.{OneEach, opener, sending, spent_view};
 
 use crate::reports::Report;
 use crate::views::View;
@@ -35,7 +35,7 @@ impl Split<View> for Next {
 pub struct Sends;
 
 impl Outcome<Report, View> for Sends {
-    ghost then = { λ v r w. w ≡ spent };
+    ghost then = { λ v r w. w ≡ spent_view };
 }
 
 impl Lesson<Report, View> for Sends {

@@ -52,12 +52,12 @@ state_after_issue WriteCleanFull state = state
 state_after_issue WriteEvictFull state = state
 
 -- Issue: the request is pending, in phase Sent
-abbrev pub issued : Rn → Kind → Slot → Rn
-issued rn kind slot = record rn { state = state_after_issue kind rn.state; pending = Some (record { kind = kind; slot = slot; phase = Sent }) }
+abbrev pub rn_after_issue : Rn → Kind → Slot → Rn
+rn_after_issue rn kind slot = record rn { state = state_after_issue kind rn.state; pending = Some (record { kind = kind; slot = slot; phase = Sent }) }
 
 -- RecvData: the copy is the message's state and data, and nothing is pending
-abbrev pub received : Rn → CompData → Rn
-received rn sent = record rn { state = if sent.unique then UC else SC; words = sent.words; pending = None }
+abbrev pub rn_after_data : Rn → CompData → Rn
+rn_after_data rn sent = record rn { state = if sent.unique then UC else SC; words = sent.words; pending = None }
 
 -- Load: 2 where there is no copy
 abbrev pub load_refusal : Rn → Option Refusal
@@ -72,8 +72,8 @@ abbrev pub store_refusal : Rn → Option Refusal
 store_refusal rn = if is_some rn.pending then Some refusals.Pending else (if is_unique rn.state then None else Some refusals.WrongState)
 
 -- Store: the word has the value, and the copy is UD
-abbrev pub stored : Rn → ℕ → ℕ → Rn
-stored rn word value = record rn { state = UD; words = slice_set rn.words word value }
+abbrev pub rn_after_store : Rn → ℕ → ℕ → Rn
+rn_after_store rn word value = record rn { state = UD; words = slice_set rn.words word value }
 
 -- the states of a clean copy, which may be dropped
 abbrev pub is_clean_copy : State → Bool
@@ -88,8 +88,8 @@ abbrev pub drop_refusal : Rn → Option Refusal
 drop_refusal rn = if is_some rn.pending then Some refusals.Pending else (if is_clean_copy rn.state then None else Some refusals.WrongState)
 
 -- Drop: no copy
-abbrev pub dropped : Rn → Rn
-dropped rn = record rn { state = I }
+abbrev pub rn_after_drop : Rn → Rn
+rn_after_drop rn = record rn { state = I }
 
 -- a request in a phase
 abbrev pub in_phase : Phase → Option Pending → Option Pending
@@ -97,8 +97,8 @@ in_phase phase None = None
 in_phase phase (Some request) = Some (record request { phase = phase })
 
 -- RecvRetry: the request is in phase Retried
-abbrev pub retry_received : Rn → Rn
-retry_received rn = record rn { pending = in_phase Retried rn.pending }
+abbrev pub rn_after_retry : Rn → Rn
+rn_after_retry rn = record rn { pending = in_phase Retried rn.pending }
 
 -- whether a retried request may still be sent: a copy-back only from its needed state
 abbrev pub may_resend : Kind → State → Bool
@@ -117,8 +117,8 @@ abbrev pub resend_refusal : Rn → Option Refusal
 resend_refusal rn = resend_refusal_in rn.state rn.pending
 
 -- Resend: the request is in phase Sent again
-abbrev pub resent : Rn → Rn
-resent rn = record rn { pending = in_phase Sent rn.pending }
+abbrev pub rn_after_resend : Rn → Rn
+rn_after_resend rn = record rn { pending = in_phase Sent rn.pending }
 
 -- Cancel: 4 where no request is in phase Retried, then 2 where it may still be sent
 abbrev pub cancel_refusal_of : State → Kind → Phase → Option Refusal
@@ -133,12 +133,12 @@ abbrev pub cancel_refusal : Rn → Option Refusal
 cancel_refusal rn = cancel_refusal_in rn.state rn.pending
 
 -- Cancel: nothing is pending
-abbrev pub cancelled : Rn → Rn
-cancelled rn = record rn { pending = None }
+abbrev pub rn_after_cancel : Rn → Rn
+rn_after_cancel rn = record rn { pending = None }
 
 -- RecvSnp: the copy's state is the answer's
-abbrev pub snoop_received : Rn → Snoop → Rn
-snoop_received rn snoop = record rn { state = (answer_of rn.state snoop rn.words).0 }
+abbrev pub rn_after_snoop : Rn → Snoop → Rn
+rn_after_snoop rn snoop = record rn { state = (answer_of rn.state snoop rn.words).0 }
 
 -- the copy's state after Comp_UC: a copy that was lost stays so
 abbrev pub state_after_comp : State → State
@@ -149,12 +149,12 @@ state_after_comp UD = UD
 state_after_comp SD = UD
 
 -- RecvComp of Comp_UC: the copy is unique, and nothing is pending
-abbrev pub comp_received : Rn → Rn
-comp_received rn = record rn { state = state_after_comp rn.state; pending = None }
+abbrev pub rn_after_comp : Rn → Rn
+rn_after_comp rn = record rn { state = state_after_comp rn.state; pending = None }
 
 -- RecvComp of Comp_I: nothing is pending
-abbrev pub evict_received : Rn → Rn
-evict_received rn = record rn { pending = None }
+abbrev pub rn_after_evict : Rn → Rn
+rn_after_evict rn = record rn { pending = None }
 
 -- the copy's state after its write data was sent: a WriteCleanFull keeps a copy, clean
 abbrev pub state_after_clean : State → State
@@ -168,10 +168,10 @@ abbrev pub state_after_write : Kind → State → State
 state_after_write kind state = if gives_up kind then I else state_after_clean state
 
 -- RecvDbid of a request of the kind: nothing is pending
-abbrev pub dbid_received : Rn → Kind → Rn
-dbid_received rn kind = record rn { state = state_after_write kind rn.state; pending = None }
+abbrev pub rn_after_dbid : Rn → Kind → Rn
+rn_after_dbid rn kind = record rn { state = state_after_write kind rn.state; pending = None }
 
 -- RecvDbid of the request that is pending
 abbrev pub dbid_taken : Rn → Option Pending → Rn
 dbid_taken rn None = rn
-dbid_taken rn (Some request) = dbid_received rn request.kind
+dbid_taken rn (Some request) = rn_after_dbid rn request.kind

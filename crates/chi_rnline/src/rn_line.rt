@@ -1,7 +1,7 @@
 //! One requester's copy and pending request of one line.
 
 ghost use Rattle.std.specs.Prelude.{◌≡◌, ◌<◌, OnErr, IfOk, Some, None, true, false, is_some, ⊤};
-ghost use Rattle.chi_rnline.specs.Rn.{Rn, cancel_refusal, cancelled, comp_received, dbid_taken, drop_refusal, dropped, evict_received, is_clean_copy, issue_refusal, issued, load_refusal, may_resend, no_line, received, request_message, resend_refusal, resent, retry_received, snoop_received, state_after_clean, state_after_comp, state_after_write, store_refusal, stored, word_of};
+ghost use Rattle.chi_rnline.specs.Rn.{Rn, cancel_refusal, rn_after_cancel, rn_after_comp, dbid_taken, drop_refusal, rn_after_drop, rn_after_evict, is_clean_copy, issue_refusal, rn_after_issue, load_refusal, may_resend, no_line, rn_after_data, request_message, resend_refusal, rn_after_resend, rn_after_retry, rn_after_snoop, state_after_clean, state_after_comp, state_after_write, store_refusal, rn_after_store, word_of};
 ghost use Rattle.chi_rnline.specs.declared.pending.Pending.{Pending};
 ghost use Rattle.chi_flit.specs.Message.{write_data_of};
 ghost use Rattle.chi_flit.specs.Refusal.{refusal_of};
@@ -85,7 +85,7 @@ impl RnLine {
     pub fn issue(&mut self, kind: Kind, slot: Slot) -> Result<Msg, Refusal>
         ensures refusal { refusal_of result ≡ issue_refusal self.old kind }
         ensures message { IfOk result (λ message. message ≡ request_message kind slot true) }
-        ensures ok { IfOk result (λ _. self.new ≡ issued self.old kind slot) }
+        ensures ok { IfOk result (λ _. self.new ≡ rn_after_issue self.old kind slot) }
         ensures err { OnErr result (self.new ≡ self.old) }
     {
         if let Some(refusal) = self.why_no_issue(kind) {
@@ -111,7 +111,7 @@ impl RnLine {
     /// Source: `docs/PROTOCOL.md`, "The actions", RecvData.
     pub fn data(&mut self, sent: CompData) -> Msg
         ensures message { result ≡ messages.RspUp CompAck }
-        ensures after { self.new ≡ received self.old sent }
+        ensures after { self.new ≡ rn_after_data self.old sent }
     {
         self.state = if sent.unique { State::UC } else { State::SC };
         let words = sent.words;
@@ -190,7 +190,7 @@ impl RnLine {
     pub fn store(&mut self, word: WordNo, value: u64)
         requires word { word.0 < 8 }
         requires allowed { store_refusal self.old ≡ None }
-        ensures { self.new ≡ stored self.old word.0 value }
+        ensures { self.new ≡ rn_after_store self.old word.0 value }
     {
         self.words[usize::from(word.0)] = value;
         self.state = State::UD;
@@ -215,7 +215,7 @@ impl RnLine {
     /// Source: `docs/PROTOCOL.md`, "The actions", Drop.
     pub fn drop_clean(&mut self) -> Result<(), Refusal>
         ensures refusal { refusal_of result ≡ drop_refusal self.old }
-        ensures ok { IfOk result (λ _. self.new ≡ dropped self.old) }
+        ensures ok { IfOk result (λ _. self.new ≡ rn_after_drop self.old) }
         ensures err { OnErr result (self.new ≡ self.old) }
     {
         if let Some(refusal) = self.why_no_drop() {
@@ -229,7 +229,7 @@ impl RnLine {
     /// Source: `docs/PROTOCOL.md`, "Answers to snoops".
     pub fn snooped(&mut self, snoop: Snoop) -> Msg
         ensures message { result ≡ (answer_of self.old.state snoop self.old.words).1 }
-        ensures after { self.new ≡ snoop_received self.old snoop }
+        ensures after { self.new ≡ rn_after_snoop self.old snoop }
     {
         let (state, message) = answer(self.state, snoop, self.words);
         self.state = state;
@@ -240,7 +240,7 @@ impl RnLine {
     /// pending nothing changes.
     /// Source: `docs/PROTOCOL.md`, "The actions", RecvRetry.
     pub fn retried(&mut self)
-        ensures { self.new ≡ retry_received self.old }
+        ensures { self.new ≡ rn_after_retry self.old }
     {
         if let Some(request) = self.pending {
             self.pending = Some(Pending {
@@ -291,7 +291,7 @@ impl RnLine {
         requires allowed { resend_refusal self.old ≡ None }
         requires pending { self.old.pending ≡ Some request }
         ensures message { result ≡ request_message request.kind request.slot false }
-        ensures after { self.new ≡ resent self.old }
+        ensures after { self.new ≡ rn_after_resend self.old }
     {
         let Pending { kind, slot, .. } = request;
         self.pending = Some(Pending {
@@ -335,7 +335,7 @@ impl RnLine {
     /// Source: `docs/PROTOCOL.md`, "The actions", Cancel.
     pub fn cancel(&mut self) -> Result<(), Refusal>
         ensures refusal { refusal_of result ≡ cancel_refusal self.old }
-        ensures ok { IfOk result (λ _. self.new ≡ cancelled self.old) }
+        ensures ok { IfOk result (λ _. self.new ≡ rn_after_cancel self.old) }
         ensures err { OnErr result (self.new ≡ self.old) }
     {
         if let Some(refusal) = self.why_no_cancel() {
@@ -350,7 +350,7 @@ impl RnLine {
     /// Source: `docs/PROTOCOL.md`, "The actions", RecvComp.
     pub fn comp(&mut self) -> Msg
         ensures message { result ≡ messages.RspUp CompAck }
-        ensures after { self.new ≡ comp_received self.old }
+        ensures after { self.new ≡ rn_after_comp self.old }
     {
         self.state = state_after_comp(self.state);
         self.pending = None;
@@ -360,7 +360,7 @@ impl RnLine {
     /// Takes Comp_I, which ends an Evict: nothing is pending, the copy stays, and nothing is to be put.
     /// Source: `docs/PROTOCOL.md`, "The actions", RecvComp.
     pub fn evicted(&mut self)
-        ensures { self.new ≡ evict_received self.old }
+        ensures { self.new ≡ rn_after_evict self.old }
     {
         self.pending = None;
     }

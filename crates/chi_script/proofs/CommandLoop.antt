@@ -46,3 +46,18 @@ unfolding commands_of
 is_open front n rest total e some so_far =
     let one : with_front front (commands_of n (lines_of rest)) ≡ Err (MissingNewline n) = rw (e, some) refl in
     sym so_far ∙ one
+
+-- as far as a loop has come: some commands were read, and the lines that are left are read behind them
+pub record SoFar (lines : List ℕ) (n : ℕ) (rest : List ℕ) : Type 0 where
+  pub front : List Command
+  pub same : with_front front (commands_of n (lines_of rest)) ≡ commands_of 2 (lines_of lines)
+
+no_front : (read : Result (List Command) Fault) → with_front [] read ≡ read
+no_front (Ok commands) = refl
+no_front (Err fault) = refl
+
+pub so_far_none : (lines : List ℕ) → SoFar lines 2 lines
+so_far_none lines = record { front = []; same = no_front (commands_of 2 (lines_of lines)) }
+
+pub so_far_line : (lines : List ℕ) (n : ℕ) (rest line after : List ℕ) (command : Command) → lines_of rest ≡ line ∷ lines_of after → command_at n line ≡ Ok command → SoFar lines n rest → SoFar lines (n + 1) after
+so_far_line lines n rest line after command e is so = record { front = so.front ++ command ∷ []; same = goes_on so.front n rest line after command (commands_of 2 (lines_of lines)) e is so.same }

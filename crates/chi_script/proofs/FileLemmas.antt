@@ -7,7 +7,7 @@ use Rattle.chi_script.specs.declared.headers.Header.{Header}
 use Rattle.chi_script.specs.declared.commands.Command.{Command}
 use Rattle.chi_script.specs.declared.faults.Fault.{Fault}
 use Rattle.chi_script.specs.Faults.{Fails}
-use Rattle.chi_script.specs.Files.{◌>>=◌, lines_of, header_at, commands_of, script_of, file_of}
+use Rattle.chi_script.specs.Files.{◌>>=◌, lines_of, header_at, commands_of, script_of, file_of, with_header}
 use Rattle.chi_script.proofs.FaultLemmas.{failed}
 use Rattle.chi_script.proofs.LineLemmas.{parts_of}
 
@@ -18,11 +18,15 @@ whole file line rest e = let more = parts_of (λ b. b == 10) rest in rw (e, more
 pub bad_header : (fault : Fault) (file line rest : List ℕ) → lines_of file ≡ line ∷ lines_of rest → Fails fault (header_at 1 line) → Fails fault (script_of (lines_of file))
 bad_header fault file line rest e is = rw (whole file line rest e) (failed fault _ _ is)
 
-pub bad_commands : (fault : Fault) (file line rest : List ℕ) (header : Header) → lines_of file ≡ line ∷ lines_of rest → header_at 1 line ≡ Ok header → Fails fault (commands_of 2 (lines_of rest)) → Fails fault (script_of (lines_of file))
-bad_commands fault file line rest header e read is = rw (whole file line rest e, read) (failed fault _ _ is)
+pub good_header : (file line rest : List ℕ) (header : Header) → lines_of file ≡ line ∷ lines_of rest → header_at 1 line ≡ Ok header → script_of (lines_of file) ≡ with_header header (commands_of 2 (lines_of rest))
+good_header file line rest header e read = whole file line rest e ∙ rw read refl
 
-pub good : (file line rest : List ℕ) (header : Header) (commands : List Command) → lines_of file ≡ line ∷ lines_of rest → header_at 1 line ≡ Ok header → commands_of 2 (lines_of rest) ≡ Ok commands → script_of (lines_of file) ≡ Ok (header, commands)
-good file line rest header commands e read all = whole file line rest e ∙ rw (read, all) refl
+-- what the lines behind a header are is what the file is
+pub bad_commands : (fault : Fault) (file lines : List ℕ) (header : Header) → file_of file ≡ with_header header (commands_of 2 (lines_of lines)) → Fails fault (commands_of 2 (lines_of lines)) → Fails fault (file_of file)
+bad_commands fault file lines header e is = rw e (failed fault _ _ is)
+
+pub good_commands : (file lines : List ℕ) (header : Header) (commands : List Command) → file_of file ≡ with_header header (commands_of 2 (lines_of lines)) → commands_of 2 (lines_of lines) ≡ Ok commands → file_of file ≡ Ok (header, commands)
+good_commands file lines header commands e all = e ∙ ap (with_header header) all
 
 large : (n : ℕ) → 1048576 < n → nat_lt 1048576 n ≡ true
 large n more = grind (arith, nat_tests)

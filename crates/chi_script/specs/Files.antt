@@ -1,6 +1,6 @@
 -- A replay file is a header and commands, or faulty: then its first faulty line is told (docs/PROTOCOL.md,
 -- "Replay files").
-use Rattle.std.specs.Prelude.{ℕ, ◌+◌, ◌==◌, nat_lt, List, [], ◌∷◌, Option, Some, None, Result, Ok, Err, length, if◌then◌else◌}
+use Rattle.std.specs.Prelude.{◌≡◌, ℕ, ◌+◌, ◌==◌, nat_lt, List, [], ◌∷◌, Option, Some, None, Result, Ok, Err, length, if◌then◌else◌}
 use Rattle.std.specs.List.{slice_split}
 use Rattle.chi_script.specs.declared.headers.Header.{Header}
 use Rattle.chi_script.specs.declared.commands.Command.{Command}
@@ -48,6 +48,14 @@ script_of (line ∷ next ∷ rest) = do
   commands ← commands_of 2 (next ∷ rest)
   Ok (header, commands)
 
+-- a header that was read, and what is read behind it
+abbrev pub with_header : Header → Result (List Command) Fault → Result (Header × List Command) Fault
+with_header header read = read >>= λ commands. Ok (header, commands)
+
 -- a file's header and commands, or its first fault
 unfoldable pub file_of : List ℕ → Result (Header × List Command) Fault
 file_of file = if nat_lt 1048576 (length file) then Err TooLarge else script_of (lines_of file)
+
+-- the lines behind a header are all commands
+abbrev pub AreCommands : List ℕ → Type 0
+AreCommands lines = (commands : List Command) × (commands_of 2 (lines_of lines) ≡ Ok commands)

@@ -46,21 +46,21 @@ sizes_of (a ∷ l ∷ s ∷ rest) = do
 sizes_of _ = None
 
 -- a header within the limits
-abbrev pub kept : Header → Option Header
-kept header = if is_in_limits header then Some header else None
+abbrev pub header_in_limits : Header → Option Header
+header_in_limits header = if is_in_limits header then Some header else None
 
 -- node and the sizes
 abbrev pub header_of : List (List ℕ) → Option Header
 header_of [] = None
-header_of (verb ∷ numbers) = if is_text verb (codes "node") then (sizes_of numbers >>= kept) else None
+header_of (verb ∷ numbers) = if is_text verb (codes "node") then (sizes_of numbers >>= header_in_limits) else None
 
 -- the header that a line is
 abbrev pub line_header : List ℕ → Option Header
 line_header line = header_of (words_of line)
 
 -- the same sizes, read but not yet held against the limits
-abbrev pub sized : Sizes → Header
-sized sizes =
+abbrev pub header_of_sizes : Sizes → Header
+header_of_sizes sizes =
     record { agents = sizes.agents; lines = sizes.lines; slices = sizes.slices; entries = sizes.entries; journal = sizes.journal; profile = sizes.profile }
 
 -- what the limits say of each number

@@ -99,7 +99,7 @@ fn after_three(verb: &[u8], first: &[u8], second: &[u8], rest: &[u8]) -> Option<
     ensures { result ≡ command_of (verb.now ∷ first.now ∷ second.now ∷ words_of rest.now) }
 {
     match first_argument(rest) {
-        None => stepped(first, second, step_with_one(verb, rest)?),
+        None => command_of_step(first, second, step_with_one(verb, rest)?),
         Some((third, rest)) => after_four(verb, first, second, third, rest),
     }
 }
@@ -115,7 +115,7 @@ fn after_four(
     ensures { result ≡ command_of (verb.now ∷ first.now ∷ second.now ∷ third.now ∷ words_of rest.now) }
 {
     match first_argument(rest) {
-        None => stepped(first, second, step_with_two(verb, third, rest)?),
+        None => command_of_step(first, second, step_with_two(verb, third, rest)?),
         Some(_) => None,
     }
 }
@@ -183,7 +183,7 @@ fn credit_at(number: u8) -> Option<CreditType>
 }
 
 /// The step of the agent and the line that two words name.
-fn stepped(first: &[u8], second: &[u8], step: Step) -> Option<Command>
+fn command_of_step(first: &[u8], second: &[u8], step: Step) -> Option<Command>
     ensures { result ≡ command_step first.now second.now step }
 {
     Some(act(small(first)?, small(second)?, step))

@@ -71,6 +71,14 @@ impl From<AllocError> for Fault {
     }
 }
 
+impl From<chi_flit::NoMemory> for Fault {
+    ghost from_gives = { λ _ fault. fault ≡ NoMemory };
+
+    fn from(_lack: chi_flit::NoMemory) -> Fault {
+        Fault::NoMemory
+    }
+}
+
 impl<T: Drop> From<AllocFailed<T>> for Fault {
     ghost from_gives = { λ _ fault. fault ≡ NoMemory };
 

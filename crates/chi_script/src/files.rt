@@ -1,10 +1,10 @@
 //! A whole replay file: its header and its commands, or its first fault.
 
-ghost use Rattle.std.specs.Prelude.{◌≡◌, ◌<◌, ◌+◌, ◌==◌, ◌≤◌, ◌∷◌, [], length, IfNone, IfSome, IfOk, true};
+ghost use Rattle.std.specs.Prelude.{◌≡◌, ◌<◌, ◌+◌, ◌==◌, ◌≤◌, ◌∷◌, [], length, IfErr, IfNone, IfSome, IfOk, true};
 ghost use Rattle.std.specs.List.{position};
 ghost use Rattle.chi_script.specs.Headers.{is_in_limits};
-ghost use Rattle.chi_script.specs.Faults.{Gives};
-ghost use Rattle.chi_script.specs.Files.{lines_of, header_at, command_at, commands_of, file_of, script_of};
+ghost use Rattle.chi_script.specs.Faults.{Fails, Gives};
+ghost use Rattle.chi_script.specs.Files.{lines_of, header_at, command_at, commands_of, file_of, script_of, with_header};
 
 use crate::commands::{Command, read_command};
 use crate::faults::Fault;
@@ -32,27 +32,45 @@ pub struct Script<A: Allocator> {
 /// faulty line is told: `BadHeader`, `BadCommand`, or `MissingNewline` where bytes stand behind the last
 /// line end. An empty file is `BadHeader`. `NoMemory` where memory runs out.
 /// Source: `docs/PROTOCOL.md`, "Replay files".
-#[tactic(auto, unfolding(crate::specs::Files::file_of))]
 pub fn read_file<A: Allocator + Copy>(alloc: A, bytes: &[u8]) -> Result<Script<A>, Fault>
     ensures { Gives (λ script. (script.header, script.commands.items)) result (file_of bytes.now) }
+{
+    let (header, lines) = read_head(alloc, bytes)?;
+    let commands = read_commands(alloc, lines)?;
+    Ok(Script { header, commands })
+}
+
+/// The header of a replay file, and the lines behind it, which aren't read yet: they are its commands, or
+/// have its first fault.
+///
+/// `TooLarge` where the file has more than `MOST_BYTES` bytes, before all else. `BadHeader` where line 1 is
+/// no header within the limits, or the file is empty, and `MissingNewline` where no line end closes line 1.
+/// `NoMemory` where memory runs out.
+/// Source: `docs/PROTOCOL.md`, "Replay files".
+#[tactic(auto, unfolding(crate::specs::Files::file_of))]
+pub fn read_head<A: Allocator>(alloc: A, bytes: &[u8]) -> Result<(Header, &[u8]), Fault>
+    ensures lines { IfOk result (λ head. file_of bytes.now ≡ with_header head.0 (commands_of 2 (lines_of head.1.now))) }
+    ensures kept { IfOk result (λ head. is_in_limits head.0 ≡ true) }
+    ensures err { IfErr result (λ fault. Fails fault (file_of bytes.now)) }
 {
     if bytes.len() > MOST_BYTES {
         return Err(Fault::TooLarge);
     }
-    read_lines(alloc, bytes)
+    read_first_line(alloc, bytes)
 }
 
-/// The header and the commands of the lines from line 1 on.
-fn read_lines<A: Allocator + Copy>(alloc: A, bytes: &[u8]) -> Result<Script<A>, Fault>
-    ensures { Gives (λ script. (script.header, script.commands.items)) result (script_of (lines_of bytes.now)) }
+/// The header that line 1 is, and the lines behind it.
+fn read_first_line<A: Allocator>(alloc: A, bytes: &[u8]) -> Result<(Header, &[u8]), Fault>
+    ensures lines { IfOk result (λ head. script_of (lines_of bytes.now) ≡ with_header head.0 (commands_of 2 (lines_of head.1.now))) }
+    ensures kept { IfOk result (λ head. is_in_limits head.0 ≡ true) }
+    ensures err { IfErr result (λ fault. Fails fault (script_of (lines_of bytes.now))) }
 {
     match first_line(bytes) {
         None if bytes.is_empty() => Err(Fault::BadHeader(1)),
         None => Err(Fault::MissingNewline(1)),
         Some((line, rest)) => {
             let header = header_in(alloc, line, 1)?;
-            let commands = read_commands(alloc, rest)?;
-            Ok(Script { header, commands })
+            Ok((header, rest))
         }
     }
 }
@@ -89,8 +107,10 @@ pub fn header_in<A: Allocator>(alloc: A, line: &[u8], number: usize) -> Result<H
     read_header(&words).ok_or(Fault::BadHeader(number))
 }
 
-/// The command that a line is; its number is for the fault.
-fn command_in(line: &[u8], number: usize) -> Result<Command, Fault>
+/// The command that a line is, which is given without its line end; its number is for the fault.
+/// `BadCommand` where it is none.
+/// Source: `docs/PROTOCOL.md`, "Replay files".
+pub fn command_in(line: &[u8], number: usize) -> Result<Command, Fault>
     ensures { Gives (λ command. command) result (command_at number line.now) }
 {
     read_command(line).ok_or(Fault::BadCommand(number))

@@ -26,7 +26,7 @@ pub fn small(word: &[u8]) -> Option<u8>
     match word {
         [digit] => with_small_digit(0, *digit),
         [high, low] => pair(*high, *low),
-        _ => capped(word),
+        _ => capped_number(word),
     }
 }
 
@@ -44,7 +44,7 @@ fn pair(high: u8, low: u8) -> Option<u8>
 
 /// The same of a word of any length, by all its digits.
 #[inline(never)]
-fn capped(word: &[u8]) -> Option<u8>
+fn capped_number(word: &[u8]) -> Option<u8>
     ensures { result ≡ small_of word.now }
 {
     let written = number(word)?;

@@ -6,7 +6,7 @@ ghost use Rattle.chi_script.specs.Commands.{act_at, command_of, command_two};
 
 use crate::commands::{Command, act, after_one};
 use crate::numbers::small;
-use crate::words::first_argument;
+use crate::words::{first_argument, is};
 use chi_flit::{Agent, Line, Step};
 
 /// The command that a line is, where its first letters are those of a verb that most files are full of.
@@ -18,18 +18,20 @@ pub(crate) fn usual_command(line: &[u8]) -> Option<Command>
     match line {
         [b'a', b'r', ..] => arrival(line),
         [b'a', ..] => step_on(line, b"ack", Step::RecvAck),
-        [b'i', ..] => worded(line, b"issue"),
+        [b'i', ..] => command_with_verb(line, b"issue"),
         [b's', b't', b'a', ..] => step_on(line, b"start", Step::Start),
-        [b's', b't', ..] => worded(line, b"store"),
+        [b's', b't', ..] => command_with_verb(line, b"store"),
         [b's', b'n', b'p', b' ', ..] => step_on(line, b"snp", Step::RecvSnp),
         [b's', b'n', ..] => step_on(line, b"snpresp", Step::RecvSnpResp),
+        [b's', b'e', ..] => look(line),
         [b'd', b'a', ..] => step_on(line, b"data", Step::RecvData),
         [b'd', b'b', ..] => step_on(line, b"dbid", Step::RecvDbid),
         [b'r', b'e', b't', ..] => step_on(line, b"retryack", Step::RecvRetry),
         [b'r', ..] => step_on(line, b"resend", Step::Resend),
         [b'c', b'o', ..] => step_on(line, b"comp", Step::RecvComp),
         [b'w', ..] => step_on(line, b"wrdata", Step::RecvWrData),
-        [b'l', ..] => worded(line, b"load"),
+        [b'l', ..] => command_with_verb(line, b"load"),
+        [b't', b'o', ..] => glance(line),
         _ => None,
     }
 }
@@ -43,6 +45,31 @@ fn arrival(line: &[u8]) -> Option<Command>
         agent: Agent(agent),
         line: Line(line),
     })
+}
+
+/// `see N`
+#[inline(always)]
+fn look(line: &[u8]) -> Option<Command>
+    ensures { IfSome result (λ command. command_of (words_of line.now) ≡ Some command) }
+{
+    let rest = behind(line, b"see")?;
+    let agent = small(rest)?;
+    Some(Command::See {
+        agent: Agent(agent),
+    })
+}
+
+/// `totals`
+#[inline(always)]
+#[tactic(auto, using(crate::proofs::UsualLemmas::one_word))]
+fn glance(line: &[u8]) -> Option<Command>
+    ensures { IfSome result (λ command. command_of (words_of line.now) ≡ Some command) }
+{
+    if is(line, "totals") {
+        Some(Command::Totals)
+    } else {
+        None
+    }
 }
 
 /// `VERB N L` of a verb that is a step.
@@ -70,7 +97,7 @@ fn two_behind(line: &[u8], verb: &[u8]) -> Option<(u8, u8)>
 }
 
 /// The command of a line that begins with the verb, by its words.
-fn worded(line: &[u8], verb: &[u8]) -> Option<Command>
+fn command_with_verb(line: &[u8], verb: &[u8]) -> Option<Command>
     requires { has_no_space verb.now ≡ true }
     ensures { IfSome result (λ command. command_of (words_of line.now) ≡ Some command) }
 {

@@ -29,7 +29,7 @@ use Rattle.chi_line.proofs.After.{issue_allowed, kept_after, names_used_slot, ne
 use Rattle.chi_line.proofs.Steps.{step_after}
 use Rattle.chi_slice.specs.declared.terms.Terms.{Terms}
 use Rattle.chi_slice.specs.Recorded.{CanAppend, done_record, record_by}
-use Rattle.chi_slice.specs.Slice.{IsBalanced, IsStep, OtherLinesStay, SliceKept, SliceState, acted, completes, conditions_under, entry_of, is_in_range, is_slot_used, last_of, line, line_at, range_refusal, recorded, refused, refused_under, row_count, row_of_line, uses}
+use Rattle.chi_slice.specs.Slice.{IsBalanced, IsStep, OtherLinesStay, SliceKept, SliceState, slice_after, completes, conditions_under, entry_of, is_in_range, is_slot_used, last_of, line, line_at, range_refusal, log_after, action_refusal, refused_under, row_count, row_of_line, uses}
 use Rattle.chi_slice.proofs.Refusing.{allowed_alone, conditions_of}
 use Rattle.chi_slice.proofs.Rows.{InRange, in_range, rows_apart}
 use Rattle.chi_slice.proofs.Slices.{FitsLine, kept_with_entry, line_at-with_line, line_at-with_other}
@@ -57,7 +57,7 @@ pub record Allowed (s : SliceState) (action : Action) : Type 0 where
   pub inside : is_in_range s action ≡ true
   pub by_line : line_refusal (conditions_of s action) (line s action.line.0) action ≡ None
 
-pub allowed : (s : SliceState) (action : Action) → refused s action ≡ None → Allowed s action
+pub allowed : (s : SliceState) (action : Action) → action_refusal s action ≡ None → Allowed s action
 allowed s action h = go (is_in_range s action) refl h
   where
     go : (b : Bool) → is_in_range s action ≡ b → (if b then line_refusal (conditions_of s action) (line s action.line.0) action else Some OutOfRange) ≡ None → Allowed s action
@@ -102,7 +102,7 @@ entry_fits s action k may =
     may.by_line (k.lines action.line.0 inside.line)
 
 -- an action that isn't refused keeps what a slice keeps
-pub kept_acted : (s : SliceState) (action : Action) → SliceKept s → Allowed s action → SliceKept (acted s action)
+pub kept_acted : (s : SliceState) (action : Action) → SliceKept s → Allowed s action → SliceKept (slice_after s action)
 kept_acted s action k may =
     let inside : InRange s action = in_range s action k may.inside in
     kept_with_entry s action.line.0 (after s.config.profile (line s action.line.0) action) (entry_of s action) inside.line k
@@ -118,7 +118,7 @@ recorded_as : (s : LineState) (action : Action) (effect : Effect) → effect ≡
 recorded_as s action effect is = ap (record_by action) is ∙ record_is s action.agent action.line action.step
 
 -- an action that is done takes its line by its step
-pub acted_step : (s : SliceState) (action : Action) → SliceKept s → Allowed s action → IsStep s action (effect_of (line s action.line.0) action) (acted s action)
+pub acted_step : (s : SliceState) (action : Action) → SliceKept s → Allowed s action → IsStep s action (effect_of (line s action.line.0) action) (slice_after s action)
 acted_step s action k may =
     let inside : InRange s action = in_range s action k may.inside in
     let old : LineState = line s action.line.0 in
@@ -126,7 +126,7 @@ acted_step s action k may =
     (step_after (conditions_of s action) (last_of s action.line.0) old action.agent action.line action.step inside.agent may.by_line (k.lines action.line.0 inside.line))
 
 -- and leaves the other lines as they were
-pub acted_others : (s : SliceState) (action : Action) → SliceKept s → Allowed s action → OtherLinesStay s (acted s action) action.line.0
+pub acted_others : (s : SliceState) (action : Action) → SliceKept s → Allowed s action → OtherLinesStay s (slice_after s action) action.line.0
 acted_others s action k may = λ other there apart.
     let inside : InRange s action = in_range s action k may.inside in
     line_at-with_other s (row_of_line s action.line.0) (row_of_line s other) (after s.config.profile (line s action.line.0) action) (rows_apart s action.line.0 other k inside.line there apart)
@@ -206,20 +206,20 @@ line_left {s} {terms} {action} {row} {conditions} {at} is r = is ∙ (ap (λ (x 
 
 -- the line that it leaves, with the journal and its record, are what the action leaves
 pub changed : {s : SliceState} {terms : Terms} {action : Action} {row : ℕ} {conditions : Conditions} {at at' : LineState} {effect : Effect} (journal' : Log) → Ready s terms action row conditions at
-    → Call conditions action at at' effect → journal' ≡ recorded s.journal (record_by action effect) → record s { lines = set s.lines row at'; journal = journal' } ≡ acted s action
+    → Call conditions action at at' effect → journal' ≡ log_after s.journal (record_by action effect) → record s { lines = set s.lines row at'; journal = journal' } ≡ slice_after s action
 changed {s} {terms} {action} {row} {conditions} {at} {at'} {effect} journal' r call noted =
     ap (λ (n : ℕ). record s { lines = set s.lines n at'; journal = journal' }) r.row_is
     ∙ (ap (λ (l : LineState). record s { lines = set s.lines (row_of_line s action.line.0) l; journal = journal' }) (line_left call.after_is r)
-    ∙ ap (λ (log : Log). record s { lines = set s.lines (row_of_line s action.line.0) (after s.config.profile (line s action.line.0) action); journal = log }) (noted ∙ ap (recorded s.journal) (entry_here effect r call.effect_is)))
+    ∙ ap (λ (log : Log). record s { lines = set s.lines (row_of_line s action.line.0) (after s.config.profile (line s action.line.0) action); journal = log }) (noted ∙ ap (log_after s.journal) (entry_here effect r call.effect_is)))
 
 -- no flit is lost or made
-pub balanced : {s : SliceState} {terms : Terms} {action : Action} {row : ℕ} {conditions : Conditions} {at at' : LineState} {effect : Effect} → Ready s terms action row conditions at → Call conditions action at at' effect → IsBalanced s action (acted s action)
+pub balanced : {s : SliceState} {terms : Terms} {action : Action} {row : ℕ} {conditions : Conditions} {at at' : LineState} {effect : Effect} → Ready s terms action row conditions at → Call conditions action at at' effect → IsBalanced s action (slice_after s action)
 balanced {s} {terms} {action} {row} {conditions} {at} {at'} r call =
     let left : LineState = after s.config.profile (line s action.line.0) action in
-    let there : at' ≡ line (acted s action) action.line.0 =
+    let there : at' ≡ line (slice_after s action) action.line.0 =
     line_left call.after_is r ∙ sym (line_at-with_line s (row_of_line s action.line.0) left (in_range s action r.kept r.inside).row r.kept) in
-    subst (λ (x : Conditions). KeepsFlits x.profile (line s action.line.0) action (line (acted s action) action.line.0)) r.conditions_is
-    (subst (λ (l : LineState). KeepsFlits conditions.profile l action (line (acted s action) action.line.0)) r.line_is
+    subst (λ (x : Conditions). KeepsFlits x.profile (line s action.line.0) action (line (slice_after s action) action.line.0)) r.conditions_is
+    (subst (λ (l : LineState). KeepsFlits conditions.profile l action (line (slice_after s action) action.line.0)) r.line_is
     (subst (KeepsFlits conditions.profile at action) there call.flits))
 
 -- what an action would complete: only the steps that complete something have an effect with a slot

@@ -13,7 +13,7 @@ use Rattle.chi_slice.specs.declared.places.Place.{Place}
 use Rattle.chi_slice.specs.declared.terms.Terms.{Terms}
 use Rattle.chi_slice.specs.Index.{Indexed, moved_in}
 use Rattle.chi_slice.specs.Recorded.{record_by}
-use Rattle.chi_slice.specs.Slice.{IsBalanced, IsStep, OtherLinesStay, SliceKept, SliceState, acted, line, moved_by, recorded, refused_under}
+use Rattle.chi_slice.specs.Slice.{IsBalanced, IsStep, OtherLinesStay, SliceKept, SliceState, slice_after, line, moved_by, log_after, refused_under}
 use Rattle.chi_slice.proofs.Acts.{Allowed, Call, Ready, acted_others, acted_step, allowed_here, balanced, changed, kept_acted, refused_here}
 use Rattle.chi_slice.proofs.Follows.{followed_by, index_after, indexed_acted}
 
@@ -27,7 +27,7 @@ pub record Ended (old : SliceState) (terms : Terms) (action : Action) (effect : 
   pub others : OtherLinesStay old new action.line.0
   pub effect_is : effect ≡ effect_of (line old action.line.0) action
   pub slot_is : slot ≡ moved_by old action
-  pub after : new ≡ acted old action
+  pub after : new ≡ slice_after old action
 
 -- what the move says of the line
 pub record Move (action : Action) (at : LineState) (slot : Option Slot) (to : Option Where) : Type 0 where
@@ -42,15 +42,15 @@ followed places action at at' slot to move same =
 
 end_of : {s : SliceState} {terms : Terms} {action : Action} {row : ℕ} {conditions : Conditions} {at at' : LineState} {effect : Effect} {slot : Option Slot} {to : Option Where} (places places' : List (Option Place)) (journal' : Log)
     → Indexed s places → Ready s terms action row conditions at → Call conditions action at at' effect → Move action at slot to → places' ≡ moved_in places action.agent.0 action.line slot to
-    → journal' ≡ recorded s.journal (record_by action effect) → Ended s terms action effect slot (record s { lines = set s.lines row at'; journal = journal' }) places'
+    → journal' ≡ log_after s.journal (record_by action effect) → Ended s terms action effect slot (record s { lines = set s.lines row at'; journal = journal' }) places'
 end_of {s} {terms} {action} {row} {conditions} {at} {at'} {effect} {slot} {to} places places' journal' i r call move follows noted =
     let may : Allowed s action = allowed_here r call.refusal in
-    let new : record s { lines = set s.lines row at'; journal = journal' } ≡ acted s action = changed journal' r call noted in
+    let new : record s { lines = set s.lines row at'; journal = journal' } ≡ slice_after s action = changed journal' r call noted in
     let effect_is : effect ≡ effect_of (line s action.line.0) action = call.effect_is ∙ ap (λ (l : LineState). effect_of l action) r.line_is in
     let places_are : places' ≡ index_after s places action = follows ∙ followed places action at (line s action.line.0) slot to move r.line_is in
     record {
       kept = subst SliceKept (sym new) (kept_acted s action r.kept may);
-      indexed = subst (λ (v : SliceState). Indexed v places') (sym new) (subst (Indexed (acted s action)) (sym places_are) (indexed_acted s places action r.kept i may));
+      indexed = subst (λ (v : SliceState). Indexed v places') (sym new) (subst (Indexed (slice_after s action)) (sym places_are) (indexed_acted s places action r.kept i may));
       refusal = call.refusal ∙ refused_here r;
       step = subst (λ (e : Effect). IsStep s action e (record s { lines = set s.lines row at'; journal = journal' })) (sym effect_is) (subst (λ (v : SliceState). IsStep s action (effect_of (line s action.line.0) action) v) (sym new) (acted_step s action r.kept may));
       flits = subst (λ (v : SliceState). IsBalanced s action v) (sym new) (balanced r call);
@@ -62,6 +62,6 @@ end_of {s} {terms} {action} {row} {conditions} {at} {at'} {effect} {slot} {to} p
 
 pub ended : {s : SliceState} {row : ℕ} {conditions : Conditions} {at at' : LineState} {effect : Effect} {slot : Option Slot} {to : Option Where} (now : SliceState) (terms : Terms) (action : Action) (places places' : List (Option Place)) (journal' : Log)
     → s ≡ now → Indexed s places → Ready s terms action row conditions at → Call conditions action at at' effect → Move action at slot to → places' ≡ moved_in places action.agent.0 action.line slot to
-    → journal' ≡ recorded s.journal (record_by action effect) → Ended now terms action effect slot (record s { lines = set s.lines row at'; journal = journal' }) places'
+    → journal' ≡ log_after s.journal (record_by action effect) → Ended now terms action effect slot (record s { lines = set s.lines row at'; journal = journal' }) places'
 ended {s} {row} {conditions} {at} {at'} {effect} {slot} {to} now terms action places places' journal' same i r call move follows noted =
     subst (λ (v : SliceState). Ended v terms action effect slot (record s { lines = set s.lines row at'; journal = journal' }) places') same (end_of places places' journal' i r call move follows noted)

@@ -16,7 +16,7 @@ use Rattle.chi_line.specs.LineState.{LineState, rn_of}
 use Rattle.chi_line.specs.Refused.{credit_refusal, first_of, line_refusal, step_refusal}
 use Rattle.chi_line.specs.Types.{pending_credit}
 use Rattle.chi_slice.specs.declared.terms.Terms.{Terms}
-use Rattle.chi_slice.specs.Slice.{SliceState, conditions_under, no_terms, is_in_range, is_slot_used, line, refused, refused_under}
+use Rattle.chi_slice.specs.Slice.{SliceState, conditions_under, no_terms, is_in_range, is_slot_used, line, action_refusal, refused_under}
 
 -- what an action has to know beside its line, by the slice alone
 abbrev pub conditions_of : SliceState → Action → Conditions
@@ -50,7 +50,7 @@ step_alone used taken credits full profile l agent (steps.Issue kind slot) may =
 step_alone used taken credits full profile l agent steps.Resend may = resend_alone (resend_refusal (rn_of l agent.0)) credits (pending_credit profile (rn_of l agent.0).pending) may
 step_alone used taken credits full profile l agent other may = may
 
-pub allowed_alone : (terms : Terms) (s : SliceState) (action : Action) → refused_under terms s action ≡ None → refused s action ≡ None
+pub allowed_alone : (terms : Terms) (s : SliceState) (action : Action) → refused_under terms s action ≡ None → action_refusal s action ≡ None
 allowed_alone terms s action may = go (is_in_range s action) may
   where
     go : (b : Bool) → (if b then line_refusal (conditions_under terms s action) (line s action.line.0) action else Some OutOfRange) ≡ None

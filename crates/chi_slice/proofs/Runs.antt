@@ -8,7 +8,7 @@ use Rattle.chi_flit.specs.declared.action.Effect.{Effect}
 use Rattle.chi_flit.specs.declared.refusal.Refusal.{Refusal}
 use Rattle.chi_flit.specs.Refusal.{refusal_of}
 use Rattle.chi_line.specs.Step.{effect_of}
-use Rattle.chi_slice.specs.Slice.{IsBalanced, IsStep, OtherLinesStay, SliceState, acted, done_if, entry_of, line, recorded, refused, run_after, run_done, tried, tried_as}
+use Rattle.chi_slice.specs.Slice.{IsBalanced, IsStep, OtherLinesStay, SliceState, slice_after, done_if, entry_of, line, log_after, action_refusal, run_after, run_done, slice_after_try, tried_as}
 use Rattle.chi_slice.specs.Run.{IsDone, IsRun, IsTried}
 
 -- after the first i actions the slice is s, and done of them were done
@@ -23,17 +23,17 @@ runs_start s actions = record { after = refl; count = omega arith; few = omega a
 
 -- what a call of act says of an action that was tried
 pub record Answered (s s' : SliceState) (action : Action) (result : Result Effect Refusal) : Type 0 where
-  pub refusal : refusal_of result ≡ refused s action
+  pub refusal : refusal_of result ≡ action_refusal s action
   pub step : IfOk result (λ effect. IsStep s action effect s')
-  pub journal : OnOk result (s'.journal ≡ recorded s.journal (entry_of s action))
+  pub journal : OnOk result (s'.journal ≡ log_after s.journal (entry_of s action))
   pub flits : OnOk result (IsBalanced s action s')
   pub others : OnOk result (OtherLinesStay s s' action.line.0)
   pub effect : IfOk result (λ effect. effect ≡ effect_of (line s action.line.0) action)
-  pub after : OnOk result (s' ≡ acted s action)
+  pub after : OnOk result (s' ≡ slice_after s action)
   pub err : OnErr result (s' ≡ s)
 
 -- so it is a step of a run
-step_of_run : (s s' : SliceState) (action : Action) (result : Result Effect Refusal) → Answered s s' action result → IsTried (refused s action) s action s'
+step_of_run : (s s' : SliceState) (action : Action) (result : Result Effect Refusal) → Answered s s' action result → IsTried (action_refusal s action) s action s'
 step_of_run s s' action (Ok effect) by =
     let step : IsStep s action (effect_of (line s action.line.0) action) s' = subst (λ (e : Effect). IsStep s action e s') by.effect by.step in
     let done : IsDone s action s' = record { step = step; flits = by.flits; journal = by.journal; others = by.others; config = ap (λ (v : SliceState). v.config) by.after; index = ap (λ (v : SliceState). v.index) by.after } in
@@ -41,12 +41,12 @@ step_of_run s s' action (Ok effect) by =
 step_of_run s s' action (Err refusal) by = subst (λ (r : Option Refusal). IsTried r s action s') by.refusal by.err
 
 -- the slice after an action was tried, and whether it was done
-tried_is : (s s' : SliceState) (action : Action) (result : Result Effect Refusal) → refusal_of result ≡ refused s action → OnOk result (s' ≡ acted s action) → OnErr result (s' ≡ s) → s' ≡ tried s action
+tried_is : (s s' : SliceState) (action : Action) (result : Result Effect Refusal) → refusal_of result ≡ action_refusal s action → OnOk result (s' ≡ slice_after s action) → OnErr result (s' ≡ s) → s' ≡ slice_after_try s action
 tried_is s s' action (Ok effect) by after stays = subst (λ (r : Option Refusal). s' ≡ tried_as r s action) by after
 tried_is s s' action (Err refusal) by after stays = subst (λ (r : Option Refusal). s' ≡ tried_as r s action) by stays
 
-counted : (s : SliceState) (action : Action) (result : Result Effect Refusal) (done done' : ℕ) → refusal_of result ≡ refused s action
-    → (is_ok result ≡ true → done' ≡ done + 1) → (is_ok result ≡ false → done' ≡ done) → done' ≡ done + done_if (refused s action)
+counted : (s : SliceState) (action : Action) (result : Result Effect Refusal) (done done' : ℕ) → refusal_of result ≡ action_refusal s action
+    → (is_ok result ≡ true → done' ≡ done + 1) → (is_ok result ≡ false → done' ≡ done) → done' ≡ done + done_if (action_refusal s action)
 counted s action (Ok effect) done done' by more same = subst (λ (r : Option Refusal). done' ≡ done + done_if r) by (more refl)
 counted s action (Err refusal) done done' by more same = subst (λ (r : Option Refusal). done' ≡ done + done_if r) by (same refl ∙ omega arith)
 
@@ -62,11 +62,11 @@ runs_next old s s' actions done done' i d result low on by more same =
     let action : Action = get_or actions i d in
     let rest : List Action = drop (suc i) actions in
     let left : drop i actions ≡ action ∷ rest = drop-cons actions i d low in
-    let state : s' ≡ tried s action = tried_is s s' action result by.refusal by.after by.err in
-    let number : done' ≡ done + done_if (refused s action) = counted s action result done done' by.refusal more same in
-    let ran : run_after s (drop i actions) ≡ run_after (tried s action) rest = ap (run_after s) left in
-    let done_all : run_done s (drop i actions) ≡ done_if (refused s action) + run_done (tried s action) rest = ap (run_done s) left in
-    let most : done_if (refused s action) ≤ 1 = done_once (refused s action) in
+    let state : s' ≡ slice_after_try s action = tried_is s s' action result by.refusal by.after by.err in
+    let number : done' ≡ done + done_if (action_refusal s action) = counted s action result done done' by.refusal more same in
+    let ran : run_after s (drop i actions) ≡ run_after (slice_after_try s action) rest = ap (run_after s) left in
+    let done_all : run_done s (drop i actions) ≡ done_if (action_refusal s action) + run_done (slice_after_try s action) rest = ap (run_done s) left in
+    let most : done_if (action_refusal s action) ≤ 1 = done_once (action_refusal s action) in
     record {
       after = rw add-one (ap (λ (v : SliceState). run_after v rest) state ∙ (sym ran ∙ on.after));
       count = rw (add-one, state) (omega (arith, number, done_all, on.count));
@@ -90,6 +90,6 @@ tried_keeps (Some refusal) old action new same = (ap (λ (v : SliceState). v.con
 pub run_keeps : (old : SliceState) (actions : List Action) (new : SliceState) → IsRun old actions new → (new.config ≡ old.config) × (new.index ≡ old.index)
 run_keeps old [] new run = (ap (λ (v : SliceState). v.config) run, ap (λ (v : SliceState). v.index) run)
 run_keeps old (action ∷ actions) new run =
-    let here : (run.0.config ≡ old.config) × (run.0.index ≡ old.index) = tried_keeps (refused old action) old action run.0 run.1 in
+    let here : (run.0.config ≡ old.config) × (run.0.index ≡ old.index) = tried_keeps (action_refusal old action) old action run.0 run.1 in
     let rest : (new.config ≡ run.0.config) × (new.index ≡ run.0.index) = run_keeps run.0 actions new run.2 in
     (rest.0 ∙ here.0, rest.1 ∙ here.1)

@@ -12,7 +12,7 @@ use Rattle.chi_journal.specs.declared.record.Record.TheVariants.{Load, Store}
 use Rattle.chi_journal.specs.Record.{record_line}
 use Rattle.chi_journal.specs.Journal.{IsLegal, IsLegalAfter, Log, last_words, opening_log, words_after}
 use Rattle.chi_journal.proofs.Append.{last_words_with, legal_with}
-use Rattle.chi_slice.specs.Slice.{SliceKept, SliceState, is_line_in_range, last_of, line, line_at, opening_slice, recorded, row_count, row_of_line, slice_of, with_line}
+use Rattle.chi_slice.specs.Slice.{SliceKept, SliceState, is_line_in_range, last_of, line, line_at, opening_slice, log_after, row_count, row_of_line, slice_of, with_line}
 use Rattle.chi_line.proofs.After.{last_with}
 use Rattle.chi_line.proofs.Opening.{opening_kept}
 use Rattle.chi_slice.proofs.Rows.{row_in_range, rows_apart}
@@ -67,7 +67,7 @@ words_elsewhere l words (Load agent at word value) apart = refl
 words_elsewhere l words (Store agent at word value) apart = rw apart refl
 
 -- the values last stored to a line, once a record is there
-pub last_recorded : (log : Log) (entry : Option Record) (l : ℕ) → last_words (recorded log entry).entries l ≡ last_with l (last_words log.entries l) entry
+pub last_recorded : (log : Log) (entry : Option Record) (l : ℕ) → last_words (log_after log entry).entries l ≡ last_with l (last_words log.entries l) entry
 last_recorded log None l = refl
 last_recorded log (Some entry) l = last_words_with log.entries entry l
 
@@ -76,26 +76,26 @@ abbrev pub FitsLine : Log → ℕ → Option Record → Type 0
 FitsLine log l None = Unit {0}
 FitsLine log l (Some entry) = ((record_line entry).0 ≡ l) × IsLegalAfter log.entries entry
 
-legal_recorded : (log : Log) (entry : Option Record) (l : ℕ) → FitsLine log l entry → IsLegal log.entries → IsLegal (recorded log entry).entries
+legal_recorded : (log : Log) (entry : Option Record) (l : ℕ) → FitsLine log l entry → IsLegal log.entries → IsLegal (log_after log entry).entries
 legal_recorded log None l fits legal = legal
 legal_recorded log (Some entry) l fits legal = (legal_with log.entries entry).1 (legal, fits.1)
 
-lines_recorded : (log : Log) (entry : Option Record) → (recorded log entry).lines ≡ log.lines
+lines_recorded : (log : Log) (entry : Option Record) → (log_after log entry).lines ≡ log.lines
 lines_recorded log None = refl
 lines_recorded log (Some entry) = refl
 
-limit_recorded : (log : Log) (entry : Option Record) → (recorded log entry).limit ≡ log.limit
+limit_recorded : (log : Log) (entry : Option Record) → (log_after log entry).limit ≡ log.limit
 limit_recorded log None = refl
 limit_recorded log (Some entry) = refl
 
-last_elsewhere : (log : Log) (entry : Option Record) (l other : ℕ) → FitsLine log l entry → other ≢ l → last_words (recorded log entry).entries other ≡ last_words log.entries other
+last_elsewhere : (log : Log) (entry : Option Record) (l other : ℕ) → FitsLine log l entry → other ≢ l → last_words (log_after log entry).entries other ≡ last_words log.entries other
 last_elsewhere log None l other fits apart = refl
 last_elsewhere log (Some entry) l other fits apart =
     last_words_with log.entries entry other ∙ words_elsewhere other (last_words log.entries other) entry (subst (λ (n : ℕ). (n == other) ≡ false) (sym fits.0) (grind (arith, apart)))
 
 -- the slice with another line, and one more record or none
 abbrev pub with_entry : SliceState → ℕ → LineState → Option Record → SliceState
-with_entry s l new entry = record (with_line s (row_of_line s l) new) { journal = recorded s.journal entry }
+with_entry s l new entry = record (with_line s (row_of_line s l) new) { journal = log_after s.journal entry }
 
 -- a slice keeps what it keeps where the line that is put into its row does, and the record fits
 pub kept_with_entry : (s : SliceState) (l : ℕ) (new : LineState) (entry : Option Record) → is_line_in_range s l ≡ true → SliceKept s

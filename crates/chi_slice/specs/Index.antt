@@ -51,9 +51,9 @@ abbrev pub no_places : List (Option Place)
 no_places = replicate 64 None
 
 -- the place of what a line shows
-abbrev pub placed : Line → Option Where → Option Place
-placed line None = None
-placed line (Some at) = Some (record { line = line; at = at })
+abbrev pub place_of_where : Line → Option Where → Option Place
+place_of_where line None = None
+place_of_where line (Some at) = Some (record { line = line; at = at })
 
 -- an agent's slot has the credit type at each line of the slice
 abbrev pub HasType : SliceState → CreditType → ℕ → Slot → Type 0
@@ -83,4 +83,4 @@ IsKept config index lines journal places = SliceKept (slice_of config index line
 -- an index where a slot, if there is one, has another place on a line, or none
 abbrev pub moved_in : List (Option Place) → ℕ → Line → Option Slot → Option Where → List (Option Place)
 moved_in places n line None to = places
-moved_in places n line (Some slot) to = with_place places n slot (placed line to)
+moved_in places n line (Some slot) to = with_place places n slot (place_of_where line to)

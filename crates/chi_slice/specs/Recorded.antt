@@ -1,4 +1,5 @@
--- The record of an action that was done (docs/PROTOCOL.md, "The actions", Load and Store).
+-- Of the code alone, no public promise cites it: the record of an action that was done (docs/PROTOCOL.md,
+-- "The actions", Load and Store).
 use Rattle.std.specs.Prelude.{◌≡◌, ◌<◌, false, Option, Some, None}
 use Rattle.chi_flit.specs.declared.numbers.Agent.{Agent}
 use Rattle.chi_flit.specs.declared.numbers.Line.{Line}

@@ -11,7 +11,7 @@ use Rattle.chi_flit.specs.declared.action.Effect.{Effect}
 use Rattle.chi_flit.specs.declared.refusal.Refusal.{Refusal}
 use Rattle.chi_flit.specs.declared.refusal.Refusal.TheVariants.{OutOfRange}
 use Rattle.chi_journal.specs.declared.record.Record.{Record}
-use Rattle.chi_journal.specs.Journal.{IsLegal, Log, appended, is_full, last_words, opening_log}
+use Rattle.chi_journal.specs.Journal.{IsLegal, Log, log_with, is_full, last_words, opening_log}
 use Rattle.chi_config.specs.Config.{Sizes, are_in_limits}
 use Rattle.chi_slice.specs.declared.terms.Terms.{Terms}
 use Rattle.chi_line.specs.LineState.{LineState, opening_line}
@@ -100,17 +100,17 @@ refused_under terms s action =
     if is_in_range s action then line_refusal (conditions_under terms s action) (line s action.line.0) action else Some OutOfRange
 
 -- why an action is refused by the slice alone
-abbrev pub refused : SliceState → Action → Option Refusal
-refused s action = refused_under no_terms s action
+abbrev pub action_refusal : SliceState → Action → Option Refusal
+action_refusal s action = refused_under no_terms s action
 
 -- the slice with another line in a row
 abbrev pub with_line : SliceState → ℕ → LineState → SliceState
 with_line s row new = record s { lines = slice_set s.lines row new }
 
 -- the journal with one more record, or none
-abbrev pub recorded : Log → Option Record → Log
-recorded log None = log
-recorded log (Some entry) = appended log entry
+abbrev pub log_after : Log → Option Record → Log
+log_after log None = log
+log_after log (Some entry) = log_with log entry
 
 -- the record of an action that is done
 abbrev pub entry_of : SliceState → Action → Option Record
@@ -121,10 +121,10 @@ abbrev pub moved_by : SliceState → Action → Option Slot
 moved_by s action = moved_slot (line s action.line.0) action.agent action.step
 
 -- what an action that is done leaves: its line by its step, and the journal with its record
-abbrev pub acted : SliceState → Action → SliceState
-acted s action =
+abbrev pub slice_after : SliceState → Action → SliceState
+slice_after s action =
     record (with_line s (row_of_line s action.line.0) (after s.config.profile (line s action.line.0) action))
-    { journal = recorded s.journal (entry_of s action) }
+    { journal = log_after s.journal (entry_of s action) }
 
 -- an action takes its line by its step, with this effect
 abbrev pub IsStep : SliceState → Action → Effect → SliceState → Type 0
@@ -141,11 +141,11 @@ OtherLinesStay old new l = (other : ℕ) → is_line_in_range old other ≡ true
 
 -- an action that is tried: refused, it changes nothing
 abbrev pub tried_as : Option Refusal → SliceState → Action → SliceState
-tried_as None s action = acted s action
+tried_as None s action = slice_after s action
 tried_as (Some refusal) s action = s
 
-abbrev pub tried : SliceState → Action → SliceState
-tried s action = tried_as (refused s action) s action
+abbrev pub slice_after_try : SliceState → Action → SliceState
+slice_after_try s action = tried_as (action_refusal s action) s action
 
 abbrev pub done_if : Option Refusal → ℕ
 done_if None = 1
@@ -154,11 +154,11 @@ done_if (Some refusal) = 0
 -- a run of actions, each tried in turn, and how many of them are done
 abbrev pub run_after : SliceState → List Action → SliceState
 run_after s [] = s
-run_after s (action ∷ actions) = run_after (tried s action) actions
+run_after s (action ∷ actions) = run_after (slice_after_try s action) actions
 
 abbrev pub run_done : SliceState → List Action → ℕ
 run_done s [] = 0
-run_done s (action ∷ actions) = done_if (refused s action) + run_done (tried s action) actions
+run_done s (action ∷ actions) = done_if (action_refusal s action) + run_done (slice_after_try s action) actions
 
 -- why a line can't be looked at
 abbrev pub view_refusal : SliceState → ℕ → Option Refusal
@@ -170,7 +170,7 @@ flits_refusal s n l = if are_in_range s n l then None else Some OutOfRange
 
 -- the slot of the request that an action would complete
 abbrev pub completes : SliceState → Action → Option Slot
-completes s action = slot_unless (refused s action) (effect_of (line s action.line.0) action)
+completes s action = slot_unless (action_refusal s action) (effect_of (line s action.line.0) action)
 
 -- the values last stored to the words of a line
 abbrev pub last_of : SliceState → ℕ → List ℕ

@@ -10,7 +10,7 @@ use Rattle.chi_line.specs.declared.view.CopyView.{CopyView}
 use Rattle.chi_line.specs.declared.view.LineView.{LineView}
 use Rattle.chi_line.specs.Coherent.{Coherent, IsCleanAgent}
 use Rattle.chi_line.specs.LineState.{LineState}
-use Rattle.chi_line.specs.View.{shown}
+use Rattle.chi_line.specs.View.{line_view}
 
 abbrev pub no_copy : CopyView
 no_copy = record { state = I; words = [] }
@@ -66,4 +66,4 @@ pub record IsCoherentView (view : LineView) : Type 0 where
 -- a verdict on plain data is one on each line that shows it
 abbrev pub IsVerdictOnShown : LineView → Bool → Type 0
 IsVerdictOnShown view verdict =
-    (s : LineState) (last : List ℕ) → length s.requesters ≡ 8 → view ≡ shown s last → IsTrue verdict ↔ Coherent last s
+    (s : LineState) (last : List ℕ) → length s.requesters ≡ 8 → view ≡ line_view s last → IsTrue verdict ↔ Coherent last s

@@ -2,7 +2,7 @@
 
 ghost use Rattle.std.specs.Prelude.{◌≡◌};
 ghost use Rattle.chi_slice.specs.Recorded.{CanAppend, done_record, load_record, record_by};
-ghost use Rattle.chi_slice.specs.Slice.{recorded};
+ghost use Rattle.chi_slice.specs.Slice.{log_after};
 ghost use Rattle.chi_line.specs.Step.{is_step_in_range};
 
 use chi_flit::{Action, Agent, Effect, Line, Step, WordNo};
@@ -12,7 +12,7 @@ use std::alloc::Allocator;
 /// Appends the record of an action that was done, if it has one. There is room for it.
 pub fn note<A: Allocator>(journal: &mut Journal<A>, action: Action, effect: Effect)
     requires { CanAppend journal.old (record_by action effect) }
-    ensures { journal.new ≡ recorded journal.old (record_by action effect) }
+    ensures { journal.new ≡ log_after journal.old (record_by action effect) }
 {
     let Some(entry) = done_record(action.agent, action.line, action.step, effect) else {
         return;

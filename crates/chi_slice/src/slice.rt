@@ -6,14 +6,14 @@ ghost use Rattle.chi_journal.specs.Journal.{IsLegal};
 ghost use Rattle.chi_line.specs.Coherent.{Coherent};
 ghost use Rattle.chi_line.specs.LineState.{cells_of, opening_line, rn_of};
 ghost use Rattle.chi_line.specs.Step.{effect_of, is_step_in_range};
-ghost use Rattle.chi_line.specs.View.{shown};
+ghost use Rattle.chi_line.specs.View.{line_view};
 ghost use Rattle.chi_slice.specs.declared.places.Place.{Place};
 ghost use Rattle.chi_slice.specs.declared.terms.Terms.{Terms};
 ghost use Rattle.chi_slice.specs.Coherence.{IsCoherentSlice};
 ghost use Rattle.chi_config.specs.Config.{are_in_limits};
 ghost use Rattle.chi_slice.specs.Index.{HasType, IsInside, IsShown, SlotsInRange, is_slot_of, typed_at};
 ghost use Rattle.chi_slice.specs.Run.{IsRun};
-ghost use Rattle.chi_slice.specs.Slice.{IsBalanced, IsStep, OtherLinesStay, SliceKept, acted, are_in_range, completes, conditions_under, entry_of, flits_refusal, is_in_range, is_line_in_range, is_slot_used, last_of, line as line_of_slice, moved_by, no_terms, opening_slice, range_refusal, recorded, refused, refused_under, row_count, row_of_line, run_after, run_done, uses, view_refusal};
+ghost use Rattle.chi_slice.specs.Slice.{IsBalanced, IsStep, OtherLinesStay, SliceKept, slice_after, are_in_range, completes, conditions_under, entry_of, flits_refusal, is_in_range, is_line_in_range, is_slot_used, last_of, line as line_of_slice, moved_by, no_terms, opening_slice, range_refusal, log_after, action_refusal, refused_under, row_count, row_of_line, run_after, run_done, uses, view_refusal};
 ghost use Rattle.chi_slice.specs.Table.{IsByTable};
 
 use crate::agent_line::AgentLine;
@@ -196,13 +196,15 @@ impl<A: Allocator> Slice<A> {
     /// order of the action's row; nothing changes then.
     /// Source: `docs/PROTOCOL.md`, "The actions" and "Messages".
     pub fn act(&mut self, action: Action) -> Result<Effect, Refusal>
-        ensures refusal { refusal_of result ≡ refused self.old action }
+        ensures refusal { refusal_of result ≡ action_refusal self.old action }
         ensures step { IfOk result (λ effect. IsStep self.old action effect self.new) }
-        ensures journal { OnOk result (self.new.journal ≡ recorded self.old.journal (entry_of self.old action)) }
+        ensures journal { OnOk result
+            (self.new.journal ≡ log_after self.old.journal (entry_of self.old action)) }
         ensures flits { OnOk result (IsBalanced self.old action self.new) }
         ensures others { OnOk result (OtherLinesStay self.old self.new action.line.0) }
-        ensures effect { IfOk result (λ effect. effect ≡ effect_of (line_of_slice self.old action.line.0) action) }
-        ensures after { OnOk result (self.new ≡ acted self.old action) }
+        ensures effect { IfOk result
+            (λ effect. effect ≡ effect_of (line_of_slice self.old action.line.0) action) }
+        ensures after { OnOk result (self.new ≡ slice_after self.old action) }
         ensures err { OnErr result (self.new ≡ self.old) }
     {
         let done = self.act_under(action, Terms::NONE)?;
@@ -218,12 +220,14 @@ impl<A: Allocator> Slice<A> {
     pub fn act_under(&mut self, action: Action, terms: Terms) -> Result<Done, Refusal>
         ensures refusal { refusal_of result ≡ refused_under terms self.old action }
         ensures step { IfOk result (λ done. IsStep self.old action done.effect self.new) }
-        ensures journal { OnOk result (self.new.journal ≡ recorded self.old.journal (entry_of self.old action)) }
+        ensures journal { OnOk result
+            (self.new.journal ≡ log_after self.old.journal (entry_of self.old action)) }
         ensures flits { OnOk result (IsBalanced self.old action self.new) }
         ensures others { OnOk result (OtherLinesStay self.old self.new action.line.0) }
-        ensures effect { IfOk result (λ done. done.effect ≡ effect_of (line_of_slice self.old action.line.0) action) }
+        ensures effect { IfOk result
+            (λ done. done.effect ≡ effect_of (line_of_slice self.old action.line.0) action) }
         ensures slot { IfOk result (λ done. done.slot ≡ moved_by self.old action) }
-        ensures after { OnOk result (self.new ≡ acted self.old action) }
+        ensures after { OnOk result (self.new ≡ slice_after self.old action) }
         ensures err { OnErr result (self.new ≡ self.old) }
     {
         let site = self.site(action, terms)?;
@@ -262,8 +266,8 @@ impl<A: Allocator> Slice<A> {
     /// Source: `docs/PROTOCOL.md`, "The actions" and "A requester and its calls".
     pub fn refusal(&self, action: Action, terms: Terms) -> Option<Refusal>
         ensures refusal { result ≡ refused_under terms self.now action }
-        ensures alone { terms ≡ no_terms → result ≡ refused self.now action }
-        ensures allowed { result ≡ None → refused self.now action ≡ None }
+        ensures alone { terms ≡ no_terms → result ≡ action_refusal self.now action }
+        ensures allowed { result ≡ None → action_refusal self.now action ≡ None }
     {
         match self.site(action, terms) {
             Ok(site) => self.lines[site.row].refusal(site.conditions, action),
@@ -278,7 +282,7 @@ impl<A: Allocator> Slice<A> {
         ensures { result ≡ completes self.now action }
     {
         match self.row_in_range(action) {
-            Some(row) => self.lines[usize::from(row)].completed(action.agent, action.step),
+            Some(row) => self.lines[usize::from(row)].completed_slot(action.agent, action.step),
             None => None,
         }
     }
@@ -314,7 +318,8 @@ impl<A: Allocator> Slice<A> {
     /// Refused 10 (OutOfRange) exactly where the line is outside the node or in another slice.
     /// Source: `docs/PROTOCOL.md`, "One line" and "Coherence".
     pub fn view(&self, line: Line) -> Result<LineView, Refusal>
-        ensures shown { IfOk result (λ view. view ≡ shown (line_of_slice self.now line.0) (last_of self.now line.0)) }
+        ensures shown { IfOk result
+            (λ view. view ≡ line_view (line_of_slice self.now line.0) (last_of self.now line.0)) }
         ensures coherent { OnOk result (Coherent (last_of self.now line.0) (line_of_slice self.now line.0)) }
         ensures refusal { refusal_of result ≡ view_refusal self.now line.0 }
     {

@@ -118,7 +118,8 @@ fn may_others_stand(states: &[State; 8], agent: usize) -> bool
 fn may_other_stand(states: &[State; 8], agent: usize, other: usize) -> bool
     requires agent { agent < 8 }
     requires other { other < 8 }
-    ensures { IsTrue result ↔ (other ≢ agent → MayStandBeside (state_in states.now agent) (state_in states.now other)) }
+    ensures { IsTrue result
+        ↔ (other ≢ agent → MayStandBeside (state_in states.now agent) (state_in states.now other)) }
 {
     other == agent || may_stand_beside(states[agent], states[other])
 }

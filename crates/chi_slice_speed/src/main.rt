@@ -1,10 +1,16 @@
 //! Prints how fast a slice's actions are on one thread: those of a fixed mix of eight requesters, and cold
 //! reads, each over 64 lines, over 8 and over one. It measures where it is given an argument, as by
 //! `rt run -- now`, and prints nothing without one.
+//!
+//! `act LINES COUNT` does about `COUNT` actions of the mix over 64 lines, 8 or one, one action at a time, and
+//! prints what `tests/c/speed.c` prints of the same through the library for C: nanoseconds, actions, and the
+//! sum of what the effects told.
 #![tactic(auto)]
 
+mod acts;
 mod mix;
 
+use acts::{act_times, run_acts};
 use chi_slice::{Action, Config, Slice};
 use mix::{cold_reads, mix};
 use std::alloc::Global;
@@ -29,16 +35,6 @@ fn opened(alloc: Global, lines: u8) -> io::Result<Slice<Global>> {
     }
 }
 
-/// Does all the actions so many times; it is an error where one is refused.
-fn run_all(slice: &mut Slice<Global>, actions: &[Action], times: usize) -> io::Result<()> {
-    for _ in 0..times {
-        if slice.run(actions) != actions.len() {
-            return Err(io::Error::from(io::ErrorKind::InvalidData));
-        }
-    }
-    Ok(())
-}
-
 /// The nanoseconds that the script takes so many times over, in the fastest of all runs.
 fn fastest<R: Clock>(
     rt: &R,
@@ -51,7 +47,7 @@ fn fastest<R: Clock>(
     for _ in 0..RUNS {
         let mut slice = opened(alloc, lines)?;
         let start = Instant::now(rt)?;
-        run_all(&mut slice, actions, times)?;
+        act_times(&mut slice, actions, times)?;
         best = best.min(start.elapsed(rt)?.as_nanos());
     }
     Ok(best)
@@ -78,29 +74,43 @@ fn measure<R: Print + Clock>(
     println!(rt; "{lines} lines: {thousands} thousand {what} a second")
 }
 
-fn main(rt: HostRuntime) -> io::Result<()> {
-    if env::args(&rt)?.count() < 2 {
-        return Ok(());
-    }
+/// Prints how fast each script is over 64 lines, over 8 and over one.
+fn measure_all<R: Print + Clock>(rt: &R, alloc: Global) -> io::Result<()> {
     for (blocks, width, lines) in [(8, 8, 64), (1, 8, 8), (1, 1, 1)] {
-        let actions = mix(rt.alloc(), blocks, width)?;
+        let actions = mix(alloc, blocks, width)?;
         measure(
-            &rt,
-            rt.alloc(),
+            rt,
+            alloc,
             lines,
             &actions,
             actions.len(),
             "actions of the mix",
         )?;
-        let reads = cold_reads(rt.alloc(), lines)?;
-        measure(
+        let reads = cold_reads(alloc, lines)?;
+        measure(rt, alloc, lines, &reads, usize::from(lines), "cold reads")?;
+    }
+    Ok(())
+}
+
+/// Prints what a run of so many actions over so many lines came to.
+fn print_acts<R: Print + Clock>(rt: &R, alloc: Global, lines: &str, count: &str) -> io::Result<()> {
+    let (Ok(lines), Ok(count)) = (lines.parse::<u8>(), count.parse::<usize>()) else {
+        return Err(io::Error::from(io::ErrorKind::InvalidInput));
+    };
+    let run = run_acts(rt, alloc, lines, count)?;
+    println!(rt; "{} {} {}", run.nanos, run.count, run.told)
+}
+
+fn main(rt: HostRuntime) -> io::Result<()> {
+    let words: Vec<String> = env::args(&rt)?.collect(rt.alloc())?;
+    match words.as_slice() {
+        [] | [_] => Ok(()),
+        [_, command, lines, count] if command.as_str() == "act" => print_acts(
             &rt,
             rt.alloc(),
             lines,
-            &reads,
-            usize::from(lines),
-            "cold reads",
-        )?;
+            count,
+        ),
+        _ => measure_all(&rt, rt.alloc()),
     }
-    Ok(())
 }

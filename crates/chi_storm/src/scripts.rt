@@ -61,7 +61,8 @@ pub(crate) fn scripts_of(
 ) -> Result<Vec<Script<Global>>, NoMemory>
     requires fresh { All (IsFresh tallies.now) writers.items }
     requires count { length writers.items ≡ agents }
-    ensures scripts { IfOk result (λ scripts. map (λ s. s.operations) scripts.items ≡ scripts_below agents deeds.now) }
+    ensures scripts { IfOk result
+        (λ scripts. map (λ s. s.operations) scripts.items ≡ scripts_below agents deeds.now) }
     ensures fresh { IfOk result (λ scripts. AreFresh tallies.now scripts.items) }
     ensures count { IfOk result (λ scripts. vec_len scripts ≡ agents) }
 {

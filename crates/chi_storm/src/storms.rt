@@ -86,17 +86,22 @@ fn outcome_of_input<R: Threads + Wait + Clock + Sync, I: Input>(
 ) -> Result<Outcome, Fault>
     requires { I.failures input.old + 1 < 2 ^ 64 }
     ensures ok { IfOk result (λ outcome. IfSome (I.left input.old) (λ file. IsStormOf file outcome)) }
-    ensures err { IfErr result (NoText storm_of (I.left input.old) (I.failures input.old) (I.failures input.new)) }
+    ensures err { IfErr result
+        (NoText storm_of (I.left input.old) (I.failures input.old) (I.failures input.new)) }
 {
     let bytes = read_all(alloc, input)?;
     outcome_in(rt, alloc, &bytes, seed, turns)
 }
 
 /// Writes what came of a storm, and answers whether each agent's script finished.
-fn told<O: Output>(alloc: Global, outcome: Outcome, output: &mut O) -> Result<bool, Fault>
+fn write_outcome<O: Output>(alloc: Global, outcome: Outcome, output: &mut O) -> Result<bool, Fault>
     requires { O.failures output.old + 1 < 2 ^ 64 }
-    ensures ok { IfOk result (λ all. (IsTrue all ↔ (outcome.finished ≡ outcome.agents)) × Appends (O.written output.old) (O.written output.new) (outcome_text outcome)) }
-    ensures err { IfErr result (NotTold outcome (O.failures output.old) (O.failures output.new) (O.written output.old) (O.written output.new)) }
+    ensures ok { IfOk result
+        (λ all. (IsTrue all ↔ (outcome.finished ≡ outcome.agents))
+        × Appends (O.written output.old) (O.written output.new) (outcome_text outcome)) }
+    ensures err { IfErr result
+        (NotTold outcome (O.failures output.old) (O.failures output.new) (O.written output.old)
+        (O.written output.new)) }
 {
     let mut text = String::new(alloc);
     outcome.print(&mut text)?;
@@ -127,14 +132,17 @@ pub fn storm<R: Threads + Wait + Clock + Sync, I: Input, O: Output>(
 ) -> Result<bool, Fault>
     requires reads { I.failures input.old + 1 < 2 ^ 64 }
     requires writes { O.failures output.old + 1 < 2 ^ 64 }
-    ensures ok { IfOk result (WritesOutcome (I.left input.old) (O.written output.old) (O.written output.new)) }
+    ensures ok { IfOk result
+        (WritesOutcome (I.left input.old) (O.written output.old) (O.written output.new)) }
     ensures write { AtWrite result (O.failures output.new ≡ O.failures output.old + 1) }
-    ensures front { AtWrite result (WritesFront (I.left input.old) (O.written output.old) (O.written output.new)) }
+    ensures front { AtWrite result
+        (WritesFront (I.left input.old) (O.written output.old) (O.written output.new)) }
     ensures err { NoTextAt result storm_of (I.left input.old) (I.failures input.old) (I.failures input.new) }
-    ensures kept { IfErr result (λ fault. fault ≢ Fault.Write → Keeps (O.written output.old) (O.written output.new)) }
+    ensures kept { IfErr result
+        (λ fault. fault ≢ Fault.Write → Keeps (O.written output.old) (O.written output.new)) }
     ensures faulty { RefusesFault storm_of (I.left input.old) result }
     ensures silent { KeepsAtFault storm_of (I.left input.old) (O.written output.old) (O.written output.new) }
 {
     let outcome = outcome_of_input(rt, alloc, input, seed, turns)?;
-    told(alloc, outcome, output)
+    write_outcome(alloc, outcome, output)
 }

@@ -21,7 +21,7 @@ use Rattle.chi_script.proofs.LackLemmas.{lacks, all_lack, decimal_lacks, line_la
 use Rattle.chi_script.proofs.LineLemmas.{parts_of}
 use Rattle.chi_storm_script.specs.declared.operations.Deed.{Deed}
 use Rattle.chi_storm_script.specs.Operations.{deed_of}
-use Rattle.chi_storm_script.specs.Spelling.{IsInRange, IsStormFile, closed, deed_line, deed_words, storm_text, words_behind, verb_of}
+use Rattle.chi_storm_script.specs.Spelling.{IsInRange, IsStormFile, closed_lines, deed_line, deed_words, storm_text, words_behind, verb_of}
 use Rattle.chi_storm_script.specs.Storms.{deed_at, deeds_of, storm_in, storm_of}
 use Rattle.chi_storm_script.proofs.LineEndLemmas.{closed_again}
 use Rattle.chi_storm_script.proofs.OperationLemmas.{line_read, line_again}
@@ -47,7 +47,7 @@ is_empty (b ∷ bs) e = absurd (let no : 1 ≤ 0 = grind (arith, nat_tests) in o
 -- what lines that are read as operations are
 record AreRead (header : Header) (deeds : List Deed) (lines : List (List ℕ)) : Type 0 where
   ranges : All (IsInRange header) deeds
-  text : join_with_byte 10 lines ≡ closed (map deed_line deeds)
+  text : join_with_byte 10 lines ≡ closed_lines (map deed_line deeds)
 
 none_read : (header : Header) (last : List ℕ) (deeds : List Deed) → last ≡ [] → [] ≡ deeds → AreRead header deeds (last ∷ [])
 none_read header last deeds empty none = subst (λ (ds : List Deed). AreRead header ds (last ∷ [])) none (record { ranges = All-nil (IsInRange header); text = empty })
@@ -173,7 +173,7 @@ deeds_plain (deed ∷ deeds) = rw (deed_plain deed, deeds_plain deeds) refl
 pub storm_again : (header : Header) (deeds : List Deed) (file : List ℕ) → IsStormFile header deeds file → storm_of file ≡ Ok (header, deeds)
 storm_again header deeds file is =
     let line = join_with_byte 32 (header_words header) in
-    let rest = closed (map deed_line deeds) in
+    let rest = closed_lines (map deed_line deeds) in
     let first : lines_of file ≡ line ∷ lines_of rest = ap lines_of is.text ∙ next_line line rest (header_plain header) in
     let read = header_line_again line header (is.limits, refl) in
     let at : header_at 1 line ≡ Ok header = rw read refl in

@@ -54,13 +54,13 @@ abbrev pub IsDeedLine : Header → Deed → List ℕ → Type 0
 IsDeedLine header deed line = IsInRange header deed × (line ≡ deed_line deed)
 
 -- lines, with a line end behind each
-abbrev pub closed : List (List ℕ) → List ℕ
-closed [] = []
-closed (line ∷ lines) = line ++ 10 ∷ closed lines
+abbrev pub closed_lines : List (List ℕ) → List ℕ
+closed_lines [] = []
+closed_lines (line ∷ lines) = line ++ 10 ∷ closed_lines lines
 
 -- the bytes of a header and operations
 abbrev pub storm_text : Header → List Deed → List ℕ
-storm_text header deeds = closed (join_with_byte 32 (header_words header) ∷ map deed_line deeds)
+storm_text header deeds = closed_lines (join_with_byte 32 (header_words header) ∷ map deed_line deeds)
 
 -- a file that is this header and these operations: within the limits, and each within the header's ranges
 pub record IsStormFile (header : Header) (deeds : List Deed) (file : List ℕ) : Type 0 where

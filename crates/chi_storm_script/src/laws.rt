@@ -13,7 +13,8 @@ ghost use Rattle.chi_storm_script.specs.Storms.{storm_of};
 /// Source: `docs/PROTOCOL.md`, "Storm files".
 pub fn operations_are_lines()
     ensures read { (header : Header) → ReadsOnly (line_deed header) (IsDeedLine header) }
-    ensures again { (header : Header) → is_in_limits header ≡ true → ReadsAll (line_deed header) (IsDeedLine header) }
+    ensures again { (header : Header) → is_in_limits header ≡ true
+        → ReadsAll (line_deed header) (IsDeedLine header) }
 {}
 
 /// A file is read as a header and operations exactly where it is the one text of them: a line each, with a

@@ -24,7 +24,7 @@ use Rattle.chi_node.specs.Calls.{arrival_action, arrival_refusal, call_refusal, 
 use Rattle.chi_node.specs.AfterStep.{Finishes}
 use Rattle.chi_node.specs.Parts.{HasTypes}
 use Rattle.chi_node.specs.Requester.{RequesterState, no_requester}
-use Rattle.chi_system.specs.Home.{HomeState, acted, index_of, line, slice_of, with_slice}
+use Rattle.chi_system.specs.Home.{HomeState, slices_after, index_of, line, slice_of, with_slice}
 use Rattle.chi_system.specs.System.{ArrivesIn, IsOf, IsSystem, StepsIn, SystemState, arrive_refusal, requester_of, step_refusal}
 use Rattle.chi_system.proofs.Homes.{is_low, sizes_at, slice_read}
 use Rattle.chi_system.proofs.Systems.{has_requester, have_types, visited}
@@ -113,7 +113,7 @@ arrival_answered y y' agent l s s' r r' result k call said =
     let there = left_there y n r' k call.near in
     answered result y y' n l.0 s s' r r' (λ x q. arrival_refusal x q.number l.0) (arrive_refusal y n l.0) (λ x q arrived. ArrivesOn x s' l q r' arrived) (λ z arrived. ArrivesIn y z agent l arrived) call said
     (ap (λ (m : ℕ). arrival_refusal (slice_of y.home l.0) m l.0) (k.numbers n call.near)) (λ arrived (done : ArrivesOn (slice_of y.home l.0) s' l (requester_of y n) r' arrived). record {
-      home = ap (λ (x : SliceState). with_slice y.home l.0 x) done.slice ∙ ap (λ (m : ℕ). acted y.home (arrival_action m l arrived)) (k.numbers n call.near);
+      home = ap (λ (x : SliceState). with_slice y.home l.0 x) done.slice ∙ ap (λ (m : ℕ). slices_after y.home (arrival_action m l arrived)) (k.numbers n call.near);
       requester = subst₂ (λ (m : ℕ) (q : RequesterState). ArrivesAt (cells_of (line y.home l.0) m).req arrived (requester_of y n) q) (k.numbers n call.near) there done.requester;
       others = ap (λ (q : RequesterState). set y.requesters n q) there;
     })

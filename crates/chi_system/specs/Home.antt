@@ -37,8 +37,8 @@ last_of h l = slice.last_of (slice_of h l) l
 abbrev pub with_slice : HomeState → ℕ → SliceState → HomeState
 with_slice h l s = record h { slices = slice_set h.slices (index_of h l) s }
 
-abbrev pub acted : HomeState → Action → HomeState
-acted h action = with_slice h action.line.0 (slice.acted (slice_of h action.line.0) action)
+abbrev pub slices_after : HomeState → Action → HomeState
+slices_after h action = with_slice h action.line.0 (slice.slice_after (slice_of h action.line.0) action)
 
 -- why a line, and an agent's flits at it, can't be looked at
 abbrev pub view_refusal : HomeState → ℕ → Option Refusal

@@ -26,7 +26,7 @@ use Rattle.chi_node.specs.AfterStep.{Finishes}
 use Rattle.chi_node.specs.Parts.{opening_requesters}
 use Rattle.chi_node.specs.Requester.{RequesterState, no_requester}
 use Rattle.chi_node.specs.Requester as requester
-use Rattle.chi_system.specs.Home.{HomeState, IsHome, acted, line, opening_home, slice_of}
+use Rattle.chi_system.specs.Home.{HomeState, IsHome, slices_after, line, opening_home, slice_of}
 use Rattle.chi_system.specs.Credits.{GivesBack, Sees, Tends, Typed, typed_refusal}
 
 -- the slices of a node, and its requesters in rising order
@@ -66,13 +66,13 @@ OthersStay y y' agent = y'.requesters ≡ slice_set y.requesters agent.0 (reques
 
 -- an arrival was done: by the slice of its line, and by the agent's requester
 pub record ArrivesIn (y y' : SystemState) (agent : Agent) (l : Line) (arrived : Arrived) : Type 0 where
-  pub home : y'.home ≡ acted y.home (arrival_action agent.0 l arrived)
+  pub home : y'.home ≡ slices_after y.home (arrival_action agent.0 l arrived)
   pub requester : ArrivesAt (cells_of (line y.home l.0) agent.0).req arrived (requester_of y agent.0) (requester_of y' agent.0)
   pub others : OthersStay y y' agent
 
 -- a step was done: by the slice of its line, and by the agent's requester
 pub record StepsIn (y y' : SystemState) (action : Action) (stepped : Stepped) : Type 0 where
-  pub home : y'.home ≡ acted y.home action
+  pub home : y'.home ≡ slices_after y.home action
   pub effect : stepped.effect ≡ effect_of (line y.home action.line.0) action
   pub requester : Finishes (place_at (slice_of y.home action.line.0) action) action.step stepped.effect stepped.released
       (requester_of y action.agent.0) (requester_of y' action.agent.0)

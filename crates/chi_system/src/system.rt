@@ -7,7 +7,7 @@ ghost use Rattle.chi_flit.specs.Credit.{credit_number};
 ghost use Rattle.chi_flit.specs.Refusal.{refusal_of};
 ghost use Rattle.chi_line.specs.LineState.{cells_of};
 ghost use Rattle.chi_line.specs.Refused.{first_of};
-ghost use Rattle.chi_line.specs.View.{shown};
+ghost use Rattle.chi_line.specs.View.{line_view};
 ghost use Rattle.chi_node.specs.Calls.{is_own_step};
 ghost use Rattle.chi_node.specs.Requester.{RequesterState, no_requester};
 ghost use Rattle.chi_slice.specs.Audits.{IsAudited};
@@ -54,7 +54,8 @@ impl<A: Allocator + Copy> System<A> {
     /// it runs out.
     /// Source: `docs/PROTOCOL.md`, "A requester and its calls".
     pub fn new(alloc: A, config: &Config) -> Result<System<A>, NoMemory>
-        ensures opening { IfOk result (λ system. (table : TableId) × (system ≡ opening_system config.now table)) }
+        ensures opening { IfOk result
+            (λ system. (table : TableId) × (system ≡ opening_system config.now table)) }
         ensures kept { IfOk result IsSystem }
     {
         let (slices, tracker, requesters) = parts(alloc, config)?;
@@ -210,7 +211,8 @@ impl<A: Allocator> System<A> {
 
     /// The type that a call for an agent names.
     fn type_for(&self, agent: Agent, credit: Option<CreditType>) -> Result<CreditType, Refusal>
-        ensures refusal { refusal_of result ≡ first_of (agent_refusal self.now agent.0) (typed_refusal (λ t. None) credit) }
+        ensures refusal { refusal_of result
+            ≡ first_of (agent_refusal self.now agent.0) (typed_refusal (λ t. None) credit) }
         ensures ok { IfOk result (λ ty. credit ≡ Some ty) }
         ensures agent { OnOk result (agent.0 < self.now.home.config.agents) }
         ensures kept { IsSystem self.now }
@@ -235,7 +237,7 @@ impl<A: Allocator> System<A> {
     /// Source: `docs/PROTOCOL.md`, "One line".
     pub fn view(&self, line: Line) -> Result<LineView, Refusal>
         ensures shown { IfOk result (λ view. view
-            ≡ shown (line_of_home self.now.home line.0) (last_of self.now.home line.0)) }
+            ≡ line_view (line_of_home self.now.home line.0) (last_of self.now.home line.0)) }
         ensures refusal { refusal_of result ≡ view_refusal self.now.home line.0 }
     {
         self.slice_of(line).view(line)
@@ -298,7 +300,8 @@ fn see_at<A: Allocator>(
 ) -> [u32; 4]
     requires agent { agent.0 < length requesters.old }
     requires tables { All (λ r. r.table ≡ tracker.now.table) requesters.old }
-    ensures { (r : RequesterState) × (requesters.new ≡ slice_set requesters.old agent.0 r) × Sees result (slice_index_or requesters.old agent.0 no_requester) r }
+    ensures { (r : RequesterState) × (requesters.new ≡ slice_set requesters.old agent.0 r)
+        × Sees result (slice_index_or requesters.old agent.0 no_requester) r }
 {
     requesters[usize::from(agent.0)].see(tracker)
 }
@@ -312,7 +315,8 @@ fn give_back_at<A: Allocator>(
 ) -> Result<Released, Refusal>
     requires agent { agent.0 < length requesters.old }
     requires tables { All (λ r. r.table ≡ tracker.now.table) requesters.old }
-    ensures { (r : RequesterState) × (requesters.new ≡ slice_set requesters.old agent.0 r) × GiveBackTry (credit_number ty) (slice_index_or requesters.old agent.0 no_requester) r result }
+    ensures { (r : RequesterState) × (requesters.new ≡ slice_set requesters.old agent.0 r)
+        × GiveBackTry (credit_number ty) (slice_index_or requesters.old agent.0 no_requester) r result }
 {
     requesters[usize::from(agent.0)].give_back(tracker, ty)
 }
@@ -326,7 +330,8 @@ fn tend_at<A: Allocator>(
 ) -> Result<Option<Released>, Refusal>
     requires agent { agent.0 < length requesters.old }
     requires tables { All (λ r. r.table ≡ tracker.now.table) requesters.old }
-    ensures { (r : RequesterState) × (requesters.new ≡ slice_set requesters.old agent.0 r) × TendTry (credit_number ty) (slice_index_or requesters.old agent.0 no_requester) r result }
+    ensures { (r : RequesterState) × (requesters.new ≡ slice_set requesters.old agent.0 r)
+        × TendTry (credit_number ty) (slice_index_or requesters.old agent.0 no_requester) r result }
 {
     requesters[usize::from(agent.0)].tend(tracker, ty)
 }

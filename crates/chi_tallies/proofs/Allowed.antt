@@ -8,7 +8,7 @@ use Rattle.atomic_table.proofs.Lists.{at_set, at_snoc, set_again}
 use Rattle.chi_tallies.specs.declared.tally.Tally.{Tally}
 use Rattle.chi_tallies.specs.declared.view.View.{View}
 use Rattle.chi_tallies.specs.Tally.{last_of, NotAbove, Rises, IsBeginning}
-use Rattle.chi_tallies.specs.Rule.{tally_of, Shows, AtLeast, Kept, storing, first_view, watching, noted, told, MayNote, MayTell, IsLook, IsReading}
+use Rattle.chi_tallies.specs.Rule.{tally_of, Shows, AtLeast, Kept, storing, first_view, watching, view_with_number, view_with_tally, MayNote, MayTell, IsLook, IsReading}
 use Rattle.chi_tallies.proofs.Orders.{rises_added, begins_whole}
 
 -- what the rule says of one seat
@@ -80,18 +80,18 @@ puts slots id m word number rest then writes up shows rising told_it s kept long
     )
 
 pub notes : (slots id : ℕ) (m : Me ℕ View) (word number : ℕ) → m.0.writes ≡ true → MayNote word number m.0
-    → Allows Kept slots id m word (λ _. number) (λ n w. w.0 ≡ noted word number m.0)
+    → Allows Kept slots id m word (λ _. number) (λ n w. w.0 ≡ view_with_number word number m.0)
 notes slots id m word number writes may =
-    puts slots id m word number [] (λ n w. w.0 ≡ noted word number m.0) writes may.up
+    puts slots id m word number [] (λ n w. w.0 ≡ view_with_number word number m.0) writes may.up
     (subst (Shows (set m.0.least word number)) (sym (append-nil m.0.seen)) may.shows)
     (λ r. subst Rises (sym (append-nil m.0.seen)) r)
     (λ n i. record { writes = sym writes i; seen = append-nil m.0.seen i; least = set m.0.least word number })
 
 pub tells : (slots id : ℕ) (m : Me ℕ View) (turns : ℕ) → m.0.writes ≡ true → MayTell turns m.0
-    → Allows Kept slots id m 0 (λ _. turns) (λ n w. w.0 ≡ told turns m.0)
+    → Allows Kept slots id m 0 (λ _. turns) (λ n w. w.0 ≡ view_with_tally turns m.0)
 tells slots id m turns writes may =
     let t : Tally = tally_of (set m.0.least 0 turns) in
-    puts slots id m 0 turns (t ∷ []) (λ n w. w.0 ≡ told turns m.0) writes may.up may.shows
+    puts slots id m 0 turns (t ∷ []) (λ n w. w.0 ≡ view_with_tally turns m.0) writes may.up may.shows
     (λ r. rises_added m.0.seen t r may.later)
     (λ n i. record { writes = sym writes i; seen = m.0.seen ++ t ∷ []; least = set m.0.least 0 turns })
 

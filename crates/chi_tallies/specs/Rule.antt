@@ -54,12 +54,12 @@ abbrev pub watching : View → View
 watching v = record v { writes = false }
 
 -- the number was stored in a word of loads or stores
-abbrev pub noted : ℕ → ℕ → View → View
-noted word number v = record v { least = slice_set v.least word number }
+abbrev pub view_with_number : ℕ → ℕ → View → View
+view_with_number word number v = record v { least = slice_set v.least word number }
 
 -- the turns were stored, and with them the tally that is announced
-abbrev pub told : ℕ → View → View
-told turns v = record v { seen = v.seen ++ tally_of (slice_set v.least 0 turns) ∷ []; least = slice_set v.least 0 turns }
+abbrev pub view_with_tally : ℕ → View → View
+view_with_tally turns v = record v { seen = v.seen ++ tally_of (slice_set v.least 0 turns) ∷ []; least = slice_set v.least 0 turns }
 
 -- it goes up, and no confirmed tally comes about that wasn't stored
 pub record MayNote (word number : ℕ) (v : View) : Type 0 where
@@ -88,10 +88,10 @@ pub record IsReading (v : View) (turns : ℕ) (w : View) : Type 0 where
 
 -- what each step tells: of the step, the seat before, the number and the seat after
 abbrev pub Noted : Step ℕ → Me ℕ View → ℕ → Me ℕ View → Type 0
-Noted st m number w = w.0 ≡ noted st.word number m.0
+Noted st m number w = w.0 ≡ view_with_number st.word number m.0
 
 abbrev pub Told : Step ℕ → Me ℕ View → ℕ → Me ℕ View → Type 0
-Told st m turns w = w.0 ≡ told turns m.0
+Told st m turns w = w.0 ≡ view_with_tally turns m.0
 
 abbrev pub Looked : Step ℕ → Me ℕ View → ℕ → Me ℕ View → Type 0
 Looked st m number w = IsLook st.word m.0 number w.0

@@ -1,7 +1,7 @@
 //! The atomic steps on a cell, each on one word.
 
 ghost use Rattle.std.specs.Prelude.{◌≡◌, ◌≢◌, ◌<◌, true, slice_index};
-ghost use Rattle.chi_tallies.specs.Rule.{noted, told, IsLook, IsReading, MayNote, MayTell};
+ghost use Rattle.chi_tallies.specs.Rule.{view_with_number, view_with_tally, IsLook, IsReading, MayNote, MayTell};
 
 use crate::rule::{Board, CellSeat, Looks, Notes, Reads, Tells};
 
@@ -11,7 +11,7 @@ fn note(board: &Board, seat: &mut CellSeat, word: usize, number: u64)
     requires writes { seat.old.me.0.writes ≡ true }
     requires rule { MayNote word number seat.old.me.0 }
     ensures table { seat.new.table_id ≡ seat.old.table_id }
-    ensures view { seat.new.me.0 ≡ noted word number seat.old.me.0 }
+    ensures view { seat.new.me.0 ≡ view_with_number word number seat.old.me.0 }
 {
     board.store::<Notes>(seat, word, number);
 }
@@ -23,7 +23,7 @@ pub(crate) fn note_change(board: &Board, seat: &mut CellSeat, word: usize, from:
     requires from { slice_index seat.old.me.0.least word ≡ from }
     requires rule { number ≢ from → MayNote word number seat.old.me.0 }
     ensures table { seat.new.table_id ≡ seat.old.table_id }
-    ensures view { seat.new.me.0 ≡ noted word number seat.old.me.0 }
+    ensures view { seat.new.me.0 ≡ view_with_number word number seat.old.me.0 }
 {
     if number != from {
         note(board, seat, word, number);
@@ -36,7 +36,7 @@ pub(crate) fn tell(board: &Board, seat: &mut CellSeat, turns: u64)
     requires writes { seat.old.me.0.writes ≡ true }
     requires rule { MayTell turns seat.old.me.0 }
     ensures table { seat.new.table_id ≡ seat.old.table_id }
-    ensures view { seat.new.me.0 ≡ told turns seat.old.me.0 }
+    ensures view { seat.new.me.0 ≡ view_with_tally turns seat.old.me.0 }
 {
     board.store::<Tells>(seat, 0, turns);
 }

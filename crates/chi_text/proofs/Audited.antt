@@ -8,7 +8,7 @@ use Rattle.chi_tracker.specs.Views.{PortView}
 use Rattle.chi_reply.specs.Replies.{audit_text}
 use Rattle.chi_slice.specs.Audits.{loads_in, stores_in}
 use Rattle.chi_text.specs.Turns.{Answer, Claimed, Glanced, Judged, Machine, Owed, Saw, Spent, Tended, Went, turn}
-use Rattle.chi_text.specs.Texts.{Allowed, AuditsTell, Made, Plays, Tells, TellsSlices}
+use Rattle.chi_text.specs.Texts.{Allowed, AuditsTell, Ending, Plays, Tells, TellsSlices}
 use Rattle.chi_text.proofs.Playing.{made_plays}
 
 verdict_tells : (slices : List SliceState) (coherent : Bool) (said : List ℕ) → IsTrue coherent ↔ All IsCoherentSlice slices → said ≡ audit_text (record { loads = loads_in slices; stores = stores_in slices; coherent = coherent }) → TellsSlices slices said
@@ -46,4 +46,4 @@ audits_tell m ports (command ∷ rest) answers h =
     let plays : Plays (turn m command) ports mine said state new = h.6 in
     let tells : Tells command m.home.slices said × AuditsTell state rest later = (told m command ports mine said state new plays, audits_tell state new rest later h.7) in
     subst (AuditsTell m (command ∷ rest)) (sym h.5)
-    (subst (λ (x : Made). Tells command m.home.slices x.said × AuditsTell x.state rest x.left) (sym (made_plays (turn m command) ports mine later said state new plays)) tells)
+    (subst (λ (x : Ending). Tells command m.home.slices x.said × AuditsTell x.state rest x.left) (sym (made_plays (turn m command) ports mine later said state new plays)) tells)

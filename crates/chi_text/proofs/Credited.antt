@@ -18,9 +18,9 @@ use Rattle.chi_system.specs.System.{GivesBackIn, IsSystem, SeesIn, SystemState, 
 use Rattle.chi_reply.specs.Replies.{credits_text, reply_text}
 use Rattle.chi_reply.specs.declared.replies.Reply.TheVariants as replies
 use Rattle.chi_text.specs.Ports.{GivesBack, Sees, Tends, seen_counts}
-use Rattle.chi_text.specs.Turns.{Machine, Saw, Tended, Went, credits_of, give_back, less_one, slots_of, tend, tended, turn, type_refusal, with_credits, with_slots}
+use Rattle.chi_text.specs.Turns.{Machine, Saw, Tended, Went, credits_of, give_back, less_one, slots_of, tend, turn_after_tend, turn, type_refusal, with_credits, with_slots}
 use Rattle.chi_text.specs.Texts.{Plays}
-use Rattle.chi_text.specs.Told.{give_back_reply, tend_reply}
+use Rattle.chi_text.specs.NodeReplies.{give_back_reply, tend_reply}
 use Rattle.chi_text.specs.Session.{PlaysOn, machine_of, ports_of}
 use Rattle.chi_text.proofs.Machines.{at_port, credits_at, machine_after, machine_same, machine_slots_same, ports_after, slots_at}
 use Rattle.chi_text.proofs.Reasons.{agent_low, few_there, give_back_same, tend_same, typed_low}
@@ -102,7 +102,7 @@ went y y' agent ty released k h tends =
       ),
     )
   where
-    said : (o : Option Released) → machine_of y' ≡ machine_of y → Plays (tended (machine_of y) (Tended o)) (ports_of y') [] (reply_text (tend_reply (Ok o))) (machine_of y') (ports_of y')
+    said : (o : Option Released) → machine_of y' ≡ machine_of y → Plays (turn_after_tend (machine_of y) (Tended o)) (ports_of y') [] (reply_text (tend_reply (Ok o))) (machine_of y') (ports_of y')
     said None state = (refl, state, refl)
     said (Some to) state = (refl, state, refl)
 

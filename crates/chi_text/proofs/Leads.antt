@@ -8,7 +8,7 @@ use Rattle.chi_system.specs.System.{SystemState, opening_system}
 use Rattle.chi_text.specs.Session.{machine_of, ports_of}
 use Rattle.chi_text.proofs.Openings.{opening_machine, opening_views}
 use Rattle.chi_text.specs.Turns.{Answer, Machine, opening, turn}
-use Rattle.chi_text.specs.Texts.{Allowed, IsText, Made, Says, opening_ports, text}
+use Rattle.chi_text.specs.Texts.{Allowed, IsText, Ending, Says, opening_ports, text}
 use Rattle.chi_text.proofs.Playing.{made_plays}
 use Rattle.chi_text.proofs.Audited.{audits_tell}
 
@@ -36,7 +36,7 @@ leads_further config all written written' m m' ports ports' command rest leads s
     let said = says.1 in
     let whole = leads (mine ++ later) (mine, later, said, m', ports', refl, says.2, allowed) in
     let played = made_plays (turn m command) ports mine later said m' ports' says.2 in
-    let line : text m (command ∷ rest) (mine ++ later) ≡ said ++ (10 ∷ text m' rest later) = ap (λ (x : Made). x.said ++ (10 ∷ text x.state rest x.left)) played in
+    let line : text m (command ∷ rest) (mine ++ later) ≡ said ++ (10 ∷ text m' rest later) = ap (λ (x : Ending). x.said ++ (10 ∷ text x.state rest x.left)) played in
     let bytes : written ++ text m (command ∷ rest) (mine ++ later) ≡ written' ++ text m' rest later =
     ap (λ (l : List ℕ). written ++ l) line ∙ (joined_line written said (text m' rest later) ∙ ap (λ (l : List ℕ). l ++ text m' rest later) (sym says.3)) in
     subst (IsText config all) bytes whole

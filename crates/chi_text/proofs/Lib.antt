@@ -1,6 +1,7 @@
 pub mod Playing
 pub mod Audited
 pub mod Leads
+pub mod LineRuns
 pub mod Machines
 pub mod Seen
 pub mod Reasons

@@ -20,14 +20,14 @@ use Rattle.chi_tracker.specs.declared.released.Released.{Released}
 use Rattle.chi_tracker.specs.declared.totals.Counts.{Counts}
 use Rattle.chi_tracker.specs.Views.{PortView}
 use Rattle.chi_tracker.specs.Shape.{low, size}
-use Rattle.chi_tracker.specs.Calls.{owed_one, scanned}
+use Rattle.chi_tracker.specs.Calls.{owed_one, port_after_scan}
 use Rattle.chi_line.specs.LineState.{cells_of}
 use Rattle.chi_slice.specs.Slice.{SliceState}
 use Rattle.chi_credit.specs.declared.slot.SlotRecord.{SlotRecord}
 use Rattle.chi_credit.specs.declared.slot.SlotState.{SlotState}
 use Rattle.chi_credit.specs.declared.slot.SlotState.TheVariants as states
 use Rattle.chi_credit.specs.Slot.{after_finish}
-use Rattle.chi_credit.specs.Account.{moved, slot_at, state_at}
+use Rattle.chi_credit.specs.Account.{slots_with_state, slot_at, state_at}
 use Rattle.chi_node.specs.declared.answers.Arrived.{Arrived}
 use Rattle.chi_node.specs.declared.answers.Arrived.TheVariants.{Admitted, Retried}
 use Rattle.chi_node.specs.declared.answers.Stepped.{Stepped}
@@ -37,13 +37,13 @@ use Rattle.chi_node.specs.AfterStep.{Completes, Finishes, account_after, request
 use Rattle.chi_node.specs.Calls.{ArrivesAt, arrival_action, is_own_step, place_at}
 use Rattle.chi_script.specs.declared.commands.Command.TheVariants as commands
 use Rattle.chi_slice.specs.Audits.{IsAudited, loads_in}
-use Rattle.chi_system.specs.Home.{HomeState, acted, line, slice_of}
+use Rattle.chi_system.specs.Home.{HomeState, slices_after, line, slice_of}
 use Rattle.chi_system.specs.System.{ArrivesIn, IsSystem, OthersStay, StepsIn, SystemState, arrive_refusal, requester_of, step_refusal}
 use Rattle.chi_reply.specs.Replies.{audit_text, reply_text, totals_text}
 use Rattle.chi_reply.specs.declared.replies.Reply.TheVariants as replies
 use Rattle.chi_text.specs.Ports.{Claims, Owes, Releases, Spends, seen_counts}
-use Rattle.chi_text.specs.Turns.{Claimed, Ends, Glanced, Judged, Machine, Owed, Spent, Turn, Went, act, act_refusal, acting, admitted, arrive, arriving, attempted, by_type, completing, credits_of, done, less_one, or_refused, slots_after, slots_of, with_action, with_arrival, with_credits, with_end, turn}
-use Rattle.chi_text.specs.Told.{arrival_reply, done_reply, step_reply, totals_told}
+use Rattle.chi_text.specs.Turns.{Claimed, Ends, Glanced, Judged, Machine, Owed, Spent, Turn, Went, act, act_refusal, acting, machine_after_admission, arrive, arriving, turn_of_attempt, by_type, completing, credits_of, turn_after_action, less_one, or_refused, slots_after, slots_of, with_action, with_arrival, with_credits, with_end, turn}
+use Rattle.chi_text.specs.NodeReplies.{arrival_reply, done_reply, step_reply, totals_told}
 use Rattle.chi_text.specs.Session.{PlaysOn, SaysOn, machine_of, ports_of}
 use Rattle.chi_text.proofs.Machines.{at_port, at_port_again, credits_at, machine_after, machine_seen_same, ports_after, ports_same, slots_at}
 use Rattle.chi_text.proofs.Reasons.{act_same, arrives_low, few_there, steps_low}
@@ -78,19 +78,19 @@ same_type T3 T2 e = absurd (omega (arith, e))
 same_type T3 T3 e = refl
 
 -- the slots of a requester of which one was moved
-moved_slots : (y y' : SystemState) (agent : Agent) (s : ℕ) (state : SlotState) → (requester_of y' agent.0).slots ≡ moved (requester_of y agent.0).slots s state → (requester_of y' agent.0).slots ≡ moved (slots_of (machine_of y) agent) s state
-moved_slots y y' agent s state is = is ∙ ap (λ (x : List SlotRecord). moved x s state) (sym (slots_at y agent))
+moved_slots : (y y' : SystemState) (agent : Agent) (s : ℕ) (state : SlotState) → (requester_of y' agent.0).slots ≡ slots_with_state (requester_of y agent.0).slots s state → (requester_of y' agent.0).slots ≡ slots_with_state (slots_of (machine_of y) agent) s state
+moved_slots y y' agent s state is = is ∙ ap (λ (x : List SlotRecord). slots_with_state x s state) (sym (slots_at y agent))
 
 -- the table's state after an arrival
-arrived_state : (y y' : SystemState) (agent : Agent) (l : Line) (s : ℕ) (arrived : Arrived) (state : SlotState) → y'.home ≡ acted y.home (arrival_action agent.0 l arrived) → OthersStay y y' agent
-    → (requester_of y' agent.0).slots ≡ moved (requester_of y agent.0).slots s state → seen_counts (requester_of y' agent.0).port ≡ seen_counts (requester_of y agent.0).port → machine_of y' ≡ with_arrival (machine_of y) agent l s arrived state
+arrived_state : (y y' : SystemState) (agent : Agent) (l : Line) (s : ℕ) (arrived : Arrived) (state : SlotState) → y'.home ≡ slices_after y.home (arrival_action agent.0 l arrived) → OthersStay y y' agent
+    → (requester_of y' agent.0).slots ≡ slots_with_state (requester_of y agent.0).slots s state → seen_counts (requester_of y' agent.0).port ≡ seen_counts (requester_of y agent.0).port → machine_of y' ≡ with_arrival (machine_of y) agent l s arrived state
 arrived_state y y' agent l s arrived state home others slots seen =
-    machine_seen_same y y' agent (moved (slots_of (machine_of y) agent) s state) others (moved_slots y y' agent s state slots) seen
-    ∙ ap (λ (h : HomeState). record { home = h; accounts = set (machine_of y).accounts agent.0 (moved (slots_of (machine_of y) agent) s state); seen = (machine_of y).seen }) home
+    machine_seen_same y y' agent (slots_with_state (slots_of (machine_of y) agent) s state) others (moved_slots y y' agent s state slots) seen
+    ∙ ap (λ (h : HomeState). record { home = h; accounts = set (machine_of y).accounts agent.0 (slots_with_state (slots_of (machine_of y) agent) s state); seen = (machine_of y).seen }) home
 
 -- a first attempt that is admitted, one that is retried, and a resent request
-first_admitted : (y y' : SystemState) (agent : Agent) (l : Line) (s : ℕ) (e : Entry) → IsSystem y → agent.0 < y.home.config.agents → y'.home ≡ acted y.home (arrival_action agent.0 l (Admitted e)) → OthersStay y y' agent
-    → Arrives true s (Admitted e) (requester_of y agent.0) (requester_of y' agent.0) → PlaysOn (attempted true (machine_of y) agent l s (slot_at (requester_of y agent.0).slots s).credit) y y' (reply_text (replies.Admitted e))
+first_admitted : (y y' : SystemState) (agent : Agent) (l : Line) (s : ℕ) (e : Entry) → IsSystem y → agent.0 < y.home.config.agents → y'.home ≡ slices_after y.home (arrival_action agent.0 l (Admitted e)) → OthersStay y y' agent
+    → Arrives true s (Admitted e) (requester_of y agent.0) (requester_of y' agent.0) → PlaysOn (turn_of_attempt true (machine_of y) agent l s (slot_at (requester_of y agent.0).slots s).credit) y y' (reply_text (replies.Admitted e))
 first_admitted y y' agent l s e k low home others h =
     let r : RequesterState = requester_of y agent.0 in
     let ty : CreditType = (slot_at r.slots s).credit in (
@@ -102,13 +102,13 @@ first_admitted y y' agent l s e k low home others h =
       ),
     )
 
-first_retried : (y y' : SystemState) (agent : Agent) (l : Line) (s : ℕ) (told : CreditType) → IsSystem y → agent.0 < y.home.config.agents → y'.home ≡ acted y.home (arrival_action agent.0 l (Retried told)) → OthersStay y y' agent
-    → Arrives true s (Retried told) (requester_of y agent.0) (requester_of y' agent.0) → PlaysOn (attempted true (machine_of y) agent l s (slot_at (requester_of y agent.0).slots s).credit) y y' (reply_text (replies.Retry told))
+first_retried : (y y' : SystemState) (agent : Agent) (l : Line) (s : ℕ) (told : CreditType) → IsSystem y → agent.0 < y.home.config.agents → y'.home ≡ slices_after y.home (arrival_action agent.0 l (Retried told)) → OthersStay y y' agent
+    → Arrives true s (Retried told) (requester_of y agent.0) (requester_of y' agent.0) → PlaysOn (turn_of_attempt true (machine_of y) agent l s (slot_at (requester_of y agent.0).slots s).credit) y y' (reply_text (replies.Retry told))
 first_retried y y' agent l s told k low home others h =
     let r : RequesterState = requester_of y agent.0 in
     let ty : CreditType = (slot_at r.slots s).credit in
     let t : ℕ = credit_number ty in
-    let mid : PortView = scanned t (size r.port.shape t) r.port in
+    let mid : PortView = port_after_scan t (size r.port.shape t) r.port in
     let after : (requester_of y' agent.0).port ≡ owed_one t mid = ap (λ (x : RequesterState). x.port) h.2 in (
       Claimed None ∷ Owed ∷ [],
       (
@@ -122,8 +122,8 @@ first_retried y y' agent l s told k low home others h =
       ),
     )
 
-resent_admitted : (y y' : SystemState) (agent : Agent) (l : Line) (s : ℕ) (e : Entry) → IsSystem y → agent.0 < y.home.config.agents → y'.home ≡ acted y.home (arrival_action agent.0 l (Admitted e)) → OthersStay y y' agent
-    → Arrives false s (Admitted e) (requester_of y agent.0) (requester_of y' agent.0) → PlaysOn (attempted false (machine_of y) agent l s (slot_at (requester_of y agent.0).slots s).credit) y y' (reply_text (replies.Admitted e))
+resent_admitted : (y y' : SystemState) (agent : Agent) (l : Line) (s : ℕ) (e : Entry) → IsSystem y → agent.0 < y.home.config.agents → y'.home ≡ slices_after y.home (arrival_action agent.0 l (Admitted e)) → OthersStay y y' agent
+    → Arrives false s (Admitted e) (requester_of y agent.0) (requester_of y' agent.0) → PlaysOn (turn_of_attempt false (machine_of y) agent l s (slot_at (requester_of y agent.0).slots s).credit) y y' (reply_text (replies.Admitted e))
 resent_admitted y y' agent l s e k low home others h =
     let r : RequesterState = requester_of y agent.0 in
     let ty : CreditType = (slot_at r.slots s).credit in
@@ -131,9 +131,9 @@ resent_admitted y y' agent l s e k low home others h =
     let after = ap (λ (x : RequesterState). x.port) h.3 in
     let credits : seen_counts (requester_of y' agent.0).port ≡ less_one (credits_of m agent) ty =
     counts_less r.port (requester_of y' agent.0).port ty e.0 (few_there y agent.0 k low) h.1 (ap (λ (p : PortView). p.shape) after) (ap (λ (p : PortView). p.seen) after) ∙ ap (λ (x : List ℕ). less_one x ty) (sym (credits_at y agent)) in
-    let state : machine_of y' ≡ with_credits (admitted m agent l s e) agent (less_one (credits_of m agent) ty) =
-    machine_after y y' agent (moved (slots_of m agent) s (states.Admitted e)) (less_one (credits_of m agent) ty) others (moved_slots y y' agent s (states.Admitted e) (ap (λ (x : RequesterState). x.slots) h.3)) credits
-    ∙ ap (λ (z : HomeState). record { home = z; accounts = set m.accounts agent.0 (moved (slots_of m agent) s (states.Admitted e)); seen = set m.seen agent.0 (less_one (credits_of m agent) ty) }) home in (
+    let state : machine_of y' ≡ with_credits (machine_after_admission m agent l s e) agent (less_one (credits_of m agent) ty) =
+    machine_after y y' agent (slots_with_state (slots_of m agent) s (states.Admitted e)) (less_one (credits_of m agent) ty) others (moved_slots y y' agent s (states.Admitted e) (ap (λ (x : RequesterState). x.slots) h.3)) credits
+    ∙ ap (λ (z : HomeState). record { home = z; accounts = set m.accounts agent.0 (slots_with_state (slots_of m agent) s (states.Admitted e)); seen = set m.seen agent.0 (less_one (credits_of m agent) ty) }) home in (
       Spent e ∷ [],
       (
         ports_of y',
@@ -142,18 +142,18 @@ resent_admitted y y' agent l s e k low home others h =
       ),
     )
 
-attempt_plays : (y y' : SystemState) (agent : Agent) (l : Line) (s : ℕ) (first : Bool) (arrived : Arrived) → IsSystem y → agent.0 < y.home.config.agents → y'.home ≡ acted y.home (arrival_action agent.0 l arrived) → OthersStay y y' agent
-    → Arrives first s arrived (requester_of y agent.0) (requester_of y' agent.0) → PlaysOn (attempted first (machine_of y) agent l s (slot_at (requester_of y agent.0).slots s).credit) y y' (reply_text (arrival_reply (Ok arrived)))
+attempt_plays : (y y' : SystemState) (agent : Agent) (l : Line) (s : ℕ) (first : Bool) (arrived : Arrived) → IsSystem y → agent.0 < y.home.config.agents → y'.home ≡ slices_after y.home (arrival_action agent.0 l arrived) → OthersStay y y' agent
+    → Arrives first s arrived (requester_of y agent.0) (requester_of y' agent.0) → PlaysOn (turn_of_attempt first (machine_of y) agent l s (slot_at (requester_of y agent.0).slots s).credit) y y' (reply_text (arrival_reply (Ok arrived)))
 attempt_plays y y' agent l s true (Admitted e) k low home others h = first_admitted y y' agent l s e k low home others h
 attempt_plays y y' agent l s true (Retried told) k low home others h = first_retried y y' agent l s told k low home others h
 attempt_plays y y' agent l s false (Admitted e) k low home others h = resent_admitted y y' agent l s e k low home others h
 attempt_plays y y' agent l s false (Retried told) k low home others h = absurd h
 
-arriving_plays : (y y' : SystemState) (agent : Agent) (l : Line) (o : Option Request) (arrived : Arrived) → IsSystem y → agent.0 < y.home.config.agents → y'.home ≡ acted y.home (arrival_action agent.0 l arrived) → OthersStay y y' agent
+arriving_plays : (y y' : SystemState) (agent : Agent) (l : Line) (o : Option Request) (arrived : Arrived) → IsSystem y → agent.0 < y.home.config.agents → y'.home ≡ slices_after y.home (arrival_action agent.0 l arrived) → OthersStay y y' agent
     → ArrivesAt o arrived (requester_of y agent.0) (requester_of y' agent.0) → PlaysOn (arriving (machine_of y) agent l o) y y' (reply_text (arrival_reply (Ok arrived)))
 arriving_plays y y' agent l None arrived k low home others h = absurd h
 arriving_plays y y' agent l (Some request) arrived k low home others h =
-    subst (λ (x : List SlotRecord). PlaysOn (attempted request.allow_retry (machine_of y) agent l request.slot.0 (slot_at x request.slot.0).credit) y y' (reply_text (arrival_reply (Ok arrived)))) (sym (slots_at y agent))
+    subst (λ (x : List SlotRecord). PlaysOn (turn_of_attempt request.allow_retry (machine_of y) agent l request.slot.0 (slot_at x request.slot.0).credit) y y' (reply_text (arrival_reply (Ok arrived)))) (sym (slots_at y agent))
     (attempt_plays y y' agent l request.slot.0 request.allow_retry arrived k low home others h)
 
 -- an arrival
@@ -165,7 +165,7 @@ arrive_plays y y' agent l (Ok arrived) k h ok err =
     (arriving_plays y y' agent l (cells_of (line y.home l.0) agent.0).req arrived k (arrives_low y agent l k h) ok.home ok.others ok.requester)
 
 -- the table's state after a step that completes nothing
-stepped_state : (y y' : SystemState) (action : Action) → y'.home ≡ acted y.home action → OthersStay y y' action.agent → requester_of y' action.agent.0 ≡ requester_after (place_at (slice_of y.home action.line.0) action) action.step (requester_of y action.agent.0)
+stepped_state : (y y' : SystemState) (action : Action) → y'.home ≡ slices_after y.home action → OthersStay y y' action.agent → requester_of y' action.agent.0 ≡ requester_after (place_at (slice_of y.home action.line.0) action) action.step (requester_of y action.agent.0)
     → (machine_of y' ≡ with_action (machine_of y) action) × (ports_of y' ≡ ports_of y)
 stepped_state y y' action home others is =
     let r : RequesterState = requester_of y action.agent.0 in
@@ -179,7 +179,7 @@ stepped_state y y' action home others is =
     )
 
 -- a step that completes a request
-completing_plays : (y y' : SystemState) (action : Action) (slot : Slot) (released : Released) → IsSystem y → action.agent.0 < y.home.config.agents → y'.home ≡ acted y.home action → OthersStay y y' action.agent
+completing_plays : (y y' : SystemState) (action : Action) (slot : Slot) (released : Released) → IsSystem y → action.agent.0 < y.home.config.agents → y'.home ≡ slices_after y.home action → OthersStay y y' action.agent
     → Completes slot.0 released (requester_of y action.agent.0) (requester_of y' action.agent.0) → PlaysOn (completing (state_at (requester_of y action.agent.0).slots slot.0) (machine_of y) action slot) y y' (reply_text (replies.Completed slot released))
 completing_plays y y' action slot released k low home others c =
     let m : Machine = machine_of y in
@@ -200,8 +200,8 @@ completing_plays y y' action slot released k low home others c =
       ),
     )
 
-done_plays : (y y' : SystemState) (action : Action) (effect : Effect) (o : Option Released) → IsSystem y → action.agent.0 < y.home.config.agents → y'.home ≡ acted y.home action → OthersStay y y' action.agent
-    → Finishes (place_at (slice_of y.home action.line.0) action) action.step effect o (requester_of y action.agent.0) (requester_of y' action.agent.0) → PlaysOn (done effect (machine_of y) action) y y' (reply_text (done_reply effect o))
+done_plays : (y y' : SystemState) (action : Action) (effect : Effect) (o : Option Released) → IsSystem y → action.agent.0 < y.home.config.agents → y'.home ≡ slices_after y.home action → OthersStay y y' action.agent
+    → Finishes (place_at (slice_of y.home action.line.0) action) action.step effect o (requester_of y action.agent.0) (requester_of y' action.agent.0) → PlaysOn (turn_after_action effect (machine_of y) action) y y' (reply_text (done_reply effect o))
 done_plays y y' action Nothing o k low home others h = let at = stepped_state y y' action home others h.1 in ([], (refl, at.0, at.1))
 done_plays y y' action (Value word) o k low home others h = let at = stepped_state y y' action home others h.1 in ([], (refl, at.0, at.1))
 done_plays y y' action (Completed slot) None k low home others h = absurd h.0
@@ -215,7 +215,7 @@ step_plays : (y y' : SystemState) (action : Action) (result : Result Stepped Ref
 step_plays y y' action (Err refusal) k h ok err = refused_plays y y' (act_refusal (machine_of y) action) refusal _ (h ∙ sym (act_same y action)) err
 step_plays y y' action (Ok stepped) k h ok err =
     allowed_plays y y' (act_refusal (machine_of y) action) _ (reply_text (step_reply (Ok stepped))) (h ∙ sym (act_same y action))
-    (subst (λ (e : Effect). PlaysOn (done e (machine_of y) action) y y' (reply_text (done_reply stepped.effect stepped.released))) ok.effect
+    (subst (λ (e : Effect). PlaysOn (turn_after_action e (machine_of y) action) y y' (reply_text (done_reply stepped.effect stepped.released))) ok.effect
     (done_plays y y' action stepped.effect stepped.released k (steps_low y action k h) ok.home ok.others ok.requester))
 
 -- an action that is none of an arrival's

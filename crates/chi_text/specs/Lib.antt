@@ -1,5 +1,5 @@
 pub mod Ports
 pub mod Turns
 pub mod Texts
-pub mod Told
+pub mod NodeReplies
 pub mod Session

@@ -10,15 +10,15 @@ use Rattle.chi_tracker.specs.Sums.{set_at}
 use Rattle.chi_tracker.specs.Shape.{IsOf, low, size}
 use Rattle.chi_tracker.specs.Views.{PortView, has}
 use Rattle.chi_tracker.specs.Steps.{returns_credit, spends}
-use Rattle.chi_tracker.specs.Calls.{Ended, IsLowestSeen, into_hand, owed_one, saw_all, scanned, seen_of}
+use Rattle.chi_tracker.specs.Calls.{Ended, IsLowestSeen, into_hand, owed_one, saw_all, port_after_scan, seen_of}
 use Rattle.chi_tracker.specs.Calls as calls
 
 -- An entry of the type that wasn't in hand comes to hand, in a scan that found the lower entries of the
 -- type claimed; or none does, in a scan that found each entry of the type claimed.
 abbrev pub Claims : PortView → CreditType → Option Entry → PortView → Type 0
 Claims before ty (Some entry) after = IsOf before.shape (credit_number ty) entry.0 × (has entry.0 before ≡ 0)
-    × (after ≡ into_hand entry.0 (scanned (credit_number ty) (entry.0 - low before.shape (credit_number ty)) before))
-Claims before ty None after = (after ≡ scanned (credit_number ty) (size before.shape (credit_number ty)) before)
+    × (after ≡ into_hand entry.0 (port_after_scan (credit_number ty) (entry.0 - low before.shape (credit_number ty)) before))
+Claims before ty None after = (after ≡ port_after_scan (credit_number ty) (size before.shape (credit_number ty)) before)
     × ((entry : ℕ) → IsOf before.shape (credit_number ty) entry → bit_at after.found entry ≡ 1)
 
 -- one credit more of the type is owed

@@ -1,10 +1,11 @@
 -- The text of a list of commands, under the tracker's answers, and which answers are allowed
 -- (docs/PROTOCOL.md, "Replay files").
-use Rattle.std.specs.Prelude.{◌≡◌, ◌⊎◌, ◌↔◌, ℕ, All, IsTrue, List, [], ◌∷◌, ◌++◌, Some, codes, slice_get, slice_set}
+use Rattle.std.specs.Prelude.{◌≡◌, ◌⊎◌, ◌↔◌, ℕ, All, IsTrue, List, [], ◌∷◌, ◌++◌, Some, codes, slice_get, slice_set, Ok}
 use Rattle.std.specs.Fmt.{decimal}
 use Rattle.chi_flit.specs.declared.numbers.Agent.{Agent}
 use Rattle.chi_script.specs.declared.commands.Command.{Command}
 use Rattle.chi_script.specs.declared.commands.Command.TheVariants as commands
+use Rattle.chi_script.specs.Files.{commands_of, lines_of}
 use Rattle.chi_slice.specs.Coherence.{IsCoherentSlice}
 use Rattle.chi_config.specs.Config.{Sizes}
 use Rattle.chi_slice.specs.Slice.{SliceState}
@@ -15,22 +16,22 @@ use Rattle.chi_text.specs.Ports.{Claims, GivesBack, Owes, Releases, Sees, Spends
 use Rattle.chi_text.specs.Turns.{Answer, Call, Claim, Claimed, GiveBack, Glance, Glanced, Judge, Judged, Owe, Owed, Release, See, Saw, Spend, Spent, Tend, Tended, Went, Turn, Asks, Ends, Machine, opening, turn}
 
 -- the line that a turn says, the state that it leaves, and the answers that it leaves over
-pub record Made : Type 0 where
+pub record Ending : Type 0 where
   pub said : List ℕ
   pub state : Machine
   pub left : List Answer
 
 -- a turn under the next answers; where one is lacking, which no allowed list does, it goes on as after Owed
-abbrev pub made : Turn → List Answer → Made
-made (Ends said m) answers = record { said = said; state = m; left = answers }
-made (Asks call next) [] = made (next Owed) []
-made (Asks call next) (answer ∷ answers) = made (next answer) answers
+abbrev pub ending : Turn → List Answer → Ending
+ending (Ends said m) answers = record { said = said; state = m; left = answers }
+ending (Asks call next) [] = ending (next Owed) []
+ending (Asks call next) (answer ∷ answers) = ending (next answer) answers
 
 -- a line for each command
 abbrev pub text : Machine → List Command → List Answer → List ℕ
 text m [] answers = []
 text m (command ∷ rest) answers =
-    (made (turn m command) answers).said ++ (10 ∷ text (made (turn m command) answers).state rest (made (turn m command) answers).left)
+    (ending (turn m command) answers).said ++ (10 ∷ text (ending (turn m command) answers).state rest (ending (turn m command) answers).left)
 
 -- the port of the agent, which has one, goes on so, and the other ports stay
 abbrev pub AtPort : Agent → List PortView → List PortView → (PortView → PortView → Type 0) → Type 0
@@ -93,8 +94,8 @@ Tells other slices said = Unit {0}
 -- each audit among the commands tells what the slices are when its turn comes
 abbrev pub AuditsTell : Machine → List Command → List Answer → Type 0
 AuditsTell m [] answers = Unit {0}
-AuditsTell m (command ∷ rest) answers = Tells command m.home.slices (made (turn m command) answers).said
-    × AuditsTell (made (turn m command) answers).state rest (made (turn m command) answers).left
+AuditsTell m (command ∷ rest) answers = Tells command m.home.slices (ending (turn m command) answers).said
+    × AuditsTell (ending (turn m command) answers).state rest (ending (turn m command) answers).left
 
 -- bytes that are the text of the commands on a new node, under some allowed answers, and whose audits tell
 -- what the slices are
@@ -103,3 +104,9 @@ pub record IsText (config : Sizes) (all : List Command) (bytes : List ℕ) : Typ
   pub allowed : Allowed (opening config) (opening_ports config) all answers
   pub same : bytes ≡ text (opening config) all answers
   pub audits : AuditsTell (opening config) all answers
+
+-- and of the commands that the lines behind a header are
+pub record IsTextOfLines (config : Sizes) (lines bytes : List ℕ) : Type 0 where
+  pub commands : List Command
+  pub good : commands_of 2 (lines_of lines) ≡ Ok commands
+  pub text : IsText config commands bytes

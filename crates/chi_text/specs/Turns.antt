@@ -24,19 +24,19 @@ use Rattle.chi_slice.specs.Slice.{SliceState}
 use Rattle.chi_line.specs.LineState.{cells_of}
 use Rattle.chi_line.specs.Refused.{first_of}
 use Rattle.chi_line.specs.Step.{effect_of}
-use Rattle.chi_line.specs.View.{shown}
+use Rattle.chi_line.specs.View.{line_view}
 use Rattle.chi_credit.specs.declared.slot.SlotState.{SlotState}
 use Rattle.chi_credit.specs.declared.slot.SlotState.TheVariants as states
 use Rattle.chi_credit.specs.declared.slot.SlotRecord.{SlotRecord}
 use Rattle.chi_credit.specs.Slot.{after_finish, idle_slot}
-use Rattle.chi_credit.specs.Account.{all_idle, lowest_cancelled, moved, riding_of, slot_at, state_at}
+use Rattle.chi_credit.specs.Account.{all_idle, lowest_cancelled, slots_with_state, riding_of, slot_at, state_at}
 use Rattle.chi_node.specs.declared.answers.Arrived.{Arrived}
 use Rattle.chi_node.specs.declared.answers.Arrived.TheVariants as arrivals
 use Rattle.chi_node.specs.AfterStep.{account_after}
 use Rattle.chi_node.specs.Parts.{is_of_profile}
 use Rattle.chi_node.specs.Calls.{arrival_action, arrival_refusal, is_own_step, is_slot_taken, place_at, wanted_credit, refused_with}
 use Rattle.chi_slice.specs.Audits.{loads_in, stores_in}
-use Rattle.chi_system.specs.Home.{HomeState, acted, flits_refusal, last_of, line, opening_home, slice_of, view_refusal}
+use Rattle.chi_system.specs.Home.{HomeState, slices_after, flits_refusal, last_of, line, opening_home, slice_of, view_refusal}
 use Rattle.chi_reply.specs.Replies.{audit_text, credits_text, flits_text, reply_text, shown_text, totals_text}
 use Rattle.chi_reply.specs.declared.replies.Reply.{Reply}
 use Rattle.chi_reply.specs.declared.replies.Reply.TheVariants as replies
@@ -137,68 +137,68 @@ slots_after m action = account_after (place_at (slice_of m.home action.line.0) a
 
 -- the state after an action that completes no request, and after one that completes the request of a slot
 abbrev pub with_action : Machine → Action → Machine
-with_action m action = with_slots (record m { home = acted m.home action }) action.agent (slots_after m action)
+with_action m action = with_slots (record m { home = slices_after m.home action }) action.agent (slots_after m action)
 
 -- an agent's slots after the request of a slot is complete
 abbrev pub slots_finished : Machine → Agent → Slot → List SlotRecord
 slots_finished m agent slot = slice_set (slots_of m agent) slot.0 (after_finish (slot_at (slots_of m agent) slot.0))
 
 abbrev pub with_end : Machine → Action → Slot → Machine
-with_end m action slot = with_slots (record m { home = acted m.home action }) action.agent (slots_finished m action.agent slot)
+with_end m action slot = with_slots (record m { home = slices_after m.home action }) action.agent (slots_finished m action.agent slot)
 
-abbrev pub completed : Machine → Slot → Answer → Turn
-completed m slot (Went released) = says (replies.Completed slot released) m
-completed m slot other = never m
+abbrev pub turn_after_release : Machine → Slot → Answer → Turn
+turn_after_release m slot (Went released) = says (replies.Completed slot released) m
+turn_after_release m slot other = never m
 
 -- a request is complete, and its slot's entry is released
 abbrev pub completing : SlotState → Machine → Action → Slot → Turn
-completing (states.Admitted entry) m action slot = Asks (Release action.agent entry) (completed (with_end m action slot) slot)
+completing (states.Admitted entry) m action slot = Asks (Release action.agent entry) (turn_after_release (with_end m action slot) slot)
 completing other m action slot = never m
 
 -- an action that is done
-abbrev pub done : Effect → Machine → Action → Turn
-done effects.Nothing m action = says replies.Done (with_action m action)
-done (effects.Value word) m action = says (replies.Value word) (with_action m action)
-done (effects.Completed slot) m action = completing (state_at (slots_of m action.agent) slot.0) m action slot
+abbrev pub turn_after_action : Effect → Machine → Action → Turn
+turn_after_action effects.Nothing m action = says replies.Done (with_action m action)
+turn_after_action (effects.Value word) m action = says (replies.Value word) (with_action m action)
+turn_after_action (effects.Completed slot) m action = completing (state_at (slots_of m action.agent) slot.0) m action slot
 
 abbrev pub act : Machine → Action → Turn
-act m action = or_refused (act_refusal m action) m (done (effect_of (line m.home action.line.0) action) m action)
+act m action = or_refused (act_refusal m action) m (turn_after_action (effect_of (line m.home action.line.0) action) m action)
 
 -- the state after the request of a slot arrived
 abbrev pub with_arrival : Machine → Agent → Line → ℕ → Arrived → SlotState → Machine
 with_arrival m agent l s arrived state =
-    with_slots (record m { home = acted m.home (arrival_action agent.0 l arrived) }) agent (moved (slots_of m agent) s state)
+    with_slots (record m { home = slices_after m.home (arrival_action agent.0 l arrived) }) agent (slots_with_state (slots_of m agent) s state)
 
 -- the request of slot s arrived: it is let in with an entry, or retried
-abbrev pub admitted : Machine → Agent → Line → ℕ → Entry → Machine
-admitted m agent l s entry = with_arrival m agent l s (arrivals.Admitted entry) (states.Admitted entry)
+abbrev pub machine_after_admission : Machine → Agent → Line → ℕ → Entry → Machine
+machine_after_admission m agent l s entry = with_arrival m agent l s (arrivals.Admitted entry) (states.Admitted entry)
 
-abbrev pub retried : Machine → Agent → Line → ℕ → CreditType → Machine
-retried m agent l s ty = with_arrival m agent l s (arrivals.Retried ty) states.Refused
+abbrev pub machine_after_retry : Machine → Agent → Line → ℕ → CreditType → Machine
+machine_after_retry m agent l s ty = with_arrival m agent l s (arrivals.Retried ty) states.Refused
 
-abbrev pub owed : Machine → CreditType → Answer → Turn
-owed m ty Owed = says (replies.Retry ty) m
-owed m ty other = never m
+abbrev pub turn_after_owe : Machine → CreditType → Answer → Turn
+turn_after_owe m ty Owed = says (replies.Retry ty) m
+turn_after_owe m ty other = never m
 
 -- a first attempt, by what the claim answers
-abbrev pub claimed : Machine → Agent → Line → ℕ → CreditType → Answer → Turn
-claimed m agent l s ty (Claimed (Some entry)) = says (replies.Admitted entry) (admitted m agent l s entry)
-claimed m agent l s ty (Claimed None) = Asks (Owe agent ty) (owed (retried m agent l s ty) ty)
-claimed m agent l s ty other = never m
+abbrev pub turn_after_claim : Machine → Agent → Line → ℕ → CreditType → Answer → Turn
+turn_after_claim m agent l s ty (Claimed (Some entry)) = says (replies.Admitted entry) (machine_after_admission m agent l s entry)
+turn_after_claim m agent l s ty (Claimed None) = Asks (Owe agent ty) (turn_after_owe (machine_after_retry m agent l s ty) ty)
+turn_after_claim m agent l s ty other = never m
 
 -- a resent request, by the entry of the credit that is spent for it
-abbrev pub spent : Machine → Agent → Line → ℕ → CreditType → Answer → Turn
-spent m agent l s ty (Spent entry) = says (replies.Admitted entry) (with_credits (admitted m agent l s entry) agent (less_one (credits_of m agent) ty))
-spent m agent l s ty other = never m
+abbrev pub turn_after_spend : Machine → Agent → Line → ℕ → CreditType → Answer → Turn
+turn_after_spend m agent l s ty (Spent entry) = says (replies.Admitted entry) (with_credits (machine_after_admission m agent l s entry) agent (less_one (credits_of m agent) ty))
+turn_after_spend m agent l s ty other = never m
 
 -- a request of slot s and a credit type arrives, with AllowRetry or without
-abbrev pub attempted : Bool → Machine → Agent → Line → ℕ → CreditType → Turn
-attempted true m agent l s ty = Asks (Claim agent ty) (claimed m agent l s ty)
-attempted false m agent l s ty = Asks (Spend agent ty) (spent m agent l s ty)
+abbrev pub turn_of_attempt : Bool → Machine → Agent → Line → ℕ → CreditType → Turn
+turn_of_attempt true m agent l s ty = Asks (Claim agent ty) (turn_after_claim m agent l s ty)
+turn_of_attempt false m agent l s ty = Asks (Spend agent ty) (turn_after_spend m agent l s ty)
 
 abbrev pub arriving : Machine → Agent → Line → Option Request → Turn
 arriving m agent l None = never m
-arriving m agent l (Some request) = attempted request.allow_retry m agent l request.slot.0 (slot_at (slots_of m agent) request.slot.0).credit
+arriving m agent l (Some request) = turn_of_attempt request.allow_retry m agent l request.slot.0 (slot_at (slots_of m agent) request.slot.0).credit
 
 abbrev pub arrive : Machine → Agent → Line → Turn
 arrive m agent l = or_refused (arrival_refusal (slice_of m.home l.0) agent.0 l.0) m (arriving m agent l (cells_of (line m.home l.0) agent.0).req)
@@ -211,9 +211,9 @@ agent_refusal m agent = if nat_lt agent.0 m.home.config.agents then None else So
 abbrev pub type_refusal : Machine → Agent → CreditType → Option Refusal
 type_refusal m agent ty = first_of (agent_refusal m agent) (if is_of_profile m.home.config.profile (credit_number ty) then None else Some OutOfRange)
 
-abbrev pub saw : Machine → Agent → Answer → Turn
-saw m agent (Saw counts) = Ends (credits_text (record { counts = counts; profile = m.home.config.profile })) (with_credits m agent counts)
-saw m agent other = never m
+abbrev pub turn_after_see : Machine → Agent → Answer → Turn
+turn_after_see m agent (Saw counts) = Ends (credits_text (record { counts = counts; profile = m.home.config.profile })) (with_credits m agent counts)
+turn_after_see m agent other = never m
 
 -- 12: no slot of the type is Cancelled, or no seen credit of the type is to spare
 abbrev pub cancelled_refusal : List SlotRecord → List ℕ → CreditType → Option Refusal
@@ -238,14 +238,14 @@ abbrev pub give_back : Machine → Agent → Option CreditType → Turn
 give_back m agent None = says (replies.Refused OutOfRange) m
 give_back m agent (Some ty) = or_refused (return_refusal m agent ty) m (Asks (GiveBack agent ty) (given_back m agent ty))
 
-abbrev pub tended : Machine → Answer → Turn
-tended m (Tended None) = says replies.Idle m
-tended m (Tended (Some released)) = says (replies.Paid released) m
-tended m other = never m
+abbrev pub turn_after_tend : Machine → Answer → Turn
+turn_after_tend m (Tended None) = says replies.Idle m
+turn_after_tend m (Tended (Some released)) = says (replies.Paid released) m
+turn_after_tend m other = never m
 
 abbrev pub tend : Machine → Agent → Option CreditType → Turn
 tend m agent None = says (replies.Refused OutOfRange) m
-tend m agent (Some ty) = or_refused (type_refusal m agent ty) m (Asks (Tend agent ty) (tended m))
+tend m agent (Some ty) = or_refused (type_refusal m agent ty) m (Asks (Tend agent ty) (turn_after_tend m))
 
 -- the four numbers of the types, by rising type
 abbrev pub by_type : (CreditType → ℕ) → List ℕ
@@ -256,15 +256,15 @@ abbrev pub totals_of : Profile → (free hand promised owed : CreditType → ℕ
 totals_of profile free hand promised owed =
     record { free = by_type free; hand = by_type hand; promised = by_type promised; owed = by_type owed; profile = profile }
 
-abbrev pub glanced : Machine → Answer → Turn
-glanced m (Glanced free hand promised owed) = Ends (totals_text (totals_of m.home.config.profile free hand promised owed)) m
-glanced m other = never m
+abbrev pub turn_after_glance : Machine → Answer → Turn
+turn_after_glance m (Glanced free hand promised owed) = Ends (totals_text (totals_of m.home.config.profile free hand promised owed)) m
+turn_after_glance m other = never m
 
 -- the loads, the stores and the verdict
-abbrev pub judged : Machine → Answer → Turn
-judged m (Judged coherent) =
+abbrev pub turn_after_verdict : Machine → Answer → Turn
+turn_after_verdict m (Judged coherent) =
     Ends (audit_text (record { loads = loads_in m.home.slices; stores = stores_in m.home.slices; coherent = coherent })) m
-judged m other = never m
+turn_after_verdict m other = never m
 
 -- an action; Admit and Retry are what an arrival does
 abbrev pub acting : Bool → Machine → Action → Turn
@@ -273,12 +273,12 @@ acting false m action = arrive m action.agent action.line
 
 -- the table of the commands
 abbrev pub turn : Machine → Command → Turn
-turn m commands.Totals = Asks Glance (glanced m)
-turn m commands.Audit = Asks (Judge m.home.slices) (judged m)
-turn m (commands.Show l) = or_refused (view_refusal m.home l.0) m (Ends (shown_text m.home.config.agents (shown (line m.home l.0) (last_of m.home l.0))) m)
+turn m commands.Totals = Asks Glance (turn_after_glance m)
+turn m commands.Audit = Asks (Judge m.home.slices) (turn_after_verdict m)
+turn m (commands.Show l) = or_refused (view_refusal m.home l.0) m (Ends (shown_text m.home.config.agents (line_view (line m.home l.0) (last_of m.home l.0))) m)
 turn m (commands.Flits agent l) = or_refused (flits_refusal m.home agent.0 l.0) m (Ends (flits_text (cells_of (line m.home l.0) agent.0)) m)
 turn m (commands.Arrive agent l) = arrive m agent l
-turn m (commands.See agent) = or_refused (agent_refusal m agent) m (Asks (See agent) (saw m agent))
+turn m (commands.See agent) = or_refused (agent_refusal m agent) m (Asks (See agent) (turn_after_see m agent))
 turn m (commands.GiveBack agent ty) = give_back m agent ty
 turn m (commands.Tend agent ty) = tend m agent ty
 turn m (commands.Act action) = acting (is_own_step action.step) m action

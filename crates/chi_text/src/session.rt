@@ -7,7 +7,7 @@ ghost use Rattle.chi_script.specs.declared.commands.Command.TheVariants as comma
 ghost use Rattle.chi_text.specs.Turns.{turn};
 ghost use Rattle.chi_text.specs.Session.{PlaysOn, SaysTurn, machine_of};
 
-use crate::told::{arrival_reply, give_back_reply, step_reply, tend_reply, totals_told};
+use crate::node_replies::{arrival_reply, give_back_reply, step_reply, tend_reply, totals_told};
 use chi_flit::{Agent, CreditType, Line, NoMemory, Step};
 use chi_reply::{Audit, Credits, InFlight, Reply, Shown, Wording};
 use chi_script::Command;
@@ -34,6 +34,7 @@ pub fn answer<A: Allocator, B: Allocator>(
 ) -> Result<(), NoMemory>
     ensures { OnOk result (SaysTurn command system.old system.new (string_bytes text.old) (string_bytes text.new)) }
 {
+    // What is asked for seldom isn't inlined, so that this frame stays small.
     match command {
         Command::Totals => say_totals(system, text),
         Command::Audit => say_audit(system, text),
@@ -64,6 +65,7 @@ pub fn answer<A: Allocator, B: Allocator>(
 }
 
 /// The numbers of entries and of owed credits.
+#[inline(never)]
 fn say_totals<A: Allocator, B: Allocator>(
     system: &System<A>,
     text: &mut String<B>,
@@ -78,6 +80,7 @@ fn say_totals<A: Allocator, B: Allocator>(
 }
 
 /// The loads and stores, and whether all is coherent.
+#[inline(never)]
 fn say_audit<A: Allocator, B: Allocator>(
     system: &System<A>,
     text: &mut String<B>,
@@ -96,6 +99,7 @@ fn say_audit<A: Allocator, B: Allocator>(
 }
 
 /// All parts of a line.
+#[inline(never)]
 fn say_line<A: Allocator, B: Allocator>(
     system: &System<A>,
     line: Line,
@@ -118,6 +122,7 @@ fn say_line<A: Allocator, B: Allocator>(
 }
 
 /// The flits of an agent and a line.
+#[inline(never)]
 fn say_flits<A: Allocator, B: Allocator>(
     system: &System<A>,
     agent: Agent,
@@ -156,6 +161,7 @@ fn say_credits<A: Allocator, B: Allocator>(
 }
 
 /// The agent gives a credit of the type back.
+#[inline(never)]
 fn give_back<A: Allocator>(
     system: &mut System<A>,
     agent: Agent,
@@ -168,6 +174,7 @@ fn give_back<A: Allocator>(
 }
 
 /// The agent tends the type.
+#[inline(never)]
 fn tend<A: Allocator>(system: &mut System<A>, agent: Agent, credit: Option<CreditType>) -> Reply
     ensures { PlaysOn (turn (machine_of system.old) (commands.Tend agent credit)) system.old system.new (reply_text result) }
 {

@@ -7,7 +7,7 @@ use lib.ListN.{get_elem?}
 use Rattle.chi_tracker.specs.declared.view.SeatView.{SeatView}
 use Rattle.chi_tracker.specs.declared.shape.Shape.{Shape}
 use Rattle.chi_tracker.specs.Shape.{low, size, count_of}
-use Rattle.chi_tracker.specs.Sums.{below, total, raised}
+use Rattle.chi_tracker.specs.Sums.{below, total, one_more}
 use Rattle.chi_tracker.specs.Views.{PortView}
 use Rattle.chi_tracker.specs.Rule.{weigh}
 use Rattle.chi_tracker.specs.Steps.{one}
@@ -60,13 +60,13 @@ pub below_bound : (f : ℕ → ℕ) (n : ℕ) → ((i : ℕ) → i < n → f i �
 below_bound f zero h = omega arith
 below_bound f (suc n) h = omega (arith, below_bound f n (λ i l. h i (omega arith)), h n (omega arith))
 
-pub raised_here : (ns : List ℕ) (t : ℕ) → slice_index (raised ns t) t ≡ slice_index ns t + 1
+pub raised_here : (ns : List ℕ) (t : ℕ) → slice_index (one_more ns t) t ≡ slice_index ns t + 1
 raised_here [] zero = refl
 raised_here [] (suc t) = omega (arith, raised_here [] t)
 raised_here (n ∷ ns) zero = refl
 raised_here (n ∷ ns) (suc t) = raised_here ns t
 
-pub raised_else : (ns : List ℕ) (t u : ℕ) → u ≢ t → slice_index (raised ns t) u ≡ slice_index ns u
+pub raised_else : (ns : List ℕ) (t u : ℕ) → u ≢ t → slice_index (one_more ns t) u ≡ slice_index ns u
 raised_else [] zero zero d = absurd (d refl)
 raised_else [] zero (suc u) d = refl
 raised_else [] (suc t) zero d = refl

@@ -9,12 +9,12 @@ use Rattle.std.proofs.lemmas.Nat.Bits.{bit_at_and}
 use Rattle.atomic_table.specs.Table.{Me, step, keeps, Allows}
 use Rattle.chi_tracker.specs.declared.shape.Shape.{Shape}
 use Rattle.chi_tracker.specs.declared.view.SeatView.{SeatView}
-use Rattle.chi_tracker.specs.Sums.{raised, all_but, set_at}
+use Rattle.chi_tracker.specs.Sums.{one_more, all_but, set_at}
 use Rattle.chi_tracker.specs.Shape.{IsOf, owed_in}
 use Rattle.chi_tracker.specs.Words.{c_of, p_of, o_of}
 use Rattle.chi_tracker.specs.Views.{PortView, Duty, has}
 use Rattle.chi_tracker.specs.Rule.{IsSound, Fits, TrackerRule}
-use Rattle.chi_tracker.specs.Steps.{Aim, one, solo, port_of, claims, frees, notes, first_clear, owes, sweeps, settles, promises, views_word, spends, returns_credit, Spendable, told, claim, free, note, owe, sweep, settle, promise, see, spend, give}
+use Rattle.chi_tracker.specs.Steps.{Aim, one, solo, port_of, claims, frees, notes, first_clear, owes, sweeps, settles, promises, views_word, spends, returns_credit, Spendable, TakesEffect, claim, free, note, owe, sweep, settle, promise, see, spend, give}
 use Rattle.chi_tracker.proofs.Adding.{weigh-term, raised_here, raised_else}
 use Rattle.chi_tracker.proofs.BitLaws.{with_here, with_else, but_here, but_else}
 use Rattle.chi_tracker.proofs.Entries.{in_range}
@@ -54,9 +54,9 @@ module _ (key : Shape) (slots id : ℕ) (m : Me ℕ SeatView) (alone : m ≡ sol
       (one r.0, keeps, tt, r.1, subst (λ (c : List (ℕ × ℕ)). then (slice_index st.words i) (one r.0, c)) (sym (ap (λ (z : Me ℕ SeatView). z.1) alone)) r.2)
 
   pub claim_allowed : (a : Aim) → a.entry < 256 → x.duty ≡ None
-      → Allows (TrackerRule key) slots id m (a.entry / 64) (λ n. bit_or n (2 ^ (a.entry % 64))) (told claim a (step slots (a.entry / 64) (2 ^ (a.entry % 64)) 0 none) m)
+      → Allows (TrackerRule key) slots id m (a.entry / 64) (λ n. bit_or n (2 ^ (a.entry % 64))) (TakesEffect claim a (step slots (a.entry / 64) (2 ^ (a.entry % 64)) 0 none) m)
   unfolding Steps
-  claim_allowed a l duty = allowed (a.entry / 64) (λ n. bit_or n (2 ^ (a.entry % 64))) (told claim a (step slots (a.entry / 64) (2 ^ (a.entry % 64)) 0 none) m) (λ ws homes vs rule at sound.
+  claim_allowed a l duty = allowed (a.entry / 64) (λ n. bit_or n (2 ^ (a.entry % 64))) (TakesEffect claim a (step slots (a.entry / 64) (2 ^ (a.entry % 64)) 0 none) m) (λ ws homes vs rule at sound.
       let e : ℕ = a.entry in let r : ℕ = slice_index ws (e / 64) in let r' : ℕ = bit_or r (2 ^ (e % 64)) in
       let fits = claims_fit key (c_of ws) (c_of (set ws (e / 64) r')) (p_of ws) (o_of ws) vs id x rule.fits at duty a.kind e l (c_here ws e r' rule.words l ∙ with_here r (e % 64))
       (c_apart ws e r' rule.words l (λ b lb d. with_else r (e % 64) b d)) in
@@ -64,9 +64,9 @@ module _ (key : Shape) (slots id : ℕ) (m : Me ℕ SeatView) (alone : m ≡ sol
       (claims a.kind e (bit_at r (e % 64)) x, rule_c key ws homes _ rule.words rule.agents rule.entries e r' l fits, λ _. (refl, omega arith)))
 
   pub free_allowed : (a : Aim) → a.entry < 256 → has a.entry x ≡ 1 → x.duty ≡ None
-      → Allows (TrackerRule key) slots id m (a.entry / 64) (λ n. bit_and n (all_but (a.entry % 64))) (told free a (step slots (a.entry / 64) (all_but (a.entry % 64)) 0 none) m)
+      → Allows (TrackerRule key) slots id m (a.entry / 64) (λ n. bit_and n (all_but (a.entry % 64))) (TakesEffect free a (step slots (a.entry / 64) (all_but (a.entry % 64)) 0 none) m)
   unfolding Steps
-  free_allowed a l held duty = allowed (a.entry / 64) (λ n. bit_and n (all_but (a.entry % 64))) (told free a (step slots (a.entry / 64) (all_but (a.entry % 64)) 0 none) m) (λ ws homes vs rule at sound.
+  free_allowed a l held duty = allowed (a.entry / 64) (λ n. bit_and n (all_but (a.entry % 64))) (TakesEffect free a (step slots (a.entry / 64) (all_but (a.entry % 64)) 0 none) m) (λ ws homes vs rule at sound.
       let e : ℕ = a.entry in let r : ℕ = slice_index ws (e / 64) in let r' : ℕ = bit_and r (all_but (e % 64)) in
       let fits = frees_fit key (c_of ws) (c_of (set ws (e / 64) r')) (p_of ws) (o_of ws) vs id x rule.fits at duty e l held (c_here ws e r' rule.words l ∙ but_here r (e % 64) (omega arith))
       (c_apart ws e r' rule.words l (λ b lb d. but_else r (e % 64) b (omega arith) lb d)) in
@@ -77,24 +77,24 @@ module _ (key : Shape) (slots id : ℕ) (m : Me ℕ SeatView) (alone : m ≡ sol
   loaded_o ws homes vs vs' i rule fits = subst (λ (z : List ℕ). Rule z homes vs') (sym (set-get_or ws i 0)) (record { words = rule.words; agents = rule.agents; entries = rule.entries; fits = fits })
 
   pub look_allowed : (a : Aim) → a.kind < 4 → ((r : ℕ) → owed_in a.kind r + slice_index x.spent a.kind + slice_index x.returned a.kind ≤ slice_index x.retries a.kind → bit_at r (first_clear (8 * a.kind) r) ≡ 0)
-      → Allows (TrackerRule key) slots id m (8 + 5 * x.who) (λ n. n) (told note a (step slots (8 + 5 * x.who) 0 0 none) m)
+      → Allows (TrackerRule key) slots id m (8 + 5 * x.who) (λ n. n) (TakesEffect note a (step slots (8 + 5 * x.who) 0 0 none) m)
   unfolding Steps
-  look_allowed a lt clear = allowed (8 + 5 * x.who) (λ n. n) (told note a (step slots (8 + 5 * x.who) 0 0 none) m) (λ ws homes vs rule at sound.
+  look_allowed a lt clear = allowed (8 + 5 * x.who) (λ n. n) (TakesEffect note a (step slots (8 + 5 * x.who) 0 0 none) m) (λ ws homes vs rule at sound.
       let few = owed_fit key (c_of ws) (p_of ws) (o_of ws) vs id x rule.fits at a.kind lt in
       let fits = notes_fit key (c_of ws) (p_of ws) (o_of ws) vs id x rule.fits at a.kind (clear (o_of ws x.who) few) in
       (notes a.kind (o_of ws x.who) x, loaded_o ws homes vs _ (8 + 5 * x.who) rule fits, λ _. (refl, few)))
 
-  pub sweep_allowed : (a : Aim) → Allows (TrackerRule key) slots id m (8 + 5 * a.agent) (λ n. n) (told sweep a (step slots (8 + 5 * a.agent) 0 0 none) m)
+  pub sweep_allowed : (a : Aim) → Allows (TrackerRule key) slots id m (8 + 5 * a.agent) (λ n. n) (TakesEffect sweep a (step slots (8 + 5 * a.agent) 0 0 none) m)
   unfolding Steps
-  sweep_allowed a = allowed (8 + 5 * a.agent) (λ n. n) (told sweep a (step slots (8 + 5 * a.agent) 0 0 none) m) (λ ws homes vs rule at sound.
+  sweep_allowed a = allowed (8 + 5 * a.agent) (λ n. n) (TakesEffect sweep a (step slots (8 + 5 * a.agent) 0 0 none) m) (λ ws homes vs rule at sound.
       let r : ℕ = slice_index ws (8 + 5 * a.agent) in
       let fits = sweeps_fit key (c_of ws) (p_of ws) (o_of ws) vs id x rule.fits at a.kind a.agent r in
       (sweeps a.kind a.agent r x, loaded_o ws homes vs _ (8 + 5 * a.agent) rule fits, λ _. (refl, tt)))
 
   pub owe_allowed : (a : Aim) → x.noted ≡ Some a.bit → a.bit < 32
-      → Allows (TrackerRule key) slots id m (8 + 5 * x.who) (λ n. bit_or n (2 ^ a.bit)) (told owe a (step slots (8 + 5 * x.who) (2 ^ a.bit) 0 none) m)
+      → Allows (TrackerRule key) slots id m (8 + 5 * x.who) (λ n. bit_or n (2 ^ a.bit)) (TakesEffect owe a (step slots (8 + 5 * x.who) (2 ^ a.bit) 0 none) m)
   unfolding Steps
-  owe_allowed a noted l = allowed (8 + 5 * x.who) (λ n. bit_or n (2 ^ a.bit)) (told owe a (step slots (8 + 5 * x.who) (2 ^ a.bit) 0 none) m) (λ ws homes vs rule at sound.
+  owe_allowed a noted l = allowed (8 + 5 * x.who) (λ n. bit_or n (2 ^ a.bit)) (TakesEffect owe a (step slots (8 + 5 * x.who) (2 ^ a.bit) 0 none) m) (λ ws homes vs rule at sound.
       let lm : x.who < 8 = omega (arith, sound.who_in, rule.agents) in
       let r : ℕ = slice_index ws (8 + 5 * x.who) in let r' : ℕ = bit_or r (2 ^ a.bit) in let is = o_here ws x.who r' rule.words lm in
       let fits = owes_fit key (c_of ws) (p_of ws) (o_of ws) vs id x rule.fits at (o_of (set ws (8 + 5 * x.who) r')) a.bit noted l (ap (λ z. bit_at z a.bit) is ∙ with_here r a.bit)
@@ -102,9 +102,9 @@ module _ (key : Shape) (slots id : ℕ) (m : Me ℕ SeatView) (alone : m ≡ sol
       (owes x, rule_o key ws homes _ rule.words rule.agents rule.entries x.who r' lm fits, λ _. (refl, tt)))
 
   pub settle_allowed : (a : Aim) → a.agent < x.shape.agents → a.bit < 32 → has a.entry x ≡ 1 → x.duty ≡ None → IsOf x.shape (a.bit / 8) a.entry
-      → Allows (TrackerRule key) slots id m (8 + 5 * a.agent) (λ n. bit_and n (all_but a.bit)) (told settle a (step slots (8 + 5 * a.agent) (all_but a.bit) 0 none) m)
+      → Allows (TrackerRule key) slots id m (8 + 5 * a.agent) (λ n. bit_and n (all_but a.bit)) (TakesEffect settle a (step slots (8 + 5 * a.agent) (all_but a.bit) 0 none) m)
   unfolding Steps
-  settle_allowed a la lb held duty is_of = allowed (8 + 5 * a.agent) (λ n. bit_and n (all_but a.bit)) (told settle a (step slots (8 + 5 * a.agent) (all_but a.bit) 0 none) m) (λ ws homes vs rule at sound.
+  settle_allowed a la lb held duty is_of = allowed (8 + 5 * a.agent) (λ n. bit_and n (all_but a.bit)) (TakesEffect settle a (step slots (8 + 5 * a.agent) (all_but a.bit) 0 none) m) (λ ws homes vs rule at sound.
       let la' : a.agent < key.agents = subst (λ (z : Shape). a.agent < z.agents) sound.shape_is la in let lm : a.agent < 8 = omega (arith, la', rule.agents) in
       let r : ℕ = slice_index ws (8 + 5 * a.agent) in let r' : ℕ = bit_and r (all_but a.bit) in let is = o_here ws a.agent r' rule.words lm in
       let fits = settles_fit key (c_of ws) (c_of ws) (p_of ws) (o_of ws) vs id x rule.fits at duty (o_of (set ws (8 + 5 * a.agent) r')) a.agent a.bit a.entry rule.entries la' lb held (subst (λ (z : Shape). IsOf z (a.bit / 8) a.entry) sound.shape_is is_of)
@@ -113,9 +113,9 @@ module _ (key : Shape) (slots id : ℕ) (m : Me ℕ SeatView) (alone : m ≡ sol
       (settles a.entry a.agent a.bit (bit_at r a.bit) x, rule_o key ws homes _ rule.words rule.agents rule.entries a.agent r' lm fits, λ _. (refl, tt)))
 
   pub promise_allowed : (a : Aim) (d : Duty) → x.duty ≡ Some d → d.to ≡ a.agent → d.entry ≡ a.entry
-      → Allows (TrackerRule key) slots id m (4 + 5 * a.agent + a.entry / 64) (λ n. bit_or n (2 ^ (a.entry % 64))) (told promise a (step slots (4 + 5 * a.agent + a.entry / 64) (2 ^ (a.entry % 64)) 0 none) m)
+      → Allows (TrackerRule key) slots id m (4 + 5 * a.agent + a.entry / 64) (λ n. bit_or n (2 ^ (a.entry % 64))) (TakesEffect promise a (step slots (4 + 5 * a.agent + a.entry / 64) (2 ^ (a.entry % 64)) 0 none) m)
   unfolding Steps
-  promise_allowed a d duty to entry = allowed (4 + 5 * a.agent + a.entry / 64) (λ n. bit_or n (2 ^ (a.entry % 64))) (told promise a (step slots (4 + 5 * a.agent + a.entry / 64) (2 ^ (a.entry % 64)) 0 none) m) (λ ws homes vs rule at sound.
+  promise_allowed a d duty to entry = allowed (4 + 5 * a.agent + a.entry / 64) (λ n. bit_or n (2 ^ (a.entry % 64))) (TakesEffect promise a (step slots (4 + 5 * a.agent + a.entry / 64) (2 ^ (a.entry % 64)) 0 none) m) (λ ws homes vs rule at sound.
       let din : (d.to < key.agents) × (d.kind < 4) × IsOf key d.kind d.entry × (has d.entry x ≡ 1) = subst (λ (z : Option Duty). IfSome z (λ d. (d.to < key.agents) × (d.kind < 4) × IsOf key d.kind d.entry × (has d.entry x ≡ 1))) duty sound.duty_in in
       let lm : a.agent < 8 = omega (arith, din.0, rule.agents) in let le : a.entry < 256 = omega (arith, din.2.1, in_range key d.kind din.1 rule.entries) in
       let e : ℕ = a.entry in let i : ℕ = 4 + 5 * a.agent + e / 64 in let r : ℕ = slice_index ws i in let r' : ℕ = bit_or r (2 ^ (e % 64)) in let p' : ℕ → ℕ → ℕ = p_of (set ws i r') in
@@ -126,9 +126,9 @@ module _ (key : Shape) (slots id : ℕ) (m : Me ℕ SeatView) (alone : m ≡ sol
       (λ j lj f. ap (λ z. p' z j) to ∙ apart j lj (λ q. f (q ∙ sym entry)) ∙ ap (λ z. p_of ws z j) (sym to)) (λ n j ln f lj. other n j ln (λ q. f (q ∙ sym to)) lj) in
       (promises x, rule_p key ws homes _ rule.words rule.agents rule.entries a.agent e r' lm le fits, λ _. (refl, tt)))
 
-  pub see_allowed : (a : Aim) → a.bit < 4 → Allows (TrackerRule key) slots id m (4 + 5 * x.who + a.bit) (λ n. n) (told see a (step slots (4 + 5 * x.who + a.bit) 0 0 none) m)
+  pub see_allowed : (a : Aim) → a.bit < 4 → Allows (TrackerRule key) slots id m (4 + 5 * x.who + a.bit) (λ n. n) (TakesEffect see a (step slots (4 + 5 * x.who + a.bit) 0 0 none) m)
   unfolding Steps
-  see_allowed a lb = allowed (4 + 5 * x.who + a.bit) (λ n. n) (told see a (step slots (4 + 5 * x.who + a.bit) 0 0 none) m) (λ ws homes vs rule at sound.
+  see_allowed a lb = allowed (4 + 5 * x.who + a.bit) (λ n. n) (TakesEffect see a (step slots (4 + 5 * x.who + a.bit) 0 0 none) m) (λ ws homes vs rule at sound.
       let k : ℕ = a.bit in let r : ℕ = slice_index ws (4 + 5 * x.who + k) in
       let fits = sees_fit key (c_of ws) (p_of ws) (o_of ws) vs id x rule.fits at k r (λ e le q. ap (λ z. bit_at (slice_index ws (4 + 5 * x.who + z)) (e % 64)) (sym q)) in (
         views_word k r x,
@@ -194,23 +194,23 @@ module _ (key : Shape) (slots id : ℕ) (m : Me ℕ SeatView) (alone : m ≡ sol
         below_retries = spend_due key (c_of ws) (c_of ws) (p_of ws) (o_of ws) vs id x rule.fits at duty (p_of (set ws cell after)) a.kind a.entry sp rt rule.entries lt le of_key seen here apart other one_more same
 
   pub spend_allowed : (a : Aim) → a.kind < 4 → x.duty ≡ None → IsOf x.shape a.kind a.entry → set_at x.seen a.entry ≡ 1
-      → Allows (TrackerRule key) slots id m (4 + 5 * x.who + a.entry / 64) (λ n. bit_and n (all_but (a.entry % 64))) (told spend a (step slots (4 + 5 * x.who + a.entry / 64) (all_but (a.entry % 64)) 0 none) m)
+      → Allows (TrackerRule key) slots id m (4 + 5 * x.who + a.entry / 64) (λ n. bit_and n (all_but (a.entry % 64))) (TakesEffect spend a (step slots (4 + 5 * x.who + a.entry / 64) (all_but (a.entry % 64)) 0 none) m)
   unfolding Steps
-  spend_allowed a lt duty is_of seen = allowed (4 + 5 * x.who + a.entry / 64) (λ n. bit_and n (all_but (a.entry % 64))) (told spend a (step slots (4 + 5 * x.who + a.entry / 64) (all_but (a.entry % 64)) 0 none) m) (λ ws homes vs rule at sound.
-      let one_more : slice_index (raised x.spent a.kind) a.kind + slice_index x.returned a.kind ≡ slice_index x.spent a.kind + slice_index x.returned a.kind + 1 = omega (arith, raised_here x.spent a.kind) in
-      let same : (u : ℕ) → u ≢ a.kind → slice_index (raised x.spent a.kind) u + slice_index x.returned u ≡ slice_index x.spent u + slice_index x.returned u = λ u d. omega (arith, raised_else x.spent a.kind u d) in (
+  spend_allowed a lt duty is_of seen = allowed (4 + 5 * x.who + a.entry / 64) (λ n. bit_and n (all_but (a.entry % 64))) (TakesEffect spend a (step slots (4 + 5 * x.who + a.entry / 64) (all_but (a.entry % 64)) 0 none) m) (λ ws homes vs rule at sound.
+      let more : slice_index (one_more x.spent a.kind) a.kind + slice_index x.returned a.kind ≡ slice_index x.spent a.kind + slice_index x.returned a.kind + 1 = omega (arith, raised_here x.spent a.kind) in
+      let same : (u : ℕ) → u ≢ a.kind → slice_index (one_more x.spent a.kind) u + slice_index x.returned u ≡ slice_index x.spent u + slice_index x.returned u = λ u d. omega (arith, raised_else x.spent a.kind u d) in (
         spends a.kind a.entry x,
-        paid_rule a lt duty is_of seen (raised x.spent a.kind) x.returned one_more same ws homes vs rule at sound,
-        λ _. (refl, spendable a lt duty is_of seen (raised x.spent a.kind) x.returned one_more same ws homes vs rule at sound),
+        paid_rule a lt duty is_of seen (one_more x.spent a.kind) x.returned more same ws homes vs rule at sound,
+        λ _. (refl, spendable a lt duty is_of seen (one_more x.spent a.kind) x.returned more same ws homes vs rule at sound),
       ))
 
   pub return_allowed : (a : Aim) → a.kind < 4 → x.duty ≡ None → IsOf x.shape a.kind a.entry → set_at x.seen a.entry ≡ 1
-      → Allows (TrackerRule key) slots id m (4 + 5 * x.who + a.entry / 64) (λ n. bit_and n (all_but (a.entry % 64))) (told give a (step slots (4 + 5 * x.who + a.entry / 64) (all_but (a.entry % 64)) 0 none) m)
+      → Allows (TrackerRule key) slots id m (4 + 5 * x.who + a.entry / 64) (λ n. bit_and n (all_but (a.entry % 64))) (TakesEffect give a (step slots (4 + 5 * x.who + a.entry / 64) (all_but (a.entry % 64)) 0 none) m)
   unfolding Steps
-  return_allowed a lt duty is_of seen = allowed (4 + 5 * x.who + a.entry / 64) (λ n. bit_and n (all_but (a.entry % 64))) (told give a (step slots (4 + 5 * x.who + a.entry / 64) (all_but (a.entry % 64)) 0 none) m) (λ ws homes vs rule at sound.
-      let one_more : slice_index x.spent a.kind + slice_index (raised x.returned a.kind) a.kind ≡ slice_index x.spent a.kind + slice_index x.returned a.kind + 1 = omega (arith, raised_here x.returned a.kind) in
-      let same : (u : ℕ) → u ≢ a.kind → slice_index x.spent u + slice_index (raised x.returned a.kind) u ≡ slice_index x.spent u + slice_index x.returned u = λ u d. omega (arith, raised_else x.returned a.kind u d) in (
+  return_allowed a lt duty is_of seen = allowed (4 + 5 * x.who + a.entry / 64) (λ n. bit_and n (all_but (a.entry % 64))) (TakesEffect give a (step slots (4 + 5 * x.who + a.entry / 64) (all_but (a.entry % 64)) 0 none) m) (λ ws homes vs rule at sound.
+      let more : slice_index x.spent a.kind + slice_index (one_more x.returned a.kind) a.kind ≡ slice_index x.spent a.kind + slice_index x.returned a.kind + 1 = omega (arith, raised_here x.returned a.kind) in
+      let same : (u : ℕ) → u ≢ a.kind → slice_index x.spent u + slice_index (one_more x.returned a.kind) u ≡ slice_index x.spent u + slice_index x.returned u = λ u d. omega (arith, raised_else x.returned a.kind u d) in (
         returns_credit a.kind a.entry x,
-        paid_rule a lt duty is_of seen x.spent (raised x.returned a.kind) one_more same ws homes vs rule at sound,
-        λ _. (refl, spendable a lt duty is_of seen x.spent (raised x.returned a.kind) one_more same ws homes vs rule at sound),
+        paid_rule a lt duty is_of seen x.spent (one_more x.returned a.kind) more same ws homes vs rule at sound,
+        λ _. (refl, spendable a lt duty is_of seen x.spent (one_more x.returned a.kind) more same ws homes vs rule at sound),
       ))

@@ -4,7 +4,7 @@ use mathlib.Core.Logic.{dite}
 use native.Mathlib.Decide.{ℕ_discrete}
 use Rattle.std.specs.Int.{bit_at}
 use Rattle.std.proofs.lemmas.Nat.Bits.{bit_at_and, bit_at_or, bit_at_xor, bit_at-pow_same, bit_at-pow_other, bit_at_not, bit_at-lt}
-use Rattle.chi_tracker.specs.Sums.{with_bit, dropped, all_but, set_at, take_out}
+use Rattle.chi_tracker.specs.Sums.{with_bit, without_bit, all_but, set_at, take_out}
 
 pub with_here : (m e : ℕ) → bit_at (with_bit m e) e ≡ 1
 with_here m e = omega (arith, bit_at_or m (2 ^ e) e, bit_at-pow_same e, bit_at-lt m e)
@@ -12,10 +12,10 @@ with_here m e = omega (arith, bit_at_or m (2 ^ e) e, bit_at-pow_same e, bit_at-l
 pub with_else : (m e i : ℕ) → i ≢ e → bit_at (with_bit m e) i ≡ bit_at m i
 with_else m e i d = omega (arith, bit_at_or m (2 ^ e) i, bit_at-pow_other e i d)
 
-pub dropped_here : (m e : ℕ) → bit_at (dropped m e) e ≡ 0
+pub dropped_here : (m e : ℕ) → bit_at (without_bit m e) e ≡ 0
 dropped_here m e = omega (arith, bit_at_xor m (bit_and m (2 ^ e)) e, bit_at_and m (2 ^ e) e, bit_at-pow_same e, bit_at-lt m e)
 
-pub dropped_else : (m e i : ℕ) → i ≢ e → bit_at (dropped m e) i ≡ bit_at m i
+pub dropped_else : (m e i : ℕ) → i ≢ e → bit_at (without_bit m e) i ≡ bit_at m i
 dropped_else m e i d = omega (arith, bit_at_xor m (bit_and m (2 ^ e)) i, bit_at_and m (2 ^ e) i, bit_at-pow_other e i d, bit_at-lt m i)
 
 pow_below : (k : ℕ) → k < 64 → 2 ^ k < 2 ^ 64

@@ -10,7 +10,7 @@ use Rattle.chi_tracker.specs.declared.shape.Shape.{Shape}
 use Rattle.chi_tracker.specs.Sums.{with_bit}
 use Rattle.chi_tracker.specs.Shape.{size, low, IsOf, count_of, owed_in}
 use Rattle.chi_tracker.specs.Views.{PortView}
-use Rattle.chi_tracker.specs.Calls.{first_entries, scanned, into_hand}
+use Rattle.chi_tracker.specs.Calls.{first_entries, port_after_scan, into_hand}
 use Rattle.chi_tracker.proofs.BitLaws.{with_here, with_else}
 use Rattle.chi_tracker.proofs.Adding.{below_same, below_moved, below_term}
 
@@ -77,9 +77,9 @@ first_found s t (suc n) e le lt = dite (ℕ_discrete e (low s t + n))
     (λ d. with_else (first_entries s t n) (low s t + n) e d ∙ first_found s t n e le (omega arith))
 
 -- after a scan that found each entry of a type claimed, each is in its found set
-pub scan_found : (p q : PortView) (t : ℕ) → q ≡ scanned t (size p.shape t) p → (e : ℕ) → IsOf p.shape t e → bit_at q.found e ≡ 1
+pub scan_found : (p q : PortView) (t : ℕ) → q ≡ port_after_scan t (size p.shape t) p → (e : ℕ) → IsOf p.shape t e → bit_at q.found e ≡ 1
 scan_found p q t is e of = ap (λ z. bit_at z.found e) is ∙ first_found p.shape t (size p.shape t) e of.0 of.1
 
 -- what is in hand after a claim
-pub claimed_hand : (p q : PortView) (t n e : ℕ) → q ≡ into_hand e (scanned t n p) → q.hand ≡ with_bit p.hand e
+pub claimed_hand : (p q : PortView) (t n e : ℕ) → q ≡ into_hand e (port_after_scan t n p) → q.hand ≡ with_bit p.hand e
 claimed_hand p q t n e is = ap (λ z. z.hand) is

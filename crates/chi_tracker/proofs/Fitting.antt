@@ -8,7 +8,7 @@ use Rattle.std.specs.Int.{bit_at}
 use Rattle.std.proofs.lemmas.Nat.Bits.{bit_at-lt}
 use Rattle.chi_tracker.specs.declared.shape.Shape.{Shape}
 use Rattle.chi_tracker.specs.declared.view.SeatView.{SeatView}
-use Rattle.chi_tracker.specs.Sums.{below, raised, with_bit, dropped, set_at, take_out}
+use Rattle.chi_tracker.specs.Sums.{below, one_more, with_bit, without_bit, set_at, take_out}
 use Rattle.chi_tracker.specs.Shape.{low, IsOf, count_of, owed_in}
 use Rattle.chi_tracker.specs.Views.{PortView, Duty, has}
 use Rattle.chi_tracker.specs.Rule.{of_port, duty_is, note_is, IsSound, Fits}
@@ -66,7 +66,7 @@ module _ (s : Shape) (c c' : ℕ → ℕ) (p : ℕ → ℕ → ℕ) (o : ℕ →
   frees_fit e le held here apart = goes s c c' p p o o x (frees e x) vs id (record {
     who = refl;
     place = λ i w w' li moved bit was. dite (ℕ_discrete i e)
-        (λ q. let a = dropped_here x.hand e in let b : bit_at (dropped x.hand e) i ≡ bit_at (dropped x.hand e) e = ap (bit_at (dropped x.hand e)) q in
+        (λ q. let a = dropped_here x.hand e in let b : bit_at (without_bit x.hand e) i ≡ bit_at (without_bit x.hand e) e = ap (bit_at (without_bit x.hand e)) q in
         let h : has i x ≡ has e x = ap (λ k. has k x) q in let k' : c' i ≡ c' e = ap c' q in (omega arith, omega arith))
         (λ d. let a = dropped_else x.hand e i d in let k = apart i li d in (omega arith, omega arith));
     seen = λ n i w w' ln li moved mine was. omega arith;
@@ -193,14 +193,14 @@ module _ (s : Shape) (c : ℕ → ℕ) (p : ℕ → ℕ → ℕ) (o : ℕ → �
     was_clear : p d.to d.entry ≡ 0
     was_clear = let a = weigh-term (has d.entry) vs id x at in let g = fits.place d.entry entry_in in let h = fits.bits d.entry entry_in in let t = below_term (λ n. p n d.entry) s.agents d.to duty_in.0 in let z = duty_in.3 in omega arith
 
-    hand_is : (i : ℕ) → has i (promises x) ≡ bit_at (dropped x.hand d.entry) i
+    hand_is : (i : ℕ) → has i (promises x) ≡ bit_at (without_bit x.hand d.entry) i
     hand_is i = ap (λ z. bit_at (hand_without z x.hand) i) duty
 
     pub promises_fit : Fits s c p' o (set vs id (one (promises x)))
     promises_fit = goes s c c p p' o o x (promises x) vs id (record {
       who = refl;
       place = λ i w w' li moved bit was. let v = hand_is i in dite (ℕ_discrete i d.entry)
-          (λ q. let a = dropped_here x.hand d.entry in let b : bit_at (dropped x.hand d.entry) i ≡ bit_at (dropped x.hand d.entry) d.entry = ap (bit_at (dropped x.hand d.entry)) q in let h : has i x ≡ has d.entry x = ap (λ j. has j x) q in let g = duty_in.3 in
+          (λ q. let a = dropped_here x.hand d.entry in let b : bit_at (without_bit x.hand d.entry) i ≡ bit_at (without_bit x.hand d.entry) d.entry = ap (bit_at (without_bit x.hand d.entry)) q in let h : has i x ≡ has d.entry x = ap (λ j. has j x) q in let g = duty_in.3 in
           let z = below_moved (λ n. p n d.entry) (λ n. p' n d.entry) s.agents d.to duty_in.0 (λ n ln o. other n d.entry ln o entry_in) in let y = was_clear in
           let r : below (λ n. p' n i) s.agents ≡ below (λ n. p' n d.entry) s.agents = ap (λ j. below (λ n. p' n j) s.agents) q in let r' : below (λ n. p n i) s.agents ≡ below (λ n. p n d.entry) s.agents = ap (λ j. below (λ n. p n j) s.agents) q in (omega arith, omega arith))
           (λ f. let a = dropped_else x.hand d.entry i f in
@@ -252,8 +252,8 @@ module _ (s : Shape) (c : ℕ → ℕ) (p : ℕ → ℕ → ℕ) (o : ℕ → �
     place_clear : bit_at (o x.who) k ≡ 0
     place_clear = let f : PortView → ℕ = λ z. note_is k z.noted in let a = weigh-term (of_port x.who f) vs id x at in let b = of_mine x.who f x refl in let n = fits.noted x.who k who_is in let h = note_here k in let g = pick_same k k 1 0 refl in omega arith
 
-    retries_is : (u : ℕ) → slice_index (owes x).retries u ≡ slice_index (raised x.retries (k / 8)) u
-    retries_is u = ap (λ z. slice_index (raised x.retries (kind_noted z)) u) noted
+    retries_is : (u : ℕ) → slice_index (owes x).retries u ≡ slice_index (one_more x.retries (k / 8)) u
+    retries_is u = ap (λ z. slice_index (one_more x.retries (kind_noted z)) u) noted
 
     pub owes_fit : Fits s c p o' (set vs id (one (owes x)))
     owes_fit = goes s c c p p o o' x (owes x) vs id (record {
@@ -270,7 +270,7 @@ module _ (s : Shape) (c : ℕ → ℕ) (p : ℕ → ℕ → ℕ) (o : ℕ → �
           (λ q. let a = of_mine n (λ z. slice_index z.retries u) x q in let b : of_port n (λ z. slice_index z.retries u) (owes x) ≡ slice_index (owes x).retries u = of_mine n (λ z. slice_index z.retries u) (owes x) q in let h = retries_is u in
           let r : owed_in u (o' n) ≡ owed_in u (o' x.who) = ap (λ j. owed_in u (o' j)) (sym q) in let r' : owed_in u (o n) ≡ owed_in u (o x.who) = ap (λ j. owed_in u (o j)) (sym q) in
           dite (ℕ_discrete u (k / 8))
-          (λ v. let g = raised_here x.retries (k / 8) in let g' : slice_index (raised x.retries (k / 8)) u ≡ slice_index (raised x.retries (k / 8)) (k / 8) = ap (slice_index (raised x.retries (k / 8))) v in let g'' : slice_index x.retries u ≡ slice_index x.retries (k / 8) = ap (slice_index x.retries) v in
+          (λ v. let g = raised_here x.retries (k / 8) in let g' : slice_index (one_more x.retries (k / 8)) u ≡ slice_index (one_more x.retries (k / 8)) (k / 8) = ap (slice_index (one_more x.retries (k / 8))) v in let g'' : slice_index x.retries u ≡ slice_index x.retries (k / 8) = ap (slice_index x.retries) v in
           let y = owed_moved k (o x.who) (o' x.who) lk (λ i li d. apart i d) in let z : owed_in u (o' x.who) ≡ owed_in (k / 8) (o' x.who) = ap (λ j. owed_in j (o' x.who)) v in let z' : owed_in u (o x.who) ≡ owed_in (k / 8) (o x.who) = ap (λ j. owed_in j (o x.who)) v in let w = place_clear in omega arith)
           (λ d. let g = raised_else x.retries (k / 8) u d in let y = owed_kept u k (o x.who) (o' x.who) lu lk d (λ i li e. apart i e) in omega arith))
           (λ d. let a = of_other n (λ z. slice_index z.retries u) x d in let b = of_other n (λ z. slice_index z.retries u) (owes x) d in let y : owed_in u (o' n) ≡ owed_in u (o n) = ap (owed_in u) (other n ln (λ q. d (sym q))) in omega arith);

@@ -2,7 +2,7 @@
 use Rattle.std.proofs.Common.{◌≡◌, ◌≢◌, inl, inr, ⊎_elim, ℕ, ◌+◌, ◌*◌, ◌/◌, ◌%◌, Bool, true, false, cond, eqb, ◌&&◌, List, [], ◌∷◌, refl, sym, ap, ◌∙◌, subst, arith, eqb-true, true≢false}
 use mathlib.Core.Logic.{dite}
 use native.Mathlib.Decide.{ℕ_discrete}
-use Rattle.chi_tracker.specs.Sums.{dropped}
+use Rattle.chi_tracker.specs.Sums.{without_bit}
 use Rattle.chi_tracker.specs.Views.{PortView, Sweep}
 use Rattle.chi_tracker.specs.Steps.{byte_of, goes_on}
 use Rattle.chi_tracker.specs.Sweeping.{Act, looked, settled, port_after, WasFoundClear, WasSwept, IsInOrder}
@@ -51,7 +51,7 @@ look_order o t m word acts s false true first next before d =
 look_order o t m word acts s false false first next before d = order_later (looked t m word) acts s (before d)
 
 -- a settle that found its place clear, at the requester where the sweep stands
-settle_at : (e m k : ℕ) (acts : List Act) (s : Sweep) → s.at ≡ m → s.kind ≡ k / 8 → WasSwept acts s.kind s.at s.left → WasSwept (settled e m k 0 ∷ acts) s.kind s.at (dropped s.left (k % 8))
+settle_at : (e m k : ℕ) (acts : List Act) (s : Sweep) → s.at ≡ m → s.kind ≡ k / 8 → WasSwept acts s.kind s.at s.left → WasSwept (settled e m k 0 ∷ acts) s.kind s.at (without_bit s.left (k % 8))
 settle_at e m k acts s at kind h = (
   h.0,
   settled e m k 0 ∷ h.1,
@@ -66,13 +66,13 @@ settle_at e m k acts s at kind h = (
     here i f = ap (λ z. settled e z k 0 ∷ h.1) (sym at) ∙ ap (λ z. settled e s.at z 0 ∷ h.1) (let r : k ≡ 8 * s.kind + i = omega arith in r)
 
 abbrev pub tried : Bool → Bool → Bool → ℕ → Sweep → Sweep
-tried clear there same k s = record s { left = cond clear (cond (there && same) (dropped s.left (k % 8)) s.left) s.left }
+tried clear there same k s = record s { left = cond clear (cond (there && same) (without_bit s.left (k % 8)) s.left) s.left }
 
 settle_order : (e m k old : ℕ) (acts : List Act) (s : Sweep) (clear there same : Bool) → (clear ≡ true → old ≡ 0) → (there ≡ true → s.at ≡ m) → (same ≡ true → s.kind ≡ k / 8)
     → IsInOrder acts s → IsInOrder (settled e m k old ∷ acts) (tried clear there same k s)
 settle_order e m k old acts s true true true is_clear is_there is_same h = (
   λ n l. swept_later (settled e m k old) acts s.kind n 0 (h.0 n l),
-  subst (λ z. WasSwept (settled e m k z ∷ acts) s.kind s.at (dropped s.left (k % 8))) (sym (is_clear refl)) (settle_at e m k acts s (is_there refl) (is_same refl) h.1),
+  subst (λ z. WasSwept (settled e m k z ∷ acts) s.kind s.at (without_bit s.left (k % 8))) (sym (is_clear refl)) (settle_at e m k acts s (is_there refl) (is_same refl) h.1),
 )
 settle_order e m k old acts s true true false is_clear is_there is_same h = order_later (settled e m k old) acts s h
 settle_order e m k old acts s true false same is_clear is_there is_same h = order_later (settled e m k old) acts s h

@@ -8,7 +8,7 @@ use Rattle.chi_flit.specs.declared.credit.CreditType.{CreditType}
 use Rattle.chi_flit.specs.Credit.{credit_number}
 use Rattle.chi_tracker.specs.declared.shape.Shape.{Shape}
 use Rattle.chi_tracker.specs.declared.view.SeatView.{SeatView}
-use Rattle.chi_tracker.specs.Sums.{raised, set_at, take_out}
+use Rattle.chi_tracker.specs.Sums.{one_more, set_at, take_out}
 use Rattle.chi_tracker.specs.Shape.{low, size, IsOf, IsShape, count_of}
 use Rattle.chi_tracker.specs.Views.{PortView, has}
 use Rattle.chi_tracker.specs.Steps.{solo, port_of, spends, returns_credit}
@@ -41,17 +41,17 @@ held_after m m' y n s seen seen' due due' held is who shape seen_is duty noted d
 -- after a credit of type t was owed
 module _ (m m' : Me ℕ SeatView) (n : ℕ) (s : Shape) (seen due : List ℕ) (t : ℕ) (held : IsHeld m n s seen due) (lt : t < 4) (len : length due ≡ 4)
     (few : slice_index (port_of m).retries t < 8 + (slice_index (port_of m).spent t + slice_index (port_of m).returned t))
-    (owed : m' ≡ solo (record (port_of m) { noted = None; retries = raised (port_of m).retries t })) where
+    (owed : m' ≡ solo (record (port_of m) { noted = None; retries = one_more (port_of m).retries t })) where
   abbrev x : PortView
   x = port_of m
 
   pub owed_view : port_of m' ≡ owed_one t x
-  owed_view = ap port_of owed ∙ ap (λ u. record x { noted = u; retries = raised x.retries t }) (sym held.no_note)
+  owed_view = ap port_of owed ∙ ap (λ u. record x { noted = u; retries = one_more x.retries t }) (sym held.no_note)
 
   pub owed_held : IsHeld m' n s seen (slice_set due t (slice_index due t + 1))
-  owed_held = held_after m m' (record x { noted = None; retries = raised x.retries t }) n s seen seen due (slice_set due t (slice_index due t + 1)) held owed refl refl held.seen_is held.no_duty refl
+  owed_held = held_after m m' (record x { noted = None; retries = one_more x.retries t }) n s seen seen due (slice_set due t (slice_index due t + 1)) held owed refl refl held.seen_is held.no_duty refl
       (λ u lu. dite (ℕ_discrete u t)
-      (λ q. subst (λ (v : ℕ). slice_index (slice_set due t (slice_index due t + 1)) v + (slice_index x.spent v + slice_index x.returned v) ≡ slice_index (raised x.retries t) v) (sym q)
+      (λ q. subst (λ (v : ℕ). slice_index (slice_set due t (slice_index due t + 1)) v + (slice_index x.spent v + slice_index x.returned v) ≡ slice_index (one_more x.retries t) v) (sym q)
       (omega (arith, set_here due t (slice_index due t + 1) len lt, raised_here x.retries t, held.due_is t lt)))
       (λ d. omega (arith, set_else due t u (slice_index due t + 1) d, raised_else x.retries t u d, held.due_is u lu)))
       (λ u lu. dite (ℕ_discrete u t)
@@ -81,11 +81,11 @@ module _ (m m1 : Me ℕ SeatView) (n : ℕ) (s : Shape) (seen due : List ℕ) (t
 
   pub spent_held : m1 ≡ solo (spends t e (port_of m)) → IsHeld m1 n s (take_out seen e) less
   spent_held is = held_after m m1 (spends t e (port_of m)) n s seen (take_out seen e) due less held is refl refl (ap (λ z. take_out z e) held.seen_is) held.no_duty held.no_note
-      (paid_due (raised (port_of m).spent t) (port_of m).returned (omega (arith, raised_here (port_of m).spent t)) (λ u d. omega (arith, raised_else (port_of m).spent t u d))) paid_few
+      (paid_due (one_more (port_of m).spent t) (port_of m).returned (omega (arith, raised_here (port_of m).spent t)) (λ u d. omega (arith, raised_else (port_of m).spent t u d))) paid_few
 
   pub returned_held : m1 ≡ solo (returns_credit t e (port_of m)) → IsHeld m1 n s (take_out seen e) less
   returned_held is = held_after m m1 (returns_credit t e (port_of m)) n s seen (take_out seen e) due less held is refl refl (ap (λ z. take_out z e) held.seen_is) held.no_duty held.no_note
-      (paid_due (port_of m).spent (raised (port_of m).returned t) (omega (arith, raised_here (port_of m).returned t)) (λ u d. omega (arith, raised_else (port_of m).returned t u d))) paid_few
+      (paid_due (port_of m).spent (one_more (port_of m).returned t) (omega (arith, raised_here (port_of m).returned t)) (λ u d. omega (arith, raised_else (port_of m).returned t u d))) paid_few
 
 pub lowest_seen : (m : Me ℕ SeatView) (n : ℕ) (s : Shape) (seen due : List ℕ) (t e : ℕ) → IsHeld m n s seen due → IsOf s t e → set_at seen e ≡ 1 → ((i : ℕ) → low s t ≤ i → i < e → set_at seen i ≡ 0) → IsLowestSeen (port_of m) t e
 lowest_seen m n s seen due t e held is set lowest =

@@ -8,11 +8,11 @@ use Rattle.std.proofs.lemmas.Nat.Bits.{same_from_bits_below, bit_at-zero}
 use Rattle.atomic_table.specs.Table.{Me}
 use Rattle.atomic_table.specs.declared.shared.Seat.{Seat}
 use Rattle.chi_tracker.specs.declared.view.SeatView.{SeatView}
-use Rattle.chi_tracker.specs.Sums.{dropped, with_bit}
+use Rattle.chi_tracker.specs.Sums.{without_bit, with_bit}
 use Rattle.chi_tracker.specs.Views.{PortView, Sweep, has}
 use Rattle.chi_tracker.specs.Shape.{low}
 use Rattle.chi_tracker.specs.Steps.{solo, port_of, byte_of, left_after, settles}
-use Rattle.chi_tracker.specs.Calls.{with_sweep, into_hand, scanned, Ended, Tended, HasSameCredits}
+use Rattle.chi_tracker.specs.Calls.{with_sweep, into_hand, port_after_scan, Ended, Tended, HasSameCredits}
 use Rattle.chi_tracker.specs.declared.released.Released.{Released}
 use Rattle.chi_tracker.specs.declared.released.Released.TheVariants.{Granted, Freed}
 use Rattle.chi_tracker.proofs.BitLaws.{dropped_here, dropped_else, with_else}
@@ -50,19 +50,19 @@ settled_unset t word place left le unset s = record {
   within = s.within;
 }
 
-dropped_small : (m e : ℕ) → m < 256 → e < 8 → dropped m e < 256
+dropped_small : (m e : ℕ) → m < 256 → e < 8 → without_bit m e < 256
 dropped_small m e l le = xor_lt 8 m (bit_and m (2 ^ e)) l (omega (arith, and_le_l m (2 ^ e)))
 
 -- a place that was settled and found clear
-pub settled_clear : (t word place left : ℕ) → 8 * t ≤ place → place < 8 * t + 8 → IsSettled t word place left → IsSettled t word (place + 1) (dropped left (place % 8))
+pub settled_clear : (t word place left : ℕ) → 8 * t ≤ place → place < 8 * t + 8 → IsSettled t word place left → IsSettled t word (place + 1) (without_bit left (place % 8))
 settled_clear t word place left le lt s =
     let j : ℕ = place % 8 in let at : 8 * t + j ≡ place = omega arith in record {
       small = dropped_small left j s.small (omega arith);
       clear = λ i l h. dite (ℕ_discrete i j)
-          (λ q. ap (bit_at (dropped left j)) q ∙ dropped_here left j)
+          (λ q. ap (bit_at (without_bit left j)) q ∙ dropped_here left j)
           (λ d. dropped_else left j i d ∙ s.clear i l (omega arith));
       within = λ i l. dite (ℕ_discrete i j)
-          (λ q. let z : bit_at (dropped left j) i ≡ 0 = ap (bit_at (dropped left j)) q ∙ dropped_here left j in omega arith)
+          (λ q. let z : bit_at (without_bit left j) i ≡ 0 = ap (bit_at (without_bit left j)) q ∙ dropped_here left j in omega arith)
           (λ d. omega (arith, dropped_else left j i d, s.within i l));
     }
 
@@ -91,7 +91,7 @@ both_true a b c d x y e f = ap (λ (z : Bool). cond (z && eqb c d) x y) (eq-eqb 
 pub settling_clear : (first now next : Seat ℕ SeatView) (t agent word place entry old : ℕ) → 8 * t ≤ place → place < 8 * t + 8 → (port_of first.me).sweep ≡ record { opened = (port_of first.me).sweep.opened; kind = t; at = agent; left = byte_of t word }
     → IsSettling first now t word place → next.table_id ≡ now.table_id → next.me ≡ solo (settles entry agent place old (port_of now.me)) → old ≡ 0 → IsSettling first next t word (place + 1)
 settling_clear first now next t agent word place entry old le lt sweep s table is zero_bit =
-    let p : PortView = port_of first.me in let left : ℕ = (port_of now.me).sweep.left in let after : ℕ = dropped left (place % 8) in
+    let p : PortView = port_of first.me in let left : ℕ = (port_of now.me).sweep.left in let after : ℕ = without_bit left (place % 8) in
     let q : PortView = with_sweep (record p.sweep { left = left }) p in
     let kind : p.sweep.kind ≡ place / 8 = ap (λ (x : Sweep). x.kind) sweep ∙ (let h : t ≡ place / 8 = omega arith in h) in
     let at : p.sweep.at ≡ agent = ap (λ (x : Sweep). x.at) sweep in
@@ -111,7 +111,7 @@ pub ended_same : (p : PortView) (t e : ℕ) (r : Released) (q : PortView) → En
 ended_same p t e (Granted m) q h = let is = h.1.1 in (ap (λ z. z.who) is, ap (λ z. z.shape) is, ap (λ z. z.seen) is, ap (λ z. z.retries) is, ap (λ z. z.spent) is, ap (λ z. z.returned) is)
 ended_same p t e Freed q is = (ap (λ z. z.who) is, ap (λ z. z.shape) is, ap (λ z. z.seen) is, ap (λ z. z.retries) is, ap (λ z. z.spent) is, ap (λ z. z.returned) is)
 
-pub ended_hand : (p : PortView) (t e : ℕ) (r : Released) (q : PortView) → Ended p t e r q → q.hand ≡ dropped p.hand e
+pub ended_hand : (p : PortView) (t e : ℕ) (r : Released) (q : PortView) → Ended p t e r q → q.hand ≡ without_bit p.hand e
 ended_hand p t e (Granted m) q h = ap (λ z. z.hand) h.1.1
 ended_hand p t e Freed q is = ap (λ z. z.hand) is
 
@@ -124,17 +124,17 @@ ended_note p t e (Granted m) q h = ap (λ z. z.noted) h.1.1
 ended_note p t e Freed q is = ap (λ z. z.noted) is
 
 -- an entry that came to hand and left it again
-pub back_out : (h e i : ℕ) → bit_at h e ≡ 0 → bit_at (dropped (with_bit h e) e) i ≡ bit_at h i
+pub back_out : (h e i : ℕ) → bit_at h e ≡ 0 → bit_at (without_bit (with_bit h e) e) i ≡ bit_at h i
 back_out h e i clear = dite (ℕ_discrete i e)
-    (λ q. ap (bit_at (dropped (with_bit h e) e)) q ∙ dropped_here (with_bit h e) e ∙ sym clear ∙ ap (bit_at h) (sym q))
+    (λ q. ap (bit_at (without_bit (with_bit h e) e)) q ∙ dropped_here (with_bit h e) e ∙ sym clear ∙ ap (bit_at h) (sym q))
     (λ d. dropped_else (with_bit h e) e i d ∙ with_else h e i d)
 
 -- an entry that a call took to hand and released leaves the hand as it was
 pub paid_hand : (p x : PortView) (t e : ℕ) (r : Released) (q : PortView) → x.hand ≡ with_bit p.hand e → has e p ≡ 0 → Ended x t e r q → (i : ℕ) → has i q ≡ has i p
-paid_hand p x t e r q is clear ended i = ap (λ z. bit_at z i) (ended_hand x t e r q ended ∙ ap (λ z. dropped z e) is) ∙ back_out p.hand e i clear
+paid_hand p x t e r q is clear ended i = ap (λ z. bit_at z i) (ended_hand x t e r q ended ∙ ap (λ z. without_bit z e) is) ∙ back_out p.hand e i clear
 
 pub tended_hand : (p : PortView) (t : ℕ) (r : Option Released) (q : PortView) → Tended p t r q → (i : ℕ) → has i q ≡ has i p
 tended_hand p t (Some r) q h i =
     let e : ℕ = h.2.0 in let hand : h.0.hand ≡ p.hand = ap (λ z. z.hand) h.1.is in
-    paid_hand p (into_hand e (scanned t (e - low p.shape t) h.0)) t e r q (ap (λ z. with_bit z e) hand) h.2.2 h.2.3 i
+    paid_hand p (into_hand e (port_after_scan t (e - low p.shape t) h.0)) t e r q (ap (λ z. with_bit z e) hand) h.2.2 h.2.3 i
 tended_hand p t None q h i = ⊎_elim (λ is. ap (λ z. has i z) is) (λ s. ap (λ z. has i z) s.2 ∙ ap (λ z. has i z) s.1.is) h

@@ -7,7 +7,7 @@ use Rattle.atomic_table.specs.Seated.{TableId}
 use Rattle.atomic_table.specs.declared.shared.Seat.{Seat}
 use Rattle.chi_tracker.specs.declared.shape.Shape.{Shape}
 use Rattle.chi_tracker.specs.declared.view.SeatView.{SeatView}
-use Rattle.chi_tracker.specs.Sums.{below, raised, with_bit, dropped, set_at}
+use Rattle.chi_tracker.specs.Sums.{below, one_more, with_bit, without_bit, set_at}
 use Rattle.chi_tracker.specs.Shape.{low, size, IsOf, IsShape}
 use Rattle.chi_tracker.specs.Views.{PortView, Sweep, has, IsDue, new_port, new_ports, was_freed, was_promised}
 use Rattle.chi_tracker.specs.declared.released.Released.{Released}
@@ -59,12 +59,12 @@ first_entries s t zero = 0
 first_entries s t (suc n) = with_bit (first_entries s t n) (low s t + n)
 
 -- a scan of type t was opened, and has found the first n entries of the type claimed
-abbrev pub scanned : ℕ → ℕ → PortView → PortView
-scanned t n p = record p { found = first_entries p.shape t n; scans = p.scans + 1; scan_kind = t }
+abbrev pub port_after_scan : ℕ → ℕ → PortView → PortView
+port_after_scan t n p = record p { found = first_entries p.shape t n; scans = p.scans + 1; scan_kind = t }
 
 -- a scan of type t was opened, and has found each entry of the type claimed
 abbrev pub scanned_all : ℕ → PortView → PortView
-scanned_all t p = scanned t (size p.shape t) p
+scanned_all t p = port_after_scan t (size p.shape t) p
 
 -- each entry of type t was found claimed by the port's last scan
 abbrev pub FoundAll : Shape → ℕ → PortView → Type 0
@@ -76,7 +76,7 @@ into_hand e p = record p { hand = with_bit p.hand e }
 
 -- entry e of type t, which wasn't in hand, came to hand in a scan that found each lower one of the type claimed
 abbrev pub HasClaimed : ℕ → ℕ → PortView → PortView → Type 0
-HasClaimed t e p q = IsOf p.shape t e × (has e p ≡ 0) × (q ≡ into_hand e (scanned t (e - low p.shape t) p))
+HasClaimed t e p q = IsOf p.shape t e × (has e p ≡ 0) × (q ≡ into_hand e (port_after_scan t (e - low p.shape t) p))
 
 -- a seat's ports without the first
 abbrev pub rest_ports : List PortView → List PortView
@@ -101,11 +101,11 @@ shape_of entries agents = record { sizes = entries; agents = agents }
 
 -- one more credit of type t is owed
 abbrev pub owed_one : ℕ → PortView → PortView
-owed_one t p = record p { retries = raised p.retries t }
+owed_one t p = record p { retries = one_more p.retries t }
 
 -- one see step was done on each of the four words, which leaves these seen credits
 abbrev pub saw_all : List ℕ → PortView → PortView
-saw_all seen p = record p { seen = seen; sees = raised (raised (raised (raised p.sees 0) 1) 2) 3 }
+saw_all seen p = record p { seen = seen; sees = one_more (one_more (one_more (one_more p.sees 0) 1) 2) 3 }
 
 -- how many entries from `start` on, n of them, are in a set
 abbrev pub set_count : List ℕ → ℕ → ℕ → ℕ
@@ -147,10 +147,10 @@ with_sweep s p = record p { sweep = s }
 
 -- entry e left the hand: it was promised to m, or freed; no duty is left
 abbrev pub granted_to : ℕ → ℕ → PortView → PortView
-granted_to m e p = record p { hand = dropped p.hand e; duty = None; ended = was_promised e m }
+granted_to m e p = record p { hand = without_bit p.hand e; duty = None; ended = was_promised e m }
 
 abbrev pub freed_entry : ℕ → PortView → PortView
-freed_entry e p = record p { hand = dropped p.hand e; duty = None; ended = was_freed e }
+freed_entry e p = record p { hand = without_bit p.hand e; duty = None; ended = was_freed e }
 
 -- How the release of entry e of type t ends: granted to a requester, of which a place was settled, in a
 -- sweep that stands there; or freed, after a sweep of the type that has looked at every requester and has
@@ -169,8 +169,8 @@ EndedAsItsType p e released q = (t : ℕ) × (t < 4) × IsOf p.shape t e × Ende
 abbrev pub Tended : PortView → ℕ → Option Released → PortView → Type 0
 Tended p t (Some released) q =
     (x : PortView) × ShowsOwed t p x
-    × ((e : ℕ) × IsOf p.shape t e × (has e p ≡ 0) × Ended (into_hand e (scanned t (e - low p.shape t) x)) t e released q)
-Tended p t None q = (q ≡ swept_all t p) ⊎ ((x : PortView) × ShowsOwed t p x × (q ≡ scanned t (size p.shape t) x))
+    × ((e : ℕ) × IsOf p.shape t e × (has e p ≡ 0) × Ended (into_hand e (port_after_scan t (e - low p.shape t) x)) t e released q)
+Tended p t None q = (q ≡ swept_all t p) ⊎ ((x : PortView) × ShowsOwed t p x × (q ≡ port_after_scan t (size p.shape t) x))
 
 -- what a port knows of itself and of its credits is the same
 abbrev pub HasSameCredits : PortView → PortView → Type 0

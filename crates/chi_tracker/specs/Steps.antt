@@ -6,7 +6,7 @@ use Rattle.std.specs.Int.{bit_at}
 use Rattle.atomic_table.specs.Table.{Me, Step}
 use Rattle.chi_tracker.specs.declared.shape.Shape.{Shape}
 use Rattle.chi_tracker.specs.declared.view.SeatView.{SeatView}
-use Rattle.chi_tracker.specs.Sums.{raised, with_bit, dropped, all_but, take_out}
+use Rattle.chi_tracker.specs.Sums.{one_more, with_bit, without_bit, all_but, take_out}
 use Rattle.chi_tracker.specs.Shape.{low, owed_in}
 use Rattle.chi_tracker.specs.Rule.{IsOfRunning}
 use Rattle.chi_tracker.specs.Views.{Duty, End, was_freed, was_promised, Sweep, PortView, has, new_port}
@@ -61,7 +61,7 @@ claims t e old p = record p {
 
 -- free e: e leaves the hand
 abbrev pub frees : ℕ → PortView → PortView
-frees e p = record p { hand = dropped p.hand e; ended = was_freed e }
+frees e p = record p { hand = without_bit p.hand e; ended = was_freed e }
 
 -- the lowest clear place of eight, from a bit on
 unfoldable pub clear_from : ℕ → ℕ → ℕ → ℕ
@@ -81,7 +81,7 @@ kind_noted None = 0
 kind_noted (Some k) = k / 8
 
 abbrev pub owes : PortView → PortView
-owes p = record p { noted = None; retries = raised p.retries (kind_noted p.noted) }
+owes p = record p { noted = None; retries = one_more p.retries (kind_noted p.noted) }
 
 -- the byte of a type in a word of owed credits
 abbrev pub byte_of : ℕ → ℕ → ℕ
@@ -92,8 +92,8 @@ byte_of t word = word / 2 ^ (8 * t) % 256
 abbrev pub goes_on : ℕ → ℕ → Sweep → Bool
 goes_on t m s = (m == s.at + 1) && ((s.kind == t) && (s.left == 0))
 
-abbrev pub swept : ℕ → ℕ → ℕ → Sweep → Sweep
-swept t m word s = record s {
+abbrev pub sweep_with_word : ℕ → ℕ → ℕ → Sweep → Sweep
+sweep_with_word t m word s = record s {
   opened = cond (m == 0) (s.opened + 1) s.opened;
   kind = cond (m == 0) t s.kind;
   at = cond (m == 0) 0 (cond (goes_on t m s) m s.at);
@@ -101,12 +101,12 @@ swept t m word s = record s {
 }
 
 abbrev pub sweeps : ℕ → ℕ → ℕ → PortView → PortView
-sweeps t m word p = record p { sweep = swept t m word p.sweep }
+sweeps t m word p = record p { sweep = sweep_with_word t m word p.sweep }
 
 -- settle of place k % 8 of type k / 8 at m: the old bit set, a duty to m with the entry e; clear, the
 -- place is no longer left
 abbrev pub left_after : ℕ → ℕ → Sweep → ℕ
-left_after m k s = cond ((s.at == m) && (s.kind == k / 8)) (dropped s.left (k % 8)) s.left
+left_after m k s = cond ((s.at == m) && (s.kind == k / 8)) (without_bit s.left (k % 8)) s.left
 
 abbrev pub duty_to : ℕ → ℕ → ℕ → Duty
 duty_to m k e = record { to = m; kind = k / 8; entry = e }
@@ -120,7 +120,7 @@ settles e m k old p = record p {
 -- promise: the duty ends, its entry leaves the hand
 abbrev pub hand_without : Option Duty → ℕ → ℕ
 hand_without None hand = hand
-hand_without (Some d) hand = dropped hand d.entry
+hand_without (Some d) hand = without_bit hand d.entry
 
 abbrev pub end_of : Option Duty → End → End
 end_of None ended = ended
@@ -131,14 +131,14 @@ promises p = record p { hand = hand_without p.duty p.hand; duty = None; ended = 
 
 -- see of word k: all its bits become seen
 abbrev pub views_word : ℕ → ℕ → PortView → PortView
-views_word k word p = record p { seen = slice_set p.seen k word; sees = raised p.sees k }
+views_word k word p = record p { seen = slice_set p.seen k word; sees = one_more p.sees k }
 
 -- spend e: a seen entry comes to hand; spent or returned grows by 1
 abbrev pub spends : ℕ → ℕ → PortView → PortView
-spends t e p = record p { hand = with_bit p.hand e; seen = take_out p.seen e; spent = raised p.spent t }
+spends t e p = record p { hand = with_bit p.hand e; seen = take_out p.seen e; spent = one_more p.spent t }
 
 abbrev pub returns_credit : ℕ → ℕ → PortView → PortView
-returns_credit t e p = record p { hand = with_bit p.hand e; seen = take_out p.seen e; returned = raised p.returned t }
+returns_credit t e p = record p { hand = with_bit p.hand e; seen = take_out p.seen e; returned = one_more p.returned t }
 
 -- The kinds of step, and there are no others. A look has two readings: one notes a clear place of the
 -- port's own, one sweeps what is owed to a requester. So has a spend: the credit counts as spent, or as
@@ -201,5 +201,5 @@ Learns give a r p q = Spendable a p
 
 -- What a step of a kind tells: where it is done on the kind's word and with its operand, the view goes by
 -- the kind's effect, and the port learns what the kind shows.
-abbrev pub told : Kind → Aim → Step ℕ → Me ℕ SeatView → ℕ → Me ℕ SeatView → Type 0
-told k a st m r w = IsOperation k a (port_of m) st → Becomes m w (effect k a r) × Learns k a r (port_of m) (port_of w)
+abbrev pub TakesEffect : Kind → Aim → Step ℕ → Me ℕ SeatView → ℕ → Me ℕ SeatView → Type 0
+TakesEffect k a st m r w = IsOperation k a (port_of m) st → Becomes m w (effect k a r) × Learns k a r (port_of m) (port_of w)

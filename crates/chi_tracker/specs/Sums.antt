@@ -13,18 +13,18 @@ total f [] = 0
 total f (x ∷ xs) = f x + total f xs
 
 -- numbers by credit type, one more at type t; a number that is missing is 0
-abbrev pub raised : List ℕ → ℕ → List ℕ
-raised [] zero = 1 ∷ []
-raised [] (suc t) = 0 ∷ raised [] t
-raised (n ∷ ns) zero = (n + 1) ∷ ns
-raised (n ∷ ns) (suc t) = n ∷ raised ns t
+abbrev pub one_more : List ℕ → ℕ → List ℕ
+one_more [] zero = 1 ∷ []
+one_more [] (suc t) = 0 ∷ one_more [] t
+one_more (n ∷ ns) zero = (n + 1) ∷ ns
+one_more (n ∷ ns) (suc t) = n ∷ one_more ns t
 
 -- a set of numbers as the bits of one number of any size: e put in, and e taken out
 abbrev pub with_bit : ℕ → ℕ → ℕ
 with_bit m e = bit_or m (2 ^ e)
 
-abbrev pub dropped : ℕ → ℕ → ℕ
-dropped m e = bit_xor m (bit_and m (2 ^ e))
+abbrev pub without_bit : ℕ → ℕ → ℕ
+without_bit m e = bit_xor m (bit_and m (2 ^ e))
 
 -- the word in which all bits but k are set
 abbrev pub all_but : ℕ → ℕ

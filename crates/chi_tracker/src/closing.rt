@@ -32,7 +32,9 @@ fn add_due(mut dues: Dues, number: usize, due: [u32; 4]) -> Dues
     requires number { number < 8 }
     requires small { (i : ℕ) → i < 32 → slice_index dues i ≤ 1000 }
     requires few { (t : ℕ) → t < 4 → slice_index due t ≤ 8 }
-    ensures sum { (n t : ℕ) → n < 8 → t < 4 → slice_index result (4 * n + t) ≡ slice_index dues (4 * n + t) + cond (number == n) (slice_index due t) 0 }
+    ensures sum { (n t : ℕ) → n < 8 → t < 4
+        → slice_index result (4 * n + t)
+        ≡ slice_index dues (4 * n + t) + cond (number == n) (slice_index due t) 0 }
     ensures small { (i : ℕ) → i < 32 → slice_index result i ≤ slice_index dues i + 8 }
 {
     let at = 4 * number;
@@ -53,7 +55,8 @@ fn add_due(mut dues: Dues, number: usize, due: [u32; 4]) -> Dues
 pub(crate) fn gather(board: &Board, mut ports: ArrayVec<Port, 8>) -> Gathered
     requires table { (board.now.table_id.words ≡ 44) × All (λ p. p.table ≡ board.now.table_id) ports.items }
     requires few { length ports.items ≤ 8 }
-    ensures chair { (result.chair.table_id ≡ board.now.table_id) × (result.chair.me.0.ports ≡ views_of ports.items) }
+    ensures chair { (result.chair.table_id ≡ board.now.table_id)
+        × (result.chair.me.0.ports ≡ views_of ports.items) }
     ensures idle { (n t : ℕ) → duties n t (views_of ports.items) ≡ 0 }
     ensures due { AreDue result.dues (views_of ports.items) }
 {

@@ -1,6 +1,6 @@
 //! What each atomic step tells its caller.
 
-ghost use Rattle.chi_tracker.specs.Steps.{Aim, Kind, no_aim, told, one, first_port, claim, free, note, owe, sweep, settle, promise, see, spend, give};
+ghost use Rattle.chi_tracker.specs.Steps.{Aim, Kind, no_aim, TakesEffect, one, first_port, claim, free, note, owe, sweep, settle, promise, see, spend, give};
 ghost use Rattle.std.specs.Prelude.{◌≡◌, [], ◌++◌};
 ghost use Rattle.chi_tracker.specs.Calls.{rest_ports};
 
@@ -30,7 +30,7 @@ pub trait Kinded {
 pub struct Atomic<K: Kinded, T: Pick>(PhantomData<K>, PhantomData<T>);
 
 impl<K: Kinded, T: Pick> Play<u8, SeatView> for Atomic<K, T> {
-    ghost then = { told K.kind T.aim };
+    ghost then = { TakesEffect K.kind T.aim };
 }
 
 /// Claims an entry: where its bit was clear the entry comes to hand, and where it was set the entry is found

@@ -2,7 +2,7 @@
 
 ghost use Rattle.std.specs.Prelude.{◌≡◌, None, ℕ, ◌<◌, ◌≤◌, IfSome, IfNone, slice_index};
 ghost use Rattle.chi_flit.specs.Credit.{credit_number};
-ghost use Rattle.chi_tracker.specs.Sums.{set_at, dropped};
+ghost use Rattle.chi_tracker.specs.Sums.{set_at, without_bit};
 ghost use Rattle.chi_tracker.specs.Shape.{low, size, IsShape};
 ghost use Rattle.chi_tracker.specs.Views.{has, new_port, IsDue, CanOwe};
 ghost use Rattle.chi_tracker.specs.Rule.{IsOfRunning};
@@ -74,7 +74,7 @@ impl Default for Port {
 
 impl Port {
     // The port of requester `number`, which has done nothing yet.
-    pub(crate) fn seated(chair: Chair, number: usize, shape: Shape) -> Port
+    pub(crate) fn on_chair(chair: Chair, number: usize, shape: Shape) -> Port
         requires view { chair.me ≡ solo (new_port shape number) }
         requires shape { IsShape shape × (number < shape.agents) }
         ensures { result ≡ record { table = chair.table_id; port = new_port shape number } }
@@ -276,7 +276,7 @@ impl Port {
         ensures table { self.new.table ≡ self.old.table }
         ensures port { EndedAsItsType self.old.port entry.0 result self.new.port }
         ensures credits { HasSameCredits self.old.port self.new.port }
-        ensures hand { self.new.port.hand ≡ dropped self.old.port.hand entry.0 }
+        ensures hand { self.new.port.hand ≡ without_bit self.old.port.hand entry.0 }
     {
         let board = tracker.board();
         let Some(mut chair) = self.chair.take() else {

@@ -4,7 +4,7 @@ ghost use Rattle.std.specs.Prelude.{◌≡◌, ◌+◌, ◌-◌, ◌<◌, ◌≤
 ghost use Rattle.chi_tracker.specs.Shape.{low, size, IsOf};
 ghost use Rattle.chi_tracker.specs.Views.{has};
 ghost use Rattle.chi_tracker.specs.Steps.{solo, port_of};
-ghost use Rattle.chi_tracker.specs.Calls.{scanned, into_hand};
+ghost use Rattle.chi_tracker.specs.Calls.{port_after_scan, into_hand};
 
 use crate::law::{Board, Chair};
 use crate::marks::is_set;
@@ -20,10 +20,13 @@ pub(crate) fn scan(
 ) -> Option<usize>
     requires table { (chair.old.table_id ≡ board.now.table_id) × (board.now.table_id.words ≡ 44) }
     requires view { (chair.old.me ≡ solo (port_of chair.old.me)) × ((port_of chair.old.me).duty ≡ None) }
-    requires range { (first ≡ low (port_of chair.old.me).shape ty) × (count ≡ size (port_of chair.old.me).shape ty) × (0 < count) × (first + count ≤ 256) }
+    requires range { (first ≡ low (port_of chair.old.me).shape ty)
+        × (count ≡ size (port_of chair.old.me).shape ty) × (0 < count) × (first + count ≤ 256) }
     ensures table { chair.new.table_id ≡ chair.old.table_id }
-    ensures some { IfSome result (λ e. IsOf (port_of chair.old.me).shape ty e × (has e (port_of chair.old.me) ≡ 0) × (chair.new.me ≡ solo (into_hand e (scanned ty (e - first) (port_of chair.old.me))))) }
-    ensures none { IfNone result (chair.new.me ≡ solo (scanned ty count (port_of chair.old.me))) }
+    ensures some { IfSome result
+        (λ e. IsOf (port_of chair.old.me).shape ty e × (has e (port_of chair.old.me) ≡ 0)
+        × (chair.new.me ≡ solo (into_hand e (port_after_scan ty (e - first) (port_of chair.old.me))))) }
+    ensures none { IfNone result (chair.new.me ≡ solo (port_after_scan ty count (port_of chair.old.me))) }
 {
     let word = claim_step(board, chair, ty, first);
     if !is_set(word, first % 64) {

@@ -13,7 +13,8 @@ use crate::shape::Shape;
 /// The lowest clear place of the type, as 8 times the type and the place.
 pub(crate) fn first_clear(word: u64, ty: usize) -> usize
     requires kind { ty < 4 }
-    requires clear { (bit_at word (first_clear (8 * ty) word) ≡ 0) × (first_clear (8 * ty) word < 8 * ty + 8) }
+    requires clear { (bit_at word (first_clear (8 * ty) word) ≡ 0)
+        × (first_clear (8 * ty) word < 8 * ty + 8) }
     ensures { result ≡ first_clear (8 * ty) word }
 {
     for place in 8 * ty..8 * ty + 8 {
@@ -52,7 +53,8 @@ fn rank(words: &[u64; 4], end: usize) -> u32
 /// How many entries of each type are in the set.
 pub(crate) fn counts_by_type(words: &[u64; 4], shape: &Shape) -> [u32; 4]
     requires { low shape.now 4 ≤ 256 }
-    ensures { (t : ℕ) → t < 4 → slice_index result t ≡ set_count words.now (low shape.now t) (size shape.now t) }
+    ensures { (t : ℕ) → t < 4
+        → slice_index result t ≡ set_count words.now (low shape.now t) (size shape.now t) }
 {
     if *words == [0; 4] {
         return [0; 4];

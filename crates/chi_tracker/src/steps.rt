@@ -67,10 +67,13 @@ fn look_as<T: Pick>(board: &Board, chair: &mut Chair, number: usize, ty: usize) 
     requires table { (chair.old.table_id ≡ board.now.table_id) × (board.now.table_id.words ≡ 44) }
     requires view { (chair.old.me ≡ solo (port_of chair.old.me)) × ((port_of chair.old.me).who ≡ number) }
     requires kind { (ty < 4) × (number < 8) }
-    requires few { slice_index (port_of chair.old.me).retries ty < 8 + (slice_index (port_of chair.old.me).spent ty + slice_index (port_of chair.old.me).returned ty) }
+    requires few { slice_index (port_of chair.old.me).retries ty
+        < 8 +
+        (slice_index (port_of chair.old.me).spent ty + slice_index (port_of chair.old.me).returned ty) }
     ensures table { chair.new.table_id ≡ chair.old.table_id }
     ensures view { chair.new.me ≡ solo (notes ty result (port_of chair.old.me)) }
-    ensures few { (bit_at result (first_clear (8 * ty) result) ≡ 0) × (first_clear (8 * ty) result < 8 * ty + 8) }
+    ensures few { (bit_at result (first_clear (8 * ty) result) ≡ 0)
+        × (first_clear (8 * ty) result < 8 * ty + 8) }
 {
     board.load::<Atomic<Look, T>>(chair, 8 + 5 * number)
 }
@@ -80,10 +83,13 @@ pub(crate) fn look_step(board: &Board, chair: &mut Chair, number: usize, ty: usi
     requires table { (chair.old.table_id ≡ board.now.table_id) × (board.now.table_id.words ≡ 44) }
     requires view { (chair.old.me ≡ solo (port_of chair.old.me)) × ((port_of chair.old.me).who ≡ number) }
     requires kind { (ty < 4) × (number < 8) }
-    requires few { slice_index (port_of chair.old.me).retries ty < 8 + (slice_index (port_of chair.old.me).spent ty + slice_index (port_of chair.old.me).returned ty) }
+    requires few { slice_index (port_of chair.old.me).retries ty
+        < 8 +
+        (slice_index (port_of chair.old.me).spent ty + slice_index (port_of chair.old.me).returned ty) }
     ensures table { chair.new.table_id ≡ chair.old.table_id }
     ensures view { chair.new.me ≡ solo (notes ty result (port_of chair.old.me)) }
-    ensures few { (bit_at result (first_clear (8 * ty) result) ≡ 0) × (first_clear (8 * ty) result < 8 * ty + 8) }
+    ensures few { (bit_at result (first_clear (8 * ty) result) ≡ 0)
+        × (first_clear (8 * ty) result < 8 * ty + 8) }
 {
     look_as::<Brand>(board, chair, number, ty)
 }
@@ -91,7 +97,8 @@ pub(crate) fn look_step(board: &Board, chair: &mut Chair, number: usize, ty: usi
 fn owe_as<T: Pick>(board: &Board, chair: &mut Chair, number: usize, place: usize)
     requires aim { T.aim.bit ≡ place }
     requires table { (chair.old.table_id ≡ board.now.table_id) × (board.now.table_id.words ≡ 44) }
-    requires view { (chair.old.me ≡ solo (port_of chair.old.me)) × ((port_of chair.old.me).who ≡ number) × ((port_of chair.old.me).noted ≡ Some place) }
+    requires view { (chair.old.me ≡ solo (port_of chair.old.me))
+        × ((port_of chair.old.me).who ≡ number) × ((port_of chair.old.me).noted ≡ Some place) }
     requires place { (place < 32) × (number < 8) }
     ensures table { chair.new.table_id ≡ chair.old.table_id }
     ensures view { chair.new.me ≡ solo (owes (port_of chair.old.me)) }
@@ -102,7 +109,8 @@ fn owe_as<T: Pick>(board: &Board, chair: &mut Chair, number: usize, place: usize
 /// Sets the noted place: one more credit is owed.
 pub(crate) fn owe_step(board: &Board, chair: &mut Chair, number: usize, place: usize)
     requires table { (chair.old.table_id ≡ board.now.table_id) × (board.now.table_id.words ≡ 44) }
-    requires view { (chair.old.me ≡ solo (port_of chair.old.me)) × ((port_of chair.old.me).who ≡ number) × ((port_of chair.old.me).noted ≡ Some place) }
+    requires view { (chair.old.me ≡ solo (port_of chair.old.me))
+        × ((port_of chair.old.me).who ≡ number) × ((port_of chair.old.me).noted ≡ Some place) }
     requires place { (place < 32) × (number < 8) }
     ensures table { chair.new.table_id ≡ chair.old.table_id }
     ensures view { chair.new.me ≡ solo (owes (port_of chair.old.me)) }
@@ -141,11 +149,13 @@ fn settle_as<T: Pick>(
 ) -> u64
     requires aim { (T.aim.agent ≡ agent) × (T.aim.bit ≡ place) × (T.aim.entry ≡ entry) }
     requires table { (chair.old.table_id ≡ board.now.table_id) × (board.now.table_id.words ≡ 44) }
-    requires view { (chair.old.me ≡ solo (port_of chair.old.me)) × ((port_of chair.old.me).duty ≡ None) × (has entry (port_of chair.old.me) ≡ 1) }
+    requires view { (chair.old.me ≡ solo (port_of chair.old.me)) × ((port_of chair.old.me).duty ≡ None)
+        × (has entry (port_of chair.old.me) ≡ 1) }
     requires agent { (agent < (port_of chair.old.me).shape.agents) × (agent < 8) }
     requires place { (place < 32) × IsOf (port_of chair.old.me).shape (place / 8) entry }
     ensures table { chair.new.table_id ≡ chair.old.table_id }
-    ensures view { chair.new.me ≡ solo (settles entry agent place (bit_at result place) (port_of chair.old.me)) }
+    ensures view { chair.new.me
+        ≡ solo (settles entry agent place (bit_at result place) (port_of chair.old.me)) }
 {
     board.fetch_and::<Atomic<Settle, T>>(chair, 8 + 5 * agent, others(place))
 }
@@ -159,11 +169,13 @@ pub(crate) fn settle_step(
     entry: usize,
 ) -> u64
     requires table { (chair.old.table_id ≡ board.now.table_id) × (board.now.table_id.words ≡ 44) }
-    requires view { (chair.old.me ≡ solo (port_of chair.old.me)) × ((port_of chair.old.me).duty ≡ None) × (has entry (port_of chair.old.me) ≡ 1) }
+    requires view { (chair.old.me ≡ solo (port_of chair.old.me)) × ((port_of chair.old.me).duty ≡ None)
+        × (has entry (port_of chair.old.me) ≡ 1) }
     requires agent { (agent < (port_of chair.old.me).shape.agents) × (agent < 8) }
     requires place { (place < 32) × IsOf (port_of chair.old.me).shape (place / 8) entry }
     ensures table { chair.new.table_id ≡ chair.old.table_id }
-    ensures view { chair.new.me ≡ solo (settles entry agent place (bit_at result place) (port_of chair.old.me)) }
+    ensures view { chair.new.me
+        ≡ solo (settles entry agent place (bit_at result place) (port_of chair.old.me)) }
 {
     settle_as::<Brand>(board, chair, agent, place, entry)
 }
@@ -171,7 +183,8 @@ pub(crate) fn settle_step(
 fn promise_as<T: Pick>(board: &Board, chair: &mut Chair, agent: usize, place: usize, entry: usize)
     requires aim { (T.aim.agent ≡ agent) × (T.aim.entry ≡ entry) }
     requires table { (chair.old.table_id ≡ board.now.table_id) × (board.now.table_id.words ≡ 44) }
-    requires view { (chair.old.me ≡ solo (port_of chair.old.me)) × ((port_of chair.old.me).duty ≡ Some (duty_to agent place entry)) }
+    requires view { (chair.old.me ≡ solo (port_of chair.old.me))
+        × ((port_of chair.old.me).duty ≡ Some (duty_to agent place entry)) }
     requires range { (agent < 8) × (entry < 256) }
     ensures table { chair.new.table_id ≡ chair.old.table_id }
     ensures view { chair.new.me ≡ solo (promises (port_of chair.old.me)) }
@@ -188,7 +201,8 @@ pub(crate) fn promise_step(
     entry: usize,
 )
     requires table { (chair.old.table_id ≡ board.now.table_id) × (board.now.table_id.words ≡ 44) }
-    requires view { (chair.old.me ≡ solo (port_of chair.old.me)) × ((port_of chair.old.me).duty ≡ Some (duty_to agent place entry)) }
+    requires view { (chair.old.me ≡ solo (port_of chair.old.me))
+        × ((port_of chair.old.me).duty ≡ Some (duty_to agent place entry)) }
     requires range { (agent < 8) × (entry < 256) }
     ensures table { chair.new.table_id ≡ chair.old.table_id }
     ensures view { chair.new.me ≡ solo (promises (port_of chair.old.me)) }
@@ -203,7 +217,8 @@ fn see_as<T: Pick>(board: &Board, chair: &mut Chair, number: usize, part: usize)
     requires part { (part < 4) × (number < 8) }
     ensures table { chair.new.table_id ≡ chair.old.table_id }
     ensures view { chair.new.me ≡ solo (views_word part result (port_of chair.old.me)) }
-    ensures more { (i : ℕ) → i < 64 → bit_at (slice_index (port_of chair.old.me).seen part) i ≤ bit_at result i }
+    ensures more { (i : ℕ) → i < 64
+        → bit_at (slice_index (port_of chair.old.me).seen part) i ≤ bit_at result i }
     ensures running { IsOfRunning (port_of chair.new.me) }
 {
     board.load::<Atomic<See, T>>(chair, 4 + 5 * number + part)
@@ -216,7 +231,8 @@ pub(crate) fn see_step(board: &Board, chair: &mut Chair, number: usize, part: us
     requires part { (part < 4) × (number < 8) }
     ensures table { chair.new.table_id ≡ chair.old.table_id }
     ensures view { chair.new.me ≡ solo (views_word part result (port_of chair.old.me)) }
-    ensures more { (i : ℕ) → i < 64 → bit_at (slice_index (port_of chair.old.me).seen part) i ≤ bit_at result i }
+    ensures more { (i : ℕ) → i < 64
+        → bit_at (slice_index (port_of chair.old.me).seen part) i ≤ bit_at result i }
     ensures running { IsOfRunning (port_of chair.new.me) }
 {
     see_as::<Brand>(board, chair, number, part)
@@ -225,13 +241,17 @@ pub(crate) fn see_step(board: &Board, chair: &mut Chair, number: usize, part: us
 fn spend_as<T: Pick>(board: &Board, chair: &mut Chair, number: usize, ty: usize, entry: usize)
     requires aim { (T.aim.kind ≡ ty) × (T.aim.entry ≡ entry) }
     requires table { (chair.old.table_id ≡ board.now.table_id) × (board.now.table_id.words ≡ 44) }
-    requires view { (chair.old.me ≡ solo (port_of chair.old.me)) × ((port_of chair.old.me).duty ≡ None) × ((port_of chair.old.me).who ≡ number) }
+    requires view { (chair.old.me ≡ solo (port_of chair.old.me)) × ((port_of chair.old.me).duty ≡ None)
+        × ((port_of chair.old.me).who ≡ number) }
     requires kind { (ty < 4) × (number < 8) × (entry < 256) }
-    requires seen { IsOf (port_of chair.old.me).shape ty entry × (set_at (port_of chair.old.me).seen entry ≡ 1) }
+    requires seen { IsOf (port_of chair.old.me).shape ty entry
+        × (set_at (port_of chair.old.me).seen entry ≡ 1) }
     ensures table { chair.new.table_id ≡ chair.old.table_id }
     ensures view { chair.new.me ≡ solo (spends ty entry (port_of chair.old.me)) }
     ensures held { has entry (port_of chair.old.me) ≡ 0 }
-    ensures due { slice_index (port_of chair.old.me).spent ty + slice_index (port_of chair.old.me).returned ty < slice_index (port_of chair.old.me).retries ty }
+    ensures due { slice_index (port_of chair.old.me).spent ty
+        + slice_index (port_of chair.old.me).returned ty
+        < slice_index (port_of chair.old.me).retries ty }
 {
     board.fetch_and::<Atomic<Spend, T>>(chair, 4 + 5 * number + entry / 64, others(entry % 64));
 }
@@ -239,13 +259,17 @@ fn spend_as<T: Pick>(board: &Board, chair: &mut Chair, number: usize, ty: usize,
 /// Spends a seen credit: its entry comes to hand.
 pub(crate) fn spend_step(board: &Board, chair: &mut Chair, number: usize, ty: usize, entry: usize)
     requires table { (chair.old.table_id ≡ board.now.table_id) × (board.now.table_id.words ≡ 44) }
-    requires view { (chair.old.me ≡ solo (port_of chair.old.me)) × ((port_of chair.old.me).duty ≡ None) × ((port_of chair.old.me).who ≡ number) }
+    requires view { (chair.old.me ≡ solo (port_of chair.old.me)) × ((port_of chair.old.me).duty ≡ None)
+        × ((port_of chair.old.me).who ≡ number) }
     requires kind { (ty < 4) × (number < 8) × (entry < 256) }
-    requires seen { IsOf (port_of chair.old.me).shape ty entry × (set_at (port_of chair.old.me).seen entry ≡ 1) }
+    requires seen { IsOf (port_of chair.old.me).shape ty entry
+        × (set_at (port_of chair.old.me).seen entry ≡ 1) }
     ensures table { chair.new.table_id ≡ chair.old.table_id }
     ensures view { chair.new.me ≡ solo (spends ty entry (port_of chair.old.me)) }
     ensures held { has entry (port_of chair.old.me) ≡ 0 }
-    ensures due { slice_index (port_of chair.old.me).spent ty + slice_index (port_of chair.old.me).returned ty < slice_index (port_of chair.old.me).retries ty }
+    ensures due { slice_index (port_of chair.old.me).spent ty
+        + slice_index (port_of chair.old.me).returned ty
+        < slice_index (port_of chair.old.me).retries ty }
 {
     spend_as::<Brand>(board, chair, number, ty, entry)
 }
@@ -253,13 +277,17 @@ pub(crate) fn spend_step(board: &Board, chair: &mut Chair, number: usize, ty: us
 fn return_as<T: Pick>(board: &Board, chair: &mut Chair, number: usize, ty: usize, entry: usize)
     requires aim { (T.aim.kind ≡ ty) × (T.aim.entry ≡ entry) }
     requires table { (chair.old.table_id ≡ board.now.table_id) × (board.now.table_id.words ≡ 44) }
-    requires view { (chair.old.me ≡ solo (port_of chair.old.me)) × ((port_of chair.old.me).duty ≡ None) × ((port_of chair.old.me).who ≡ number) }
+    requires view { (chair.old.me ≡ solo (port_of chair.old.me)) × ((port_of chair.old.me).duty ≡ None)
+        × ((port_of chair.old.me).who ≡ number) }
     requires kind { (ty < 4) × (number < 8) × (entry < 256) }
-    requires seen { IsOf (port_of chair.old.me).shape ty entry × (set_at (port_of chair.old.me).seen entry ≡ 1) }
+    requires seen { IsOf (port_of chair.old.me).shape ty entry
+        × (set_at (port_of chair.old.me).seen entry ≡ 1) }
     ensures table { chair.new.table_id ≡ chair.old.table_id }
     ensures view { chair.new.me ≡ solo (returns_credit ty entry (port_of chair.old.me)) }
     ensures held { has entry (port_of chair.old.me) ≡ 0 }
-    ensures due { slice_index (port_of chair.old.me).spent ty + slice_index (port_of chair.old.me).returned ty < slice_index (port_of chair.old.me).retries ty }
+    ensures due { slice_index (port_of chair.old.me).spent ty
+        + slice_index (port_of chair.old.me).returned ty
+        < slice_index (port_of chair.old.me).retries ty }
 {
     board.fetch_and::<Atomic<Return, T>>(chair, 4 + 5 * number + entry / 64, others(entry % 64));
 }
@@ -267,13 +295,17 @@ fn return_as<T: Pick>(board: &Board, chair: &mut Chair, number: usize, ty: usize
 /// Takes back the entry of a seen credit that is returned.
 pub(crate) fn return_step(board: &Board, chair: &mut Chair, number: usize, ty: usize, entry: usize)
     requires table { (chair.old.table_id ≡ board.now.table_id) × (board.now.table_id.words ≡ 44) }
-    requires view { (chair.old.me ≡ solo (port_of chair.old.me)) × ((port_of chair.old.me).duty ≡ None) × ((port_of chair.old.me).who ≡ number) }
+    requires view { (chair.old.me ≡ solo (port_of chair.old.me)) × ((port_of chair.old.me).duty ≡ None)
+        × ((port_of chair.old.me).who ≡ number) }
     requires kind { (ty < 4) × (number < 8) × (entry < 256) }
-    requires seen { IsOf (port_of chair.old.me).shape ty entry × (set_at (port_of chair.old.me).seen entry ≡ 1) }
+    requires seen { IsOf (port_of chair.old.me).shape ty entry
+        × (set_at (port_of chair.old.me).seen entry ≡ 1) }
     ensures table { chair.new.table_id ≡ chair.old.table_id }
     ensures view { chair.new.me ≡ solo (returns_credit ty entry (port_of chair.old.me)) }
     ensures held { has entry (port_of chair.old.me) ≡ 0 }
-    ensures due { slice_index (port_of chair.old.me).spent ty + slice_index (port_of chair.old.me).returned ty < slice_index (port_of chair.old.me).retries ty }
+    ensures due { slice_index (port_of chair.old.me).spent ty
+        + slice_index (port_of chair.old.me).returned ty
+        < slice_index (port_of chair.old.me).retries ty }
 {
     return_as::<Brand>(board, chair, number, ty, entry)
 }

@@ -25,11 +25,14 @@ fn byte(word: u64, ty: usize) -> u64
 /// set. True where it did.
 fn settle_one(board: &Board, chair: &mut Chair, agent: usize, place: usize, entry: usize) -> bool
     requires table { (chair.old.table_id ≡ board.now.table_id) × (board.now.table_id.words ≡ 44) }
-    requires view { (chair.old.me ≡ solo (port_of chair.old.me)) × ((port_of chair.old.me).duty ≡ None) × (has entry (port_of chair.old.me) ≡ 1) }
+    requires view { (chair.old.me ≡ solo (port_of chair.old.me)) × ((port_of chair.old.me).duty ≡ None)
+        × (has entry (port_of chair.old.me) ≡ 1) }
     requires range { (agent < (port_of chair.old.me).shape.agents) × (agent < 8) × (entry < 256) }
     requires place { (place < 32) × IsOf (port_of chair.old.me).shape (place / 8) entry }
     ensures table { chair.new.table_id ≡ chair.old.table_id }
-    ensures view { MatchBool result (chair.new.me ≡ solo (promises (settles entry agent place 1 (port_of chair.old.me)))) (chair.new.me ≡ solo (settles entry agent place 0 (port_of chair.old.me))) }
+    ensures view { MatchBool result
+        (chair.new.me ≡ solo (promises (settles entry agent place 1 (port_of chair.old.me))))
+        (chair.new.me ≡ solo (settles entry agent place 0 (port_of chair.old.me))) }
 {
     let old = settle_step(board, chair, agent, place, entry);
     if !is_set(old, place) {
@@ -50,11 +53,21 @@ fn settle_places(
     entry: usize,
 ) -> bool
     requires table { (chair.old.table_id ≡ board.now.table_id) × (board.now.table_id.words ≡ 44) }
-    requires view { (chair.old.me ≡ solo (port_of chair.old.me)) × ((port_of chair.old.me).duty ≡ None) × (has entry (port_of chair.old.me) ≡ 1) }
-    requires sweep { (port_of chair.old.me).sweep ≡ record { opened = (port_of chair.old.me).sweep.opened; kind = ty; at = agent; left = byte_of ty word } }
-    requires range { (ty < 4) × (agent < (port_of chair.old.me).shape.agents) × (agent < 8) × (entry < 256) × IsOf (port_of chair.old.me).shape ty entry }
+    requires view { (chair.old.me ≡ solo (port_of chair.old.me)) × ((port_of chair.old.me).duty ≡ None)
+        × (has entry (port_of chair.old.me) ≡ 1) }
+    requires sweep { (port_of chair.old.me).sweep ≡ record {
+      opened = (port_of chair.old.me).sweep.opened;
+      kind = ty;
+      at = agent;
+      left = byte_of ty word;
+    } }
+    requires range { (ty < 4) × (agent < (port_of chair.old.me).shape.agents) × (agent < 8)
+        × (entry < 256) × IsOf (port_of chair.old.me).shape ty entry }
     ensures table { chair.new.table_id ≡ chair.old.table_id }
-    ensures view { MatchBool result ((left : ℕ) × (chair.new.me ≡ solo (granted_to agent entry (with_sweep (record (port_of chair.old.me).sweep { left = left }) (port_of chair.old.me))))) (chair.new.me ≡ solo (with_sweep (record (port_of chair.old.me).sweep { left = 0 }) (port_of chair.old.me))) }
+    ensures view { MatchBool result
+        ((left : ℕ) × (chair.new.me ≡ solo (granted_to agent entry
+        (with_sweep (record (port_of chair.old.me).sweep { left = left }) (port_of chair.old.me)))))
+        (chair.new.me ≡ solo (with_sweep (record (port_of chair.old.me).sweep { left = 0 }) (port_of chair.old.me))) }
 {
     for place in 8 * ty..8 * ty + 8 {
         if is_set(word, place) && settle_one(board, chair, agent, place, entry) {
@@ -74,10 +87,15 @@ fn settle_first(
     entry: usize,
 ) -> Option<usize>
     requires table { (chair.old.table_id ≡ board.now.table_id) × (board.now.table_id.words ≡ 44) }
-    requires view { (chair.old.me ≡ solo (port_of chair.old.me)) × ((port_of chair.old.me).duty ≡ None) × (has entry (port_of chair.old.me) ≡ 1) }
-    requires range { (ty < 4) × (agents ≡ (port_of chair.old.me).shape.agents) × (0 < agents) × (agents ≤ 8) × (entry < 256) × IsOf (port_of chair.old.me).shape ty entry }
+    requires view { (chair.old.me ≡ solo (port_of chair.old.me)) × ((port_of chair.old.me).duty ≡ None)
+        × (has entry (port_of chair.old.me) ≡ 1) }
+    requires range { (ty < 4) × (agents ≡ (port_of chair.old.me).shape.agents) × (0 < agents)
+        × (agents ≤ 8) × (entry < 256) × IsOf (port_of chair.old.me).shape ty entry }
     ensures table { chair.new.table_id ≡ chair.old.table_id }
-    ensures view { MatchOption result (chair.new.me ≡ solo (freed_entry entry (swept_all ty (port_of chair.old.me)))) (λ m. (m < agents) × ((left : ℕ) × (chair.new.me ≡ solo (granted_to m entry (stands_at ty m left (port_of chair.old.me)))))) }
+    ensures view { MatchOption result
+        (chair.new.me ≡ solo (freed_entry entry (swept_all ty (port_of chair.old.me))))
+        (λ m. (m < agents) × ((left : ℕ)
+        × (chair.new.me ≡ solo (granted_to m entry (stands_at ty m left (port_of chair.old.me)))))) }
 {
     for agent in 0..agents {
         let word = sweep_step(board, chair, ty, agent);
@@ -98,8 +116,10 @@ pub(crate) fn release_entry(
     entry: usize,
 ) -> Released
     requires table { (chair.old.table_id ≡ board.now.table_id) × (board.now.table_id.words ≡ 44) }
-    requires view { (chair.old.me ≡ solo (port_of chair.old.me)) × ((port_of chair.old.me).duty ≡ None) × (has entry (port_of chair.old.me) ≡ 1) }
-    requires range { (ty < 4) × (agents ≡ (port_of chair.old.me).shape.agents) × (0 < agents) × (agents ≤ 8) × (entry < 256) × IsOf (port_of chair.old.me).shape ty entry }
+    requires view { (chair.old.me ≡ solo (port_of chair.old.me)) × ((port_of chair.old.me).duty ≡ None)
+        × (has entry (port_of chair.old.me) ≡ 1) }
+    requires range { (ty < 4) × (agents ≡ (port_of chair.old.me).shape.agents) × (0 < agents)
+        × (agents ≤ 8) × (entry < 256) × IsOf (port_of chair.old.me).shape ty entry }
     ensures table { chair.new.table_id ≡ chair.old.table_id }
     ensures alone { chair.new.me ≡ solo (port_of chair.new.me) }
     ensures view { Ended (port_of chair.old.me) ty entry result (port_of chair.new.me) }
@@ -117,7 +137,9 @@ pub(crate) fn look_owed(board: &Board, chair: &mut Chair, ty: usize, agents: usi
     requires view { chair.old.me ≡ solo (port_of chair.old.me) }
     requires range { (ty < 4) × (agents ≡ (port_of chair.old.me).shape.agents) × (0 < agents) × (agents ≤ 8) }
     ensures table { chair.new.table_id ≡ chair.old.table_id }
-    ensures view { MatchBool result ((x : PortView) × (chair.new.me ≡ solo x) × ShowsOwed ty (port_of chair.old.me) x) (chair.new.me ≡ solo (swept_all ty (port_of chair.old.me))) }
+    ensures view { MatchBool result
+        ((x : PortView) × (chair.new.me ≡ solo x) × ShowsOwed ty (port_of chair.old.me) x)
+        (chair.new.me ≡ solo (swept_all ty (port_of chair.old.me))) }
 {
     for agent in 0..agents {
         let shown = sweep_step(board, chair, ty, agent);
@@ -140,8 +162,10 @@ pub(crate) fn tend_type(
 ) -> Option<Released>
     requires table { (chair.old.table_id ≡ board.now.table_id) × (board.now.table_id.words ≡ 44) }
     requires view { (chair.old.me ≡ solo (port_of chair.old.me)) × ((port_of chair.old.me).duty ≡ None) }
-    requires agents { (ty < 4) × (agents ≡ (port_of chair.old.me).shape.agents) × (0 < agents) × (agents ≤ 8) }
-    requires range { (first ≡ low (port_of chair.old.me).shape ty) × (count ≡ size (port_of chair.old.me).shape ty) × (0 < count) × (first + count ≤ 256) }
+    requires agents { (ty < 4) × (agents ≡ (port_of chair.old.me).shape.agents) × (0 < agents)
+        × (agents ≤ 8) }
+    requires range { (first ≡ low (port_of chair.old.me).shape ty)
+        × (count ≡ size (port_of chair.old.me).shape ty) × (0 < count) × (first + count ≤ 256) }
     ensures table { chair.new.table_id ≡ chair.old.table_id }
     ensures alone { chair.new.me ≡ solo (port_of chair.new.me) }
     ensures view { Tended (port_of chair.old.me) ty result (port_of chair.new.me) }

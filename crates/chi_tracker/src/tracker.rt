@@ -56,7 +56,8 @@ impl<A: Allocator> Tracker<A> {
         requires agents { (0 < agents) × (agents ≤ 8) }
         requires entries { low (shape_of entries agents) 4 ≤ 256 }
         ensures shape { IfOk result (λ made. made.0.shape ≡ shape_of entries agents) }
-        ensures ports { IfOk result (λ made. made.1.items ≡ new_owners made.0.table (shape_of entries agents)) }
+        ensures ports { IfOk result
+            (λ made. made.1.items ≡ new_owners made.0.table (shape_of entries agents)) }
         ensures own { IfOk result (λ made. All (IsOwnerAt made.0) made.1.items) }
         ensures all { IfOk result (λ made. length made.1.items ≡ agents) }
     {
@@ -71,7 +72,8 @@ impl<A: Allocator> Tracker<A> {
     #[tactic(auto, using(crate::proofs::Dealing::dealt_own, crate::proofs::Dealing::dealt_all))]
     fn deal(&self, mut chair: Chair) -> ArrayVec<Port, 8>
         requires { (chair.table_id ≡ self.now.table) × (chair.me ≡ (all_new self.now.shape, [])) }
-        ensures ports { result.items ≡ owners self.now.table (new_ports self.now.shape 0 self.now.shape.agents) }
+        ensures ports { result.items
+            ≡ owners self.now.table (new_ports self.now.shape 0 self.now.shape.agents) }
         ensures own { All (λ p. (p.table ≡ self.now.table) × (p.port.shape ≡ self.now.shape)) result.items }
         ensures all { length result.items ≡ self.now.shape.agents }
     {
@@ -79,7 +81,7 @@ impl<A: Allocator> Tracker<A> {
         let mut ports = ArrayVec::new();
         for number in 0..shape.agents {
             let own = board.split_seat::<Deal>(&mut chair);
-            ports.push(Port::seated(own, number, shape));
+            ports.push(Port::on_chair(own, number, shape));
         }
         ports
     }

@@ -67,7 +67,8 @@ fn type_of(number: usize) -> CreditType {
 
 /// Pairs of claim and release of each port, in threads of their own.
 fn pairs_of_all<R: Threads + Sync>(rt: &R, tracker: &Tracker<Global>, ports: &mut [Port])
-    requires { All (λ p. (p.table ≡ tracker.now.table) × ((t : ℕ) → t < 4 → 0 < size p.port.shape t)) ports.old }
+    requires { All (λ p. (p.table ≡ tracker.now.table)
+        × ((t : ℕ) → t < 4 → 0 < size p.port.shape t)) ports.old }
 {
     thread::for_each_mut(
         rt,

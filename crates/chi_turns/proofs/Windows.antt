@@ -8,14 +8,14 @@ use Rattle.std.proofs.lemmas.List.{append-nil, length-map, length-set, map-appen
 use Rattle.std.proofs.lemmas.List.Edits.{remove-append_left}
 use Rattle.chi_flit.specs.declared.operation.Operation.{Operation}
 use Rattle.chi_turns.specs.declared.operations.Unfinished.{Unfinished}
-use Rattle.chi_turns.specs.Operations.{issued, no_operation, unfinished_at, unfinished_of, unissued, window, IsFilled}
+use Rattle.chi_turns.specs.Operations.{issued_operation, no_operation, unfinished_at, unfinished_of, unissued_operation, window, IsFilled}
 
 -- what stands behind the window
 abbrev pub behind : List Operation → ℕ → List Unfinished
-behind script next = map unissued (drop next script)
+behind script next = map unissued_operation (drop next script)
 
 pub behind_length : (script : List Operation) (next : ℕ) → length (behind script next) ≡ length script - next
-behind_length script next = length-map (drop next script) unissued ∙ length-drop next script
+behind_length script next = length-map (drop next script) unissued_operation ∙ length-drop next script
 
 -- nothing does where the script is at its end
 pub behind_none : (script : List Operation) (next : ℕ) → length script ≤ next → behind script next ≡ []
@@ -53,48 +53,48 @@ none_left (w ∷ ws) now script next b f same is =
 -- an operation of the window is marked in its place
 pub issued_there : (ws slots now : List Unfinished) (script : List Operation) (next p : ℕ) (d : Unfinished) → IsFilled ws script next
     → unfinished_of ws script next ≡ now → slots ≡ ws → p < 8 → p < length now
-    → unfinished_of (refill (length ws) ws (slice_set slots p (issued (get_or slots p d)))) script next
-    ≡ slice_set now p (issued (unfinished_at now p))
+    → unfinished_of (refill (length ws) ws (slice_set slots p (issued_operation (get_or slots p d)))) script next
+    ≡ slice_set now p (issued_operation (unfinished_at now p))
 issued_there ws slots now script next p d f same is l there =
-    subst (λ xs. unfinished_of (refill (length ws) ws (slice_set xs p (issued (get_or xs p d)))) script next ≡ slice_set now p (issued (unfinished_at now p))) (sym is)
-    (subst (λ xs. unfinished_of (refill (length ws) ws (slice_set ws p new)) script next ≡ slice_set xs p (issued (unfinished_at xs p))) same
+    subst (λ xs. unfinished_of (refill (length ws) ws (slice_set xs p (issued_operation (get_or xs p d)))) script next ≡ slice_set now p (issued_operation (unfinished_at now p))) (sym is)
+    (subst (λ xs. unfinished_of (refill (length ws) ws (slice_set ws p new)) script next ≡ slice_set xs p (issued_operation (unfinished_at xs p))) same
     (set_there (place_in ws script next p f l (subst (λ xs. p < length xs) (sym same) there))))
   where
     new : Unfinished
-    new = issued (get_or ws p d)
+    new = issued_operation (get_or ws p d)
 
     kept : refill (length ws) ws (slice_set ws p new) ≡ slice_set ws p new
     kept = subst (λ n. take n (slice_set ws p new ++ drop (length (slice_set ws p new)) ws) ≡ slice_set ws p new) (length-set ws p new) (take-append_seam (slice_set ws p new) (drop (length (slice_set ws p new)) ws))
 
-    set_there : p < length ws → unfinished_of (refill (length ws) ws (slice_set ws p new)) script next ≡ slice_set (unfinished_of ws script next) p (issued (unfinished_at (unfinished_of ws script next) p))
+    set_there : p < length ws → unfinished_of (refill (length ws) ws (slice_set ws p new)) script next ≡ slice_set (unfinished_of ws script next) p (issued_operation (unfinished_at (unfinished_of ws script next) p))
     set_there lt =
         ap (λ xs. xs ++ behind script next) kept
         ∙ sym (set-append_left ws (behind script next) p new lt)
-        ∙ ap (λ one. slice_set (unfinished_of ws script next) p (issued one)) (get_or_default ws p d no_operation lt ∙ sym (get_or_append_left ws (behind script next) no_operation p lt))
+        ∙ ap (λ one. slice_set (unfinished_of ws script next) p (issued_operation one)) (get_or_default ws p d no_operation lt ∙ sym (get_or_append_left ws (behind script next) no_operation p lt))
 
 -- an operation of the window is taken out, and the next of the script comes in
 pub finished_refilled : (ws left now : List Unfinished) (script : List Operation) (next p : ℕ) (one : Operation) → IsFilled ws script next
     → unfinished_of ws script next ≡ now → p < length ws → next < length script → one ≡ get_or script next one → left ≡ remove ws p
-    → unfinished_of (left ++ unissued one ∷ []) script (next + 1) ≡ remove now p
+    → unfinished_of (left ++ unissued_operation one ∷ []) script (next + 1) ≡ remove now p
 finished_refilled ws left now script next p one f same lt more is at =
-    ap (λ xs. unfinished_of (xs ++ unissued one ∷ []) script (next + 1)) at
-    ∙ append_assoc (remove ws p) (unissued one ∷ []) (behind script (next + 1))
+    ap (λ xs. unfinished_of (xs ++ unissued_operation one ∷ []) script (next + 1)) at
+    ∙ append_assoc (remove ws p) (unissued_operation one ∷ []) (behind script (next + 1))
     ∙ ap (λ xs. remove ws p ++ xs) (sym comes)
     ∙ sym (remove-append_left ws (behind script next) p lt)
     ∙ ap (λ xs. remove xs p) same
   where
-    comes : behind script next ≡ unissued one ∷ behind script (next + 1)
-    comes = ap (map unissued) (drop-cons script next one more)
-        ∙ ap (λ x. unissued x ∷ behind script (suc next)) (sym is)
-        ∙ ap (λ n. unissued one ∷ behind script n) (sym (add-one next))
+    comes : behind script next ≡ unissued_operation one ∷ behind script (next + 1)
+    comes = ap (map unissued_operation) (drop-cons script next one more)
+        ∙ ap (λ x. unissued_operation x ∷ behind script (suc next)) (sym is)
+        ∙ ap (λ n. unissued_operation one ∷ behind script n) (sym (add-one next))
 
 -- the next of a script comes in behind those before it
 pub grown : (script : List Operation) (n : ℕ) (one : Operation) → n < length script → one ≡ get_or script n one
-    → map unissued (take n script) ++ unissued one ∷ [] ≡ map unissued (take (n + 1) script)
+    → map unissued_operation (take n script) ++ unissued_operation one ∷ [] ≡ map unissued_operation (take (n + 1) script)
 grown script n one l is =
-    ap (λ x. map unissued (take n script) ++ unissued x ∷ []) is
-    ∙ sym (map-append unissued (take n script) (get_or script n one ∷ []))
-    ∙ ap (map unissued) (sym (take-suc script n one l) ∙ ap (λ k. take k script) (sym (add-one n)))
+    ap (λ x. map unissued_operation (take n script) ++ unissued_operation x ∷ []) is
+    ∙ sym (map-append unissued_operation (take n script) (get_or script n one ∷ []))
+    ∙ ap (map unissued_operation) (sym (take-suc script n one l) ∙ ap (λ k. take k script) (sym (add-one n)))
 
-pub all_there : (script : List Operation) (n : ℕ) → unfinished_of (map unissued (take n script)) script n ≡ map unissued script
-all_there script n = sym (map-append unissued (take n script) (drop n script)) ∙ ap (map unissued) (take-append-drop n script)
+pub all_there : (script : List Operation) (n : ℕ) → unfinished_of (map unissued_operation (take n script)) script n ≡ map unissued_operation script
+all_there script n = sym (map-append unissued_operation (take n script) (drop n script)) ∙ ap (map unissued_operation) (take-append-drop n script)

@@ -6,16 +6,16 @@ use Rattle.chi_turns.specs.declared.operations.Unfinished.{Unfinished}
 use Rattle.chi_turns.specs.declared.operations.Place.{Place}
 
 -- an operation of the script, before its request is issued
-abbrev pub unissued : Operation → Unfinished
-unissued operation = record { operation = operation; issued = false }
+abbrev pub unissued_operation : Operation → Unfinished
+unissued_operation operation = record { operation = operation; issued = false }
 
 -- its request was issued
-abbrev pub issued : Unfinished → Unfinished
-issued one = record one { issued = true }
+abbrev pub issued_operation : Unfinished → Unfinished
+issued_operation one = record one { issued = true }
 
 -- what stands past the end of a script
 abbrev pub no_operation : Unfinished
-no_operation = unissued (record { line = record { 0 = 0 }; task = Drop })
+no_operation = unissued_operation (record { line = record { 0 = 0 }; task = Drop })
 
 -- the unfinished operation at a place
 abbrev pub unfinished_at : List Unfinished → ℕ → Unfinished
@@ -50,7 +50,7 @@ eligible_on ops l = option_map (λ p. record { 0 = p }) (position (is_on l) (win
 
 -- the unfinished operations, where those from `next` on of the script stand behind the window
 abbrev pub unfinished_of : List Unfinished → List Operation → ℕ → List Unfinished
-unfinished_of window script next = window ++ map unissued (drop next script)
+unfinished_of window script next = window ++ map unissued_operation (drop next script)
 
 -- the window has no more than eight, and fewer only where nothing stands behind it
 pub record IsFilled (window : List Unfinished) (script : List Operation) (next : ℕ) : Type 0 where

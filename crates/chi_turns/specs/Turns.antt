@@ -24,7 +24,7 @@ use Rattle.chi_turns.specs.declared.choice.Choice.TheVariants.{Finish, Try, Do}
 use Rattle.chi_turns.specs.declared.operations.Place.{Place}
 use Rattle.chi_turns.specs.declared.player.Player.{Player}
 use Rattle.chi_turns.specs.Choice.{choice, line_of}
-use Rattle.chi_turns.specs.Operations.{issued, unfinished_at}
+use Rattle.chi_turns.specs.Operations.{issued_operation, unfinished_at}
 
 -- an action of a requester
 abbrev pub action_of : RequesterState → Line → Step → Action
@@ -65,16 +65,16 @@ ChoiceTried (Try place step) s s' l r r' answer = StepTried s s' (action_of r l 
 ChoiceTried (Do call) s s' l r r' answer = CallTried call s s' l r r' answer
 
 -- one more, but no more than a word of 64 bits holds
-abbrev pub counted : ℕ → ℕ
-counted n = min (n + 1) (2 ^ 64 - 1)
+abbrev pub count_after : ℕ → ℕ
+count_after n = min (n + 1) (2 ^ 64 - 1)
 
 -- the operation at the place is finished, and the others stay
-abbrev pub finished : {A : Type 0} → Place → Player A → Player A
-finished place p = record p { operations = remove p.operations place.0 }
+abbrev pub player_without : {A : Type 0} → Place → Player A → Player A
+player_without place p = record p { operations = remove p.operations place.0 }
 
 -- the request of the operation at the place was issued
-abbrev pub marked : {A : Type 0} → Place → Player A → Player A
-marked place p = record p { operations = slice_set p.operations place.0 (issued (unfinished_at p.operations place.0)) }
+abbrev pub player_with_issue : {A : Type 0} → Place → Player A → Player A
+player_with_issue place p = record p { operations = slice_set p.operations place.0 (issued_operation (unfinished_at p.operations place.0)) }
 
 -- an issue: that of a copy-back or an Evict is marked, and the operation of another kind is still to be tried
 abbrev pub after_issue : {A : Type 0} → Kind → Place → Player A → Player A
@@ -82,16 +82,16 @@ after_issue kinds.ReadNotSharedDirty place p = p
 after_issue kinds.ReadShared place p = p
 after_issue kinds.ReadUnique place p = p
 after_issue kinds.CleanUnique place p = p
-after_issue kinds.Evict place p = marked place p
-after_issue kinds.WriteBackFull place p = marked place p
-after_issue kinds.WriteCleanFull place p = marked place p
-after_issue kinds.WriteEvictFull place p = marked place p
+after_issue kinds.Evict place p = player_with_issue place p
+after_issue kinds.WriteBackFull place p = player_with_issue place p
+after_issue kinds.WriteCleanFull place p = player_with_issue place p
+after_issue kinds.WriteEvictFull place p = player_with_issue place p
 
 -- a step of an operation that is done: a load, a store or a drop finishes it
 abbrev pub after_step : {A : Type 0} → Step → Place → Player A → Player A
-after_step (steps.Load word) place p = record (finished place p) { loads = counted p.loads }
-after_step (steps.Store word value) place p = record (finished place p) { stores = counted p.stores }
-after_step steps.Drop place p = finished place p
+after_step (steps.Load word) place p = record (player_without place p) { loads = count_after p.loads }
+after_step (steps.Store word value) place p = record (player_without place p) { stores = count_after p.stores }
+after_step steps.Drop place p = player_without place p
 after_step (steps.Issue kind slot) place p = after_issue kind place p
 after_step steps.Admit place p = p
 after_step steps.Retry place p = p
@@ -108,7 +108,7 @@ after_step steps.RecvDbid place p = p
 after_step steps.RecvWrData place p = p
 
 abbrev pub after_choice : {A : Type 0} → Choice → Player A → Player A
-after_choice (Finish place) p = finished place p
+after_choice (Finish place) p = player_without place p
 after_choice (Try place step) p = after_step step place p
 after_choice (Do call) p = p
 
@@ -128,9 +128,9 @@ after_refusal refusals.NotOpen p = record p { stopped = true; not_open = true }
 after_refusal refusals.NoCredit p = p
 
 -- what the script makes of the answer
-abbrev pub answered : {A : Type 0} → Option Refusal → Choice → Player A → Player A
-answered None choice p = after_choice choice p
-answered (Some refusal) choice p = after_refusal refusal p
+abbrev pub player_after_answer : {A : Type 0} → Option Refusal → Choice → Player A → Player A
+player_after_answer None choice p = after_choice choice p
+player_after_answer (Some refusal) choice p = after_refusal refusal p
 
 -- a turn that does nothing: all stays
 pub record Rests {A : Type 0} (s s' : SliceState) (p p' : Player A) (result : Bool) : Type 0 where
@@ -143,7 +143,7 @@ pub record Acts {A : Type 0} (choice : Choice) (s s' : SliceState) (l : Line) (p
   pub done : result ≡ true
   pub answer : Option Refusal
   pub tried : ChoiceTried choice s s' l p.requester p'.requester answer
-  pub script : p' ≡ answered answer choice (record p { requester = p'.requester })
+  pub script : p' ≡ player_after_answer answer choice (record p { requester = p'.requester })
 
 abbrev pub TurnsBy : {A : Type 0} → Option Choice → SliceState → SliceState → Line → Player A → Player A → Bool → Type 0
 TurnsBy None s s' l p p' result = Rests s s' p p' result

@@ -119,7 +119,7 @@ fn is_enabled<A: Allocator>(sight: &Sight<'_, A>, delivery: Delivery) -> bool
 }
 
 /// Of each delivery, in their order, whether it is enabled.
-fn asked<A: Allocator>(sight: &Sight<'_, A>) -> [bool; 10]
+fn delivery_marks<A: Allocator>(sight: &Sight<'_, A>) -> [bool; 10]
     ensures { result ≡ map (is_enabled sight.now.slice.now sight.now.agent.0 sight.now.line) deliveries }
 {
     // (each with a delivery that the compiler knows: so no question is a jump by a table)
@@ -139,7 +139,7 @@ fn asked<A: Allocator>(sight: &Sight<'_, A>) -> [bool; 10]
 
 /// The deliveries that are marked, in their order.
 #[tactic(auto, using(crate::proofs::Marked::marked_here, crate::proofs::Marked::unmarked_here))]
-fn marked(marks: [bool; 10]) -> ArrayVec<Delivery, 10>
+fn deliveries_of(marks: [bool; 10]) -> ArrayVec<Delivery, 10>
     ensures { (f : Kind → Bool) → marks ≡ map f deliveries → result.items ≡ filter f deliveries }
 {
     let all = deliveries();
@@ -169,10 +169,10 @@ pub(crate) fn delivery_at<A: Allocator>(sight: &Sight<'_, A>, number: u32) -> Op
     ensures is { result ≡ delivery sight.now.slice.now sight.now.agent.0 sight.now.line number }
     ensures own { IfSome result IsCall }
 {
-    let asked = asked(sight);
-    if asked == [false; 10] {
+    let marks = delivery_marks(sight);
+    if marks == [false; 10] {
         return None;
     }
-    let found = pick(&marked(asked), number)?;
+    let found = pick(&deliveries_of(marks), number)?;
     Some(Choice::Do(found.call()))
 }

@@ -1,7 +1,7 @@
 //! The unfinished operations of an agent's script.
 
 ghost use Rattle.std.specs.Prelude.{◌≡◌, ◌<◌, ◌↔◌, [], IsTrue, IfSome, IfNone, map, length, position, slice_set, remove};
-ghost use Rattle.chi_turns.specs.Operations.{eligible_on, is_on, issued, no_operation, unfinished_at, unissued, IsEligible, IsNoneEligible};
+ghost use Rattle.chi_turns.specs.Operations.{eligible_on, is_on, issued_operation, no_operation, unfinished_at, unissued_operation, IsEligible, IsNoneEligible};
 
 use arrayvec::ArrayVec;
 use chi_flit::{Line, Operation, Task};
@@ -24,7 +24,7 @@ pub struct Unfinished {
 impl Unfinished {
     // An operation of the script, before its request is issued.
     fn new(operation: Operation) -> Unfinished
-        ensures { result ≡ unissued operation }
+        ensures { result ≡ unissued_operation operation }
     {
         Unfinished {
             operation,
@@ -79,7 +79,7 @@ impl<A: Allocator> Operations<A> {
     /// All operations of a script, none of them issued. It takes no memory.
     /// Source: `docs/PROTOCOL.md`, "Storm files".
     pub fn new(script: Vec<Operation, A>) -> Operations<A>
-        ensures { result ≡ map unissued script.items }
+        ensures { result ≡ map unissued_operation script.items }
     {
         let next = script.len().min(8);
         let mut window = ArrayVec::new();
@@ -131,7 +131,7 @@ impl<A: Allocator> Operations<A> {
     pub fn issue(&mut self, place: Place)
         requires window { place.0 < 8 }
         requires there { place.0 < length self.old }
-        ensures { self.new ≡ slice_set self.old place.0 (issued (unfinished_at self.old place.0)) }
+        ensures { self.new ≡ slice_set self.old place.0 (issued_operation (unfinished_at self.old place.0)) }
     {
         self.window[place.0].issued = true;
     }

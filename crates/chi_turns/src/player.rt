@@ -5,7 +5,7 @@ ghost use Rattle.chi_node.specs.Agree.{KeepsAgreement};
 ghost use Rattle.chi_node.specs.Calls.{IsSameRequester, IsSameSlice};
 ghost use Rattle.chi_node.specs.Parts.{HasTypes};
 ghost use Rattle.chi_turns.specs.Choice.{IsInWindow, IsOwn};
-ghost use Rattle.chi_turns.specs.Turns.{after_issue, after_refusal, after_step, answered, counted, finished, AreIdle, HasEnded, IsFinished, TurnsTo};
+ghost use Rattle.chi_turns.specs.Turns.{after_issue, after_refusal, after_step, player_after_answer, count_after, player_without, AreIdle, HasEnded, IsFinished, TurnsTo};
 
 use crate::calls::perform;
 use crate::choice::{Choice, choose, line_of};
@@ -86,7 +86,7 @@ impl<A: Allocator> Player<A> {
     /// The operation at the place is finished.
     fn finish(&mut self, place: Place)
         requires { IsInWindow self.old.operations place }
-        ensures after { self.new ≡ finished place self.old }
+        ensures after { self.new ≡ player_without place self.old }
         ensures requester { self.new.requester ≡ self.old.requester }
     {
         self.operations.finish(place);
@@ -145,7 +145,7 @@ impl<A: Allocator> Player<A> {
     /// What the script makes of the answer to a choice.
     fn note(&mut self, choice: Choice, answer: Option<Refusal>)
         requires { IsOwn self.old.operations choice }
-        ensures after { self.new ≡ answered answer choice self.old }
+        ensures after { self.new ≡ player_after_answer answer choice self.old }
         ensures requester { self.new.requester ≡ self.old.requester }
     {
         match (answer, choice) {

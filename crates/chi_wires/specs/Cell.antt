@@ -34,10 +34,10 @@ with_message cells (messages.RspUp response) = record cells { rsp_up = Some resp
 with_message cells (messages.DatUp response) = record cells { dat_up = Some response }
 
 -- nothing is in flight on the channel
-abbrev pub emptied : Cells → Channel → Cells
-emptied cells channels.Req = record cells { req = None }
-emptied cells channels.Snp = record cells { snp = None }
-emptied cells channels.RspDown = record cells { rsp_down = None }
-emptied cells channels.DatDown = record cells { dat_down = None }
-emptied cells channels.RspUp = record cells { rsp_up = None }
-emptied cells channels.DatUp = record cells { dat_up = None }
+abbrev pub without_message : Cells → Channel → Cells
+without_message cells channels.Req = record cells { req = None }
+without_message cells channels.Snp = record cells { snp = None }
+without_message cells channels.RspDown = record cells { rsp_down = None }
+without_message cells channels.DatDown = record cells { dat_down = None }
+without_message cells channels.RspUp = record cells { rsp_up = None }
+without_message cells channels.DatUp = record cells { dat_up = None }

@@ -2,7 +2,7 @@
 
 ghost use Rattle.std.specs.Prelude.{◌≡◌};
 ghost use Rattle.chi_flit.specs.declared.message.Msg.TheVariants as messages;
-ghost use Rattle.chi_wires.specs.Cell.{no_flits, cell_of, with_message, emptied};
+ghost use Rattle.chi_wires.specs.Cell.{no_flits, cell_of, with_message, without_message};
 
 use chi_flit::{Channel, CompData, DatUp, Msg, Request, RspDown, RspUp, Snoop};
 
@@ -63,16 +63,9 @@ impl Cells {
         }
     }
 
-    /// The data of a read is in flight; all else stays.
-    pub(crate) fn put_data(&mut self, sent: CompData)
-        ensures { self.new ≡ with_message self.old (messages.DatDown sent) }
-    {
-        self.dat_down = Some(sent);
-    }
-
     /// Nothing is in flight on `channel`; all else stays.
     pub(crate) fn clear(&mut self, channel: Channel)
-        ensures { self.new ≡ emptied self.old channel }
+        ensures { self.new ≡ without_message self.old channel }
     {
         match channel {
             Channel::Req => self.req = None,
@@ -86,7 +79,7 @@ impl Cells {
 
     /// Nothing is in flight on `taken`, and then the message is on its channel.
     pub(crate) fn exchange(&mut self, taken: Channel, message: Msg)
-        ensures { self.new ≡ with_message (emptied self.old taken) message }
+        ensures { self.new ≡ with_message (without_message self.old taken) message }
     {
         self.clear(taken);
         self.put(message);

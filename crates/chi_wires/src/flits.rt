@@ -6,7 +6,7 @@ ghost use Rattle.std.specs.List.Sorted.{IsPermutation};
 ghost use Rattle.chi_flit.specs.Message.{channel_of};
 ghost use Rattle.chi_flit.specs.declared.message.Channel.{Channel};
 ghost use Rattle.chi_flit.specs.declared.message.Msg.TheVariants as messages;
-ghost use Rattle.chi_wires.specs.Cell.{cell_of, emptied, with_message};
+ghost use Rattle.chi_wires.specs.Cell.{cell_of, without_message, with_message};
 ghost use Rattle.chi_wires.specs.Flight.{cell_flit, flit, flit_of, in_flight, is_at, snoop_flits};
 ghost use Rattle.chi_wires.specs.Flits.{cells_at, with_snoops};
 
@@ -35,25 +35,11 @@ pub fn cells_of(flits: &[Cells; 8], agent: Agent) -> &Cells
 pub fn put(flits: &mut [Cells; 8], agent: Agent, message: Msg)
     requires agent { agent.0 < 8 }
     requires empty { cell_of (cells_at flits.old agent.0) (channel_of message) ≡ None }
-    ensures after { flits.new ≡ slice_set flits.old agent.0 (with_message (cells_at flits.old agent.0) message) }
+    ensures after { flits.new
+        ≡ slice_set flits.old agent.0 (with_message (cells_at flits.old agent.0) message) }
     ensures adds { IsPermutation (in_flight flits.new) (flit agent message ∷ in_flight flits.old) }
 {
     flits[usize::from(agent.0)].put(message);
-}
-
-/// Puts the data of a read on its channel, to the agent. All else stays.
-///
-/// Conditions: the agent's number is below 8, and the cell of that channel is empty.
-/// Source: `docs/PROTOCOL.md`, "Messages".
-#[tactic(auto, using(crate::proofs::Moved::put_adds))]
-pub fn put_data(flits: &mut [Cells; 8], agent: Agent, sent: CompData)
-    requires agent { agent.0 < 8 }
-    requires empty { (cells_at flits.old agent.0).dat_down ≡ None }
-    ensures after { flits.new
-        ≡ slice_set flits.old agent.0 (with_message (cells_at flits.old agent.0) (messages.DatDown sent)) }
-    ensures adds { IsPermutation (in_flight flits.new) (flit agent (messages.DatDown sent) ∷ in_flight flits.old) }
-{
-    flits[usize::from(agent.0)].put_data(sent);
 }
 
 /// Takes what is in flight on the channel, to or from the agent: its cell is empty then, and all else stays.
@@ -63,8 +49,10 @@ pub fn put_data(flits: &mut [Cells; 8], agent: Agent, sent: CompData)
 #[tactic(auto, using(crate::proofs::Moved::clear_removes))]
 pub fn clear(flits: &mut [Cells; 8], agent: Agent, channel: Channel)
     requires { agent.0 < 8 }
-    ensures after { flits.new ≡ slice_set flits.old agent.0 (emptied (cells_at flits.old agent.0) channel) }
-    ensures removes { IsPermutation (cell_flit flits.old agent channel ++ in_flight flits.new) (in_flight flits.old) }
+    ensures after { flits.new
+        ≡ slice_set flits.old agent.0 (without_message (cells_at flits.old agent.0) channel) }
+    ensures removes { IsPermutation (cell_flit flits.old agent channel ++ in_flight flits.new)
+        (in_flight flits.old) }
 {
     flits[usize::from(agent.0)].clear(channel);
 }
@@ -78,9 +66,10 @@ pub fn clear(flits: &mut [Cells; 8], agent: Agent, channel: Channel)
 #[tactic(auto, using(crate::proofs::Moved::exchange_swaps))]
 pub fn exchange(flits: &mut [Cells; 8], agent: Agent, taken: Channel, message: Msg)
     requires agent { agent.0 < 8 }
-    requires empty { cell_of (emptied (cells_at flits.old agent.0) taken) (channel_of message) ≡ None }
+    requires empty { cell_of (without_message (cells_at flits.old agent.0) taken) (channel_of message)
+        ≡ None }
     ensures after { flits.new
-        ≡ slice_set flits.old agent.0 (with_message (emptied (cells_at flits.old agent.0) taken) message) }
+        ≡ slice_set flits.old agent.0 (with_message (without_message (cells_at flits.old agent.0) taken) message) }
     ensures swaps { IsPermutation (cell_flit flits.old agent taken ++ in_flight flits.new)
         (flit agent message ∷ in_flight flits.old) }
 {

@@ -1,13 +1,13 @@
 use Rattle.std.proofs.Common.{◌≡◌, ◌+◌, ◌≤◌, length, map}
 use Rattle.chi_script.specs.Files.{lines_of}
-use Rattle.chi_check_script.specs.Checks.{seen}
+use Rattle.chi_check_script.specs.Checks.{line_of_check}
 use Rattle.chi_check_script.specs.Files.{checks_of}
 use Rattle.chi_check_script.proofs.CheckLoop.{with_front}
 use Rattle.chi_check_script.proofs.files.checks_from.Given as goal
 
 abbrev pub invariant-loop-line : goal.invariant-loop-line
 invariant-loop-line g l = record {
-  so_far : with_front (map seen l.checks.items) (checks_of l.number (lines_of l.rest)) ≡ checks_of l.first (lines_of l.bytes);
+  so_far : with_front (map line_of_check l.checks.items) (checks_of l.number (lines_of l.rest)) ≡ checks_of l.first (lines_of l.bytes);
   count : l.number + length l.rest ≤ l.first + length l.bytes;
 }
 

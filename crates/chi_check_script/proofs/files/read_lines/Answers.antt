@@ -2,7 +2,7 @@
 use Rattle.std.proofs.Common.{◌≡◌, false, true, map, sym, ◌∙◌, arith}
 use Rattle.std.proofs.lemmas.Result.{err_from_is_err_and}
 use Rattle.chi_script.specs.Files.{lines_of}
-use Rattle.chi_check_script.specs.Checks.{is_comment, seen}
+use Rattle.chi_check_script.specs.Checks.{is_comment, line_of_check}
 use Rattle.chi_check_script.specs.Files.{script_of}
 use Rattle.chi_check_script.proofs.HeaderLoop.{bad_checks, bad_header, good, is_done, is_open, passes}
 use Rattle.chi_check_script.proofs.files.read_lines.Goals as goal
@@ -22,7 +22,7 @@ returns-in_err-checks g c =
 pub returns-then-not-is_comment : goal.returns-then-not-is_comment
 returns-then-not-is_comment g c =
     let plain : is_comment c.in-Some.line.now ≡ false = sym c.is_comment.ensures ∙ c.if-not-is_comment.true in
-    good c.loop-line.number c.loop-line.rest.now c.in-Some.line.now c.in-Some.after.now c.in_ok-header.header (map seen c.in_ok-checks.checks.items) (script_of 1 (lines_of c.args.bytes.now)) c.in-Some.ensures.some plain c.in_ok-header.ensures.read c.in_ok-checks.ensures c.loop-line.invariant.so_far
+    good c.loop-line.number c.loop-line.rest.now c.in-Some.line.now c.in-Some.after.now c.in_ok-header.header (map line_of_check c.in_ok-checks.checks.items) (script_of 1 (lines_of c.args.bytes.now)) c.in-Some.ensures.some plain c.in_ok-header.ensures.read c.in_ok-checks.ensures c.loop-line.invariant.so_far
 
 pub loop-line-preserved : goal.loop-line-preserved
 loop-line-preserved g c =

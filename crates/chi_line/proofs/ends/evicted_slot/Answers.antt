@@ -5,4 +5,4 @@ use Rattle.chi_line.proofs.Sends.{evicted_slot_is}
 use Rattle.chi_line.proofs.ends.evicted_slot.Goals as goal
 
 pub returns-in-Idle : goal.returns-in-Idle
-returns-in-Idle c = c.evicted.ensures ∙ sym (evicted_slot_is c.args.home.now c.args.agent c.in_ok-request.request (sym c.waiting.ensures ∙ c.in_ok-request.was) (ap is_idle (sym c.serving.ensures ∙ c.in-Idle.is)))
+returns-in-Idle c = c.slot_of_evict.ensures ∙ sym (evicted_slot_is c.args.home.now c.args.agent c.in_ok-request.request (sym c.waiting.ensures ∙ c.in_ok-request.was) (ap is_idle (sym c.serving.ensures ∙ c.in-Idle.is)))

@@ -2,7 +2,7 @@
 use Rattle.std.proofs.Common.{◌≡◌, IfOk, rules}
 use Rattle.chi_flit.specs.Refusal.{refusal_of}
 use Rattle.chi_system.specs.System.{GivesBackIn, give_back_refusal}
-use Rattle.chi_text.specs.Told.{give_back_reply}
+use Rattle.chi_text.specs.NodeReplies.{give_back_reply}
 use Rattle.chi_text.proofs.Credited.{give_back_plays}
 use Rattle.chi_text.proofs.session.give_back.Goals as goal
 

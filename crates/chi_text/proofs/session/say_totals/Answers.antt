@@ -5,7 +5,7 @@ use Rattle.chi_config.specs.Config.{Sizes}
 use Rattle.chi_tracker.specs.declared.totals.Counts.{Counts}
 use Rattle.chi_reply.specs.Replies.{totals_text}
 use Rattle.chi_text.proofs.Turned.{AreFours, glance_says}
-use Rattle.chi_text.specs.Told.{totals_told}
+use Rattle.chi_text.specs.NodeReplies.{totals_told}
 use Rattle.chi_text.proofs.session.say_totals.Goals as goal
 
 pub returns : goal.returns

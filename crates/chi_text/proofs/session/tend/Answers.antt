@@ -2,7 +2,7 @@
 use Rattle.std.proofs.Common.{◌≡◌, IfOk, rules}
 use Rattle.chi_flit.specs.Refusal.{refusal_of}
 use Rattle.chi_system.specs.System.{TendsIn, tend_refusal}
-use Rattle.chi_text.specs.Told.{tend_reply}
+use Rattle.chi_text.specs.NodeReplies.{tend_reply}
 use Rattle.chi_text.proofs.Credited.{tend_plays}
 use Rattle.chi_text.proofs.session.tend.Goals as goal
 

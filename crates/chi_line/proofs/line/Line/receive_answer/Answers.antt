@@ -3,7 +3,7 @@ use Rattle.std.specs.Prelude.{is_some, true}
 use Rattle.std.proofs.Common.{◌≡◌, ◌++◌, Some, ap, set, rules}
 use Rattle.std.specs.List.Sorted.{IsPermutation}
 use Rattle.chi_filter.specs.Filter.{is_named}
-use Rattle.chi_wires.specs.Cell.{emptied}
+use Rattle.chi_wires.specs.Cell.{without_message}
 use Rattle.chi_wires.specs.Flight.{in_flight}
 use Rattle.chi_homeline.specs.Home.{snoop_answered_sends}
 use Rattle.chi_line.specs.LineState.{cells_of}
@@ -19,7 +19,7 @@ put_completion-requires-clause-empty c = λ some is.
     let answer = c.in_ok-answer.answer in
     let found : answer_in (cells_of s c.args.agent.0) ≡ Some answer = search rules in
     let named : is_named s.home.filter c.args.agent.0 ≡ true = c.requires.named (ap is_some found) in
-    let taken : c.clear.new.flits ≡ set s.flits c.args.agent.0 (emptied (cells_of s c.args.agent.0) (answer_channel answer)) = search rules in
+    let taken : c.clear.new.flits ≡ set s.flits c.args.agent.0 (without_message (cells_of s c.args.agent.0) (answer_channel answer)) = search rules in
     let sends : snoop_answered_sends s.home c.args.agent answer ≡ Some some = search rules in
     completion_finds_empty s c.args.agent answer c.clear.new.flits some taken sends c.requires.down
 

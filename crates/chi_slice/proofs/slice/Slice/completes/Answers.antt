@@ -11,7 +11,7 @@ use Rattle.chi_slice.proofs.slice.Slice.completes.Goals as goal
 pub returns-in-Some : goal.returns-in-Some
 returns-in-Some g c =
     let s : SliceState = slice_of c.self.inside.config c.self.inside.index c.self.inside.lines.items c.self.inside.journal in
-    let told : c.completed.result ≡ completed_at c.index.result.now.home (cells_of c.index.result.now c.args.action.agent.0) c.args.action.agent c.args.action.step = search (rules, c.completed.ensures) in
+    let told : c.completed_slot.result ≡ completed_at c.index.result.now.home (cells_of c.index.result.now c.args.action.agent.0) c.args.action.agent c.args.action.step = search (rules, c.completed_slot.ensures) in
     told
     ∙ (ap (λ (l : LineState). completed_at l.home (cells_of l c.args.action.agent.0) c.args.action.agent c.args.action.step)
     (line_now c.args.self.now s c.args.action.line.0 c.in-Some.row c.self.invariant.0 c.self.view_is

@@ -24,5 +24,5 @@ loop-number-preserved g c =
     record {
       table = cut.0 ∙ c.loop-number.invariant.table;
       left = dealt_left s n s.agents c.loop-number.chair.me c.split_seat-own.new.seat.me c.loop-number-test.true c.loop-number.invariant.left cut.2;
-      dealt = dealt_more c.args.self.now.table c.split_seat-own.result.table_id s n c.loop-number.ports.items c.push.new.self.items c.seated.result c.loop-number.invariant.dealt c.push.ensures.items c.seated.ensures (cut.3 ∙ c.loop-number.invariant.table);
+      dealt = dealt_more c.args.self.now.table c.split_seat-own.result.table_id s n c.loop-number.ports.items c.push.new.self.items c.on_chair.result c.loop-number.invariant.dealt c.push.ensures.items c.on_chair.ensures (cut.3 ∙ c.loop-number.invariant.table);
     }

@@ -1,7 +1,7 @@
 //! What is answered to each call of a node.
 
 ghost use Rattle.std.specs.Prelude.{◌≡◌};
-ghost use Rattle.chi_text.specs.Told.{arrival_reply, give_back_reply, step_reply, tend_reply, totals_told};
+ghost use Rattle.chi_text.specs.NodeReplies.{arrival_reply, give_back_reply, step_reply, tend_reply, totals_told};
 
 use chi_flit::{Effect, Profile, Refusal};
 use chi_node::{Arrived, Stepped};

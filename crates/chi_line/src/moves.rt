@@ -6,7 +6,7 @@ ghost use Rattle.chi_line.specs.declared.seen.Where.TheVariants.{Closing};
 ghost use Rattle.chi_line.specs.Step.{completed_effect, completed_slot, pending_slot, waiting_effect};
 ghost use Rattle.chi_homeline.specs.Home.{served_slot, waiting_of};
 
-use crate::ends::{evicted, served_slot};
+use crate::ends::{served_slot, slot_of_evict};
 use crate::line::Line;
 use crate::seen::Where;
 use crate::slots::pending_slot;
@@ -123,7 +123,7 @@ fn evicted_slot(home: &HomeLine, agent: Agent) -> Option<Slot>
     requires { agent.0 < 8 }
     ensures { result ≡ completed_slot (waiting_effect home.now agent (waiting_of home.now agent.0)) }
 {
-    evicted(home.waiting(agent)?)
+    slot_of_evict(home.waiting(agent)?)
 }
 
 /// The slot of the request that is served, and that the home is done with.

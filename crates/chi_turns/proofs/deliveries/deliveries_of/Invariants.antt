@@ -3,7 +3,7 @@ use Rattle.std.proofs.Common.{◌≡◌, ◌≤◌, Bool, length, map, take}
 use Rattle.std.specs.List.{filter}
 use Rattle.chi_turns.specs.declared.deliveries.Delivery.{Delivery as Kind}
 use Rattle.chi_turns.specs.Choice.{deliveries}
-use Rattle.chi_turns.proofs.deliveries.marked.Given as goal
+use Rattle.chi_turns.proofs.deliveries.deliveries_of.Given as goal
 
 abbrev pub invariant-loop-place : goal.invariant-loop-place
 invariant-loop-place l = record {

@@ -19,7 +19,7 @@ use Rattle.chi_flit.specs.declared.message.RspDown.{RspDown}
 use Rattle.chi_flit.specs.declared.message.RspDown.TheVariants.{RetryAck, CompUC, CompI, CompDBIDResp}
 use Rattle.chi_flit.specs.Kind.{snoop_of, is_copy_back}
 use Rattle.chi_flit.specs.Credit.{credit_type_of}
-use Rattle.chi_filter.specs.Filter.{has_any, removed}
+use Rattle.chi_filter.specs.Filter.{has_any, filter_without}
 use Rattle.chi_wires.specs.declared.cells.Cells.{Cells}
 use Rattle.chi_wires.specs.Cell.{no_flits, with_message}
 use Rattle.chi_rnline.specs.Rn.{Rn, no_line}
@@ -30,7 +30,7 @@ use Rattle.chi_homeline.specs.declared.serving.Serving.TheVariants.{Idle, Snoopi
 use Rattle.chi_homeline.specs.declared.serving.SnoopAnswer.{SnoopAnswer}
 use Rattle.chi_homeline.specs.declared.serving.Started.{Started}
 use Rattle.chi_homeline.specs.declared.serving.Started.TheVariants.{Sends, Evicted, Snoops}
-use Rattle.chi_homeline.specs.Home.{Home, acks_for, asks, acknowledged, admitted, completed, completion_of, served_kind, served_slot, started_as, started_sends_as, taken_up, waiting_of, writes_for, written}
+use Rattle.chi_homeline.specs.Home.{Home, acks_for, asks, home_after_ack, home_after_admit, home_after_completion, completion_of, served_kind, served_slot, started_as, started_sends_as, taken_up, waiting_of, writes_for, home_after_write}
 use Rattle.chi_line.specs.declared.act.Conditions.{Conditions}
 use Rattle.chi_line.specs.declared.seen.Where.{Where}
 use Rattle.chi_line.specs.declared.seen.Where.TheVariants as places
@@ -39,7 +39,7 @@ use Rattle.chi_line.specs.Kept.{Kept, LaneKept, is_comp_unique, is_retried, is_r
 use Rattle.chi_line.specs.Moves.{completed_to, if_moved, moved_slot, moved_to, requested_slot}
 use Rattle.chi_line.proofs.MoveLaw.{Moved, always_moves, completed_from, flit_at, issued_kind, moved_from}
 use Rattle.chi_line.specs.Types.{is_of_type}
-use Rattle.chi_line.specs.Step.{issued_slot, acknowledged_line, admitted_line, after_step, answer_in, answered_by, cancelled_line, completed_effect, completed_slot, completion_received, data_written, dbid_received_line, dropped_line, is_ack, is_comp, is_dbid, is_retry, is_slot, is_write_data, issued_line, line_uses, pending_slot, received_line, resent_line, retried_line, retry_received_line, sent, slot_served_for, snooped_line, started_effect, started_line, stored_line, waiting_effect, waiting_slot, where_some, written_line}
+use Rattle.chi_line.specs.Step.{issued_slot, acknowledged_line, admitted_line, after_step, answer_in, answered_by, cancelled_line, completed_effect, completed_slot, completion_received, data_written, dbid_received_line, dropped_line, is_ack, is_comp, is_dbid, is_retry, is_slot, is_write_data, issued_line, line_uses, pending_slot, received_line, resent_line, retried_line, retry_received_line, flits_after_start, slot_served_for, snooped_line, started_effect, started_line, stored_line, waiting_effect, waiting_slot, where_some, written_line}
 use Rattle.chi_line.specs.Places.{is_at_home, Seen, seen_of, where_in}
 use Rattle.chi_line.specs.Refused.{retry_refusal, step_refusal}
 use Rattle.chi_line.proofs.After.{IsRetried, IssueAllowed, cancel_allowed, dbid_there, flit_there, issue_allowed, names_used_slot, may_resend, retry_there}
@@ -133,7 +133,7 @@ admit_shows last s n (Some request) h here is =
     let t : Trail s.home.serving n (lane s n) true false false false false = requested_trail _ _ _ last n (lane s n) (ap is_some here) h.lane_kept in
     shows_by _ _ _ _ _ _
     (admit_seen (seen_of s n) request here (h.lane_kept.request_slot request here) t.phase (none_is (waiting_of s.home n) t.waiting))
-    (home_seen s n (admitted s.home n (record { kind = request.kind; slot = request.slot })) _ _ _ h.flits (get_or-set_same s.home.waiting n _ None h.waiting) refl)
+    (home_seen s n (home_after_admit s.home n (record { kind = request.kind; slot = request.slot })) _ _ _ h.flits (get_or-set_same s.home.waiting n _ None h.waiting) refl)
 
 -- Retry
 retry_shows : (profile : Profile) (last : List ℕ) (s : LineState) (n : ℕ) (there : Option Request) → Here last s n → (cells_of s n).req ≡ there → retry_refusal there ≡ None
@@ -247,7 +247,7 @@ ended_shows last s s' n h after served apart =
 ack_shows : (last : List ℕ) (s : LineState) (n : ℕ) → Here last s n → is_ack (cells_of s n).rsp_up ≡ true
     → Shows s (acknowledged_line s n) n (completed_slot (completed_effect (served_slot s.home.serving))) (Some places.Answered) None
 ack_shows last s n h is =
-    ended_shows last s (acknowledged_line s n) n h (home_seen s n (acknowledged s.home) _ _ _ h.flits refl refl)
+    ended_shows last s (acknowledged_line s n) n h (home_seen s n (home_after_ack s.home) _ _ _ h.flits refl refl)
     (acked_for s.home.serving n (acked_for_ack _ _ _ last n (lane s n) is h.lane_kept))
     (h.lane_kept.ack_apart is)
 
@@ -255,7 +255,7 @@ write_shows : (last : List ℕ) (s : LineState) (n : ℕ) (kind : Kind) (there :
     → Shows s (data_written s n kind there) n (completed_slot (completed_effect (served_slot s.home.serving))) (Some places.Answered) None
 write_shows last s n kind (Some (CopyBackWrData form words)) h here is =
     let data_there : is_write_data (cells_of s n).dat_up ≡ true = ap is_write_data here in
-    ended_shows last s (written_line s n kind form words) n h (home_seen s n (written s.home n kind form words) _ _ _ h.flits refl refl)
+    ended_shows last s (written_line s n kind form words) n h (home_seen s n (home_after_write s.home n kind form words) _ _ _ h.flits refl refl)
     (written_for s.home.serving n (write_awaited _ _ _ last n (lane s n) data_there h.lane_kept))
     (h.lane_kept.write_apart data_there)
 write_shows last s n kind there h here is = absurd (cc (is))
@@ -313,7 +313,7 @@ evicted_shows last s n request home h here idle stays gone =
 
 -- the line once a request is started as one of the kind
 abbrev started_with : LineState → Kind → Option Snoop → Agent → Slot → LineState
-started_with s kind o agent own = record s { home = started_as kind o (taken_up s.home agent.0) agent own; flits = sent s.flits agent.0 (started_sends_as kind o s.home agent own) }
+started_with s kind o agent own = record s { home = started_as kind o (taken_up s.home agent.0) agent own; flits = flits_after_start s.flits agent.0 (started_sends_as kind o s.home agent own) }
 
 start_waits : (s : LineState) (kind : Kind) (o : Option Snoop) (agent : Agent) (own : Slot) → agent.0 < length s.home.waiting → waiting_of (started_as kind o (taken_up s.home agent.0) agent own) agent.0 ≡ None
 start_waits s kind o agent own low =
@@ -337,13 +337,13 @@ start_snooped last s agent request snoop h here idle =
     home = taken_up s.home agent.0
 
     served : Bool → Home
-    served b = if b then record home { serving = Snooping agent request.kind request.slot; awaited = asks snoop home.filter agent.0 } else completed home snoop agent request.slot
+    served b = if b then record home { serving = Snooping agent request.kind request.slot; awaited = asks snoop home.filter agent.0 } else home_after_completion home snoop agent request.slot
 
     sends : Bool → Started
     sends b = if b then Snoops snoop (asks snoop s.home.filter agent.0) else Sends (completion_of s.home snoop agent s.home.memory)
 
     after : Bool → LineState
-    after b = record s { home = served b; flits = sent s.flits agent.0 (sends b) }
+    after b = record s { home = served b; flits = flits_after_start s.flits agent.0 (sends b) }
 
     go : (b : Bool) → waiting_of (served b) agent.0 ≡ None → (cells_of (after b) agent.0).req ≡ (cells_of s agent.0).req
         → Shows s (after b) agent.0 (completed_slot (started_effect (sends b))) (if_moved (completed_slot (started_effect (sends b))) places.Admitted) (if_moved (completed_slot (started_effect (sends b))) places.Closing)
@@ -374,13 +374,13 @@ start_unsnooped last s agent request h here idle =
     home = taken_up s.home agent.0
 
     served : Bool → Home
-    served b = if b then record home { serving = AwaitingWriteData agent request.kind request.slot } else record home { filter = removed home.filter agent.0 }
+    served b = if b then record home { serving = AwaitingWriteData agent request.kind request.slot } else record home { filter = filter_without home.filter agent.0 }
 
     sends : Bool → Started
     sends b = if b then Sends (messages.RspDown CompDBIDResp) else Evicted request.slot
 
     after : Bool → LineState
-    after b = record s { home = served b; flits = sent s.flits agent.0 (sends b) }
+    after b = record s { home = served b; flits = flits_after_start s.flits agent.0 (sends b) }
 
     go : (b : Bool) → waiting_of (served b) agent.0 ≡ None → (cells_of (after b) agent.0).req ≡ (cells_of s agent.0).req
         → Shows s (after b) agent.0 (completed_slot (started_effect (sends b))) (if_moved (completed_slot (started_effect (sends b))) places.Admitted) (if_moved (completed_slot (started_effect (sends b))) places.Closing)

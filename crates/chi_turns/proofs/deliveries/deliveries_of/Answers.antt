@@ -2,7 +2,7 @@
 use Rattle.std.proofs.Common.{◌≡◌, ℕ, ◌∙◌, take, ap, arith}
 use Rattle.std.specs.List.{filter}
 use Rattle.chi_turns.specs.Choice.{deliveries}
-use Rattle.chi_turns.proofs.deliveries.marked.Goals as goal
+use Rattle.chi_turns.proofs.deliveries.deliveries_of.Goals as goal
 
 pub returns : goal.returns
 returns c = λ f marks_are.
