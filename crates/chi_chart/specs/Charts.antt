@@ -1,12 +1,9 @@
 -- What the chart of a file writes (docs/PROTOCOL.md, "Charts" and "The program").
-use Rattle.std.specs.Prelude.{◌≡◌, ◌≢◌, ℕ, List, Option, Result, Ok, Err, IfSome, IsErrOf}
+use Rattle.std.specs.Prelude.{◌≡◌, ℕ, List, Option, Ok, IfSome}
 use Rattle.std.specs.Io.KnownBytes.{Appends}
 use Rattle.chi_devices.specs.Devices.{AppendsFront}
 use Rattle.chi_flit.specs.declared.numbers.Line.{Line}
 use Rattle.chi_script.specs.Headers.{node_sizes}
-use Rattle.chi_replay.specs.Replays.{NoText}
-use Rattle.chi_script.specs.declared.faults.Fault.{Fault}
-use Rattle.chi_script.specs.declared.faults.Fault.TheVariants.{Write}
 use Rattle.chi_script.specs.declared.headers.Header.{Header}
 use Rattle.chi_text.specs.Texts.{Allowed, opening_ports}
 use Rattle.chi_text.specs.Turns.{Answer, opening}
@@ -49,15 +46,3 @@ Draws only left old new = IfSome left (λ file. (bytes : List ℕ) × IsChartOf 
 -- a beginning of it was written
 abbrev pub Begins : Option Line → Option (List ℕ) → Option (List ℕ) → Option (List ℕ) → Type 0
 Begins only left old new = IfSome left (λ file. (bytes : List ℕ) × IsChartOf only file bytes × AppendsFront old new bytes)
-
--- what holds where writing failed
-abbrev pub OnWriteFault : {T : Type 0} → Result T Fault → Type 0 → Type 0
-OnWriteFault result holds = IsErrOf result Write → holds
-
--- a fault of no output comes of the file that an input had, of reading it, or of memory
-abbrev pub NoChart : Option (List ℕ) → ℕ → ℕ → Fault → Type 0
-NoChart left old new fault = fault ≢ Write → NoText check_file_of left old new fault
-
--- what holds of the first fault of the file that an input had
-abbrev pub IfFaulty : Option (List ℕ) → (Fault → Type 0) → Type 0
-IfFaulty left holds = IfSome left (λ file. (fault : Fault) → check_file_of file ≡ Err fault → holds fault)

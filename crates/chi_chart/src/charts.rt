@@ -1,14 +1,13 @@
 //! From the bytes of a file to the chart that is written.
 
-ghost use Rattle.std.specs.Prelude.{◌≡◌, ◌≢◌, ◌+◌, ◌^◌, ◌<◌, IfOk, IfErr, IfSome, OnOk, IsErrOf, map, true};
+ghost use Rattle.std.specs.Prelude.{◌≡◌, ◌≢◌, ◌+◌, ◌^◌, ◌<◌, IfOk, IfErr, IfSome, OnOk, map, true};
 ghost use Rattle.std.specs.Io.KnownBytes.{Keeps};
 ghost use Rattle.chi_script.specs.Faults.{Fails};
-ghost use Rattle.chi_script.specs.declared.faults.Fault.{Fault};
 ghost use Rattle.chi_script.specs.Headers.{is_in_limits};
-ghost use Rattle.chi_replay.specs.Replays.{NoText, Refuses};
+ghost use Rattle.chi_replay.specs.Replays.{AtWrite, KeepsAtFault, NoText, NoTextAt, RefusesFault};
 ghost use Rattle.chi_check_script.specs.Checks.{line_of_check};
 ghost use Rattle.chi_check_script.specs.Files.{check_file_of};
-ghost use Rattle.chi_chart.specs.Charts.{Begins, Draws, IfFaulty, IsChart, IsChartOf, IsLayout, NoChart, OnWriteFault};
+ghost use Rattle.chi_chart.specs.Charts.{Begins, Draws, IsChart, IsChartOf, IsLayout};
 ghost use Rattle.chi_chart.specs.Steps.{commands_in};
 
 use crate::frame::Layout;
@@ -108,15 +107,16 @@ pub fn chart<A: Allocator + Copy, I: Input, O: Output>(
     requires reads { I.failures input.old + 1 < 2 ^ 64 }
     requires writes { O.failures output.old + 1 < 2 ^ 64 }
     ensures ok { OnOk result (Draws only (I.left input.old) (O.written output.old) (O.written output.new)) }
-    ensures write { IsErrOf result Fault.Write → O.failures output.new ≡ O.failures output.old + 1 }
-    ensures front { OnWriteFault result
+    ensures write { AtWrite result (O.failures output.new ≡ O.failures output.old + 1) }
+    ensures front { AtWrite result
         (Begins only (I.left input.old) (O.written output.old) (O.written output.new)) }
-    ensures err { IfErr result (NoChart (I.left input.old) (I.failures input.old) (I.failures input.new)) }
+    ensures err { NoTextAt result check_file_of (I.left input.old) (I.failures input.old)
+        (I.failures input.new) }
     ensures kept { IfErr result
         (λ fault. fault ≢ Fault.Write → Keeps (O.written output.old) (O.written output.new)) }
-    ensures faulty { IfFaulty (I.left input.old) (λ fault. Refuses fault result) }
-    ensures unwritten { IfFaulty (I.left input.old)
-        (λ _. Keeps (O.written output.old) (O.written output.new)) }
+    ensures faulty { RefusesFault check_file_of (I.left input.old) result }
+    ensures silent { KeepsAtFault check_file_of (I.left input.old) (O.written output.old)
+        (O.written output.new) }
 {
     let text = chart_of_input(alloc, input, only)?;
     match output.write_all(&text) {

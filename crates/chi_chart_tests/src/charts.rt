@@ -1,6 +1,6 @@
 //! What is drawn of a file: its commands, flits, states and words.
 
-use crate::told::same;
+use crate::comparison::same;
 use chi_chart::chart;
 use chi_devices::{MemoryInput, MemoryOutput};
 use chi_flit::Line;

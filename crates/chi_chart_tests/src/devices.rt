@@ -1,6 +1,6 @@
 //! Charts from inputs and to outputs that fail, of faulty files, and with too little memory.
 
-use crate::told::same;
+use crate::comparison::same;
 use chi_chart::chart;
 use chi_devices::{MemoryInput, MemoryOutput};
 use chi_script::Fault;

@@ -7,6 +7,6 @@
 #[cfg(test)]
 mod charts;
 #[cfg(test)]
-mod devices;
+mod comparison;
 #[cfg(test)]
-mod told;
+mod devices;

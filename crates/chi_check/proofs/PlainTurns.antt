@@ -1,5 +1,6 @@
 -- Whatever a turn is answered, no line that it says has a line end in it.
 use Rattle.std.proofs.Common.{ℕ, Bool, true, false, List, [], ◌∷◌, Option, Some, None, refl}
+use Rattle.std.specs.Option.{option_or}
 use Rattle.chi_flit.specs.declared.action.Action.{Action}
 use Rattle.chi_flit.specs.declared.action.Effect.{Effect}
 use Rattle.chi_flit.specs.declared.action.Effect.TheVariants as effects
@@ -14,7 +15,6 @@ use Rattle.chi_credit.specs.declared.slot.SlotState.{SlotState}
 use Rattle.chi_credit.specs.declared.slot.SlotState.TheVariants as states
 use Rattle.chi_credit.specs.Account.{state_at}
 use Rattle.chi_line.specs.LineState.{cells_of}
-use Rattle.chi_line.specs.Refused.{first_of}
 use Rattle.chi_line.specs.Step.{effect_of}
 use Rattle.chi_line.specs.View.{line_view as shown_line}
 use Rattle.chi_node.specs.Calls.{arrival_refusal, is_own_step}
@@ -93,7 +93,7 @@ when_given m agent ty other = empty
 
 of_give_back : (m : Machine) (agent : Agent) (credit : Option CreditType) → SaysPlain (give_back m agent credit)
 of_give_back m agent None = reply (replies.Refused OutOfRange)
-of_give_back m agent (Some ty) = refused_or (first_of (type_refusal m agent ty) (cancelled_refusal (slots_of m agent) (credits_of m agent) ty)) m (Asks (GiveBack agent ty) (given_back m agent ty)) (when_given m agent ty)
+of_give_back m agent (Some ty) = refused_or (option_or (type_refusal m agent ty) (cancelled_refusal (slots_of m agent) (credits_of m agent) ty)) m (Asks (GiveBack agent ty) (given_back m agent ty)) (when_given m agent ty)
 
 when_tended : (m : Machine) (answer : Answer) → SaysPlain (turn_after_tend m answer)
 when_tended m (Tended None) = reply replies.Idle

@@ -1,11 +1,12 @@
 -- A check file is read from lines that are its comments, its header and its checks, and from those alone.
 use Rattle.std.proofs.Common.{◌≡◌, ◌⊎◌, inl, inr, ℕ, ◌+◌, ◌<◌, ◌≤◌, ◌==◌, nat_lt, Bool, true, false, cond, List, [], ◌∷◌, ◌++◌, length, take, Option, Some, None, Result, Ok, Err, refl, sym, ap, subst, ◌∙◌, arith}
+use Rattle.std.specs.Prelude.{ok_or}
 use Rattle.std.proofs.lemmas.Bool.Decides.{nat_tests}
 use Rattle.std.proofs.lemmas.List.{take_all, length-take}
 use Rattle.chi_script.specs.declared.faults.Fault.{Fault}
 use Rattle.chi_script.specs.declared.faults.Fault.TheVariants.{BadHeader, BadCommand, MissingNewline, TooLarge}
 use Rattle.chi_script.specs.declared.headers.Header.{Header}
-use Rattle.chi_script.specs.Files.{◌>>=◌, or_fault, header_at, lines_of}
+use Rattle.chi_script.specs.Files.{◌>>=◌, header_at, lines_of}
 use Rattle.chi_script.specs.Headers.{header_of}
 use Rattle.chi_script.specs.Spelling.{IsHeaderLine}
 use Rattle.chi_script.specs.Words.{words_of}
@@ -20,7 +21,7 @@ pub bound : {A B : Type 0} (step : Result A Fault) (next : A → Result B Fault)
 bound (Ok x) next y e = (x, refl, e)
 bound (Err fault) next y e = cc
 
-pub taken : {A : Type 0} (o : Option A) (fault : Fault) (x : A) → or_fault o fault ≡ Ok x → o ≡ Some x
+pub taken : {A : Type 0} (o : Option A) (fault : Fault) (x : A) → ok_or o fault ≡ Ok x → o ≡ Some x
 taken None fault x e = cc
 taken (Some y) fault x e = let same : y ≡ x = cc in ap Some same
 

@@ -1,15 +1,15 @@
 -- A check file is a header and commands with comments between them, or faulty: then its first faulty line
 -- is told (docs/PROTOCOL.md, "Check files").
-use Rattle.std.specs.Prelude.{ℕ, ◌+◌, ◌==◌, nat_lt, List, [], ◌∷◌, ◌++◌, Result, Ok, Err, length, if◌then◌else◌}
+use Rattle.std.specs.Prelude.{ℕ, ◌+◌, ◌==◌, nat_lt, List, [], ◌∷◌, ◌++◌, Result, Ok, Err, length, if◌then◌else◌, ok_or}
 use Rattle.chi_script.specs.declared.headers.Header.{Header}
 use Rattle.chi_script.specs.declared.faults.Fault.{Fault}
 use Rattle.chi_script.specs.declared.faults.Fault.TheVariants.{BadHeader, BadCommand, MissingNewline, TooLarge}
-use Rattle.chi_script.specs.Files.{◌>>=◌, or_fault, lines_of, header_at}
+use Rattle.chi_script.specs.Files.{◌>>=◌, lines_of, header_at}
 use Rattle.chi_check_script.specs.Checks.{CheckLine, check_of, is_comment}
 
 -- the check that line n is
 abbrev pub check_at : ℕ → List ℕ → Result CheckLine Fault
-check_at n line = or_fault (check_of n line) (BadCommand n)
+check_at n line = ok_or (check_of n line) (BadCommand n)
 
 -- the same as a list, which has none where the line is a comment
 abbrev pub checks_at : ℕ → List ℕ → Result (List CheckLine) Fault

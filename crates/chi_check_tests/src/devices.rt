@@ -1,6 +1,6 @@
 //! Checks from inputs and to outputs that fail, of faulty files, and with too little memory.
 
-use crate::told::same;
+use crate::comparison::same;
 use bumpalo::Bump;
 use chi_check::check;
 use chi_devices::{MemoryInput, MemoryOutput};

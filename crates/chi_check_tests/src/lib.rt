@@ -5,10 +5,10 @@
 #![tactic(auto)]
 
 #[cfg(test)]
+mod comparison;
+#[cfg(test)]
 mod devices;
 #[cfg(test)]
 mod reports;
 #[cfg(test)]
 mod scripts;
-#[cfg(test)]
-mod told;

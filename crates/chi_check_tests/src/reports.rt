@@ -1,6 +1,6 @@
 //! What is written of the answers of check files.
 
-use crate::told::same;
+use crate::comparison::same;
 use chi_check::{answers_are_lines, check};
 use chi_devices::{MemoryInput, MemoryOutput};
 use std::process::Abort;

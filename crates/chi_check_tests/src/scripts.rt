@@ -1,6 +1,6 @@
 //! Check files, good and faulty.
 
-use crate::told::same;
+use crate::comparison::same;
 use chi_check_script::{
     Check, check_files_are_lines, checks_are_lines, front_is_enough, read_checks,
     replays_are_check_files,

@@ -10,76 +10,38 @@ use Rattle.chi_credit.specs.declared.slot.SlotRecord.{SlotRecord}
 
 abbrev pub is_idle : SlotState → Bool
 is_idle Idle = true
-is_idle Sent = false
-is_idle Refused = false
-is_idle Retried = false
-is_idle Riding = false
-is_idle (Admitted entry) = false
-is_idle Closing = false
-is_idle Cancelled = false
+is_idle other = false
 
 abbrev pub is_riding : SlotState → Bool
-is_riding Idle = false
-is_riding Sent = false
-is_riding Refused = false
-is_riding Retried = false
 is_riding Riding = true
-is_riding (Admitted entry) = false
-is_riding Closing = false
-is_riding Cancelled = false
+is_riding other = false
 
 abbrev pub is_cancelled : SlotState → Bool
-is_cancelled Idle = false
-is_cancelled Sent = false
-is_cancelled Refused = false
-is_cancelled Retried = false
-is_cancelled Riding = false
-is_cancelled (Admitted entry) = false
-is_cancelled Closing = false
 is_cancelled Cancelled = true
+is_cancelled other = false
 
 -- a credit is due to the slot: it was refused, and its credit is neither spent nor given back
 abbrev pub is_due : SlotState → Bool
-is_due Idle = false
-is_due Sent = false
 is_due Refused = true
 is_due Retried = true
 is_due Riding = true
-is_due (Admitted entry) = false
-is_due Closing = false
 is_due Cancelled = true
+is_due other = false
 
 abbrev pub is_admitted : SlotState → Bool
-is_admitted Idle = false
-is_admitted Sent = false
-is_admitted Refused = false
-is_admitted Retried = false
-is_admitted Riding = false
 is_admitted (Admitted entry) = true
-is_admitted Closing = false
-is_admitted Cancelled = false
+is_admitted other = false
 
 -- the home has the request with entry e
 abbrev pub is_admitted_with : ℕ → SlotState → Bool
-is_admitted_with e Idle = false
-is_admitted_with e Sent = false
-is_admitted_with e Refused = false
-is_admitted_with e Retried = false
-is_admitted_with e Riding = false
 is_admitted_with e (Admitted entry) = entry.0 == e
-is_admitted_with e Closing = false
-is_admitted_with e Cancelled = false
+is_admitted_with e other = false
 
 -- the requester's part may end now: the home has the request, or has completed the Evict
 abbrev pub can_be_answered : SlotState → Bool
-can_be_answered Idle = false
-can_be_answered Sent = false
-can_be_answered Refused = false
-can_be_answered Retried = false
-can_be_answered Riding = false
 can_be_answered (Admitted entry) = true
 can_be_answered Closing = true
-can_be_answered Cancelled = false
+can_be_answered other = false
 
 -- tests of a slot, by credit type and by entry
 abbrev pub is_of : ℕ → SlotRecord → Bool
@@ -111,14 +73,9 @@ in_state state slot = record slot { state = state }
 
 -- answered: the requester's part is over; a request whose other part was over leaves its slot free
 abbrev pub after_answer_in : SlotState → SlotRecord → SlotRecord
-after_answer_in Idle slot = slot
-after_answer_in Sent slot = slot
-after_answer_in Refused slot = slot
-after_answer_in Retried slot = slot
-after_answer_in Riding slot = slot
 after_answer_in (Admitted entry) slot = record slot { answered = true }
 after_answer_in Closing slot = idle_slot
-after_answer_in Cancelled slot = slot
+after_answer_in other slot = slot
 
 abbrev pub after_answer : SlotRecord → SlotRecord
 after_answer slot = after_answer_in slot.state slot

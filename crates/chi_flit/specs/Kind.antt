@@ -13,56 +13,37 @@ use Rattle.chi_flit.specs.declared.kind.Kind.TheVariants.{WriteCleanFull, WriteE
 -- it is resent
 abbrev pub is_needed : Kind → State → Bool
 is_needed ReadNotSharedDirty I = true
-is_needed ReadNotSharedDirty _ = false
 is_needed ReadShared I = true
-is_needed ReadShared _ = false
 is_needed ReadUnique I = true
-is_needed ReadUnique _ = false
 is_needed CleanUnique SC = true
 is_needed CleanUnique SD = true
-is_needed CleanUnique _ = false
 is_needed Evict SC = true
 is_needed Evict UC = true
-is_needed Evict _ = false
 is_needed WriteBackFull UD = true
 is_needed WriteBackFull SD = true
-is_needed WriteBackFull _ = false
 is_needed WriteCleanFull UD = true
 is_needed WriteCleanFull SD = true
-is_needed WriteCleanFull _ = false
 is_needed WriteEvictFull UC = true
-is_needed WriteEvictFull _ = false
+is_needed kind state = false
 
 abbrev pub snoop_of : Kind → Option Snoop
 snoop_of ReadNotSharedDirty = Some SnpNotSharedDirty
 snoop_of ReadShared = Some SnpShared
 snoop_of ReadUnique = Some SnpUnique
 snoop_of CleanUnique = Some SnpCleanInvalid
-snoop_of Evict = None
-snoop_of WriteBackFull = None
-snoop_of WriteCleanFull = None
-snoop_of WriteEvictFull = None
+snoop_of other = None
 
 abbrev pub is_copy_back : Kind → Bool
-is_copy_back ReadNotSharedDirty = false
-is_copy_back ReadShared = false
-is_copy_back ReadUnique = false
-is_copy_back CleanUnique = false
-is_copy_back Evict = false
 is_copy_back WriteBackFull = true
 is_copy_back WriteCleanFull = true
 is_copy_back WriteEvictFull = true
+is_copy_back other = false
 
 -- whether write data of the kind leaves its sender without a copy: WriteCleanFull alone keeps it
 abbrev pub gives_up : Kind → Bool
-gives_up ReadNotSharedDirty = false
-gives_up ReadShared = false
-gives_up ReadUnique = false
-gives_up CleanUnique = false
-gives_up Evict = false
 gives_up WriteBackFull = true
-gives_up WriteCleanFull = false
 gives_up WriteEvictFull = true
+gives_up other = false
 
 abbrev pub kind_text : Kind → List ℕ
 kind_text ReadNotSharedDirty = codes "ReadNotSharedDirty"

@@ -35,11 +35,8 @@ no_words = replicate 8 0
 -- the write data of a copy: in the form of its state, with its words, or with 0 in each where there is no
 -- copy
 abbrev pub write_data_of : State → List ℕ → DatUp
-write_data_of UD words = CopyBackWrData UD words
-write_data_of SD words = CopyBackWrData SD words
-write_data_of UC words = CopyBackWrData UC words
-write_data_of SC words = CopyBackWrData SC words
 write_data_of I words = CopyBackWrData I no_words
+write_data_of form words = CopyBackWrData form words
 
 abbrev pub channel_text : Channel → List ℕ
 channel_text channels.Req = codes "Req"

@@ -11,26 +11,19 @@ use Rattle.chi_flit.specs.declared.message.Msg.{Msg}
 use Rattle.chi_flit.specs.declared.message.Msg.TheVariants.{RspUp, DatUp}
 
 abbrev pub answer_of : State → Snoop → List ℕ → State × Msg
-answer_of I SnpShared words = (I, RspUp SnpRespI)
-answer_of I SnpNotSharedDirty words = (I, RspUp SnpRespI)
-answer_of I SnpUnique words = (I, RspUp SnpRespI)
-answer_of I SnpCleanInvalid words = (I, RspUp SnpRespI)
+answer_of I snoop words = (I, RspUp SnpRespI)
 answer_of SC SnpShared words = (SC, RspUp SnpRespSC)
 answer_of SC SnpNotSharedDirty words = (SC, RspUp SnpRespSC)
-answer_of SC SnpUnique words = (I, RspUp SnpRespI)
-answer_of SC SnpCleanInvalid words = (I, RspUp SnpRespI)
+answer_of SC other words = (I, RspUp SnpRespI)
 answer_of UC SnpShared words = (SC, RspUp SnpRespSC)
 answer_of UC SnpNotSharedDirty words = (SC, RspUp SnpRespSC)
-answer_of UC SnpUnique words = (I, RspUp SnpRespI)
-answer_of UC SnpCleanInvalid words = (I, RspUp SnpRespI)
+answer_of UC other words = (I, RspUp SnpRespI)
 answer_of UD SnpShared words = (SD, DatUp (SnpRespDataSD words))
 answer_of UD SnpNotSharedDirty words = (SC, DatUp (SnpRespDataSCPD words))
-answer_of UD SnpUnique words = (I, DatUp (SnpRespDataIPD words))
-answer_of UD SnpCleanInvalid words = (I, DatUp (SnpRespDataIPD words))
+answer_of UD other words = (I, DatUp (SnpRespDataIPD words))
 answer_of SD SnpShared words = (SD, DatUp (SnpRespDataSD words))
 answer_of SD SnpNotSharedDirty words = (SC, DatUp (SnpRespDataSCPD words))
-answer_of SD SnpUnique words = (I, DatUp (SnpRespDataIPD words))
-answer_of SD SnpCleanInvalid words = (I, DatUp (SnpRespDataIPD words))
+answer_of SD other words = (I, DatUp (SnpRespDataIPD words))
 
 abbrev pub snoop_text : Snoop → List ℕ
 snoop_text SnpShared = codes "SnpShared"

@@ -6,24 +6,17 @@ use Rattle.chi_flit.specs.declared.state.State.TheVariants.{I, SC, UC, UD, SD}
 
 abbrev pub is_valid : State → Bool
 is_valid I = false
-is_valid SC = true
-is_valid UC = true
-is_valid UD = true
-is_valid SD = true
+is_valid other = true
 
 abbrev pub is_unique : State → Bool
-is_unique I = false
-is_unique SC = false
 is_unique UC = true
 is_unique UD = true
-is_unique SD = false
+is_unique other = false
 
 abbrev pub is_dirty : State → Bool
-is_dirty I = false
-is_dirty SC = false
-is_dirty UC = false
 is_dirty UD = true
 is_dirty SD = true
+is_dirty other = false
 
 abbrev pub state_text : State → List ℕ
 state_text I = codes "I"

@@ -8,7 +8,7 @@ use Rattle.chi_flit.specs.declared.numbers.Slot.{Slot}
 use Rattle.chi_flit.specs.declared.state.State.{State}
 use Rattle.chi_flit.specs.declared.kind.Kind.{Kind}
 use Rattle.chi_flit.specs.declared.snoop.Snoop.{Snoop}
-use Rattle.chi_flit.specs.declared.snoop.Snoop.TheVariants.{SnpNotSharedDirty, SnpShared, SnpUnique, SnpCleanInvalid}
+use Rattle.chi_flit.specs.declared.snoop.Snoop.TheVariants.{SnpUnique, SnpCleanInvalid}
 use Rattle.chi_flit.specs.declared.message.RspDown.TheVariants.{CompUC, CompDBIDResp}
 use Rattle.chi_flit.specs.declared.message.Msg.{Msg}
 use Rattle.chi_flit.specs.declared.message.Msg.TheVariants as messages
@@ -61,9 +61,7 @@ taken_up home n = record home { waiting = slice_set home.waiting n None }
 -- whether a line serves no request
 abbrev pub is_idle : Serving → Bool
 is_idle Idle = true
-is_idle (Snooping agent kind slot) = false
-is_idle (AwaitingCompAck agent slot) = false
-is_idle (AwaitingWriteData agent kind slot) = false
+is_idle other = false
 
 -- whom a shared read asks: the one other agent that holds the line alone, else another owner
 abbrev pub asks_shared : FilterState → ℕ → List Bool
@@ -71,17 +69,15 @@ asks_shared f n = if f.unique && has_any (others_than n f.named) then others_tha
 
 -- whom a request asks, by the snoop that serves it
 abbrev pub asks : Snoop → FilterState → ℕ → List Bool
-asks SnpNotSharedDirty f n = asks_shared f n
-asks SnpShared f n = asks_shared f n
 asks SnpUnique f n = others_than n f.named
 asks SnpCleanInvalid f n = others_than n f.named
+asks shared f n = asks_shared f n
 
 -- whether a completion leaves its agent the only one named: a shared read does where nobody else is
 abbrev pub completes_unique : Snoop → FilterState → ℕ → Bool
-completes_unique SnpNotSharedDirty f n = not (has_any (others_than n f.named))
-completes_unique SnpShared f n = not (has_any (others_than n f.named))
 completes_unique SnpUnique f n = true
 completes_unique SnpCleanInvalid f n = true
+completes_unique shared f n = not (has_any (others_than n f.named))
 
 -- the filter after a completion
 abbrev pub completed_filter : Bool → FilterState → ℕ → FilterState
@@ -97,10 +93,8 @@ home_after_completion home snoop agent slot = record home {
 
 -- the form of a completion: a CleanUnique, served by SnpCleanInvalid, has no data
 abbrev pub completion_form : Snoop → Bool → CompletionForm
-completion_form SnpNotSharedDirty unique = forms.Data unique
-completion_form SnpShared unique = forms.Data unique
-completion_form SnpUnique unique = forms.Data unique
 completion_form SnpCleanInvalid unique = forms.NoData
+completion_form other unique = forms.Data unique
 
 -- the message of a form, with the data that is sent
 abbrev pub form_message : CompletionForm → List ℕ → Msg
@@ -187,10 +181,9 @@ served_slot (AwaitingWriteData agent kind slot) = Some slot
 
 -- the kind of the request that is served, until it completes
 abbrev pub served_kind : Serving → Option Kind
-served_kind Idle = None
 served_kind (Snooping agent kind slot) = Some kind
-served_kind (AwaitingCompAck agent slot) = None
 served_kind (AwaitingWriteData agent kind slot) = Some kind
+served_kind other = None
 
 -- RecvAck: the line is idle
 abbrev pub home_after_ack : Home → Home
@@ -210,28 +203,24 @@ left_owner f agent = record f { unique = false; owner = Some agent }
 
 -- the memory after an answer: the data of a _PD form
 abbrev pub memory_after : SnoopAnswer → List ℕ → List ℕ
-memory_after answers.I memory = memory
-memory_after answers.SC memory = memory
 memory_after (answers.IPD words) memory = words
 memory_after (answers.SCPD words) memory = words
-memory_after (answers.SD words) memory = memory
+memory_after other memory = memory
 
 -- the filter after an answer
 abbrev pub filter_after : SnoopAnswer → FilterState → Agent → FilterState
-filter_after answers.I f agent = filter_without f agent.0
 filter_after answers.SC f agent = left_shared f agent.0
-filter_after (answers.IPD words) f agent = filter_without f agent.0
 filter_after (answers.SCPD words) f agent = left_shared f agent.0
 filter_after (answers.SD words) f agent = left_owner f agent
+filter_after none_left f agent = filter_without f agent.0
 
 -- the data that a completion sends after an answer: the answer's own, which for a _PD form is the memory by
 -- then and for SnpRespData_SD is said to be the completion's; else the memory
 abbrev pub data_to_send : SnoopAnswer → List ℕ → List ℕ
-data_to_send answers.I memory = memory
-data_to_send answers.SC memory = memory
 data_to_send (answers.IPD words) memory = words
 data_to_send (answers.SCPD words) memory = words
 data_to_send (answers.SD words) memory = words
+data_to_send other memory = memory
 
 -- the home once an answer is in
 abbrev pub answer_taken : Home → Agent → SnoopAnswer → Home
@@ -248,19 +237,15 @@ completion_by home (Some snoop) agent sent = Some (record { agent = agent; messa
 
 -- a request that is snooped for completes when no answer is awaited any more
 abbrev pub finished_as : Serving → Home → Home
-finished_as Idle home = home
 finished_as (Snooping agent kind slot) home = if has_any home.awaited then home else completed_by home (snoop_of kind) agent slot
-finished_as (AwaitingCompAck agent slot) home = home
-finished_as (AwaitingWriteData agent kind slot) home = home
+finished_as other home = home
 
 abbrev pub finished_home : Home → Home
 finished_home home = finished_as home.serving home
 
 abbrev pub finished_sends_as : Serving → Home → List ℕ → Option Completion
-finished_sends_as Idle home sent = None
 finished_sends_as (Snooping agent kind slot) home sent = if has_any home.awaited then None else completion_by home (snoop_of kind) agent sent
-finished_sends_as (AwaitingCompAck agent slot) home sent = None
-finished_sends_as (AwaitingWriteData agent kind slot) home sent = None
+finished_sends_as other home sent = None
 
 abbrev pub finished_sends : Home → List ℕ → Option Completion
 finished_sends home sent = finished_sends_as home.serving home sent

@@ -66,7 +66,7 @@ fn drawn(state: u64) -> u64 {
 }
 
 /// An effect as one number.
-fn told(effect: Effect) -> u64 {
+fn number_of(effect: Effect) -> u64 {
     match effect {
         Effect::Nothing => 0,
         Effect::Value(value) => value.wrapping_add(256),
@@ -91,7 +91,7 @@ fn run_all(slice: &mut Slice<Global>) -> Outcome {
         let answer = match slice.act(action_of(drawn(state))) {
             Ok(effect) => {
                 done = done.wrapping_add(1);
-                told(effect)
+                number_of(effect)
             }
             Err(refusal) => {
                 refused = refused.wrapping_add(1);

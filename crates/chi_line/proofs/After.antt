@@ -1,5 +1,6 @@
 -- Every action that isn't refused keeps what a line keeps.
 use Rattle.std.proofs.Common.{◌≡◌, ℕ, ◌<◌, List, Bool, true, false, Option, Some, None, is_some, arith, refl, sym, ap, subst, if◌then◌else◌}
+use Rattle.std.specs.Option.{option_or}
 use Rattle.chi_flit.specs.declared.numbers.Agent.{Agent}
 use Rattle.chi_flit.specs.declared.numbers.Line.{Line}
 use Rattle.chi_flit.specs.declared.kind.Kind.{Kind}
@@ -31,7 +32,7 @@ use Rattle.chi_line.specs.LineState.{LineState, rn_of, cells_of}
 use Rattle.chi_line.specs.Kept.{Kept, kind_of}
 use Rattle.chi_line.specs.Step.{after, after_step, admitted_line, answer_in, answered_by, completion_received, data_answer, data_written, dbid_received_line, is_ack, is_dbid, is_retry, line_uses, received_line, record_of, resent_line, response_answer, retried_line, snooped_line, started_line, step_record, where_some}
 use Rattle.chi_line.specs.Types.{pending_credit}
-use Rattle.chi_line.specs.Refused.{credit_refusal, first_of, full_if, line_refusal, no_flit_unless, step_refusal}
+use Rattle.chi_line.specs.Refused.{credit_refusal, full_if, line_refusal, no_flit_unless, step_refusal}
 use Rattle.chi_line.proofs.Asks.{same}
 use Rattle.chi_line.proofs.Keeps.{kept_issued, kept_admitted, kept_received, kept_acknowledged}
 use Rattle.chi_line.proofs.Starts.{kept_started}
@@ -63,7 +64,7 @@ pub start_allowed : (home : Home) (n : ℕ) → start_refusal home n ≡ None �
 start_allowed home n allowed = record { waits = grind arith; idle = grind arith }
 
 -- neither of two refusals
-pub neither : (first second : Option Refusal) → first_of first second ≡ None → (first ≡ None) × (second ≡ None)
+pub neither : (first second : Option Refusal) → option_or first second ≡ None → (first ≡ None) × (second ≡ None)
 neither None second h = (refl, h)
 neither (Some refusal) second h = absurd (cc (h))
 

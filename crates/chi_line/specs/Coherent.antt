@@ -1,10 +1,10 @@
 -- Coherence of a line (Arm IHI 0050 B, 4.1; docs/PROTOCOL.md, "Coherence"); last are the values last
 -- stored to its words.
-use Rattle.std.specs.Prelude.{◌≡◌, ◌≢◌, ℕ, ◌<◌, List, Bool, true, false, Option, Some, None}
+use Rattle.std.specs.Prelude.{◌≡◌, ◌≢◌, ℕ, ◌<◌, List, Bool, true, false, Option, Some}
 use Rattle.chi_flit.specs.declared.state.State.{State}
 use Rattle.chi_flit.specs.declared.state.State.TheVariants.{I, SD}
 use Rattle.chi_flit.specs.declared.message.DatUp.{DatUp}
-use Rattle.chi_flit.specs.declared.message.DatUp.TheVariants.{SnpRespDataIPD, SnpRespDataSCPD, SnpRespDataSD, CopyBackWrData}
+use Rattle.chi_flit.specs.declared.message.DatUp.TheVariants.{SnpRespDataIPD, SnpRespDataSCPD, CopyBackWrData}
 use Rattle.chi_flit.specs.State.{is_valid, is_unique, is_dirty}
 use Rattle.chi_filter.specs.Filter.{is_named}
 use Rattle.chi_line.specs.LineState.{LineState, rn_of, cells_of}
@@ -12,11 +12,10 @@ use Rattle.chi_line.specs.LineState.{LineState, rn_of, cells_of}
 -- the _PD forms of data on its way to the home (docs/PROTOCOL.md, "Messages"): they pass the responsibility
 -- for dirty data
 abbrev pub passes_dirty : Option DatUp → Bool
-passes_dirty None = false
 passes_dirty (Some (SnpRespDataIPD words)) = true
 passes_dirty (Some (SnpRespDataSCPD words)) = true
-passes_dirty (Some (SnpRespDataSD words)) = false
 passes_dirty (Some (CopyBackWrData form words)) = is_dirty form
+passes_dirty other = false
 
 -- an agent's copy isn't UD or SD, and no _PD form of its own is in flight
 pub record IsCleanAgent (state : State) (sent : Option DatUp) : Type 0 where

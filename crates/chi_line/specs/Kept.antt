@@ -13,7 +13,7 @@ use Rattle.chi_flit.specs.declared.snoop.Snoop.{Snoop}
 use Rattle.chi_flit.specs.declared.snoop.Snoop.TheVariants.{SnpShared, SnpNotSharedDirty, SnpUnique, SnpCleanInvalid}
 use Rattle.chi_flit.specs.declared.message.Request.{Request}
 use Rattle.chi_flit.specs.declared.message.RspDown.{RspDown}
-use Rattle.chi_flit.specs.declared.message.RspDown.TheVariants.{RetryAck, CompUC, CompI, CompDBIDResp}
+use Rattle.chi_flit.specs.declared.message.RspDown.TheVariants.{CompUC, CompI}
 use Rattle.chi_flit.specs.declared.message.CompData.{CompData}
 use Rattle.chi_flit.specs.declared.message.RspUp.{RspUp}
 use Rattle.chi_flit.specs.declared.message.RspUp.TheVariants.{SnpRespI, SnpRespSC, CompAck}
@@ -60,11 +60,7 @@ abbrev pub is_read : Kind → Bool
 is_read ReadNotSharedDirty = true
 is_read ReadShared = true
 is_read ReadUnique = true
-is_read CleanUnique = false
-is_read Evict = false
-is_read WriteBackFull = false
-is_read WriteCleanFull = false
-is_read WriteEvictFull = false
+is_read other = false
 
 -- the states that a copy may be in while a request of the kind is pending
 abbrev pub allows : Kind → State → Bool
@@ -111,11 +107,8 @@ invalidates (Some SnpCleanInvalid) = true
 
 -- of cells
 abbrev pub is_comp_unique : Option RspDown → Bool
-is_comp_unique None = false
-is_comp_unique (Some (RetryAck ty)) = false
 is_comp_unique (Some CompUC) = true
-is_comp_unique (Some CompI) = false
-is_comp_unique (Some CompDBIDResp) = false
+is_comp_unique other = false
 
 abbrev pub is_answer : Option RspUp → Bool
 is_answer None = false
@@ -125,38 +118,24 @@ is_answer (Some CompAck) = false
 
 abbrev pub is_snoop_data : Option DatUp → Bool
 is_snoop_data None = false
-is_snoop_data (Some (SnpRespDataIPD words)) = true
-is_snoop_data (Some (SnpRespDataSCPD words)) = true
-is_snoop_data (Some (SnpRespDataSD words)) = true
 is_snoop_data (Some (CopyBackWrData form words)) = false
+is_snoop_data other = true
 
 abbrev pub is_shared_dirty_data : Option DatUp → Bool
-is_shared_dirty_data None = false
-is_shared_dirty_data (Some (SnpRespDataIPD words)) = false
-is_shared_dirty_data (Some (SnpRespDataSCPD words)) = false
 is_shared_dirty_data (Some (SnpRespDataSD words)) = true
-is_shared_dirty_data (Some (CopyBackWrData form words)) = false
+is_shared_dirty_data other = false
 
 abbrev pub is_shared_dirty : State → Bool
-is_shared_dirty I = false
-is_shared_dirty SC = false
-is_shared_dirty UC = false
-is_shared_dirty UD = false
 is_shared_dirty SD = true
+is_shared_dirty other = false
 
 abbrev pub is_unique_dirty : State → Bool
-is_unique_dirty I = false
-is_unique_dirty SC = false
-is_unique_dirty UC = false
 is_unique_dirty UD = true
-is_unique_dirty SD = false
+is_unique_dirty other = false
 
 abbrev pub is_shared_dirty_write : Option DatUp → Bool
-is_shared_dirty_write None = false
-is_shared_dirty_write (Some (SnpRespDataIPD words)) = false
-is_shared_dirty_write (Some (SnpRespDataSCPD words)) = false
-is_shared_dirty_write (Some (SnpRespDataSD words)) = false
 is_shared_dirty_write (Some (CopyBackWrData form words)) = is_shared_dirty form
+is_shared_dirty_write other = false
 
 -- all that belongs to one agent at a line
 pub record Lane : Type 0 where

@@ -1,6 +1,7 @@
 -- Why an action is refused (docs/PROTOCOL.md, "The actions" and "Refusals"): for each, the first number of
 -- its row whose condition holds.
 use Rattle.std.specs.Prelude.{List, Bool, false, Option, Some, None, is_some, if◌then◌else◌}
+use Rattle.std.specs.Option.{option_or}
 use Rattle.std.specs.List.{slice_index_or}
 use Rattle.chi_flit.specs.declared.numbers.Agent.{Agent}
 use Rattle.chi_flit.specs.declared.numbers.Slot.{Slot}
@@ -20,11 +21,6 @@ use Rattle.chi_line.specs.LineState.{LineState, rn_of, cells_of}
 use Rattle.chi_line.specs.Step.{answer_in, completed_effect, is_ack, is_comp, is_dbid, is_retry, is_write_data, slot_unless, waiting_effect}
 use Rattle.chi_line.specs.Types.{pending_credit}
 
--- the first refusal, else the second
-abbrev pub first_of : Option Refusal → Option Refusal → Option Refusal
-first_of None second = second
-first_of (Some refusal) second = Some refusal
-
 abbrev pub no_flit_unless : Bool → Option Refusal
 no_flit_unless there = if there then None else Some refusals.NoFlit
 
@@ -42,12 +38,12 @@ credit_refusal credits None = None
 credit_refusal credits (Some ty) = if slice_index_or credits (credit_number ty) false then None else Some refusals.NoCredit
 
 abbrev pub resend_step_refusal : Conditions → Rn → Option Refusal
-resend_step_refusal c rn = first_of (resend_refusal rn) (credit_refusal c.credits (pending_credit c.profile rn.pending))
+resend_step_refusal c rn = option_or (resend_refusal rn) (credit_refusal c.credits (pending_credit c.profile rn.pending))
 
 -- why an action of an agent is refused, its numbers being in range
 abbrev pub step_refusal : Conditions → LineState → Agent → Step → Option Refusal
-step_refusal c s agent (steps.Load word) = first_of (load_refusal (rn_of s agent.0)) (full_if c.journal_full)
-step_refusal c s agent (steps.Store word value) = first_of (store_refusal (rn_of s agent.0)) (full_if c.journal_full)
+step_refusal c s agent (steps.Load word) = option_or (load_refusal (rn_of s agent.0)) (full_if c.journal_full)
+step_refusal c s agent (steps.Store word value) = option_or (store_refusal (rn_of s agent.0)) (full_if c.journal_full)
 step_refusal c s agent steps.Drop = drop_refusal (rn_of s agent.0)
 step_refusal c s agent (steps.Issue kind slot) = if c.slot_used then Some refusals.Pending else issue_refusal (rn_of s agent.0) kind
 step_refusal c s agent steps.Admit = no_flit_unless (is_some (cells_of s agent.0).req)
@@ -70,20 +66,7 @@ line_refusal c s action = step_refusal c s action.agent action.step
 -- the slot of the request that a step of an agent would complete, by the home's part of the line and the
 -- agent's flits
 abbrev pub completed_at : Home → Cells → Agent → Step → Option Slot
-completed_at home cells agent (steps.Load word) = None
-completed_at home cells agent (steps.Store word value) = None
-completed_at home cells agent steps.Drop = None
-completed_at home cells agent (steps.Issue kind slot) = None
-completed_at home cells agent steps.Admit = None
-completed_at home cells agent steps.Retry = None
-completed_at home cells agent steps.RecvRetry = None
-completed_at home cells agent steps.Resend = None
-completed_at home cells agent steps.Cancel = None
 completed_at home cells agent steps.Start = slot_unless (start_refusal home agent.0) (waiting_effect home agent (waiting_of home agent.0))
-completed_at home cells agent steps.RecvSnp = None
-completed_at home cells agent steps.RecvSnpResp = None
-completed_at home cells agent steps.RecvData = None
-completed_at home cells agent steps.RecvComp = None
 completed_at home cells agent steps.RecvAck = slot_unless (no_flit_unless (is_ack cells.rsp_up)) (completed_effect (served_slot home.serving))
-completed_at home cells agent steps.RecvDbid = None
 completed_at home cells agent steps.RecvWrData = slot_unless (no_flit_unless (is_write_data cells.dat_up)) (completed_effect (served_slot home.serving))
+completed_at home cells agent other = None

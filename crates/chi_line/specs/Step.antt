@@ -1,7 +1,7 @@
 -- The actions on one line as functions: what each leaves, and its effect (docs/PROTOCOL.md, "The actions",
 -- "Start", "Answers of snooped agents", "Completion" and "Write data"). A case says what changes; all else
 -- stays.
-use Rattle.std.specs.Prelude.{ℕ, List, Bool, true, false, Option, Some, None, slice_set, ◌==◌, ◌||◌, nat_lt, if◌then◌else◌}
+use Rattle.std.specs.Prelude.{ℕ, List, Bool, true, false, Option, Some, None, slice_set, ◌==◌, ◌||◌, nat_lt, if◌then◌else◌, option_map}
 use Rattle.std.specs.List.{slice_index_or}
 use Rattle.chi_flit.specs.declared.numbers.Agent.{Agent}
 use Rattle.chi_flit.specs.declared.numbers.Line.{Line}
@@ -70,7 +70,10 @@ flits_after_start flits n (Snoops snoop agents) = with_snoops agents snoop flits
 
 -- Start: the home serves the request that waited, and sends what the start sends
 abbrev pub started_line : LineState → Agent → Waiting → LineState
-started_line s agent request = record s { home = home_after_start s.home agent request; flits = flits_after_start s.flits agent.0 (started_sends s.home agent request) }
+started_line s agent request = record s {
+  home = home_after_start s.home agent request;
+  flits = flits_after_start s.flits agent.0 (started_sends s.home agent request);
+}
 
 -- RecvData: the copy is the message's, nothing is pending, and CompAck is in flight
 abbrev pub received_line : LineState → ℕ → CompData → LineState
@@ -145,7 +148,10 @@ dbid_received_line s n kind = record s {
 
 -- RecvWrData of a request of the kind: the data is taken, and the line is idle
 abbrev pub written_line : LineState → ℕ → Kind → State → List ℕ → LineState
-written_line s n kind form words = record s { home = home_after_write s.home n kind form words; flits = slice_set s.flits n (record (cells_of s n) { dat_up = None }) }
+written_line s n kind form words = record s {
+  home = home_after_write s.home n kind form words;
+  flits = slice_set s.flits n (record (cells_of s n) { dat_up = None });
+}
 
 -- a step that takes something away: none where there is nothing
 abbrev pub where_some : {A : Type 0} → LineState → Option A → (A → LineState) → LineState
@@ -154,17 +160,15 @@ where_some s (Some taken) step = step taken
 
 -- the answer to a snoop that is in flight: a response, or else data
 abbrev pub response_answer : Option RspUp → Option SnoopAnswer → Option SnoopAnswer
-response_answer None other = other
 response_answer (Some SnpRespI) other = Some answers.I
 response_answer (Some SnpRespSC) other = Some answers.SC
-response_answer (Some CompAck) other = other
+response_answer _ other = other
 
 abbrev pub data_answer : Option DatUp → Option SnoopAnswer
-data_answer None = None
 data_answer (Some (SnpRespDataIPD words)) = Some (answers.IPD words)
 data_answer (Some (SnpRespDataSCPD words)) = Some (answers.SCPD words)
 data_answer (Some (SnpRespDataSD words)) = Some (answers.SD words)
-data_answer (Some (CopyBackWrData form words)) = None
+data_answer other = None
 
 abbrev pub answer_in : Cells → Option SnoopAnswer
 answer_in cells = response_answer cells.rsp_up (data_answer cells.dat_up)
@@ -179,19 +183,14 @@ answered_by s agent answer = record s {
 
 -- RecvComp of each completion
 abbrev pub completion_received : LineState → ℕ → Option RspDown → LineState
-completion_received s n None = s
-completion_received s n (Some (RetryAck ty)) = s
 completion_received s n (Some CompUC) = comp_received_line s n
 completion_received s n (Some CompI) = evict_received_line s n
-completion_received s n (Some CompDBIDResp) = s
+completion_received s n other = s
 
 -- RecvWrData of the write data of a request of the kind
 abbrev pub data_written : LineState → ℕ → Kind → Option DatUp → LineState
-data_written s n kind None = s
-data_written s n kind (Some (SnpRespDataIPD words)) = s
-data_written s n kind (Some (SnpRespDataSCPD words)) = s
-data_written s n kind (Some (SnpRespDataSD words)) = s
 data_written s n kind (Some (CopyBackWrData form words)) = written_line s n kind form words
+data_written s n kind other = s
 
 -- what an action of an agent that is done leaves
 abbrev pub after_step : Profile → LineState → Agent → Step → LineState
@@ -218,9 +217,8 @@ after profile s action = after_step profile s action.agent action.step
 
 -- the effect of a start: an Evict is complete with it
 abbrev pub started_effect : Started → Effect
-started_effect (Sends message) = Nothing
 started_effect (Evicted slot) = Completed slot
-started_effect (Snoops snoop agents) = Nothing
+started_effect other = Nothing
 
 abbrev pub waiting_effect : Home → Agent → Option Waiting → Effect
 waiting_effect home agent None = Nothing
@@ -241,22 +239,10 @@ evicted_if None false slot = Some slot
 -- request that is served at its CompAck or write data
 abbrev pub step_effect : LineState → Agent → Step → Effect
 step_effect s agent (steps.Load word) = Value (word_of (rn_of s agent.0) word.0)
-step_effect s agent (steps.Store word value) = Nothing
-step_effect s agent steps.Drop = Nothing
-step_effect s agent (steps.Issue kind slot) = Nothing
-step_effect s agent steps.Admit = Nothing
-step_effect s agent steps.Retry = Nothing
-step_effect s agent steps.RecvRetry = Nothing
-step_effect s agent steps.Resend = Nothing
-step_effect s agent steps.Cancel = Nothing
 step_effect s agent steps.Start = waiting_effect s.home agent (waiting_of s.home agent.0)
-step_effect s agent steps.RecvSnp = Nothing
-step_effect s agent steps.RecvSnpResp = Nothing
-step_effect s agent steps.RecvData = Nothing
-step_effect s agent steps.RecvComp = Nothing
 step_effect s agent steps.RecvAck = completed_effect (served_slot s.home.serving)
-step_effect s agent steps.RecvDbid = Nothing
 step_effect s agent steps.RecvWrData = completed_effect (served_slot s.home.serving)
+step_effect s agent other = Nothing
 
 abbrev pub effect_of : LineState → Action → Effect
 effect_of s action = step_effect s action.agent action.step
@@ -268,12 +254,10 @@ is_slot (Some other) slot = other.0 == slot.0
 
 -- the slot of an agent's request: pending, waiting at the home, or served there
 abbrev pub pending_slot : Option Pending → Option Slot
-pending_slot None = None
-pending_slot (Some request) = Some request.slot
+pending_slot pending = option_map (λ (request : Pending). request.slot) pending
 
 abbrev pub waiting_slot : Option Waiting → Option Slot
-waiting_slot None = None
-waiting_slot (Some request) = Some request.slot
+waiting_slot waiting = option_map (λ (request : Waiting). request.slot) waiting
 
 abbrev pub slot_served_for : Serving → ℕ → Option Slot
 slot_served_for Idle n = None
@@ -289,48 +273,34 @@ line_uses s n slot =
 
 -- whether a cell has a CompAck
 abbrev pub is_ack : Option RspUp → Bool
-is_ack None = false
-is_ack (Some SnpRespI) = false
-is_ack (Some SnpRespSC) = false
 is_ack (Some CompAck) = true
+is_ack other = false
 
 -- whether a cell has a RetryAck
 abbrev pub is_retry : Option RspDown → Bool
-is_retry None = false
 is_retry (Some (RetryAck ty)) = true
-is_retry (Some CompUC) = false
-is_retry (Some CompI) = false
-is_retry (Some CompDBIDResp) = false
+is_retry other = false
 
 -- whether a cell has Comp_UC or Comp_I
 abbrev pub is_comp : Option RspDown → Bool
-is_comp None = false
-is_comp (Some (RetryAck ty)) = false
 is_comp (Some CompUC) = true
 is_comp (Some CompI) = true
-is_comp (Some CompDBIDResp) = false
+is_comp other = false
 
 -- whether a cell has CompDBIDResp
 abbrev pub is_dbid : Option RspDown → Bool
-is_dbid None = false
-is_dbid (Some (RetryAck ty)) = false
-is_dbid (Some CompUC) = false
-is_dbid (Some CompI) = false
 is_dbid (Some CompDBIDResp) = true
+is_dbid other = false
 
 -- whether a cell has CopyBackWrData
 abbrev pub is_write_data : Option DatUp → Bool
-is_write_data None = false
-is_write_data (Some (SnpRespDataIPD words)) = false
-is_write_data (Some (SnpRespDataSCPD words)) = false
-is_write_data (Some (SnpRespDataSD words)) = false
 is_write_data (Some (CopyBackWrData form words)) = true
+is_write_data other = false
 
 -- the slot of a request that an action completes, where it isn't refused
 abbrev pub completed_slot : Effect → Option Slot
-completed_slot Nothing = None
-completed_slot (Value word) = None
 completed_slot (Completed slot) = Some slot
+completed_slot other = None
 
 abbrev pub slot_unless : Option Refusal → Effect → Option Slot
 slot_unless None effect = completed_slot effect
@@ -340,61 +310,19 @@ slot_unless (Some refusal) effect = None
 abbrev pub is_step_in_range : Step → Bool
 is_step_in_range (steps.Load word) = nat_lt word.0 8
 is_step_in_range (steps.Store word value) = nat_lt word.0 8
-is_step_in_range steps.Drop = true
 is_step_in_range (steps.Issue kind slot) = nat_lt slot.0 8
-is_step_in_range steps.Admit = true
-is_step_in_range steps.Retry = true
-is_step_in_range steps.RecvRetry = true
-is_step_in_range steps.Resend = true
-is_step_in_range steps.Cancel = true
-is_step_in_range steps.Start = true
-is_step_in_range steps.RecvSnp = true
-is_step_in_range steps.RecvSnpResp = true
-is_step_in_range steps.RecvData = true
-is_step_in_range steps.RecvComp = true
-is_step_in_range steps.RecvAck = true
-is_step_in_range steps.RecvDbid = true
-is_step_in_range steps.RecvWrData = true
+is_step_in_range other = true
 
 -- the record of a load or a store that is done
 abbrev pub step_record : LineState → Agent → Line → Step → Option Record
 step_record s agent line (steps.Load word) = Some (records.Load agent line word (word_of (rn_of s agent.0) word.0))
 step_record s agent line (steps.Store word value) = Some (records.Store agent line word value)
-step_record s agent line steps.Drop = None
-step_record s agent line (steps.Issue kind slot) = None
-step_record s agent line steps.Admit = None
-step_record s agent line steps.Retry = None
-step_record s agent line steps.RecvRetry = None
-step_record s agent line steps.Resend = None
-step_record s agent line steps.Cancel = None
-step_record s agent line steps.Start = None
-step_record s agent line steps.RecvSnp = None
-step_record s agent line steps.RecvSnpResp = None
-step_record s agent line steps.RecvData = None
-step_record s agent line steps.RecvComp = None
-step_record s agent line steps.RecvAck = None
-step_record s agent line steps.RecvDbid = None
-step_record s agent line steps.RecvWrData = None
+step_record s agent line other = None
 
 abbrev pub record_of : LineState → Action → Option Record
 record_of s action = step_record s action.agent action.line action.step
 
 -- the slot that a step names
 abbrev pub issued_slot : Step → Option Slot
-issued_slot (steps.Load word) = None
-issued_slot (steps.Store word value) = None
-issued_slot steps.Drop = None
 issued_slot (steps.Issue kind slot) = Some slot
-issued_slot steps.Admit = None
-issued_slot steps.Retry = None
-issued_slot steps.RecvRetry = None
-issued_slot steps.Resend = None
-issued_slot steps.Cancel = None
-issued_slot steps.Start = None
-issued_slot steps.RecvSnp = None
-issued_slot steps.RecvSnpResp = None
-issued_slot steps.RecvData = None
-issued_slot steps.RecvComp = None
-issued_slot steps.RecvAck = None
-issued_slot steps.RecvDbid = None
-issued_slot steps.RecvWrData = None
+issued_slot other = None

@@ -1,6 +1,6 @@
 -- The flits that an action takes and sends, and that none is lost or made (docs/PROTOCOL.md, "Messages", "The
 -- actions", "Start", "Answers to snoops", "Completion" and "Write data").
-use Rattle.std.specs.Prelude.{List, [], ◌∷◌, ◌++◌, true, false, Option, Some, None}
+use Rattle.std.specs.Prelude.{List, [], ◌∷◌, ◌++◌, true, false, Option, Some, None, option_map}
 use Rattle.std.specs.List.Sorted.{IsPermutation}
 use Rattle.chi_flit.specs.declared.numbers.Agent.{Agent}
 use Rattle.chi_flit.specs.declared.action.Action.{Action}
@@ -13,7 +13,7 @@ use Rattle.chi_flit.specs.declared.message.Msg.{Msg}
 use Rattle.chi_flit.specs.declared.message.Msg.TheVariants as messages
 use Rattle.chi_flit.specs.declared.message.Request.{Request}
 use Rattle.chi_flit.specs.declared.message.RspDown.{RspDown}
-use Rattle.chi_flit.specs.declared.message.RspDown.TheVariants.{RetryAck, CompUC, CompI, CompDBIDResp}
+use Rattle.chi_flit.specs.declared.message.RspDown.TheVariants.{RetryAck, CompUC, CompI}
 use Rattle.chi_flit.specs.declared.message.RspUp.TheVariants.{CompAck}
 use Rattle.chi_flit.specs.declared.snoop.Snoop.{Snoop}
 use Rattle.chi_flit.specs.Credit.{credit_type_of}
@@ -43,16 +43,9 @@ answer_flit s agent (Some answer) = flit_on s agent (answer_channel answer)
 
 -- the flit that a step takes: its agent's on the step's channel
 abbrev pub flit_taken : LineState → Agent → Step → List Flit
-flit_taken s agent (steps.Load word) = []
-flit_taken s agent (steps.Store word value) = []
-flit_taken s agent steps.Drop = []
-flit_taken s agent (steps.Issue kind slot) = []
 flit_taken s agent steps.Admit = flit_on s agent channels.Req
 flit_taken s agent steps.Retry = flit_on s agent channels.Req
 flit_taken s agent steps.RecvRetry = flit_on s agent channels.RspDown
-flit_taken s agent steps.Resend = []
-flit_taken s agent steps.Cancel = []
-flit_taken s agent steps.Start = []
 flit_taken s agent steps.RecvSnp = flit_on s agent channels.Snp
 flit_taken s agent steps.RecvSnpResp = answer_flit s agent (answer_in (cells_of s agent.0))
 flit_taken s agent steps.RecvData = flit_on s agent channels.DatDown
@@ -60,29 +53,24 @@ flit_taken s agent steps.RecvComp = flit_on s agent channels.RspDown
 flit_taken s agent steps.RecvAck = flit_on s agent channels.RspUp
 flit_taken s agent steps.RecvDbid = flit_on s agent channels.RspDown
 flit_taken s agent steps.RecvWrData = flit_on s agent channels.DatUp
+flit_taken s agent other = []
 
 -- Retry: RetryAck of the request's credit type
 abbrev pub retry_ack : Profile → Option Request → Option Msg
-retry_ack profile None = None
-retry_ack profile (Some request) = Some (messages.RspDown (RetryAck (credit_type_of profile request.kind)))
+retry_ack profile request = option_map (λ (taken : Request). messages.RspDown (RetryAck (credit_type_of profile taken.kind))) request
 
 -- Resend: the request, without AllowRetry
 abbrev pub request_again : Option Pending → Option Msg
-request_again None = None
-request_again (Some request) = Some (request_message request.kind request.slot false)
+request_again request = option_map (λ (pending : Pending). request_message pending.kind pending.slot false) request
 
 -- RecvSnp: the answer of the copy
 abbrev pub snoop_answer : Rn → Option Snoop → Option Msg
-snoop_answer rn None = None
-snoop_answer rn (Some snoop) = Some (answer_of rn.state snoop rn.words).1
+snoop_answer rn snoop = option_map (λ (taken : Snoop). (answer_of rn.state taken rn.words).1) snoop
 
 -- RecvComp: CompAck to Comp_UC, and nothing to Comp_I
 abbrev pub completion_ack : Option RspDown → Option Msg
-completion_ack None = None
-completion_ack (Some (RetryAck ty)) = None
 completion_ack (Some CompUC) = Some (messages.RspUp CompAck)
-completion_ack (Some CompI) = None
-completion_ack (Some CompDBIDResp) = None
+completion_ack other = None
 
 -- Start: a completion or CompDBIDResp, or Comp_I to an Evict, or the snoops
 abbrev pub start_flits : Agent → Started → List Flit
@@ -105,23 +93,16 @@ answered_flits home agent (Some answer) = completion_flits (snoop_answered_sends
 
 -- the flits that a step sends
 abbrev pub flits_sent : Profile → LineState → Agent → Step → List Flit
-flits_sent profile s agent (steps.Load word) = []
-flits_sent profile s agent (steps.Store word value) = []
-flits_sent profile s agent steps.Drop = []
 flits_sent profile s agent (steps.Issue kind slot) = flit agent (request_message kind slot true) ∷ []
-flits_sent profile s agent steps.Admit = []
 flits_sent profile s agent steps.Retry = flit_of agent (retry_ack profile (cells_of s agent.0).req)
-flits_sent profile s agent steps.RecvRetry = []
 flits_sent profile s agent steps.Resend = flit_of agent (request_again (rn_of s agent.0).pending)
-flits_sent profile s agent steps.Cancel = []
 flits_sent profile s agent steps.Start = started_flits s.home agent (waiting_of s.home agent.0)
 flits_sent profile s agent steps.RecvSnp = flit_of agent (snoop_answer (rn_of s agent.0) (cells_of s agent.0).snp)
 flits_sent profile s agent steps.RecvSnpResp = answered_flits s.home agent (answer_in (cells_of s agent.0))
 flits_sent profile s agent steps.RecvData = flit agent (messages.RspUp CompAck) ∷ []
 flits_sent profile s agent steps.RecvComp = flit_of agent (completion_ack (cells_of s agent.0).rsp_down)
-flits_sent profile s agent steps.RecvAck = []
 flits_sent profile s agent steps.RecvDbid = flit agent (messages.DatUp (write_data_of (rn_of s agent.0).state (rn_of s agent.0).words)) ∷ []
-flits_sent profile s agent steps.RecvWrData = []
+flits_sent profile s agent other = []
 
 -- the flits in flight after, with those that were taken, are those before, with those that were sent
 abbrev pub Balances : List Flit → List Flit → LineState → LineState → Type 0

@@ -1,6 +1,6 @@
 -- The credit type of an agent's slot at a line (docs/PROTOCOL.md, "Agreement"): wherever the line still keeps
 -- the kind of a slot's request, it has this credit type.
-use Rattle.std.specs.Prelude.{ℕ, Bool, true, ◌&&◌, ◌==◌, Option, Some, None, if◌then◌else◌}
+use Rattle.std.specs.Prelude.{ℕ, Bool, true, ◌&&◌, ◌==◌, Option, Some, None, if◌then◌else◌, option_map}
 use Rattle.chi_flit.specs.declared.numbers.Slot.{Slot}
 use Rattle.chi_flit.specs.declared.kind.Kind.{Kind}
 use Rattle.chi_flit.specs.declared.credit.CreditType.{CreditType}
@@ -9,7 +9,7 @@ use Rattle.chi_flit.specs.declared.message.Request.{Request}
 use Rattle.chi_flit.specs.Credit.{credit_number, credit_type_of}
 use Rattle.chi_rnline.specs.declared.pending.Pending.{Pending}
 use Rattle.chi_homeline.specs.declared.serving.Serving.{Serving}
-use Rattle.chi_homeline.specs.declared.serving.Serving.TheVariants.{Idle, Snooping, AwaitingCompAck, AwaitingWriteData}
+use Rattle.chi_homeline.specs.declared.serving.Serving.TheVariants.{Snooping, AwaitingWriteData}
 use Rattle.chi_homeline.specs.declared.serving.Waiting.{Waiting}
 use Rattle.chi_homeline.specs.Home.{waiting_of}
 use Rattle.chi_line.specs.LineState.{LineState, rn_of, cells_of}
@@ -33,10 +33,9 @@ waiting_kind_of None slot = None
 waiting_kind_of (Some request) slot = if request.slot.0 == slot.0 then Some request.kind else None
 
 abbrev pub served_kind_of : Serving → ℕ → Slot → Option Kind
-served_kind_of Idle n slot = None
 served_kind_of (Snooping agent kind own) n slot = if agent.0 == n && own.0 == slot.0 then Some kind else None
-served_kind_of (AwaitingCompAck agent own) n slot = None
 served_kind_of (AwaitingWriteData agent kind own) n slot = if agent.0 == n && own.0 == slot.0 then Some kind else None
+served_kind_of other n slot = None
 
 -- whether the slot of agent n has the credit type wherever the line still keeps the kind of its request
 abbrev pub is_of_type : Profile → CreditType → LineState → ℕ → Slot → Bool
@@ -48,5 +47,4 @@ is_of_type profile ty s n slot =
 
 -- the credit type of a request that is pending
 abbrev pub pending_credit : Profile → Option Pending → Option CreditType
-pending_credit profile None = None
-pending_credit profile (Some request) = Some (credit_type_of profile request.kind)
+pending_credit profile pending = option_map (λ (request : Pending). credit_type_of profile request.kind) pending

@@ -1,11 +1,12 @@
 //! The actions of a requester's copy alone: they send nothing.
 
 ghost use Rattle.std.specs.Prelude.{◌≡◌, ◌<◌, IfOk, OnOk, OnErr};
+ghost use Rattle.std.specs.Option.{option_or};
 ghost use Rattle.chi_flit.specs.Refusal.{refusal_of};
 ghost use Rattle.chi_flit.specs.declared.action.Effect.TheVariants.{Nothing, Value};
 ghost use Rattle.chi_rnline.specs.Rn.{cancel_refusal, drop_refusal, load_refusal, store_refusal, word_of};
 ghost use Rattle.chi_line.specs.LineState.{rn_of};
-ghost use Rattle.chi_line.specs.Refused.{first_of, full_if};
+ghost use Rattle.chi_line.specs.Refused.{full_if};
 ghost use Rattle.chi_line.specs.Step.{cancelled_line, dropped_line, stored_line};
 
 use crate::line::Line;
@@ -21,7 +22,7 @@ impl Line {
         requires agent { agent.0 < 8 }
         requires word { word.0 < 8 }
         ensures refusal { refusal_of result
-            ≡ first_of (load_refusal (rn_of self.now agent.0)) (full_if full) }
+            ≡ option_or (load_refusal (rn_of self.now agent.0)) (full_if full) }
         ensures effect { IfOk result (λ effect. effect ≡ Value (word_of (rn_of self.now agent.0) word.0)) }
     {
         let value = self.requesters[usize::from(agent.0)].load(word)?;
@@ -47,7 +48,7 @@ impl Line {
         requires agent { agent.0 < 8 }
         requires word { word.0 < 8 }
         ensures refusal { refusal_of result
-            ≡ first_of (store_refusal (rn_of self.old agent.0)) (full_if full) }
+            ≡ option_or (store_refusal (rn_of self.old agent.0)) (full_if full) }
         ensures effect { IfOk result (λ effect. effect ≡ Nothing) }
         ensures after { OnOk result (self.new ≡ stored_line self.old agent.0 word.0 value) }
         ensures err { OnErr result (self.new ≡ self.old) }

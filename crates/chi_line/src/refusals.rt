@@ -1,10 +1,11 @@
 //! Why an action is refused, found without doing it.
 
 ghost use Rattle.std.specs.Prelude.{◌≡◌, ◌<◌, Some, if◌then◌else◌, IfOk};
+ghost use Rattle.std.specs.Option.{option_or};
 ghost use Rattle.chi_flit.specs.Refusal.{refusal_of};
 ghost use Rattle.chi_flit.specs.declared.refusal.Refusal.TheVariants as refusals;
 ghost use Rattle.chi_rnline.specs.Rn.{issue_refusal, load_refusal, store_refusal};
-ghost use Rattle.chi_line.specs.Refused.{first_of, full_if, line_refusal, no_flit_unless, resend_step_refusal, retry_refusal};
+ghost use Rattle.chi_line.specs.Refused.{full_if, line_refusal, no_flit_unless, resend_step_refusal, retry_refusal};
 ghost use Rattle.chi_line.specs.Step.{is_ack, is_comp, is_dbid, is_retry, is_write_data};
 
 use crate::act::Conditions;
@@ -48,7 +49,7 @@ impl Line {
 
 /// The refusal of a Load: the copy's, then that of a full journal.
 fn why_no_load(copy: &RnLine, full: bool) -> Option<Refusal>
-    ensures { result ≡ first_of (load_refusal copy.now) (full_if full) }
+    ensures { result ≡ option_or (load_refusal copy.now) (full_if full) }
 {
     match copy.why_no_load() {
         Some(refusal) => Some(refusal),
@@ -58,7 +59,7 @@ fn why_no_load(copy: &RnLine, full: bool) -> Option<Refusal>
 
 /// The refusal of a Store: the copy's, then that of a full journal.
 pub(crate) fn why_no_store(copy: &RnLine, full: bool) -> Option<Refusal>
-    ensures { result ≡ first_of (store_refusal copy.now) (full_if full) }
+    ensures { result ≡ option_or (store_refusal copy.now) (full_if full) }
 {
     match copy.why_no_store() {
         Some(refusal) => Some(refusal),

@@ -1,6 +1,6 @@
 //! The filter through its calls, against the values of `docs/PROTOCOL.md`, "The filter".
 
-use crate::told::same;
+use crate::comparison::same;
 use chi_filter::{Filter, has_any};
 use chi_flit::Agent;
 

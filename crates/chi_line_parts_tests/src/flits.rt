@@ -16,7 +16,7 @@ fn prints<T: fmt::Display + Drop>(rt: &impl Abort, alloc: Global, value: T, text
 }
 
 /// The message is of the channel, and prints as this text.
-fn is_told(rt: &impl Abort, alloc: Global, message: Msg, channel: Channel, text: &str) {
+fn is_shown(rt: &impl Abort, alloc: Global, message: Msg, channel: Channel, text: &str) {
     assert!(rt; message.channel() == channel, "{text}");
     prints(rt, alloc, message, text);
 }
@@ -227,7 +227,7 @@ const TO_A_REQUESTER: [(Msg, Channel, &str); 6] = [
 #[test]
 fn snoops_and_data_to_a_requester_print(rt: HostRuntime) {
     for (message, channel, text) in &TO_A_REQUESTER {
-        is_told(&rt, rt.alloc(), *message, *channel, text);
+        is_shown(&rt, rt.alloc(), *message, *channel, text);
     }
 }
 
@@ -264,7 +264,7 @@ const RESPONSES: [(Msg, Channel, &str); 7] = [
 #[test]
 fn responses_to_a_requester_print(rt: HostRuntime) {
     for (message, channel, text) in &RESPONSES {
-        is_told(&rt, rt.alloc(), *message, *channel, text);
+        is_shown(&rt, rt.alloc(), *message, *channel, text);
     }
 }
 
@@ -305,7 +305,7 @@ fn messages_to_the_home_print(rt: HostRuntime) {
     for (message, text) in &TO_THE_HOME {
         let data = matches!(message, Msg::DatUp(_));
         let channel = if data { Channel::DatUp } else { Channel::RspUp };
-        is_told(&rt, rt.alloc(), *message, channel, text);
+        is_shown(&rt, rt.alloc(), *message, channel, text);
     }
 }
 
@@ -323,7 +323,7 @@ fn requests_print_kind_slot_and_attempt(rt: HostRuntime) {
             slot: Slot(*slot),
             allow_retry: *allow_retry,
         };
-        is_told(&rt, rt.alloc(), Msg::Req(request), Channel::Req, text);
+        is_shown(&rt, rt.alloc(), Msg::Req(request), Channel::Req, text);
     }
 }
 

@@ -2,7 +2,7 @@
 
 ghost use Rattle.std.specs.Prelude.{◌<◌};
 
-use crate::told::same;
+use crate::comparison::same;
 use chi_flit::{Agent, Kind, NO_DATA, Refusal, Slot, Snoop, State};
 use chi_homeline::{Begun, CompletionForm, HomeLine, Serving, Waiting};
 use std::process::Abort;

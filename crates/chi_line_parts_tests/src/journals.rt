@@ -1,6 +1,6 @@
 //! A journal through its calls, by `docs/PROTOCOL.md`, "The journal and last values".
 
-use crate::told::same;
+use crate::comparison::same;
 use chi_flit::{Agent, Line, NoMemory, Refusal, WordNo};
 use chi_journal::{Journal, Record};
 use linked_list_allocator::LocalHeap;

@@ -3,6 +3,8 @@
 #![tactic(auto)]
 
 #[cfg(test)]
+mod comparison;
+#[cfg(test)]
 mod filters;
 #[cfg(test)]
 mod flits;
@@ -12,7 +14,5 @@ mod home_lines;
 mod journals;
 #[cfg(test)]
 mod requester_lines;
-#[cfg(test)]
-mod told;
 #[cfg(test)]
 mod wires;

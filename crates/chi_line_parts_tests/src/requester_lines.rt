@@ -1,6 +1,6 @@
 //! A requester's line through its calls, against the values of `docs/PROTOCOL.md`.
 
-use crate::told::same;
+use crate::comparison::same;
 use chi_flit::{CompData, Data, Kind, Msg, NO_DATA, Refusal, Request, RspUp, Slot, State};
 use chi_rnline::{Pending, Phase, RnLine};
 

@@ -1,6 +1,6 @@
 //! The flits in flight at a line through the calls on them, by `docs/PROTOCOL.md`, "Messages".
 
-use crate::told::same;
+use crate::comparison::same;
 use chi_flit::{Agent, Channel, Kind, Msg, Request, RspUp, Slot, Snoop};
 use chi_wires::{Cells, cells_of, clear, exchange, put, put_snoops};
 

@@ -2,6 +2,7 @@
 use Rattle.std.proofs.Common.{◌≡◌, ◌≢◌, ℕ, ◌<◌, ◌≤◌, ◌==◌, ◌&&◌, ◌||◌, Bool, true, false, not, nat_le, nat_lt, Option, Some, None, length, refl, sym, ap, ◌∙◌, subst, subst₂, if◌then◌else◌, arith}
 use Rattle.std.proofs.lemmas.Bool.{ltb-true}
 use Rattle.std.specs.Prelude.{slice_index}
+use Rattle.std.specs.Option.{option_or}
 use Rattle.chi_flit.specs.declared.numbers.Agent.{Agent}
 use Rattle.chi_flit.specs.declared.numbers.Line.{Line}
 use Rattle.chi_flit.specs.declared.numbers.Slot.{Slot}
@@ -25,7 +26,7 @@ use Rattle.chi_rnline.specs.Rn.{load_refusal, resend_refusal, store_refusal}
 use Rattle.chi_config.specs.Config.{Sizes, are_entries, are_in_limits, is_between, is_slice_count}
 use Rattle.chi_slice.specs.Index.{SlotsInRange}
 use Rattle.chi_line.specs.LineState.{cells_of, rn_of}
-use Rattle.chi_line.specs.Refused.{first_of, full_if, line_refusal}
+use Rattle.chi_line.specs.Refused.{full_if, line_refusal}
 use Rattle.chi_line.specs.Refused.{credit_refusal as line_credit_refusal}
 use Rattle.chi_slice.specs.Slice.{SliceKept, SliceState, slice_after, conditions_under, is_in_range, is_slot_used, line, moved_by, action_refusal, refused_under}
 use Rattle.chi_slice.proofs.Refusing.{allowed_alone}
@@ -141,7 +142,7 @@ has_credit s r agent l slot can is typed =
     free_credit r s.config.profile rn.pending slot (slot_at r.slots slot.0).credit is (both (has_type s.config.profile (slot_at r.slots slot.0).credit (pending_kind_of rn.pending slot)) _ typed).0
     (neither (resend_refusal rn) (line_credit_refusal (spare_credits r) (pending_credit s.config.profile rn.pending)) (by_line s r (action_of agent l steps.Resend) can)).1
 
-counted : (s : SliceState) (r : RequesterState) (agent : Agent) (l : Line) (step : Step) (first : Option Refusal) → CanStep s r (action_of agent l step) → first_of first (full_if (is_full s.journal)) ≡ None → (s.index < 8) × (slice_index r.counts s.index < 65536)
+counted : (s : SliceState) (r : RequesterState) (agent : Agent) (l : Line) (step : Step) (first : Option Refusal) → CanStep s r (action_of agent l step) → option_or first (full_if (is_full s.journal)) ≡ None → (s.index < 8) × (slice_index r.counts s.index < 65536)
 counted s r agent l step first can may = ((ready_of s agent l step r can).index, room_of s r (action_of agent l step) can (not_full (is_full s.journal) (neither first (full_if (is_full s.journal)) may).1))
 
 idle_slot : (s : SliceState) (r : RequesterState) (agent : Agent) (l : Line) (kind : Kind) (slot : Slot) → CanStep s r (action_of agent l (steps.Issue kind slot)) → (slot.0 < 8) × (state_at r.slots slot.0 ≡ states.Idle)

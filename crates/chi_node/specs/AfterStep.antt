@@ -9,9 +9,8 @@ use Rattle.chi_flit.specs.declared.action.Effect.{Effect}
 use Rattle.chi_flit.specs.declared.action.Effect.TheVariants.{Nothing, Value, Completed}
 use Rattle.chi_flit.specs.Credit.{credit_type_of}
 use Rattle.chi_tracker.specs.declared.released.Released.{Released}
-use Rattle.chi_tracker.specs.Shape.{IsOf}
 use Rattle.chi_tracker.specs.Views.{has}
-use Rattle.chi_tracker.specs.Calls.{seen_of, Ended, HasSameCredits}
+use Rattle.chi_tracker.specs.Calls.{seen_of, EndedAsItsType, HasSameCredits}
 use Rattle.chi_credit.specs.declared.slot.SlotState.TheVariants.{Admitted, Idle, Refused, Retried, Riding, Cancelled}
 use Rattle.chi_credit.specs.declared.slot.SlotRecord.{SlotRecord}
 use Rattle.chi_credit.specs.Slot.{after_answer, after_finish, can_be_answered, in_state, is_admitted, opened_slot}
@@ -69,7 +68,7 @@ CanFollow at other r = ⊤
 
 -- the request of slot s was completed, and its entry, which was in hand, released
 pub record Completes (s : ℕ) (released : Released) (old new : RequesterState) : Type 0 where
-  pub ended : (e : Entry) × (state_at old.slots s ≡ Admitted e) × ((t : ℕ) × (t < 4) × IsOf old.port.shape t e.0 × Ended old.port t e.0 released new.port)
+  pub ended : (e : Entry) × (state_at old.slots s ≡ Admitted e) × EndedAsItsType old.port e.0 released new.port
   pub held : (e : Entry) → state_at old.slots s ≡ Admitted e → has e.0 old.port ≡ 1
   pub credits : HasSameCredits old.port new.port
   pub after : new ≡ with_both new.port (slice_set old.slots s (after_finish (slot_at old.slots s))) old
@@ -81,6 +80,5 @@ CanFinish at step (Value word) r = CanFollow at step r
 CanFinish at step (Completed slot) r = (slot.0 < 8) × (is_admitted (state_at r.slots slot.0) ≡ true)
 
 abbrev pub Finishes : StepPlace → Step → Effect → Option Released → RequesterState → RequesterState → Type 0
-Finishes at step Nothing released old new = (released ≡ None) × (new ≡ requester_after at step old)
-Finishes at step (Value word) released old new = (released ≡ None) × (new ≡ requester_after at step old)
 Finishes at step (Completed slot) released old new = IfNone released ⊥ × IfSome released (λ r. Completes slot.0 r old new)
+Finishes at step other released old new = (released ≡ None) × (new ≡ requester_after at step old)

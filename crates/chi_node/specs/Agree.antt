@@ -13,21 +13,20 @@ use Rattle.chi_line.specs.LineState.{LineState}
 use Rattle.chi_line.specs.Places.{where_at}
 use Rattle.chi_line.specs.Types.{is_of_type}
 use Rattle.chi_credit.specs.declared.slot.SlotState.{SlotState}
-use Rattle.chi_credit.specs.declared.slot.SlotState.TheVariants.{Admitted, Cancelled, Closing, Idle, Refused, Retried, Riding, Sent}
+use Rattle.chi_credit.specs.declared.slot.SlotState.TheVariants.{Admitted, Closing, Refused, Retried, Riding, Sent}
 use Rattle.chi_credit.specs.declared.slot.SlotRecord.{SlotRecord}
 use Rattle.chi_credit.specs.Account.{slot_at}
 use Rattle.chi_node.specs.Requester.{RequesterState}
 
 -- where the request of a slot is, by the slot's state and whether it is marked as answered
 abbrev pub where_of_state : SlotState → Bool → Option Where
-where_of_state Idle answered = None
 where_of_state Sent answered = Some places.Sent
 where_of_state Refused answered = Some places.Refused
 where_of_state Retried answered = Some places.Retried
 where_of_state Riding answered = Some places.Riding
 where_of_state (Admitted entry) answered = if answered then Some places.Answered else Some places.Admitted
 where_of_state Closing answered = Some places.Closing
-where_of_state Cancelled answered = None
+where_of_state other answered = None
 
 -- where it is at a line, by the slot's record: nowhere where the record's line is another one
 abbrev pub where_of_record : SlotRecord → ℕ → Option Where

@@ -1,11 +1,10 @@
 -- How a request arrives at the home, for its agent (docs/PROTOCOL.md, "A requester and its calls").
 use Rattle.std.specs.Prelude.{◌≡◌, ℕ, ◌-◌, ◌<◌, Bool, true, false}
-use Rattle.std.specs.Int.{bit_at}
 use Rattle.chi_flit.specs.Credit.{credit_number}
 use Rattle.chi_tracker.specs.Shape.{low, size, IsOf}
 use Rattle.chi_tracker.specs.Views.{has}
 use Rattle.chi_tracker.specs.Steps.{spends}
-use Rattle.chi_tracker.specs.Calls.{into_hand, owed_one, port_after_scan, IsLowestSeen}
+use Rattle.chi_tracker.specs.Calls.{into_hand, owed_one, port_after_scan, scanned_all, FoundAll, IsLowestSeen}
 use Rattle.chi_credit.specs.declared.slot.SlotState.TheVariants as states
 use Rattle.chi_credit.specs.Account.{slots_with_state, slot_at, state_at, type_at}
 use Rattle.chi_node.specs.declared.answers.Arrived.{Arrived}
@@ -20,8 +19,8 @@ ArrivesFirst s (Admitted e) old new =
     × (new ≡ with_both (into_hand e.0 (port_after_scan (type_at old.slots s) (e.0 - low old.port.shape (type_at old.slots s)) old.port))
     (slots_with_state old.slots s (states.Admitted e)) old)
 ArrivesFirst s (Retried ty) old new =
-    (credit_number ty ≡ type_at old.slots s) × ((e : ℕ) → IsOf old.port.shape (type_at old.slots s) e → bit_at new.port.found e ≡ 1)
-    × (new ≡ with_both (owed_one (type_at old.slots s) (port_after_scan (type_at old.slots s) (size old.port.shape (type_at old.slots s)) old.port))
+    (credit_number ty ≡ type_at old.slots s) × FoundAll old.port.shape (type_at old.slots s) new.port
+    × (new ≡ with_both (owed_one (type_at old.slots s) (scanned_all (type_at old.slots s) old.port))
     (slots_with_state old.slots s states.Refused) old)
 
 abbrev pub ArrivesResent : ℕ → Arrived → RequesterState → RequesterState → Type 0

@@ -1,11 +1,11 @@
 -- The calls for a whole requester on a slice: when they are refused, and what they leave (docs/PROTOCOL.md,
 -- "A requester and its calls").
 use Rattle.std.specs.Prelude.{◌≡◌, ◌≢◌, ◌+◌, ◌++◌, ◌∷◌, [], slice_index, ◌≤◌, ℕ, ◌⊎◌, Bool, false}
+use Rattle.std.specs.Option.{option_or}
 use Rattle.std.specs.Prelude.{nat_lt, List, Option, Some, None, true, length, replicate, is_some, if◌then◌else◌}
 use Rattle.chi_flit.specs.declared.action.Action.{Action}
 use Rattle.chi_flit.specs.declared.action.Step.{Step}
 use Rattle.chi_flit.specs.declared.action.Step.TheVariants as steps
-use Rattle.chi_flit.specs.declared.action.Effect.{Effect}
 use Rattle.chi_flit.specs.declared.action.Effect.TheVariants.{Nothing}
 use Rattle.chi_flit.specs.declared.credit.CreditType.{CreditType}
 use Rattle.chi_flit.specs.declared.credit.Profile.{Profile}
@@ -17,9 +17,8 @@ use Rattle.chi_flit.specs.Credit.{credit_number}
 use Rattle.chi_tracker.specs.Calls.{seen_of}
 use Rattle.chi_rnline.specs.declared.pending.Pending.{Pending}
 use Rattle.chi_line.specs.LineState.{cells_of, rn_of}
-use Rattle.chi_line.specs.LineStep.{LineStep}
-use Rattle.chi_line.specs.Refused.{first_of, no_flit_unless}
-use Rattle.chi_slice.specs.Slice.{SliceKept, SliceState, slice_after, are_in_range, flits_refusal, line, moved_by, refused_under}
+use Rattle.chi_line.specs.Refused.{no_flit_unless}
+use Rattle.chi_slice.specs.Slice.{IsStep, SliceKept, SliceState, slice_after, are_in_range, flits_refusal, line, moved_by, refused_under}
 use Rattle.chi_slice.specs.declared.terms.Terms.{Terms}
 use Rattle.chi_slice.specs.Index.{SlotsInRange}
 use Rattle.chi_line.specs.Types.{pending_credit}
@@ -45,7 +44,7 @@ OrNotOpen None Agrees answer = (Agrees × (answer ≡ None)) ⊎ ((Agrees → �
 
 -- why nothing of agent n arrives at a line: 10, then 7
 abbrev pub arrival_refusal : SliceState → ℕ → ℕ → Option Refusal
-arrival_refusal s n l = first_of (flits_refusal s n l) (no_flit_unless (is_some (cells_of (line s l) n).req))
+arrival_refusal s n l = option_or (flits_refusal s n l) (no_flit_unless (is_some (cells_of (line s l) n).req))
 
 -- why nothing arrives where it is also asked whether the requester agrees
 abbrev pub IsArrivalRefusal : SliceState → RequesterState → ℕ → Option Refusal → Type 0
@@ -59,11 +58,7 @@ arrival_step (Retried ty) = steps.Retry
 abbrev pub arrival_action : ℕ → Line → Arrived → Action
 arrival_action n l arrived = record { agent = record { 0 = n }; line = l; step = arrival_step arrived }
 
--- an action takes its line by its step, with this effect
-abbrev pub IsStep : SliceState → Action → Effect → SliceState → Type 0
-IsStep s action effect s' = LineStep s.config.profile (line s action.line.0) action effect (record_of (line s action.line.0) action) (line s' action.line.0)
-
--- and so does the action of an arrival, which has no effect
+-- the action of an arrival takes its line by its step, and has no effect
 abbrev pub IsArrivalStep : SliceState → SliceState → ℕ → Line → Arrived → Type 0
 IsArrivalStep s s' n l arrived = IsStep s (arrival_action n l arrived) Nothing s'
 
@@ -109,7 +104,7 @@ refused_with taken s action = refused_under (slot_terms taken) s action
 
 -- why a step isn't done, before it is asked whether the requester agrees: the action's numbers, then 12
 abbrev pub call_refusal : SliceState → RequesterState → Action → Option Refusal
-call_refusal s r action = first_of (refused_with (is_slot_taken r.slots action.step) s action) (credit_refusal r (wanted_credit s action))
+call_refusal s r action = option_or (refused_with (is_slot_taken r.slots action.step) s action) (credit_refusal r (wanted_credit s action))
 
 -- and why where it is asked
 abbrev pub IsStepRefusal : SliceState → RequesterState → Action → Option Refusal → Type 0

@@ -4,8 +4,9 @@ ghost use Rattle.std.specs.Prelude.{◌≡◌, true, IfOk, OnErr, OnOk};
 ghost use Rattle.chi_flit.specs.Refusal.{refusal_of};
 ghost use Rattle.chi_node.specs.Agree.{Agree, KeepsAgreement};
 ghost use Rattle.chi_node.specs.Calls.{arrival_refusal, arrival_step, call_refusal, is_own_step};
-ghost use Rattle.chi_node.specs.Calls.{ArrivesOn, BothKept, CanArriveOn, CountsStep, IsArrivalRefusal, IsArrivalStep, IsSameRequester, IsSameSlice, IsStep, IsStepRefusal, StepsTo};
+ghost use Rattle.chi_node.specs.Calls.{ArrivesOn, BothKept, CanArriveOn, CountsStep, IsArrivalRefusal, IsArrivalStep, IsSameRequester, IsSameSlice, IsStepRefusal, StepsTo};
 ghost use Rattle.chi_node.specs.Parts.{HasTypes};
+ghost use Rattle.chi_slice.specs.Slice.{IsStep};
 
 use crate::agree::agrees;
 use crate::answers::{Arrived, Stepped};

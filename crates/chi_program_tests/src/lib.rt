@@ -6,10 +6,10 @@
 #[cfg(test)]
 mod command_lines;
 #[cfg(test)]
+mod comparison;
+#[cfg(test)]
 mod replays;
 #[cfg(test)]
 mod scarce;
 #[cfg(test)]
 mod stops;
-#[cfg(test)]
-mod told;

@@ -1,6 +1,6 @@
 //! Replays from an input to an output, with too little memory and failing devices too.
 
-use crate::told::same;
+use crate::comparison::same;
 use bumpalo::Bump;
 use chi_devices::{FileInput, MemoryInput, MemoryOutput, Output, StandardOutput};
 use chi_replay::replay;

@@ -1,6 +1,6 @@
 //! A file that is read on heaps and in budgets of many sizes, of which the least are too small.
 
-use crate::told::same;
+use crate::comparison::same;
 use bumpalo::Bump;
 use chi_devices::{MemoryInput, read_all};
 use chi_script::{Command, Fault, Script, read_file};

@@ -1,6 +1,6 @@
 //! Each way in which the program stops, its line and its status.
 
-use crate::told::same;
+use crate::comparison::same;
 use chi_arguments::{ArgFault, arguments};
 use chi_program::Stop;
 use chi_script::Fault;

@@ -8,7 +8,7 @@ use Rattle.chi_config.specs.Config.{Sizes, four_types, two_types}
 use Rattle.chi_script.specs.declared.headers.Header.{Header}
 use Rattle.chi_script.specs.declared.commands.Command.{Command}
 use Rattle.chi_script.specs.declared.faults.Fault.{Fault}
-use Rattle.chi_script.specs.declared.faults.Fault.TheVariants.{NoMemory, BadHeader, BadCommand, MissingNewline, TooLarge, Read, Write}
+use Rattle.chi_script.specs.declared.faults.Fault.TheVariants.{NoMemory, Read, Write}
 use Rattle.chi_script.specs.Files.{file_of}
 use Rattle.chi_script.specs.Headers.{node_sizes}
 use Rattle.chi_devices.specs.Devices.{AppendsFront}
@@ -43,10 +43,7 @@ abbrev pub NoText : {F : Type 0} → (List ℕ → Result F Fault) → Option (L
 NoText read file before after Read = after ≡ before + 1
 NoText read file before after NoMemory = Unit {0}
 NoText read file before after Write = ⊥
-NoText read file before after (BadHeader line) = IfSome file (λ bytes. read bytes ≡ Err (BadHeader line))
-NoText read file before after (BadCommand line) = IfSome file (λ bytes. read bytes ≡ Err (BadCommand line))
-NoText read file before after (MissingNewline line) = IfSome file (λ bytes. read bytes ≡ Err (MissingNewline line))
-NoText read file before after TooLarge = IfSome file (λ bytes. read bytes ≡ Err TooLarge)
+NoText read file before after fault = IfSome file (λ bytes. read bytes ≡ Err fault)
 
 -- where a run ended with a fault other than Write, this is why it has no text
 abbrev pub NoTextAt : {F A : Type 0} → Result A Fault → (List ℕ → Result F Fault) → Option (List ℕ) → ℕ → ℕ → Type 0

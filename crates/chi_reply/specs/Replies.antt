@@ -1,7 +1,7 @@
 -- The text of each answer of a replay, without the line feed that ends its line
 -- (docs/PROTOCOL.md, "Replay files" and "Messages"), and what a storm
 -- prints as they do ("The output of a storm").
-use Rattle.std.specs.Prelude.{ℕ, List, [], ◌∷◌, ◌++◌, Bool, true, false, Option, Some, None, is_some, map, take, codes}
+use Rattle.std.specs.Prelude.{ℕ, List, [], ◌∷◌, ◌++◌, Bool, true, false, is_some, map, take, codes, option_to_list}
 use Rattle.std.specs.List.{filter, flat_map, range_with_len}
 use Rattle.std.specs.Fmt.{decimal}
 use Rattle.chi_flit.specs.declared.credit.Profile.{Profile}
@@ -89,14 +89,9 @@ shown_text agents view =
 abbrev pub shown_channels : List Channel
 shown_channels = channels.Req ∷ channels.Snp ∷ channels.RspDown ∷ channels.DatDown ∷ channels.RspUp ∷ channels.DatUp ∷ []
 
--- a message that may be there, as a list
-abbrev pub message_list : Option Msg → List Msg
-message_list None = []
-message_list (Some message) = message ∷ []
-
 -- what is in flight, in that order
 abbrev pub messages_in : Cells → List Msg
-messages_in cells = flat_map (λ channel. message_list (cell_of cells channel)) shown_channels
+messages_in cells = flat_map (λ channel. option_to_list (cell_of cells channel)) shown_channels
 
 abbrev pub has_none : List Msg → Bool
 has_none [] = true

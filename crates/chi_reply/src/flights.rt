@@ -1,8 +1,8 @@
 //! The answer of `flits`.
 
-ghost use Rattle.std.specs.Prelude.{◌≡◌, Some};
+ghost use Rattle.std.specs.Prelude.{◌≡◌, Some, option_to_list};
 ghost use Rattle.chi_flit.specs.Message.{message_text};
-ghost use Rattle.chi_reply.specs.Replies.{flits_text, has_none, message_list, messages_in, spaced_texts};
+ghost use Rattle.chi_reply.specs.Replies.{flits_text, has_none, messages_in, spaced_texts};
 
 use crate::prints::Wording;
 use chi_flit::{Channel, Msg};
@@ -55,7 +55,7 @@ impl<'a> Wording for InFlight<'a> {
 }
 
 impl fmt::Display for Flit {
-    ghost output = { λ flit. Some (spaced_texts message_text (message_list flit.0)) };
+    ghost output = { λ flit. Some (spaced_texts message_text (option_to_list flit.0)) };
 
     fn fmt<W: fmt::Write>(&self, f: &mut fmt::Formatter<W>) -> fmt::Result {
         match self.0 {

@@ -1,13 +1,12 @@
 -- One requester's side of one line, and the requester's part of each action (docs/PROTOCOL.md, "One line",
 -- "The actions", "Answers to snoops" and "Write data").
-use Rattle.std.specs.Prelude.{ℕ, List, Bool, true, false, ◌||◌, Option, Some, None, is_some, slice_set, if◌then◌else◌, not}
+use Rattle.std.specs.Prelude.{ℕ, List, Bool, true, false, ◌||◌, Option, Some, None, is_some, slice_set, if◌then◌else◌, not, option_map}
 use Rattle.std.specs.List.{slice_index_or}
 use Rattle.chi_flit.specs.declared.numbers.Slot.{Slot}
 use Rattle.chi_flit.specs.declared.state.State.{State}
 use Rattle.chi_flit.specs.declared.state.State.TheVariants.{I, SC, UC, UD, SD}
 use Rattle.chi_flit.specs.declared.kind.Kind.{Kind}
-use Rattle.chi_flit.specs.declared.kind.Kind.TheVariants.{ReadNotSharedDirty, ReadShared, ReadUnique, CleanUnique, Evict, WriteBackFull}
-use Rattle.chi_flit.specs.declared.kind.Kind.TheVariants.{WriteCleanFull, WriteEvictFull}
+use Rattle.chi_flit.specs.declared.kind.Kind.TheVariants.{Evict}
 use Rattle.chi_flit.specs.declared.snoop.Snoop.{Snoop}
 use Rattle.chi_flit.specs.declared.message.CompData.{CompData}
 use Rattle.chi_flit.specs.declared.message.Msg.{Msg}
@@ -42,14 +41,8 @@ issue_refusal rn kind = if is_some rn.pending then Some refusals.Pending else (i
 
 -- the copy's state after an issue: an Evict gives it up at once
 abbrev pub state_after_issue : Kind → State → State
-state_after_issue ReadNotSharedDirty state = state
-state_after_issue ReadShared state = state
-state_after_issue ReadUnique state = state
-state_after_issue CleanUnique state = state
 state_after_issue Evict state = I
-state_after_issue WriteBackFull state = state
-state_after_issue WriteCleanFull state = state
-state_after_issue WriteEvictFull state = state
+state_after_issue other state = state
 
 -- Issue: the request is pending, in phase Sent
 abbrev pub rn_after_issue : Rn → Kind → Slot → Rn
@@ -77,11 +70,9 @@ rn_after_store rn word value = record rn { state = UD; words = slice_set rn.word
 
 -- the states of a clean copy, which may be dropped
 abbrev pub is_clean_copy : State → Bool
-is_clean_copy I = false
 is_clean_copy SC = true
 is_clean_copy UC = true
-is_clean_copy UD = false
-is_clean_copy SD = false
+is_clean_copy other = false
 
 -- Drop: 3 where a request is pending, then 2 where the copy isn't clean
 abbrev pub drop_refusal : Rn → Option Refusal
@@ -93,8 +84,7 @@ rn_after_drop rn = record rn { state = I }
 
 -- a request in a phase
 abbrev pub in_phase : Phase → Option Pending → Option Pending
-in_phase phase None = None
-in_phase phase (Some request) = Some (record request { phase = phase })
+in_phase phase pending = option_map (λ (request : Pending). record request { phase = phase }) pending
 
 -- RecvRetry: the request is in phase Retried
 abbrev pub rn_after_retry : Rn → Rn
@@ -142,11 +132,9 @@ rn_after_snoop rn snoop = record rn { state = (answer_of rn.state snoop rn.words
 
 -- the copy's state after Comp_UC: a copy that was lost stays so
 abbrev pub state_after_comp : State → State
-state_after_comp I = I
 state_after_comp SC = UC
-state_after_comp UC = UC
-state_after_comp UD = UD
 state_after_comp SD = UD
+state_after_comp other = other
 
 -- RecvComp of Comp_UC: the copy is unique, and nothing is pending
 abbrev pub rn_after_comp : Rn → Rn
@@ -158,11 +146,9 @@ rn_after_evict rn = record rn { pending = None }
 
 -- the copy's state after its write data was sent: a WriteCleanFull keeps a copy, clean
 abbrev pub state_after_clean : State → State
-state_after_clean I = I
-state_after_clean SC = SC
-state_after_clean UC = UC
 state_after_clean UD = UC
 state_after_clean SD = SC
+state_after_clean other = other
 
 abbrev pub state_after_write : Kind → State → State
 state_after_write kind state = if gives_up kind then I else state_after_clean state

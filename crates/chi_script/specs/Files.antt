@@ -1,6 +1,6 @@
 -- A replay file is a header and commands, or faulty: then its first faulty line is told (docs/PROTOCOL.md,
 -- "Replay files").
-use Rattle.std.specs.Prelude.{◌≡◌, ℕ, ◌+◌, ◌==◌, nat_lt, List, [], ◌∷◌, Option, Some, None, Result, Ok, Err, length, if◌then◌else◌}
+use Rattle.std.specs.Prelude.{◌≡◌, ℕ, ◌+◌, ◌==◌, nat_lt, List, [], ◌∷◌, Result, Ok, Err, length, if◌then◌else◌, ok_or}
 use Rattle.std.specs.List.{slice_split}
 use Rattle.chi_script.specs.declared.headers.Header.{Header}
 use Rattle.chi_script.specs.declared.commands.Command.{Command}
@@ -15,21 +15,17 @@ abbrev pub ◌>>=◌ : {A B : Type 0} → Result A Fault → (A → Result B Fau
 (Ok x) >>= next = next x
 (Err fault) >>= next = Err fault
 
-abbrev pub or_fault : {A : Type 0} → Option A → Fault → Result A Fault
-or_fault None fault = Err fault
-or_fault (Some x) fault = Ok x
-
 -- the lines, and last what no line end closes
 abbrev pub lines_of : List ℕ → List (List ℕ)
 lines_of file = slice_split (λ b. b == 10) file
 
 -- the header that line n is
 abbrev pub header_at : ℕ → List ℕ → Result Header Fault
-header_at n line = or_fault (header_of (words_of line)) (BadHeader n)
+header_at n line = ok_or (header_of (words_of line)) (BadHeader n)
 
 -- the command that line n is
 abbrev pub command_at : ℕ → List ℕ → Result Command Fault
-command_at n line = or_fault (command_of (words_of line)) (BadCommand n)
+command_at n line = ok_or (command_of (words_of line)) (BadCommand n)
 
 -- the lines from line n on
 unfoldable pub commands_of : ℕ → List (List ℕ) → Result (List Command) Fault

@@ -1,5 +1,6 @@
 -- What a requester's terms add to why an action is refused.
 use Rattle.std.proofs.Common.{◌≡◌, List, Bool, true, false, ◌||◌, Option, Some, None, refl, replicate, if◌then◌else◌}
+use Rattle.std.specs.Option.{option_or}
 use Rattle.chi_flit.specs.declared.numbers.Agent.{Agent}
 use Rattle.chi_flit.specs.declared.action.Action.{Action}
 use Rattle.chi_flit.specs.declared.action.Step.{Step}
@@ -13,7 +14,7 @@ use Rattle.chi_journal.specs.Journal.{is_full}
 use Rattle.chi_rnline.specs.Rn.{resend_refusal}
 use Rattle.chi_line.specs.declared.act.Conditions.{Conditions}
 use Rattle.chi_line.specs.LineState.{LineState, rn_of}
-use Rattle.chi_line.specs.Refused.{credit_refusal, first_of, line_refusal, step_refusal}
+use Rattle.chi_line.specs.Refused.{credit_refusal, line_refusal, step_refusal}
 use Rattle.chi_line.specs.Types.{pending_credit}
 use Rattle.chi_slice.specs.declared.terms.Terms.{Terms}
 use Rattle.chi_slice.specs.Slice.{SliceState, conditions_under, no_terms, is_in_range, is_slot_used, line, action_refusal, refused_under}
@@ -40,7 +41,7 @@ issue_alone true false other may = may
 issue_alone false true other may = absurd (cc (may))
 issue_alone false false other may = may
 
-resend_alone : (first : Option Refusal) (credits : List Bool) (ty : Option CreditType) → first_of first (credit_refusal credits ty) ≡ None → first_of first (credit_refusal (replicate 4 true) ty) ≡ None
+resend_alone : (first : Option Refusal) (credits : List Bool) (ty : Option CreditType) → option_or first (credit_refusal credits ty) ≡ None → option_or first (credit_refusal (replicate 4 true) ty) ≡ None
 resend_alone None credits ty may = all_credits ty
 resend_alone (Some refusal) credits ty may = may
 

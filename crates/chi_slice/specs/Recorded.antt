@@ -24,21 +24,7 @@ load_record agent line word (Completed slot) = None
 abbrev pub done_record : Agent → Line → Step → Effect → Option Record
 done_record agent line (steps.Load word) effect = load_record agent line word effect
 done_record agent line (steps.Store word value) effect = Some (records.Store agent line word value)
-done_record agent line steps.Drop effect = None
-done_record agent line (steps.Issue kind slot) effect = None
-done_record agent line steps.Admit effect = None
-done_record agent line steps.Retry effect = None
-done_record agent line steps.RecvRetry effect = None
-done_record agent line steps.Resend effect = None
-done_record agent line steps.Cancel effect = None
-done_record agent line steps.Start effect = None
-done_record agent line steps.RecvSnp effect = None
-done_record agent line steps.RecvSnpResp effect = None
-done_record agent line steps.RecvData effect = None
-done_record agent line steps.RecvComp effect = None
-done_record agent line steps.RecvAck effect = None
-done_record agent line steps.RecvDbid effect = None
-done_record agent line steps.RecvWrData effect = None
+done_record agent line other effect = None
 
 abbrev pub record_by : Action → Effect → Option Record
 record_by action effect = done_record action.agent action.line action.step effect

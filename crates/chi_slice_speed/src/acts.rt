@@ -16,7 +16,7 @@ pub struct Run {
     /// How many actions were done.
     pub count: usize,
     /// The sum of the numbers of all effects.
-    pub told: u64,
+    pub sum: u64,
 }
 
 /// The blocks of lines and their width, for a number of lines that is measured: 64, 8 or one.
@@ -41,23 +41,23 @@ fn number(effect: Effect) -> u64 {
 /// Does all the actions, one after the other, and answers the sum of their effects' numbers; it is an error
 /// where one is refused.
 fn act_all(slice: &mut Slice<Global>, actions: &[Action]) -> io::Result<u64> {
-    let mut told: u64 = 0;
+    let mut sum: u64 = 0;
     for action in actions {
         match slice.act(*action) {
-            Ok(effect) => told = told.wrapping_add(number(effect)),
+            Ok(effect) => sum = sum.wrapping_add(number(effect)),
             Err(_) => return Err(io::Error::from(io::ErrorKind::InvalidData)),
         }
     }
-    Ok(told)
+    Ok(sum)
 }
 
 /// Does all the actions so many times. It is the one caller of `Slice::act`, which so stands inlined in it.
 pub fn act_times(slice: &mut Slice<Global>, actions: &[Action], times: usize) -> io::Result<u64> {
-    let mut told: u64 = 0;
+    let mut sum: u64 = 0;
     for _ in 0..times {
-        told = told.wrapping_add(act_all(slice, actions)?);
+        sum = sum.wrapping_add(act_all(slice, actions)?);
     }
-    Ok(told)
+    Ok(sum)
 }
 
 /// Does the mix over so many lines as often as it fits into `count` actions, on a new slice.
@@ -72,10 +72,10 @@ pub fn run_acts<R: Clock>(rt: &R, alloc: Global, lines: u8, count: usize) -> io:
     let times = count / actions.len();
     let mut slice = opened(alloc, lines)?;
     let start = Instant::now(rt)?;
-    let told = act_times(&mut slice, &actions, times)?;
+    let sum = act_times(&mut slice, &actions, times)?;
     Ok(Run {
         nanos: start.elapsed(rt)?.as_nanos(),
         count: times.saturating_mul(actions.len()),
-        told,
+        sum,
     })
 }

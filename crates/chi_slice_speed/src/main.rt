@@ -98,7 +98,7 @@ fn print_acts<R: Print + Clock>(rt: &R, alloc: Global, lines: &str, count: &str)
         return Err(io::Error::from(io::ErrorKind::InvalidInput));
     };
     let run = run_acts(rt, alloc, lines, count)?;
-    println!(rt; "{} {} {}", run.nanos, run.count, run.told)
+    println!(rt; "{} {} {}", run.nanos, run.count, run.sum)
 }
 
 fn main(rt: HostRuntime) -> io::Result<()> {

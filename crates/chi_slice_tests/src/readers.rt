@@ -173,7 +173,7 @@ fn tells_the_type_of_a_slot(rt: HostRuntime) {
 }
 
 /// Why the slice says that the action would be refused.
-fn told(slice: &Slice<Global>, action: Action, taken: bool) -> Option<Refusal> {
+fn refusal_of(slice: &Slice<Global>, action: Action, taken: bool) -> Option<Refusal> {
     let terms = Terms {
         slot_taken: taken,
         credits: [true; 4],
@@ -181,29 +181,29 @@ fn told(slice: &Slice<Global>, action: Action, taken: bool) -> Option<Refusal> {
     slice.refusal(action, terms)
 }
 
-/// Why agent 0's step at line 0 would be refused.
-fn is_told(
+/// Agent 0's step at line 0 would be refused so.
+fn has_refusal(
     rt: &impl Abort,
     slice: &Slice<Global>,
     step: Step,
     taken: bool,
     wanted: Option<Refusal>,
 ) {
-    assert!(rt; told(slice, at(0, step), taken) == wanted, "{step:?}");
+    assert!(rt; refusal_of(slice, at(0, step), taken) == wanted, "{step:?}");
 }
 
 /// A step, whether its slot is said to be taken, and why it would be refused.
-type Told = (Step, bool, Option<Refusal>);
+type RefusalRow = (Step, bool, Option<Refusal>);
 
 const READ_SHARED: Step = Step::Issue(Kind::ReadShared, Slot(0));
 
-const AT_FIRST: [Told; 2] = [
+const AT_FIRST: [RefusalRow; 2] = [
     (READ_SHARED, false, None),
     (READ_SHARED, true, Some(Refusal::Pending)),
 ];
 
 /// A slot that is taken is nothing to other steps.
-const WHILE_WAITING: [Told; 7] = [
+const WHILE_WAITING: [RefusalRow; 7] = [
     (Step::Start, false, None),
     (Step::Load(WordNo(0)), false, Some(Refusal::WrongState)),
     (READ_SHARED, false, Some(Refusal::Pending)),
@@ -217,18 +217,18 @@ const WHILE_WAITING: [Told; 7] = [
     ),
 ];
 
-/// All these are told.
-fn are_told(rt: &impl Abort, slice: &Slice<Global>, table: &[Told]) {
+/// All these refusals are the slice's.
+fn have_refusals(rt: &impl Abort, slice: &Slice<Global>, table: &[RefusalRow]) {
     for (step, taken, wanted) in table {
-        is_told(rt, slice, *step, *taken, *wanted);
+        has_refusal(rt, slice, *step, *taken, *wanted);
     }
 }
 
 #[test]
 fn tells_a_refusal_and_does_nothing(rt: HostRuntime) {
     let mut slice = slice_of(&rt, rt.alloc(), 2, 2, 16);
-    are_told(&rt, &slice, &AT_FIRST);
+    have_refusals(&rt, &slice, &AT_FIRST);
     is_pending(&rt, &slice, 0, 0, Ok(None));
     waits(&rt, &mut slice, 0, Kind::ReadShared);
-    are_told(&rt, &slice, &WHILE_WAITING);
+    have_refusals(&rt, &slice, &WHILE_WAITING);
 }

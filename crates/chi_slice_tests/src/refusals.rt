@@ -18,7 +18,7 @@ fn seen(slice: &Slice<Global>) -> Seen {
 }
 
 /// The number with which the slice says that it would refuse the action.
-fn told(slice: &Slice<Global>, action: Action) -> Option<u8> {
+fn number_of(slice: &Slice<Global>, action: Action) -> Option<u8> {
     slice
         .refusal(action, Terms::NONE)
         .map(|refusal| refusal.number())
@@ -32,7 +32,7 @@ fn met(slice: &mut Slice<Global>, action: Action) -> Option<u8> {
 /// Whether the slice says that it would refuse the action with this number, does so, and is left as it was.
 fn is_refused(slice: &mut Slice<Global>, action: Action, number: u8) -> bool {
     let before = seen(slice);
-    told(slice, action) == Some(number)
+    number_of(slice, action) == Some(number)
         && met(slice, action) == Some(number)
         && seen(slice) == before
 }

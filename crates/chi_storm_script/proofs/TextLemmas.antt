@@ -1,5 +1,6 @@
 -- A storm file is read from the one text of its header and its operations, and from that alone.
 use Rattle.std.proofs.Common.{◌≡◌, ℕ, ◌+◌, ◌<◌, ◌≤◌, ◌==◌, nat_lt, Bool, true, false, cond, List, [], ◌∷◌, ◌++◌, length, map, get_or, Option, Some, None, Result, Ok, Err, refl, sym, ap, subst, ◌∙◌, arith}
+use Rattle.std.specs.Prelude.{ok_or}
 use Rattle.std.specs.List.{All, join_with_byte}
 use Rattle.std.specs.Fmt.{decimal}
 use Rattle.std.proofs.lemmas.Bool.Decides.{nat_tests}
@@ -12,7 +13,7 @@ use Rattle.chi_flit.specs.declared.operation.Task.TheVariants.{Load, Share, Stor
 use Rattle.chi_script.specs.declared.faults.Fault.{Fault}
 use Rattle.chi_script.specs.declared.faults.Fault.TheVariants.{BadHeader, BadCommand, MissingNewline, TooLarge}
 use Rattle.chi_script.specs.declared.headers.Header.{Header}
-use Rattle.chi_script.specs.Files.{◌>>=◌, or_fault, lines_of, header_at}
+use Rattle.chi_script.specs.Files.{◌>>=◌, lines_of, header_at}
 use Rattle.chi_script.specs.Headers.{is_in_limits}
 use Rattle.chi_script.specs.Spelling.{header_words, type_words}
 use Rattle.chi_script.specs.Words.{words_of}
@@ -31,7 +32,7 @@ bound : {A B : Type 0} (step : Result A Fault) (next : A → Result B Fault) (y 
 bound (Ok x) next y e = (x, refl, e)
 bound (Err fault) next y e = cc
 
-found : {A : Type 0} (o : Option A) (fault : Fault) (x : A) → or_fault o fault ≡ Ok x → o ≡ Some x
+found : {A : Type 0} (o : Option A) (fault : Fault) (x : A) → ok_or o fault ≡ Ok x → o ≡ Some x
 found None fault x e = cc
 found (Some y) fault x e = let same : y ≡ x = cc in ap Some same
 

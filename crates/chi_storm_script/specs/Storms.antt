@@ -1,17 +1,17 @@
 -- A storm file is a header and operations, or faulty: then its first faulty line is told
 -- (docs/PROTOCOL.md, "Storm files").
-use Rattle.std.specs.Prelude.{ℕ, ◌+◌, ◌==◌, nat_lt, List, [], ◌∷◌, Result, Ok, Err, length, if◌then◌else◌}
+use Rattle.std.specs.Prelude.{ℕ, ◌+◌, ◌==◌, nat_lt, List, [], ◌∷◌, Result, Ok, Err, length, if◌then◌else◌, ok_or}
 use Rattle.chi_script.specs.declared.headers.Header.{Header}
 use Rattle.chi_script.specs.declared.faults.Fault.{Fault}
 use Rattle.chi_script.specs.declared.faults.Fault.TheVariants.{BadHeader, BadCommand, MissingNewline, TooLarge}
 use Rattle.chi_script.specs.Words.{words_of}
-use Rattle.chi_script.specs.Files.{◌>>=◌, or_fault, lines_of, header_at}
+use Rattle.chi_script.specs.Files.{◌>>=◌, lines_of, header_at}
 use Rattle.chi_storm_script.specs.declared.operations.Deed.{Deed}
 use Rattle.chi_storm_script.specs.Operations.{deed_of}
 
 -- the operation that line n is
 abbrev pub deed_at : Header → ℕ → List ℕ → Result Deed Fault
-deed_at header n line = or_fault (deed_of header (words_of line)) (BadCommand n)
+deed_at header n line = ok_or (deed_of header (words_of line)) (BadCommand n)
 
 -- the lines from line n on
 unfoldable pub deeds_of : Header → ℕ → List (List ℕ) → Result (List Deed) Fault

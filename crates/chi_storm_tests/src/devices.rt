@@ -1,6 +1,6 @@
 //! Storms from inputs and to outputs that fail, and of faulty files.
 
-use crate::told::same;
+use crate::comparison::same;
 use chi_devices::{MemoryInput, MemoryOutput};
 use chi_script::Fault;
 use chi_storm::storm;

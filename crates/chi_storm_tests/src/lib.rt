@@ -4,10 +4,10 @@
 #![tactic(auto)]
 
 #[cfg(test)]
+mod comparison;
+#[cfg(test)]
 mod devices;
 #[cfg(test)]
 mod scripts;
 #[cfg(test)]
 mod storms;
-#[cfg(test)]
-mod told;

@@ -1,6 +1,6 @@
 //! The four lines of storms.
 
-use crate::told::same;
+use crate::comparison::same;
 use chi_devices::{MemoryInput, MemoryOutput};
 use chi_storm::storm;
 use std::process::Abort;

@@ -1,12 +1,12 @@
 //! A node on one thread.
 
 ghost use Rattle.std.specs.Prelude.{◌≡◌, ◌<◌, ◌↔◌, All, IfOk, IsTrue, None, OnErr, OnOk, Some, length, nat_lt, slice_set, true};
+ghost use Rattle.std.specs.Option.{option_or};
 ghost use Rattle.std.specs.List.{slice_index_or};
 ghost use Rattle.atomic_table.specs.Seated.{TableId};
 ghost use Rattle.chi_flit.specs.Credit.{credit_number};
 ghost use Rattle.chi_flit.specs.Refusal.{refusal_of};
 ghost use Rattle.chi_line.specs.LineState.{cells_of};
-ghost use Rattle.chi_line.specs.Refused.{first_of};
 ghost use Rattle.chi_line.specs.View.{line_view};
 ghost use Rattle.chi_node.specs.Calls.{is_own_step};
 ghost use Rattle.chi_node.specs.Requester.{RequesterState, no_requester};
@@ -212,7 +212,7 @@ impl<A: Allocator> System<A> {
     /// The type that a call for an agent names.
     fn type_for(&self, agent: Agent, credit: Option<CreditType>) -> Result<CreditType, Refusal>
         ensures refusal { refusal_of result
-            ≡ first_of (agent_refusal self.now agent.0) (typed_refusal (λ t. None) credit) }
+            ≡ option_or (agent_refusal self.now agent.0) (typed_refusal (λ t. None) credit) }
         ensures ok { IfOk result (λ ty. credit ≡ Some ty) }
         ensures agent { OnOk result (agent.0 < self.now.home.config.agents) }
         ensures kept { IsSystem self.now }

@@ -1,5 +1,6 @@
 -- What a node did for a call of credits plays the call's turn.
 use Rattle.std.proofs.Common.{◌≡◌, ℕ, ◌<◌, Bool, true, false, List, [], ◌∷◌, length, Option, Some, None, Result, Ok, Err, IfOk, OnErr, nat_lt, if◌then◌else◌, refl, sym, ◌∙◌, ap}
+use Rattle.std.specs.Option.{option_or}
 use Rattle.std.proofs.Math.ListN.{set}
 use Rattle.chi_flit.specs.declared.numbers.Agent.{Agent}
 use Rattle.chi_flit.specs.declared.credit.CreditType.{CreditType}
@@ -8,7 +9,6 @@ use Rattle.chi_flit.specs.declared.refusal.Refusal.TheVariants.{OutOfRange}
 use Rattle.chi_flit.specs.Credit.{credit_number}
 use Rattle.chi_flit.specs.Refusal.{refusal_of}
 use Rattle.chi_tracker.specs.declared.released.Released.{Released}
-use Rattle.chi_line.specs.Refused.{first_of}
 use Rattle.chi_credit.specs.declared.slot.SlotRecord.{SlotRecord}
 use Rattle.chi_credit.specs.Slot.{idle_slot}
 use Rattle.chi_credit.specs.Account.{lowest_cancelled}
@@ -47,11 +47,11 @@ see_plays y y' agent counts k h four saw =
     )
 
 -- a number that is no type's
-out_first : (c : Bool) → first_of (if c then None else Some OutOfRange) (Some OutOfRange) ≡ Some OutOfRange
+out_first : (c : Bool) → option_or (if c then None else Some OutOfRange) (Some OutOfRange) ≡ Some OutOfRange
 out_first true = refl
 out_first false = refl
 
-out_of_range : (y : SystemState) (n : ℕ) (o : Option Refusal) → o ≡ first_of (agent_refusal y n) (Some OutOfRange) → o ≡ Some OutOfRange
+out_of_range : (y : SystemState) (n : ℕ) (o : Option Refusal) → o ≡ option_or (agent_refusal y n) (Some OutOfRange) → o ≡ Some OutOfRange
 out_of_range y n o h = h ∙ out_first (nat_lt n y.home.config.agents)
 
 -- a credit that is given back

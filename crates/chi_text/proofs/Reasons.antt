@@ -1,5 +1,6 @@
 -- Why the table of the commands refuses is why the node does.
 use Rattle.std.proofs.Common.{◌≡◌, ℕ, ◌<◌, ◌≤◌, List, Bool, true, false, ◌&&◌, nat_lt, Option, Some, None, if◌then◌else◌, refl, sym, ◌∙◌, ap, subst, arith}
+use Rattle.std.specs.Option.{option_or}
 use Rattle.std.proofs.lemmas.Bool.{ltb-true}
 use Rattle.chi_flit.specs.declared.numbers.Agent.{Agent}
 use Rattle.chi_flit.specs.declared.numbers.Line.{Line}
@@ -14,7 +15,6 @@ use Rattle.chi_tracker.proofs.Entries.{credit_below}
 use Rattle.chi_config.specs.Config.{Sizes}
 use Rattle.chi_slice.specs.Slice.{SliceState, are_in_range, is_in_range, is_line_in_range}
 use Rattle.chi_slice.proofs.Rows.{both}
-use Rattle.chi_line.specs.Refused.{first_of}
 use Rattle.chi_credit.specs.Account.{lowest_cancelled, riding_of}
 use Rattle.chi_credit.specs.declared.slot.SlotRecord.{SlotRecord}
 use Rattle.chi_node.specs.Parts.{is_of_profile}
@@ -46,12 +46,12 @@ pub act_same : (y : SystemState) (action : Action) → act_refusal (machine_of y
 act_same y action =
     let s : SliceState = slice_of y.home action.line.0 in
     let r : RequesterState = requester_of y action.agent.0 in
-    ap (λ (x : List SlotRecord). first_of (refused_with (is_slot_taken x action.step) s action) (credit_refusal x (credits_of (machine_of y) action.agent) (wanted_credit s action))) (slots_at y action.agent)
-    ∙ (ap (λ (x : List ℕ). first_of (refused_with (is_slot_taken r.slots action.step) s action) (credit_refusal r.slots x (wanted_credit s action))) (credits_at y action.agent)
-    ∙ ap (λ (o : Option Refusal). first_of (refused_with (is_slot_taken r.slots action.step) s action) o) (credit_same r (wanted_credit s action)))
+    ap (λ (x : List SlotRecord). option_or (refused_with (is_slot_taken x action.step) s action) (credit_refusal x (credits_of (machine_of y) action.agent) (wanted_credit s action))) (slots_at y action.agent)
+    ∙ (ap (λ (x : List ℕ). option_or (refused_with (is_slot_taken r.slots action.step) s action) (credit_refusal r.slots x (wanted_credit s action))) (credits_at y action.agent)
+    ∙ ap (λ (o : Option Refusal). option_or (refused_with (is_slot_taken r.slots action.step) s action) o) (credit_same r (wanted_credit s action)))
 
 -- what isn't refused first
-first_none : (a b : Option Refusal) → None ≡ first_of a b → None ≡ a
+first_none : (a b : Option Refusal) → None ≡ option_or a b → None ≡ a
 first_none None b h = refl
 first_none (Some refusal) b h = absurd (cc (h))
 
@@ -80,7 +80,7 @@ steps_low y action k h =
 pub agent_low : (y : SystemState) (agent : Agent) → None ≡ system.agent_refusal y agent.0 → agent.0 < y.home.config.agents
 agent_low y agent h = ltb-true agent.0 y.home.config.agents (unless_none (nat_lt agent.0 y.home.config.agents) h)
 
-pub typed_low : (y : SystemState) (agent : Agent) (o : Option Refusal) → None ≡ first_of (system.agent_refusal y agent.0) o → agent.0 < y.home.config.agents
+pub typed_low : (y : SystemState) (agent : Agent) (o : Option Refusal) → None ≡ option_or (system.agent_refusal y agent.0) o → agent.0 < y.home.config.agents
 typed_low y agent o h = agent_low y agent (first_none (system.agent_refusal y agent.0) o h)
 
 -- the entries of the node are few
@@ -96,8 +96,8 @@ pub tend_same : (y : SystemState) (agent : Agent) (ty : CreditType) → IsSystem
 tend_same y agent ty k = go (nat_lt agent.0 y.home.config.agents) refl
   where
     go : (b : Bool) → nat_lt agent.0 y.home.config.agents ≡ b
-        → first_of (if b then None else Some OutOfRange) (if is_of_profile y.home.config.profile (credit_number ty) then None else Some OutOfRange)
-        ≡ first_of (if b then None else Some OutOfRange) (requester.tend_refusal (requester_of y agent.0) (credit_number ty))
+        → option_or (if b then None else Some OutOfRange) (if is_of_profile y.home.config.profile (credit_number ty) then None else Some OutOfRange)
+        ≡ option_or (if b then None else Some OutOfRange) (requester.tend_refusal (requester_of y agent.0) (credit_number ty))
     go false h = refl
     go true h = ap (λ (c : Bool). if c then None else Some OutOfRange) (typed_same y agent ty k (ltb-true agent.0 y.home.config.agents h))
 
@@ -105,21 +105,21 @@ tend_same y agent ty k = go (nat_lt agent.0 y.home.config.agents) refl
 cancelled_same : (r : RequesterState) (ty : CreditType) → cancelled_refusal r.slots (seen_counts r.port) ty ≡ (if requester.can_give_back r (credit_number ty) then None else Some NoCredit)
 cancelled_same r ty = ap (λ (b : Bool). if nat_lt (lowest_cancelled r.slots (credit_number ty)) 8 && b then None else Some NoCredit) (spare_same r ty)
 
-then_first : (c : Bool) (o : Option Refusal) → first_of (if c then None else Some OutOfRange) o ≡ (if c then o else Some OutOfRange)
+then_first : (c : Bool) (o : Option Refusal) → option_or (if c then None else Some OutOfRange) o ≡ (if c then o else Some OutOfRange)
 then_first true o = refl
 then_first false o = refl
 
 pub give_back_same : (y : SystemState) (agent : Agent) (ty : CreditType) → IsSystem y
-    → first_of (type_refusal (machine_of y) agent ty) (cancelled_refusal (slots_of (machine_of y) agent) (credits_of (machine_of y) agent) ty) ≡ system.give_back_refusal y agent.0 (Some ty)
+    → option_or (type_refusal (machine_of y) agent ty) (cancelled_refusal (slots_of (machine_of y) agent) (credits_of (machine_of y) agent) ty) ≡ system.give_back_refusal y agent.0 (Some ty)
 give_back_same y agent ty k =
     let r : RequesterState = requester_of y agent.0 in
-    ap (λ (x : List SlotRecord). first_of (type_refusal (machine_of y) agent ty) (cancelled_refusal x (credits_of (machine_of y) agent) ty)) (slots_at y agent)
-    ∙ (ap (λ (x : List ℕ). first_of (type_refusal (machine_of y) agent ty) (cancelled_refusal r.slots x ty)) (credits_at y agent)
-    ∙ (ap (λ (o : Option Refusal). first_of (type_refusal (machine_of y) agent ty) o) (cancelled_same r ty) ∙ go (nat_lt agent.0 y.home.config.agents) refl))
+    ap (λ (x : List SlotRecord). option_or (type_refusal (machine_of y) agent ty) (cancelled_refusal x (credits_of (machine_of y) agent) ty)) (slots_at y agent)
+    ∙ (ap (λ (x : List ℕ). option_or (type_refusal (machine_of y) agent ty) (cancelled_refusal r.slots x ty)) (credits_at y agent)
+    ∙ (ap (λ (o : Option Refusal). option_or (type_refusal (machine_of y) agent ty) o) (cancelled_same r ty) ∙ go (nat_lt agent.0 y.home.config.agents) refl))
   where
     go : (b : Bool) → nat_lt agent.0 y.home.config.agents ≡ b
-        → first_of (first_of (if b then None else Some OutOfRange) (if is_of_profile y.home.config.profile (credit_number ty) then None else Some OutOfRange)) (if requester.can_give_back (requester_of y agent.0) (credit_number ty) then None else Some NoCredit)
-        ≡ first_of (if b then None else Some OutOfRange) (requester.give_back_refusal (requester_of y agent.0) (credit_number ty))
+        → option_or (option_or (if b then None else Some OutOfRange) (if is_of_profile y.home.config.profile (credit_number ty) then None else Some OutOfRange)) (if requester.can_give_back (requester_of y agent.0) (credit_number ty) then None else Some NoCredit)
+        ≡ option_or (if b then None else Some OutOfRange) (requester.give_back_refusal (requester_of y agent.0) (credit_number ty))
     go false h = refl
     go true h =
         then_first (is_of_profile y.home.config.profile (credit_number ty)) (if requester.can_give_back (requester_of y agent.0) (credit_number ty) then None else Some NoCredit)

@@ -1,25 +1,21 @@
 -- What each call does to the view of the port that is called, and what it answers (docs/PROTOCOL.md, "Steps
 -- of the tracker").
-use Rattle.std.specs.Prelude.{◌≡◌, ℕ, ◌-◌, ◌<◌, ◌≤◌, List, [], ◌∷◌, Option, Some, None}
-use Rattle.std.specs.Int.{bit_at}
+use Rattle.std.specs.Prelude.{◌≡◌, ℕ, ◌<◌, ◌≤◌, List, [], ◌∷◌, Option, Some, None}
 use Rattle.chi_flit.specs.declared.numbers.Entry.{Entry}
 use Rattle.chi_flit.specs.declared.credit.CreditType.{CreditType}
 use Rattle.chi_flit.specs.Credit.{credit_number}
 use Rattle.chi_tracker.specs.declared.released.Released.{Released}
 use Rattle.chi_tracker.specs.Sums.{set_at}
-use Rattle.chi_tracker.specs.Shape.{IsOf, low, size}
 use Rattle.chi_tracker.specs.Views.{PortView, has}
 use Rattle.chi_tracker.specs.Steps.{returns_credit, spends}
-use Rattle.chi_tracker.specs.Calls.{Ended, IsLowestSeen, into_hand, owed_one, saw_all, port_after_scan, seen_of}
+use Rattle.chi_tracker.specs.Calls.{Ended, EndedAsItsType, FoundAll, HasClaimed, IsLowestSeen, owed_one, saw_all, scanned_all, seen_of}
 use Rattle.chi_tracker.specs.Calls as calls
 
 -- An entry of the type that wasn't in hand comes to hand, in a scan that found the lower entries of the
 -- type claimed; or none does, in a scan that found each entry of the type claimed.
 abbrev pub Claims : PortView → CreditType → Option Entry → PortView → Type 0
-Claims before ty (Some entry) after = IsOf before.shape (credit_number ty) entry.0 × (has entry.0 before ≡ 0)
-    × (after ≡ into_hand entry.0 (port_after_scan (credit_number ty) (entry.0 - low before.shape (credit_number ty)) before))
-Claims before ty None after = (after ≡ port_after_scan (credit_number ty) (size before.shape (credit_number ty)) before)
-    × ((entry : ℕ) → IsOf before.shape (credit_number ty) entry → bit_at after.found entry ≡ 1)
+Claims before ty (Some entry) after = HasClaimed (credit_number ty) entry.0 before after
+Claims before ty None after = (after ≡ scanned_all (credit_number ty) before) × FoundAll before.shape (credit_number ty) after
 
 -- one credit more of the type is owed
 abbrev pub Owes : PortView → CreditType → PortView → Type 0
@@ -31,7 +27,7 @@ Spends before ty entry after = IsLowestSeen before (credit_number ty) entry.0 ×
 
 -- an entry that is in hand leaves it: it is promised on to who is owed a credit of its type, or freed
 abbrev pub Releases : PortView → Entry → Released → PortView → Type 0
-Releases before entry released after = (has entry.0 before ≡ 1) × ((t : ℕ) × (t < 4) × IsOf before.shape t entry.0 × Ended before t entry.0 released after)
+Releases before entry released after = (has entry.0 before ≡ 1) × EndedAsItsType before entry.0 released after
 
 -- a port's seen credits by type
 abbrev pub seen_counts : PortView → List ℕ

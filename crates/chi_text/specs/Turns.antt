@@ -1,6 +1,7 @@
 -- What each command of a replay file asks of the tracker, answers and leaves: the table of the commands
 -- (docs/PROTOCOL.md, "Replay files").
 use Rattle.std.specs.Prelude.{ℕ, ◌-◌, nat_lt, List, [], ◌∷◌, Bool, true, false, ◌&&◌, Option, Some, None, replicate, slice_index, slice_set, if◌then◌else◌}
+use Rattle.std.specs.Option.{option_or}
 use Rattle.std.specs.List.{slice_index_or}
 use Rattle.chi_flit.specs.declared.numbers.Agent.{Agent}
 use Rattle.chi_flit.specs.declared.numbers.Entry.{Entry}
@@ -22,7 +23,6 @@ use Rattle.chi_tracker.specs.declared.released.Released.{Released}
 use Rattle.chi_config.specs.Config.{Sizes}
 use Rattle.chi_slice.specs.Slice.{SliceState}
 use Rattle.chi_line.specs.LineState.{cells_of}
-use Rattle.chi_line.specs.Refused.{first_of}
 use Rattle.chi_line.specs.Step.{effect_of}
 use Rattle.chi_line.specs.View.{line_view}
 use Rattle.chi_credit.specs.declared.slot.SlotState.{SlotState}
@@ -127,7 +127,7 @@ credit_refusal slots credits (Some ty) = if has_spare slots credits ty then None
 
 -- why an action isn't done: its own numbers, with 3 also where an Issue's slot isn't Idle, and then 12
 abbrev pub act_refusal : Machine → Action → Option Refusal
-act_refusal m action = first_of
+act_refusal m action = option_or
     (refused_with (is_slot_taken (slots_of m action.agent) action.step) (slice_of m.home action.line.0) action)
     (credit_refusal (slots_of m action.agent) (credits_of m action.agent) (wanted_credit (slice_of m.home action.line.0) action))
 
@@ -188,7 +188,9 @@ turn_after_claim m agent l s ty other = never m
 
 -- a resent request, by the entry of the credit that is spent for it
 abbrev pub turn_after_spend : Machine → Agent → Line → ℕ → CreditType → Answer → Turn
-turn_after_spend m agent l s ty (Spent entry) = says (replies.Admitted entry) (with_credits (machine_after_admission m agent l s entry) agent (less_one (credits_of m agent) ty))
+turn_after_spend m agent l s ty (Spent entry) = says
+    (replies.Admitted entry)
+    (with_credits (machine_after_admission m agent l s entry) agent (less_one (credits_of m agent) ty))
 turn_after_spend m agent l s ty other = never m
 
 -- a request of slot s and a credit type arrives, with AllowRetry or without
@@ -209,7 +211,7 @@ agent_refusal m agent = if nat_lt agent.0 m.home.config.agents then None else So
 
 -- 10: there is no such agent, or no such type
 abbrev pub type_refusal : Machine → Agent → CreditType → Option Refusal
-type_refusal m agent ty = first_of (agent_refusal m agent) (if is_of_profile m.home.config.profile (credit_number ty) then None else Some OutOfRange)
+type_refusal m agent ty = option_or (agent_refusal m agent) (if is_of_profile m.home.config.profile (credit_number ty) then None else Some OutOfRange)
 
 abbrev pub turn_after_see : Machine → Agent → Answer → Turn
 turn_after_see m agent (Saw counts) = Ends (credits_text (record { counts = counts; profile = m.home.config.profile })) (with_credits m agent counts)
@@ -232,7 +234,7 @@ given_back m agent ty (Went released) = says (replies.Paid released) (with_retur
 given_back m agent ty other = never m
 
 abbrev pub return_refusal : Machine → Agent → CreditType → Option Refusal
-return_refusal m agent ty = first_of (type_refusal m agent ty) (cancelled_refusal (slots_of m agent) (credits_of m agent) ty)
+return_refusal m agent ty = option_or (type_refusal m agent ty) (cancelled_refusal (slots_of m agent) (credits_of m agent) ty)
 
 abbrev pub give_back : Machine → Agent → Option CreditType → Turn
 give_back m agent None = says (replies.Refused OutOfRange) m

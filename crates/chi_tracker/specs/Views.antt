@@ -61,10 +61,6 @@ IsDue p t n = n + paid_of p t ≡ slice_index p.retries t
 abbrev pub CanOwe : PortView → ℕ → Type 0
 CanOwe p t = slice_index p.retries t < 8 + paid_of p t
 
--- no sweep was opened
-abbrev pub no_sweep : Sweep
-no_sweep = record { opened = 0; kind = 0; at = 0; left = 0 }
-
 -- a port that has done nothing yet
 abbrev pub new_port : Shape → ℕ → PortView
 new_port s n = record {
@@ -82,7 +78,7 @@ new_port s n = record {
   scan_kind = 0;
   sees = [];
   ended = no_end;
-  sweep = no_sweep;
+  sweep = record { opened = 0; kind = 0; at = 0; left = 0 };
 }
 
 -- the ports from n on, m of them

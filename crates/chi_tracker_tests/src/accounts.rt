@@ -4,7 +4,7 @@ ghost use Rattle.std.specs.Prelude.{◌≡◌, ◌<◌, [], ◌∷◌, IfOk};
 ghost use Rattle.chi_tracker.specs.Views.{new_port};
 ghost use Rattle.chi_tracker.specs.Calls.{shape_of};
 
-use crate::told::same;
+use crate::comparison::same;
 use chi_credit::{Account, SlotRecord, SlotState};
 use chi_flit::{Agent, CreditType, Entry, Line, NoMemory, Slot};
 use chi_tracker::{Port, Released, Tracker};

@@ -4,6 +4,6 @@
 #[cfg(test)]
 mod accounts;
 #[cfg(test)]
-mod ports;
+mod comparison;
 #[cfg(test)]
-mod told;
+mod ports;

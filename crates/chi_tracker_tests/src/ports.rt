@@ -6,7 +6,7 @@ ghost use Rattle.chi_tracker.specs.Shape.{low, size};
 ghost use Rattle.chi_tracker.specs.Views.{has, new_port};
 ghost use Rattle.chi_tracker.specs.Calls.{shape_of};
 
-use crate::told::same;
+use crate::comparison::same;
 use arrayvec::ArrayVec;
 use chi_flit::{Agent, CreditType, Entry, NoMemory};
 use chi_tracker::{Counts, Credits, Port, Released, Totals, Tracker};

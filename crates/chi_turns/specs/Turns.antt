@@ -78,14 +78,11 @@ player_with_issue place p = record p { operations = slice_set p.operations place
 
 -- an issue: that of a copy-back or an Evict is marked, and the operation of another kind is still to be tried
 abbrev pub after_issue : {A : Type 0} → Kind → Place → Player A → Player A
-after_issue kinds.ReadNotSharedDirty place p = p
-after_issue kinds.ReadShared place p = p
-after_issue kinds.ReadUnique place p = p
-after_issue kinds.CleanUnique place p = p
 after_issue kinds.Evict place p = player_with_issue place p
 after_issue kinds.WriteBackFull place p = player_with_issue place p
 after_issue kinds.WriteCleanFull place p = player_with_issue place p
 after_issue kinds.WriteEvictFull place p = player_with_issue place p
+after_issue other place p = p
 
 -- a step of an operation that is done: a load, a store or a drop finishes it
 abbrev pub after_step : {A : Type 0} → Step → Place → Player A → Player A
@@ -93,19 +90,7 @@ after_step (steps.Load word) place p = record (player_without place p) { loads =
 after_step (steps.Store word value) place p = record (player_without place p) { stores = count_after p.stores }
 after_step steps.Drop place p = player_without place p
 after_step (steps.Issue kind slot) place p = after_issue kind place p
-after_step steps.Admit place p = p
-after_step steps.Retry place p = p
-after_step steps.RecvRetry place p = p
-after_step steps.Resend place p = p
-after_step steps.Cancel place p = p
-after_step steps.Start place p = p
-after_step steps.RecvSnp place p = p
-after_step steps.RecvSnpResp place p = p
-after_step steps.RecvData place p = p
-after_step steps.RecvComp place p = p
-after_step steps.RecvAck place p = p
-after_step steps.RecvDbid place p = p
-after_step steps.RecvWrData place p = p
+after_step other place p = p
 
 abbrev pub after_choice : {A : Type 0} → Choice → Player A → Player A
 after_choice (Finish place) p = player_without place p
@@ -115,17 +100,8 @@ after_choice (Do call) p = p
 -- refusals 1 and 11 stop a script, and no other changes it
 abbrev pub after_refusal : {A : Type 0} → Refusal → Player A → Player A
 after_refusal refusals.JournalFull p = record p { stopped = true }
-after_refusal refusals.WrongState p = p
-after_refusal refusals.Pending p = p
-after_refusal refusals.NothingPending p = p
-after_refusal refusals.LineBusy p = p
-after_refusal refusals.NotWaiting p = p
-after_refusal refusals.NoFlit p = p
-after_refusal refusals.NoMemory p = p
-after_refusal refusals.MustAccept p = p
-after_refusal refusals.OutOfRange p = p
 after_refusal refusals.NotOpen p = record p { stopped = true; not_open = true }
-after_refusal refusals.NoCredit p = p
+after_refusal other p = p
 
 -- what the script makes of the answer
 abbrev pub player_after_answer : {A : Type 0} → Option Refusal → Choice → Player A → Player A

@@ -1,5 +1,6 @@
 -- What a change of one agent's cells, or of all agents', does to the list of the flits in flight.
 use Rattle.std.proofs.Common.{◌≡◌, ℕ, ◌+◌, ◌<◌, suc, zero, ◌≤◌, Bool, true, false, List, [], ◌∷◌, ◌++◌, Some, None, length, get_or, set, refl, sym, ap, subst, append_assoc, append-nil, arith}
+use Rattle.std.specs.Prelude.{option_map}
 use Rattle.std.specs.List.Sorted.{IsPermutation}
 use Rattle.std.proofs.lemmas.List.{set-get_or}
 use Rattle.std.proofs.lemmas.List.Sorted.{IsPermutation-refl, IsPermutation-sym, IsPermutation-trans, IsPermutation-append_left, IsPermutation-append_right, IsPermutation-append_comm}
@@ -11,7 +12,7 @@ use Rattle.chi_flit.specs.declared.message.Msg.{Msg}
 use Rattle.chi_flit.specs.declared.message.Msg.TheVariants as messages
 use Rattle.chi_flit.specs.Message.{channel_of}
 use Rattle.chi_wires.specs.declared.cells.Cells.{Cells}
-use Rattle.chi_wires.specs.Cell.{no_flits, message_if, cell_of, with_message, without_message}
+use Rattle.chi_wires.specs.Cell.{no_flits, cell_of, with_message, without_message}
 use Rattle.chi_wires.specs.Flits.{cells_at, with_snoops}
 use Rattle.chi_wires.specs.Flight.{Flit, flit_of, flits_of, flits_from, in_flight, snoop_flits}
 
@@ -169,7 +170,7 @@ row_snooped first (true ∷ agents) snoop (cells ∷ row) short empty =
     IsPermutation-trans _ _ _
     (behind _ _ later rest (row_snooped (first + 1) agents snoop row (omega (arith, short)) (λ n. empty (suc n))))
     (IsPermutation-trans _ _ _
-    (IsPermutation-append_right later _ _ (before rest _ flit here (put_more agent cells (messages.Snp snoop) (ap (message_if messages.Snp) (empty 0 refl)))))
+    (IsPermutation-append_right later _ _ (before rest _ flit here (put_more agent cells (messages.Snp snoop) (ap (option_map messages.Snp) (empty 0 refl)))))
     (to_front later flit (here ++ rest)))
 row_snooped first (false ∷ agents) snoop (cells ∷ row) short empty =
     behind (flits_of (record { 0 = first }) cells) _ (snoop_flits (first + 1) agents snoop) _

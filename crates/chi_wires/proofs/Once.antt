@@ -1,5 +1,6 @@
 -- On each channel at most one flit is in flight to or from an agent: that of its cell.
 use Rattle.std.proofs.Common.{◌≡◌, ℕ, ◌+◌, ◌<◌, suc, zero, Bool, true, false, ◌&&◌, ◌==◌, cond, List, [], ◌∷◌, ◌++◌, Option, Some, None, get_or, refl, sym, ap, ap₂, ◌∙◌, subst, append-nil, arith}
+use Rattle.std.specs.Prelude.{option_map}
 use Rattle.std.specs.List.{filter}
 use Rattle.std.proofs.lemmas.List.Elements.{filter-append}
 use Rattle.chi_flit.specs.declared.numbers.Agent.{Agent}
@@ -8,14 +9,14 @@ use Rattle.chi_flit.specs.declared.message.Channel.TheVariants as channels
 use Rattle.chi_flit.specs.declared.message.Msg.{Msg}
 use Rattle.chi_flit.specs.declared.message.Msg.TheVariants as messages
 use Rattle.chi_wires.specs.declared.cells.Cells.{Cells}
-use Rattle.chi_wires.specs.Cell.{no_flits, cell_of, message_if}
+use Rattle.chi_wires.specs.Cell.{no_flits, cell_of}
 use Rattle.chi_wires.specs.Flits.{cells_at}
 use Rattle.chi_wires.specs.Flight.{Flit, flit, flit_of, flits_of, flits_from, in_flight, is_at, channel_number}
 use Rattle.chi_wires.proofs.Moved.{part}
 
 -- a cell whose messages all pass a test, or all fail it
 held : {A : Type 0} (as_message : A → Msg) (test : Flit → Bool) (b : Bool) (agent : Agent) → ((x : A) → test (flit agent (as_message x)) ≡ b) → (cell : Option A)
-    → filter test (flit_of agent (message_if as_message cell)) ≡ cond b (flit_of agent (message_if as_message cell)) []
+    → filter test (flit_of agent (option_map as_message cell)) ≡ cond b (flit_of agent (option_map as_message cell)) []
 held as_message test true agent is None = refl
 held as_message test false agent is None = refl
 held as_message test b agent is (Some x) = ap (λ v. cond v (flit agent (as_message x) ∷ []) []) (is x)

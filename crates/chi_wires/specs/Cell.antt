@@ -1,5 +1,5 @@
 -- The six cells of one agent at one line (Arm IHI 0050 B, chapter 2; docs/PROTOCOL.md, "Messages").
-use Rattle.std.specs.Prelude.{Option, Some, None}
+use Rattle.std.specs.Prelude.{Option, Some, None, option_map}
 use Rattle.chi_flit.specs.declared.message.Channel.{Channel}
 use Rattle.chi_flit.specs.declared.message.Channel.TheVariants as channels
 use Rattle.chi_flit.specs.declared.message.Msg.{Msg}
@@ -10,19 +10,14 @@ use Rattle.chi_wires.specs.declared.cells.Cells.{Cells}
 abbrev pub no_flits : Cells
 no_flits = record { req = None; snp = None; rsp_down = None; dat_down = None; rsp_up = None; dat_up = None }
 
--- a part that may be there, as a message
-abbrev pub message_if : {A : Type 0} → (A → Msg) → Option A → Option Msg
-message_if as_message None = None
-message_if as_message (Some part) = Some (as_message part)
-
 -- what is in flight on the channel
 abbrev pub cell_of : Cells → Channel → Option Msg
-cell_of cells channels.Req = message_if messages.Req cells.req
-cell_of cells channels.Snp = message_if messages.Snp cells.snp
-cell_of cells channels.RspDown = message_if messages.RspDown cells.rsp_down
-cell_of cells channels.DatDown = message_if messages.DatDown cells.dat_down
-cell_of cells channels.RspUp = message_if messages.RspUp cells.rsp_up
-cell_of cells channels.DatUp = message_if messages.DatUp cells.dat_up
+cell_of cells channels.Req = option_map messages.Req cells.req
+cell_of cells channels.Snp = option_map messages.Snp cells.snp
+cell_of cells channels.RspDown = option_map messages.RspDown cells.rsp_down
+cell_of cells channels.DatDown = option_map messages.DatDown cells.dat_down
+cell_of cells channels.RspUp = option_map messages.RspUp cells.rsp_up
+cell_of cells channels.DatUp = option_map messages.DatUp cells.dat_up
 
 -- the message is in flight on its own channel
 abbrev pub with_message : Cells → Msg → Cells
