@@ -96,6 +96,7 @@ impl HomeLine {
     /// Refused 6 (NotWaiting) where the agent doesn't wait, then 5 (LineBusy) where the line is served;
     /// nothing changes then. Conditions: the agent's number is below 8.
     /// Source: `docs/PROTOCOL.md`, "Start".
+    #[inline(always)]
     pub fn begin(&mut self, agent: Agent) -> Result<Begun, Refusal>
         requires { agent.0 < 8 }
         ensures refusal { refusal_of result ≡ start_refusal self.old agent.0 }
@@ -253,6 +254,7 @@ impl HomeLine {
     /// Who isn't named isn't snooped: its answer changes nothing, and None is answered. Conditions: the
     /// agent's number is below 8.
     /// Source: `docs/PROTOCOL.md`, "Answers of snooped agents".
+    #[inline(always)]
     pub fn snp_resp(&mut self, agent: Agent, answer: SnoopAnswer) -> Option<Completion>
         requires { agent.0 < 8 }
         ensures sends { is_named self.old.filter agent.0 ≡ true

@@ -55,11 +55,6 @@ evicted_by (Some snoop) c home agent request h g = ap (λ (o : Option Snoop). co
 evicted_by None true home agent request h g = ap (λ (o : Option Snoop). completed_slot (started_effect (started_sends_as request.kind o home agent request.slot))) h ∙ ap (λ (b : Bool). completed_slot (started_effect (if b then Sends (messages.RspDown CompDBIDResp) else Evicted request.slot))) g
 evicted_by None false home agent request h g = ap (λ (o : Option Snoop). completed_slot (started_effect (started_sends_as request.kind o home agent request.slot))) h ∙ ap (λ (b : Bool). completed_slot (started_effect (if b then Sends (messages.RspDown CompDBIDResp) else Evicted request.slot))) g
 
-pub evicted_start : (home : Home) (agent : Agent) (request : Waiting) → waiting_of home agent.0 ≡ Some request
-    → completed_slot (waiting_effect home agent (waiting_of home agent.0)) ≡ evicted_if (snoop_of request.kind) (is_copy_back request.kind) request.slot
-evicted_start home agent request w =
-    ap (λ (o : Option Waiting). completed_slot (waiting_effect home agent o)) w ∙ evicted_by (snoop_of request.kind) (is_copy_back request.kind) home agent request refl refl
-
 pub evicted_slot_is : (home : Home) (agent : Agent) (request : Waiting) → waiting_of home agent.0 ≡ Some request → is_idle home.serving ≡ true
     → slot_unless (start_refusal home agent.0) (waiting_effect home agent (waiting_of home agent.0)) ≡ evicted_if (snoop_of request.kind) (is_copy_back request.kind) request.slot
 evicted_slot_is home agent request w idle =

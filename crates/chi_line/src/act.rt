@@ -3,12 +3,14 @@
 ghost use Rattle.std.specs.Prelude.{◌≡◌, ℕ, List, ◌<◌, true, IfOk, OnOk, OnErr};
 ghost use Rattle.chi_flit.specs.Refusal.{refusal_of};
 ghost use Rattle.chi_line.specs.Kept.{Kept};
+ghost use Rattle.chi_line.specs.Moves.{moved_slot, moved_to};
 ghost use Rattle.chi_line.specs.Refused.{line_refusal};
 ghost use Rattle.chi_line.specs.Step.{after, effect_of, is_step_in_range};
 ghost use Rattle.chi_line.specs.Traffic.{KeepsFlits};
 
+use crate::deeds::Deed;
 use crate::line::Line;
-use chi_flit::{Action, Effect, Profile, Refusal, Step};
+use chi_flit::{Action, Profile, Refusal, Step};
 
 /// What an action needs to know beside its line.
 /// Source: `docs/DECISIONS.md`, "The slice", Conditions.
@@ -24,7 +26,8 @@ pub struct Conditions {
 }
 
 impl Line {
-    /// Does an action on the line. Answers the action's effect.
+    /// Does an action on the line. Answers its effect, and which request of the agent it moved, and where
+    /// to: all as the line before the action has it.
     ///
     /// No flit is lost or made: those in flight after the action, with the one that it took, are those before
     /// with those that it sent.
@@ -33,14 +36,16 @@ impl Line {
     ///
     /// Conditions: the agent's number is below 8, the step's numbers are in their ranges, and the line keeps
     /// what "What a line keeps" says, for some values last stored to its words.
-    /// Source: `docs/PROTOCOL.md`, "The actions", "Messages" and "What a line keeps".
+    /// Source: `docs/PROTOCOL.md`, "The actions", "Messages", "Agreement" and "What a line keeps".
     #[inline(always)]
-    pub fn act(&mut self, conditions: Conditions, action: Action) -> Result<Effect, Refusal>
+    pub fn act(&mut self, conditions: Conditions, action: Action) -> Result<Deed, Refusal>
         requires agent { action.agent.0 < 8 }
         requires step { is_step_in_range action.step ≡ true }
         requires kept { (last : List ℕ) × Kept last self.old }
         ensures refusal { refusal_of result ≡ line_refusal conditions self.old action }
-        ensures effect { IfOk result (λ effect. effect ≡ effect_of self.old action) }
+        ensures effect { IfOk result (λ deed. deed.effect ≡ effect_of self.old action) }
+        ensures slot { IfOk result (λ deed. deed.slot ≡ moved_slot self.old action.agent action.step) }
+        ensures to { IfOk result (λ deed. deed.to ≡ moved_to self.old action.agent action.step) }
         ensures after { OnOk result (self.new ≡ after conditions.profile self.old action) }
         ensures flits { OnOk result (KeepsFlits conditions.profile self.old action self.new) }
         ensures err { OnErr result (self.new ≡ self.old) }

@@ -1,16 +1,19 @@
 //! The actions of a requester's copy alone: they send nothing.
 
-ghost use Rattle.std.specs.Prelude.{◌≡◌, ◌<◌, IfOk, OnOk, OnErr};
+ghost use Rattle.std.specs.Prelude.{◌≡◌, ◌<◌, IfOk, None, OnOk, OnErr};
 ghost use Rattle.std.specs.Option.{option_or};
 ghost use Rattle.chi_flit.specs.Refusal.{refusal_of};
 ghost use Rattle.chi_flit.specs.declared.action.Effect.TheVariants.{Nothing, Value};
 ghost use Rattle.chi_rnline.specs.Rn.{cancel_refusal, drop_refusal, load_refusal, store_refusal, word_of};
+ghost use Rattle.chi_line.specs.Deeds.{deed_with_move, deed_without_move};
 ghost use Rattle.chi_line.specs.LineState.{rn_of};
 ghost use Rattle.chi_line.specs.Refused.{full_if};
-ghost use Rattle.chi_line.specs.Step.{cancelled_line, dropped_line, stored_line};
+ghost use Rattle.chi_line.specs.Step.{cancelled_line, dropped_line, pending_slot, stored_line};
 
+use crate::deeds::Deed;
 use crate::line::Line;
 use crate::refusals::why_no_store;
+use crate::slots::pending_slot;
 use chi_flit::{Agent, Effect, Refusal, WordNo};
 
 impl Line {
@@ -18,18 +21,19 @@ impl Line {
     ///
     /// Refused 2 (WrongState) where there is no copy, then 1 (JournalFull) where the journal is `full`.
     /// Source: `docs/PROTOCOL.md`, "The actions", Load.
-    pub(crate) fn load(&self, agent: Agent, word: WordNo, full: bool) -> Result<Effect, Refusal>
+    pub(crate) fn load(&self, agent: Agent, word: WordNo, full: bool) -> Result<Deed, Refusal>
         requires agent { agent.0 < 8 }
         requires word { word.0 < 8 }
         ensures refusal { refusal_of result
             ≡ option_or (load_refusal (rn_of self.now agent.0)) (full_if full) }
-        ensures effect { IfOk result (λ effect. effect ≡ Value (word_of (rn_of self.now agent.0) word.0)) }
+        ensures deed { IfOk result
+            (λ deed. deed ≡ deed_without_move (Value (word_of (rn_of self.now agent.0) word.0))) }
     {
         let value = self.requesters[usize::from(agent.0)].load(word)?;
         if full {
             return Err(Refusal::JournalFull);
         }
-        Ok(Effect::Value(value))
+        Ok(Deed::without_move(Effect::Value(value)))
     }
 
     /// Store: the word of the agent's copy has the value. The journal takes a record of it.
@@ -44,12 +48,12 @@ impl Line {
         word: WordNo,
         value: u64,
         full: bool,
-    ) -> Result<Effect, Refusal>
+    ) -> Result<Deed, Refusal>
         requires agent { agent.0 < 8 }
         requires word { word.0 < 8 }
         ensures refusal { refusal_of result
             ≡ option_or (store_refusal (rn_of self.old agent.0)) (full_if full) }
-        ensures effect { IfOk result (λ effect. effect ≡ Nothing) }
+        ensures deed { IfOk result (λ deed. deed ≡ deed_without_move Nothing) }
         ensures after { OnOk result (self.new ≡ stored_line self.old agent.0 word.0 value) }
         ensures err { OnErr result (self.new ≡ self.old) }
     {
@@ -58,7 +62,7 @@ impl Line {
             return Err(refusal);
         }
         copy.store(word, value);
-        Ok(Effect::Nothing)
+        Ok(Deed::without_move(Effect::Nothing))
     }
 
     /// Drop: the agent's copy is given up, and nobody is told.
@@ -66,15 +70,15 @@ impl Line {
     /// Refused 3 (Pending) where a request is pending, then 2 (WrongState) where the copy isn't clean;
     /// nothing changes then.
     /// Source: `docs/PROTOCOL.md`, "The actions", Drop.
-    pub(crate) fn drop_clean(&mut self, agent: Agent) -> Result<Effect, Refusal>
+    pub(crate) fn drop_clean(&mut self, agent: Agent) -> Result<Deed, Refusal>
         requires { agent.0 < 8 }
         ensures refusal { refusal_of result ≡ drop_refusal (rn_of self.old agent.0) }
-        ensures effect { IfOk result (λ effect. effect ≡ Nothing) }
+        ensures deed { IfOk result (λ deed. deed ≡ deed_without_move Nothing) }
         ensures after { OnOk result (self.new ≡ dropped_line self.old agent.0) }
         ensures err { OnErr result (self.new ≡ self.old) }
     {
         self.requesters[usize::from(agent.0)].drop_clean()?;
-        Ok(Effect::Nothing)
+        Ok(Deed::without_move(Effect::Nothing))
     }
 
     /// Cancel: the agent's retried copy-back is given up; nothing is pending.
@@ -82,14 +86,17 @@ impl Line {
     /// Refused 4 (NothingPending) where no request is in phase Retried, then 2 (WrongState) where it may
     /// still be sent; nothing changes then.
     /// Source: `docs/PROTOCOL.md`, "The actions", Cancel.
-    pub(crate) fn cancel(&mut self, agent: Agent) -> Result<Effect, Refusal>
+    pub(crate) fn cancel(&mut self, agent: Agent) -> Result<Deed, Refusal>
         requires { agent.0 < 8 }
         ensures refusal { refusal_of result ≡ cancel_refusal (rn_of self.old agent.0) }
-        ensures effect { IfOk result (λ effect. effect ≡ Nothing) }
+        ensures deed { IfOk result
+            (λ deed. deed ≡ deed_with_move (pending_slot (rn_of self.old agent.0).pending) None) }
         ensures after { OnOk result (self.new ≡ cancelled_line self.old agent.0) }
         ensures err { OnErr result (self.new ≡ self.old) }
     {
-        self.requesters[usize::from(agent.0)].cancel()?;
-        Ok(Effect::Nothing)
+        let copy = &mut self.requesters[usize::from(agent.0)];
+        let slot = pending_slot(copy.pending());
+        copy.cancel()?;
+        Ok(Deed::with_move(slot, None))
     }
 }

@@ -62,7 +62,7 @@ fn evicted_slot(home: &HomeLine, agent: Agent) -> Option<Slot>
 }
 
 /// The slot of a request that its start completes: that of an Evict.
-pub fn slot_of_evict(request: Waiting) -> Option<Slot>
+fn slot_of_evict(request: Waiting) -> Option<Slot>
     ensures { result ≡ evicted_if (snoop_of request.kind) (is_copy_back request.kind) request.slot }
 {
     if request.kind.snoop().is_some() || request.kind.is_copy_back() {
@@ -96,7 +96,7 @@ fn written_slot(home: &HomeLine, cells: &Cells) -> Option<Slot>
 }
 
 /// The slot of the request that is served.
-pub fn served_slot(serving: Serving) -> Option<Slot>
+fn served_slot(serving: Serving) -> Option<Slot>
     ensures { result ≡ served_slot serving }
 {
     match serving {

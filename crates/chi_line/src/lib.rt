@@ -5,9 +5,9 @@
 mod act;
 mod completions;
 mod copies;
+mod deeds;
 mod ends;
 mod line;
-mod moves;
 mod refusals;
 mod requests;
 mod seen;
@@ -17,8 +17,8 @@ mod types;
 mod view;
 
 pub use act::Conditions;
+pub use deeds::Deed;
 pub use line::Line;
-pub use moves::Move;
 pub use seen::Where;
 pub use slots::pending_slot;
 pub use types::{TypedSlot, pending_credit};

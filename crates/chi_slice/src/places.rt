@@ -1,10 +1,10 @@
 //! An index of the slots in use: where each agent's requests are.
 
 ghost use Rattle.std.specs.Prelude.{◌≡◌, ◌<◌, is_some};
-ghost use Rattle.chi_slice.specs.Index.{moved_in, no_places, place_number, place_of, with_place};
+ghost use Rattle.chi_slice.specs.Index.{moved_in, no_places, place_number, place_of, place_of_spot, with_place};
 
 use chi_flit::{Agent, Line, Slot};
-use chi_line::{Move, Where};
+use chi_line::Where;
 use std::marker::Model;
 
 /// The line of a request, and where the request is.
@@ -15,19 +15,27 @@ pub struct Place {
     pub at: Where,
 }
 
+/// What is kept of a slot: where its request is, if it has one, and the line that it is at or was last.
+#[derive(Clone, Copy)]
+struct Spot {
+    line: Line,
+    at: Option<Where>,
+}
+
 /// For each slot of each agent, by their numbers, the place of its request.
 #[derive(Drop)]
 pub struct Places {
-    by_slot: [Option<Place>; 64],
+    by_slot: [Spot; 64],
 }
 
 impl Model for Places {
-    ghost use Rattle.std.specs.Prelude.{List, Option};
+    ghost use Rattle.std.specs.Prelude.{List, Option, map};
     ghost use Rattle.chi_slice.specs.declared.places.Place.{Place};
+    ghost use Rattle.chi_slice.specs.Index.{place_of_spot};
 
     ghost Value = { List (Option Place) };
 
-    ghost view = { λ places. places.by_slot };
+    ghost view = { λ places. map place_of_spot places.by_slot };
 }
 
 /// The number of an agent's slot among those of all agents.
@@ -40,53 +48,73 @@ fn place_number(agent: Agent, slot: Slot) -> usize
     usize::from(agent.0) * 8 + usize::from(slot.0)
 }
 
+impl Spot {
+    /// No request.
+    const NONE: Spot = Spot {
+        line: Line(0),
+        at: None,
+    };
+
+    /// The place of the request, if there is one.
+    fn place(self) -> Option<Place>
+        ensures { result ≡ place_of_spot self }
+    {
+        self.at.map(|at| Place {
+            line: self.line,
+            at,
+        })
+    }
+}
+
 impl Places {
     /// No slot is in use.
     pub fn new() -> Places
         ensures { result ≡ no_places }
     {
         Places {
-            by_slot: [None; 64],
+            by_slot: [Spot::NONE; 64],
         }
     }
 
     /// The place of the request of an agent's slot; none outside the eight of each.
+    #[tactic(auto, using(crate::proofs::Spots::spot_place))]
     pub fn get(&self, agent: Agent, slot: Slot) -> Option<Place>
         ensures { result ≡ place_of self.now agent.0 slot }
     {
         if agent.0 < 8 && slot.0 < 8 {
-            self.by_slot[place_number(agent, slot)]
+            self.by_slot[place_number(agent, slot)].place()
         } else {
             None
         }
     }
 
     /// Whether an agent's slot has a place.
+    #[tactic(auto, using(crate::proofs::Spots::spot_place))]
     pub fn is_used(&self, agent: Agent, slot: Slot) -> bool
         requires agent { agent.0 < 8 }
         requires slot { slot.0 < 8 }
         ensures { result ≡ is_some (place_of self.now agent.0 slot) }
     {
-        self.by_slot[place_number(agent, slot)].is_some()
+        self.by_slot[place_number(agent, slot)].at.is_some()
     }
 
     /// Gives an agent's slot this place, or none; outside the eight of each nothing changes.
-    fn put(&mut self, agent: Agent, slot: Slot, place: Option<Place>)
-        ensures { self.new ≡ with_place self.old agent.0 slot place }
+    #[tactic(auto, using(crate::proofs::Spots::other_place))]
+    fn put(&mut self, agent: Agent, slot: Slot, spot: Spot)
+        ensures { self.new ≡ with_place self.old agent.0 slot (place_of_spot spot) }
     {
         if agent.0 < 8 && slot.0 < 8 {
-            self.by_slot[place_number(agent, slot)] = place;
+            self.by_slot[place_number(agent, slot)] = spot;
         }
     }
 
-    /// Follows an action of the agent on a line, by what it did to a request: the slot of that request, if
-    /// one was moved, has its new place on the line, or none.
-    pub fn follow(&mut self, agent: Agent, line: Line, done: Move)
-        ensures { self.new ≡ moved_in self.old agent.0 line done.slot done.to }
+    /// Follows an action of the agent on a line: the slot whose request was moved, if one was, has its new
+    /// place on the line, or none.
+    pub fn follow(&mut self, agent: Agent, line: Line, slot: Option<Slot>, to: Option<Where>)
+        ensures { self.new ≡ moved_in self.old agent.0 line slot to }
     {
-        if let Some(slot) = done.slot {
-            let place = done.to.map(|at| Place { line, at });
-            self.put(agent, slot, place);
+        if let Some(slot) = slot {
+            self.put(agent, slot, Spot { line, at: to });
         }
     }
 }

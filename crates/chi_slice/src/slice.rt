@@ -232,13 +232,13 @@ impl<A: Allocator> Slice<A> {
     {
         let site = self.site(action, terms)?;
         let line = &mut self.lines[site.row];
-        let moved = line.move_of(action.agent, action.step);
-        let effect = line.act(site.conditions, action)?;
-        self.places.follow(action.agent, action.line, moved);
-        note(&mut self.journal, action, effect);
+        let deed = line.act(site.conditions, action)?;
+        self.places
+            .follow(action.agent, action.line, deed.slot, deed.to);
+        note(&mut self.journal, action, deed.effect);
         Ok(Done {
-            effect,
-            slot: moved.slot,
+            effect: deed.effect,
+            slot: deed.slot,
         })
     }
 

@@ -32,6 +32,7 @@ pub fn cells_of(flits: &[Cells; 8], agent: Agent) -> &Cells
 /// Conditions: the agent's number is below 8, and the cell of the message's channel is empty.
 /// Source: `docs/PROTOCOL.md`, "Messages".
 #[tactic(auto, using(crate::proofs::Moved::put_adds))]
+#[inline(always)]
 pub fn put(flits: &mut [Cells; 8], agent: Agent, message: Msg)
     requires agent { agent.0 < 8 }
     requires empty { cell_of (cells_at flits.old agent.0) (channel_of message) ≡ None }
@@ -42,11 +43,29 @@ pub fn put(flits: &mut [Cells; 8], agent: Agent, message: Msg)
     flits[usize::from(agent.0)].put(message);
 }
 
+/// Puts the data of a completion on its channel, to the agent. All else stays.
+///
+/// Conditions: the agent's number is below 8, and the cell of that channel is empty.
+/// Source: `docs/PROTOCOL.md`, "Messages".
+#[tactic(auto, using(crate::proofs::Moved::put_adds))]
+#[inline(always)]
+pub fn put_data(flits: &mut [Cells; 8], agent: Agent, response: CompData)
+    requires agent { agent.0 < 8 }
+    requires empty { cell_of (cells_at flits.old agent.0) (channel_of (messages.DatDown response)) ≡ None }
+    ensures after { flits.new
+        ≡ slice_set flits.old agent.0 (with_message (cells_at flits.old agent.0) (messages.DatDown response)) }
+    ensures adds { IsPermutation (in_flight flits.new)
+        (flit agent (messages.DatDown response) ∷ in_flight flits.old) }
+{
+    flits[usize::from(agent.0)].dat_down = Some(response);
+}
+
 /// Takes what is in flight on the channel, to or from the agent: its cell is empty then, and all else stays.
 ///
 /// Conditions: the agent's number is below 8.
 /// Source: `docs/PROTOCOL.md`, "Messages".
 #[tactic(auto, using(crate::proofs::Moved::clear_removes))]
+#[inline(always)]
 pub fn clear(flits: &mut [Cells; 8], agent: Agent, channel: Channel)
     requires { agent.0 < 8 }
     ensures after { flits.new
@@ -64,6 +83,7 @@ pub fn clear(flits: &mut [Cells; 8], agent: Agent, channel: Channel)
 /// that is emptied.
 /// Source: `docs/PROTOCOL.md`, "Messages".
 #[tactic(auto, using(crate::proofs::Moved::exchange_swaps))]
+#[inline(always)]
 pub fn exchange(flits: &mut [Cells; 8], agent: Agent, taken: Channel, message: Msg)
     requires agent { agent.0 < 8 }
     requires empty { cell_of (without_message (cells_at flits.old agent.0) taken) (channel_of message)
@@ -81,6 +101,7 @@ pub fn exchange(flits: &mut [Cells; 8], agent: Agent, taken: Channel, message: M
 /// Conditions: the cell for snoops of each marked agent is empty.
 /// Source: `docs/PROTOCOL.md`, "Messages".
 #[tactic(auto, using(crate::proofs::Moved::snoops_add))]
+#[inline(always)]
 pub fn put_snoops(flits: &mut [Cells; 8], agents: [bool; 8], snoop: Snoop)
     requires empty { (agent : ℕ) → slice_index_or agents agent false ≡ true
         → (cells_at flits.old agent).snp ≡ None }

@@ -7,4 +7,4 @@ mod cells;
 mod flits;
 
 pub use cells::Cells;
-pub use flits::{cells_of, clear, exchange, put, put_snoops};
+pub use flits::{cells_of, clear, exchange, put, put_data, put_snoops};
