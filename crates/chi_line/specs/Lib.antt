@@ -10,5 +10,5 @@ pub mod Places
 pub mod Table
 pub mod Types
 pub mod Moves
-pub mod Deeds
+pub mod Upshots
 pub mod Traffic

@@ -5,15 +5,15 @@ ghost use Rattle.std.specs.Option.{option_or};
 ghost use Rattle.chi_flit.specs.Refusal.{refusal_of};
 ghost use Rattle.chi_flit.specs.declared.action.Effect.TheVariants.{Nothing, Value};
 ghost use Rattle.chi_rnline.specs.Rn.{cancel_refusal, drop_refusal, load_refusal, store_refusal, word_of};
-ghost use Rattle.chi_line.specs.Deeds.{deed_with_move, deed_without_move};
 ghost use Rattle.chi_line.specs.LineState.{rn_of};
 ghost use Rattle.chi_line.specs.Refused.{full_if};
 ghost use Rattle.chi_line.specs.Step.{cancelled_line, dropped_line, pending_slot, stored_line};
+ghost use Rattle.chi_line.specs.Upshots.{upshot_with_move, upshot_without_move};
 
-use crate::deeds::Deed;
 use crate::line::Line;
 use crate::refusals::why_no_store;
 use crate::slots::pending_slot;
+use crate::upshots::Upshot;
 use chi_flit::{Agent, Effect, Refusal, WordNo};
 
 impl Line {
@@ -21,19 +21,19 @@ impl Line {
     ///
     /// Refused 2 (WrongState) where there is no copy, then 1 (JournalFull) where the journal is `full`.
     /// Source: `docs/PROTOCOL.md`, "The actions", Load.
-    pub(crate) fn load(&self, agent: Agent, word: WordNo, full: bool) -> Result<Deed, Refusal>
+    pub(crate) fn load(&self, agent: Agent, word: WordNo, full: bool) -> Result<Upshot, Refusal>
         requires agent { agent.0 < 8 }
         requires word { word.0 < 8 }
         ensures refusal { refusal_of result
             ≡ option_or (load_refusal (rn_of self.now agent.0)) (full_if full) }
-        ensures deed { IfOk result
-            (λ deed. deed ≡ deed_without_move (Value (word_of (rn_of self.now agent.0) word.0))) }
+        ensures upshot { IfOk result
+            (λ upshot. upshot ≡ upshot_without_move (Value (word_of (rn_of self.now agent.0) word.0))) }
     {
         let value = self.requesters[usize::from(agent.0)].load(word)?;
         if full {
             return Err(Refusal::JournalFull);
         }
-        Ok(Deed::without_move(Effect::Value(value)))
+        Ok(Upshot::without_move(Effect::Value(value)))
     }
 
     /// Store: the word of the agent's copy has the value. The journal takes a record of it.
@@ -48,12 +48,12 @@ impl Line {
         word: WordNo,
         value: u64,
         full: bool,
-    ) -> Result<Deed, Refusal>
+    ) -> Result<Upshot, Refusal>
         requires agent { agent.0 < 8 }
         requires word { word.0 < 8 }
         ensures refusal { refusal_of result
             ≡ option_or (store_refusal (rn_of self.old agent.0)) (full_if full) }
-        ensures deed { IfOk result (λ deed. deed ≡ deed_without_move Nothing) }
+        ensures upshot { IfOk result (λ upshot. upshot ≡ upshot_without_move Nothing) }
         ensures after { OnOk result (self.new ≡ stored_line self.old agent.0 word.0 value) }
         ensures err { OnErr result (self.new ≡ self.old) }
     {
@@ -62,7 +62,7 @@ impl Line {
             return Err(refusal);
         }
         copy.store(word, value);
-        Ok(Deed::without_move(Effect::Nothing))
+        Ok(Upshot::without_move(Effect::Nothing))
     }
 
     /// Drop: the agent's copy is given up, and nobody is told.
@@ -70,15 +70,15 @@ impl Line {
     /// Refused 3 (Pending) where a request is pending, then 2 (WrongState) where the copy isn't clean;
     /// nothing changes then.
     /// Source: `docs/PROTOCOL.md`, "The actions", Drop.
-    pub(crate) fn drop_clean(&mut self, agent: Agent) -> Result<Deed, Refusal>
+    pub(crate) fn drop_clean(&mut self, agent: Agent) -> Result<Upshot, Refusal>
         requires { agent.0 < 8 }
         ensures refusal { refusal_of result ≡ drop_refusal (rn_of self.old agent.0) }
-        ensures deed { IfOk result (λ deed. deed ≡ deed_without_move Nothing) }
+        ensures upshot { IfOk result (λ upshot. upshot ≡ upshot_without_move Nothing) }
         ensures after { OnOk result (self.new ≡ dropped_line self.old agent.0) }
         ensures err { OnErr result (self.new ≡ self.old) }
     {
         self.requesters[usize::from(agent.0)].drop_clean()?;
-        Ok(Deed::without_move(Effect::Nothing))
+        Ok(Upshot::without_move(Effect::Nothing))
     }
 
     /// Cancel: the agent's retried copy-back is given up; nothing is pending.
@@ -86,17 +86,17 @@ impl Line {
     /// Refused 4 (NothingPending) where no request is in phase Retried, then 2 (WrongState) where it may
     /// still be sent; nothing changes then.
     /// Source: `docs/PROTOCOL.md`, "The actions", Cancel.
-    pub(crate) fn cancel(&mut self, agent: Agent) -> Result<Deed, Refusal>
+    pub(crate) fn cancel(&mut self, agent: Agent) -> Result<Upshot, Refusal>
         requires { agent.0 < 8 }
         ensures refusal { refusal_of result ≡ cancel_refusal (rn_of self.old agent.0) }
-        ensures deed { IfOk result
-            (λ deed. deed ≡ deed_with_move (pending_slot (rn_of self.old agent.0).pending) None) }
+        ensures upshot { IfOk result
+            (λ upshot. upshot ≡ upshot_with_move (pending_slot (rn_of self.old agent.0).pending) None) }
         ensures after { OnOk result (self.new ≡ cancelled_line self.old agent.0) }
         ensures err { OnErr result (self.new ≡ self.old) }
     {
         let copy = &mut self.requesters[usize::from(agent.0)];
         let slot = pending_slot(copy.pending());
         copy.cancel()?;
-        Ok(Deed::with_move(slot, None))
+        Ok(Upshot::with_move(slot, None))
     }
 }

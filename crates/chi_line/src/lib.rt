@@ -5,7 +5,6 @@
 mod act;
 mod completions;
 mod copies;
-mod deeds;
 mod ends;
 mod line;
 mod refusals;
@@ -14,12 +13,13 @@ mod seen;
 mod slots;
 mod snoops;
 mod types;
+mod upshots;
 mod view;
 
 pub use act::Conditions;
-pub use deeds::Deed;
 pub use line::Line;
 pub use seen::Where;
 pub use slots::pending_slot;
 pub use types::{TypedSlot, pending_credit};
+pub use upshots::Upshot;
 pub use view::{CopyView, LineView};

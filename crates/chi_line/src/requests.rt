@@ -11,20 +11,20 @@ ghost use Rattle.chi_wires.specs.Flight.{flit, flit_of, in_flight};
 ghost use Rattle.chi_wires.specs.Flits.{cells_at};
 ghost use Rattle.chi_rnline.specs.Rn.{issue_refusal, request_message, resend_refusal};
 ghost use Rattle.chi_homeline.specs.Home.{form_message, is_idle, start_refusal, waiting_of};
-ghost use Rattle.chi_line.specs.Deeds.{deed_of_start, deed_with_move};
 ghost use Rattle.chi_line.specs.LineState.{cells_of, rn_of};
 ghost use Rattle.chi_line.specs.Moves.{requested_slot};
 ghost use Rattle.chi_line.specs.Refused.{no_flit_unless, resend_step_refusal, retry_refusal};
 ghost use Rattle.chi_line.specs.Step.{admitted_line, is_retry, issued_line, pending_slot, resent_line, retried_line, retry_received_line, started_line, waiting_effect, where_some};
 ghost use Rattle.chi_line.specs.Traffic.{Balances, flit_on, request_again, retry_ack, started_flits};
+ghost use Rattle.chi_line.specs.Upshots.{upshot_of_start, upshot_with_move};
 ghost use Rattle.chi_line.specs.declared.seen.Where.TheVariants.{Admitted, Refused, Retried, Riding, Sent};
 
 use crate::act::Conditions;
-use crate::deeds::Deed;
 use crate::line::Line;
 use crate::refusals::to_resend;
 use crate::seen::Where;
 use crate::slots::pending_slot;
+use crate::upshots::Upshot;
 use chi_flit::{
     Agent, Channel, CompData, Effect, Kind, Msg, Profile, Refusal, Request, RspDown, Slot,
     credit_type,
@@ -44,12 +44,12 @@ impl Line {
         kind: Kind,
         slot: Slot,
         used: bool,
-    ) -> Result<Deed, Refusal>
+    ) -> Result<Upshot, Refusal>
         requires agent { agent.0 < 8 }
         requires empty { (rn_of self.old agent.0).pending ≡ None → (cells_of self.old agent.0).req ≡ None }
         ensures refusal { refusal_of result
             ≡ if used then Some refusals.Pending else issue_refusal (rn_of self.old agent.0) kind }
-        ensures deed { IfOk result (λ deed. deed ≡ deed_with_move (Some slot) (Some Sent)) }
+        ensures upshot { IfOk result (λ upshot. upshot ≡ upshot_with_move (Some slot) (Some Sent)) }
         ensures after { OnOk result (self.new ≡ issued_line self.old agent.0 kind slot) }
         ensures flits { OnOk result
             (Balances [] (flit agent (request_message kind slot true) ∷ []) self.old self.new) }
@@ -60,18 +60,18 @@ impl Line {
         }
         let request = self.requesters[usize::from(agent.0)].issue(kind, slot)?;
         put(&mut self.flits, agent, request);
-        Ok(Deed::with_move(Some(slot), Some(Where::Sent)))
+        Ok(Upshot::with_move(Some(slot), Some(Where::Sent)))
     }
 
     /// Admit: the agent's request, which was in flight, waits.
     ///
     /// Refused 7 (NoFlit) where there is none; nothing changes then.
     /// Source: `docs/PROTOCOL.md`, "The actions", Admit.
-    pub(crate) fn admit(&mut self, agent: Agent) -> Result<Deed, Refusal>
+    pub(crate) fn admit(&mut self, agent: Agent) -> Result<Upshot, Refusal>
         requires { agent.0 < 8 }
         ensures refusal { refusal_of result ≡ no_flit_unless (is_some (cells_of self.old agent.0).req) }
-        ensures deed { IfOk result (λ deed. deed
-            ≡ deed_with_move (requested_slot (cells_of self.old agent.0).req) (Some Admitted)) }
+        ensures upshot { IfOk result (λ upshot. upshot
+            ≡ upshot_with_move (requested_slot (cells_of self.old agent.0).req) (Some Admitted)) }
         ensures after { OnOk result (self.new
             ≡ where_some self.old (cells_of self.old agent.0).req (admitted_line self.old agent.0)) }
         ensures flits { OnOk result (Balances (flit_on self.old agent channels.Req) [] self.old self.new) }
@@ -81,7 +81,7 @@ impl Line {
         let Request { kind, slot, .. } = cells.req.ok_or(Refusal::NoFlit)?;
         clear(&mut self.flits, agent, Channel::Req);
         self.home.admit(agent, Waiting { kind, slot });
-        Ok(Deed::with_move(Some(slot), Some(Where::Admitted)))
+        Ok(Upshot::with_move(Some(slot), Some(Where::Admitted)))
     }
 
     /// Retry: the agent's request is taken, and RetryAck of its credit type is in flight.
@@ -89,13 +89,13 @@ impl Line {
     /// Refused 7 (NoFlit) where no request is in flight, then 9 (MustAccept) where it is without AllowRetry;
     /// nothing changes then.
     /// Source: `docs/PROTOCOL.md`, "The actions", Retry.
-    pub(crate) fn retry(&mut self, agent: Agent, profile: Profile) -> Result<Deed, Refusal>
+    pub(crate) fn retry(&mut self, agent: Agent, profile: Profile) -> Result<Upshot, Refusal>
         requires agent { agent.0 < 8 }
         requires empty { is_some (cells_of self.old agent.0).req ≡ true
             → (cells_of self.old agent.0).rsp_down ≡ None }
         ensures refusal { refusal_of result ≡ retry_refusal (cells_of self.old agent.0).req }
-        ensures deed { IfOk result (λ deed. deed
-            ≡ deed_with_move (requested_slot (cells_of self.old agent.0).req) (Some Refused)) }
+        ensures upshot { IfOk result (λ upshot. upshot
+            ≡ upshot_with_move (requested_slot (cells_of self.old agent.0).req) (Some Refused)) }
         ensures after { OnOk result (self.new
             ≡ where_some self.old (cells_of self.old agent.0).req (retried_line profile self.old agent.0)) }
         ensures flits { OnOk result (Balances (flit_on self.old agent channels.Req)
@@ -109,18 +109,18 @@ impl Line {
         }
         let answer = Msg::RspDown(RspDown::RetryAck(credit_type(profile, request.kind)));
         exchange(&mut self.flits, agent, Channel::Req, answer);
-        Ok(Deed::with_move(Some(request.slot), Some(Where::Refused)))
+        Ok(Upshot::with_move(Some(request.slot), Some(Where::Refused)))
     }
 
     /// RecvRetry: the agent takes its RetryAck, and its request is in phase Retried.
     ///
     /// Refused 7 (NoFlit) where no RetryAck is in flight; nothing changes then.
     /// Source: `docs/PROTOCOL.md`, "The actions", RecvRetry.
-    pub(crate) fn receive_retry(&mut self, agent: Agent) -> Result<Deed, Refusal>
+    pub(crate) fn receive_retry(&mut self, agent: Agent) -> Result<Upshot, Refusal>
         requires { agent.0 < 8 }
         ensures refusal { refusal_of result ≡ no_flit_unless (is_retry (cells_of self.old agent.0).rsp_down) }
-        ensures deed { IfOk result (λ deed. deed
-            ≡ deed_with_move (pending_slot (rn_of self.old agent.0).pending) (Some Retried)) }
+        ensures upshot { IfOk result (λ upshot. upshot
+            ≡ upshot_with_move (pending_slot (rn_of self.old agent.0).pending) (Some Retried)) }
         ensures after { OnOk result (self.new ≡ retry_received_line self.old agent.0) }
         ensures flits { OnOk result
             (Balances (flit_on self.old agent channels.RspDown) [] self.old self.new) }
@@ -133,7 +133,7 @@ impl Line {
                 let copy = &mut self.requesters[usize::from(agent.0)];
                 let slot = pending_slot(copy.pending());
                 copy.retried();
-                Ok(Deed::with_move(slot, Some(Where::Retried)))
+                Ok(Upshot::with_move(slot, Some(Where::Retried)))
             }
             Some(RspDown::CompUC | RspDown::CompI | RspDown::CompDBIDResp) | None => {
                 Err(Refusal::NoFlit)
@@ -147,13 +147,13 @@ impl Line {
     /// copy-back and the copy isn't in its needed state, then 12 (NoCredit) where there is no credit of its
     /// type; nothing changes then.
     /// Source: `docs/PROTOCOL.md`, "The actions", Resend.
-    pub(crate) fn resend(&mut self, agent: Agent, conditions: Conditions) -> Result<Deed, Refusal>
+    pub(crate) fn resend(&mut self, agent: Agent, conditions: Conditions) -> Result<Upshot, Refusal>
         requires agent { agent.0 < 8 }
         requires empty { resend_refusal (rn_of self.old agent.0) ≡ None
             → (cells_of self.old agent.0).req ≡ None }
         ensures refusal { refusal_of result ≡ resend_step_refusal conditions (rn_of self.old agent.0) }
-        ensures deed { IfOk result (λ deed. deed
-            ≡ deed_with_move (pending_slot (rn_of self.old agent.0).pending) (Some Riding)) }
+        ensures upshot { IfOk result (λ upshot. upshot
+            ≡ upshot_with_move (pending_slot (rn_of self.old agent.0).pending) (Some Riding)) }
         ensures after { OnOk result (self.new
             ≡ where_some self.old (rn_of self.old agent.0).pending (resent_line self.old agent.0)) }
         ensures flits { OnOk result
@@ -164,7 +164,7 @@ impl Line {
         let request = to_resend(copy, conditions)?;
         let message = copy.resend(request);
         put(&mut self.flits, agent, message);
-        Ok(Deed::with_move(Some(request.slot), Some(Where::Riding)))
+        Ok(Upshot::with_move(Some(request.slot), Some(Where::Riding)))
     }
 
     /// Start: the home begins to serve the agent's waiting request, and what that sends is in flight. An
@@ -174,15 +174,15 @@ impl Line {
     /// nothing changes then.
     /// Source: `docs/PROTOCOL.md`, "Start".
     #[inline(always)]
-    pub(crate) fn start(&mut self, agent: Agent) -> Result<Deed, Refusal>
+    pub(crate) fn start(&mut self, agent: Agent) -> Result<Upshot, Refusal>
         requires agent { agent.0 < 8 }
         requires down { is_some (waiting_of self.old.home agent.0) ≡ true
             → ((cells_of self.old agent.0).rsp_down ≡ None) × ((cells_of self.old agent.0).dat_down ≡ None) }
         requires no_snoops { is_idle self.old.home.serving ≡ true → (other : ℕ)
             → (cells_of self.old other).snp ≡ None }
         ensures refusal { refusal_of result ≡ start_refusal self.old.home agent.0 }
-        ensures deed { IfOk result (λ deed. deed
-            ≡ deed_of_start (waiting_effect self.old.home agent (waiting_of self.old.home agent.0))) }
+        ensures upshot { IfOk result (λ upshot. upshot
+            ≡ upshot_of_start (waiting_effect self.old.home agent (waiting_of self.old.home agent.0))) }
         ensures after { OnOk result (self.new
             ≡ where_some self.old (waiting_of self.old.home agent.0) (started_line self.old agent)) }
         ensures flits { OnOk result
@@ -192,19 +192,19 @@ impl Line {
         match self.home.begin(agent)? {
             Begun::Completes(form) => {
                 put_form(&mut self.flits, agent, form, &self.home);
-                Ok(Deed::without_move(Effect::Nothing))
+                Ok(Upshot::without_move(Effect::Nothing))
             }
             Begun::WriteData => {
                 put(&mut self.flits, agent, Msg::RspDown(RspDown::CompDBIDResp));
-                Ok(Deed::without_move(Effect::Nothing))
+                Ok(Upshot::without_move(Effect::Nothing))
             }
             Begun::Evicted(slot) => {
                 put(&mut self.flits, agent, Msg::RspDown(RspDown::CompI));
-                Ok(Deed::of_evict(slot))
+                Ok(Upshot::of_evict(slot))
             }
             Begun::Snoops { snoop, agents } => {
                 put_snoops(&mut self.flits, agents, snoop);
-                Ok(Deed::without_move(Effect::Nothing))
+                Ok(Upshot::without_move(Effect::Nothing))
             }
         }
     }

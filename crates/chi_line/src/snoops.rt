@@ -11,16 +11,16 @@ ghost use Rattle.chi_wires.specs.Cell.{cell_of};
 ghost use Rattle.chi_wires.specs.Flight.{flit_of, in_flight};
 ghost use Rattle.chi_wires.specs.Flits.{cells_at};
 ghost use Rattle.chi_homeline.specs.declared.serving.Completion.{Completion};
-ghost use Rattle.chi_line.specs.Deeds.{deed_without_move};
 ghost use Rattle.chi_line.specs.Kept.{snoops_for};
 ghost use Rattle.chi_line.specs.LineState.{cells_of, rn_of};
 ghost use Rattle.chi_line.specs.Refused.{no_flit_unless};
 ghost use Rattle.chi_line.specs.Snooped.{answer_channel, completion_put};
 ghost use Rattle.chi_line.specs.Step.{answer_in, answered_by, data_answer, snooped_line, where_some};
 ghost use Rattle.chi_line.specs.Traffic.{Balances, answer_flit, answered_flits, completion_flits, flit_on, snoop_answer};
+ghost use Rattle.chi_line.specs.Upshots.{upshot_without_move};
 
-use crate::deeds::Deed;
 use crate::line::Line;
+use crate::upshots::Upshot;
 use chi_flit::{Agent, Channel, DatUp, Effect, Refusal, RspUp};
 use chi_homeline::{Completion, SnoopAnswer};
 use chi_wires::{Cells, clear, exchange, put};
@@ -30,12 +30,12 @@ impl Line {
     ///
     /// Refused 7 (NoFlit) where no snoop is in flight; nothing changes then.
     /// Source: `docs/PROTOCOL.md`, "Answers to snoops".
-    pub(crate) fn receive_snoop(&mut self, agent: Agent) -> Result<Deed, Refusal>
+    pub(crate) fn receive_snoop(&mut self, agent: Agent) -> Result<Upshot, Refusal>
         requires agent { agent.0 < 8 }
         requires empty { is_some (cells_of self.old agent.0).snp ≡ true
             → ((cells_of self.old agent.0).rsp_up ≡ None) × ((cells_of self.old agent.0).dat_up ≡ None) }
         ensures refusal { refusal_of result ≡ no_flit_unless (is_some (cells_of self.old agent.0).snp) }
-        ensures deed { IfOk result (λ deed. deed ≡ deed_without_move Nothing) }
+        ensures upshot { IfOk result (λ upshot. upshot ≡ upshot_without_move Nothing) }
         ensures after { OnOk result (self.new
             ≡ where_some self.old (cells_of self.old agent.0).snp (snooped_line self.old agent.0)) }
         ensures flits { OnOk result (Balances (flit_on self.old agent channels.Snp)
@@ -46,7 +46,7 @@ impl Line {
         let snoop = cells.snp.ok_or(Refusal::NoFlit)?;
         let answer = self.requesters[usize::from(agent.0)].snooped(snoop);
         exchange(&mut self.flits, agent, Channel::Snp, answer);
-        Ok(Deed::without_move(Effect::Nothing))
+        Ok(Upshot::without_move(Effect::Nothing))
     }
 
     /// RecvSnpResp: the home takes the agent's answer to its snoop. Where it is the last one, the completion
@@ -55,7 +55,7 @@ impl Line {
     /// Refused 7 (NoFlit) where no answer is in flight; nothing changes then.
     /// Source: `docs/PROTOCOL.md`, "Answers of snooped agents".
     #[inline(always)]
-    pub(crate) fn receive_answer(&mut self, agent: Agent) -> Result<Deed, Refusal>
+    pub(crate) fn receive_answer(&mut self, agent: Agent) -> Result<Upshot, Refusal>
         requires agent { agent.0 < 8 }
         requires named { is_some (answer_in (cells_of self.old agent.0)) ≡ true
             → is_named self.old.home.filter agent.0 ≡ true }
@@ -63,7 +63,7 @@ impl Line {
             → ((cells_of self.old other).rsp_down ≡ None) × ((cells_of self.old other).dat_down ≡ None) }
         ensures refusal { refusal_of result
             ≡ no_flit_unless (is_some (answer_in (cells_of self.old agent.0))) }
-        ensures deed { IfOk result (λ deed. deed ≡ deed_without_move Nothing) }
+        ensures upshot { IfOk result (λ upshot. upshot ≡ upshot_without_move Nothing) }
         ensures after { OnOk result (self.new
             ≡ where_some self.old (answer_in (cells_of self.old agent.0)) (answered_by self.old agent)) }
         ensures flits { OnOk result (Balances (answer_flit self.old agent (answer_in (cells_of self.old agent.0)))
@@ -75,7 +75,7 @@ impl Line {
         clear(&mut self.flits, agent, channel_of(&answer));
         let completion = self.home.snp_resp(agent, answer);
         put_completion(&mut self.flits, completion);
-        Ok(Deed::without_move(Effect::Nothing))
+        Ok(Upshot::without_move(Effect::Nothing))
     }
 }
 

@@ -232,13 +232,13 @@ impl<A: Allocator> Slice<A> {
     {
         let site = self.site(action, terms)?;
         let line = &mut self.lines[site.row];
-        let deed = line.act(site.conditions, action)?;
+        let upshot = line.act(site.conditions, action)?;
         self.places
-            .follow(action.agent, action.line, deed.slot, deed.to);
-        note(&mut self.journal, action, deed.effect);
+            .follow(action.agent, action.line, upshot.slot, upshot.to);
+        note(&mut self.journal, action, upshot.effect);
         Ok(Done {
-            effect: deed.effect,
-            slot: deed.slot,
+            effect: upshot.effect,
+            slot: upshot.slot,
         })
     }
 

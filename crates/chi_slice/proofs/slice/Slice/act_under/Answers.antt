@@ -13,22 +13,22 @@ act-requires-clause-kept g c =
 pub note-requires : goal.note-requires
 note-requires g c =
     room_for (ready c.args.self.now c.args.terms c.args.action c.self.invariant.0 c.self.view_is c.in_ok-site.ensures.refusal c.in_ok-site.ensures.row c.in_ok-site.ensures.conditions c.index_mut-line.ensures.value)
-    c.in_ok-deed.ensures.refusal c.in_ok-deed.ensures.effect
+    c.in_ok-upshot.ensures.refusal c.in_ok-upshot.ensures.effect
 
-pub returns-in_err-deed-clause-refusal : goal.returns-in_err-deed-clause-refusal
-returns-in_err-deed-clause-refusal g c =
-    let by_line : Some c.in_err-deed.field-0.0 ≡ refused_under c.args.terms c.args.self.now c.args.action =
-    c.in_err-deed.ensures.refusal ∙ refused_now c.self.view_is
+pub returns-in_err-upshot-clause-refusal : goal.returns-in_err-upshot-clause-refusal
+returns-in_err-upshot-clause-refusal g c =
+    let by_line : Some c.in_err-upshot.field-0.0 ≡ refused_under c.args.terms c.args.self.now c.args.action =
+    c.in_err-upshot.ensures.refusal ∙ refused_now c.self.view_is
     (ready c.args.self.now c.args.terms c.args.action c.self.invariant.0 c.self.view_is c.in_ok-site.ensures.refusal c.in_ok-site.ensures.row c.in_ok-site.ensures.conditions c.index_mut-line.ensures.value) in
     search (rules, by_line)
 
 end : (g : given.Over) (c : goal.After-note g)
-    → Ended c.args.self.now c.args.terms c.args.action c.in_ok-deed.deed.effect c.in_ok-deed.deed.slot (slice_of c.self.inside.config c.self.inside.index (slice_set c.self.inside.lines.items c.in_ok-site.site.row c.act.new.self) c.note.new.journal) c.follow.new.self
+    → Ended c.args.self.now c.args.terms c.args.action c.in_ok-upshot.upshot.effect c.in_ok-upshot.upshot.slot (slice_of c.self.inside.config c.self.inside.index (slice_set c.self.inside.lines.items c.in_ok-site.site.row c.act.new.self) c.note.new.journal) c.follow.new.self
 end g c =
     ended c.args.self.now c.args.terms c.args.action c.self.inside.places c.follow.new.self c.note.new.journal c.self.view_is c.self.invariant.1
     (ready c.args.self.now c.args.terms c.args.action c.self.invariant.0 c.self.view_is c.in_ok-site.ensures.refusal c.in_ok-site.ensures.row c.in_ok-site.ensures.conditions c.index_mut-line.ensures.value)
-    (record { refusal = c.in_ok-deed.ensures.refusal; effect_is = c.in_ok-deed.ensures.effect; after_is = c.in_ok-deed.ensures.after; flits = c.in_ok-deed.ensures.flits })
-    (record { slot_is = c.in_ok-deed.ensures.slot; to_is = c.in_ok-deed.ensures.to })
+    (record { refusal = c.in_ok-upshot.ensures.refusal; effect_is = c.in_ok-upshot.ensures.effect; after_is = c.in_ok-upshot.ensures.after; flits = c.in_ok-upshot.ensures.flits })
+    (record { slot_is = c.in_ok-upshot.ensures.slot; to_is = c.in_ok-upshot.ensures.to })
     c.follow.ensures c.note.ensures
 
 pub invariant_of-self-2 : goal.invariant_of-self-2
