@@ -1,14 +1,12 @@
 -- Requesters that go into threads, and come back from them.
-use Rattle.std.proofs.Common.{◌≡◌, ℕ, suc, ◌<◌, List, [], ◌∷◌, ◌++◌, All, map, length, refl, sym, ◌∙◌, ap, subst, arith}
-use Rattle.std.proofs.lemmas.List.{append_assoc}
+use Rattle.std.proofs.Common.{◌≡◌, suc, ◌<◌, List, [], ◌∷◌, ◌++◌, All, map, length, refl, sym, ◌∙◌, ap, subst, arith}
 use Rattle.std.proofs.lemmas.List.Elements.{All-nil, All-cons, All-head, All-tail}
-use Rattle.std.specs.Prelude.{⊤}
 use Rattle.std.specs.List.{remove, slice_index_or}
 use Rattle.chi_node.specs.Requester.{RequesterState}
 use Rattle.chi_node.specs.Calls.{IsSameRequester}
-use Rattle.chi_home.specs.Node.{AreOwn, IsOwn, NodeState}
+use Rattle.chi_node.specs.Node.{AreOwn, IsOwn, NodeState}
 use Rattle.atomic_table.specs.Seated.{TableId}
-use Rattle.chi_tallies.specs.Tallies.{IsFresh}
+use Rattle.chi_audit.specs.Tallies.{IsFresh}
 use Rattle.chi_agent.specs.Script.{AreFresh, ScriptState}
 use Rattle.chi_agent.specs.Ended.{AreSame}
 
@@ -43,10 +41,10 @@ all_back f ps rs [] so_far none = none_out rs ps so_far
 all_back f ps rs (x ∷ xs) so_far none = absurd (omega (arith, none))
 
 -- one more thread is started
-pub starts : {H : Type 0} (f : H → RequesterState) (all : List RequesterState) (hs hs' : List H) (h : H) (r : RequesterState) (rs rs' : List RequesterState) → map f hs ++ rs ≡ all → rs ≡ r ∷ rs' → hs' ≡ hs ++ h ∷ [] → f h ≡ r → map f hs' ++ rs' ≡ all
-starts f all [] hs' h r rs rs' so_far first push own = subst (λ (z : _). map f z ++ rs' ≡ all) (sym push) (ap (λ (z : RequesterState). z ∷ rs') own ∙ (sym first ∙ so_far))
+pub starts : {H X : Type 0} (f : H → X) (all : List X) (hs hs' : List H) (h : H) (r : X) (rs rs' : List X) → map f hs ++ rs ≡ all → rs ≡ r ∷ rs' → hs' ≡ hs ++ h ∷ [] → f h ≡ r → map f hs' ++ rs' ≡ all
+starts f all [] hs' h r rs rs' so_far first push own = subst (λ (z : _). map f z ++ rs' ≡ all) (sym push) (ap (λ (z : _). z ∷ rs') own ∙ (sym first ∙ so_far))
 starts f all (x ∷ xs) hs' h r rs rs' so_far first push own =
-    subst (λ (z : _). map f z ++ rs' ≡ all) (sym push) (ap (λ (z : List RequesterState). f x ∷ z) (starts f (map f xs ++ rs) xs (xs ++ h ∷ []) h r rs rs' refl first refl own) ∙ so_far)
+    subst (λ (z : _). map f z ++ rs' ≡ all) (sym push) (ap (λ (z : List _). f x ∷ z) (starts f (map f xs ++ rs) xs (xs ++ h ∷ []) h r rs rs' refl first refl own) ∙ so_far)
 
 append_nil : (rs : List RequesterState) → rs ++ [] ≡ rs
 append_nil [] = refl

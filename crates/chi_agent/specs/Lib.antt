@@ -1,2 +1,4 @@
 pub mod Script
 pub mod Ended
+pub mod Lives
+pub mod Runs

@@ -1,15 +1,15 @@
 //! Scripts that are run by agents, each in a thread of its own.
 //!
-//! Source: `docs/PROTOCOL.md`, "A turn".
+//! Source: `docs/FORMATS.md`, "A turn".
 #![tactic(auto)]
 
 mod agents;
 mod ended;
 mod gates;
 mod lives;
-mod preparing;
+mod pauses;
+mod preparation;
 mod progress;
-mod resting;
 mod runner;
 mod scripts;
 mod seats;

@@ -1,19 +1,21 @@
 //! All turns of an agent.
 
 ghost use Rattle.std.specs.Prelude.{◌≡◌};
+ghost use Rattle.chi_draws.specs.Stream.{start_of};
 ghost use Rattle.chi_node.specs.Calls.{IsSameRequester};
-ghost use Rattle.chi_home.specs.Node.{IsOwn};
+ghost use Rattle.chi_node.specs.Node.{IsOwn};
+ghost use Rattle.chi_agent.specs.Lives.{Lived};
 
 use crate::gates::Gate;
-use crate::resting::rest;
+use crate::pauses::rest;
 use crate::runner::Runner;
-use chi_home::Node;
+use chi_node::Node;
 use std::alloc::Allocator;
 use std::sync::Wait;
 use std::sync::atomic::{AtomicU64, Ordering};
 use std::time::Clock;
 
-/// How many turns an agent has at most, and how many agents there are.
+/// How many turns an agent has at most, the seed of its draws, and how many agents there are.
 #[derive(Clone, Copy)]
 pub(crate) struct Plan {
     pub(crate) seed: u64,
@@ -31,8 +33,12 @@ pub(crate) fn live<R: Wait + Clock, A: Allocator, B: Allocator, G: Gate>(
     plan: Plan,
     runner: &mut Runner<'_, A>,
 )
-    requires { IsOwn node.now runner.old.player.requester }
-    ensures { IsSameRequester runner.old.player.requester runner.new.player.requester }
+    requires own { IsOwn node.now runner.old.player.requester }
+    requires draws { runner.old.draws ≡ start_of plan.seed runner.old.player.requester.number }
+    requires turns { runner.old.turns ≡ 0 }
+    ensures lived { Lived node.now.config plan.seed plan.turns runner.old.player.requester.number
+        runner.old.player runner.new.player }
+    ensures same { IsSameRequester runner.old.player.requester runner.new.player.requester }
 {
     let mut counted = false;
     let mut vain = 0u32;
@@ -43,7 +49,8 @@ pub(crate) fn live<R: Wait + Clock, A: Allocator, B: Allocator, G: Gate>(
             counted = true;
             ended.fetch_add(1, Ordering::SeqCst);
         }
-        if ended.load(Ordering::SeqCst) >= u64::from(plan.agents) {
+        // (the others end too: it is counted itself)
+        if ended.load(Ordering::SeqCst) >= u64::from(plan.agents) && runner.player.has_ended() {
             break;
         }
         rest(rt, vain);

@@ -1,9 +1,10 @@
 //! What an agent tells of itself while it runs.
 
 ghost use Rattle.std.specs.Prelude.{◌≡◌, Some, slice_get};
-ghost use Rattle.chi_tallies.specs.Tallies.{IsFresh};
+ghost use Rattle.chi_audit.specs.Tallies.{IsFresh};
 
-use chi_tallies::{Tallies, Tally, Writer};
+use chi_audit::{Tallies, Tally, Writer};
+use std::sync::Wait;
 
 /// Where an agent tells its tally.
 #[derive(Drop)]
@@ -21,14 +22,14 @@ impl<'t> Progress<'t> {
         Progress { tallies, writer }
     }
 
-    /// Stores the numbers; one that is below the last told stays as it was told.
-    pub(crate) fn tell(&mut self, turns: u64, loads: u64, stores: u64) {
+    /// Stores the numbers; one that is below the last told stays as it was told. It may wait.
+    pub(crate) fn tell<R: Wait>(&mut self, rt: &R, turns: u64, loads: u64, stores: u64) {
         let last = self.writer.last();
         let tally = Tally {
             turns: turns.max(last.turns),
             loads: loads.max(last.loads),
             stores: stores.max(last.stores),
         };
-        self.tallies.store(&mut self.writer, tally);
+        self.tallies.store(rt, &mut self.writer, tally);
     }
 }

@@ -1,29 +1,34 @@
 //! An agent between its turns.
 
-ghost use Rattle.std.specs.Prelude.{◌≡◌};
+ghost use Rattle.std.specs.Prelude.{◌≡◌, ◌+◌, ◌%◌, ◌^◌};
+ghost use Rattle.chi_flit.specs.declared.refusal.Refusal.TheVariants.{NotOpen};
 ghost use Rattle.chi_node.specs.Agree.{KeepsAgreement};
 ghost use Rattle.chi_node.specs.Calls.{IsSameRequester, IsSameSlice};
 ghost use Rattle.chi_node.specs.Parts.{HasTypes};
-ghost use Rattle.chi_home.specs.Node.{IsOwn};
-ghost use Rattle.chi_turns.specs.Turns.{TurnsTo};
-ghost use Rattle.chi_tallies.specs.Tallies.{IsFresh};
+ghost use Rattle.chi_node.specs.Node.{IsOwn, IsSliceOf};
+ghost use Rattle.chi_turns.specs.Choice.{line_of};
+ghost use Rattle.chi_turns.specs.Turns.{after_refusal, count_after, TurnsTo};
+ghost use Rattle.chi_turns.specs.Operations.{unissued_operation};
+ghost use Rattle.chi_draws.specs.Stream.{word_after};
+ghost use Rattle.chi_agent.specs.Lives.{opening_player, EndsTurn, Turned, Visits};
+ghost use Rattle.chi_audit.specs.Tallies.{IsFresh};
 
 use crate::gates::Gate;
-use crate::preparing::{prepare, tend};
+use crate::preparation::{prepare, tend};
 use crate::progress::Progress;
 use crate::scripts::Script;
+use chi_audit::Tallies;
 use chi_draws::Draws;
-use chi_home::Node;
-use chi_node::Requester;
+use chi_flit::Line;
+use chi_node::{Node, Requester};
 use chi_slice::Slice;
-use chi_tallies::Tallies;
 use chi_tracker::Tracker;
 use chi_turns::{Operations, Player, line_of};
 use std::alloc::Allocator;
 use std::sync::Wait;
 
 /// What an agent has of its script, its draws, and the number of its turns done.
-/// Source: `docs/PROTOCOL.md`, "A turn".
+/// Source: `docs/FORMATS.md`, "A turn".
 #[derive(Drop)]
 pub struct Runner<'t, A: Allocator> {
     pub player: Player<A>,
@@ -36,7 +41,7 @@ impl<'t, A: Allocator> Runner<'t, A> {
     /// The requester begins the script with these draws: no turn is done.
     ///
     /// Condition: the script's writer is one of the tallies, and has stored nothing.
-    /// Source: `docs/PROTOCOL.md`, "A turn".
+    /// Source: `docs/FORMATS.md`, "A turn".
     pub fn new(
         tallies: &'t Tallies,
         script: Script<A>,
@@ -44,11 +49,16 @@ impl<'t, A: Allocator> Runner<'t, A> {
         draws: Draws,
     ) -> Runner<'t, A>
         requires { IsFresh tallies.now script.writer }
+        ensures player { result.player ≡ opening_player requester script.operations }
         ensures requester { result.player.requester ≡ requester }
         ensures draws { result.draws ≡ draws }
         ensures turns { result.turns ≡ 0 }
     {
-        let Script { operations, writer } = script;
+        let Script {
+            operations,
+            writer,
+            ..
+        } = script;
         Runner {
             player: Player::new(requester, Operations::new(operations)),
             draws,
@@ -61,7 +71,7 @@ impl<'t, A: Allocator> Runner<'t, A> {
     /// or nothing, and false. No memory is taken, nothing is waited for, and draws and turns stay.
     ///
     /// Conditions: the tracker is the requester's, and it has entries of each type of the slice's profile.
-    /// Source: `docs/PROTOCOL.md`, "A turn".
+    /// Source: `docs/FORMATS.md`, "A turn".
     pub fn turn_on<B: Allocator, C: Allocator>(
         &mut self,
         slice: &mut Slice<B>,
@@ -80,21 +90,76 @@ impl<'t, A: Allocator> Runner<'t, A> {
         self.player.turn_on(slice, tracker, x)
     }
 
+    /// The slice isn't that of the line, which stops the script as a refusal 11 (NotOpen) does.
+    fn stop(&mut self)
+        ensures after { self.new.player ≡ after_refusal NotOpen self.old.player }
+        ensures draws { self.new.draws ≡ self.old.draws }
+        ensures count { self.new.turns ≡ self.old.turns }
+    {
+        self.player.stopped = true;
+        self.player.not_open = true;
+    }
+
+    /// Looks at the line that was drawn by `x` in its slice.
+    fn visit_on<B: Allocator>(
+        &mut self,
+        slice: &mut Slice<B>,
+        node: &Node<B>,
+        line: Line,
+        x: u32,
+    ) -> bool
+        requires own { IsOwn node.now self.old.player.requester }
+        requires types { HasTypes node.now.config node.now.tracker.shape }
+        requires line { line ≡ line_of node.now.config x }
+        requires slice { IsSliceOf node.now.config line.0 slice.old }
+        ensures visits { Visits node.now.config x self.old.player self.new.player result }
+        ensures same { IsSameRequester self.old.player.requester self.new.player.requester }
+        ensures draws { self.new.draws ≡ self.old.draws }
+        ensures count { self.new.turns ≡ self.old.turns }
+    {
+        self.player.turn_at(slice, node.tracker(), line, x)
+    }
+
     /// Looks at the line that was drawn by `x`, under the lock of its slice.
     fn visit<R: Wait, B: Allocator>(&mut self, rt: &R, node: &Node<B>, x: u32) -> bool
         requires { IsOwn node.now self.old.player.requester }
-        ensures { IsSameRequester self.old.player.requester self.new.player.requester }
+        ensures visits { Visits node.now.config x self.old.player self.new.player result }
+        ensures same { IsSameRequester self.old.player.requester self.new.player.requester }
+        ensures draws { self.new.draws ≡ self.old.draws }
+        ensures count { self.new.turns ≡ self.old.turns }
     {
-        let config = node.config();
-        let line = line_of(config, x);
+        let line = line_of(node.config(), x);
         let Ok(mut slice) = node.lock(rt, line) else {
+            self.stop();
             return false;
         };
-        // the lock tells nothing of the slice behind it
-        if slice.config().profile() != config.profile() {
-            return false;
+        self.visit_on(&mut slice, node, line, x)
+    }
+
+    /// What is done after a visit: where it came to nothing, what is owed of a type is tended.
+    fn end_turn<B: Allocator>(&mut self, node: &Node<B>, number: u64, done: bool)
+        requires { IsOwn node.now self.old.player.requester }
+        ensures ends { EndsTurn done node.now.config number self.old.player self.new.player }
+        ensures same { IsSameRequester self.old.player.requester self.new.player.requester }
+        ensures draws { self.new.draws ≡ self.old.draws }
+    {
+        if !done {
+            let profile = node.config().profile();
+            tend(&mut self.player.requester, node.tracker(), profile, number);
         }
-        self.turn_on(&mut slice, node.tracker(), x)
+    }
+
+    /// The turn of that number, for the word `x`.
+    fn take<R: Wait, B: Allocator>(&mut self, rt: &R, node: &Node<B>, number: u64, x: u32) -> bool
+        requires { IsOwn node.now self.old.player.requester }
+        ensures turn { Turned node.now.config x number self.old.player self.new.player result }
+        ensures same { IsSameRequester self.old.player.requester self.new.player.requester }
+        ensures draws { self.new.draws ≡ self.old.draws }
+    {
+        prepare(&mut self.player.requester, node.tracker());
+        let done = self.visit(rt, node, x);
+        self.end_turn(node, number, done);
+        done
     }
 
     /// A whole turn: the gate is passed; credits are seen, and those that no request waits for are given
@@ -103,23 +168,23 @@ impl<'t, A: Allocator> Runner<'t, A> {
     /// `turn_on` answered, and may wait for another thread.
     ///
     /// Condition: the requester is the node's own.
-    /// Source: `docs/PROTOCOL.md`, "A turn".
+    /// Source: `docs/FORMATS.md`, "A turn".
     pub fn turn<R: Wait, B: Allocator, G: Gate>(&mut self, rt: &R, node: &Node<B>, gate: &G) -> bool
         requires { IsOwn node.now self.old.player.requester }
-        ensures { IsSameRequester self.old.player.requester self.new.player.requester }
+        ensures turn { Turned node.now.config (word_after self.old.draws) self.new.turns
+            self.old.player self.new.player result }
+        ensures count { self.new.turns ≡ count_after self.old.turns }
+        ensures draws { self.new.draws
+            ≡ record self.old.draws { word_pos = (self.old.draws.word_pos + 1) % 2 ^ 68 } }
+        ensures same { IsSameRequester self.old.player.requester self.new.player.requester }
     {
         let turn = self.turns.saturating_add(1);
         gate.pass(self.player.requester.number(), turn);
-        prepare(&mut self.player.requester, node.tracker());
         let x = self.draws.next();
-        let done = self.visit(rt, node, x);
-        if !done {
-            let profile = node.config().profile();
-            tend(&mut self.player.requester, node.tracker(), profile, turn);
-        }
+        let done = self.take(rt, node, turn, x);
         self.turns = turn;
         self.progress
-            .tell(turn, self.player.loads, self.player.stores);
+            .tell(rt, turn, self.player.loads, self.player.stores);
         done
     }
 }

@@ -1,14 +1,19 @@
-//! What the tests share: the scripts of agents, with the writers of their tallies.
+//! What the tests share: nodes, and the scripts of agents with the writers of their tallies.
 
 ghost use Rattle.std.specs.Prelude.{◌≡◌, ◌≤◌, All, length, map, vec_len};
 ghost use Rattle.chi_config.specs.Config.{two_types};
-ghost use Rattle.chi_tallies.specs.Tallies.{cell_of, IsFresh};
-ghost use Rattle.chi_agent.specs.Script.{AreFresh};
+ghost use Rattle.chi_node.specs.Node.{AreOwn};
+ghost use Rattle.chi_audit.specs.Numbers.{numbers};
+ghost use Rattle.chi_audit.specs.Tallies.{agent_of, cell_of, IsFresh};
+ghost use Rattle.chi_agent.specs.Ended.{number_of};
+ghost use Rattle.chi_agent.specs.Script.{writer_of, AreFresh};
 
+use arrayvec::ArrayVec;
 use chi_agent::Script;
+use chi_audit::{Tallies, Watcher, Writer};
 use chi_flit::{Line, Operation, Task, WordNo};
+use chi_node::{Node, Requester};
 use chi_slice::Config;
-use chi_tallies::{Tallies, Watcher, Writer, open_tallies};
 use std::alloc::Global;
 use std::process::Abort;
 
@@ -27,6 +32,21 @@ pub fn eight_sizes(rt: &impl Abort) -> Config
     Config::new(8, 8, 8, 1, 1, 16).expect(rt, "sizes in their limits")
 }
 
+/// A node of that size, and its requesters.
+#[tactic(auto, using(chi_agent::proofs::Numbers::are_numbered))]
+pub fn node_of(
+    rt: &impl Abort,
+    alloc: Global,
+    config: &Config,
+) -> (Node<Global>, ArrayVec<Requester, 8>)
+    ensures config { result.0.config ≡ config.now }
+    ensures agents { result.0.tracker.shape.agents ≡ config.now.agents }
+    ensures own { AreOwn result.0 result.1.items }
+    ensures numbers { map number_of result.1.items ≡ numbers config.now.agents }
+{
+    Node::new(alloc, config).expect(rt, "memory for a node")
+}
+
 /// What agent `own` of eight does: it stores to its line and writes it back, and loads and drops the next.
 fn neighbours(own: u8, next: u8) -> [Operation; 4] {
     let value = u64::from(own).saturating_add(1);
@@ -38,7 +58,7 @@ fn neighbours(own: u8, next: u8) -> [Operation; 4] {
     ]
 }
 
-/// The scripts of eight agents.
+/// The scripts of eight agents, each of which goes to its neighbour's line.
 pub fn eight_scripts() -> [[Operation; 4]; 8] {
     [
         neighbours(0, 1),
@@ -65,10 +85,11 @@ fn script_of(
     for operation in operations {
         list.push(*operation).expect(rt, "memory for a script");
     }
-    Script::new(list, writer)
+    Script::new(writer.agent(), list, writer)
 }
 
-/// A script for each writer.
+/// A script for each writer, in their order.
+#[tactic(auto, using(chi_agent::proofs::Numbers::all_moved))]
 fn scripts_of<const N: usize>(
     rt: &impl Abort,
     alloc: Global,
@@ -79,6 +100,7 @@ fn scripts_of<const N: usize>(
     requires fresh { All (IsFresh tallies.now) writers.items }
     requires count { length writers.items ≡ length all.now }
     ensures fresh { AreFresh tallies.now result.items }
+    ensures writers { map writer_of result.items ≡ map agent_of writers.items }
     ensures count { vec_len result ≡ length all.now }
 {
     let mut scripts = Vec::new(alloc);
@@ -90,7 +112,7 @@ fn scripts_of<const N: usize>(
 }
 
 /// Cells for tallies, the scripts with their writers, and who reads them.
-#[tactic(auto, using(crate::proofs::Scripts::as_many))]
+#[tactic(auto, using(chi_agent::proofs::Numbers::as_many))]
 pub fn opened<const N: usize>(
     rt: &impl Abort,
     alloc: Global,
@@ -99,11 +121,12 @@ pub fn opened<const N: usize>(
 ) -> (Tallies, Vec<Script<Global>>, Watcher)
     requires { length all.now ≡ agents }
     ensures fresh { AreFresh result.0 result.1.items }
+    ensures writers { map writer_of result.1.items ≡ numbers agents }
     ensures count { vec_len result.1 ≡ agents }
     ensures cells { length result.0 ≡ agents }
     ensures watched { map cell_of result.2 ≡ result.0 }
 {
-    let made = open_tallies(alloc, agents);
+    let made = chi_audit::tallies(alloc, agents);
     let (tallies, writers, watcher) = made.expect(rt, "memory for tallies");
     let scripts = scripts_of(rt, alloc, &tallies, all, writers);
     (tallies, scripts, watcher)

@@ -10,9 +10,8 @@ use chi_flit::Step::{
     self, Issue, Load, RecvAck, RecvData, RecvDbid, RecvSnp, RecvSnpResp, RecvWrData, Start, Store,
 };
 use chi_flit::{Effect, Entry, Line, Slot, State, WordNo};
-use chi_home::Node;
 use chi_homeline::Serving;
-use chi_node::{Arrived, Stepped};
+use chi_node::{Arrived, Node, Stepped};
 use chi_slice::{Config, LineView};
 use chi_tracker::Released;
 use std::process::Abort;

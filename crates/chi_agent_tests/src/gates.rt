@@ -3,13 +3,13 @@
 ghost use Rattle.std.specs.Prelude.{◌≡◌};
 ghost use Rattle.chi_config.specs.Config.{two_types};
 
-use crate::bench::{on, opened};
+use crate::bench::{node_of, on, opened};
 use chi_agent::{Gate, run_agents};
-use chi_flit::{Agent, Task, WordNo};
-use chi_home::Node;
+use chi_audit::Report;
+use chi_flit::{Agent, Operation, Task, WordNo};
 use chi_slice::Config;
 use std::process::Abort;
-use std::sync::atomic::{AtomicBool, Ordering};
+use std::sync::atomic::{AtomicBool, AtomicU64, Ordering};
 
 /// Each of two agents says at its first turn that it came, and waits until it sees that the other came too.
 #[derive(Drop)]
@@ -41,13 +41,16 @@ fn sizes(rt: &impl Abort) -> Config
     Config::new(2, 2, 2, 1, 1, 4).expect(rt, "sizes in their limits")
 }
 
+/// A load of each agent, on a line of its own.
+fn loads() -> [[Operation; 1]; 2] {
+    let load = Task::Load(WordNo(0));
+    [[on(0, load)], [on(1, load)]]
+}
+
 #[test]
 fn both_run_at_once(rt: HostRuntime) {
-    let made = Node::new(rt.alloc(), &sizes(&rt));
-    let (node, requesters) = made.expect(&rt, "memory for a node");
-    let load = Task::Load(WordNo(0));
-    let all = [[on(0, load)], [on(1, load)]];
-    let (tallies, scripts, _watcher) = opened(&rt, rt.alloc(), 2, &all);
+    let (node, requesters) = node_of(&rt, rt.alloc(), &sizes(&rt));
+    let (tallies, scripts, _watcher) = opened(&rt, rt.alloc(), 2, &loads());
     let gate = Meeting {
         came: [AtomicBool::new(false), AtomicBool::new(false)],
         saw: [AtomicBool::new(false), AtomicBool::new(false)],
@@ -66,4 +69,63 @@ fn both_run_at_once(rt: HostRuntime) {
     assert!(rt; ran.is_ok());
     assert!(rt; gate.saw[0].load(Ordering::SeqCst));
     assert!(rt; gate.saw[1].load(Ordering::SeqCst));
+}
+
+/// Counts the turns of two agents, and sees whether each turn of an agent has the number behind the last.
+#[derive(Drop)]
+struct Count {
+    turns: [AtomicU64; 2],
+    in_order: AtomicBool,
+}
+
+impl Gate for Count {
+    fn pass(&self, agent: Agent, turn: u64) {
+        let own = usize::from(agent.0);
+        if own > 1 {
+            return;
+        }
+        let before = self.turns[own].fetch_add(1, Ordering::SeqCst);
+        if before.checked_add(1) != Some(turn) {
+            self.in_order.store(false, Ordering::SeqCst);
+        }
+    }
+}
+
+/// The report of an agent that did nothing so far.
+fn unfinished(agent: u8) -> Report {
+    Report {
+        agent: Agent(agent),
+        finished: false,
+        loads: 0,
+        stores: 0,
+    }
+}
+
+// In four turns at most a request is issued, arrives and is started, and its data comes.
+#[test]
+fn turns_are_used_up(rt: HostRuntime) {
+    let (node, requesters) = node_of(&rt, rt.alloc(), &sizes(&rt));
+    let (tallies, scripts, _watcher) = opened(&rt, rt.alloc(), 2, &loads());
+    let gate = Count {
+        turns: [AtomicU64::new(0), AtomicU64::new(0)],
+        in_order: AtomicBool::new(true),
+    };
+    let ran = run_agents(
+        &rt,
+        rt.alloc(),
+        &node,
+        &tallies,
+        requesters,
+        scripts,
+        1,
+        4,
+        &gate,
+    );
+    let ended = ran.expect(&rt, "memory and threads for agents");
+    assert!(rt; gate.in_order.load(Ordering::SeqCst));
+    assert_eq!(rt; gate.turns[0].load(Ordering::SeqCst), 4);
+    assert_eq!(rt; gate.turns[1].load(Ordering::SeqCst), 4);
+    assert!(rt; ended.gathered.complete);
+    assert!(rt; ended.gathered.reports[0] == Some(unfinished(0)));
+    assert!(rt; ended.gathered.reports[1] == Some(unfinished(1)));
 }

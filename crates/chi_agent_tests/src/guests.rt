@@ -2,12 +2,11 @@
 
 ghost use Rattle.std.specs.Prelude.{◌≡◌, All, true};
 ghost use Rattle.chi_node.specs.Calls.{is_own_step};
-ghost use Rattle.chi_home.specs.Node.{IsOwn};
+ghost use Rattle.chi_node.specs.Node.{IsOwn};
 
 use arrayvec::ArrayVec;
 use chi_flit::{Action, Line, Refusal, Step};
-use chi_home::Node;
-use chi_node::{Arrived, Requester, Stepped};
+use chi_node::{Arrived, Node, Requester, Stepped};
 use std::alloc::Global;
 use std::process::Abort;
 use std::sync::Wait;

@@ -1,18 +1,19 @@
 //! Agents that take turns on one thread: a turn changes the line that it draws alone.
 
 ghost use Rattle.std.specs.Prelude.{◌≡◌, All, vec_len};
-ghost use Rattle.chi_home.specs.Node.{IsOwn};
-ghost use Rattle.chi_tallies.specs.Tallies.{IsFresh};
+ghost use Rattle.chi_node.specs.Node.{IsOwn};
+ghost use Rattle.chi_audit.specs.Tallies.{IsFresh};
 ghost use Rattle.chi_agent.specs.Script.{AreFresh};
 
-use crate::bench::{eight_scripts, eight_sizes, opened};
+use crate::bench::{eight_scripts, eight_sizes, node_of, on, opened};
 use crate::guests::{Guest, guests_of};
 use crate::sights::Sights;
 use chi_agent::{OpenGate, Runner, Script};
+use chi_audit::Tallies;
+use chi_credit::SlotState;
 use chi_draws::Draws;
-use chi_flit::Line;
-use chi_home::Node;
-use chi_tallies::Tallies;
+use chi_flit::{Line, Operation, Slot, Task, WordNo};
+use chi_node::Node;
 use std::alloc::Global;
 use std::process::Abort;
 use std::sync::Wait;
@@ -99,8 +100,7 @@ fn have_finished(movers: &[Mover<'_, '_>]) -> bool {
 
 #[test]
 fn a_turn_changes_its_own_line_alone(rt: HostRuntime) {
-    let made = Node::new(rt.alloc(), &eight_sizes(&rt));
-    let (node, requesters) = made.expect(&rt, "memory for a node");
+    let (node, requesters) = node_of(&rt, rt.alloc(), &eight_sizes(&rt));
     let (tallies, scripts, _watcher) = opened(&rt, rt.alloc(), 8, &eight_scripts());
     let guests = guests_of(&rt, rt.alloc(), &node, requesters);
     let mut movers = movers_of(&rt, rt.alloc(), &tallies, guests, scripts);
@@ -114,4 +114,68 @@ fn a_turn_changes_its_own_line_alone(rt: HostRuntime) {
     assert_eq!(rt; movers.len(), 8);
     assert!(rt; have_finished(&movers));
     assert_eq!(rt; sights.recorded(), 16);
+}
+
+/// What agent `own` of four does on two lines: it stores to each and writes it back, twice.
+fn twice(own: u8) -> [Operation; 8] {
+    let (one, other) = (own % 2, 1 - own % 2);
+    let store = Task::Store(WordNo(0), 1);
+    [
+        on(one, store),
+        on(one, Task::WriteBack),
+        on(other, store),
+        on(other, Task::WriteBack),
+        on(one, store),
+        on(one, Task::WriteBack),
+        on(other, store),
+        on(other, Task::WriteBack),
+    ]
+}
+
+/// Whether a slot of the agent is Cancelled.
+fn has_cancelled(mover: &Mover<'_, '_>) -> bool {
+    let mut found = false;
+    for slot in 0..8 {
+        let state = mover.runner.player.requester.slot(Slot(slot)).state;
+        found |= matches!(state, SlotState::Cancelled);
+    }
+    found
+}
+
+/// Each takes a turn, in rising order; whether a slot of one is Cancelled after it.
+fn round_cancels<R: Abort + Wait>(rt: &R, movers: &mut Vec<Mover<'_, '_>>) -> bool {
+    let mut cancelled = false;
+    for mover in movers.iter_mut() {
+        mover.turn(rt);
+        cancelled |= has_cancelled(mover);
+    }
+    cancelled
+}
+
+// A write-back that was retried has nothing to write once a store of another agent has taken the line.
+#[test]
+fn a_retried_write_back_is_cancelled(rt: HostRuntime) {
+    let (node, requesters) = node_of(&rt, rt.alloc(), &eight_sizes(&rt));
+    let all = [
+        twice(0),
+        twice(1),
+        twice(2),
+        twice(3),
+        twice(4),
+        twice(5),
+        twice(6),
+        twice(7),
+    ];
+    let (tallies, scripts, _watcher) = opened(&rt, rt.alloc(), 8, &all);
+    let guests = guests_of(&rt, rt.alloc(), &node, requesters);
+    let mut movers = movers_of(&rt, rt.alloc(), &tallies, guests, scripts);
+    let mut cancelled = false;
+    for _ in 0..100_000u32 {
+        if have_ended(&movers) {
+            break;
+        }
+        cancelled |= round_cancels(&rt, &mut movers);
+    }
+    assert!(rt; cancelled);
+    assert!(rt; have_finished(&movers));
 }

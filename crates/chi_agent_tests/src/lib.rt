@@ -1,4 +1,4 @@
-//! Tests of agents, in threads and one after another, through their public calls, by `docs/PROTOCOL.md`,
+//! Tests of agents, in threads and one after another, through their public calls, by `docs/FORMATS.md`,
 //! "A turn".
 #![tactic(auto)]
 
@@ -15,13 +15,9 @@ mod isolation;
 #[cfg(test)]
 mod plays;
 #[cfg(test)]
-mod reports;
-#[cfg(test)]
 mod sights;
 #[cfg(test)]
 mod tallies;
-#[cfg(test)]
-mod tellers;
 #[cfg(test)]
 mod watched;
 #[cfg(test)]

@@ -1,56 +1,81 @@
-//! What is read of the tallies of agents that have ended.
+//! What is read of the tallies of agents that have ended, each of which did as much as no other.
 
 ghost use Rattle.std.specs.Prelude.{◌≡◌, ◌<◌, length, map};
-ghost use Rattle.chi_tallies.specs.Tallies.{cell_of};
+ghost use Rattle.chi_audit.specs.Tallies.{cell_of};
 
-use crate::bench::{eight_scripts, eight_sizes, opened};
-use chi_agent::{OpenGate, run_agents};
-use chi_home::Node;
-use chi_reports::{Gathered, Report};
-use chi_tallies::{Tallies, Watcher};
+use crate::bench::{eight_sizes, node_of, on, opened};
+use chi_agent::{Ended, OpenGate, run_agents};
+use chi_audit::{Report, Tallies, Watcher};
+use chi_flit::{Agent, Operation, Task, WordNo};
 use std::process::Abort;
 use std::sync::Wait;
 
-/// The agent's report says that it finished, and its tally has the loads and the stores of the report.
-fn matches<R: Abort + Wait>(
-    rt: &R,
-    tallies: &Tallies,
-    watcher: &mut Watcher,
-    agent: u8,
-    report: Option<Report>,
-)
-    requires cells { map cell_of watcher.old ≡ tallies.now }
-    requires agent { agent < length tallies.now }
-    ensures cells { map cell_of watcher.new ≡ tallies.now }
-{
-    let Some(report) = report else {
-        panic!(rt; "agent {agent} has no report");
-    };
-    assert_eq!(rt; report.agent, agent);
-    assert!(rt; report.finished);
-    let tally = watcher.read(rt, tallies, agent);
-    assert_eq!(rt; tally.loads, report.loads);
-    assert_eq!(rt; tally.stores, report.stores);
-    assert_eq!(rt; (tally.loads, tally.stores), (1, 1));
+/// Nine operations of an agent on its own line: so many stores as its number and one, and then loads.
+fn script_of(own: u8) -> [Operation; 9] {
+    let mut script = [on(own, Task::Load(WordNo(0))); 9];
+    for place in 0..9u8 {
+        if place <= own {
+            script[usize::from(place)] = on(own, Task::Store(WordNo(0), 1));
+        }
+    }
+    script
 }
 
-/// Each agent's tally has what its report has.
-fn all_match<R: Abort + Wait>(rt: &R, tallies: &Tallies, watcher: &mut Watcher, gathered: &Gathered)
+/// The scripts of eight agents, no two of which have as many loads or stores.
+fn unequal_scripts() -> [[Operation; 9]; 8] {
+    [
+        script_of(0),
+        script_of(1),
+        script_of(2),
+        script_of(3),
+        script_of(4),
+        script_of(5),
+        script_of(6),
+        script_of(7),
+    ]
+}
+
+/// What the agent of such a script reports at its end.
+fn report_of(agent: u8) -> Report {
+    let stores = u64::from(agent).saturating_add(1);
+    Report {
+        agent: Agent(agent),
+        finished: true,
+        loads: 9u64.saturating_sub(stores),
+        stores,
+    }
+}
+
+/// The agent's report is the one that is wanted, as it came with its thread and as it was gathered, its
+/// requester is its own, and it didn't meet refusal 11.
+fn is_told(ended: &Ended, agent: u8, wanted: Report) -> bool {
+    let place = usize::from(agent);
+    let own = match ended.requesters.get(place) {
+        Some(requester) => requester.number().0 == agent,
+        None => false,
+    };
+    own && ended.gathered.reports.get(place) == Some(&Some(wanted))
+        && ended.reports.get(place) == Some(&wanted)
+        && ended.not_open.get(place) == Some(&false)
+}
+
+/// The tally of each agent has the loads and the stores of its report.
+fn all_match<R: Abort + Wait>(rt: &R, tallies: &Tallies, watcher: &mut Watcher, ended: &Ended)
     requires cells { map cell_of watcher.old ≡ tallies.now }
     requires agents { length tallies.now ≡ 8 }
 {
     for agent in 0..8 {
-        let report = gathered.reports[usize::from(agent)];
-        matches(rt, tallies, watcher, agent, report);
+        let report = report_of(agent);
+        assert!(rt; is_told(ended, agent, report), "agent {agent}");
+        let tally = watcher.read(rt, tallies, Agent(agent));
+        assert_eq!(rt; (tally.loads, tally.stores), (report.loads, report.stores));
     }
 }
 
 #[test]
 fn tallies_match_reports(rt: HostRuntime) {
-    let made = Node::new(rt.alloc(), &eight_sizes(&rt));
-    let (node, requesters) = made.expect(&rt, "memory for a node");
-    let (tallies, scripts, mut watcher) = opened(&rt, rt.alloc(), 8, &eight_scripts());
-    let gate = OpenGate;
+    let (node, requesters) = node_of(&rt, rt.alloc(), &eight_sizes(&rt));
+    let (tallies, scripts, mut watcher) = opened(&rt, rt.alloc(), 8, &unequal_scripts());
     let ran = run_agents(
         &rt,
         rt.alloc(),
@@ -60,9 +85,9 @@ fn tallies_match_reports(rt: HostRuntime) {
         scripts,
         7,
         10_000_000,
-        &gate,
+        &OpenGate,
     );
     let ended = ran.expect(&rt, "memory and threads for agents");
     assert!(rt; ended.gathered.complete);
-    all_match(&rt, &tallies, &mut watcher, &ended.gathered);
+    all_match(&rt, &tallies, &mut watcher, &ended);
 }

@@ -2,18 +2,19 @@
 
 ghost use Rattle.std.specs.Prelude.{◌≡◌, ◌<◌, length, map, vec_len};
 ghost use Rattle.chi_config.specs.Config.{two_types};
-ghost use Rattle.chi_home.specs.Node.{AreOwn};
-ghost use Rattle.chi_tallies.specs.Tallies.{cell_of};
-ghost use Rattle.chi_agent.specs.Script.{AreFresh};
+ghost use Rattle.chi_node.specs.Node.{AreOwn};
+ghost use Rattle.chi_audit.specs.Tallies.{cell_of};
+ghost use Rattle.chi_audit.specs.Numbers.{numbers};
+ghost use Rattle.chi_agent.specs.Ended.{number_of};
+ghost use Rattle.chi_agent.specs.Script.{writer_of, AreFresh};
 
-use crate::bench::{on, opened};
+use crate::bench::{node_of, on, opened};
 use arrayvec::ArrayVec;
 use chi_agent::{Gate, Script, run_agents};
+use chi_audit::{Tallies, Tally, Watcher};
 use chi_flit::{Agent, Task, WordNo};
-use chi_home::Node;
-use chi_node::Requester;
+use chi_node::{Node, Requester};
 use chi_slice::Config;
-use chi_tallies::{Tallies, Tally, Watcher};
 use std::alloc::Global;
 use std::process::Abort;
 use std::sync::Wait;
@@ -56,7 +57,7 @@ fn reads<R: Wait>(rt: &R, tallies: &Tallies, watcher: &mut Watcher, gate: &Hold)
 {
     let mut tally = Tally::default();
     for _ in 0..100_000_000u32 {
-        tally = watcher.read(rt, tallies, 0);
+        tally = watcher.read(rt, tallies, Agent(0));
         if tally.turns >= 2 {
             break;
         }
@@ -79,6 +80,8 @@ fn runs_and_reads<R: Threads + Wait + Clock + Sync>(
     requires own { AreOwn node.now requesters.items }
     requires count { vec_len scripts ≡ node.now.tracker.shape.agents }
     requires fresh { AreFresh tallies.now scripts.items }
+    requires requesters { map number_of requesters.items ≡ numbers node.now.config.agents }
+    requires writers { map writer_of scripts.items ≡ numbers node.now.config.agents }
     requires cells { map cell_of watcher ≡ tallies.now }
     requires some { 0 < length tallies.now }
 {
@@ -88,6 +91,8 @@ fn runs_and_reads<R: Threads + Wait + Clock + Sync>(
             requires own { AreOwn node.now requesters.items }
             requires count { vec_len scripts ≡ node.now.tracker.shape.agents }
             requires fresh { AreFresh tallies.now scripts.items }
+            requires requesters { map number_of requesters.items ≡ numbers node.now.config.agents }
+            requires writers { map writer_of scripts.items ≡ numbers node.now.config.agents }
         {
             let ran = run_agents(
                 rt, alloc, node, tallies, requesters, scripts, 1, 100_000, gate,
@@ -106,8 +111,7 @@ fn runs_and_reads<R: Threads + Wait + Clock + Sync>(
 
 #[test]
 fn tally_read_while_held(rt: HostRuntime) {
-    let made = Node::new(rt.alloc(), &sizes(&rt));
-    let (node, requesters) = made.expect(&rt, "memory for a node");
+    let (node, requesters) = node_of(&rt, rt.alloc(), &sizes(&rt));
     let all = [[on(0, Task::Load(WordNo(0)))]];
     let (tallies, scripts, watcher) = opened(&rt, rt.alloc(), 1, &all);
     let gate = Hold {

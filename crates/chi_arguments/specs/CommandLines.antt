@@ -1,4 +1,4 @@
--- What the words of a command line ask for, as clap reads them (docs/PROTOCOL.md, "The program").
+-- What the words of a command line ask for, as clap reads them (docs/FORMATS.md, "The program").
 use Rattle.std.specs.Prelude.{◌≡◌, ℕ, List, [], ◌∷◌, true, Option, Some, None, Result, Ok, Err, codes, if◌then◌else◌}
 use Rattle.std.specs.Option.{option_and_then, option_map}
 use Rattle.std.specs.Str.{bytes_eq}

@@ -1,4 +1,4 @@
--- The statuses and the texts of a refused command line (docs/PROTOCOL.md, "The program").
+-- The statuses and the texts of a refused command line (docs/FORMATS.md, "The program").
 use Rattle.std.specs.Prelude.{ℕ, List, codes}
 use Rattle.clap.specs.declared.error.kind.ErrorKind.{ErrorKind}
 use Rattle.clap.specs.declared.error.kind.ErrorKind.TheVariants as kinds

@@ -1,4 +1,4 @@
--- The numbers of a chart's and a storm's options (docs/PROTOCOL.md, "The program").
+-- The numbers of a chart's and a storm's options (docs/FORMATS.md, "The program").
 use Rattle.std.specs.Prelude.{ℕ, List, Option, Some, None, if◌then◌else◌}
 use Rattle.chi_flit.specs.declared.numbers.Line.{Line}
 use Rattle.chi_script.specs.Headers.{is_from}

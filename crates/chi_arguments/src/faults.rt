@@ -11,7 +11,7 @@ use std::alloc::AllocError;
 use std::fmt;
 
 /// Why a command line isn't followed. The text is the line that the program writes to standard error.
-/// Source: `docs/PROTOCOL.md`, "The program".
+/// Source: `docs/FORMATS.md`, "The program".
 #[derive(Clone, Copy, Debug, PartialEq, Eq)]
 pub enum ArgFault {
     /// The words are no command line of the program. Asking for help is that too.
@@ -22,7 +22,7 @@ pub enum ArgFault {
 
 impl ArgFault {
     /// The program's status at this fault: 4 for bad arguments, 3 for want of memory.
-    /// Source: `docs/PROTOCOL.md`, "The program".
+    /// Source: `docs/FORMATS.md`, "The program".
     pub fn status(self) -> u8
         ensures { result ≡ status_of self }
     {

@@ -12,7 +12,7 @@ use clap::{Arg, ArgAction, ArgMatches, Command};
 use std::alloc::{AllocError, Global};
 
 /// What the program is asked to do.
-/// Source: `docs/PROTOCOL.md`, "The program".
+/// Source: `docs/FORMATS.md`, "The program".
 #[derive(Clone, Copy, Debug, PartialEq, Eq)]
 pub enum Job<'a> {
     /// `replay FILE`: runs the commands of the file at this path.
@@ -42,7 +42,7 @@ pub enum Job<'a> {
 /// `Bad` where they are no command line of the program, as where an option stands twice or its number
 /// is out of range or written otherwise than in a replay file, and where they ask for help; `NoMemory`
 /// where memory runs out.
-/// Source: `docs/PROTOCOL.md`, "The program".
+/// Source: `docs/FORMATS.md`, "The program".
 pub fn arguments<'a>(alloc: Global, words: &'a [&'a str]) -> Result<Job<'a>, ArgFault>
     ensures { Asks (asked_in (map (λ word. word.now) words.entry.now)) result }
 {

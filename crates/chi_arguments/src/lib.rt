@@ -1,6 +1,6 @@
 //! The program's command line: what it is asked to do.
 //!
-//! Source: `docs/PROTOCOL.md`, "The program".
+//! Source: `docs/FORMATS.md`, "The program".
 #![tactic(auto)]
 
 mod faults;

@@ -8,7 +8,7 @@ use chi_script::number;
 
 /// The seed of a storm whose `--seed` has this value: 1 where it isn't given, and `None` where the value
 /// is no number of a replay file.
-/// Source: `docs/PROTOCOL.md`, "The program".
+/// Source: `docs/FORMATS.md`, "The program".
 pub fn seed(value: Option<&str>) -> Option<u64>
     ensures { result ≡ seed_of (option_map (λ word. word.now) value.entry) }
 {
@@ -20,7 +20,7 @@ pub fn seed(value: Option<&str>) -> Option<u64>
 
 /// How many turns an agent takes at most in a storm whose `--turns` has this value: 10,000,000 where it
 /// isn't given, and `None` where the value is no number of a replay file from 1 to 4,000,000,000.
-/// Source: `docs/PROTOCOL.md`, "The program".
+/// Source: `docs/FORMATS.md`, "The program".
 pub fn turns(value: Option<&str>) -> Option<u64>
     ensures { result ≡ turns_of (option_map (λ word. word.now) value.entry) }
 {
@@ -35,7 +35,7 @@ pub fn turns(value: Option<&str>) -> Option<u64>
 
 /// The line alone that a chart shows whose `--line` has this value: none where it isn't given, and `None`
 /// where the value is no number of a replay file from 0 to 63.
-/// Source: `docs/PROTOCOL.md`, "The program".
+/// Source: `docs/FORMATS.md`, "The program".
 pub fn only(value: Option<&str>) -> Option<Option<Line>>
     ensures { result ≡ only_of (option_map (λ word. word.now) value.entry) }
 {

@@ -6,7 +6,7 @@ use Rattle.chi_flit.specs.declared.numbers.Line.{Line}
 use Rattle.chi_script.specs.declared.commands.Command.{Command}
 use Rattle.chi_config.specs.Config.{Sizes}
 use Rattle.chi_tracker.specs.Views.{PortView}
-use Rattle.chi_system.specs.System.{SystemState, opening_system}
+use Rattle.chi_node.specs.System.{SystemState, opening_system}
 use Rattle.chi_text.specs.Session.{machine_of, ports_of}
 use Rattle.chi_text.specs.Texts.{Allowed, Ending, opening_ports}
 use Rattle.chi_text.specs.Turns.{Answer, Machine, opening, turn}

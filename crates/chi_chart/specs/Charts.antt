@@ -1,4 +1,4 @@
--- What the chart of a file writes (docs/PROTOCOL.md, "Charts" and "The program").
+-- What the chart of a file writes (docs/FORMATS.md, "Charts" and "The program").
 use Rattle.std.specs.Prelude.{◌≡◌, ℕ, List, Option, Ok, IfSome}
 use Rattle.std.specs.Io.KnownBytes.{Appends}
 use Rattle.chi_devices.specs.Devices.{AppendsFront}

@@ -1,4 +1,4 @@
--- The text of a command (docs/PROTOCOL.md, "Replay files").
+-- The text of a command (docs/FORMATS.md, "Replay files").
 use Rattle.std.specs.Prelude.{ℕ, List, [], ◌++◌, Option, Some, None, codes}
 use Rattle.std.specs.Fmt.{decimal}
 use Rattle.chi_flit.specs.declared.credit.CreditType.{CreditType}

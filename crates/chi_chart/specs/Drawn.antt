@@ -1,4 +1,4 @@
--- The parts of a chart as SVG, each on lines of its own (docs/PROTOCOL.md, "Charts").
+-- The parts of a chart as SVG, each on lines of its own (docs/FORMATS.md, "Charts").
 use Rattle.std.specs.Prelude.{ℕ, List, [], ◌∷◌, ◌++◌, Bool, true, false, Option, Some, None, if◌then◌else◌, codes, ◌==◌}
 use Rattle.std.specs.Fmt.{decimal}
 use Rattle.std.specs.List.{flat_map}

@@ -1,4 +1,4 @@
--- Where the parts of a chart stand, in pixels from its left edge (docs/PROTOCOL.md, "Charts").
+-- Where the parts of a chart stand, in pixels from its left edge (docs/FORMATS.md, "Charts").
 use Rattle.std.specs.Prelude.{ℕ, ◌+◌, ◌-◌, ◌*◌, ◌/◌, ◌%◌}
 use Rattle.chi_chart.specs.declared.frame.Layout.{Layout}
 use Rattle.chi_chart.specs.declared.marks.Cell.{Cell}

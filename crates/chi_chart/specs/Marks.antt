@@ -1,4 +1,4 @@
--- What a step changes at its line (docs/PROTOCOL.md, "Charts").
+-- What a step changes at its line (docs/FORMATS.md, "Charts").
 use Rattle.std.specs.Prelude.{ℕ, ◌==◌, ◌&&◌, not, List, [], ◌∷◌, ◌++◌, Bool, true, false, Option, Some, None, if◌then◌else◌}
 use Rattle.std.specs.List.{flat_map, slice_index_or, range_with_len}
 use Rattle.chi_flit.specs.declared.numbers.Agent.{Agent}

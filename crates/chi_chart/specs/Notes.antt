@@ -1,4 +1,4 @@
--- What is written of a command's answer, and where (docs/PROTOCOL.md, "Charts").
+-- What is written of a command's answer, and where (docs/FORMATS.md, "Charts").
 use Rattle.std.specs.Prelude.{ℕ, ◌+◌, List, [], ◌∷◌, ◌++◌, Option, Some, None, drop, length, if◌then◌else◌, codes}
 use Rattle.std.specs.Fmt.{decimal}
 use Rattle.chi_flit.specs.declared.numbers.Agent.{Agent}

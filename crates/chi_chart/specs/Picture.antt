@@ -1,4 +1,4 @@
--- A chart as SVG: a function of its rows (docs/PROTOCOL.md, "Charts").
+-- A chart as SVG: a function of its rows (docs/FORMATS.md, "Charts").
 use Rattle.std.specs.Prelude.{ℕ, ◌+◌, ◌==◌, List, [], ◌∷◌, ◌++◌, Bool, true, false, Option, Some, None, if◌then◌else◌, codes}
 use Rattle.std.specs.List.{flat_map, list_any, range_with_len}
 use Rattle.chi_flit.specs.declared.message.Channel.{Channel}

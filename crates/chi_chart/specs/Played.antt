@@ -1,9 +1,9 @@
--- The rows of commands that were played on a node, under answers that the tracker may give (docs/PROTOCOL.md,
+-- The rows of commands that were played on a node, under answers that the tracker may give (docs/FORMATS.md,
 -- "Charts").
 use Rattle.std.specs.Prelude.{◌≡◌, ℕ, List, [], ◌∷◌, ◌++◌, Option, string_bytes}
 use Rattle.chi_flit.specs.declared.numbers.Line.{Line}
 use Rattle.chi_script.specs.declared.commands.Command.{Command}
-use Rattle.chi_system.specs.System.{SystemState}
+use Rattle.chi_node.specs.System.{SystemState}
 use Rattle.chi_text.specs.Session.{machine_of, ports_of}
 use Rattle.chi_text.specs.Texts.{Allowed, Plays, opening_ports}
 use Rattle.chi_text.specs.Turns.{Answer, opening, turn}

@@ -1,4 +1,4 @@
--- The rows of a chart: a command each, with its height (docs/PROTOCOL.md, "Charts").
+-- The rows of a chart: a command each, with its height (docs/FORMATS.md, "Charts").
 use Rattle.std.specs.Prelude.{ℕ, ◌+◌, ◌==◌, List, [], ◌∷◌, ◌++◌, Bool, true, false, Option, Some, None, if◌then◌else◌}
 use Rattle.chi_flit.specs.declared.numbers.Line.{Line}
 use Rattle.chi_script.specs.declared.commands.Command.{Command}

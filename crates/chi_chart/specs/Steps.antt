@@ -1,4 +1,4 @@
--- The steps of a run: what each command says, and what the node is before and after it (docs/PROTOCOL.md,
+-- The steps of a run: what each command says, and what the node is before and after it (docs/FORMATS.md,
 -- "Charts").
 use Rattle.std.specs.Prelude.{◌≡◌, ℕ, List, [], ◌∷◌, ◌++◌, Option, Some, None, map}
 use Rattle.chi_flit.specs.declared.numbers.Line.{Line}
@@ -8,7 +8,7 @@ use Rattle.chi_line.specs.View.{line_view}
 use Rattle.chi_script.specs.declared.commands.Command.{Command}
 use Rattle.chi_check_script.specs.Checks.{CheckLine}
 use Rattle.chi_script.specs.declared.commands.Command.TheVariants as commands
-use Rattle.chi_system.specs.Home.{HomeState, last_of, line, view_refusal}
+use Rattle.chi_node.specs.Home.{HomeState, last_of, line, view_refusal}
 use Rattle.chi_text.specs.Texts.{ending}
 use Rattle.chi_text.specs.Turns.{Answer, Machine, turn}
 

@@ -1,5 +1,5 @@
 -- How a chart looks: its colours on light and on dark ground, its fonts, and the ends of its arrows
--- (docs/PROTOCOL.md, "Charts").
+-- (docs/FORMATS.md, "Charts").
 use Rattle.std.specs.Prelude.{ℕ, List, ◌++◌, codes}
 
 unfoldable pub style : List ℕ

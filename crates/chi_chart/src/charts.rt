@@ -97,7 +97,7 @@ fn chart_of_input<A: Allocator + Copy, I: Input>(
 /// other fault nothing was. `NoMemory` also stands for a chart that is higher than a number of 32 bits says.
 ///
 /// Conditions: the counts of failures of the input and of the output are below 2 ^ 64 - 1.
-/// Source: `docs/PROTOCOL.md`, "Charts" and "The program".
+/// Source: `docs/FORMATS.md`, "Charts" and "The program".
 pub fn chart<A: Allocator + Copy, I: Input, O: Output>(
     alloc: A,
     input: &mut I,

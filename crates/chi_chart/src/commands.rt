@@ -8,7 +8,7 @@ use chi_script::Command;
 use std::fmt;
 
 /// A command. It prints as a file has it, with each number as it was read.
-/// Source: `docs/PROTOCOL.md`, "Replay files".
+/// Source: `docs/FORMATS.md`, "Replay files".
 #[derive(Drop)]
 pub(crate) struct Spelled(pub(crate) Command);
 

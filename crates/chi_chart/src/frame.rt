@@ -4,7 +4,7 @@ ghost use Rattle.std.specs.Prelude.{◌<◌};
 
 /// The sizes that a chart is laid out by: how many agents, lines and slices there are. All places are in
 /// pixels from its left edge.
-/// Source: `docs/PROTOCOL.md`, "Charts".
+/// Source: `docs/FORMATS.md`, "Charts".
 #[derive(Clone, Copy)]
 pub(crate) struct Layout {
     pub(crate) agents: u8,

@@ -1,6 +1,6 @@
 //! The chart of a file: its commands are replayed, and drawn as a message sequence chart.
 //!
-//! Source: `docs/PROTOCOL.md`, "Charts".
+//! Source: `docs/FORMATS.md`, "Charts".
 #![tactic(auto)]
 
 mod charts;

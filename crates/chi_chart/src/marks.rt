@@ -20,7 +20,7 @@ pub(crate) struct Cell {
 }
 
 /// One change that a command made.
-/// Source: `docs/PROTOCOL.md`, "Charts".
+/// Source: `docs/FORMATS.md`, "Charts".
 #[derive(Clone, Copy, Debug, PartialEq, Eq)]
 pub(crate) enum Mark {
     /// The agent's copy turned to this state.
@@ -95,7 +95,7 @@ fn serving_place(serving: Serving) -> u8
 
 /// What changed at a line between two views of it; nothing where there is no line. Refused where memory
 /// runs out.
-/// Source: `docs/PROTOCOL.md`, "Charts".
+/// Source: `docs/FORMATS.md`, "Charts".
 pub(crate) fn marks_between<A: Allocator>(
     alloc: A,
     line: Option<Line>,

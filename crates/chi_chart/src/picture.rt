@@ -357,7 +357,7 @@ impl<A: Allocator> Picture<A> {
 }
 
 /// The SVG of rows. Refused where memory runs out.
-/// Source: `docs/PROTOCOL.md`, "Charts".
+/// Source: `docs/FORMATS.md`, "Charts".
 pub(crate) fn svg_of<A: Allocator>(
     alloc: A,
     layout: Layout,

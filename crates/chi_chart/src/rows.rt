@@ -9,8 +9,8 @@ use crate::marks::{Mark, marks_between};
 use chi_config::Config;
 use chi_flit::{Line, NoMemory};
 use chi_line::LineView;
+use chi_node::System;
 use chi_script::Command;
-use chi_system::System;
 use chi_text::answer;
 use std::alloc::Allocator;
 
@@ -149,7 +149,7 @@ impl<A: Allocator> Rows<A> {
 /// Plays the commands on a new node of that size, and answers their rows; those of one line alone, and of
 /// commands that name none, where one is wanted. Refused where memory runs out, or the rows are higher than
 /// a number of 32 bits.
-/// Source: `docs/PROTOCOL.md`, "Charts".
+/// Source: `docs/FORMATS.md`, "Charts".
 pub(crate) fn rows_of<A: Allocator + Copy>(
     alloc: A,
     config: &Config,

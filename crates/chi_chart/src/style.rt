@@ -4,7 +4,7 @@ ghost use Rattle.std.specs.Prelude.{◌≡◌};
 ghost use Rattle.chi_chart.specs.Style.{style};
 
 /// Its colours on light and on dark ground, its fonts, and the ends of its arrows.
-/// Source: `docs/PROTOCOL.md`, "Charts".
+/// Source: `docs/FORMATS.md`, "Charts".
 const STYLE: &str = "<style>\n\
     svg{--paper:#fff;--ink:#1c2024;--faint:#dfe3e8;--slice:#eef1f5;--life:#9aa3ad;--req:#1f5fbf;\
     --snp:#b3540a;--rsp:#5b6570;--dat:#12764a;--bad:#c4161c;--bar:#7d5bd0}\n\

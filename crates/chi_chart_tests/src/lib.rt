@@ -1,7 +1,7 @@
 //! Tests of charts: what is drawn of a file, of one line of it alone, with devices that fail and too little
 //! memory too.
 //!
-//! Source: `docs/PROTOCOL.md`, "Charts".
+//! Source: `docs/FORMATS.md`, "Charts".
 #![tactic(auto)]
 
 #[cfg(test)]

@@ -18,7 +18,7 @@ use Rattle.chi_line.specs.LineState.{cells_of}
 use Rattle.chi_line.specs.Step.{effect_of}
 use Rattle.chi_line.specs.View.{line_view as shown_line}
 use Rattle.chi_node.specs.Calls.{arrival_refusal, is_own_step}
-use Rattle.chi_system.specs.Home.{flits_refusal, last_of, line, slice_of, view_refusal}
+use Rattle.chi_node.specs.Home.{flits_refusal, last_of, line, slice_of, view_refusal}
 use Rattle.chi_reply.specs.declared.replies.Reply.TheVariants as replies
 use Rattle.chi_script.specs.declared.commands.Command.{Command}
 use Rattle.chi_script.specs.declared.commands.Command.TheVariants as commands

@@ -1,4 +1,4 @@
--- The answers of a list of commands, one for each (docs/PROTOCOL.md, "Replay files").
+-- The answers of a list of commands, one for each (docs/FORMATS.md, "Replay files").
 use Rattle.std.specs.Prelude.{◌≡◌, ℕ, List, [], ◌∷◌, ◌++◌, length}
 use Rattle.chi_script.specs.declared.commands.Command.{Command}
 use Rattle.chi_script.specs.Files.{lines_of}

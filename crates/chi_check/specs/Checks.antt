@@ -1,4 +1,4 @@
--- What the check of a file writes (docs/PROTOCOL.md, "Check files" and "The program").
+-- What the check of a file writes (docs/FORMATS.md, "Check files" and "The program").
 use Rattle.std.specs.Prelude.{◌≡◌, ◌↔◌, ℕ, List, [], Bool, IfSome, IsTrue, Option, Ok, map}
 use Rattle.std.specs.Io.KnownBytes.{Appends}
 use Rattle.chi_devices.specs.Devices.{AppendsFront}

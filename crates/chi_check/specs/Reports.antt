@@ -1,4 +1,4 @@
--- What comes of the answers beside those that are wanted, and what is printed of it (docs/PROTOCOL.md,
+-- What comes of the answers beside those that are wanted, and what is printed of it (docs/FORMATS.md,
 -- "Check files").
 use Rattle.std.specs.Prelude.{ℕ, ◌==◌, List, [], ◌∷◌, ◌++◌, Bool, false, not, Option, Some, None, is_some, length, if◌then◌else◌, codes}
 use Rattle.std.specs.Fmt.{decimal}

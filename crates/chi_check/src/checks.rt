@@ -76,7 +76,7 @@ fn report_of_input<A: Allocator + Copy, I: Input>(
 /// `Write` a beginning of such a report was written; after any other fault nothing was.
 ///
 /// Conditions: the counts of failures of the input and of the output are below 2 ^ 64 - 1.
-/// Source: `docs/PROTOCOL.md`, "Check files" and "The program".
+/// Source: `docs/FORMATS.md`, "Check files" and "The program".
 pub fn check<A: Allocator + Copy, I: Input, O: Output>(
     alloc: A,
     input: &mut I,

@@ -6,7 +6,7 @@ ghost use Rattle.chi_text.specs.Turns.{Answer, Machine};
 ghost use Rattle.chi_check.specs.Answers.{AreLines, AreOneEach};
 
 /// The answers of commands are the lines of their text, in order: each is one line, whatever it says.
-/// Source: `docs/PROTOCOL.md`, "Replay files".
+/// Source: `docs/FORMATS.md`, "Replay files".
 pub fn answers_are_lines()
     ensures lines { (m : Machine) (commands : List Command) (tracked : List Answer)
         → AreLines m commands tracked }

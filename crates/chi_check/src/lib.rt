@@ -1,6 +1,6 @@
 //! The check of a file: its commands are replayed, and their answers compared with those that are wanted.
 //!
-//! Source: `docs/PROTOCOL.md`, "Check files".
+//! Source: `docs/FORMATS.md`, "Check files".
 #![tactic(auto)]
 
 mod checks;

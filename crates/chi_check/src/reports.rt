@@ -12,7 +12,7 @@ use std::alloc::Allocator;
 use std::io::Write;
 
 /// What came of the checks of a file.
-/// Source: `docs/PROTOCOL.md`, "Check files".
+/// Source: `docs/FORMATS.md`, "Check files".
 #[derive(Drop)]
 pub(crate) struct Report<A: Allocator> {
     /// What is printed.

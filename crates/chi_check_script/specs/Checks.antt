@@ -1,5 +1,5 @@
 -- The lines of a check file: a comment, or a command that may carry the answer that is wanted of it
--- (docs/PROTOCOL.md, "Check files").
+-- (docs/FORMATS.md, "Check files").
 use Rattle.std.specs.Prelude.{ℕ, ◌==◌, Bool, true, List, [], ◌∷◌, Option, Some, None, drop, length, map, take, if◌then◌else◌, codes}
 use Rattle.std.specs.Option.{option_map}
 use Rattle.std.specs.Str.{bytes_eq}

@@ -1,4 +1,4 @@
--- How check files are written (docs/PROTOCOL.md, "Check files"): apart from how they are read.
+-- How check files are written (docs/FORMATS.md, "Check files"): apart from how they are read.
 use Rattle.std.specs.Prelude.{◌≡◌, ◌⊎◌, ℕ, ◌+◌, ◌≤◌, List, [], ◌∷◌, ◌++◌, Option, Some, None, Result, Ok, length, map}
 use Rattle.std.specs.List.{All}
 use Rattle.chi_script.specs.declared.commands.Command.{Command}

@@ -9,7 +9,7 @@ ghost use Rattle.chi_check_script.specs.Files.{check_at};
 use chi_script::{Command, Fault, read_command};
 
 /// A command of a check file.
-/// Source: `docs/PROTOCOL.md`, "Check files".
+/// Source: `docs/FORMATS.md`, "Check files".
 #[derive(Clone, Copy, Debug, PartialEq, Eq)]
 pub struct Check<'a> {
     /// The number of its line, counted from 1.
@@ -23,7 +23,7 @@ pub struct Check<'a> {
 const ARROW: &[u8] = b" -> ";
 
 /// Whether the line, which is given without its line end, is a comment: it has no bytes, or begins with `#`.
-/// Source: `docs/PROTOCOL.md`, "Check files".
+/// Source: `docs/FORMATS.md`, "Check files".
 pub(crate) fn is_comment(line: &[u8]) -> bool
     ensures { result ≡ is_comment line.now }
 {
@@ -48,7 +48,7 @@ fn parts(line: &[u8]) -> (&[u8], Option<&[u8]>)
 
 /// The check that a line is, which is given without its line end and is no comment; its number is for the
 /// fault. `BadCommand` where what stands before its first arrow is no command.
-/// Source: `docs/PROTOCOL.md`, "Check files".
+/// Source: `docs/FORMATS.md`, "Check files".
 pub(crate) fn check_in(line: &[u8], number: usize) -> Result<Check<'_>, Fault>
     ensures { Gives line_of_check result (check_at number line.now) }
 {

@@ -13,7 +13,7 @@ use std::alloc::Allocator;
 
 /// A good check file: the sizes of the system, and the commands in order, each with the answer that is
 /// wanted of it, where one is.
-/// Source: `docs/PROTOCOL.md`, "Check files".
+/// Source: `docs/FORMATS.md`, "Check files".
 #[derive(Drop)]
 pub struct CheckScript<'a, A: Allocator> {
     pub header: Header,
@@ -27,7 +27,7 @@ pub struct CheckScript<'a, A: Allocator> {
 /// faulty line is told, comments aside: `BadHeader`, `BadCommand`, or `MissingNewline` where bytes stand
 /// behind the last line end. A file of comments alone is `BadHeader`, at the line behind them. `NoMemory`
 /// where memory runs out.
-/// Source: `docs/PROTOCOL.md`, "Check files".
+/// Source: `docs/FORMATS.md`, "Check files".
 #[tactic(auto, unfolding(crate::specs::Files::check_file_of))]
 pub fn read_checks<'a, A: Allocator + Copy>(
     alloc: A,

@@ -1,7 +1,7 @@
 //! The grammar of check files: from a file's bytes to its header and its commands with the answers that are
 //! wanted of them, or to its first fault.
 //!
-//! Source: `docs/PROTOCOL.md`, "Check files".
+//! Source: `docs/FORMATS.md`, "Check files".
 #![tactic(auto)]
 
 mod checks;

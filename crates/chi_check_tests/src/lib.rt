@@ -1,7 +1,7 @@
 //! Tests of check files: what is read of them, what is written of their answers, with devices that fail and
 //! too little memory too.
 //!
-//! Source: `docs/PROTOCOL.md`, "Check files".
+//! Source: `docs/FORMATS.md`, "Check files".
 #![tactic(auto)]
 
 #[cfg(test)]

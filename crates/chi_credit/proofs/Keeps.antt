@@ -7,7 +7,7 @@ use Rattle.chi_tracker.specs.Sums.{one_more, with_bit}
 use Rattle.chi_tracker.specs.Views.{PortView, has}
 use Rattle.chi_tracker.specs.Steps.{spends, returns_credit}
 use Rattle.chi_tracker.specs.Calls.{seen_of, HasSameCredits, HasOneLess}
-use Rattle.chi_tracker.proofs.Adding.{raised_else, raised_here}
+use Rattle.chi_tracker.proofs.Addition.{raised_else, raised_here}
 use Rattle.chi_tracker.proofs.BitLaws.{with_here, with_else}
 use Rattle.chi_credit.specs.declared.slot.SlotRecord.{SlotRecord}
 use Rattle.chi_credit.specs.Account.{riding_of, due_of, holders_of, FallsAt, GrowsAt, IsSame, IsWithinSeen, HasDue, HasEntries}

@@ -68,6 +68,12 @@ pub record FallsAt (i : ℕ) (f g : ℕ → ℕ) : Type 0 where
   pub less : g i + 1 ≡ f i
   pub others : (j : ℕ) → j ≢ i → g j ≡ f j
 
+-- how an account's counts change: its Riding slots and its credits due by type, and the holders of entries
+pub record CountsMove (R D E : (ℕ → ℕ) → (ℕ → ℕ) → Type 0) (old new : List SlotRecord) : Type 0 where
+  pub riding : R (riding_of old) (riding_of new)
+  pub due : D (due_of old) (due_of new)
+  pub entries : E (holders_of old) (holders_of new)
+
 -- the Riding slots of each type are no more than the port's seen credits of the type
 pub record IsWithinSeen (slots : List SlotRecord) (p : PortView) : Type 0 where
   pub within : (t : ℕ) → t < 4 → riding_of slots t ≤ seen_of p t
@@ -83,3 +89,9 @@ pub record HasDue (slots : List SlotRecord) (p : PortView) : Type 0 where
 -- the entries of the Admitted slots are different, in the port's hand, and all that is there
 pub record HasEntries (slots : List SlotRecord) (p : PortView) : Type 0 where
   pub entries : (e : ℕ) → has e p ≡ holders_of slots e
+
+-- where the slots kept to the port's numbers before a call, they do after it
+pub record StaysInStep (old : List SlotRecord) (p : PortView) (new : List SlotRecord) (q : PortView) : Type 0 where
+  pub within : IsWithinSeen old p → IsWithinSeen new q
+  pub credits : HasDue old p → HasDue new q
+  pub hand : HasEntries old p → HasEntries new q

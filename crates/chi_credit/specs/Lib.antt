@@ -1,2 +1,3 @@
 pub mod Slot
 pub mod Account
+pub mod Payment

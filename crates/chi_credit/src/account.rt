@@ -2,12 +2,10 @@
 
 ghost use Rattle.std.specs.Prelude.{◌≡◌, ◌≢◌, ℕ, ◌<◌, ◌≤◌, true, false, slice_set, position, IfSome, IfNone, IsTrue, ◌↔◌};
 ghost use Rattle.chi_flit.specs.Credit.{credit_number};
-ghost use Rattle.chi_tracker.specs.Shape.{low};
-ghost use Rattle.chi_tracker.specs.Views.{has};
-ghost use Rattle.chi_tracker.specs.Steps.{spends};
-ghost use Rattle.chi_tracker.specs.Calls.{seen_of, IsLowestSeen, HasReturned, HasOneLess};
+ghost use Rattle.chi_tracker.specs.Calls.{seen_of};
 ghost use Rattle.chi_credit.specs.Slot.{after_answer, after_finish, can_be_answered, idle_slot, is_admitted, is_cancelled_of, opened_slot};
-ghost use Rattle.chi_credit.specs.Account.{all_idle, due_of, holders_of, lowest_cancelled, slots_with_state, riding_of, slot_at, state_at, type_at, FallsAt, GrowsAt, HasDue, HasEntries, IsLowestIdle, IsSame, IsWithinSeen, StaysWithinSeen};
+ghost use Rattle.chi_credit.specs.Account.{all_idle, due_of, lowest_cancelled, slots_with_state, riding_of, slot_at, state_at, type_at, CountsMove, FallsAt, GrowsAt, IsLowestIdle, IsSame, StaysInStep, StaysWithinSeen};
+ghost use Rattle.chi_credit.specs.Payment.{HasSpent, IsGivenBack};
 
 use crate::slot::{IDLE_SLOT, SlotRecord, SlotState, is_cancelled, is_idle, is_riding};
 use chi_flit::{CreditType, Entry, Line, Slot};
@@ -117,9 +115,7 @@ impl Account {
         requires slot { slot.0 < 8 }
         requires idle { state_at self.old slot.0 ≡ SlotState.Idle }
         ensures account { self.new ≡ slice_set self.old slot.0 (opened_slot line ty) }
-        ensures riding { IsSame (riding_of self.old) (riding_of self.new) }
-        ensures due { IsSame (due_of self.old) (due_of self.new) }
-        ensures entries { IsSame (holders_of self.old) (holders_of self.new) }
+        ensures counts { CountsMove IsSame IsSame IsSame self.old self.new }
     {
         self.slots[usize::from(slot.0)] = SlotRecord {
             state: SlotState::Sent,
@@ -139,9 +135,7 @@ impl Account {
         requires sent { state_at self.old slot.0 ≡ SlotState.Sent }
         ensures account { self.new ≡ slots_with_state self.old slot.0 (SlotState.Admitted entry) }
         ensures unanswered { (slot_at self.old slot.0).answered ≡ false }
-        ensures riding { IsSame (riding_of self.old) (riding_of self.new) }
-        ensures due { IsSame (due_of self.old) (due_of self.new) }
-        ensures entries { GrowsAt entry.0 (holders_of self.old) (holders_of self.new) }
+        ensures counts { CountsMove IsSame IsSame (GrowsAt entry.0) self.old self.new }
     {
         self.slots[usize::from(slot.0)].state = SlotState::Admitted(entry);
     }
@@ -156,9 +150,7 @@ impl Account {
         requires sent { state_at self.old slot.0 ≡ SlotState.Sent }
         ensures account { self.new ≡ slots_with_state self.old slot.0 SlotState.Refused }
         ensures few { due_of self.old (type_at self.old slot.0) < 8 }
-        ensures riding { IsSame (riding_of self.old) (riding_of self.new) }
-        ensures due { GrowsAt (type_at self.old slot.0) (due_of self.old) (due_of self.new) }
-        ensures entries { IsSame (holders_of self.old) (holders_of self.new) }
+        ensures counts { CountsMove IsSame (GrowsAt (type_at self.old slot.0)) IsSame self.old self.new }
     {
         self.slots[usize::from(slot.0)].state = SlotState::Refused;
     }
@@ -172,9 +164,7 @@ impl Account {
         requires slot { slot.0 < 8 }
         requires refused { state_at self.old slot.0 ≡ SlotState.Refused }
         ensures account { self.new ≡ slots_with_state self.old slot.0 SlotState.Retried }
-        ensures riding { IsSame (riding_of self.old) (riding_of self.new) }
-        ensures due { IsSame (due_of self.old) (due_of self.new) }
-        ensures entries { IsSame (holders_of self.old) (holders_of self.new) }
+        ensures counts { CountsMove IsSame IsSame IsSame self.old self.new }
     {
         self.slots[usize::from(slot.0)].state = SlotState::Retried;
     }
@@ -190,9 +180,7 @@ impl Account {
         requires slot { slot.0 < 8 }
         requires retried { state_at self.old slot.0 ≡ SlotState.Retried }
         ensures account { self.new ≡ slots_with_state self.old slot.0 SlotState.Riding }
-        ensures riding { GrowsAt (type_at self.old slot.0) (riding_of self.old) (riding_of self.new) }
-        ensures due { IsSame (due_of self.old) (due_of self.new) }
-        ensures entries { IsSame (holders_of self.old) (holders_of self.new) }
+        ensures counts { CountsMove (GrowsAt (type_at self.old slot.0)) IsSame IsSame self.old self.new }
         ensures within { StaysWithinSeen (type_at self.old slot.0) self.old self.new }
     {
         self.ride(slot);
@@ -203,9 +191,7 @@ impl Account {
         requires slot { slot.0 < 8 }
         requires retried { state_at self.old slot.0 ≡ SlotState.Retried }
         ensures account { self.new ≡ slots_with_state self.old slot.0 SlotState.Riding }
-        ensures riding { GrowsAt (type_at self.old slot.0) (riding_of self.old) (riding_of self.new) }
-        ensures due { IsSame (due_of self.old) (due_of self.new) }
-        ensures entries { IsSame (holders_of self.old) (holders_of self.new) }
+        ensures counts { CountsMove (GrowsAt (type_at self.old slot.0)) IsSame IsSame self.old self.new }
     {
         self.slots[usize::from(slot.0)].state = SlotState::Riding;
     }
@@ -219,9 +205,7 @@ impl Account {
         requires slot { slot.0 < 8 }
         requires retried { state_at self.old slot.0 ≡ SlotState.Retried }
         ensures account { self.new ≡ slots_with_state self.old slot.0 SlotState.Cancelled }
-        ensures riding { IsSame (riding_of self.old) (riding_of self.new) }
-        ensures due { IsSame (due_of self.old) (due_of self.new) }
-        ensures entries { IsSame (holders_of self.old) (holders_of self.new) }
+        ensures counts { CountsMove IsSame IsSame IsSame self.old self.new }
     {
         self.slots[usize::from(slot.0)].state = SlotState::Cancelled;
     }
@@ -235,9 +219,7 @@ impl Account {
         requires slot { slot.0 < 8 }
         requires waits { can_be_answered (state_at self.old slot.0) ≡ true }
         ensures account { self.new ≡ slice_set self.old slot.0 (after_answer (slot_at self.old slot.0)) }
-        ensures riding { IsSame (riding_of self.old) (riding_of self.new) }
-        ensures due { IsSame (due_of self.old) (due_of self.new) }
-        ensures entries { IsSame (holders_of self.old) (holders_of self.new) }
+        ensures counts { CountsMove IsSame IsSame IsSame self.old self.new }
     {
         let place = usize::from(slot.0);
         if matches!(self.slots[place].state, SlotState::Closing) {
@@ -257,9 +239,7 @@ impl Account {
         requires admitted { is_admitted (state_at self.old slot.0) ≡ true }
         ensures entry { state_at self.old slot.0 ≡ SlotState.Admitted result }
         ensures account { self.new ≡ slice_set self.old slot.0 (after_finish (slot_at self.old slot.0)) }
-        ensures riding { IsSame (riding_of self.old) (riding_of self.new) }
-        ensures due { IsSame (due_of self.old) (due_of self.new) }
-        ensures entries { FallsAt result.0 (holders_of self.old) (holders_of self.new) }
+        ensures counts { CountsMove IsSame IsSame (FallsAt result.0) self.old self.new }
     {
         let place = usize::from(slot.0);
         let SlotState::Admitted(entry) = self.slots[place].state else {
@@ -276,7 +256,7 @@ impl Account {
     /// The home let the resent request in: Riding becomes Admitted, with the entry of the lowest seen credit
     /// of its type, which the port spends. It is never refused. The slot's line and credit type stay, and so
     /// do all other slots. The port has one seen credit of the type less, and of each other type as many as
-    /// before.
+    /// before; what it did is what `Port::spend` promises.
     ///
     /// Conditions: the slot's number is below 8, the slot is Riding, the port is one that this tracker gave,
     /// and it has seen no fewer credits of the slot's type than slots of the type are Riding.
@@ -293,23 +273,9 @@ impl Account {
         requires credit { let t = type_at self.old slot.0 in riding_of self.old t ≤ seen_of port.old.port t }
         ensures account { self.new ≡ slots_with_state self.old slot.0 (SlotState.Admitted result) }
         ensures unanswered { (slot_at self.old slot.0).answered ≡ false }
-
-        // what the port did
-        ensures table { port.new.table ≡ port.old.table }
-        ensures lowest { IsLowestSeen port.old.port (type_at self.old slot.0) result.0 }
-        ensures held { has result.0 port.old.port ≡ 0 }
-        ensures spent { port.new.port ≡ spends (type_at self.old slot.0) result.0 port.old.port }
-        ensures mine { has result.0 port.new.port ≡ 1 }
-        ensures entry { result.0 < low port.new.port.shape 4 }
-        ensures fewer { HasOneLess (type_at self.old slot.0) port.old.port port.new.port }
-
-        // the account's counts, and what of them keeps to the port's
-        ensures riding { FallsAt (type_at self.old slot.0) (riding_of self.old) (riding_of self.new) }
-        ensures due { FallsAt (type_at self.old slot.0) (due_of self.old) (due_of self.new) }
-        ensures entries { GrowsAt result.0 (holders_of self.old) (holders_of self.new) }
-        ensures within { IsWithinSeen self.old port.old.port → IsWithinSeen self.new port.new.port }
-        ensures credits { HasDue self.old port.old.port → HasDue self.new port.new.port }
-        ensures hand { HasEntries self.old port.old.port → HasEntries self.new port.new.port }
+        ensures spent { HasSpent (type_at self.old slot.0) result.0 port.old port.new }
+        ensures counts { CountsMove (FallsAt (type_at self.old slot.0)) (FallsAt (type_at self.old slot.0)) (GrowsAt result.0) self.old self.new }
+        ensures kept { StaysInStep self.old port.old.port self.new port.new.port }
     {
         let entry = port.spend(tracker, self.slot(slot).credit);
         self.arrived(slot, entry);
@@ -322,16 +288,14 @@ impl Account {
         requires riding { state_at self.old slot.0 ≡ SlotState.Riding }
         ensures account { self.new ≡ slots_with_state self.old slot.0 (SlotState.Admitted entry) }
         ensures unanswered { (slot_at self.old slot.0).answered ≡ false }
-        ensures riding { FallsAt (type_at self.old slot.0) (riding_of self.old) (riding_of self.new) }
-        ensures due { FallsAt (type_at self.old slot.0) (due_of self.old) (due_of self.new) }
-        ensures entries { GrowsAt entry.0 (holders_of self.old) (holders_of self.new) }
+        ensures counts { CountsMove (FallsAt (type_at self.old slot.0)) (FallsAt (type_at self.old slot.0)) (GrowsAt entry.0) self.old self.new }
     {
         self.slots[usize::from(slot.0)].state = SlotState::Admitted(entry);
     }
 
     /// The lowest Cancelled slot of the type becomes Idle, and the port gives its credit back. All other
     /// slots stay, and so does the port's hand. The port has one seen credit of the type less, and of each
-    /// other type as many as before.
+    /// other type as many as before; what it did is what `Port::give_back` promises.
     ///
     /// Conditions: a slot of the type is Cancelled, the port is one that this tracker gave, and it has seen a
     /// credit of the type beyond those for the Riding slots.
@@ -350,20 +314,9 @@ impl Account {
             ≡ slice_set self.old (lowest_cancelled self.old (credit_number ty)) idle_slot }
         ensures cancelled { state_at self.old (lowest_cancelled self.old (credit_number ty))
             ≡ SlotState.Cancelled }
-
-        // what the port did
-        ensures table { port.new.table ≡ port.old.table }
-        ensures returned { HasReturned (credit_number ty) port.old.port result port.new.port }
-        ensures same_hand { (i : ℕ) → has i port.new.port ≡ has i port.old.port }
-        ensures fewer { HasOneLess (credit_number ty) port.old.port port.new.port }
-
-        // the account's counts, and what of them keeps to the port's
-        ensures riding { IsSame (riding_of self.old) (riding_of self.new) }
-        ensures due { FallsAt (credit_number ty) (due_of self.old) (due_of self.new) }
-        ensures entries { IsSame (holders_of self.old) (holders_of self.new) }
-        ensures within { IsWithinSeen self.old port.old.port → IsWithinSeen self.new port.new.port }
-        ensures credits { HasDue self.old port.old.port → HasDue self.new port.new.port }
-        ensures hand { HasEntries self.old port.old.port → HasEntries self.new port.new.port }
+        ensures returned { IsGivenBack (credit_number ty) result port.old port.new }
+        ensures counts { CountsMove IsSame (FallsAt (credit_number ty)) IsSame self.old self.new }
+        ensures kept { StaysInStep self.old port.old.port self.new port.new.port }
     {
         self.end_cancelled(ty);
         port.give_back(tracker, ty)
@@ -377,9 +330,7 @@ impl Account {
             ≡ slice_set self.old (lowest_cancelled self.old (credit_number ty)) idle_slot }
         ensures cancelled { state_at self.old (lowest_cancelled self.old (credit_number ty))
             ≡ SlotState.Cancelled }
-        ensures riding { IsSame (riding_of self.old) (riding_of self.new) }
-        ensures due { FallsAt (credit_number ty) (due_of self.old) (due_of self.new) }
-        ensures entries { IsSame (holders_of self.old) (holders_of self.new) }
+        ensures counts { CountsMove IsSame (FallsAt (credit_number ty)) IsSame self.old self.new }
     {
         let Some(place) = lowest_cancelled(&self.slots, ty) else {
             unreachable!();

@@ -1,4 +1,4 @@
--- What a device did with bytes and with its count of failures (docs/PROTOCOL.md, "The program").
+-- What a device did with bytes and with its count of failures (docs/FORMATS.md, "The program").
 use Rattle.std.specs.Prelude.{◌≡◌, ℕ, ◌+◌, List, Option, take, ◌⊎◌}
 use Rattle.std.specs.Io.KnownBytes.{Appends}
 use Rattle.std.specs.declared.io.ErrorKind.{ErrorKind}

@@ -5,12 +5,12 @@ ghost use Rattle.std.specs.Io.KnownBytes.{ReadConsumes, Appends};
 ghost use Rattle.chi_devices.specs.Devices.{AppendsFront};
 
 /// A device failed, and counted it.
-/// Source: `docs/PROTOCOL.md`, "The program".
+/// Source: `docs/FORMATS.md`, "The program".
 #[derive(Clone, Copy, Debug, PartialEq, Eq)]
 pub struct Failed;
 
 /// What bytes are read from. It counts its failures, so that who called it can tell that it failed.
-/// Source: `docs/PROTOCOL.md`, "The program".
+/// Source: `docs/FORMATS.md`, "The program".
 pub trait Input {
     /// The bytes that are still to be read, where they are known.
     ghost left: { Self → Option (List ℕ) };
@@ -19,7 +19,7 @@ pub trait Input {
     ghost failures: { Self → ℕ };
 
     /// How often a read failed.
-    /// Source: `docs/PROTOCOL.md`, "The program".
+    /// Source: `docs/FORMATS.md`, "The program".
     fn failures(&self) -> u64
         ensures { result ≡ failures self.now };
 
@@ -27,7 +27,7 @@ pub trait Input {
     /// end. A read that fails takes no byte, and counts; where it succeeds the count of failures stays.
     ///
     /// Condition: the count of failures is below 2 ^ 64 - 1.
-    /// Source: `docs/PROTOCOL.md`, "The program".
+    /// Source: `docs/FORMATS.md`, "The program".
     fn read(&mut self, buffer: &mut [u8]) -> Result<usize, Failed>
         requires { failures self.old + 1 < 2 ^ 64 }
         ensures bound { IfOk result (λ count. count ≤ length buffer.new) }
@@ -37,7 +37,7 @@ pub trait Input {
 }
 
 /// What bytes are written to. It counts its failures, so that who called it can tell that it failed.
-/// Source: `docs/PROTOCOL.md`, "The program".
+/// Source: `docs/FORMATS.md`, "The program".
 pub trait Output {
     /// The bytes that were written, where they are known.
     ghost written: { Self → Option (List ℕ) };
@@ -46,7 +46,7 @@ pub trait Output {
     ghost failures: { Self → ℕ };
 
     /// How often a write failed.
-    /// Source: `docs/PROTOCOL.md`, "The program".
+    /// Source: `docs/FORMATS.md`, "The program".
     fn failures(&self) -> u64
         ensures { result ≡ failures self.now };
 
@@ -54,7 +54,7 @@ pub trait Output {
     /// counts, and a front of them was written; where it succeeds the count of failures stays.
     ///
     /// Condition: the count of failures is below 2 ^ 64 - 1.
-    /// Source: `docs/PROTOCOL.md`, "The program".
+    /// Source: `docs/FORMATS.md`, "The program".
     fn write_all(&mut self, bytes: &[u8]) -> Result<(), Failed>
         requires { failures self.old + 1 < 2 ^ 64 }
         ensures written { OnOk result (Appends (written self.old) (written self.new) bytes.now) }

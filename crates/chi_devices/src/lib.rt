@@ -1,7 +1,7 @@
 //! Devices: where the bytes of a replay come from, and where they go. The program's own, and doubles over
 //! memory that fail where a test wants it.
 //!
-//! Source: `docs/PROTOCOL.md`, "The program".
+//! Source: `docs/FORMATS.md`, "The program".
 #![tactic(auto)]
 
 mod devices;

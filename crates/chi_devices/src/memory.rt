@@ -8,7 +8,7 @@ use crate::devices::{Failed, Input, Output};
 use std::alloc::Allocator;
 
 /// Reads from bytes in memory.
-/// Source: `docs/PROTOCOL.md`, "The program".
+/// Source: `docs/FORMATS.md`, "The program".
 #[derive(Drop)]
 pub struct MemoryInput<'a> {
     left: &'a [u8],
@@ -18,7 +18,7 @@ pub struct MemoryInput<'a> {
 
 impl<'a> MemoryInput<'a> {
     /// An input of these bytes. So many reads succeed, and every later one fails.
-    /// Source: `docs/PROTOCOL.md`, "The program".
+    /// Source: `docs/FORMATS.md`, "The program".
     pub fn new(bytes: &'a [u8], good_reads: u64) -> MemoryInput<'a>
         ensures left { result.left.now ≡ bytes.now }
         ensures good_reads { result.good_reads ≡ good_reads }
@@ -67,7 +67,7 @@ impl Input for MemoryInput<'_> {
 }
 
 /// Keeps the bytes that are written to it in memory.
-/// Source: `docs/PROTOCOL.md`, "The program".
+/// Source: `docs/FORMATS.md`, "The program".
 #[derive(Drop)]
 pub struct MemoryOutput<A: Allocator> {
     bytes: Vec<u8, A>,
@@ -78,7 +78,7 @@ pub struct MemoryOutput<A: Allocator> {
 impl<A: Allocator> MemoryOutput<A> {
     /// An output without a byte, which takes `room` bytes and then fails. It fails too where memory for
     /// them runs out. After a write that failed it takes no byte more.
-    /// Source: `docs/PROTOCOL.md`, "The program".
+    /// Source: `docs/FORMATS.md`, "The program".
     pub fn new(alloc: A, room: usize) -> MemoryOutput<A>
         ensures bytes { result.bytes.items ≡ [] }
         ensures room { result.room ≡ room }
@@ -92,7 +92,7 @@ impl<A: Allocator> MemoryOutput<A> {
     }
 
     /// The bytes that were written.
-    /// Source: `docs/PROTOCOL.md`, "The program".
+    /// Source: `docs/FORMATS.md`, "The program".
     pub fn bytes(&self) -> &[u8]
         ensures { result.now ≡ self.now.bytes.items }
     {

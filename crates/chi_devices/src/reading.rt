@@ -16,7 +16,7 @@ const PIECE: usize = 4_096;
 /// `Read` where the input failed, and its count of failures is one more then; `NoMemory` where memory ran
 /// out, and the count stays then, as it does where the bytes are answered. Condition: the input's count of
 /// failures is below 2 ^ 64 - 1.
-/// Source: `docs/PROTOCOL.md`, "The program" and "Bytes, lines and numbers".
+/// Source: `docs/FORMATS.md`, "The program" and "Bytes, lines and numbers".
 pub fn read_all<A: Allocator, I: Input>(alloc: A, input: &mut I) -> Result<Vec<u8, A>, Fault>
     requires { I.failures input.old + 1 < 2 ^ 64 }
     ensures front { IfOk result (λ bytes. IfSome (I.left input.old) (λ file. bytes.items ≡ take 1048577 file)) }

@@ -12,7 +12,7 @@ use std::rt::Files;
 
 /// Reads from a file, or from another reader. Its bytes are known where the reader's are, and so a
 /// file's are not.
-/// Source: `docs/PROTOCOL.md`, "The program".
+/// Source: `docs/FORMATS.md`, "The program".
 #[derive(Drop)]
 pub struct FileInput<F> {
     file: F,
@@ -23,7 +23,7 @@ impl<F: Read> FileInput<F> {
     /// The file at this path, opened for reading.
     ///
     /// `NoMemory` where memory runs out, and `Read` where the file can't be opened for another cause.
-    /// Source: `docs/PROTOCOL.md`, "The program".
+    /// Source: `docs/FORMATS.md`, "The program".
     pub fn open<R: Files<File = F>>(rt: &R, path: &str) -> Result<FileInput<F>, Fault>
         ensures ok { IfOk result (λ input. input.failures ≡ 0) }
         ensures err { IfErr result IsUnopened }
@@ -84,7 +84,7 @@ fn read_once<F: Read>(file: &mut F, buffer: &mut [u8]) -> Result<usize, Failed>
 
 /// Writes to standard output, or to another writer. Its bytes are known where the writer's are, and so
 /// standard output's are not.
-/// Source: `docs/PROTOCOL.md`, "The program".
+/// Source: `docs/FORMATS.md`, "The program".
 #[derive(Drop)]
 pub struct StandardOutput<W> {
     stream: W,
@@ -93,7 +93,7 @@ pub struct StandardOutput<W> {
 
 impl<W: Write> StandardOutput<W> {
     /// An output to this stream.
-    /// Source: `docs/PROTOCOL.md`, "The program".
+    /// Source: `docs/FORMATS.md`, "The program".
     pub fn new(stream: W) -> StandardOutput<W>
         ensures stream { result.stream ≡ stream }
         ensures failures { result.failures ≡ 0 }

@@ -1,4 +1,4 @@
--- The words that an agent draws (docs/PROTOCOL.md, "A turn").
+-- The words that an agent draws (docs/FORMATS.md, "A turn").
 use Rattle.std.specs.Prelude.{ℕ, List, ◌++◌, replicate}
 use Rattle.std.specs.Int.{w64, to_le_bytes}
 use Rattle.rand_chacha.specs.ChaCha.{ChaCha, word_at, key_of}

@@ -1,6 +1,6 @@
 //! The words that an agent draws, one for each of its turns.
 //!
-//! Source: `docs/PROTOCOL.md`, "A turn".
+//! Source: `docs/FORMATS.md`, "A turn".
 #![tactic(auto)]
 
 ghost use Rattle.std.specs.Prelude.{ℕ, ◌≡◌, ◌+◌, ◌%◌, ◌^◌};

@@ -3,7 +3,7 @@
 use crate::numbers::{Line, WordNo};
 
 /// What an agent is to do on one line, by whatever actions that takes.
-/// Source: `docs/PROTOCOL.md`, "Storm files".
+/// Source: `docs/FORMATS.md`, "Storm files".
 #[derive(Clone, Copy, Debug, PartialEq, Eq)]
 pub struct Operation {
     pub line: Line,
@@ -11,7 +11,7 @@ pub struct Operation {
 }
 
 /// What is to be done there.
-/// Source: `docs/PROTOCOL.md`, "Storm files".
+/// Source: `docs/FORMATS.md`, "Storm files".
 #[derive(Clone, Copy, Debug, PartialEq, Eq)]
 pub enum Task {
     /// A word is loaded, of a copy that is read for it where there is none.

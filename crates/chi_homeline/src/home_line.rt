@@ -78,7 +78,7 @@ impl HomeLine {
         Ok(request)
     }
 
-    /// The refusal that `begin` would answer.
+    /// The refusal that `start` would answer.
     ///
     /// Conditions: the agent's number is below 8.
     /// Source: `docs/PROTOCOL.md`, "Start".
@@ -97,7 +97,7 @@ impl HomeLine {
     /// nothing changes then. Conditions: the agent's number is below 8.
     /// Source: `docs/PROTOCOL.md`, "Start".
     #[inline(always)]
-    pub fn begin(&mut self, agent: Agent) -> Result<Begun, Refusal>
+    pub fn start(&mut self, agent: Agent) -> Result<Begun, Refusal>
         requires { agent.0 < 8 }
         ensures refusal { refusal_of result ≡ start_refusal self.old agent.0 }
         ensures sends { IfOk result (λ begun. (request : Waiting) → waiting_of self.old agent.0 ≡ Some request
@@ -123,16 +123,18 @@ impl HomeLine {
     {
         let kind = request.kind;
         let slot = request.slot;
-        match kind.snoop() {
-            Some(snoop) => self.serve(agent, kind, snoop, slot),
-            None => {
-                if kind.is_copy_back() {
-                    self.serving = Serving::AwaitingWriteData { agent, kind, slot };
-                    Begun::WriteData
-                } else {
-                    self.filter.remove(agent);
-                    Begun::Evicted(slot)
-                }
+        match kind {
+            Kind::ReadNotSharedDirty => self.serve(agent, kind, Snoop::SnpNotSharedDirty, slot),
+            Kind::ReadShared => self.serve(agent, kind, Snoop::SnpShared, slot),
+            Kind::ReadUnique => self.serve(agent, kind, Snoop::SnpUnique, slot),
+            Kind::CleanUnique => self.serve(agent, kind, Snoop::SnpCleanInvalid, slot),
+            Kind::Evict => {
+                self.filter.remove(agent);
+                Begun::Evicted(slot)
+            }
+            Kind::WriteBackFull | Kind::WriteCleanFull | Kind::WriteEvictFull => {
+                self.serving = Serving::AwaitingWriteData { agent, kind, slot };
+                Begun::WriteData
             }
         }
     }

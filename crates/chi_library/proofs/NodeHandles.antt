@@ -27,7 +27,7 @@ use Rattle.std.specs.declared.alloc.Global.{Global}
 use Rattle.std.specs.declared.option.Option.{Option}
 use Rattle.std.specs.declared.option.Option.TheVariants.{None, Some}
 use Rattle.std.specs.Box.Ownership.{box_owns}
-use Rattle.chi_system.specs.System.{SystemState}
+use Rattle.chi_node.specs.System.{SystemState}
 use Rattle.chi_library.specs.NodeHandle.{node_ownership, node_row}
 use Rattle.chi_library.proofs.Fields.{both, fields_in, fields_out}
 use Rattle.chi_library.specs.contracts.node_handle.ChiNode as handle

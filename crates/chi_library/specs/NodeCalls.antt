@@ -16,8 +16,8 @@ use Rattle.chi_node.specs.declared.answers.Stepped.{Stepped}
 use Rattle.chi_node.specs.Calls.{is_own_step}
 use Rattle.chi_slice.specs.Audits.{IsAudited}
 use Rattle.chi_config.specs.Config.{Sizes}
-use Rattle.chi_system.specs.Home.{flits_refusal, last_of, line, view_refusal}
-use Rattle.chi_system.specs.System.{SystemState, opening_system, agent_refusal, arrive_refusal, give_back_refusal, step_refusal, tend_refusal, ArrivesIn, GivesBackIn, Glances, SeesIn, StepsIn, TendsIn}
+use Rattle.chi_node.specs.Home.{flits_refusal, last_of, line, view_refusal}
+use Rattle.chi_node.specs.System.{SystemState, opening_system, agent_refusal, arrive_refusal, give_back_refusal_in, step_refusal, tend_refusal_in, ArrivesIn, GivesBackIn, Glances, SeesIn, StepsIn, TendsIn}
 use Rattle.chi_tracker.specs.declared.released.Released.{Released}
 use Rattle.chi_tracker.specs.declared.totals.Counts.{Counts}
 use Rattle.chi_tracker.specs.declared.released.Released.TheVariants.{Granted, Freed}
@@ -128,13 +128,13 @@ GivesBack agent ty told y y' = (released : Released) × (told ≡ release_told r
 
 abbrev pub ReturnCall : Agent → Option CreditType → ChiRelease → SystemState → SystemState → Type 0
 ReturnCall agent ty told y y' =
-    Called y y' (give_back_refusal y agent.0 ty) (GivesBack agent ty told y y') (told ≡ no_release)
+    Called y y' (give_back_refusal_in y agent.0 ty) (GivesBack agent ty told y y') (told ≡ no_release)
 
 abbrev pub Tends : Agent → Option CreditType → ChiRelease → SystemState → SystemState → Type 0
 Tends agent ty told y y' = (released : Option Released) × (told ≡ release_if released) × TendsIn y y' agent ty released
 
 abbrev pub TendCall : Agent → Option CreditType → ChiRelease → SystemState → SystemState → Type 0
-TendCall agent ty told y y' = Called y y' (tend_refusal y agent.0 ty) (Tends agent ty told y y') (told ≡ no_release)
+TendCall agent ty told y y' = Called y y' (tend_refusal_in y agent.0 ty) (Tends agent ty told y y') (told ≡ no_release)
 
 -- a line, and the flits of an agent at one
 abbrev pub node_show_told : ℕ → SystemState → ChiLine

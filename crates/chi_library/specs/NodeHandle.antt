@@ -9,8 +9,8 @@ use Rattle.std.specs.Box.Ownership.{box_owns}
 use Rattle.std.specs.Global.{Global}
 use Rattle.std.specs.contracts.alloc.Global as heap
 use Rattle.std.specs.contracts.impls.GlobalAllocator.TheImpl.{ghosts}
-use Rattle.chi_system.specs.System.{SystemState}
-use Rattle.chi_system.specs.contracts.system.System as system
+use Rattle.chi_node.specs.System.{SystemState}
+use Rattle.chi_node.specs.contracts.system.System as system
 
 abbrev pub node_row : RattleType
 node_row = system.the_row heap.the_row ghosts

@@ -9,8 +9,8 @@ ghost use Rattle.chi_library.specs.Numbers.{credit_of, number_if};
 ghost use Rattle.chi_library.specs.NodeCalls.{ArrivalCall, CalledOn, ReturnCall, IsAuditOf, IsOwn, IsTotalsOf, IsUntold, LookCall, OpensNode, StepCall, TendCall, no_arrival, no_credits, no_release, node_flits_told, node_show_told, node_step_refusal, own_of};
 ghost use Rattle.chi_library.specs.Sizes.{config_of};
 ghost use Rattle.chi_node.specs.Calls.{is_own_step};
-ghost use Rattle.chi_system.specs.Home.{flits_refusal, view_refusal};
-ghost use Rattle.chi_system.specs.System.{agent_refusal, arrive_refusal, give_back_refusal, tend_refusal};
+ghost use Rattle.chi_node.specs.Home.{flits_refusal, view_refusal};
+ghost use Rattle.chi_node.specs.System.{agent_refusal, arrive_refusal, give_back_refusal_in, tend_refusal_in};
 
 use crate::actions::{ChiAction, ChiEffect, action_at, tell_effect};
 use crate::answers::{ALREADY_OPEN, CLOSED, DONE, NO_MEMORY, NOT_OPEN, OUT_OF_RANGE};
@@ -24,8 +24,8 @@ use crate::node_told::{
 use crate::numbers::{credit_at, flag_number};
 use crate::sizes::{ChiConfig, config_at};
 use chi_flit::{Action, Agent, CreditType, Line, NoMemory, Step};
+use chi_node::System;
 use chi_slice::Config;
-use chi_system::System;
 use std::alloc::Global;
 
 /// Opens a node of these sizes, in its opening state. All memory that it ever needs is taken here.
@@ -141,7 +141,7 @@ pub extern "C" fn chi_node_give_back(
     release: &mut ChiRelease,
 ) -> u8
     ensures answer { result
-        ≡ answer_number node.old.value (λ y. give_back_refusal y agent (credit_of credit)) }
+        ≡ answer_number node.old.value (λ y. give_back_refusal_in y agent (credit_of credit)) }
     ensures call { CalledOn node.old.value node.new.value
         (ReturnCall (agent_at agent) (credit_of credit) release.new) }
     ensures closed { node.old.value ≡ None → release.new ≡ no_release }
@@ -170,7 +170,7 @@ pub extern "C" fn chi_node_tend(
     credit: u8,
     release: &mut ChiRelease,
 ) -> u8
-    ensures answer { result ≡ answer_number node.old.value (λ y. tend_refusal y agent (credit_of credit)) }
+    ensures answer { result ≡ answer_number node.old.value (λ y. tend_refusal_in y agent (credit_of credit)) }
     ensures call { CalledOn node.old.value node.new.value
         (TendCall (agent_at agent) (credit_of credit) release.new) }
     ensures closed { node.old.value ≡ None → release.new ≡ no_release }
@@ -287,7 +287,7 @@ pub extern "C" fn chi_node_agrees(alloc: Global, node: &mut ChiNode) -> u8
 /// are 0.
 ///
 /// Answers 0, or 255 of a closed handle. Nothing changes.
-/// Source: `docs/PROTOCOL.md`, "Replay files"; `docs/LIBRARY.md`, "A node".
+/// Source: `docs/FORMATS.md`, "Replay files"; `docs/LIBRARY.md`, "A node".
 #[unsafe(no_mangle)]
 pub extern "C" fn chi_node_audit(alloc: Global, node: &mut ChiNode, audit: &mut ChiAudit) -> u8
     ensures answer { result ≡ answer_number node.old.value (λ y. None) }
@@ -456,7 +456,7 @@ fn give_back(
     release: &mut ChiRelease,
 ) -> u8
     requires { release.old ≡ no_release }
-    ensures answer { result ≡ number_if (give_back_refusal node.old agent.0 credit) }
+    ensures answer { result ≡ number_if (give_back_refusal_in node.old agent.0 credit) }
     ensures call { ReturnCall agent credit release.new node.old node.new }
 {
     match node.give_back(agent, credit) {
@@ -476,7 +476,7 @@ fn tend(
     release: &mut ChiRelease,
 ) -> u8
     requires { release.old ≡ no_release }
-    ensures answer { result ≡ number_if (tend_refusal node.old agent.0 credit) }
+    ensures answer { result ≡ number_if (tend_refusal_in node.old agent.0 credit) }
     ensures call { TendCall agent credit release.new node.old node.new }
 {
     match node.tend(agent, credit) {

@@ -3,11 +3,11 @@
 ghost use Rattle.std.specs.Prelude.{◌≡◌, None, Some};
 ghost use Rattle.std.specs.declared.option.Option.{Option};
 ghost use Rattle.std.specs.Option.{MatchOption};
-ghost use Rattle.chi_system.specs.System.{SystemState};
+ghost use Rattle.chi_node.specs.System.{SystemState};
 ghost use Rattle.chi_library.specs.NodeHandle.{node_code, node_ownership};
 
 use crate::box_pointer::BoxPointer;
-use chi_system::System;
+use chi_node::System;
 use std::alloc::Global;
 use std::marker::Model;
 use std::mem;

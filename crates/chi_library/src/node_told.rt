@@ -46,7 +46,7 @@ pub struct ChiTotals {
 }
 
 /// The loads and stores of a node, and the verdict on it: `ChiAudit` of `chihome.h`.
-/// Source: `docs/PROTOCOL.md`, "Replay files".
+/// Source: `docs/FORMATS.md`, "Replay files".
 #[repr(C)]
 #[derive(Clone, Copy)]
 pub struct ChiAudit {

@@ -73,7 +73,7 @@ pub record StoreAllowed (rn : Rn) : Type 0 where
   pub none : rn.pending ≡ None
   pub unique : is_unique rn.state ≡ true
 
-store_allowed : (rn : Rn) → store_refusal rn ≡ None → StoreAllowed rn
+pub store_allowed : (rn : Rn) → store_refusal rn ≡ None → StoreAllowed rn
 store_allowed rn allowed = record { none = grind arith; unique = grind arith }
 
 -- a Drop that isn't refused: nothing is pending, and the copy is clean
@@ -81,7 +81,7 @@ pub record DropAllowed (rn : Rn) : Type 0 where
   pub none : rn.pending ≡ None
   pub clean : is_clean_copy rn.state ≡ true
 
-drop_allowed : (rn : Rn) → drop_refusal rn ≡ None → DropAllowed rn
+pub drop_allowed : (rn : Rn) → drop_refusal rn ≡ None → DropAllowed rn
 drop_allowed rn allowed = record { none = grind arith; clean = grind arith }
 
 -- a Resend or Cancel that isn't refused: a request is in phase Retried

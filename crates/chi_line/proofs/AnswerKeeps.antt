@@ -20,11 +20,11 @@ use Rattle.chi_homeline.specs.declared.serving.SnoopAnswer.{SnoopAnswer}
 use Rattle.chi_homeline.specs.declared.serving.SnoopAnswer.TheVariants as answers
 use Rattle.chi_homeline.specs.Home.{home_with_answer, completed_by, completion_by, data_to_send, filter_after, finished_as, finished_sends_as, left_owner, left_shared, memory_after}
 use Rattle.chi_line.specs.LineState.{LineState, rn_of, cells_of}
-use Rattle.chi_line.specs.Coherent.{IsClean}
-use Rattle.chi_line.specs.Kept.{Lane, LaneKept, IsServedInRange, Kept, invalidates, is_read, lane, shares, snoop_out}
+use Rattle.chi_line.specs.Clean.{IsClean}
+use Rattle.chi_line.specs.Kept.{Lane, LaneKept, IsOwnerInRange, IsServedRight, Kept, invalidates, is_read, lane, shares, snoop_out}
 use Rattle.chi_line.specs.Snooped.{answer_channel, completion_put}
 use Rattle.chi_line.specs.Step.{answered_by}
-use Rattle.chi_line.proofs.Frame.{IsCleanLane, Moves, Puts, kept_moved, memory_by, moves_home, puts_set, puts_nothing, within}
+use Rattle.chi_line.proofs.Frame.{IsCleanLane, Moves, Puts, kept_moved, memory_by, moves_home, puts_set, puts_nothing, within, without_in_range}
 use Rattle.chi_line.proofs.Asks.{none_in, left_in, left_out, same, apart}
 use Rattle.chi_line.proofs.CompleteLanes.{read_from_none}
 use Rattle.chi_line.proofs.Completes.{kept_completed}
@@ -95,6 +95,7 @@ record FilterLeft (f after : FilterState) (n : ℕ) (named owns : Bool) : Type 0
   clear : after.unique ≡ false
   own : owned_by after.owner n ≡ owns
   owner_stays : (m : ℕ) → m < 8 → m ≢ n → owned_by after.owner m ≡ owned_by f.owner m
+  owner_in_range : IsOwnerInRange f.owner → IsOwnerInRange after.owner
 
 answered_moves : (last : List ℕ) (s : LineState) (n : ℕ) (memory : List ℕ) (after : FilterState) (c : Cells) (named owns : Bool) → n < 8
     → FilterLeft s.home.filter after n named owns → Kept last s
@@ -109,7 +110,7 @@ kept_answered : (last : List ℕ) (s : LineState) (n : ℕ) (memory : List ℕ) 
     → (IsClean (answered_line s n memory after c) → memory ≡ last)
     → Kept last s → Kept last (answered_line s n memory after c)
 kept_answered last s n memory after c named owns may fits own clean_memory k =
-    kept_moved last last s _ n _ (answered_moves last s n memory after c named owns may.here fits k) k k.in_range
+    kept_moved last last s _ n _ (answered_moves last s n memory after c named owns may.here fits k) k k.in_range (fits.owner_in_range k.owner)
     (here n (record (lane s n) { named = named; awaited = false; flits = c }) own)
     (λ m at other. here m (lane s m) (answer_other may.snooping.agent may.snooping.kind may.snooping.slot s.home.filter.unique s.home.filter.owner after.owner last m (lane s m)
     (λ flag. alone_named last s n may k flag m at other) (fits.owner_stays m at other) (snooped_lanes last s may.snooping k m at)))
@@ -139,7 +140,7 @@ finished_done last s sent may k none (Some snoop) is =
     let all_in : (m : ℕ) → m < 8 → is_in s.home.awaited m ≡ false = λ m at. none_in s.home.awaited m k.awaited at none in
     kept_completed last s may.snooping.agent may.snooping.kind snoop may.snooping.slot sent
     (record {
-      here = subst IsServedInRange may.snooping.serving_is k.in_range;
+      here = subst IsServedRight may.snooping.serving_is k.in_range;
       serves = may.snooping.serving_is;
       snoop_is = is;
       all_in = all_in;
@@ -177,7 +178,7 @@ quiet_line last s is k clear done reads unowned m at = ⊎_elim own other (cases
     lanes m at = subst (λ u. LaneKept (Snooping is.agent is.kind is.slot) u s.home.filter.owner last m (lane s m)) clear (snooped_lanes last s is k m at)
 
     served : is.agent.0 < 8
-    served = subst IsServedInRange is.serving_is k.in_range
+    served = subst IsServedRight is.serving_is k.in_range
 
     own : m ≡ is.agent.0 → IsCleanLane (lane s m)
     own here = subst (λ j. IsCleanLane (lane s j)) (sym here)
@@ -205,6 +206,7 @@ removed_left last s n may k = record {
   clear = removed_clear last s n may k;
   own = unowned_here s.home.filter.owner n;
   owner_stays = λ m at other. owned_elsewhere s.home.filter.owner n m other;
+  owner_in_range = without_in_range s.home.filter.owner n;
 }
 
 shared_left : (s : LineState) (n : ℕ) → FilterLeft s.home.filter (left_shared s.home.filter n) n (is_named s.home.filter n) false
@@ -213,6 +215,7 @@ shared_left s n = record {
   clear = refl;
   own = unowned_here s.home.filter.owner n;
   owner_stays = λ m at other. owned_elsewhere s.home.filter.owner n m other;
+  owner_in_range = without_in_range s.home.filter.owner n;
 }
 
 owner_left : (last : List ℕ) (s : LineState) (agent : Agent) (may : AwaitsAnswer s agent.0) → Kept last s → shares (snoop_of may.snooping.kind) ≡ true
@@ -222,6 +225,7 @@ owner_left last s agent may k shared = record {
   clear = refl;
   own = same agent.0;
   owner_stays = λ m at other. apart agent.0 m other ∙ sym (lonely last s agent.0 may k shared m at other);
+  owner_in_range = λ _. may.here;
 }
 
 -- an answer that is in flight, and the line after it

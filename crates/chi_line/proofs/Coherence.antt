@@ -8,7 +8,7 @@ use Rattle.chi_flit.specs.declared.numbers.Agent.{Agent}
 use Rattle.chi_homeline.specs.declared.serving.Serving.{Serving}
 use Rattle.chi_line.specs.LineState.{LineState, rn_of}
 use Rattle.chi_line.specs.Kept.{Lane, LaneKept, Kept, lane}
-use Rattle.chi_line.specs.Coherent.{Coherent}
+use Rattle.chi_line.specs.Clean.{CoherentParts}
 
 none_unless : (state : State) → (is_valid state ≡ true → ⊥) → state ≡ I
 none_unless I none = refl
@@ -32,7 +32,7 @@ owner_cases true true unique P both first second flagged = both refl refl
 owner_cases true false unique P both first second flagged = flagged (second refl)
 owner_cases false c unique P both first second flagged = flagged (first refl)
 
-pub coherent : (last : List ℕ) (s : LineState) → Kept last s → Coherent last s
+pub coherent : (last : List ℕ) (s : LineState) → Kept last s → CoherentParts last s
 coherent last s k =
     let flag_of : (n : ℕ) → n < 8 → (rn_of s n).state ≡ SD → owned_by s.home.filter.owner n ≡ false → s.home.filter.unique ≡ true =
     λ n low dirty other. shared_dirty_flagged s.home.serving s.home.filter.unique s.home.filter.owner last n (lane s n) dirty other (k.lanes n low) in

@@ -16,7 +16,7 @@ use Rattle.chi_wires.specs.Cell.{no_flits, with_message}
 use Rattle.chi_homeline.specs.declared.serving.Serving.TheVariants.{Snooping, AwaitingCompAck}
 use Rattle.chi_homeline.specs.Home.{home_after_completion, completed_filter, completes_unique, completion_message, completion_of}
 use Rattle.chi_line.specs.LineState.{LineState, cells_of}
-use Rattle.chi_line.specs.Kept.{Kept, LaneKept, invalidates, is_read, lane}
+use Rattle.chi_line.specs.Kept.{IsOwnerInRange, Kept, LaneKept, invalidates, is_read, lane}
 use Rattle.chi_line.proofs.Frame.{IsCleanLane, Puts, kept_moved, memory_by, moves_home, puts_nothing, puts_set, nothing_waiting, within}
 use Rattle.chi_line.proofs.Asks.{apart, same, in_only, none_in, left_in, length-others}
 use Rattle.chi_line.proofs.CompleteLanes.{read_completes, clean_completes, no_owner, alone_other, shared_other, none_left, read_from_none}
@@ -67,16 +67,16 @@ only_puts marks n low eight nobody_else = record {
 
 -- a step after which the CompAck is awaited: n is named, its cells are c, and the filter is as given
 pub kept_awaiting : (last : List ℕ) (s : LineState) (agent : Agent) (slot : Slot) (filter : FilterState) (c : Cells)
-    → agent.0 < 8 → Kept last s → Puts false s.home.filter.named filter.named agent.0 true
+    → agent.0 < 8 → Kept last s → IsOwnerInRange filter.owner → Puts false s.home.filter.named filter.named agent.0 true
     → LaneKept (AwaitingCompAck agent slot) filter.unique filter.owner last agent.0 (record (lane s agent.0) { named = true; flits = c })
     → ((m : ℕ) → m < 8 → m ≢ agent.0 → LaneKept (AwaitingCompAck agent slot) filter.unique filter.owner last m (lane s m))
     → (filter.unique ≡ true → (n m : ℕ) → n < 8 → m < 8 → is_named filter n ≡ true → is_named filter m ≡ true → n ≡ m)
     → (cells_of s agent.0).dat_up ≡ c.dat_up
     → Kept last (record s { home = record s.home { filter = filter; serving = AwaitingCompAck agent slot }; flits = slice_set s.flits agent.0 c })
-kept_awaiting last s agent slot filter c low k names own other one up =
+kept_awaiting last s agent slot filter c low k owner names own other one up =
     let moves = moves_home s agent.0 (record s.home { filter = filter; serving = AwaitingCompAck agent slot }) _ (record (lane s agent.0) { named = true; flits = c }) refl
     (puts_set no_flits s.flits agent.0 c (within agent.0 _ low k.flits)) names (puts_nothing false s.home.awaited agent.0) (puts_nothing nothing_waiting s.home.waiting agent.0) in
-    kept_moved last last s _ agent.0 _ moves k low own other one
+    kept_moved last last s _ agent.0 _ moves k low owner own other one
     (memory_by last s _ agent.0 _ low moves k (λ (clean : IsCleanLane (record (lane s agent.0) { named = true; flits = c })). record { copy = clean.copy; on_its_way = cc }))
 
 snooped_lanes : (last : List ℕ) (s : LineState) (agent : Agent) (kind : Kind) (snoop : Snoop) (slot : Slot) (sent : List ℕ)
@@ -132,7 +132,7 @@ read_alone last s agent kind snoop slot sent may k reads is =
     let lanes : (m : ℕ) → m < 8 → LaneKept (Snooping agent kind slot) s.home.filter.unique s.home.filter.owner last m (lane s m) = snooped_lanes last s agent kind snoop slot sent may k in
     let lonely : IsAlone s.home.filter agent.0 = alone last s agent kind snoop slot sent may k is in
     let f = s.home.filter in
-    kept_awaiting last s agent slot (only_named agent.0) _ may.here k
+    kept_awaiting last s agent slot (only_named agent.0) _ may.here k tt
     (only_puts f.named agent.0 may.here k.named lonely)
     (read_completes f.unique true f.owner None last agent kind slot sent (lane s agent.0) (same agent.0) reads (may.sent_is reads)
     (read_from_none f.unique f.owner last agent kind slot (lane s agent.0) (same agent.0) reads (lanes agent.0 may.here)) refl (lanes agent.0 may.here))
@@ -147,7 +147,7 @@ clean_alone last s agent slot sent may k =
     let lanes : (m : ℕ) → m < 8 → LaneKept (Snooping agent CleanUnique slot) s.home.filter.unique s.home.filter.owner last m (lane s m) = snooped_lanes last s agent CleanUnique SnpCleanInvalid slot sent may k in
     let lonely : IsAlone s.home.filter agent.0 = alone last s agent CleanUnique SnpCleanInvalid slot sent may k refl in
     let f = s.home.filter in
-    kept_awaiting last s agent slot (only_named agent.0) _ may.here k
+    kept_awaiting last s agent slot (only_named agent.0) _ may.here k tt
     (only_puts f.named agent.0 may.here k.named lonely)
     (clean_completes f.unique f.owner last agent slot (lane s agent.0) (same agent.0) (lanes agent.0 may.here))
     (λ m low other. alone_other f.unique f.owner last agent CleanUnique slot m (lane s m) (apart agent.0 m other) (lonely m low other) (lanes m low))
@@ -167,7 +167,7 @@ read_shared last s agent kind snoop slot sent may k reads is =
     let clear_lanes : (m : ℕ) → m < 8 → LaneKept (Snooping agent kind slot) false s.home.filter.owner last m (lane s m) =
     λ m low. subst (λ unique. LaneKept (Snooping agent kind slot) unique s.home.filter.owner last m (lane s m)) (may.flag_clear is) (lanes m low) in
     let none = read_from_none f.unique f.owner last agent kind slot (lane s agent.0) (same agent.0) reads (lanes agent.0 may.here) in
-    kept_awaiting last s agent slot (completed_filter false f agent.0) _ may.here k
+    kept_awaiting last s agent slot (completed_filter false f agent.0) _ may.here k k.owner
     (puts_set false f.named agent.0 true (omega (arith, k.named, may.here)))
     (read_completes f.unique false f.owner f.owner last agent kind slot sent (lane s agent.0) (same agent.0) reads (may.sent_is reads)
     none (no_owner f.unique f.owner last agent kind slot (lane s agent.0) (same agent.0) none (lanes agent.0 may.here)) (lanes agent.0 may.here))

@@ -19,7 +19,7 @@ use Rattle.chi_homeline.specs.declared.serving.Serving.{Serving}
 use Rattle.chi_homeline.specs.declared.serving.Serving.TheVariants.{Snooping, AwaitingWriteData}
 use Rattle.chi_homeline.specs.Home.{acks_for}
 use Rattle.chi_line.specs.LineState.{LineState, rn_of, cells_of}
-use Rattle.chi_line.specs.Coherent.{passes_dirty}
+use Rattle.chi_line.specs.Clean.{passes_dirty}
 use Rattle.chi_line.specs.Kept.{Lane, LaneKept, Kept, kind_of, lane, snoop_out, writes_for}
 use Rattle.chi_line.specs.Step.{snooped_line, comp_received_line, dbid_received_line}
 use Rattle.chi_line.proofs.Frame.{kept_by}

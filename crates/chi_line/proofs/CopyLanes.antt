@@ -15,7 +15,7 @@ use Rattle.chi_flit.specs.declared.message.DatUp.TheVariants.{SnpRespDataIPD, Sn
 use Rattle.chi_flit.specs.Kind.{gives_up}
 use Rattle.chi_flit.specs.State.{is_unique, is_valid, is_dirty}
 use Rattle.chi_homeline.specs.declared.serving.Serving.TheVariants.{Snooping, AwaitingCompAck, AwaitingWriteData}
-use Rattle.chi_line.specs.Coherent.{passes_dirty}
+use Rattle.chi_line.specs.Clean.{passes_dirty}
 use Rattle.chi_line.specs.Kept.{Lane, LaneKept, allows, bit, is_answer, is_snoop_data, is_write_data, shares, is_shared_dirty_data, is_shared_dirty}
 use Rattle.chi_line.specs.Step.{is_ack}
 

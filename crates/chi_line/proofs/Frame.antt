@@ -1,5 +1,5 @@
 -- Steps that touch one agent's lane: what every line keeps needs to be shown of that lane alone.
-use Rattle.std.proofs.Common.{◌≡◌, ◌≢◌, ℕ, ◌<◌, List, Bool, true, false, Option, None, length, get_or, set, sym, subst, refl, ◌∙◌, ⊎_elim, arith}
+use Rattle.std.proofs.Common.{◌≡◌, ◌≢◌, ℕ, ◌<◌, List, Bool, true, false, ◌==◌, Option, Some, None, if◌then◌else◌, length, get_or, set, sym, subst, refl, ◌∙◌, ⊎_elim, arith}
 use Rattle.std.proofs.lemmas.List.{get_or-set_same, get_or-set_other, length-set}
 use Rattle.std.proofs.lemmas.Bool.{cases_eq}
 use Rattle.chi_flit.specs.declared.numbers.Agent.{Agent}
@@ -8,11 +8,11 @@ use Rattle.chi_wires.specs.Cell.{no_flits}
 use Rattle.chi_rnline.specs.Rn.{Rn, no_line}
 use Rattle.chi_homeline.specs.declared.serving.Waiting.{Waiting}
 use Rattle.chi_homeline.specs.declared.serving.Serving.{Serving}
-use Rattle.chi_homeline.specs.Home.{Home, IsServedInRange}
-use Rattle.chi_filter.specs.Filter.{is_named}
+use Rattle.chi_homeline.specs.Home.{Home}
+use Rattle.chi_filter.specs.Filter.{is_named, owner_without}
 use Rattle.chi_line.specs.LineState.{LineState, rn_of}
-use Rattle.chi_line.specs.Coherent.{IsClean, IsCleanAgent}
-use Rattle.chi_line.specs.Kept.{Lane, LaneKept, Kept, lane}
+use Rattle.chi_line.specs.Clean.{IsClean, IsCleanAgent}
+use Rattle.chi_line.specs.Kept.{IsOwnerInRange, IsServedRight, Lane, LaneKept, Kept, lane}
 
 -- a list whose entry n is a, whose other entries stay, and that is as long as before
 pub record Puts {A : Type 0} (d : A) (l l' : List A) (n : ℕ) (a : A) : Type 0 where
@@ -100,20 +100,30 @@ clean_by s s' n x moves here back clean m low =
     (λ (apart : m ≢ n). subst IsCleanLane (moves.others m apart) (clean m low))
     (cases_eq m n)
 
+-- an owner that may have ended
+pub without_in_range : (owner : Option Agent) (n : ℕ) → IsOwnerInRange owner → IsOwnerInRange (owner_without owner n)
+without_in_range None n inside = tt
+without_in_range (Some agent) n inside = go (agent.0 == n)
+  where
+    go : (b : Bool) → IsOwnerInRange (if b then None else Some agent)
+    go true = tt
+    go false = inside
+
 -- what is left to show of a step that touches one agent's lane
-pub kept_moved : (before last : List ℕ) (s s' : LineState) (n : ℕ) (x : Lane) → Moves s s' n x → Kept before s → IsServedInRange s'.home.serving
+pub kept_moved : (before last : List ℕ) (s s' : LineState) (n : ℕ) (x : Lane) → Moves s s' n x → Kept before s → IsServedRight s'.home.serving → IsOwnerInRange s'.home.filter.owner
     → LaneKept s'.home.serving s'.home.filter.unique s'.home.filter.owner last n x
     → ((m : ℕ) → m < 8 → m ≢ n → LaneKept s'.home.serving s'.home.filter.unique s'.home.filter.owner last m (lane s m))
     → (s'.home.filter.unique ≡ true → (a b : ℕ) → a < 8 → b < 8 → is_named s'.home.filter a ≡ true → is_named s'.home.filter b ≡ true → a ≡ b)
     → (IsClean s' → s'.home.memory ≡ last)
     → Kept last s'
-kept_moved before last s s' n x moves k in_range own other one memory = record {
+kept_moved before last s s' n x moves k in_range owner own other one memory = record {
   requesters = moves.requesters ∙ k.requesters;
   flits = moves.flits ∙ k.flits;
   named = moves.named ∙ k.named;
   awaited = moves.awaited ∙ k.awaited;
   waiting = moves.waiting ∙ k.waiting;
   in_range = in_range;
+  owner = owner;
   lanes = lanes_by s s' s'.home.serving s'.home.filter.unique s'.home.filter.owner last n x moves own other;
   flag_means_one = one;
   memory_last = memory;
@@ -133,7 +143,7 @@ kept_parts : (last : List ℕ) (s : LineState) (requesters : List Rn) (flits : L
 kept_parts last s requesters flits n r c low k rs fs own back =
     let moves : Moves s (record s { requesters = requesters; flits = flits }) n (record (lane s n) { rn = r; flits = c }) = moves_by s _ n _ rs fs
     (puts_nothing false s.home.filter.named n) (puts_nothing false s.home.awaited n) (puts_nothing nothing_waiting s.home.waiting n) in
-    kept_moved last last s _ n _ moves k k.in_range own (λ m at apart. k.lanes m at) k.flag_means_one (memory_by last s _ n _ low moves k back)
+    kept_moved last last s _ n _ moves k k.in_range k.owner own (λ m at apart. k.lanes m at) k.flag_means_one (memory_by last s _ n _ low moves k back)
 
 pub kept_by : (last : List ℕ) (s : LineState) (n : ℕ) (r : Rn) (c : Cells) → n < 8 → Kept last s
     → LaneKept s.home.serving s.home.filter.unique s.home.filter.owner last n (record (lane s n) { rn = r; flits = c })

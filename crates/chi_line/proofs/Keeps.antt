@@ -69,7 +69,7 @@ kept_admitted last s n request low here k =
     let moves = moves_home s n (home_after_admit s.home n (record { kind = request.kind; slot = request.slot })) _
     (record (lane s n) { waiting = Some (record { kind = request.kind; slot = request.slot }); flits = record (cells_of s n) { req = None } }) refl
     (puts_set _ s.flits n _ (within n _ low k.flits)) (puts_nothing _ s.home.filter.named n) (puts_nothing _ s.home.awaited n) (puts_set _ s.home.waiting n _ (within n _ low k.waiting)) in
-    kept_moved last last s _ n _ moves k k.in_range
+    kept_moved last last s _ n _ moves k k.in_range k.owner
     (admit_lane s.home.serving s.home.filter.unique s.home.filter.owner last n (lane s n) request here (k.lanes n low))
     (λ m at apart. k.lanes m at) k.flag_means_one (memory_by last s _ n _ low moves k (λ c. c))
 
@@ -103,7 +103,7 @@ kept_acknowledged last s n low here k =
     λ m at. subst (λ v. LaneKept v unique owner last m (lane s m)) awaits.serving_is (k.lanes m at) in
     let moves = moves_home s n (home_after_ack s.home) _ (record (lane s n) { flits = record (cells_of s n) { rsp_up = None } }) refl
     (puts_set _ s.flits n _ (within n _ low k.flits)) (puts_nothing _ s.home.filter.named n) (puts_nothing _ s.home.awaited n) (puts_nothing _ s.home.waiting n) in
-    kept_moved last last s _ n _ moves k tt
+    kept_moved last last s _ n _ moves k tt k.owner
     (acknowledge_lane awaits.agent awaits.slot unique owner last n (lane s n) here (before n low))
     (λ m at apart. acknowledge_other awaits.agent awaits.slot unique owner last m (lane s m) (not_served awaits.agent.0 n m awaits.agent_is apart) (before m at))
     k.flag_means_one (memory_by last s _ n _ low moves k (λ c. c))

@@ -33,3 +33,15 @@ pub mod Typed
 pub mod MoveLaw
 pub mod RequestMoves
 pub mod EqualSlots
+pub mod StandingParts
+pub mod CompletionRows
+pub mod AnswerRows
+pub mod StartRows
+pub mod StepRows
+pub mod Protocol
+pub mod Law
+pub mod OneFlit
+pub mod Enabled
+pub mod RefusalRows
+pub mod CoherentLine
+pub mod OpeningLine

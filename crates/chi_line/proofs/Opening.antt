@@ -29,6 +29,7 @@ opening_kept = record {
   awaited = refl;
   waiting = refl;
   in_range = tt;
+  owner = tt;
   lanes = λ n low. subst (LaneKept Idle false None no_words n) (sym (opening_lanes n low)) (opening_lane_kept n);
   flag_means_one = λ flag. absurd cc;
   memory_last = λ clean. refl;

@@ -38,7 +38,7 @@ kept_stored last s n word value low none alone k =
     (puts_set _ s.requesters n _ (within n _ low k.requesters)) (puts_nothing _ s.flits n) (puts_nothing _ s.home.filter.named n) (puts_nothing _ s.home.awaited n) (puts_nothing _ s.home.waiting n) in
     let named_here : is_named s.home.filter n ≡ true = (k.lanes n low).holder_named (unique_valid (rn_of s n).state alone) in
     let flagged : s.home.filter.unique ≡ true = (k.lanes n low).unique_flagged alone in
-    kept_moved last (set last word value) s _ n _ moves k k.in_range
+    kept_moved last (set last word value) s _ n _ moves k k.in_range k.owner
     (store_lane s.home.serving s.home.filter.unique s.home.filter.owner last n (lane s n) word value none alone (k.lanes n low))
     (λ m at apart. store_other s.home.serving s.home.filter.unique s.home.filter.owner last (set last word value) m (lane s m)
     (false_from_ne_true (is_named s.home.filter m) (λ named. apart (k.flag_means_one flagged m n at low named named_here))) (k.lanes m at))

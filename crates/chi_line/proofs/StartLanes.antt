@@ -12,7 +12,7 @@ use Rattle.chi_flit.specs.Kind.{snoop_of}
 use Rattle.chi_filter.specs.Filter.{owned_by}
 use Rattle.chi_homeline.specs.declared.serving.Waiting.{Waiting}
 use Rattle.chi_homeline.specs.declared.serving.Serving.TheVariants.{Idle, Snooping, AwaitingWriteData}
-use Rattle.chi_line.specs.Coherent.{IsCleanAgent}
+use Rattle.chi_line.specs.Clean.{IsCleanAgent}
 use Rattle.chi_line.specs.Kept.{Lane, LaneKept, shares, invalidates}
 
 -- the own lane where a snoop, or its want of anybody to ask, serves the request

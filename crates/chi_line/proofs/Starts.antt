@@ -24,9 +24,9 @@ use Rattle.chi_homeline.specs.declared.serving.Started.TheVariants.{Sends, Evict
 use Rattle.chi_homeline.specs.Home.{Home, asks, asks_shared, completes_unique, home_after_completion, completion_of, is_idle, started_as, started_sends_as, taken_up, waiting_of}
 use Rattle.chi_line.specs.LineState.{LineState, cells_of}
 use Rattle.chi_line.specs.Step.{flits_after_start, started_line}
-use Rattle.chi_line.specs.Coherent.{IsClean, passes_dirty}
+use Rattle.chi_line.specs.Clean.{IsClean, passes_dirty}
 use Rattle.chi_line.specs.Kept.{Kept, Lane, LaneKept, allows, invalidates, lane}
-use Rattle.chi_line.proofs.Frame.{IsCleanLane, kept_moved, memory_by, moves_home, puts_nothing, puts_set, nothing_waiting, same_lane, within}
+use Rattle.chi_line.proofs.Frame.{IsCleanLane, kept_moved, memory_by, moves_home, puts_nothing, puts_set, nothing_waiting, same_lane, within, without_in_range}
 use Rattle.chi_line.proofs.Finds.{idle_awaits_nobody, idle_is}
 use Rattle.chi_line.proofs.Asks.{AsksFit, asks_fit, apart, same, has_in, none_in, left_in, length-others, was_in}
 use Rattle.chi_line.proofs.SnoopRows.{length-with_snoops, snooped_at, snooped_cells}
@@ -114,6 +114,7 @@ snooping_kept last s agent request snoop marks may is fit =
       awaited = fit.eight;
       waiting = length-set s.home.waiting agent.0 None ∙ k.waiting;
       in_range = may.here;
+      owner = k.owner;
       lanes = λ m low. ⊎_elim
           (λ (own : m ≡ agent.0). subst (λ n. LaneKept (Snooping agent request.kind request.slot) s.home.filter.unique s.home.filter.owner last n (lane s' n)) (sym own)
           (subst (LaneKept (Snooping agent request.kind request.slot) s.home.filter.unique s.home.filter.owner last agent.0) (sym (snooping_at_own last s agent request snoop marks may fit))
@@ -141,7 +142,7 @@ asking_kept last s agent request snoop may is unnamed =
     let moves = moves_home s agent.0 (record (taken_up s.home agent.0) { serving = Snooping agent request.kind request.slot }) s.flits (record (lane s agent.0) { waiting = None }) refl
     (puts_nothing no_flits s.flits agent.0) (puts_nothing false s.home.filter.named agent.0) (puts_nothing false s.home.awaited agent.0)
     (puts_set nothing_waiting s.home.waiting agent.0 nothing_waiting (within agent.0 _ may.here k.waiting)) in
-    kept_moved last last s _ agent.0 _ moves k may.here
+    kept_moved last last s _ agent.0 _ moves k may.here k.owner
     (asking_own s.home.filter.unique s.home.filter.owner last agent request (lane s agent.0) may.waits (same agent.0) (idle_lanes last s agent request may agent.0 may.here))
     (λ m low other. asking_other s.home.filter.unique s.home.filter.owner last agent request.kind request.slot m (lane s m) (apart agent.0 m other)
     (λ invalidating. unnamed (subst (λ v. invalidates v ≡ true) is invalidating) m low other) (idle_lanes last s agent request may m low))
@@ -193,18 +194,18 @@ completing_kept last s agent request snoop may is nobody =
 
 -- a copy-back: its write data is asked for
 writing_kept : (last : List ℕ) (s : LineState) (agent : Agent) (request : Waiting)
-    → MayStart last s agent request
+    → MayStart last s agent request → is_copy_back request.kind ≡ true
     → Kept last (record s {
       home = record (taken_up s.home agent.0) { serving = AwaitingWriteData agent request.kind request.slot };
       flits = slice_set s.flits agent.0 (record (cells_of s agent.0) { rsp_down = Some CompDBIDResp });
     })
-writing_kept last s agent request may =
+writing_kept last s agent request may back =
     let k = may.kept in
     let c : Cells = record (cells_of s agent.0) { rsp_down = Some CompDBIDResp } in
     let moves = moves_home s agent.0 (record (taken_up s.home agent.0) { serving = AwaitingWriteData agent request.kind request.slot }) _ (record (lane s agent.0) { waiting = None; flits = c }) refl
     (puts_set no_flits s.flits agent.0 c (within agent.0 _ may.here k.flits)) (puts_nothing false s.home.filter.named agent.0) (puts_nothing false s.home.awaited agent.0)
     (puts_set nothing_waiting s.home.waiting agent.0 nothing_waiting (within agent.0 _ may.here k.waiting)) in
-    kept_moved last last s _ agent.0 _ moves k may.here
+    kept_moved last last s _ agent.0 _ moves k (may.here, back) k.owner
     (writing_own s.home.filter.unique s.home.filter.owner last agent request (lane s agent.0) may.waits (same agent.0) (idle_lanes last s agent request may agent.0 may.here))
     (λ m low other. writing_other s.home.filter.unique s.home.filter.owner last agent request.kind request.slot m (lane s m) (apart agent.0 m other) (idle_lanes last s agent request may m low))
     k.flag_means_one (memory_by last s _ agent.0 _ may.here moves k (λ c. c))
@@ -236,7 +237,7 @@ evicting_kept last s agent request may evicts =
     let own : LaneKept Idle f.unique f.owner last agent.0 (lane s agent.0) = idle_lanes last s agent request may agent.0 may.here in
     let none : (lane s agent.0).rn.state ≡ I = allows_evict (lane s agent.0).rn.state
     (subst (λ kind. allows kind (lane s agent.0).rn.state ≡ true) evicts (own.kind_fits request.kind (own.waiting_kind request may.waits))) in
-    kept_moved last last s _ agent.0 _ moves k k.in_range
+    kept_moved last last s _ agent.0 _ moves k k.in_range (without_in_range f.owner agent.0 k.owner)
     (subst (λ v. LaneKept v f'.unique f'.owner last agent.0 x) (sym may.idle)
     (evicting_own f.unique f'.unique f.owner f'.owner last agent.0 request (lane s agent.0) may.waits evicts none (leaves_owner f.owner (owned_by f.owner agent.0) agent.0 refl) own))
     (λ m low other. subst (λ v. LaneKept v f'.unique f'.owner last m (lane s m)) (sym may.idle)
@@ -262,7 +263,7 @@ unserved_kept : (back : Bool) (last : List ℕ) (s : LineState) (agent : Agent) 
     → Kept last (started_parts s agent
     (if back then record (taken_up s.home agent.0) { serving = AwaitingWriteData agent request.kind request.slot } else record (taken_up s.home agent.0) { filter = filter_without s.home.filter agent.0 })
     (if back then Sends (messages.RspDown CompDBIDResp) else Evicted request.slot))
-unserved_kept true last s agent request may unserved is = writing_kept last s agent request may
+unserved_kept true last s agent request may unserved is = writing_kept last s agent request may is
 unserved_kept false last s agent request may unserved is = evicting_kept last s agent request may (is_evict request.kind unserved is)
 
 served_kept : (asked : Bool) (last : List ℕ) (s : LineState) (agent : Agent) (request : Waiting) (snoop : Snoop)

@@ -14,11 +14,11 @@ use Rattle.chi_homeline.specs.declared.serving.Serving.{Serving}
 use Rattle.chi_homeline.specs.declared.serving.Serving.TheVariants.{Idle, AwaitingWriteData}
 use Rattle.chi_homeline.specs.Home.{leaves, written_filter}
 use Rattle.chi_line.specs.LineState.{LineState, rn_of, cells_of}
-use Rattle.chi_line.specs.Coherent.{IsClean, passes_dirty}
+use Rattle.chi_line.specs.Clean.{IsClean, passes_dirty}
 use Rattle.chi_flit.specs.Kind.{gives_up}
-use Rattle.chi_line.specs.Kept.{Lane, LaneKept, Kept, is_unique_dirty, is_write_data, lane, served_kind, writes_for}
+use Rattle.chi_line.specs.Kept.{IsOwnerInRange, Lane, LaneKept, Kept, is_unique_dirty, is_write_data, lane, served_kind, writes_for}
 use Rattle.chi_line.specs.Step.{written_line}
-use Rattle.chi_line.proofs.Frame.{Moves, Puts, kept_moved, memory_by, moves_home, puts_set, puts_nothing, within}
+use Rattle.chi_line.proofs.Frame.{Moves, Puts, kept_moved, memory_by, moves_home, puts_set, puts_nothing, within, without_in_range}
 use Rattle.chi_line.proofs.Asks.{has_in, left_in, was_in}
 use Rattle.chi_line.proofs.Keeps.{not_served}
 use Rattle.chi_line.proofs.CopyKeeps.{AwaitsWrite, awaits_write}
@@ -46,6 +46,7 @@ pub record FilterAfter (f after : FilterState) (n : ℕ) (valid : Bool) : Type 0
   pub named_back : is_named after n ≡ true → is_named f n ≡ true
   pub unowned : owned_by after.owner n ≡ false
   pub owner_stays : (m : ℕ) → m ≢ n → owned_by after.owner m ≡ owned_by f.owner m
+  pub owner_in_range : IsOwnerInRange f.owner → IsOwnerInRange after.owner
 
 and_first : (a b : Bool) → (a && b) ≡ true → a ≡ true
 and_first a b e = grind arith
@@ -61,6 +62,7 @@ removed_after f n valid low eight gone = record {
   named_back = λ named. was_in n n f.named low eight named;
   unowned = unowned_here f.owner n;
   owner_stays = λ m apart. owned_elsewhere f.owner n m apart;
+  owner_in_range = without_in_range f.owner n;
 }
 
 pub unowned_after : (f : FilterState) (n : ℕ) (valid : Bool) → FilterAfter f (record f { owner = owner_without f.owner n }) n valid
@@ -73,6 +75,7 @@ unowned_after f n valid = record {
   named_back = λ named. named;
   unowned = unowned_here f.owner n;
   owner_stays = λ m apart. owned_elsewhere f.owner n m apart;
+  owner_in_range = without_in_range f.owner n;
 }
 
 -- the line once write data is taken, for any memory and filter
@@ -106,7 +109,7 @@ taken_kept last s n form words memory after low here awaits fits clean_memory k 
     let owner = s.home.filter.owner in
     let before : (m : ℕ) → m < 8 → LaneKept (AwaitingWriteData awaits.agent awaits.kind awaits.slot) unique owner last m (lane s m) =
     λ m at. subst (λ v. LaneKept v unique owner last m (lane s m)) awaits.serving_is (k.lanes m at) in
-    kept_moved last last s _ n _ (taken_moves last s n memory after (is_valid (rn_of s n).state) low fits k) k tt
+    kept_moved last last s _ n _ (taken_moves last s n memory after (is_valid (rn_of s n).state) low fits k) k tt (fits.owner_in_range k.owner)
     (write_lane awaits.agent awaits.kind awaits.slot unique after.unique owner after.owner last n (lane s n) form words (is_named after n) here
     fits.named_stays fits.unique_stays fits.unowned (before n low))
     (λ m at apart. write_other awaits.agent awaits.kind awaits.slot unique after.unique owner after.owner last m (lane s m)

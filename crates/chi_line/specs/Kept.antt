@@ -20,22 +20,21 @@ use Rattle.chi_flit.specs.declared.message.RspUp.TheVariants.{SnpRespI, SnpRespS
 use Rattle.chi_flit.specs.declared.message.DatUp.{DatUp}
 use Rattle.chi_flit.specs.declared.message.DatUp.TheVariants.{SnpRespDataIPD, SnpRespDataSCPD, SnpRespDataSD, CopyBackWrData}
 use Rattle.chi_flit.specs.State.{is_valid, is_unique, is_dirty}
-use Rattle.chi_flit.specs.Kind.{gives_up, snoop_of}
+use Rattle.chi_flit.specs.Kind.{gives_up, is_copy_back, snoop_of}
 use Rattle.chi_filter.specs.Filter.{is_in, is_named, owned_by}
 use Rattle.chi_wires.specs.declared.cells.Cells.{Cells}
 use Rattle.chi_rnline.specs.declared.pending.Pending.{Pending}
-use Rattle.chi_rnline.specs.declared.pending.Phase.{Phase}
-use Rattle.chi_rnline.specs.declared.pending.Phase.TheVariants.{Sent, Retried}
 use Rattle.chi_rnline.specs.Rn.{Rn}
 use Rattle.chi_homeline.specs.declared.serving.Waiting.{Waiting}
 use Rattle.chi_homeline.specs.declared.serving.Serving.{Serving}
 use Rattle.chi_homeline.specs.declared.serving.Serving.TheVariants.{Idle, Snooping, AwaitingCompAck, AwaitingWriteData}
 use Rattle.chi_homeline.specs.Home.{acks_for, served_slot, waiting_of}
-pub use Rattle.chi_homeline.specs.Home.{IsServedInRange, served_kind, writes_for}
+pub use Rattle.chi_homeline.specs.Home.{served_kind, writes_for}
 use Rattle.chi_line.specs.LineState.{LineState, rn_of, cells_of}
-use Rattle.chi_line.specs.Coherent.{IsClean, passes_dirty}
+use Rattle.chi_line.specs.Clean.{IsClean, passes_dirty}
 use Rattle.chi_line.specs.Step.{is_ack, pending_slot}
 pub use Rattle.chi_line.specs.Step.{is_dbid, is_write_data}
+pub use Rattle.chi_line.specs.RefusalRows.{is_retried, is_retried_phase}
 
 -- 1 for true: clauses count how many of several things there are
 abbrev pub bit : Bool → ℕ
@@ -46,14 +45,6 @@ bit true = 1
 abbrev pub kind_of : Option Pending → Option Kind
 kind_of None = None
 kind_of (Some request) = Some request.kind
-
-abbrev pub is_retried_phase : Phase → Bool
-is_retried_phase Sent = false
-is_retried_phase Retried = true
-
-abbrev pub is_retried : Option Pending → Bool
-is_retried None = false
-is_retried (Some request) = is_retried_phase request.phase
 
 -- of kinds
 abbrev pub is_read : Kind → Bool
@@ -221,6 +212,18 @@ pub record LaneKept (serving : Serving) (unique : Bool) (owner : Option Agent) (
   pub shared_dirty_owned : x.rn.state ≡ SD → owned_by owner n ≡ false → is_comp_unique x.flits.rsp_down ≡ false
       → is_shared_dirty_data x.flits.dat_up ≡ true
 
+-- the agent that is served is one of the eight, and write data is awaited of a copy-back
+abbrev pub IsServedRight : Serving → Type 0
+IsServedRight Idle = Unit {0}
+IsServedRight (Snooping agent kind slot) = agent.0 < 8
+IsServedRight (AwaitingCompAck agent slot) = agent.0 < 8
+IsServedRight (AwaitingWriteData agent kind slot) = (agent.0 < 8) × (is_copy_back kind ≡ true)
+
+-- the owner is one of the eight
+abbrev pub IsOwnerInRange : Option Agent → Type 0
+IsOwnerInRange None = Unit {0}
+IsOwnerInRange (Some agent) = agent.0 < 8
+
 -- what a line keeps; last are the values last stored to its words
 pub record Kept (last : List ℕ) (s : LineState) : Type 0 where
   pub requesters : length s.requesters ≡ 8
@@ -228,7 +231,8 @@ pub record Kept (last : List ℕ) (s : LineState) : Type 0 where
   pub named : length s.home.filter.named ≡ 8
   pub awaited : length s.home.awaited ≡ 8
   pub waiting : length s.home.waiting ≡ 8
-  pub in_range : IsServedInRange s.home.serving
+  pub in_range : IsServedRight s.home.serving
+  pub owner : IsOwnerInRange s.home.filter.owner
   pub lanes : (n : ℕ) → n < 8 → LaneKept s.home.serving s.home.filter.unique s.home.filter.owner last n (lane s n)
   pub flag_means_one : s.home.filter.unique ≡ true → (n m : ℕ) → n < 8 → m < 8
       → is_named s.home.filter n ≡ true → is_named s.home.filter m ≡ true → n ≡ m

@@ -2,9 +2,9 @@ pub mod LineState
 pub mod Step
 pub mod Refused
 pub mod Snooped
-pub mod Coherent
+pub mod Clean
 pub mod Kept
-pub mod LineStep
+pub mod StepOf
 pub mod View
 pub mod Places
 pub mod Table
@@ -12,3 +12,9 @@ pub mod Types
 pub mod Moves
 pub mod Upshots
 pub mod Traffic
+pub mod Words
+pub mod Protocol
+pub mod Meaning
+pub mod Law
+pub mod RefusalRows
+pub mod Coherence

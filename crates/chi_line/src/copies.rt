@@ -11,7 +11,6 @@ ghost use Rattle.chi_line.specs.Step.{cancelled_line, dropped_line, pending_slot
 ghost use Rattle.chi_line.specs.Upshots.{upshot_with_move, upshot_without_move};
 
 use crate::line::Line;
-use crate::refusals::why_no_store;
 use crate::slots::pending_slot;
 use crate::upshots::Upshot;
 use chi_flit::{Agent, Effect, Refusal, WordNo};
@@ -41,7 +40,6 @@ impl Line {
     /// Refused 3 (Pending) where a request is pending, then 2 (WrongState) where the copy isn't unique, then
     /// 1 (JournalFull) where the journal is `full`; nothing changes then.
     /// Source: `docs/PROTOCOL.md`, "The actions", Store.
-    #[tactic(auto, using(crate::proofs::After::neither))]
     pub(crate) fn store(
         &mut self,
         agent: Agent,
@@ -58,10 +56,10 @@ impl Line {
         ensures err { OnErr result (self.new ≡ self.old) }
     {
         let copy = &mut self.requesters[usize::from(agent.0)];
-        if let Some(refusal) = why_no_store(copy, full) {
-            return Err(refusal);
+        if full {
+            return Err(copy.why_no_store().unwrap_or(Refusal::JournalFull));
         }
-        copy.store(word, value);
+        copy.store(word, value)?;
         Ok(Upshot::without_move(Effect::Nothing))
     }
 

@@ -1,8 +1,8 @@
 //! Why an action is refused, found without doing it.
 
-ghost use Rattle.std.specs.Prelude.{◌≡◌, ◌<◌, Some, if◌then◌else◌, IfOk};
+ghost use Rattle.std.specs.Prelude.{◌≡◌, ◌<◌, Some, false, if◌then◌else◌, slice_index_or};
 ghost use Rattle.std.specs.Option.{option_or};
-ghost use Rattle.chi_flit.specs.Refusal.{refusal_of};
+ghost use Rattle.chi_flit.specs.Credit.{credit_number, credit_type_of};
 ghost use Rattle.chi_flit.specs.declared.refusal.Refusal.TheVariants as refusals;
 ghost use Rattle.chi_rnline.specs.Rn.{issue_refusal, load_refusal, store_refusal};
 ghost use Rattle.chi_line.specs.Refused.{full_if, line_refusal, no_flit_unless, resend_step_refusal, retry_refusal};
@@ -33,7 +33,7 @@ impl Line {
             Step::Admit => no_flit_unless(cells.req.is_some()),
             Step::Retry => why_no_retry(cells.req),
             Step::RecvRetry => no_flit_unless(is_retry(cells.rsp_down)),
-            Step::Resend => to_resend(copy, conditions).err(),
+            Step::Resend => why_no_resend(copy, conditions),
             Step::Cancel => copy.why_no_cancel(),
             Step::Start => self.home.why_no_start(action.agent),
             Step::RecvSnp => no_flit_unless(cells.snp.is_some()),
@@ -58,7 +58,7 @@ fn why_no_load(copy: &RnLine, full: bool) -> Option<Refusal>
 }
 
 /// The refusal of a Store: the copy's, then that of a full journal.
-pub(crate) fn why_no_store(copy: &RnLine, full: bool) -> Option<Refusal>
+fn why_no_store(copy: &RnLine, full: bool) -> Option<Refusal>
     ensures { result ≡ option_or (store_refusal copy.now) (full_if full) }
 {
     match copy.why_no_store() {
@@ -67,17 +67,24 @@ pub(crate) fn why_no_store(copy: &RnLine, full: bool) -> Option<Refusal>
     }
 }
 
-/// The request that a Resend would send: refused by the copy, then where there is no credit of its type.
-pub(crate) fn to_resend(copy: &RnLine, conditions: Conditions) -> Result<Pending, Refusal>
-    ensures refusal { refusal_of result ≡ resend_step_refusal conditions copy.now }
-    ensures request { IfOk result (λ request. copy.now.pending ≡ Some request) }
+/// The refusal of a Resend: the copy's, then that of a request of whose type there is no credit.
+fn why_no_resend(copy: &RnLine, conditions: Conditions) -> Option<Refusal>
+    ensures { result ≡ resend_step_refusal conditions copy.now }
 {
-    let request = copy.to_resend()?;
-    let credit = credit_type(conditions.profile, request.kind);
-    if !conditions.credits[usize::from(credit.number())] {
-        return Err(Refusal::NoCredit);
+    match (copy.why_no_resend(), copy.pending()) {
+        (Some(refusal), _) => Some(refusal),
+        (None, Some(request)) if !has_credit(request, conditions) => Some(Refusal::NoCredit),
+        (None, _) => None,
     }
-    Ok(request)
+}
+
+/// Whether there is a credit of the request's type.
+pub(crate) fn has_credit(request: Pending, conditions: Conditions) -> bool
+    ensures { result
+        ≡ slice_index_or conditions.credits (credit_number (credit_type_of conditions.profile request.kind)) false }
+{
+    let credit = credit_type(conditions.profile, request.kind);
+    conditions.credits[usize::from(credit.number())]
 }
 
 /// The refusal of an Issue: that of a slot that is used, then the copy's.

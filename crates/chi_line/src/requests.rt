@@ -21,7 +21,7 @@ ghost use Rattle.chi_line.specs.declared.seen.Where.TheVariants.{Admitted, Refus
 
 use crate::act::Conditions;
 use crate::line::Line;
-use crate::refusals::to_resend;
+use crate::refusals::has_credit;
 use crate::seen::Where;
 use crate::slots::pending_slot;
 use crate::upshots::Upshot;
@@ -161,8 +161,13 @@ impl Line {
         ensures err { OnErr result (self.new ≡ self.old) }
     {
         let copy = &mut self.requesters[usize::from(agent.0)];
-        let request = to_resend(copy, conditions)?;
-        let message = copy.resend(request);
+        let Some(request) = copy.pending() else {
+            return Err(Refusal::NothingPending);
+        };
+        if !has_credit(request, conditions) {
+            return Err(copy.why_no_resend().unwrap_or(Refusal::NoCredit));
+        }
+        let message = copy.resend()?;
         put(&mut self.flits, agent, message);
         Ok(Upshot::with_move(Some(request.slot), Some(Where::Riding)))
     }
@@ -189,7 +194,7 @@ impl Line {
             (Balances [] (started_flits self.old.home agent (waiting_of self.old.home agent.0)) self.old self.new) }
         ensures err { OnErr result (self.new ≡ self.old) }
     {
-        match self.home.begin(agent)? {
+        match self.home.start(agent)? {
             Begun::Completes(form) => {
                 put_form(&mut self.flits, agent, form, &self.home);
                 Ok(Upshot::without_move(Effect::Nothing))

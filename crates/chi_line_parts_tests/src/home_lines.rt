@@ -24,7 +24,7 @@ fn request(kind: Kind, slot: u8) -> Waiting {
 fn starts(home: &mut HomeLine, agent: u8) -> Result<Begun, Refusal>
     requires { agent < 8 }
 {
-    home.begin(Agent(agent))
+    home.start(Agent(agent))
 }
 
 /// The agent's request of this kind and slot waits from now on.

@@ -17,7 +17,7 @@ use Rattle.chi_node.specs.Requester.{RequesterState, with_port}
 use Rattle.chi_node.proofs.Records.{record_nowhere}
 
 -- another view of the port
-pub ported_agrees : (s : SliceState) (r r' : RequesterState) → r' ≡ with_port r'.port r → Agree s r → Agree s r'
+pub ported_agrees : (s : SliceState) (r r' : RequesterState) → r' ≡ with_port r'.port r'.history r → Agree s r → Agree s r'
 ported_agrees s r r' is a = subst (Agree s) (sym is) (record { slots = a.slots; count = a.count })
 
 -- nothing is shown of a Cancelled slot, and so of an Idle one
@@ -49,5 +49,5 @@ freed_slots s n slots k is matching slot low = ⊎_elim
     (cases_eq slot.0 k)
 
 -- a Cancelled slot becomes Idle
-pub freed_agrees : (s : SliceState) (r r' : RequesterState) (k : ℕ) → state_at r.slots k ≡ Cancelled → r' ≡ record r { port = r'.port; slots = set r.slots k idle_slot } → Agree s r → Agree s r'
+pub freed_agrees : (s : SliceState) (r r' : RequesterState) (k : ℕ) → state_at r.slots k ≡ Cancelled → r' ≡ record r { port = r'.port; history = r'.history; slots = set r.slots k idle_slot } → Agree s r → Agree s r'
 freed_agrees s r r' k cancelled is a = subst (Agree s) (sym is) (record { slots = freed_slots s r.number r.slots k cancelled a.slots; count = a.count })

@@ -15,7 +15,7 @@ use Rattle.chi_tracker.specs.Sums.{below, set_at, one_more, with_bit, without_bi
 use Rattle.chi_tracker.specs.Shape.{low, size}
 use Rattle.chi_tracker.specs.Views.{PortView, has}
 use Rattle.chi_tracker.specs.Calls.{saw_all, seen_of, set_count}
-use Rattle.chi_tracker.proofs.Adding.{raised_else, raised_here}
+use Rattle.chi_tracker.proofs.Addition.{raised_else, raised_here}
 use Rattle.chi_tracker.proofs.Entries.{credit_below, low_up}
 use Rattle.chi_tracker.proofs.BitLaws.{with_here, with_else, dropped_here, dropped_else}
 use Rattle.chi_credit.specs.Slot.{is_due_of}

@@ -1,4 +1,5 @@
 pub mod Keeps
+pub mod Histories
 pub mod Openings
 pub mod Matches
 pub mod AgreeRows
@@ -10,3 +11,10 @@ pub mod StepCalls
 pub mod CallArrivals
 pub mod OpeningAgrees
 pub mod CreditCalls
+pub mod Homes
+pub mod Systems
+pub mod Changed
+pub mod Credits
+pub mod Headlines
+pub mod Nodes
+pub mod Ports

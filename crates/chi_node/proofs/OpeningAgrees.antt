@@ -15,7 +15,7 @@ use Rattle.chi_credit.specs.declared.slot.SlotRecord.{SlotRecord}
 use Rattle.chi_credit.specs.Slot.{idle_slot}
 use Rattle.chi_credit.specs.Account.{all_idle, slot_at}
 use Rattle.chi_node.specs.Agree.{Agree, where_of_record}
-use Rattle.chi_node.specs.Parts.{AllAgree}
+use Rattle.chi_node.specs.Parts.{AgreeAtOpening}
 use Rattle.chi_node.specs.Requester.{opening_requester}
 use Rattle.chi_node.proofs.CreditCalls.{not_shown}
 use Rattle.chi_node.proofs.Records.{record_nowhere}
@@ -48,5 +48,5 @@ opening_agrees config table shape index number limits inside near =
       count = get_or-replicate 8 index 0 0 first;
     }
 
-pub all_agree : (config : Sizes) (table : TableId) (shape : Shape) → are_in_limits config ≡ true → AllAgree config table shape
+pub all_agree : (config : Sizes) (table : TableId) (shape : Shape) → are_in_limits config ≡ true → AgreeAtOpening config table shape
 all_agree config table shape limits = record { agree = λ index number inside near. opening_agrees config table shape index number limits inside near }

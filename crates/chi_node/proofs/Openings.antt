@@ -1,12 +1,12 @@
 -- A new node: its sizes fit the tracker, and its ports are those of its requesters.
-use Rattle.std.proofs.Common.{◌≡◌, ℕ, zero, suc, ◌+◌, ◌-◌, ◌<◌, ◌≤◌, List, [], ◌∷◌, nat_le, nat_lt, true, ap, ◌∙◌, arith}
+use Rattle.std.proofs.Common.{◌≡◌, ℕ, zero, suc, ◌+◌, ◌-◌, ◌<◌, ◌≤◌, List, [], ◌∷◌, nat_le, nat_lt, true, length, refl, ap, ◌∙◌, arith}
 use Rattle.std.proofs.lemmas.Bool.Decides.{nat_tests}
 use Rattle.std.specs.List.{remove, slice_index_or}
 use Rattle.atomic_table.specs.Seated.{TableId}
 use Rattle.chi_flit.specs.declared.credit.Profile.{Profile}
 use Rattle.chi_flit.specs.declared.credit.Profile.TheVariants.{Two, Four}
 use Rattle.chi_tracker.specs.declared.shape.Shape.{Shape}
-use Rattle.chi_tracker.specs.Shape.{low, size}
+use Rattle.chi_tracker.specs.Shape.{low, size, IsShape}
 use Rattle.chi_tracker.specs.Views.{new_port, new_ports}
 use Rattle.chi_tracker.specs.Calls.{Owner, owners, shape_of}
 use Rattle.chi_config.specs.Config.{Sizes, are_entries, are_in_limits, is_between, is_slice_count}
@@ -48,12 +48,21 @@ pub few_agents : (config : Sizes) → are_in_limits config ≡ true → (0 < con
 few_agents config h = let l : InLimits config = in_limits config h in (omega (arith, l.some_agent), l.agents)
 
 -- the first of the ports that are left
-pub owners_next : (z : TableId) (s : Shape) (n a : ℕ) → n < a → owners z (new_ports s n (a - n)) ≡ record { table = z; port = new_port s n } ∷ owners z (new_ports s (n + 1) (a - (n + 1)))
+pub owners_next : (z : TableId) (s : Shape) (n a : ℕ) → n < a → owners z (new_ports s n (a - n)) ≡ record { table = z; port = new_port s n; history = [] } ∷ owners z (new_ports s (n + 1) (a - (n + 1)))
 owners_next z s n a l = ap (λ k. owners z (new_ports s n k)) (let h : a - n ≡ suc (a - (n + 1)) = omega arith in h)
 
 -- it is taken, and the others are left
-pub first_port : (z : TableId) (s : Shape) (n a : ℕ) (os : List Owner) (o : Owner) → n < a → os ≡ owners z (new_ports s n (a - n)) → o ≡ slice_index_or os 0 o → o ≡ record { table = z; port = new_port s n }
+pub first_port : (z : TableId) (s : Shape) (n a : ℕ) (os : List Owner) (o : Owner) → n < a → os ≡ owners z (new_ports s n (a - n)) → o ≡ slice_index_or os 0 o → o ≡ record { table = z; port = new_port s n; history = [] }
 first_port z s n a os o l is first = first ∙ ap (λ (xs : List Owner). slice_index_or xs 0 o) (is ∙ owners_next z s n a l)
 
 pub left_ports : (z : TableId) (s : Shape) (n a : ℕ) (os left : List Owner) → n < a → os ≡ owners z (new_ports s n (a - n)) → left ≡ remove os 0 → left ≡ owners z (new_ports s (n + 1) (a - (n + 1)))
 left_ports z s n a os left l is cut = cut ∙ ap (λ (xs : List Owner). remove xs 0) (is ∙ owners_next z s n a l)
+
+-- the tracker's shape
+four : (profile : Profile) (entries : List ℕ) → are_entries profile entries ≡ true → length entries ≡ 4
+four Two (t0 ∷ t1 ∷ t2 ∷ t3 ∷ []) h = refl
+four Four (t0 ∷ t1 ∷ t2 ∷ t3 ∷ []) h = refl
+four profile other h = absurd (cc (h))
+
+pub opening_shaped : (config : Sizes) → are_in_limits config ≡ true → IsShape (shape_of config.entries config.agents)
+opening_shaped config h = let agents = few_agents config h in (four config.profile config.entries (limits_of config h), few_entries config h, agents.0, agents.1)

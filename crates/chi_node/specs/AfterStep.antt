@@ -11,12 +11,14 @@ use Rattle.chi_flit.specs.Credit.{credit_type_of}
 use Rattle.chi_tracker.specs.declared.released.Released.{Released}
 use Rattle.chi_tracker.specs.Views.{has}
 use Rattle.chi_tracker.specs.Calls.{seen_of, EndedAsItsType, HasSameCredits}
+use Rattle.chi_tracker.specs.Shape.{IsOf}
+use Rattle.chi_tracker.specs.Conduct.{ReleaseActs}
 use Rattle.chi_credit.specs.declared.slot.SlotState.TheVariants.{Admitted, Idle, Refused, Retried, Riding, Cancelled}
 use Rattle.chi_credit.specs.declared.slot.SlotRecord.{SlotRecord}
 use Rattle.chi_credit.specs.Slot.{after_answer, after_finish, can_be_answered, in_state, is_admitted, opened_slot}
 use Rattle.chi_credit.specs.Account.{riding_of, slot_at, state_at, type_at}
 use Rattle.chi_node.specs.declared.steps.StepPlace.{StepPlace}
-use Rattle.chi_node.specs.Requester.{RequesterState, with_both}
+use Rattle.chi_node.specs.Requester.{Acted, RequesterState, with_both}
 
 -- the record of a slot changes, if there is one
 abbrev pub changed_at : Option Slot → (SlotRecord → SlotRecord) → List SlotRecord → List SlotRecord
@@ -71,7 +73,9 @@ pub record Completes (s : ℕ) (released : Released) (old new : RequesterState) 
   pub ended : (e : Entry) × (state_at old.slots s ≡ Admitted e) × EndedAsItsType old.port e.0 released new.port
   pub held : (e : Entry) → state_at old.slots s ≡ Admitted e → has e.0 old.port ≡ 1
   pub credits : HasSameCredits old.port new.port
-  pub after : new ≡ with_both new.port (slice_set old.slots s (after_finish (slot_at old.slots s))) old
+  pub after : new ≡ with_both new.port new.history (slice_set old.slots s (after_finish (slot_at old.slots s))) old
+  pub acted : (e : Entry) × (state_at old.slots s ≡ Admitted e) × (t : ℕ) × (t < 4) × IsOf old.port.shape t e.0
+      × Acted (ReleaseActs old.port.shape.agents t e.0 released) old new
 
 -- when a step of this effect can be followed, and what it leaves and answers
 abbrev pub CanFinish : StepPlace → Step → Effect → RequesterState → Type 0

@@ -1,6 +1,6 @@
 -- When a requester agrees with a slice: what the slice shows of each of its slots is what the account says of
 -- it, and the slice answered as many loads and stores as were counted (docs/PROTOCOL.md, "Agreement").
-use Rattle.std.specs.Prelude.{◌≡◌, ◌≢◌, ℕ, ◌<◌, Bool, true, Option, Some, None, is_some, length, slice_index, ◌==◌, ◌&&◌, if◌then◌else◌}
+use Rattle.std.specs.Prelude.{◌≡◌, ◌≢◌, ℕ, ◌<◌, Bool, true, List, All, Option, Some, None, is_some, length, slice_index, ◌==◌, ◌&&◌, if◌then◌else◌}
 use Rattle.chi_flit.specs.declared.credit.Profile.{Profile}
 use Rattle.chi_flit.specs.declared.numbers.Slot.{Slot}
 use Rattle.chi_journal.specs.Journal.{part_of}
@@ -53,6 +53,10 @@ is_said_in s x = is_some (where_of_state x.state x.answered) && is_line_in_range
 pub record Agree (s : SliceState) (r : RequesterState) : Type 0 where
   pub slots : (slot : Slot) → slot.0 < 8 → MatchesRecord s r.number slot (slot_at r.slots slot.0)
   pub count : slice_index r.counts s.index ≡ length (part_of s.journal.entries r.number)
+
+-- each requester agrees with each slice
+abbrev pub AllAgree : List SliceState → List RequesterState → Type 0
+AllAgree slices requesters = All (λ s. All (Agree s) requesters) slices
 
 -- what a call leaves of agreement: a requester that agreed with the slice agrees still, so does each other
 -- requester, and with the node's other slices the requester agrees as before

@@ -1,6 +1,6 @@
 -- The calls for a whole requester on a slice: when they are refused, and what they leave (docs/PROTOCOL.md,
 -- "A requester and its calls").
-use Rattle.std.specs.Prelude.{◌≡◌, ◌≢◌, ◌+◌, ◌++◌, ◌∷◌, [], slice_index, ◌≤◌, ℕ, ◌⊎◌, Bool, false}
+use Rattle.std.specs.Prelude.{◌≡◌, ◌≢◌, ◌+◌, ◌++◌, ◌∷◌, [], slice_index, ◌≤◌, ℕ, ◌⊎◌, Bool, false, Result, IfOk, OnErr, OnOk}
 use Rattle.std.specs.Option.{option_or}
 use Rattle.std.specs.Prelude.{nat_lt, List, Option, Some, None, true, length, replicate, is_some, if◌then◌else◌}
 use Rattle.chi_flit.specs.declared.action.Action.{Action}
@@ -31,9 +31,9 @@ use Rattle.chi_node.specs.declared.answers.Arrived.{Arrived}
 use Rattle.chi_node.specs.declared.answers.Arrived.TheVariants.{Admitted, Retried}
 use Rattle.chi_node.specs.declared.answers.Stepped.{Stepped}
 use Rattle.chi_node.specs.declared.steps.StepPlace.{StepPlace}
-use Rattle.chi_node.specs.Requester.{RequesterKept, RequesterState}
+use Rattle.chi_node.specs.Requester.{IsRunning, RequesterKept, RequesterState}
 use Rattle.chi_node.specs.Terms.{is_taken}
-use Rattle.chi_node.specs.Agree.{Agree}
+use Rattle.chi_node.specs.Agree.{Agree, KeepsAgreement}
 use Rattle.chi_node.specs.Arrives.{Arrives}
 use Rattle.chi_node.specs.AfterStep.{Finishes}
 
@@ -74,6 +74,7 @@ place_at s action = record { line = action.line; index = s.index; profile = s.co
 -- what a step that is done leaves of the slice and of its requester, and what is answered
 pub record StepsTo (s s' : SliceState) (action : Action) (r r' : RequesterState) (stepped : Stepped) : Type 0 where
   pub slice : s' ≡ slice_after s action
+  pub step : IsStep s action stepped.effect s'
   pub effect : stepped.effect ≡ effect_of (line s action.line.0) action
   pub requester : Finishes (place_at s action) action.step stepped.effect stepped.released r r'
 
@@ -134,6 +135,7 @@ pub record CanArriveOn (s : SliceState) (r : RequesterState) (l : Line) (request
 -- what an arrival leaves of the slice and of its requester
 pub record ArrivesOn (s s' : SliceState) (l : Line) (r r' : RequesterState) (arrived : Arrived) : Type 0 where
   pub slice : s' ≡ slice_after s (arrival_action r.number l arrived)
+  pub step : IsArrivalStep s s' r.number l arrived
   pub requester : ArrivesAt (cells_of (line s l.0) r.number).req arrived r r'
 
 -- a requester stays that of its number and of its tracker
@@ -158,3 +160,24 @@ pub record CountsStep (s s' : SliceState) (action : Action) (r r' : RequesterSta
   pub place : slice_index r'.counts s.index ≡ length (part_of s'.journal.entries r.number)
   pub others : (other : ℕ) → other ≢ s.index → slice_index r'.counts other ≡ slice_index r.counts other
   pub legal : IsLegal s'.journal.entries
+
+-- what a call leaves, whatever it answers: whoever agreed with the slice agrees with it still, slice and
+-- requester stay those of their node, and the port is one that a legal history leaves
+pub record StaysOpen (s s' : SliceState) (r r' : RequesterState) : Type 0 where
+  pub agreement : KeepsAgreement s s' r r'
+  pub same : IsSameRequester r r'
+  pub slice : IsSameSlice s s'
+  pub running : IsRunning r → IsRunning r'
+
+-- an arrival did this, or it was refused and nothing changed
+pub record DoesArrival (s s' : SliceState) (l : Line) (r r' : RequesterState) (result : Result Arrived Refusal) : Type 0 where
+  pub ok : IfOk result (λ arrived. ArrivesOn s s' l r r' arrived)
+  pub err : OnErr result ((s' ≡ s) × (r' ≡ r))
+  pub kept : StaysOpen s s' r r'
+
+-- and a step
+pub record DoesStep (s s' : SliceState) (action : Action) (r r' : RequesterState) (result : Result Stepped Refusal) : Type 0 where
+  pub ok : IfOk result (λ stepped. StepsTo s s' action r r' stepped)
+  pub history : OnOk result (CountsStep s s' action r r')
+  pub err : OnErr result ((s' ≡ s) × (r' ≡ r))
+  pub kept : StaysOpen s s' r r'

@@ -6,3 +6,9 @@ pub mod Agree
 pub mod Table
 pub mod Terms
 pub mod Calls
+pub mod Credits
+pub mod Home
+pub mod System
+pub mod Headline
+pub mod Locked
+pub mod Node

@@ -38,5 +38,5 @@ abbrev pub HasOwnTypes : Sizes → Shape → Type 0
 HasOwnTypes config shape = (t : ℕ) → t < 4 → nat_lt 0 (size shape t) ≡ is_of_profile config.profile t
 
 -- each requester of a node in its opening state agrees with each of its slices
-pub record AllAgree (config : Sizes) (table : TableId) (shape : Shape) : Type 0 where
+pub record AgreeAtOpening (config : Sizes) (table : TableId) (shape : Shape) : Type 0 where
   pub agree : (index number : ℕ) → index < config.slices → number < config.agents → Agree (opening_slice config index) (opening_requester table shape number)

@@ -1,6 +1,6 @@
--- A requester: its port and its account, and why its calls are refused (docs/PROTOCOL.md, "A requester and
--- its calls").
-use Rattle.std.specs.Prelude.{◌≡◌, ℕ, ◌<◌, ◌≤◌, List, Bool, ◌&&◌, nat_lt, Option, Some, None, length, replicate, slice_index, slice_set, ◌+◌, if◌then◌else◌}
+-- A requester: its port and its account, what its calls of the port did, and why they are refused
+-- (docs/PROTOCOL.md, "A requester and its calls").
+use Rattle.std.specs.Prelude.{◌≡◌, ℕ, ◌<◌, ◌≤◌, List, [], Bool, ◌&&◌, nat_lt, Option, Some, None, length, replicate, slice_index, slice_set, ◌+◌, if◌then◌else◌}
 use Rattle.atomic_table.specs.Seated.{TableId}
 use Rattle.chi_flit.specs.declared.refusal.Refusal.{Refusal}
 use Rattle.chi_flit.specs.declared.refusal.Refusal.TheVariants.{OutOfRange, NoCredit}
@@ -9,18 +9,22 @@ use Rattle.chi_tracker.specs.Shape.{low, size}
 use Rattle.chi_tracker.specs.Views.{PortView, has, new_port}
 use Rattle.chi_tracker.specs.declared.released.Released.{Released}
 use Rattle.chi_tracker.specs.Steps.{no_shape, returns_credit}
-use Rattle.chi_tracker.specs.Calls.{nowhere, seen_of, Ended, HasSameCredits, IsLowestSeen}
+use Rattle.chi_tracker.specs.Acts.{Act}
+use Rattle.chi_tracker.specs.History.{IsAfter}
+use Rattle.chi_tracker.specs.Conduct.{Does, Steps}
+use Rattle.chi_tracker.specs.Calls.{nowhere, seen_of, Ended, HasSameCredits, IsLowestSeen, Owner}
 use Rattle.chi_credit.specs.declared.slot.SlotRecord.{SlotRecord}
 use Rattle.chi_credit.specs.declared.slot.SlotState.TheVariants.{Cancelled}
 use Rattle.chi_credit.specs.Slot.{idle_slot}
 use Rattle.chi_credit.specs.Account.{all_idle, lowest_cancelled, riding_of, state_at, HasDue, HasEntries, IsWithinSeen}
 
--- a requester: its number, which tracker's its port is, the port's view, its eight slots, and how many
--- loads and stores each slice answered it
+-- a requester: its number, which tracker's its port is, the port's view, the tracker's history up to the
+-- port's last step, its eight slots, and how many loads and stores each slice answered it
 pub record RequesterState : Type 0 where
   pub number : ℕ
   pub table : TableId
   pub port : PortView
+  pub history : List Act
   pub slots : List SlotRecord
   pub counts : List ℕ
 
@@ -41,23 +45,37 @@ pub record RequesterKept (entries : List ℕ) (r : RequesterState) : Type 0 wher
 
 -- a requester that has done nothing yet
 abbrev pub opening_requester : TableId → Shape → ℕ → RequesterState
-opening_requester table shape n = record { number = n; table = table; port = new_port shape n; slots = all_idle; counts = replicate 8 0 }
+opening_requester table shape n = record { number = n; table = table; port = new_port shape n; history = []; slots = all_idle; counts = replicate 8 0 }
 
 -- a requester of no tracker
 abbrev pub no_requester : RequesterState
 no_requester = opening_requester nowhere no_shape 0
 
--- the port's view becomes another one, and all else stays
-abbrev pub with_port : PortView → RequesterState → RequesterState
-with_port port r = record r { port = port }
+-- a requester's port, as the tracker sees it
+abbrev pub owner : RequesterState → Owner
+owner r = record { table = r.table; port = r.port; history = r.history }
+
+-- what the requester knows of the tracker: a legal history leaves its port as it is
+abbrev pub IsRunning : RequesterState → Type 0
+IsRunning r = IsAfter r.history r.port
+
+-- Calls of a requester's port: a legal history of the tracker leaves the port as it is then, and in it the
+-- requester did steps of which A holds, and no others.
+pub record Acted (A : Steps → Type 0) (r r' : RequesterState) : Type 0 where
+  pub running : IsRunning r'
+  pub acts : Does (owner r) A (owner r')
+
+-- the port's view and the history that it knows become others, and all else stays
+abbrev pub with_port : PortView → List Act → RequesterState → RequesterState
+with_port port history r = record r { port = port; history = history }
 
 -- the slots become others, and all else stays
 abbrev pub with_slots : List SlotRecord → RequesterState → RequesterState
 with_slots slots r = record r { slots = slots }
 
--- both become others, and all else stays
-abbrev pub with_both : PortView → List SlotRecord → RequesterState → RequesterState
-with_both port slots r = record r { port = port; slots = slots }
+-- port, history and slots become others, and all else stays
+abbrev pub with_both : PortView → List Act → List SlotRecord → RequesterState → RequesterState
+with_both port history slots r = record r { port = port; history = history; slots = slots }
 
 -- one more load or store was answered by the slice of that index
 abbrev pub with_count : ℕ → RequesterState → RequesterState
@@ -67,9 +85,9 @@ with_count index r = record r { counts = slice_set r.counts index (slice_index r
 abbrev pub HasCancelled : RequesterState → ℕ → Type 0
 HasCancelled r t = state_at r.slots (lowest_cancelled r.slots t) ≡ Cancelled
 
--- it becomes Idle, and the port's view another one
-abbrev pub without_cancelled : ℕ → PortView → RequesterState → RequesterState
-without_cancelled t port r = with_both port (slice_set r.slots (lowest_cancelled r.slots t) idle_slot) r
+-- it becomes Idle, and the port's view and history others
+abbrev pub without_cancelled : ℕ → PortView → List Act → RequesterState → RequesterState
+without_cancelled t port history r = with_both port history (slice_set r.slots (lowest_cancelled r.slots t) idle_slot) r
 
 -- the lowest seen credit of type t, whose entry wasn't in hand, is returned, and that entry released
 abbrev pub ReturnsCredit : ℕ → Released → RequesterState → RequesterState → Type 0

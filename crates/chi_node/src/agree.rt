@@ -5,7 +5,7 @@ ghost use Rattle.chi_journal.specs.Journal.{part_of};
 ghost use Rattle.chi_credit.specs.Account.{slot_at};
 ghost use Rattle.chi_slice.specs.Slice.{SliceKept};
 ghost use Rattle.chi_node.specs.Requester.{RequesterKept};
-ghost use Rattle.chi_node.specs.Agree.{is_said_in, said_place, where_of_state, Agree, MatchesRecord};
+ghost use Rattle.chi_node.specs.Agree.{is_said_in, said_place, where_of_state, Agree, AllAgree, MatchesRecord};
 ghost use Rattle.chi_node.specs.Table.{AgreeByTable};
 
 use crate::requester::Requester;
@@ -42,6 +42,17 @@ pub fn agree_with<A: Allocator>(slice: &Slice<A>, requesters: &[Requester]) -> b
     let mut found = true;
     for requester in requesters {
         found &= agrees(slice, requester);
+    }
+    found
+}
+
+/// Whether each requester agrees with each slice.
+pub(crate) fn all_agree<A: Allocator>(slices: &[Slice<A>], requesters: &[Requester]) -> bool
+    ensures { IsTrue result ↔ AllAgree slices.now requesters.now }
+{
+    let mut found = true;
+    for slice in slices {
+        found &= agree_with(slice, requesters);
     }
     found
 }

@@ -8,8 +8,10 @@ ghost use Rattle.chi_tracker.specs.Steps.{spends};
 ghost use Rattle.chi_tracker.specs.Calls.{into_hand, owed_one, port_after_scan, Ended, HasSameCredits, IsLowestSeen};
 ghost use Rattle.chi_credit.specs.Slot.{after_finish, is_admitted};
 ghost use Rattle.chi_credit.specs.Account.{slots_with_state, slot_at, state_at, type_at};
-ghost use Rattle.chi_node.specs.Arrives.{Arrives, CanArrive};
-ghost use Rattle.chi_node.specs.Requester.{with_both};
+ghost use Rattle.chi_tracker.specs.declared.step.Step.TheVariants.{Spend};
+ghost use Rattle.chi_tracker.specs.Conduct.{One, ReleaseActs};
+ghost use Rattle.chi_node.specs.Arrives.{AdmissionActs, Arrives, CanArrive, RetryActs};
+ghost use Rattle.chi_node.specs.Requester.{with_both, Acted};
 
 use crate::answers::Arrived;
 use crate::requester::Requester;
@@ -39,14 +41,18 @@ impl Requester {
         ensures some { IfSome result (λ e. self.new ≡ with_both
             (into_hand e.0 (port_after_scan (type_at self.old.slots slot.0)
             (e.0 - low self.old.port.shape (type_at self.old.slots slot.0)) self.old.port))
-            (slots_with_state self.old.slots slot.0 (SlotState.Admitted e)) self.old) }
+            self.new.history (slots_with_state self.old.slots slot.0 (SlotState.Admitted e)) self.old) }
         ensures found { IfNone result
             ((e : ℕ) → IsOf self.old.port.shape (type_at self.old.slots slot.0) e
             → bit_at self.new.port.found e ≡ 1) }
         ensures none { IfNone result (self.new ≡ with_both
             (owed_one (type_at self.old.slots slot.0) (port_after_scan (type_at self.old.slots slot.0)
             (size self.old.port.shape (type_at self.old.slots slot.0)) self.old.port))
-            (slots_with_state self.old.slots slot.0 SlotState.Refused) self.old) }
+            self.new.history (slots_with_state self.old.slots slot.0 SlotState.Refused) self.old) }
+        ensures admitted { IfSome result (λ e. Acted
+            (AdmissionActs self.old.port (type_at self.old.slots slot.0) e.0) self.old self.new) }
+        ensures retried { IfNone result
+            (Acted (RetryActs self.old.port (type_at self.old.slots slot.0)) self.old self.new) }
     {
         let ty = self.account.slot(slot).credit;
         let claimed = self.port.claim(tracker, ty);
@@ -72,7 +78,9 @@ impl Requester {
         ensures held { has result.0 self.old.port ≡ 0 }
         ensures after { self.new
             ≡ with_both (spends (type_at self.old.slots slot.0) result.0 self.old.port)
-            (slots_with_state self.old.slots slot.0 (SlotState.Admitted result)) self.old }
+            self.new.history (slots_with_state self.old.slots slot.0 (SlotState.Admitted result)) self.old }
+        ensures acted { Acted (One (Spend (type_at self.old.slots slot.0) result.0))
+            self.old self.new }
     {
         self.account.arrive(slot, tracker, &mut self.port)
     }
@@ -112,7 +120,11 @@ impl Requester {
         ensures held { (e : Entry) → state_at self.old.slots slot.0 ≡ SlotState.Admitted e
             → has e.0 self.old.port ≡ 1 }
         ensures credits { HasSameCredits self.old.port self.new.port }
-        ensures after { self.new ≡ with_both self.new.port
+        ensures acted { (e : Entry) × (state_at self.old.slots slot.0 ≡ SlotState.Admitted e)
+            × (t : ℕ) × (t < 4) × IsOf self.old.port.shape t e.0
+            × Acted (ReleaseActs self.old.port.shape.agents t e.0 result)
+            self.old self.new }
+        ensures after { self.new ≡ with_both self.new.port self.new.history
             (slice_set self.old.slots slot.0 (after_finish (slot_at self.old.slots slot.0))) self.old }
     {
         let entry = self.account.finished(slot);

@@ -1,12 +1,11 @@
 //! The calls for a whole requester on a slice: an arrival of its request, and a step.
 
-ghost use Rattle.std.specs.Prelude.{◌≡◌, true, IfOk, OnErr, OnOk};
+ghost use Rattle.std.specs.Prelude.{◌≡◌, true, IfOk};
 ghost use Rattle.chi_flit.specs.Refusal.{refusal_of};
-ghost use Rattle.chi_node.specs.Agree.{Agree, KeepsAgreement};
+ghost use Rattle.chi_node.specs.Agree.{Agree};
 ghost use Rattle.chi_node.specs.Calls.{arrival_refusal, arrival_step, call_refusal, is_own_step};
-ghost use Rattle.chi_node.specs.Calls.{ArrivesOn, BothKept, CanArriveOn, CountsStep, IsArrivalRefusal, IsArrivalStep, IsSameRequester, IsSameSlice, IsStepRefusal, StepsTo};
+ghost use Rattle.chi_node.specs.Calls.{BothKept, CanArriveOn, DoesArrival, DoesStep, IsArrivalRefusal, IsStepRefusal};
 ghost use Rattle.chi_node.specs.Parts.{HasTypes};
-ghost use Rattle.chi_slice.specs.Slice.{IsStep};
 
 use crate::agree::agrees;
 use crate::answers::{Arrived, Stepped};
@@ -37,14 +36,7 @@ pub fn arrive_on<A: Allocator, B: Allocator>(
     requires table { requester.old.table ≡ tracker.now.table }
     requires types { HasTypes slice.old.config requester.old.port.shape }
     ensures refusal { IsArrivalRefusal slice.old requester.old line.0 (refusal_of result) }
-    ensures ok { IfOk result
-        (λ arrived. ArrivesOn slice.old slice.new line requester.old requester.new arrived) }
-    ensures step { IfOk result
-        (λ arrived. IsArrivalStep slice.old slice.new requester.old.number line arrived) }
-    ensures err { OnErr result ((slice.new ≡ slice.old) × (requester.new ≡ requester.old)) }
-    ensures agreement { KeepsAgreement slice.old slice.new requester.old requester.new }
-    ensures same { IsSameRequester requester.old requester.new }
-    ensures slice { IsSameSlice slice.old slice.new }
+    ensures call { DoesArrival slice.old slice.new line requester.old requester.new result }
 {
     if agrees(slice, requester) {
         return arrive_agreed(slice, tracker, requester, line);
@@ -69,14 +61,7 @@ pub fn arrive_agreed<A: Allocator, B: Allocator>(
     requires types { HasTypes slice.old.config requester.old.port.shape }
     requires agrees { Agree slice.old requester.old }
     ensures refusal { refusal_of result ≡ arrival_refusal slice.old requester.old.number line.0 }
-    ensures ok { IfOk result
-        (λ arrived. ArrivesOn slice.old slice.new line requester.old requester.new arrived) }
-    ensures step { IfOk result
-        (λ arrived. IsArrivalStep slice.old slice.new requester.old.number line arrived) }
-    ensures err { OnErr result ((slice.new ≡ slice.old) × (requester.new ≡ requester.old)) }
-    ensures agreement { KeepsAgreement slice.old slice.new requester.old requester.new }
-    ensures same { IsSameRequester requester.old requester.new }
-    ensures slice { IsSameSlice slice.old slice.new }
+    ensures call { DoesArrival slice.old slice.new line requester.old requester.new result }
 {
     let request = arrival(slice, requester, line)?;
     let agent = requester.number();
@@ -135,14 +120,7 @@ pub fn step_on<A: Allocator, B: Allocator>(
     requires agent { action.agent.0 ≡ requester.old.number }
     requires step { is_own_step action.step ≡ true }
     ensures refusal { IsStepRefusal slice.old requester.old action (refusal_of result) }
-    ensures ok { IfOk result
-        (λ stepped. StepsTo slice.old slice.new action requester.old requester.new stepped) }
-    ensures step { IfOk result (λ stepped. IsStep slice.old action stepped.effect slice.new) }
-    ensures err { OnErr result ((slice.new ≡ slice.old) × (requester.new ≡ requester.old)) }
-    ensures agreement { KeepsAgreement slice.old slice.new requester.old requester.new }
-    ensures same { IsSameRequester requester.old requester.new }
-    ensures slice { IsSameSlice slice.old slice.new }
-    ensures history { OnOk result (CountsStep slice.old slice.new action requester.old requester.new) }
+    ensures call { DoesStep slice.old slice.new action requester.old requester.new result }
 {
     if agrees(slice, requester) {
         return step_agreed(slice, tracker, requester, action);
@@ -169,14 +147,7 @@ pub fn step_agreed<A: Allocator, B: Allocator>(
     requires step { is_own_step action.step ≡ true }
     requires agrees { Agree slice.old requester.old }
     ensures refusal { refusal_of result ≡ call_refusal slice.old requester.old action }
-    ensures ok { IfOk result
-        (λ stepped. StepsTo slice.old slice.new action requester.old requester.new stepped) }
-    ensures step { IfOk result (λ stepped. IsStep slice.old action stepped.effect slice.new) }
-    ensures err { OnErr result ((slice.new ≡ slice.old) × (requester.new ≡ requester.old)) }
-    ensures agreement { KeepsAgreement slice.old slice.new requester.old requester.new }
-    ensures same { IsSameRequester requester.old requester.new }
-    ensures slice { IsSameSlice slice.old slice.new }
-    ensures history { OnOk result (CountsStep slice.old slice.new action requester.old requester.new) }
+    ensures call { DoesStep slice.old slice.new action requester.old requester.new result }
 {
     let terms = requester.terms(action.step);
     keeps(slice, requester);

@@ -1,6 +1,9 @@
-//! Requesters and what they do at a node: a requester with its port to the tracker of entries and its
-//! account of the requests in its slots, the parts of a node in its opening state, whether a requester
-//! agrees with a slice, and arrivals and steps of a requester on a slice.
+//! A node: requesters and what they do at slices, and the node as a whole, on one thread and behind locks.
+//!
+//! A requester has its port to the tracker of entries and its account of the requests in its slots
+//! (`Requester`); `arrive_on` and `step_on` do its arrivals and its steps on a slice that they are lent.
+//! `System` has the slices, the tracker and the requesters of a node as one value, for one thread; `Node` has
+//! each slice behind a lock of its own, for many. Only `Node::lock`, `arrive` and `step` may wait.
 //!
 //! Source: `docs/PROTOCOL.md`, "A requester and its calls".
 #![tactic(auto)]
@@ -9,14 +12,21 @@ mod agree;
 mod answers;
 mod arrivals;
 mod calls;
+mod closing;
+mod coherence;
 mod moves;
+mod node;
 mod opening;
+mod own;
 mod requester;
 mod steps;
+mod system;
 mod terms;
 
 pub use agree::{agree_with, agrees};
 pub use answers::{Arrived, Stepped};
 pub use calls::{arrive_agreed, arrive_on, step_agreed, step_on};
+pub use node::Node;
 pub use opening::parts;
 pub use requester::Requester;
+pub use system::System;

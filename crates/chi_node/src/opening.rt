@@ -3,7 +3,7 @@
 ghost use Rattle.std.specs.Prelude.{◌≡◌, true, IfOk};
 ghost use Rattle.chi_tracker.specs.Calls.{shape_of};
 ghost use Rattle.chi_config.specs.Config.{are_in_limits};
-ghost use Rattle.chi_node.specs.Parts.{AllAgree, HasOwnTypes, opening_slices, requesters_of};
+ghost use Rattle.chi_node.specs.Parts.{AgreeAtOpening, HasOwnTypes, opening_slices, requesters_of};
 
 use crate::requester::Requester;
 use arrayvec::ArrayVec;
@@ -34,7 +34,7 @@ fn requesters<A: Allocator>(
     ensures tracker { IfOk result (λ made. made.0.shape ≡ shape_of config.now.entries config.now.agents) }
     ensures types { IfOk result (λ made. HasOwnTypes config.now made.0.shape) }
     ensures requesters { IfOk result (λ made. made.1.items ≡ requesters_of made.0 config.now.agents) }
-    ensures agree { IfOk result (λ made. AllAgree config.now made.0.table made.0.shape) }
+    ensures agree { IfOk result (λ made. AgreeAtOpening config.now made.0.table made.0.shape) }
 {
     let (entries, agents) = (config.entries(), config.agents());
     let (tracker, mut ports) = Tracker::new(alloc, entries, agents)?;
@@ -60,7 +60,7 @@ pub fn parts<A: Allocator + Copy>(
     ensures tracker { IfOk result (λ made. made.1.shape ≡ shape_of config.now.entries config.now.agents) }
     ensures types { IfOk result (λ made. HasOwnTypes config.now made.1.shape) }
     ensures requesters { IfOk result (λ made. made.2.items ≡ requesters_of made.1 config.now.agents) }
-    ensures agree { IfOk result (λ made. AllAgree config.now made.1.table made.1.shape) }
+    ensures agree { IfOk result (λ made. AgreeAtOpening config.now made.1.table made.1.shape) }
 {
     let slices = slices(alloc, config)?;
     let (tracker, requesters) = requesters(alloc, config)?;

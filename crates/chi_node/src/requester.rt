@@ -1,16 +1,16 @@
 //! A requester, with its port and its account.
 
-ghost use Rattle.std.specs.Prelude.{◌≡◌, ◌≢◌, ℕ, ◌<◌, ◌≤◌, IfOk, OnErr, IfSome, IfNone, IsTrue, ◌↔◌, slice_index};
+ghost use Rattle.std.specs.Prelude.{◌≡◌, ◌≢◌, ℕ, ◌<◌, ◌≤◌, [], IfOk, OnErr, IfSome, IfNone, IsTrue, ◌↔◌, slice_index};
 ghost use Rattle.chi_flit.specs.Credit.{credit_number};
 ghost use Rattle.chi_flit.specs.Refusal.{refusal_of};
-ghost use Rattle.chi_tracker.specs.Sums.{set_at};
 ghost use Rattle.chi_tracker.specs.Shape.{low};
-ghost use Rattle.chi_tracker.specs.Views.{has, new_port};
-ghost use Rattle.chi_tracker.specs.Calls.{saw_all, seen_of, HasSameCredits, Tended};
+ghost use Rattle.chi_tracker.specs.Views.{new_port};
+ghost use Rattle.chi_tracker.specs.Calls.{seen_of};
 ghost use Rattle.chi_credit.specs.Account.{slot_at, state_at, IsLowestIdle};
 ghost use Rattle.chi_slice.specs.Slice.{SliceState};
 ghost use Rattle.chi_node.specs.Agree.{Agree};
-ghost use Rattle.chi_node.specs.Requester.{can_give_back, give_back_refusal, has_type, no_requester, opening_requester, tend_refusal, with_port, without_cancelled, HasCancelled, HasSpare, RequesterKept, ReturnsCredit};
+ghost use Rattle.chi_node.specs.Credits.{GivesBack, Sees, Tends};
+ghost use Rattle.chi_node.specs.Requester.{can_give_back, give_back_refusal, has_type, no_requester, opening_requester, tend_refusal, HasSpare, RequesterKept};
 
 use chi_credit::{Account, SlotRecord, SlotState};
 use chi_flit::{Agent, CreditType, Refusal, Slot};
@@ -39,9 +39,9 @@ impl Model for Requester {
 
     ghost Value = { RequesterState };
 
-    ghost view = { λ r. record { number = r.number.0; table = r.port.table; port = r.port.port; slots = r.account; counts = r.counts } };
+    ghost view = { λ r. record { number = r.number.0; table = r.port.table; port = r.port.port; history = r.port.history; slots = r.account; counts = r.counts } };
 
-    ghost invariant = { λ r. RequesterKept r.entries (record { number = r.number.0; table = r.port.table; port = r.port.port; slots = r.account; counts = r.counts }) };
+    ghost invariant = { λ r. RequesterKept r.entries (record { number = r.number.0; table = r.port.table; port = r.port.port; history = r.port.history; slots = r.account; counts = r.counts }) };
 }
 
 impl Default for Requester {
@@ -63,6 +63,7 @@ impl Requester {
     pub(crate) fn new(number: Agent, entries: [u16; 4], port: Port) -> Requester
         requires number { number.0 < 8 }
         requires port { port.port ≡ new_port port.port.shape number.0 }
+        requires history { port.history ≡ [] }
         requires sizes { port.port.shape.sizes ≡ entries }
         requires shape { low port.port.shape 4 ≤ 256 }
         ensures { result ≡ opening_requester port.table port.port.shape number.0 }
@@ -152,23 +153,23 @@ impl Requester {
     pub fn into_port(self) -> Port
         ensures table { result.table ≡ self.table }
         ensures view { result.port ≡ self.port }
+        ensures history { result.history ≡ self.history }
     {
         self.port
     }
 
     /// Looks at what is promised to the requester, one step on each of the four words, and answers the
     /// seen credits by type. Nothing but the port changes; the requester agrees with each slice that it
-    /// agreed with.
+    /// agreed with. These four acts are all that the requester did, in a legal history of the tracker that
+    /// leaves the port so: with `Law::running` of chi_tracker each entry is then in one place, and the
+    /// ledgers hold.
     ///
     /// Condition: the tracker is the requester's.
     /// Source: `docs/PROTOCOL.md`, "A requester and its calls", see.
     #[tactic(auto, using(crate::proofs::Keeps::saw_within, crate::proofs::CreditCalls::ported_agrees))]
     pub fn see<A: Allocator>(&mut self, tracker: &Tracker<A>) -> [u32; 4]
         requires { self.old.table ≡ tracker.now.table }
-        ensures port { self.new.port ≡ saw_all self.new.port.seen self.old.port }
-        ensures more { (e : ℕ) → e < 256 → set_at self.old.port.seen e ≤ set_at self.new.port.seen e }
-        ensures counts { (t : ℕ) → t < 4 → slice_index result t ≡ seen_of self.new.port t }
-        ensures others { self.new ≡ with_port self.new.port self.old }
+        ensures sees { Sees result self.old self.new }
         ensures agreement { (s : SliceState) → Agree s self.old → Agree s self.new }
     {
         self.port.see(tracker)
@@ -176,7 +177,7 @@ impl Requester {
 
     /// The lowest Cancelled slot of the type becomes Idle, and the port gives the lowest seen credit of the
     /// type back. Nothing but the port and that slot changes; the requester agrees with each slice that it
-    /// agreed with. What the contract says of the release is told at `Port::release`.
+    /// agreed with. What the contract says of the release and of its acts is told at `Port::release`.
     ///
     /// Refused 10 (OutOfRange) where the tracker has no entries of the type, and then 12 (NoCredit) where no
     /// slot of the type is Cancelled, or no seen credit is beyond those for the Riding slots; nothing changes
@@ -189,12 +190,8 @@ impl Requester {
     ) -> Result<Released, Refusal>
         requires { self.old.table ≡ tracker.now.table }
         ensures refusal { refusal_of result ≡ give_back_refusal self.old (credit_number ty) }
-        ensures cancelled { IfOk result (λ _. HasCancelled self.old (credit_number ty)) }
-        ensures returned { IfOk result
-            (λ released. ReturnsCredit (credit_number ty) released self.old self.new) }
+        ensures ok { IfOk result (λ released. GivesBack (credit_number ty) released self.old self.new) }
         ensures err { OnErr result (self.new ≡ self.old) }
-        ensures others { IfOk result
-            (λ _. self.new ≡ without_cancelled (credit_number ty) self.new.port self.old) }
         ensures agreement { (s : SliceState) → Agree s self.old → Agree s self.new }
     {
         if !self.has_type(ty) {
@@ -221,12 +218,8 @@ impl Requester {
     ) -> Result<Option<Released>, Refusal>
         requires { self.old.table ≡ tracker.now.table }
         ensures refusal { refusal_of result ≡ tend_refusal self.old (credit_number ty) }
-        ensures tended { IfOk result
-            (λ released. Tended self.old.port (credit_number ty) released self.new.port) }
-        ensures credits { IfOk result (λ _. HasSameCredits self.old.port self.new.port) }
-        ensures hand { IfOk result (λ _. (e : ℕ) → has e self.new.port ≡ has e self.old.port) }
+        ensures ok { IfOk result (λ released. Tends (credit_number ty) released self.old self.new) }
         ensures err { OnErr result (self.new ≡ self.old) }
-        ensures others { IfOk result (λ _. self.new ≡ with_port self.new.port self.old) }
         ensures agreement { (s : SliceState) → Agree s self.old → Agree s self.new }
     {
         if !self.has_type(ty) {

@@ -1,5 +1,5 @@
 -- How the program ends: its status, and the line on standard error without its line end
--- (docs/PROTOCOL.md, "The program").
+-- (docs/FORMATS.md, "The program").
 use Rattle.std.specs.Prelude.{ℕ, Bool, true, false, List, ◌∷◌, [], Result, Ok, Err}
 use Rattle.std.specs.declared.io.ErrorKind.{ErrorKind}
 use Rattle.std.specs.declared.io.ErrorKind.TheVariants as kinds

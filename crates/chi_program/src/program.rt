@@ -23,7 +23,7 @@ use std::thread::Threads;
 use std::{env, fmt, io};
 
 /// Why the program didn't do what it was asked for. Its text is the line on standard error.
-/// Source: `docs/PROTOCOL.md`, "The program".
+/// Source: `docs/FORMATS.md`, "The program".
 #[derive(Clone, Copy, Debug, PartialEq, Eq)]
 pub enum Stop {
     /// The command line isn't followed.
@@ -34,7 +34,7 @@ pub enum Stop {
 
 impl Stop {
     /// The program's status.
-    /// Source: `docs/PROTOCOL.md`, "The program".
+    /// Source: `docs/FORMATS.md`, "The program".
     pub fn status(self) -> u8
         ensures { result ≡ stop_status self }
     {
@@ -73,7 +73,7 @@ impl From<Fault> for Stop {
 }
 
 /// What came of a run that no fault stopped.
-/// Source: `docs/PROTOCOL.md`, "The program".
+/// Source: `docs/FORMATS.md`, "The program".
 #[derive(Clone, Copy, Debug, PartialEq, Eq)]
 enum End {
     /// All went well.
@@ -99,7 +99,7 @@ impl End {
 
 /// Does what the command line asks for, and answers the exit status. A fault is one line on standard
 /// error. It may wait: a storm's agents run in threads.
-/// Source: `docs/PROTOCOL.md`, "The program".
+/// Source: `docs/FORMATS.md`, "The program".
 pub fn serve<R: Env + Files + AllocGlobal + Print + Eprint + Threads + Wait + Clock + Sync>(
     rt: &R,
 ) -> u8

@@ -1,4 +1,4 @@
-//! Command lines, good and bad, by `docs/PROTOCOL.md`, "The program".
+//! Command lines, good and bad, by `docs/FORMATS.md`, "The program".
 
 use chi_arguments::{ArgFault, Job, arguments};
 use chi_flit::Line;

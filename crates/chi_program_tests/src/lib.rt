@@ -1,6 +1,6 @@
 //! Tests of the program's parts: replays from an input to an output, command lines, and the ways to stop.
 //!
-//! Source: `docs/PROTOCOL.md`, "The program".
+//! Source: `docs/FORMATS.md`, "The program".
 #![tactic(auto)]
 
 #[cfg(test)]

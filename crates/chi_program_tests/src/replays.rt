@@ -31,6 +31,12 @@ const TWO_COMMANDS: &[u8] = b"node 1 1 1 1 1 4\ntotals\nflits 0 0\n";
 
 const TWO_COMMANDS_TEXT: &[u8] = b"ok free 1 1 hand 0 0 promised 0 0 owed 0 0\nok none\n";
 
+const ABOVE_THE_RANGES: &[u8] =
+    b"node 1 1 1 1 1 4\nload 256 0 0\nload 0 0 8\nstore 0 0 0 18446744073709551615\n";
+
+const ABOVE_THE_RANGES_TEXT: &[u8] =
+    b"refused 10 OutOfRange\nrefused 10 OutOfRange\nrefused 2 WrongState\n";
+
 #[test]
 fn the_first_path_is_answered(rt: HostRuntime) {
     let mut input = MemoryInput::new(FIRST_PATH, 10);
@@ -45,6 +51,14 @@ fn dirty_data_is_handed_on_to_another_agent(rt: HostRuntime) {
     let mut output = MemoryOutput::new(rt.alloc(), 1_000);
     same(&rt, replay(rt.alloc(), &mut input, &mut output), Ok(()));
     assert!(rt; output.bytes() == HANDED_ON_TEXT);
+}
+
+#[test]
+fn a_number_above_its_range_is_refused_and_told(rt: HostRuntime) {
+    let mut input = MemoryInput::new(ABOVE_THE_RANGES, 10);
+    let mut output = MemoryOutput::new(rt.alloc(), 1_000);
+    same(&rt, replay(rt.alloc(), &mut input, &mut output), Ok(()));
+    assert!(rt; output.bytes() == ABOVE_THE_RANGES_TEXT);
 }
 
 /// The replay of this file must end with this line and status 1, and write nothing.
@@ -110,12 +124,32 @@ fn add_lines(file: &mut Vec<u8>, times: usize, line: &[u8]) -> Result<(), AllocE
     Ok(())
 }
 
+/// Adds the lines of the largest file: a header, and as many commands as there is room for.
+fn add_largest(file: &mut Vec<u8>) -> Result<(), AllocError> {
+    add_lines(file, 1, b"node 1 1 1 1 1 4\n")?;
+    add_lines(file, 174_754, b"see 0\n")?;
+    add_lines(file, 5, b"totals\n")
+}
+
+#[test]
+fn each_line_of_the_largest_file_is_answered(rt: HostRuntime) -> Result<(), AllocError> {
+    let mut file = Vec::new(rt.alloc());
+    add_largest(&mut file)?;
+    same(&rt, file.len(), 1_048_576);
+    let mut text = Vec::new(rt.alloc());
+    add_lines(&mut text, 174_754, b"ok credits 0 0\n")?;
+    add_lines(&mut text, 5, TOTALS_TEXT)?;
+    let mut input = MemoryInput::new(&file, 1_000);
+    let mut output = MemoryOutput::new(rt.alloc(), 3_000_000);
+    same(&rt, replay(rt.alloc(), &mut input, &mut output), Ok(()));
+    assert!(rt; output.bytes() == text.as_slice());
+    Ok(())
+}
+
 #[test]
 fn a_file_of_one_byte_too_many_is_too_large(rt: HostRuntime) -> Result<(), AllocError> {
     let mut file = Vec::new(rt.alloc());
-    add_lines(&mut file, 1, b"node 1 1 1 1 1 4\n")?;
-    add_lines(&mut file, 174_754, b"see 0\n")?;
-    add_lines(&mut file, 5, b"totals\n")?;
+    add_largest(&mut file)?;
     add_lines(&mut file, 1, b"\n")?;
     same(&rt, file.len(), 1_048_577);
     tells(&rt, &file, "chihome: file too large")

@@ -1,4 +1,4 @@
--- What a replay writes, and what its faults say (docs/PROTOCOL.md, "Replay files" and "The program").
+-- What a replay writes, and what its faults say (docs/FORMATS.md, "Replay files" and "The program").
 use Rattle.std.specs.Prelude.{◌≡◌, ◌≢◌, ℕ, ◌+◌, List, Option, Result, Ok, Err, IfErr, IfSome, IsErrOf, ◌⊎◌}
 use Rattle.std.specs.Io.KnownBytes.{Appends, Keeps}
 use Rattle.std.specs.List.{slice_index_or}

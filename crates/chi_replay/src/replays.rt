@@ -88,7 +88,7 @@ fn text_of_input<A: Allocator + Copy, I: Input>(alloc: A, input: &mut I) -> Resu
 /// nothing was.
 ///
 /// Conditions: the counts of failures of the input and of the output are below 2 ^ 64 - 1.
-/// Source: `docs/PROTOCOL.md`, "Replay files" and "The program".
+/// Source: `docs/FORMATS.md`, "Replay files" and "The program".
 pub fn replay<A: Allocator + Copy, I: Input, O: Output>(
     alloc: A,
     input: &mut I,

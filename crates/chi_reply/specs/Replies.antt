@@ -1,5 +1,5 @@
 -- The text of each answer of a replay, without the line feed that ends its line
--- (docs/PROTOCOL.md, "Replay files" and "Messages"), and what a storm
+-- (docs/FORMATS.md, "Replay files", and docs/PROTOCOL.md, "Messages"), and what a storm
 -- prints as they do ("The output of a storm").
 use Rattle.std.specs.Prelude.{ℕ, List, [], ◌∷◌, ◌++◌, Bool, true, false, is_some, map, take, codes, option_to_list}
 use Rattle.std.specs.List.{filter, flat_map, range_with_len}

@@ -8,7 +8,7 @@ use std::alloc::{AllocError, Allocator};
 
 /// How many loads and stores the journals of a node have, and whether its lines are coherent and its
 /// journals legal. It prints as the answer of `audit`, without the line feed.
-/// Source: `docs/PROTOCOL.md`, "Replay files".
+/// Source: `docs/FORMATS.md`, "Replay files".
 #[derive(Clone, Copy, Debug, PartialEq, Eq)]
 pub struct Audit {
     pub loads: u64,
@@ -27,7 +27,7 @@ impl Wording for Audit {
 }
 
 /// The word for a verdict: `coherent` or `broken`.
-/// Source: `docs/PROTOCOL.md`, "Replay files".
+/// Source: `docs/FORMATS.md`, "Replay files".
 pub fn verdict_word(coherent: bool) -> &'static str
     ensures { result.now ≡ verdict_text coherent }
 {

@@ -9,7 +9,7 @@ use std::alloc::{AllocError, Allocator};
 
 /// How many credits of each type a requester has seen granted. It prints as the answer of `see`, without
 /// the line feed: the numbers of the types that the profile has.
-/// Source: `docs/PROTOCOL.md`, "Replay files".
+/// Source: `docs/FORMATS.md`, "Replay files".
 #[derive(Clone, Copy, Debug, PartialEq, Eq)]
 pub struct Credits {
     pub counts: [u32; 4],

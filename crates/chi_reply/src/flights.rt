@@ -12,7 +12,7 @@ use std::fmt;
 
 /// The flits between an agent and the home for a line. It prints as the answer of `flits`, without the
 /// line feed.
-/// Source: `docs/PROTOCOL.md`, "Replay files" and "Messages".
+/// Source: `docs/FORMATS.md`, "Replay files", and `docs/PROTOCOL.md`, "Messages".
 #[derive(Drop)]
 pub struct InFlight<'a>(pub &'a Cells);
 

@@ -1,6 +1,6 @@
 //! The text of each answer that a replay prints, without the line feed that ends it.
 //!
-//! Source: `docs/PROTOCOL.md`, "Replay files".
+//! Source: `docs/FORMATS.md`, "Replay files".
 #![tactic(auto)]
 
 mod agents;

@@ -7,7 +7,7 @@ ghost use Rattle.chi_reply.specs.Replies.{spaced_texts};
 use std::alloc::{AllocError, Allocator};
 
 /// What has a text that is printed.
-/// Source: `docs/PROTOCOL.md`, "Replay files".
+/// Source: `docs/FORMATS.md`, "Replay files".
 pub trait Wording {
     ghost text: { Self → List ℕ };
 

@@ -11,7 +11,7 @@ use std::alloc::{AllocError, Allocator};
 
 /// What a command that does something answers. It prints as its line of the output, without the line
 /// feed.
-/// Source: `docs/PROTOCOL.md`, "Replay files".
+/// Source: `docs/FORMATS.md`, "Replay files".
 #[derive(Clone, Copy, Debug, PartialEq, Eq)]
 pub enum Reply {
     /// `ok`: it was done, and there is no more to say.

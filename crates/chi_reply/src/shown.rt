@@ -14,7 +14,7 @@ use std::fmt;
 
 /// A line, with the copies of so many agents, at most all eight. It prints as the answer of `show`,
 /// without the line feed.
-/// Source: `docs/PROTOCOL.md`, "Replay files".
+/// Source: `docs/FORMATS.md`, "Replay files".
 #[derive(Drop)]
 pub struct Shown<'a> {
     pub agents: u8,

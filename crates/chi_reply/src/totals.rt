@@ -12,7 +12,7 @@ use std::alloc::{AllocError, Allocator};
 /// How many entries of each credit type are free, in hand of a requester or promised to one, and how many
 /// credits are owed. It prints as the answer of `totals`, without the line feed: the numbers of the types
 /// that the profile has.
-/// Source: `docs/PROTOCOL.md`, "Replay files".
+/// Source: `docs/FORMATS.md`, "Replay files".
 #[derive(Clone, Copy, Debug, PartialEq, Eq)]
 pub struct Totals {
     pub free: [u32; 4],
@@ -23,7 +23,7 @@ pub struct Totals {
 }
 
 /// The same numbers, without the word that an answer begins with: the line of a storm.
-/// Source: `docs/PROTOCOL.md`, "The output of a storm".
+/// Source: `docs/FORMATS.md`, "The output of a storm".
 #[derive(Clone, Copy, Debug, PartialEq, Eq)]
 pub struct Holdings(pub Totals);
 

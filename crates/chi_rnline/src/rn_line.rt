@@ -185,15 +185,21 @@ impl RnLine {
 
     /// Stores the value: the word of the copy has it, and the copy is `UD`; the other words stay.
     ///
-    /// Conditions: the word is below 8, and `why_no_store` names no refusal.
+    /// Refused 3 (Pending) where a request is pending, then 2 (WrongState) where the copy isn't `UC` or `UD`;
+    /// nothing changes then. Conditions: the word is below 8.
     /// Source: `docs/PROTOCOL.md`, "The actions", Store.
-    pub fn store(&mut self, word: WordNo, value: u64)
-        requires word { word.0 < 8 }
-        requires allowed { store_refusal self.old ≡ None }
-        ensures { self.new ≡ rn_after_store self.old word.0 value }
+    pub fn store(&mut self, word: WordNo, value: u64) -> Result<(), Refusal>
+        requires { word.0 < 8 }
+        ensures refusal { refusal_of result ≡ store_refusal self.old }
+        ensures ok { IfOk result (λ _. self.new ≡ rn_after_store self.old word.0 value) }
+        ensures err { OnErr result (self.new ≡ self.old) }
     {
+        if let Some(refusal) = self.why_no_store() {
+            return Err(refusal);
+        }
         self.words[usize::from(word.0)] = value;
         self.state = State::UD;
+        Ok(())
     }
 
     /// The refusal that `drop_clean` would answer.
@@ -252,11 +258,7 @@ impl RnLine {
     }
 
     /// The request that may be sent again.
-    ///
-    /// Refused 4 (NothingPending) where no request is in phase Retried, then 2 (WrongState) where it is a
-    /// copy-back and the copy isn't in its needed state.
-    /// Source: `docs/PROTOCOL.md`, "The actions", Resend.
-    pub fn to_resend(&self) -> Result<Pending, Refusal>
+    fn to_resend(&self) -> Result<Pending, Refusal>
         ensures refusal { refusal_of result ≡ resend_refusal self.now }
         ensures request { IfOk result (λ request. self.now.pending ≡ Some request) }
     {
@@ -274,7 +276,7 @@ impl RnLine {
         }
     }
 
-    /// The refusal that `to_resend` would answer.
+    /// The refusal that `resend` would answer.
     /// Source: `docs/PROTOCOL.md`, "The actions", Resend.
     pub fn why_no_resend(&self) -> Option<Refusal>
         ensures { result ≡ resend_refusal self.now }
@@ -285,25 +287,27 @@ impl RnLine {
     /// Sends the pending request again, with a credit: it is in phase Sent, and the copy stays. Answers the
     /// request that is to be put, without AllowRetry.
     ///
-    /// Conditions: the request is the one that `to_resend` answers.
+    /// Refused 4 (NothingPending) where no request is in phase Retried, then 2 (WrongState) where it is a
+    /// copy-back and the copy isn't in its needed state; nothing changes then.
     /// Source: `docs/PROTOCOL.md`, "The actions", Resend.
-    pub fn resend(&mut self, request: Pending) -> Msg
-        requires allowed { resend_refusal self.old ≡ None }
-        requires pending { self.old.pending ≡ Some request }
-        ensures message { result ≡ request_message request.kind request.slot false }
-        ensures after { self.new ≡ rn_after_resend self.old }
+    pub fn resend(&mut self) -> Result<Msg, Refusal>
+        ensures refusal { refusal_of result ≡ resend_refusal self.old }
+        ensures message { IfOk result (λ message. (request : Pending) → self.old.pending ≡ Some request
+            → message ≡ request_message request.kind request.slot false) }
+        ensures ok { IfOk result (λ _. self.new ≡ rn_after_resend self.old) }
+        ensures err { OnErr result (self.new ≡ self.old) }
     {
-        let Pending { kind, slot, .. } = request;
+        let Pending { kind, slot, .. } = self.to_resend()?;
         self.pending = Some(Pending {
             kind,
             slot,
             phase: Phase::Sent,
         });
-        Msg::Req(Request {
+        Ok(Msg::Req(Request {
             kind,
             slot,
             allow_retry: false,
-        })
+        }))
     }
 
     /// The refusal that `cancel` would answer.

@@ -1,5 +1,5 @@
 -- The commands of a replay file: a table for each count of words, a line for each command
--- (docs/PROTOCOL.md, "Replay files").
+-- (docs/FORMATS.md, "Replay files").
 use Rattle.std.specs.Prelude.{ℕ, ◌==◌, List, [], ◌∷◌, Option, Some, None, if◌then◌else◌, codes}
 use Rattle.chi_flit.specs.Kind.{kind_text}
 use Rattle.chi_flit.specs.declared.numbers.Agent.{Agent}

@@ -1,4 +1,4 @@
--- Faults, their statuses and their texts (docs/PROTOCOL.md, "The program").
+-- Faults, their statuses and their texts (docs/FORMATS.md, "The program").
 use Rattle.std.specs.Prelude.{◌≡◌, ℕ, List, ◌++◌, codes, Result, Ok, Err}
 use Rattle.std.specs.Fmt.{decimal}
 use Rattle.chi_script.specs.declared.faults.Fault.{Fault}

@@ -1,4 +1,4 @@
--- A replay file is a header and commands, or faulty: then its first faulty line is told (docs/PROTOCOL.md,
+-- A replay file is a header and commands, or faulty: then its first faulty line is told (docs/FORMATS.md,
 -- "Replay files").
 use Rattle.std.specs.Prelude.{◌≡◌, ℕ, ◌+◌, ◌==◌, nat_lt, List, [], ◌∷◌, Result, Ok, Err, length, if◌then◌else◌, ok_or}
 use Rattle.std.specs.List.{slice_split}

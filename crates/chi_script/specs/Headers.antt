@@ -1,4 +1,4 @@
--- The header of a replay file and its limits (docs/PROTOCOL.md, "Replay files" and "Limits").
+-- The header of a replay file and its limits (docs/FORMATS.md, "Replay files", and docs/PROTOCOL.md, "Limits").
 use Rattle.std.specs.Prelude.{ℕ, sum, slice_index, ◌≤◌, ◌&&◌, nat_le, Bool, List, [], ◌∷◌, Option, Some, None, if◌then◌else◌, codes}
 use Rattle.chi_flit.specs.declared.credit.Profile.TheVariants.{Two, Four}
 use Rattle.chi_config.specs.Config as config

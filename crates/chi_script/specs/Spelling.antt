@@ -1,4 +1,4 @@
--- How numbers, commands and headers are written (docs/PROTOCOL.md, "Replay files"): apart from how they
+-- How numbers, commands and headers are written (docs/FORMATS.md, "Replay files"): apart from how they
 -- are read.
 use Rattle.std.specs.Prelude.{◌≡◌, ℕ, ◌^◌, ◌<◌, min, List, [], ◌∷◌, Option, Some, None, Result, Ok, codes, slice_index, true}
 use Rattle.std.specs.List.{join_with_byte}

@@ -1,4 +1,4 @@
--- Words of a line, and the numbers among them (docs/PROTOCOL.md, "Replay files").
+-- Words of a line, and the numbers among them (docs/FORMATS.md, "Replay files").
 use Rattle.std.specs.Prelude.{ℕ, ◌+◌, ◌-◌, ◌*◌, ◌^◌, ◌==◌, ◌&&◌, min, nat_lt, not, Bool, true, List, [], ◌∷◌, Option, Some, None, if◌then◌else◌, map, bytes_eq}
 use Rattle.std.specs.List.{slice_split}
 use denote.Ref.{Bor}

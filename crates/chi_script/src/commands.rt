@@ -10,7 +10,7 @@ use crate::words::{first_argument, first_word, is};
 use chi_flit::{Action, Agent, CreditType, Kind, Line, Slot, Step, WordNo};
 
 /// One command of a replay file.
-/// Source: `docs/PROTOCOL.md`, "Replay files".
+/// Source: `docs/FORMATS.md`, "Replay files".
 #[derive(Clone, Copy, Debug, PartialEq, Eq)]
 pub enum Command {
     /// `totals`: the tracker's words, at a glance.
@@ -54,7 +54,7 @@ pub enum Command {
 
 /// The command that a line is, which is given without its line end. `None` for an unknown word, a wrong
 /// count of words or a faulty number.
-/// Source: `docs/PROTOCOL.md`, "Replay files".
+/// Source: `docs/FORMATS.md`, "Replay files".
 pub fn read_command(line: &[u8]) -> Option<Command>
     ensures { result ≡ command_of (words_of line.now) }
 {

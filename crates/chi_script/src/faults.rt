@@ -10,7 +10,7 @@ use thiserror::Error;
 
 /// Why a replay ends without its whole text. The text is the line that the program writes to standard
 /// error.
-/// Source: `docs/PROTOCOL.md`, "The program".
+/// Source: `docs/FORMATS.md`, "The program".
 #[derive(Clone, Copy, Debug, PartialEq, Eq, Error)]
 pub enum Fault {
     /// Memory ran out.
@@ -31,7 +31,7 @@ pub enum Fault {
 
 impl Fault {
     /// The program's status at this fault: 3 for want of memory, and 1 for every other.
-    /// Source: `docs/PROTOCOL.md`, "The program".
+    /// Source: `docs/FORMATS.md`, "The program".
     pub fn status(self) -> u8
         ensures { result ≡ status_of self }
     {

@@ -18,7 +18,7 @@ use std::alloc::Allocator;
 pub const MOST_BYTES: usize = 1_048_576;
 
 /// A good replay file: the sizes of the system, and the commands in order.
-/// Source: `docs/PROTOCOL.md`, "Replay files".
+/// Source: `docs/FORMATS.md`, "Replay files".
 #[derive(Drop)]
 pub struct Script<A: Allocator> {
     pub header: Header,
@@ -31,7 +31,7 @@ pub struct Script<A: Allocator> {
 /// `TooLarge` where the file has more than `MOST_BYTES` bytes, before all else. Otherwise the first
 /// faulty line is told: `BadHeader`, `BadCommand`, or `MissingNewline` where bytes stand behind the last
 /// line end. An empty file is `BadHeader`. `NoMemory` where memory runs out.
-/// Source: `docs/PROTOCOL.md`, "Replay files".
+/// Source: `docs/FORMATS.md`, "Replay files".
 pub fn read_file<A: Allocator + Copy>(alloc: A, bytes: &[u8]) -> Result<Script<A>, Fault>
     ensures { Gives (λ script. (script.header, script.commands.items)) result (file_of bytes.now) }
 {
@@ -46,7 +46,7 @@ pub fn read_file<A: Allocator + Copy>(alloc: A, bytes: &[u8]) -> Result<Script<A
 /// `TooLarge` where the file has more than `MOST_BYTES` bytes, before all else. `BadHeader` where line 1 is
 /// no header within the limits, or the file is empty, and `MissingNewline` where no line end closes line 1.
 /// `NoMemory` where memory runs out.
-/// Source: `docs/PROTOCOL.md`, "Replay files".
+/// Source: `docs/FORMATS.md`, "Replay files".
 #[tactic(auto, unfolding(crate::specs::Files::file_of))]
 pub fn read_head<A: Allocator>(alloc: A, bytes: &[u8]) -> Result<(Header, &[u8]), Fault>
     ensures lines { IfOk result (λ head. file_of bytes.now ≡ with_header head.0 (commands_of 2 (lines_of head.1.now))) }
@@ -97,7 +97,7 @@ fn read_commands<A: Allocator + Copy>(alloc: A, bytes: &[u8]) -> Result<Vec<Comm
 
 /// The header that a line is, which is given without its line end; its number is for the fault.
 /// `BadHeader` where it is none within the limits, and `NoMemory` where memory runs out.
-/// Source: `docs/PROTOCOL.md`, "Replay files" and "Limits".
+/// Source: `docs/FORMATS.md`, "Replay files", and `docs/PROTOCOL.md`, "Limits".
 pub fn header_in<A: Allocator>(alloc: A, line: &[u8], number: usize) -> Result<Header, Fault>
     ensures read { Gives (λ header. header) result (header_at number line.now) }
     ensures kept { IfOk result (λ header. is_in_limits header ≡ true) }
@@ -109,7 +109,7 @@ pub fn header_in<A: Allocator>(alloc: A, line: &[u8], number: usize) -> Result<H
 
 /// The command that a line is, which is given without its line end; its number is for the fault.
 /// `BadCommand` where it is none.
-/// Source: `docs/PROTOCOL.md`, "Replay files".
+/// Source: `docs/FORMATS.md`, "Replay files".
 pub fn command_in(line: &[u8], number: usize) -> Result<Command, Fault>
     ensures { Gives (λ command. command) result (command_at number line.now) }
 {
@@ -117,7 +117,7 @@ pub fn command_in(line: &[u8], number: usize) -> Result<Command, Fault>
 }
 
 /// The bytes before the first line end, and those after it. `None` where there is no line end.
-/// Source: `docs/PROTOCOL.md`, "Bytes, lines and numbers".
+/// Source: `docs/FORMATS.md`, "Bytes, lines and numbers".
 pub fn first_line(bytes: &[u8]) -> Option<(&[u8], &[u8])>
     ensures some { IfSome result (λ parts. lines_of bytes.now ≡ parts.0.now ∷ lines_of parts.1.now) }
     ensures shorter { IfSome result (λ parts. length parts.1.now < length bytes.now) }

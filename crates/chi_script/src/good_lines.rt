@@ -9,7 +9,7 @@ use crate::files::{command_in, first_line};
 
 /// Whether the lines of a replay file, from line 2 on, are all commands; else the first fault of theirs. It
 /// takes no memory.
-/// Source: `docs/PROTOCOL.md`, "Replay files".
+/// Source: `docs/FORMATS.md`, "Replay files".
 pub fn check_lines(lines: &[u8]) -> Result<(), Fault>
     ensures ok { OnOk result (AreCommands lines.now) }
     ensures err { IfErr result (λ fault. Fails fault (commands_of 2 (lines_of lines.now))) }

@@ -52,7 +52,7 @@ struct CreditTypes {
 /// The header that the words of a line are: `node A L S T0 T1 K`, or `node A L S T0 T1 T2 T3 K` for four
 /// credit types. `None` for other words, a wrong count of words, a faulty number, and sizes outside the
 /// limits.
-/// Source: `docs/PROTOCOL.md`, "Replay files" and "Limits".
+/// Source: `docs/FORMATS.md`, "Replay files", and `docs/PROTOCOL.md`, "Limits".
 pub fn read_header(words: &[&[u8]]) -> Option<Header>
     ensures read { result ≡ header_of (texts_of words.now) }
     ensures kept { IfSome result (λ header. is_in_limits header ≡ true) }

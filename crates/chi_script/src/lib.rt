@@ -1,7 +1,7 @@
 //! The grammar of replay files: from a file's bytes to its header and its commands, or to its first
 //! fault.
 //!
-//! Source: `docs/PROTOCOL.md`, "Replay files" and "Limits".
+//! Source: `docs/FORMATS.md`, "Replay files", and `docs/PROTOCOL.md`, "Limits".
 #![tactic(auto)]
 
 mod commands;

@@ -5,7 +5,7 @@ ghost use Rattle.chi_script.specs.Words.{number_of, small_of, with_digit, digits
 
 /// The number that the word writes: `0`, or decimal digits without a leading zero, at most
 /// 18,446,744,073,709,551,615. `None` for every other word.
-/// Source: `docs/PROTOCOL.md`, "Replay files".
+/// Source: `docs/FORMATS.md`, "Replay files".
 pub fn number(word: &[u8]) -> Option<u64>
     ensures { result ≡ number_of word.now }
 {
@@ -19,7 +19,7 @@ pub fn number(word: &[u8]) -> Option<u64>
 
 /// The number that the word writes, read as 255 where it is above that, which is outside every range of
 /// agents, lines, words, slots and types. `None` where the word is no number.
-/// Source: `docs/PROTOCOL.md`, "Replay files".
+/// Source: `docs/FORMATS.md`, "Replay files".
 pub fn small(word: &[u8]) -> Option<u8>
     ensures { result ≡ small_of word.now }
 {

@@ -8,7 +8,7 @@ use std::alloc::{AllocError, Allocator};
 
 /// Makes the list that of the words of a line, which is given without its line end: one space stands
 /// between two of them. The list keeps its room, so that few lines want memory.
-/// Source: `docs/PROTOCOL.md`, "Bytes, lines and numbers".
+/// Source: `docs/FORMATS.md`, "Bytes, lines and numbers".
 pub fn read_words<'a, A: Allocator>(
     words: &mut Vec<&'a [u8], A>,
     line: &'a [u8],
@@ -21,7 +21,7 @@ pub fn read_words<'a, A: Allocator>(
 
 /// The first word of a line, which is given without its line end, and what stands behind the space after it.
 /// `None` where there is no space: the line is one word then.
-/// Source: `docs/PROTOCOL.md`, "Bytes, lines and numbers".
+/// Source: `docs/FORMATS.md`, "Bytes, lines and numbers".
 pub fn first_word(line: &[u8]) -> Option<(&[u8], &[u8])>
     ensures some { IfSome result (λ parts. words_of line.now ≡ parts.0.now ∷ words_of parts.1.now) }
     ensures none { IfNone result (words_of line.now ≡ line.now ∷ []) }
@@ -63,7 +63,7 @@ fn argument_end(line: &[u8]) -> Option<usize>
 }
 
 /// Whether a word is just this text.
-/// Source: `docs/PROTOCOL.md`, "Bytes, lines and numbers".
+/// Source: `docs/FORMATS.md`, "Bytes, lines and numbers".
 #[inline(always)]
 pub fn is(word: &[u8], text: &str) -> bool
     ensures { result ≡ is_text word.now text.now }

@@ -23,10 +23,14 @@ use Rattle.chi_line.specs.LineState.{LineState, cells_of, opening_line, rn_of}
 use Rattle.chi_line.specs.Step.{after, effect_of, is_step_in_range, line_uses, record_of, slot_unless, step_effect, step_record}
 use Rattle.chi_line.specs.Refused.{completed_at, full_if, line_refusal, step_refusal}
 use Rattle.chi_line.specs.Kept.{Kept}
-use Rattle.chi_line.specs.LineStep.{LineStep}
+use Rattle.chi_line.specs.StepOf.{StepOf}
 use Rattle.chi_line.specs.Traffic.{KeepsFlits}
 use Rattle.chi_line.proofs.After.{issue_allowed, kept_after, names_used_slot, neither}
+use Rattle.chi_line.specs.Meaning.{standing_of}
+use Rattle.chi_line.specs.Protocol.{LineStep}
+use Rattle.chi_line.proofs.Protocol.{line_step}
 use Rattle.chi_line.proofs.Steps.{step_after}
+use Rattle.chi_slice.specs.Protocol.{SliceStep}
 use Rattle.chi_slice.specs.declared.terms.Terms.{Terms}
 use Rattle.chi_slice.specs.Recorded.{CanAppend, done_record, record_by}
 use Rattle.chi_slice.specs.Slice.{IsBalanced, IsStep, OtherLinesStay, SliceKept, SliceState, slice_after, completes, conditions_under, entry_of, is_in_range, is_slot_used, last_of, line, line_at, range_refusal, log_after, action_refusal, refused_under, row_count, row_of_line, uses}
@@ -78,7 +82,7 @@ pub names_unused : (s : SliceState) (action : Action) → SliceKept s → Allowe
 names_unused s action k may = free_at s (row_of_line s action.line.0) action.agent.0 action.step k (in_range s action k may.inside).row (named_idle s action may)
 
 -- the journal is full where a load or a store is refused for it
-not_full : (full : Bool) → full_if full ≡ None → full ≡ false
+pub not_full : (full : Bool) → full_if full ≡ None → full ≡ false
 not_full full h = grind (arith, h)
 
 -- the record of a step is of its line, legal after those that are there, and the journal has room for it
@@ -122,8 +126,21 @@ pub acted_step : (s : SliceState) (action : Action) → SliceKept s → Allowed 
 acted_step s action k may =
     let inside : InRange s action = in_range s action k may.inside in
     let old : LineState = line s action.line.0 in
-    subst (λ (l : LineState). LineStep s.config.profile old action (effect_of old action) (entry_of s action) l) (sym (line_at-with_line s (row_of_line s action.line.0) (after s.config.profile old action) inside.row k))
+    subst (λ (l : LineState). StepOf s.config.profile old action.agent action.line action.step (effect_of old action) (entry_of s action) l) (sym (line_at-with_line s (row_of_line s action.line.0) (after s.config.profile old action) inside.row k))
     (step_after (conditions_of s action) (last_of s action.line.0) old action.agent action.line action.step inside.agent may.by_line (k.lines action.line.0 inside.line))
+
+-- and by its row of the protocol
+pub acted_protocol : (s : SliceState) (action : Action) → SliceKept s → Allowed s action → IsBalanced s action (slice_after s action) → SliceStep s action (effect_of (line s action.line.0) action) (slice_after s action)
+acted_protocol s action k may flits =
+    let inside : InRange s action = in_range s action k may.inside in
+    let old : LineState = line s action.line.0 in
+    let is : line (slice_after s action) action.line.0 ≡ after s.config.profile old action = line_at-with_line s (row_of_line s action.line.0) (after s.config.profile old action) inside.row k in (
+      entry_of s action,
+      refl,
+      subst (λ (l : LineState). LineStep s.config.profile action.line action.agent action.step (standing_of old) (effect_of old action) (entry_of s action) (standing_of l)) (sym is)
+          (line_step (conditions_of s action) (last_of s action.line.0) old action.agent action.line action.step inside.agent may.by_line (k.lines action.line.0 inside.line)
+          (subst (λ (l : LineState). KeepsFlits s.config.profile old action l) is flits)),
+    )
 
 -- and leaves the other lines as they were
 pub acted_others : (s : SliceState) (action : Action) → SliceKept s → Allowed s action → OtherLinesStay s (slice_after s action) action.line.0

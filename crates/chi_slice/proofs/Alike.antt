@@ -10,7 +10,8 @@ use Rattle.chi_line.specs.Step.{is_step_in_range}
 use Rattle.chi_slice.specs.declared.terms.Terms.{Terms}
 use Rattle.chi_config.specs.Config.{Sizes}
 use Rattle.chi_slice.specs.Run.{AreAlike, AreElsewhere, IsRun, IsSameRoom, IsTried}
-use Rattle.chi_slice.specs.Slice.{SliceState, conditions_under, is_in_range, is_line_in_range, line, action_refusal, refused_under}
+use Rattle.chi_slice.specs.Protocol.{refused}
+use Rattle.chi_slice.specs.Slice.{SliceState, conditions_under, is_in_range, is_line_in_range, line, refused_under}
 use Rattle.chi_slice.proofs.Rows.{both}
 use Rattle.chi_slice.proofs.Runs.{run_keeps, tried_keeps}
 
@@ -43,9 +44,9 @@ range_stays s t l config index =
 run_stays : (old : SliceState) (actions : List Action) (new : SliceState) (action : Action) → IsRun old actions new → AreElsewhere actions action → is_line_in_range old action.line.0 ≡ true → line new action.line.0 ≡ line old action.line.0
 run_stays old [] new action run away here = ap (λ (v : SliceState). line v action.line.0) run
 run_stays old (other ∷ others) new action run away here =
-    let kept = tried_keeps (action_refusal old other) old other run.0 run.1 in
+    let kept = tried_keeps (refused old other) old other run.0 run.1 in
     run_stays run.0 others new action run.2 away.1 (range_stays old run.0 action.line.0 kept.0 kept.1 ∙ here)
-    ∙ tried_stays (action_refusal old other) old other run.0 action.line.0 run.1 here away.0
+    ∙ tried_stays (refused old other) old other run.0 action.line.0 run.1 here away.0
 
 -- so it refuses an action as before, where there is room for it as before
 pub run_refused : (terms : Terms) (old new : SliceState) (actions : List Action) (action : Action) → IsRun old actions new → AreElsewhere actions action → IsSameRoom old new action → refused_under terms new action ≡ refused_under terms old action

@@ -7,9 +7,10 @@ use Rattle.chi_flit.specs.declared.action.Action.{Action}
 use Rattle.chi_flit.specs.declared.action.Effect.{Effect}
 use Rattle.chi_flit.specs.declared.refusal.Refusal.{Refusal}
 use Rattle.chi_flit.specs.Refusal.{refusal_of}
-use Rattle.chi_line.specs.Step.{effect_of}
-use Rattle.chi_slice.specs.Slice.{IsBalanced, IsStep, OtherLinesStay, SliceState, slice_after, done_if, entry_of, line, log_after, action_refusal, run_after, run_done, slice_after_try, tried_as}
+use Rattle.chi_slice.specs.Protocol.{SliceStep, refused}
+use Rattle.chi_slice.specs.Slice.{OtherLinesStay, SliceState, slice_after, done_if, action_refusal, run_after, run_done, slice_after_try, tried_as}
 use Rattle.chi_slice.specs.Run.{IsDone, IsRun, IsTried}
+use Rattle.chi_slice.proofs.Refused.{refused_is}
 
 -- after the first i actions the slice is s, and done of them were done
 pub record RunsOn (old : SliceState) (actions : List Action) (s : SliceState) (done i : ℕ) : Type 0 where
@@ -22,23 +23,19 @@ pub runs_start : (s : SliceState) (actions : List Action) → RunsOn s actions s
 runs_start s actions = record { after = refl; count = omega arith; few = omega arith; leads = λ new run. run }
 
 -- what a call of act says of an action that was tried
-pub record Answered (s s' : SliceState) (action : Action) (result : Result Effect Refusal) : Type 0 where
+pub record Tried (s s' : SliceState) (action : Action) (result : Result Effect Refusal) : Type 0 where
   pub refusal : refusal_of result ≡ action_refusal s action
-  pub step : IfOk result (λ effect. IsStep s action effect s')
-  pub journal : OnOk result (s'.journal ≡ log_after s.journal (entry_of s action))
-  pub flits : OnOk result (IsBalanced s action s')
+  pub step : IfOk result (λ effect. SliceStep s action effect s')
   pub others : OnOk result (OtherLinesStay s s' action.line.0)
-  pub effect : IfOk result (λ effect. effect ≡ effect_of (line s action.line.0) action)
   pub after : OnOk result (s' ≡ slice_after s action)
   pub err : OnErr result (s' ≡ s)
 
 -- so it is a step of a run
-step_of_run : (s s' : SliceState) (action : Action) (result : Result Effect Refusal) → Answered s s' action result → IsTried (action_refusal s action) s action s'
+step_of_run : (s s' : SliceState) (action : Action) (result : Result Effect Refusal) → Tried s s' action result → IsTried (refused s action) s action s'
 step_of_run s s' action (Ok effect) by =
-    let step : IsStep s action (effect_of (line s action.line.0) action) s' = subst (λ (e : Effect). IsStep s action e s') by.effect by.step in
-    let done : IsDone s action s' = record { step = step; flits = by.flits; journal = by.journal; others = by.others; config = ap (λ (v : SliceState). v.config) by.after; index = ap (λ (v : SliceState). v.index) by.after } in
-    subst (λ (r : Option Refusal). IsTried r s action s') by.refusal done
-step_of_run s s' action (Err refusal) by = subst (λ (r : Option Refusal). IsTried r s action s') by.refusal by.err
+    let done : IsDone s action s' = record { step = (effect, by.step); others = by.others; config = ap (λ (v : SliceState). v.config) by.after; index = ap (λ (v : SliceState). v.index) by.after } in
+    subst (λ (r : Option Refusal). IsTried r s action s') (by.refusal ∙ refused_is s action) done
+step_of_run s s' action (Err refusal) by = subst (λ (r : Option Refusal). IsTried r s action s') (by.refusal ∙ refused_is s action) by.err
 
 -- the slice after an action was tried, and whether it was done
 tried_is : (s s' : SliceState) (action : Action) (result : Result Effect Refusal) → refusal_of result ≡ action_refusal s action → OnOk result (s' ≡ slice_after s action) → OnErr result (s' ≡ s) → s' ≡ slice_after_try s action
@@ -56,7 +53,7 @@ done_once (Some refusal) = omega arith
 
 -- one more action is tried
 pub runs_next : (old s s' : SliceState) (actions : List Action) (done done' i : ℕ) (d : Action) (result : Result Effect Refusal) → i < length actions → RunsOn old actions s done i
-    → Answered s s' (get_or actions i d) result
+    → Tried s s' (get_or actions i d) result
     → (is_ok result ≡ true → done' ≡ done + 1) → (is_ok result ≡ false → done' ≡ done) → RunsOn old actions s' done' (i + 1)
 runs_next old s s' actions done done' i d result low on by more same =
     let action : Action = get_or actions i d in
@@ -90,6 +87,6 @@ tried_keeps (Some refusal) old action new same = (ap (λ (v : SliceState). v.con
 pub run_keeps : (old : SliceState) (actions : List Action) (new : SliceState) → IsRun old actions new → (new.config ≡ old.config) × (new.index ≡ old.index)
 run_keeps old [] new run = (ap (λ (v : SliceState). v.config) run, ap (λ (v : SliceState). v.index) run)
 run_keeps old (action ∷ actions) new run =
-    let here : (run.0.config ≡ old.config) × (run.0.index ≡ old.index) = tried_keeps (action_refusal old action) old action run.0 run.1 in
+    let here : (run.0.config ≡ old.config) × (run.0.index ≡ old.index) = tried_keeps (refused old action) old action run.0 run.1 in
     let rest : (new.config ≡ run.0.config) × (new.index ≡ run.0.index) = run_keeps run.0 actions new run.2 in
     (rest.0 ∙ here.0, rest.1 ∙ here.1)

@@ -5,6 +5,7 @@ use Rattle.std.proofs.lemmas.List.{get_or-map}
 use Rattle.chi_rnline.specs.Rn.{no_line}
 use Rattle.chi_line.specs.LineState.{LineState, rn_of}
 use Rattle.chi_line.specs.View.{copy_shown, line_view}
+use Rattle.chi_line.proofs.CoherentLine.{coherent_is}
 use Rattle.chi_line.specs.declared.view.CopyView.{CopyView}
 use Rattle.chi_line.specs.declared.view.LineView.{LineView}
 use Rattle.chi_slice.specs.Verdict.{IsCoherentView, IsVerdictOnShown, copy_of, no_copy}
@@ -22,8 +23,9 @@ same_agents s last eight = record {
 }
 
 pub verdict_on : (view : LineView) (found : Bool) → IsTrue found ↔ IsCoherentView view → IsVerdictOnShown view found
-verdict_on view found so = λ s last eight is.
+verdict_on view found so = λ s last eight long is.
+    let whole = coherent_is last s eight long in
     let same : AreSame (agents_in (line_view s last)) (agents_of s) = same_agents s last eight in (
-      λ t. (of_line s last).0 (by_same (agents_in (line_view s last)) (agents_of s) s.home.memory last same ((of_view (line_view s last)).1 (subst IsCoherentView is (so.0 t)))),
-      λ c. so.1 (subst IsCoherentView (sym is) ((of_view (line_view s last)).0 (by_same (agents_of s) (agents_in (line_view s last)) s.home.memory last (swapped (agents_in (line_view s last)) (agents_of s) same) ((of_line s last).1 c)))),
+      λ t. whole.0 ((of_line s last).0 (by_same (agents_in (line_view s last)) (agents_of s) s.home.memory last same ((of_view (line_view s last)).1 (subst IsCoherentView is (so.0 t))))),
+      λ c. so.1 (subst IsCoherentView (sym is) ((of_view (line_view s last)).0 (by_same (agents_of s) (agents_in (line_view s last)) s.home.memory last (swapped (agents_in (line_view s last)) (agents_of s) same) ((of_line s last).1 (whole.1 c))))),
     )

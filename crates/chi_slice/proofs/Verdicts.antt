@@ -8,7 +8,7 @@ use Rattle.chi_flit.specs.declared.message.DatUp.{DatUp}
 use Rattle.chi_flit.specs.State.{is_valid}
 use Rattle.chi_wires.specs.declared.cells.Cells.{Cells}
 use Rattle.chi_rnline.specs.Rn.{Rn}
-use Rattle.chi_line.specs.Coherent.{Coherent, IsCleanAgent}
+use Rattle.chi_line.specs.Clean.{CoherentParts, IsCleanAgent}
 use Rattle.chi_line.specs.LineState.{LineState, cells_of, rn_of}
 use Rattle.chi_line.specs.declared.view.LineView.{LineView}
 use Rattle.chi_filter.specs.Filter.{is_named}
@@ -123,7 +123,7 @@ same_agent n m h = go (n == m) refl
     go true same = grind (arith, same)
     go false apart = absurd (h (λ (e : n ≡ m). grind (arith, apart, e)))
 
-pub of_line : (s : LineState) (last : List ℕ) → IsCoherentBy (agents_of s) s.home.memory last ↔ Coherent last s
+pub of_line : (s : LineState) (last : List ℕ) → IsCoherentBy (agents_of s) s.home.memory last ↔ CoherentParts last s
 of_line s last = (
   λ by. record {
     unique_holder = λ n m low here apart unique. (by.together n m low here apart).unique_alone unique;

@@ -1,5 +1,5 @@
--- What is counted in the slices of a node, and the verdict on them (docs/PROTOCOL.md, "Coherence" and
--- "Replay files").
+-- What is counted in the slices of a node, and the verdict on them (docs/PROTOCOL.md, "Coherence", and
+-- docs/FORMATS.md, "Replay files").
 use Rattle.std.specs.Prelude.{◌≡◌, ◌↔◌, ℕ, List, All, Bool, IsTrue, sum_by}
 use Rattle.chi_journal.specs.Journal.{loads_of, stores_of}
 use Rattle.chi_slice.specs.Slice.{SliceState}

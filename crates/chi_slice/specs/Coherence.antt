@@ -2,12 +2,13 @@
 -- "Coherence" and "The journal and last values").
 use Rattle.std.specs.Prelude.{◌≡◌, ℕ, true}
 use Rattle.chi_journal.specs.Journal.{IsLegal}
-use Rattle.chi_line.specs.Coherent.{Coherent}
+use Rattle.chi_line.specs.Coherence.{Coherent}
+use Rattle.chi_line.specs.Meaning.{standing_of}
 use Rattle.chi_slice.specs.Slice.{SliceState, is_line_in_range, last_of, line}
 
 -- a line of the slice is coherent, with the values that the journal has as last stored to its words
 abbrev pub IsLineCoherent : SliceState → ℕ → Type 0
-IsLineCoherent s l = is_line_in_range s l ≡ true → Coherent (last_of s l) (line s l)
+IsLineCoherent s l = is_line_in_range s l ≡ true → Coherent (last_of s l) (standing_of (line s l))
 
 abbrev pub AreLinesCoherent : SliceState → Type 0
 AreLinesCoherent s = (l : ℕ) → IsLineCoherent s l

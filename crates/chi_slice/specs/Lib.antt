@@ -6,3 +6,5 @@ pub mod Table
 pub mod Coherence
 pub mod Verdict
 pub mod Audits
+pub mod Protocol
+pub mod Words

@@ -1,17 +1,16 @@
 -- A run of actions, each tried in turn (docs/PROTOCOL.md, "The actions").
 use Rattle.std.specs.Prelude.{◌≡◌, ◌≢◌, List, [], ◌∷◌, Option, Some, None}
 use Rattle.chi_flit.specs.declared.action.Action.{Action}
+use Rattle.chi_flit.specs.declared.action.Effect.{Effect}
 use Rattle.chi_flit.specs.declared.refusal.Refusal.{Refusal}
 use Rattle.chi_journal.specs.Journal.{is_full}
-use Rattle.chi_line.specs.Step.{effect_of}
-use Rattle.chi_slice.specs.Slice.{IsBalanced, IsStep, OtherLinesStay, SliceState, entry_of, is_in_range, is_slot_used, line, log_after, action_refusal}
+use Rattle.chi_slice.specs.Protocol.{SliceStep, refused}
+use Rattle.chi_slice.specs.Slice.{OtherLinesStay, SliceState, is_in_range, is_slot_used, line}
 
--- an action that is done takes its line by its step, loses no flit and makes none, adds the record of a load or
--- store to the journal, and changes nothing else
+-- an action that is done takes its line by its row, adds the record of a load or store to the journal, and changes
+-- nothing else
 pub record IsDone (old : SliceState) (action : Action) (new : SliceState) : Type 0 where
-  pub step : IsStep old action (effect_of (line old action.line.0) action) new
-  pub flits : IsBalanced old action new
-  pub journal : new.journal ≡ log_after old.journal (entry_of old action)
+  pub step : (effect : Effect) × SliceStep old action effect new
   pub others : OtherLinesStay old new action.line.0
   pub config : new.config ≡ old.config
   pub index : new.index ≡ old.index
@@ -24,7 +23,7 @@ IsTried (Some refusal) old action new = new ≡ old
 -- each action is tried on what the one before it leaves
 abbrev pub IsRun : SliceState → List Action → SliceState → Type 0
 IsRun old [] new = new ≡ old
-IsRun old (action ∷ actions) new = (between : SliceState) × IsTried (action_refusal old action) old action between × IsRun between actions new
+IsRun old (action ∷ actions) new = (between : SliceState) × IsTried (refused old action) old action between × IsRun between actions new
 
 -- the journal is full, and the slot that an action names is in use, in both slices or in neither
 pub record IsSameRoom (s t : SliceState) (action : Action) : Type 0 where

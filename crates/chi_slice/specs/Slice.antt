@@ -17,7 +17,7 @@ use Rattle.chi_slice.specs.declared.terms.Terms.{Terms}
 use Rattle.chi_line.specs.LineState.{LineState, opening_line}
 use Rattle.chi_line.specs.declared.act.Conditions.{Conditions}
 use Rattle.chi_line.specs.Step.{after, effect_of, is_step_in_range, issued_slot, line_uses, record_of, slot_unless}
-use Rattle.chi_line.specs.LineStep.{LineStep}
+use Rattle.chi_line.specs.StepOf.{StepOf}
 use Rattle.chi_line.specs.Moves.{moved_slot}
 use Rattle.chi_line.specs.Refused.{line_refusal}
 use Rattle.chi_line.specs.Traffic.{KeepsFlits}
@@ -126,11 +126,12 @@ slice_after s action =
     record (with_line s (row_of_line s action.line.0) (after s.config.profile (line s action.line.0) action))
     { journal = log_after s.journal (entry_of s action) }
 
--- an action takes its line by its step, with this effect
+-- of the representation: an action takes its line by its step, with this effect
 abbrev pub IsStep : SliceState → Action → Effect → SliceState → Type 0
-IsStep old action effect new = LineStep old.config.profile (line old action.line.0) action effect (entry_of old action) (line new action.line.0)
+IsStep old action effect new =
+    StepOf old.config.profile (line old action.line.0) action.agent action.line action.step effect (entry_of old action) (line new action.line.0)
 
--- no flit of its line is lost or made by an action: those in flight then, with the one that it takes, are those
+-- of the representation: no flit of its line is lost or made by an action: those in flight then, with the one that it takes, are those
 -- before, with those that it sends
 abbrev pub IsBalanced : SliceState → Action → SliceState → Type 0
 IsBalanced old action new = KeepsFlits old.config.profile (line old action.line.0) action (line new action.line.0)

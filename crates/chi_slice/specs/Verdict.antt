@@ -8,7 +8,9 @@ use Rattle.chi_wires.specs.declared.cells.Cells.{Cells}
 use Rattle.chi_wires.specs.Cell.{no_flits}
 use Rattle.chi_line.specs.declared.view.CopyView.{CopyView}
 use Rattle.chi_line.specs.declared.view.LineView.{LineView}
-use Rattle.chi_line.specs.Coherent.{Coherent, IsCleanAgent}
+use Rattle.chi_line.specs.Clean.{IsCleanAgent}
+use Rattle.chi_line.specs.Coherence.{Coherent}
+use Rattle.chi_line.specs.Meaning.{standing_of}
 use Rattle.chi_line.specs.LineState.{LineState}
 use Rattle.chi_line.specs.View.{line_view}
 
@@ -66,4 +68,5 @@ pub record IsCoherentView (view : LineView) : Type 0 where
 -- a verdict on plain data is one on each line that shows it
 abbrev pub IsVerdictOnShown : LineView → Bool → Type 0
 IsVerdictOnShown view verdict =
-    (s : LineState) (last : List ℕ) → length s.requesters ≡ 8 → view ≡ line_view s last → IsTrue verdict ↔ Coherent last s
+    (s : LineState) (last : List ℕ) → length s.requesters ≡ 8 → length s.flits ≡ 8 → view ≡ line_view s last
+    → IsTrue verdict ↔ Coherent last (standing_of s)

@@ -11,7 +11,7 @@ use std::alloc::Allocator;
 
 /// How many loads and stores the journals of a node have, and whether its lines are coherent and its
 /// journals legal.
-/// Source: `docs/PROTOCOL.md`, "Replay files".
+/// Source: `docs/FORMATS.md`, "Replay files".
 #[derive(Clone, Copy, Debug, PartialEq, Eq)]
 pub struct Audit {
     pub loads: u64,
@@ -21,7 +21,7 @@ pub struct Audit {
 
 /// How many loads and stores the journals of slices have together, and whether each slice is coherent.
 /// Takes no memory.
-/// Source: `docs/PROTOCOL.md`, "Replay files".
+/// Source: `docs/FORMATS.md`, "Replay files".
 pub fn audit_of<A: Allocator>(slices: &[Slice<A>]) -> Audit
     requires { length slices.now ≤ 64 }
     ensures { IsAudited slices.now result.loads result.stores result.coherent }
@@ -42,13 +42,13 @@ pub fn audit_of<A: Allocator>(slices: &[Slice<A>]) -> Audit
 
 /// Whether each line of a slice is coherent, and its journal is legal. It asks each line and the journal,
 /// where they are, and answers true of every slice, since a slice keeps this. Takes no memory.
-/// Source: `docs/PROTOCOL.md`, "Coherence" and "Replay files".
+/// Source: `docs/PROTOCOL.md`, "Coherence", and `docs/FORMATS.md`, "Replay files".
 pub fn check_slice<A: Allocator>(slice: &Slice<A>) -> bool
     ensures verdict { IsTrue result ↔ IsCoherentSlice slice.now }
     ensures always { result ≡ true }
 {
-    let journal = slice.journal();
-    are_lines_coherent(slice) && journal.legal()
+    slice.coherence();
+    are_lines_coherent(slice) && slice.journal().legal()
 }
 
 /// Whether each line of a slice is coherent.

@@ -1,10 +1,12 @@
 //! A slice: some of the node's lines, and all that belongs to them.
 
-ghost use Rattle.std.specs.Prelude.{◌≡◌, ◌↔◌, ℕ, ◌<◌, ◌&&◌, nat_lt, true, false, None, Some, is_some, replicate, IfOk, IfSome, IsTrue, OnOk, OnErr};
+ghost use Rattle.std.specs.Prelude.{◌≡◌, ◌↔◌, ℕ, ◌<◌, ◌&&◌, nat_lt, true, false, None, Some, is_some, replicate, IfErr, IfOk, IfSome, IsTrue, OnOk, OnErr};
 ghost use Rattle.chi_flit.specs.Refusal.{refusal_of};
 ghost use Rattle.chi_journal.specs.Journal.{IsLegal};
-ghost use Rattle.chi_line.specs.Coherent.{Coherent};
+ghost use Rattle.chi_line.specs.Coherence.{Coherent};
 ghost use Rattle.chi_line.specs.LineState.{cells_of, opening_line, rn_of};
+ghost use Rattle.chi_line.specs.Meaning.{standing_of};
+ghost use Rattle.chi_line.specs.RefusalRows.{is_of_actions};
 ghost use Rattle.chi_line.specs.Step.{effect_of, is_step_in_range};
 ghost use Rattle.chi_line.specs.View.{line_view};
 ghost use Rattle.chi_slice.specs.declared.places.Place.{Place};
@@ -12,6 +14,7 @@ ghost use Rattle.chi_slice.specs.declared.terms.Terms.{Terms};
 ghost use Rattle.chi_slice.specs.Coherence.{IsCoherentSlice};
 ghost use Rattle.chi_config.specs.Config.{are_in_limits};
 ghost use Rattle.chi_slice.specs.Index.{HasType, IsInside, IsShown, SlotsInRange, is_slot_of, typed_at};
+ghost use Rattle.chi_slice.specs.Protocol.{IsEnabled, IsOpening, SliceStep, refused};
 ghost use Rattle.chi_slice.specs.Run.{IsRun};
 ghost use Rattle.chi_slice.specs.Slice.{IsBalanced, IsStep, OtherLinesStay, SliceKept, slice_after, are_in_range, completes, conditions_under, entry_of, flits_refusal, is_in_range, is_line_in_range, is_slot_used, last_of, line as line_of_slice, moved_by, no_terms, opening_slice, range_refusal, log_after, action_refusal, refused_under, row_count, row_of_line, run_after, run_done, uses, view_refusal};
 ghost use Rattle.chi_slice.specs.Table.{IsByTable};
@@ -95,7 +98,8 @@ impl<A: Allocator + Copy> Slice<A> {
     /// Source: `docs/PROTOCOL.md`, "One line".
     pub fn new(alloc: A, config: &Config, index: u8) -> Result<Slice<A>, NoMemory>
         requires { index < config.now.slices }
-        ensures { IfOk result (λ slice. slice ≡ opening_slice config.now index) }
+        ensures opening { IfOk result (λ slice. IsOpening slice) }
+        ensures parts { IfOk result (λ slice. slice ≡ opening_slice config.now index) }
     {
         let lines = opening_lines(alloc, row_count(config, index))?;
         let journal = Journal::with_limit(alloc, config.lines(), config.journal())?;
@@ -188,14 +192,22 @@ impl<A: Allocator> Slice<A> {
         }
     }
 
-    /// Does one action. It changes its own line alone, by the step of that action, and puts the record of
-    /// a load or store into the journal; it takes no memory. No flit is lost or made: those in flight for the
-    /// line afterwards, with the one that the action takes, are those before, with those that it sends.
+    /// Does one action. It changes its own line alone, by the action's row, and puts the record of a load or
+    /// store into the journal; it takes no memory. No flit is lost or made: those in flight for the line
+    /// afterwards, with the one that the action takes, are those before, with those that it sends.
     ///
     /// Refused 10 (OutOfRange) for a number outside its range or a line of another slice, then in the
-    /// order of the action's row; nothing changes then.
-    /// Source: `docs/PROTOCOL.md`, "The actions" and "Messages".
+    /// order of the action's row, and so never 8, 11 or 12; nothing changes then. It is done exactly where it
+    /// is enabled.
+    ///
+    /// Of the representation, for callers that compute with it: `refusal`, `step`, `journal`, `flits`, `effect`,
+    /// `after`.
+    /// Source: `docs/PROTOCOL.md`, "The actions", "Refusals" and "Messages".
     pub fn act(&mut self, action: Action) -> Result<Effect, Refusal>
+        ensures refused { refusal_of result ≡ refused self.old action }
+        ensures numbers { IfErr result (λ refusal. is_of_actions refusal ≡ true) }
+        ensures enabled { IsEnabled self.old action ↔ (refusal_of result ≡ None) }
+        ensures protocol { IfOk result (λ effect. SliceStep self.old action effect self.new) }
         ensures refusal { refusal_of result ≡ action_refusal self.old action }
         ensures step { IfOk result (λ effect. IsStep self.old action effect self.new) }
         ensures journal { OnOk result
@@ -215,11 +227,15 @@ impl<A: Allocator> Slice<A> {
     ///
     /// Refused as by `act`, and also 3 (Pending) an Issue whose slot is taken elsewhere, and 12 (NoCredit)
     /// a Resend without a credit of its request's type; nothing changes then.
+    ///
+    /// Of the representation, for callers that compute with it: `refusal`, `step`, `journal`, `flits`, `effect`,
+    /// `slot`, `after`.
     /// Source: `docs/PROTOCOL.md`, "The actions" and "A requester and its calls".
     #[inline(always)]
     pub fn act_under(&mut self, action: Action, terms: Terms) -> Result<Done, Refusal>
         ensures refusal { refusal_of result ≡ refused_under terms self.old action }
         ensures step { IfOk result (λ done. IsStep self.old action done.effect self.new) }
+        ensures protocol { IfOk result (λ done. SliceStep self.old action done.effect self.new) }
         ensures journal { OnOk result
             (self.new.journal ≡ log_after self.old.journal (entry_of self.old action)) }
         ensures flits { OnOk result (IsBalanced self.old action self.new) }
@@ -242,7 +258,7 @@ impl<A: Allocator> Slice<A> {
         })
     }
 
-    /// Tries the actions in their order; a refused one changes nothing. Answers how many were done.
+    /// Tries the actions in their order; a refused one changes nothing. AnswerRow how many were done.
     /// Takes no memory; the sizes and the index stay.
     /// Source: `docs/PROTOCOL.md`, "The actions".
     pub fn run(&mut self, actions: &[Action]) -> usize
@@ -320,7 +336,8 @@ impl<A: Allocator> Slice<A> {
     pub fn view(&self, line: Line) -> Result<LineView, Refusal>
         ensures shown { IfOk result
             (λ view. view ≡ line_view (line_of_slice self.now line.0) (last_of self.now line.0)) }
-        ensures coherent { OnOk result (Coherent (last_of self.now line.0) (line_of_slice self.now line.0)) }
+        ensures coherent { OnOk result
+            (Coherent (last_of self.now line.0) (standing_of (line_of_slice self.now line.0))) }
         ensures refusal { refusal_of result ≡ view_refusal self.now line.0 }
     {
         match self.line(line) {

@@ -1,7 +1,7 @@
 //! Whether a line is coherent, where it lies or as plain data.
 
 ghost use Rattle.std.specs.Prelude.{◌≡◌, ◌≢◌, ◌↔◌, ◌<◌, IsTrue, true};
-ghost use Rattle.chi_line.specs.Coherent.{Coherent, IsCleanAgent, passes_dirty};
+ghost use Rattle.chi_line.specs.Clean.{CoherentParts, IsCleanAgent, passes_dirty};
 ghost use Rattle.chi_slice.specs.Verdict.{IsBacked, IsCoherentView, IsPassed, IsVerdictOnShown, MayOthersStand, MayStandBeside, MayStandTogether, state_in};
 
 use chi_flit::{Agent, DatUp, Data, State};
@@ -35,7 +35,7 @@ fn is_coherent(view: &LineView) -> bool
 
 /// Whether a line is coherent, where it lies; last are the values last stored to its words.
 pub fn is_line_coherent(line: &chi_line::Line, last: Data) -> bool
-    ensures { IsTrue result ↔ Coherent last line.now }
+    ensures { IsTrue result ↔ CoherentParts last line.now }
 {
     let home = line.home();
     let named = home.filter().named();

@@ -6,8 +6,8 @@ use Rattle.chi_storm_script.proofs.StormLemmas.{front_enough}
 use Rattle.chi_storm.specs.declared.outcome.Outcome.{Outcome}
 use Rattle.chi_storm.specs.Storms.{IsStormOf}
 
-pub outcome_of_known : (left : Option (List ℕ)) (bytes : List ℕ) (result : Result Outcome Fault) → IfSome left (λ file. bytes ≡ take 1048577 file)
-    → IfOk result (IsStormOf bytes) → IfOk result (λ o. IfSome left (λ file. IsStormOf file o))
-outcome_of_known None bytes (Ok o) front ok = tt
-outcome_of_known (Some file) bytes (Ok o) front ok = record { header = ok.header; deeds = ok.deeds; good = sym (front_enough file) ∙ (sym (ap storm_of front) ∙ ok.good); comes = ok.comes }
-outcome_of_known left bytes (Err fault) front ok = ok
+pub outcome_of_known : (left : Option (List ℕ)) (bytes : List ℕ) (seed turns : ℕ) (result : Result Outcome Fault) → IfSome left (λ file. bytes ≡ take 1048577 file)
+    → IfOk result (IsStormOf bytes seed turns) → IfOk result (λ o. IfSome left (λ file. IsStormOf file seed turns o))
+outcome_of_known None bytes seed turns (Ok o) front ok = tt
+outcome_of_known (Some file) bytes seed turns (Ok o) front ok = record { header = ok.header; deeds = ok.deeds; good = sym (front_enough file) ∙ (sym (ap storm_of front) ∙ ok.good); comes = ok.comes }
+outcome_of_known left bytes seed turns (Err fault) front ok = ok

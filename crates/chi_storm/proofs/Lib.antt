@@ -1,4 +1,5 @@
 pub mod Seen
+pub mod Begins
 pub mod Filtered
 pub mod Judged
 pub mod Known

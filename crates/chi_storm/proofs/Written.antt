@@ -6,7 +6,8 @@ use Rattle.std.proofs.lemmas.List.Elements.{All-push, All-tail}
 use Rattle.chi_flit.specs.declared.operation.Operation.{Operation}
 use Rattle.chi_storm_script.specs.declared.operations.Deed.{Deed}
 use Rattle.atomic_table.specs.Seated.{TableId}
-use Rattle.chi_tallies.specs.Tallies.{IsFresh, WriterState, agent_of, numbers}
+use Rattle.chi_audit.specs.Numbers.{numbers}
+use Rattle.chi_audit.specs.Tallies.{IsFresh, WriterState}
 use Rattle.chi_storm.specs.Scripts.{script_of, scripts_below}
 
 pub next_scripts : {S : Type 0} (op : S → List Operation) (deeds : List Deed) (n : ℕ) (xs ys : List S) (x : S) → map op xs ≡ scripts_below n deeds → ys ≡ xs ++ x ∷ [] → op x ≡ script_of n deeds
@@ -30,11 +31,3 @@ left_new cells (x ∷ xs) ys all cut some = subst (All (IsFresh cells)) (sym cut
 
 pub first_new : (cells : List TableId) (xs : List WriterState) (w : WriterState) → All (IsFresh cells) xs → 0 < length xs → w ≡ get_or xs 0 w → IsFresh cells w
 first_new cells xs w all some first = subst (IsFresh cells) (sym first) (all 0 w some)
-
-length_numbers : (n : ℕ) → length (numbers n) ≡ n
-length_numbers zero = refl
-length_numbers (suc n) = omega (arith, length-append (numbers n) (n ∷ []), length_numbers n)
-
--- a writer for each agent
-pub as_many : (ws : List WriterState) (n : ℕ) → map agent_of ws ≡ numbers n → length ws ≡ n
-as_many ws n is = sym (length-map ws agent_of) ∙ (ap length is ∙ length_numbers n)

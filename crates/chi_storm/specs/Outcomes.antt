@@ -1,4 +1,4 @@
--- The four lines of a storm (docs/PROTOCOL.md, "The output of a storm").
+-- The four lines of a storm (docs/FORMATS.md, "The output of a storm").
 use Rattle.std.specs.Prelude.{ℕ, List, [], ◌∷◌, ◌++◌, codes}
 use Rattle.std.specs.Fmt.{decimal}
 use Rattle.chi_reply.specs.Replies.{holdings_text, verdict_text}

@@ -1,7 +1,7 @@
--- The script of an agent (docs/PROTOCOL.md, "Storm files").
+-- The script of an agent (docs/FORMATS.md, "Storm files").
 use Rattle.std.specs.Prelude.{ℕ, ◌==◌, List, map}
 use Rattle.std.specs.List.{filter}
-use Rattle.chi_tallies.specs.Tallies.{numbers}
+use Rattle.chi_audit.specs.Numbers.{numbers}
 use Rattle.chi_flit.specs.declared.operation.Operation.{Operation}
 use Rattle.chi_storm_script.specs.declared.operations.Deed.{Deed}
 

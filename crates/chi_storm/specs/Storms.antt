@@ -1,53 +1,66 @@
--- What a storm writes (docs/PROTOCOL.md, "Storm files" and "The output of a storm").
+-- What a storm writes (docs/FORMATS.md, "Storm files" and "The output of a storm").
 use Rattle.std.specs.Prelude.{◌≡◌, ◌↔◌, ℕ, ◌+◌, List, Bool, IfSome, IsTrue, Option, Ok}
 use Rattle.std.specs.Io.KnownBytes.{Appends, Keeps}
-use Rattle.chi_reports.specs.declared.reports.Report.{Report}
+use Rattle.chi_audit.specs.declared.reports.Report.{Report}
 use Rattle.chi_devices.specs.Devices.{AppendsFront}
 use Rattle.chi_script.specs.declared.headers.Header.{Header}
 use Rattle.chi_script.specs.declared.faults.Fault.{Fault}
 use Rattle.chi_script.specs.declared.faults.Fault.TheVariants.{NoMemory, Write}
 use Rattle.chi_config.specs.Config.{Sizes}
 use Rattle.chi_node.specs.Requester.{RequesterState}
-use Rattle.chi_home.specs.Node.{AreOwn, NodeState}
+use Rattle.chi_node.specs.Parts.{opening_requesters}
+use Rattle.chi_tracker.specs.Calls.{shape_of}
+use Rattle.chi_node.specs.Node.{AreOwn, NodeState}
+use Rattle.chi_agent.specs.Runs.{starts, AllLeave, KeepsTold, Start}
 use Rattle.chi_storm_script.specs.declared.operations.Deed.{Deed}
 use Rattle.chi_storm_script.specs.Storms.{storm_of}
 use Rattle.chi_script.specs.Headers.{node_sizes}
 use Rattle.chi_storm.specs.declared.outcome.Outcome.{Outcome}
 use Rattle.chi_storm.specs.Outcomes.{outcome_text}
+use Rattle.chi_storm.specs.Scripts.{scripts_below}
 use Rattle.chi_storm.specs.Verdicts.{IsOutcome}
 
--- what came of a node of this size, with the requesters that are its own, the reports of its agents and their
--- refusals
-pub record ComesOf (config : Sizes) (o : Outcome) : Type 0 where
+-- how the agents of a node begin: its requesters as they are at first, each with its lines of the file as its
+-- script, with this seed, and so many turns at most
+abbrev pub storm_starts : NodeState → List Deed → ℕ → ℕ → List Start
+storm_starts n deeds seed turns = starts n.config seed turns (opening_requesters n.tracker.table n.tracker.shape n.config.agents) (scripts_below n.config.agents deeds)
+
+-- what came of a node of this size whose agents played these scripts: each agent's requester, the report that it
+-- told, which is the one that was kept, and whether it met refusal 11
+pub record ComesOf (config : Sizes) (deeds : List Deed) (seed turns : ℕ) (o : Outcome) : Type 0 where
   pub node : NodeState
   pub requesters : List RequesterState
-  pub reports : List (Option Report)
+  pub told : List Report
+  pub kept : List (Option Report)
   pub not_open : List Bool
   pub sizes : node.config ≡ config
+  pub shape : node.tracker.shape ≡ shape_of config.entries config.agents
   pub own : AreOwn node requesters
-  pub outcome : IsOutcome node requesters reports not_open o
+  pub lives : AllLeave (storm_starts node deeds seed turns) requesters told not_open
+  pub as_told : KeepsTold config.agents told kept
+  pub outcome : IsOutcome node requesters kept not_open o
 
--- a good file, and what came of a node of its header's size
-pub record IsStormOf (file : List ℕ) (o : Outcome) : Type 0 where
+-- a good file, and what came of its scripts on a node of its header's size
+pub record IsStormOf (file : List ℕ) (seed turns : ℕ) (o : Outcome) : Type 0 where
   pub header : Header
   pub deeds : List Deed
   pub good : storm_of file ≡ Ok (header, deeds)
-  pub comes : ComesOf (node_sizes header) o
+  pub comes : ComesOf (node_sizes header) deeds seed turns o
 
 -- the four lines of such an outcome were written, no more; whether each agent's script finished
-pub record IsWritten (file : List ℕ) (all : Bool) (old new : Option (List ℕ)) : Type 0 where
+pub record IsWritten (file : List ℕ) (seed turns : ℕ) (all : Bool) (old new : Option (List ℕ)) : Type 0 where
   pub came : Outcome
-  pub storm : IsStormOf file came
+  pub storm : IsStormOf file seed turns came
   pub finished : IsTrue all ↔ (came.finished ≡ came.agents)
   pub written : Appends old new (outcome_text came)
 
 -- of the file that the input has, where its bytes are known: its four lines were written
-abbrev pub WritesOutcome : Option (List ℕ) → Option (List ℕ) → Option (List ℕ) → Bool → Type 0
-WritesOutcome input old new all = IfSome input (λ file. IsWritten file all old new)
+abbrev pub WritesOutcome : Option (List ℕ) → ℕ → ℕ → Option (List ℕ) → Option (List ℕ) → Bool → Type 0
+WritesOutcome input seed turns old new all = IfSome input (λ file. IsWritten file seed turns all old new)
 
 -- of that file: a beginning of them was written
-abbrev pub WritesFront : Option (List ℕ) → Option (List ℕ) → Option (List ℕ) → Type 0
-WritesFront input old new = IfSome input (λ file. (o : Outcome) × IsStormOf file o × AppendsFront old new (outcome_text o))
+abbrev pub WritesFront : Option (List ℕ) → ℕ → ℕ → Option (List ℕ) → Option (List ℕ) → Type 0
+WritesFront input seed turns old new = IfSome input (λ file. (o : Outcome) × IsStormOf file seed turns o × AppendsFront old new (outcome_text o))
 
 -- why an outcome wasn't written: the output failed, and counted it, and a beginning was written; or memory ran
 -- out, and nothing was

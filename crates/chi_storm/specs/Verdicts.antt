@@ -1,15 +1,16 @@
--- The verdict on a storm, and what is counted (docs/PROTOCOL.md, "The output of a storm").
-use Rattle.std.specs.Prelude.{◌≡◌, ◌↔◌, ℕ, List, All, Bool, IsTrue, false, Option, Some, None, length}
+-- The verdict on a storm, and what is counted (docs/FORMATS.md, "The output of a storm").
+use Rattle.std.specs.Prelude.{◌≡◌, ◌↔◌, ℕ, ◌+◌, List, [], ◌∷◌, All, Bool, IsTrue, true, false, Option, Some, None, length, ⊤}
 use Rattle.std.specs.List.{count_by}
+use Rattle.chi_config.specs.Config.{Sizes}
 use Rattle.chi_tracker.specs.declared.totals.Counts.{Counts}
 use Rattle.chi_tracker.specs.declared.totals.Credits.{Credits}
-use Rattle.chi_tracker.specs.Totals.{IsClosed, views_of}
+use Rattle.chi_tracker.specs.Totals.{IsClosed, longest, views_of}
 use Rattle.chi_slice.specs.Audits.{loads_in, stores_in}
 use Rattle.chi_slice.specs.Coherence.{IsCoherentSlice}
-use Rattle.chi_home.specs.Node.{NodeState, owners_of}
+use Rattle.chi_node.specs.Node.{IsSliceOf, NodeState, owners_of}
 use Rattle.chi_text.specs.NodeReplies.{totals_told}
 use Rattle.chi_storm.specs.declared.outcome.Outcome.{Outcome}
-use Rattle.chi_reports.specs.declared.reports.Report.{Report}
+use Rattle.chi_audit.specs.declared.reports.Report.{Report}
 use Rattle.chi_slice.specs.Slice.{SliceState}
 use Rattle.chi_node.specs.Agree.{Agree}
 use Rattle.chi_node.specs.Requester.{RequesterState}
@@ -27,21 +28,39 @@ finished_in reports = count_by is_finished reports
 abbrev pub AreAllOpen : List Bool → Type 0
 AreAllOpen not_open = All (λ met. met ≡ false) not_open
 
--- a slice was looked at, and this is whether each requester agrees with it
-abbrev pub AgreesBehind : List RequesterState → Bool → Type 0
-AgreesBehind requesters found = (s : SliceState) × (IsTrue found ↔ All (Agree s) requesters)
+-- a slice is the one of line i in a node of that size, which is that of index i where there are more than i slices,
+-- and each requester agrees with it
+pub record AgreesAt (config : Sizes) (requesters : List RequesterState) (index : ℕ) (s : SliceState) : Type 0 where
+  pub own : IsSliceOf config index s
+  pub agree : All (Agree s) requesters
 
--- so many slices were looked at, each while its lock was held, and this is whether each requester agrees
--- with each of them
-pub record SeenToAgree (n : ℕ) (requesters : List RequesterState) (found : Bool) : Type 0 where
+-- so each of these slices, the first being that of this index, and the others those behind it
+abbrev pub AgreeFrom : Sizes → List RequesterState → ℕ → List SliceState → Type 0
+AgreeFrom config requesters first [] = ⊤
+AgreeFrom config requesters first (s ∷ ss) = AgreesAt config requesters first s × AgreeFrom config requesters (first + 1) ss
+
+-- a slice was looked at, and this is whether it is so
+abbrev pub SeenAt : Sizes → List RequesterState → ℕ → Bool → Type 0
+SeenAt config requesters index found = (s : SliceState) × (IsTrue found ↔ AgreesAt config requesters index s)
+
+-- the slices of the indices below n were looked at, each while its lock was held, and this is whether each is so
+pub record SeenToAgree (n : ℕ) (config : Sizes) (requesters : List RequesterState) (found : Bool) : Type 0 where
   pub slices : List SliceState
   pub count : length slices ≡ n
-  pub agree : IsTrue found ↔ All (λ s. All (Agree s) requesters) slices
+  pub agree : IsTrue found ↔ AgreeFrom config requesters 0 slices
 
--- each slice is coherent, no agent met refusal 11, and each requester agrees with each slice as it was seen
-pub record IsGood (slices seen : List SliceState) (requesters : List RequesterState) (not_open : List Bool) : Type 0 where
+-- what the verdict is made of: the slices are coherent, each requester agrees with each, and no agent met
+-- refusal 11
+pub record IsGoodSo (slices requesters : Bool) (not_open : List Bool) : Type 0 where
+  pub coherent : slices ≡ true
+  pub agree : requesters ≡ true
+  pub all_open : AreAllOpen not_open
+
+-- each slice is coherent, no agent met refusal 11, and each requester agrees with each slice as it was seen,
+-- those of all indices in their order
+pub record IsGood (config : Sizes) (slices seen : List SliceState) (requesters : List RequesterState) (not_open : List Bool) : Type 0 where
   pub coherent : All IsCoherentSlice slices
-  pub agree : All (λ s. All (Agree s) requesters) seen
+  pub agree : AgreeFrom config requesters 0 seen
   pub all_open : AreAllOpen not_open
 
 -- what came of a storm: `slices` are those that the closed node gave, and `seen` those that were locked once
@@ -57,6 +76,6 @@ pub record IsOutcome (n : NodeState) (requesters : List RequesterState) (reports
   pub finished : o.finished ≡ finished_in reports
   pub loads : o.loads ≡ loads_in slices
   pub stores : o.stores ≡ stores_in slices
-  pub closed : IsClosed n.tracker.shape (views_of (owners_of requesters)) counts credits
+  pub closed : IsClosed n.tracker.shape (views_of (owners_of requesters)) (longest (owners_of requesters)) counts credits
   pub holdings : o.holdings.0 ≡ totals_told counts n.config.profile
-  pub verdict : IsTrue o.coherent ↔ IsGood slices seen requesters not_open
+  pub verdict : IsTrue o.coherent ↔ IsGood n.config slices seen requesters not_open

@@ -1,6 +1,6 @@
 //! A storm: from the bytes of a file of scripts to the four lines that are written.
 //!
-//! Source: `docs/PROTOCOL.md`, "Storm files" and "The output of a storm".
+//! Source: `docs/FORMATS.md`, "Storm files" and "The output of a storm".
 #![tactic(auto)]
 
 mod outcome;
@@ -11,4 +11,4 @@ mod verdict;
 pub use outcome::Outcome;
 pub use scripts::script_of;
 pub use storms::storm;
-pub use verdict::outcome_of;
+pub use verdict::{outcome_of, verdict_of};

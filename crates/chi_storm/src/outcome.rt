@@ -8,7 +8,7 @@ use std::alloc::{AllocError, Allocator};
 /// What came of a storm: how many agents there were and how many finished their scripts, the loads and
 /// stores in the journals, what the tracker held at its end, and the verdict. It prints as the four lines
 /// of a storm, each with its line end.
-/// Source: `docs/PROTOCOL.md`, "The output of a storm".
+/// Source: `docs/FORMATS.md`, "The output of a storm".
 #[derive(Clone, Copy, Debug, PartialEq, Eq)]
 pub struct Outcome {
     pub agents: u8,

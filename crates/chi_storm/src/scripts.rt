@@ -1,14 +1,14 @@
 //! The script of each agent, out of the operations of a file.
 
 ghost use Rattle.std.specs.Prelude.{◌≡◌, ◌==◌, All, IfOk, length, map, vec_capacity, vec_len};
-ghost use Rattle.chi_tallies.specs.Tallies.{IsFresh};
-ghost use Rattle.chi_agent.specs.Script.{AreFresh};
+ghost use Rattle.chi_audit.specs.Tallies.{agent_of, IsFresh};
+ghost use Rattle.chi_agent.specs.Script.{operations_of, writer_of, AreFresh};
 ghost use Rattle.chi_storm.specs.Scripts.{deeds_of, script_of, scripts_below};
 
 use chi_agent::Script;
+use chi_audit::{Tallies, Writer};
 use chi_flit::{NoMemory, Operation};
 use chi_storm_script::Deed;
-use chi_tallies::{Tallies, Writer};
 use std::alloc::{AllocError, Allocator, Global};
 
 /// Whether an operation is the agent's.
@@ -33,7 +33,7 @@ fn count_of(deeds: &[Deed], agent: u8) -> usize
 
 /// The script of the agent: its operations, in the order of the file. The list has room for no more.
 /// Refused where memory runs out.
-/// Source: `docs/PROTOCOL.md`, "Storm files".
+/// Source: `docs/FORMATS.md`, "Storm files".
 pub fn script_of<A: Allocator>(
     alloc: A,
     deeds: &[Deed],
@@ -52,6 +52,7 @@ pub fn script_of<A: Allocator>(
 }
 
 /// The scripts of the agents in rising order, each with its writer. Refused where memory runs out.
+#[tactic(auto, using(chi_agent::proofs::Numbers::all_moved))]
 pub(crate) fn scripts_of(
     alloc: Global,
     tallies: &Tallies,
@@ -61,15 +62,17 @@ pub(crate) fn scripts_of(
 ) -> Result<Vec<Script<Global>>, NoMemory>
     requires fresh { All (IsFresh tallies.now) writers.items }
     requires count { length writers.items ≡ agents }
+    ensures writers { IfOk result (λ scripts. map writer_of scripts.items ≡ map agent_of writers.items) }
     ensures scripts { IfOk result
-        (λ scripts. map (λ s. s.operations) scripts.items ≡ scripts_below agents deeds.now) }
+        (λ scripts. operations_of scripts.items ≡ scripts_below agents deeds.now) }
     ensures fresh { IfOk result (λ scripts. AreFresh tallies.now scripts.items) }
     ensures count { IfOk result (λ scripts. vec_len scripts ≡ agents) }
 {
     let mut scripts = Vec::with_capacity(alloc, usize::from(agents))?;
     for agent in 0..agents {
         let script = script_of(alloc, deeds, agent)?;
-        scripts.push_reserved(Script::new(script, writers.remove(0)));
+        let writer = writers.remove(0);
+        scripts.push_reserved(Script::new(writer.agent(), script, writer));
     }
     Ok(scripts)
 }

@@ -12,24 +12,23 @@ ghost use Rattle.chi_storm.specs.Storms.{ComesOf, IsStormOf, NotTold, WritesFron
 use crate::outcome::Outcome;
 use crate::scripts::scripts_of;
 use crate::verdict::outcome_of;
-use chi_agent::{Ended, OpenGate, run_agents};
+use chi_agent::{OpenGate, run_agents};
 use chi_devices::{Failed, Input, Output, read_all};
 use chi_flit::NoMemory;
-use chi_home::Node;
+use chi_node::Node;
 use chi_replay::config_of;
 use chi_reply::Wording;
 use chi_script::Fault;
 use chi_slice::Config;
 use chi_storm_script::{Deed, Storm, read_storm};
-use chi_tallies::open_tallies;
 use std::alloc::Global;
 use std::sync::Wait;
 use std::thread::Threads;
 use std::time::Clock;
 
 /// What comes of a node of that size whose agents run the scripts, in threads. It may wait. Refused where
-/// memory runs out.
-#[tactic(auto, using(crate::proofs::Written::as_many))]
+/// memory runs out, and where a thread can't be started.
+#[tactic(auto, using(chi_agent::proofs::Numbers::as_many))]
 fn outcome_on<R: Threads + Wait + Clock + Sync>(
     rt: &R,
     alloc: Global,
@@ -38,23 +37,16 @@ fn outcome_on<R: Threads + Wait + Clock + Sync>(
     seed: u64,
     turns: u64,
 ) -> Result<Outcome, NoMemory>
-    ensures { IfOk result (ComesOf config.now) }
+    ensures { IfOk result (ComesOf config.now deeds.now seed turns) }
 {
     let (node, requesters) = Node::new(alloc, config)?;
     let agents = config.agents();
-    let (cells, writers, _watcher) = open_tallies(alloc, agents)?;
+    let (cells, writers, _watcher) = chi_audit::tallies(alloc, agents)?;
     let scripts = scripts_of(alloc, &cells, deeds, agents, writers)?;
     let ended = run_agents(
         rt, alloc, &node, &cells, requesters, scripts, seed, turns, &OpenGate,
     )?;
-    let Ended {
-        requesters,
-        not_open,
-        gathered,
-        ..
-    } = ended;
-    let not_open = not_open.as_slice();
-    Ok(outcome_of(rt, node, requesters, &gathered.reports, not_open))
+    Ok(outcome_of(rt, node, ended))
 }
 
 /// What comes of a file, whose bytes these are; else its first fault, or want of memory.
@@ -65,7 +57,7 @@ fn outcome_in<R: Threads + Wait + Clock + Sync>(
     seed: u64,
     turns: u64,
 ) -> Result<Outcome, Fault>
-    ensures ok { IfOk result (IsStormOf bytes.now) }
+    ensures ok { IfOk result (IsStormOf bytes.now seed turns) }
     ensures err { IfErr result (λ fault. Fails fault (storm_of bytes.now)) }
 {
     let Storm { header, deeds, .. } = read_storm(alloc, bytes)?;
@@ -85,7 +77,7 @@ fn outcome_of_input<R: Threads + Wait + Clock + Sync, I: Input>(
     turns: u64,
 ) -> Result<Outcome, Fault>
     requires { I.failures input.old + 1 < 2 ^ 64 }
-    ensures ok { IfOk result (λ outcome. IfSome (I.left input.old) (λ file. IsStormOf file outcome)) }
+    ensures ok { IfOk result (λ outcome. IfSome (I.left input.old) (λ file. IsStormOf file seed turns outcome)) }
     ensures err { IfErr result
         (NoText storm_of (I.left input.old) (I.failures input.old) (I.failures input.new)) }
 {
@@ -121,7 +113,7 @@ fn write_outcome<O: Output>(alloc: Global, outcome: Outcome, output: &mut O) -> 
 /// failure. After `Write` a beginning of the four lines was written; after any other fault nothing was.
 ///
 /// Conditions: the counts of failures of the input and of the output are below 2 ^ 64 - 1.
-/// Source: `docs/PROTOCOL.md`, "Storm files", "The output of a storm" and "The program".
+/// Source: `docs/FORMATS.md`, "Storm files", "The output of a storm" and "The program".
 pub fn storm<R: Threads + Wait + Clock + Sync, I: Input, O: Output>(
     rt: &R,
     alloc: Global,
@@ -133,10 +125,10 @@ pub fn storm<R: Threads + Wait + Clock + Sync, I: Input, O: Output>(
     requires reads { I.failures input.old + 1 < 2 ^ 64 }
     requires writes { O.failures output.old + 1 < 2 ^ 64 }
     ensures ok { IfOk result
-        (WritesOutcome (I.left input.old) (O.written output.old) (O.written output.new)) }
+        (WritesOutcome (I.left input.old) seed turns (O.written output.old) (O.written output.new)) }
     ensures write { AtWrite result (O.failures output.new ≡ O.failures output.old + 1) }
     ensures front { AtWrite result
-        (WritesFront (I.left input.old) (O.written output.old) (O.written output.new)) }
+        (WritesFront (I.left input.old) seed turns (O.written output.old) (O.written output.new)) }
     ensures err { NoTextAt result storm_of (I.left input.old) (I.failures input.old) (I.failures input.new) }
     ensures kept { IfErr result
         (λ fault. fault ≢ Fault.Write → Keeps (O.written output.old) (O.written output.new)) }

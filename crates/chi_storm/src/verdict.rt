@@ -1,17 +1,16 @@
 //! The verdict on a storm.
 
 ghost use Rattle.std.specs.Prelude.{◌≡◌, ◌<◌, ◌↔◌, IsTrue};
-ghost use Rattle.chi_home.specs.Node.{AreOwn};
-ghost use Rattle.chi_storm.specs.Verdicts.{AgreesBehind, AreAllOpen, IsOutcome, SeenToAgree, finished_in, is_finished};
+ghost use Rattle.chi_node.specs.Node.{AreOwn, IsSliceOf};
+ghost use Rattle.chi_storm.specs.Verdicts.{AreAllOpen, IsGoodSo, IsOutcome, SeenAt, SeenToAgree, finished_in, is_finished};
 
 use crate::outcome::Outcome;
-use arrayvec::ArrayVec;
+use chi_agent::Ended;
+use chi_audit::Report;
 use chi_flit::Line;
-use chi_home::Node;
-use chi_node::{Requester, agree_with};
+use chi_node::{Node, Requester, agree_with};
 use chi_reply::Holdings;
-use chi_reports::Report;
-use chi_slice::{Slice, audit_of};
+use chi_slice::{Config, Slice, audit_of};
 use chi_text::totals_told;
 use std::alloc::Allocator;
 use std::sync::Wait;
@@ -29,7 +28,7 @@ fn finished_in(reports: &[Option<Report>; 8]) -> u8
     finished
 }
 
-/// Whether a report came and says that the script finished.
+/// Whether a report was kept and says that the script finished.
 fn is_finished(report: Option<Report>) -> bool
     ensures { result ≡ is_finished report }
 {
@@ -50,71 +49,88 @@ fn are_all_open(not_open: &[bool]) -> bool
     open
 }
 
-/// Whether each requester agrees with the slice.
-fn agrees_here<A: Allocator>(slice: &Slice<A>, requesters: &[Requester]) -> bool
-    ensures { AgreesBehind requesters.now result }
+/// Whether each requester agrees with a slice of the node.
+fn agrees_here<A: Allocator>(
+    slice: &Slice<A>,
+    config: &Config,
+    index: u8,
+    requesters: &[Requester],
+) -> bool
+    requires { IsSliceOf config.now index slice.now }
+    ensures { SeenAt config.now requesters.now index result }
 {
     agree_with(slice, requesters)
 }
 
-/// Whether each requester agrees with the slice of the line, which is locked for it. It may wait for another
-/// thread that has the lock.
-fn agrees_behind<R: Wait, A: Allocator>(
+/// Whether the slice of the index, which is locked for it, is the node's, and each requester agrees with it. It may
+/// wait for another thread that has the lock.
+#[tactic(auto, using(crate::proofs::Seen::lock_refused))]
+fn agrees_at<R: Wait, A: Allocator>(
     rt: &R,
     node: &Node<A>,
-    line: Line,
+    index: u8,
     requesters: &[Requester],
 ) -> bool
-    requires { line.0 < node.now.config.lines }
-    ensures { AgreesBehind requesters.now result }
+    requires { index < node.now.config.lines }
+    ensures { SeenAt node.now.config requesters.now index result }
 {
-    let Ok(slice) = node.lock(rt, line) else {
-        unreachable!()
-    };
-    agrees_here(&slice, requesters)
+    match node.lock(rt, Line(index)) {
+        Ok(slice) => agrees_here(&slice, node.config(), index, requesters),
+        Err(_) => false,
+    }
 }
 
 /// Whether each requester agrees with each slice, each of which is locked once more for it.
 fn all_agree<R: Wait, A: Allocator>(rt: &R, node: &Node<A>, requesters: &[Requester]) -> bool
-    ensures { SeenToAgree node.now.config.slices requesters.now result }
+    ensures { SeenToAgree node.now.config.slices node.now.config requesters.now result }
 {
     let slices = node.config().slices();
     let mut agree = true;
     for index in 0..slices {
-        agree &= agrees_behind(rt, node, Line(index), requesters);
+        agree &= agrees_at(rt, node, index, requesters);
     }
     agree
 }
 
-/// What came of a storm on the node, whose agents have ended: these are its requesters, the reports that were
-/// kept, and whether each agent met refusal 11. Each slice is locked once more before the node is closed; it
-/// may wait for another thread that has the lock. Takes no memory.
+/// The verdict on a storm: whether its slices are coherent, each requester agrees with each slice, and no
+/// agent met refusal 11.
+/// Source: `docs/FORMATS.md`, "The output of a storm".
+#[tactic(auto, using(crate::proofs::Judged::good_so))]
+pub fn verdict_of(coherent: bool, agree: bool, not_open: &[bool]) -> bool
+    ensures { IsTrue result ↔ IsGoodSo coherent agree not_open.now }
+{
+    let all_open = are_all_open(not_open);
+    coherent & agree & all_open
+}
+
+/// What came of a storm on the node, whose agents have ended so. Each slice is locked once more before the
+/// node is closed; it may wait for another thread that has the lock. Takes no memory.
 ///
 /// Condition: the requesters are all that the node gave.
-/// Source: `docs/PROTOCOL.md`, "The output of a storm".
-pub fn outcome_of<R: Wait, A: Allocator>(
-    rt: &R,
-    node: Node<A>,
-    requesters: ArrayVec<Requester, 8>,
-    reports: &[Option<Report>; 8],
-    not_open: &[bool],
-) -> Outcome
-    requires { AreOwn node requesters.items }
-    ensures { IsOutcome node requesters.items reports.now not_open.now result }
+/// Source: `docs/FORMATS.md`, "The output of a storm".
+pub fn outcome_of<R: Wait, A: Allocator>(rt: &R, node: Node<A>, ended: Ended) -> Outcome
+    requires { AreOwn node ended.requesters.items }
+    ensures { IsOutcome node ended.requesters.items ended.gathered.reports ended.not_open.items result }
 {
     let config = *node.config();
     let agents = config.agents();
+    let Ended {
+        requesters,
+        not_open,
+        gathered,
+        ..
+    } = ended;
     let agree = all_agree(rt, &node, requesters.as_slice());
     let (slices, totals) = node.close(requesters);
     let audit = audit_of(&slices);
-    let all_open = are_all_open(not_open);
+    let met = not_open.as_slice();
     let holdings = totals_told(totals.counts, config.profile());
     Outcome {
         agents,
-        finished: finished_in(reports),
+        finished: finished_in(&gathered.reports),
         loads: audit.loads,
         stores: audit.stores,
         holdings: Holdings(holdings),
-        coherent: audit.coherent & agree & all_open,
+        coherent: verdict_of(audit.coherent, agree, met),
     }
 }

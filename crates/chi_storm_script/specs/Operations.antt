@@ -1,5 +1,5 @@
 -- The operations of a storm file: a table for each count of words, a line for each operation
--- (docs/PROTOCOL.md, "Storm files").
+-- (docs/FORMATS.md, "Storm files").
 use Rattle.std.specs.Prelude.{ℕ, nat_lt, List, [], ◌∷◌, Option, Some, None, if◌then◌else◌, codes}
 use Rattle.chi_flit.specs.declared.operation.Task.{Task}
 use Rattle.chi_flit.specs.declared.operation.Task.TheVariants.{Load, Share, Store, WriteBack, WriteClean, WriteEvict, Evict, Drop}

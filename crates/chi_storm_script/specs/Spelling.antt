@@ -1,4 +1,4 @@
--- How operations and storm files are written (docs/PROTOCOL.md, "Storm files"): apart from how they are
+-- How operations and storm files are written (docs/FORMATS.md, "Storm files"): apart from how they are
 -- read.
 use Rattle.std.specs.Prelude.{◌≡◌, ℕ, ◌^◌, ◌<◌, ◌≤◌, List, [], ◌∷◌, ◌++◌, length, map, codes, true}
 use Rattle.std.specs.List.{All, join_with_byte}

@@ -1,5 +1,5 @@
 -- A storm file is a header and operations, or faulty: then its first faulty line is told
--- (docs/PROTOCOL.md, "Storm files").
+-- (docs/FORMATS.md, "Storm files").
 use Rattle.std.specs.Prelude.{ℕ, ◌+◌, ◌==◌, nat_lt, List, [], ◌∷◌, Result, Ok, Err, length, if◌then◌else◌, ok_or}
 use Rattle.chi_script.specs.declared.headers.Header.{Header}
 use Rattle.chi_script.specs.declared.faults.Fault.{Fault}

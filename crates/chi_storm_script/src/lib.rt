@@ -1,7 +1,7 @@
 //! The grammar of storm files: from a file's bytes to its header and the operations of its agents, or to
 //! its first fault.
 //!
-//! Source: `docs/PROTOCOL.md`, "Storm files".
+//! Source: `docs/FORMATS.md`, "Storm files".
 #![tactic(auto)]
 
 mod laws;

@@ -8,7 +8,7 @@ use chi_flit::{Agent, Line, Operation, Task, WordNo};
 use chi_script::{Header, is, number};
 
 /// One line of a storm file: an operation, and the agent in whose script it stands.
-/// Source: `docs/PROTOCOL.md`, "Storm files".
+/// Source: `docs/FORMATS.md`, "Storm files".
 #[derive(Clone, Copy, Debug, PartialEq, Eq)]
 pub struct Deed {
     pub agent: Agent,
@@ -22,7 +22,7 @@ const WORDS: u8 = 8;
 /// form `VERB N L` those of `writeback`, `writeclean`, `writeevict`, `evict` and `drop`. `None` for an
 /// unknown word, a wrong count of words, a faulty number, and an agent, a line or a word that is outside
 /// the header's ranges.
-/// Source: `docs/PROTOCOL.md`, "Storm files".
+/// Source: `docs/FORMATS.md`, "Storm files".
 pub fn read_deed(header: &Header, words: &[&[u8]]) -> Option<Deed>
     ensures { result ≡ deed_of header.now (texts_of words.now) }
 {

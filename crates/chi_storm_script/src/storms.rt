@@ -14,7 +14,7 @@ use std::alloc::Allocator;
 
 /// A good storm file: the sizes of the system, and the operations in the order of their lines. The
 /// script of an agent is the operations that name it.
-/// Source: `docs/PROTOCOL.md`, "Storm files".
+/// Source: `docs/FORMATS.md`, "Storm files".
 #[derive(Drop)]
 pub struct Storm<A: Allocator> {
     pub header: Header,
@@ -27,7 +27,7 @@ pub struct Storm<A: Allocator> {
 /// `TooLarge` where the file has more than `MOST_BYTES` bytes, before all else. Otherwise the first
 /// faulty line is told: `BadHeader`, `BadCommand`, or `MissingNewline` where bytes stand behind the last
 /// line end. An empty file is `BadHeader`. `NoMemory` where memory runs out.
-/// Source: `docs/PROTOCOL.md`, "Storm files".
+/// Source: `docs/FORMATS.md`, "Storm files".
 #[tactic(auto, unfolding(crate::specs::Storms::storm_of))]
 pub fn read_storm<A: Allocator + Copy>(alloc: A, bytes: &[u8]) -> Result<Storm<A>, Fault>
     ensures read { Gives (λ storm. (storm.header, storm.deeds.items)) result (storm_of bytes.now) }

@@ -1,4 +1,4 @@
-//! Storm files, good and faulty, by `docs/PROTOCOL.md`, "Storm files".
+//! Storm files, good and faulty, by `docs/FORMATS.md`, "Storm files".
 
 use crate::{Deed, front_is_enough, operations_are_lines, read_deed, read_storm, storms_are_files};
 use chi_flit::{Agent, Line, Operation, Profile, Task, WordNo};

@@ -1,6 +1,6 @@
-//! Tests of storms: the four lines of files of scripts, with devices that fail too.
+//! Tests of storms: the four lines of files of scripts, with devices that fail too, and the verdict.
 //!
-//! Source: `docs/PROTOCOL.md`, "Storm files" and "The output of a storm".
+//! Source: `docs/FORMATS.md`, "Storm files" and "The output of a storm".
 #![tactic(auto)]
 
 #[cfg(test)]
@@ -11,3 +11,5 @@ mod devices;
 mod scripts;
 #[cfg(test)]
 mod storms;
+#[cfg(test)]
+mod verdicts;

@@ -8,17 +8,19 @@ use std::sync::Wait;
 use std::thread::Threads;
 use std::time::Clock;
 
-/// The file has these lines, whether all of its scripts finished being the answer.
+/// The file has these lines with this seed and so many turns, whether all of its scripts finished being the
+/// answer.
 fn ends(
     rt: &(impl Abort + AllocGlobal + Threads + Wait + Clock + Sync),
     file: &[u8],
     seed: u64,
+    turns: u64,
     text: &[u8],
     all: bool,
 ) {
     let mut input = MemoryInput::new(file, 1_000);
     let mut output = MemoryOutput::new(rt.alloc(), 1_000);
-    let done = storm(rt, rt.alloc(), &mut input, &mut output, seed, 10_000_000);
+    let done = storm(rt, rt.alloc(), &mut input, &mut output, seed, turns);
     same(rt, done, Ok(all));
     assert!(rt; output.bytes() == text);
 }
@@ -33,7 +35,7 @@ const EIGHT_AGENTS_TEXT: &[u8] =
 #[test]
 fn eight_agents_finish_with_any_seed(rt: HostRuntime) {
     for seed in 1..=20 {
-        ends(&rt, EIGHT_AGENTS, seed, EIGHT_AGENTS_TEXT, true);
+        ends(&rt, EIGHT_AGENTS, seed, 10_000_000, EIGHT_AGENTS_TEXT, true);
     }
 }
 
@@ -73,6 +75,22 @@ fn storms_end_with_their_lines(rt: HostRuntime) {
         (NO_SCRIPT, NO_SCRIPT_TEXT, true),
     ];
     for (file, text, all) in storms {
-        ends(&rt, file, 7, text, all);
+        ends(&rt, file, 7, 10_000_000, text, all);
     }
+}
+
+/// One agent that loads. In its first four turns the request is issued, arrives and is started, and its data
+/// comes; in the fifth it loads, and the CompAck is still in flight.
+const ONE_LOAD: &[u8] = b"node 1 1 1 1 1 4\nload 0 0 0\n";
+
+const FOUR_TURNS_TEXT: &[u8] =
+    b"agents 1 finished 0\nloads 0 stores 0\nfree 0 1 hand 1 0 promised 0 0 owed 0 0\nverdict coherent\n";
+
+const FIVE_TURNS_TEXT: &[u8] =
+    b"agents 1 finished 1\nloads 1 stores 0\nfree 0 1 hand 1 0 promised 0 0 owed 0 0\nverdict coherent\n";
+
+#[test]
+fn turns_that_run_out_are_told(rt: HostRuntime) {
+    ends(&rt, ONE_LOAD, 1, 4, FOUR_TURNS_TEXT, false);
+    ends(&rt, ONE_LOAD, 1, 5, FIVE_TURNS_TEXT, true);
 }

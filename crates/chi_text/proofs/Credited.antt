@@ -13,8 +13,8 @@ use Rattle.chi_credit.specs.declared.slot.SlotRecord.{SlotRecord}
 use Rattle.chi_credit.specs.Slot.{idle_slot}
 use Rattle.chi_credit.specs.Account.{lowest_cancelled}
 use Rattle.chi_node.specs.Requester.{RequesterState}
-use Rattle.chi_system.specs.Home.{HomeState}
-use Rattle.chi_system.specs.System.{GivesBackIn, IsSystem, SeesIn, SystemState, TendsIn, agent_refusal, give_back_refusal, requester_of, tend_refusal}
+use Rattle.chi_node.specs.Home.{HomeState}
+use Rattle.chi_node.specs.System.{GivesBackIn, IsSystem, SeesIn, SystemState, TendsIn, agent_refusal, give_back_refusal_in, requester_of, tend_refusal_in}
 use Rattle.chi_reply.specs.Replies.{credits_text, reply_text}
 use Rattle.chi_reply.specs.declared.replies.Reply.TheVariants as replies
 use Rattle.chi_text.specs.Ports.{GivesBack, Sees, Tends, seen_counts}
@@ -55,7 +55,7 @@ out_of_range : (y : SystemState) (n : ℕ) (o : Option Refusal) → o ≡ option
 out_of_range y n o h = h ∙ out_first (nat_lt n y.home.config.agents)
 
 -- a credit that is given back
-returned : (y y' : SystemState) (agent : Agent) (ty : CreditType) (released : Released) → IsSystem y → None ≡ give_back_refusal y agent.0 (Some ty) → GivesBackIn y y' agent (Some ty) released
+returned : (y y' : SystemState) (agent : Agent) (ty : CreditType) (released : Released) → IsSystem y → None ≡ give_back_refusal_in y agent.0 (Some ty) → GivesBackIn y y' agent (Some ty) released
     → PlaysOn (give_back (machine_of y) agent (Some ty)) y y' (reply_text (replies.Paid released))
 returned y y' agent ty released k h gave =
     let m : Machine = machine_of y in
@@ -80,7 +80,7 @@ returned y y' agent ty released k h gave =
       ),
     )
 
-pub give_back_plays : (y y' : SystemState) (agent : Agent) (credit : Option CreditType) (result : Result Released Refusal) → IsSystem y → refusal_of result ≡ give_back_refusal y agent.0 credit → IfOk result (λ released. GivesBackIn y y' agent credit released) → OnErr result (y' ≡ y)
+pub give_back_plays : (y y' : SystemState) (agent : Agent) (credit : Option CreditType) (result : Result Released Refusal) → IsSystem y → refusal_of result ≡ give_back_refusal_in y agent.0 credit → IfOk result (λ released. GivesBackIn y y' agent credit released) → OnErr result (y' ≡ y)
     → PlaysOn (give_back (machine_of y) agent credit) y y' (reply_text (give_back_reply result))
 give_back_plays y y' agent None (Err refusal) k h ok err = refused_plays y y' (Some OutOfRange) refusal (give_back (machine_of y) agent None) (out_of_range y agent.0 (Some refusal) h) err
 give_back_plays y y' agent None (Ok released) k h ok err = absurd ok.requester
@@ -88,7 +88,7 @@ give_back_plays y y' agent (Some ty) (Err refusal) k h ok err = refused_plays y 
 give_back_plays y y' agent (Some ty) (Ok released) k h ok err = returned y y' agent ty released k h ok
 
 -- a type that is tended
-went : (y y' : SystemState) (agent : Agent) (ty : CreditType) (released : Option Released) → IsSystem y → None ≡ tend_refusal y agent.0 (Some ty) → TendsIn y y' agent (Some ty) released
+went : (y y' : SystemState) (agent : Agent) (ty : CreditType) (released : Option Released) → IsSystem y → None ≡ tend_refusal_in y agent.0 (Some ty) → TendsIn y y' agent (Some ty) released
     → PlaysOn (tend (machine_of y) agent (Some ty)) y y' (reply_text (tend_reply (Ok released)))
 went y y' agent ty released k h tends =
     let state : machine_of y' ≡ machine_of y =
@@ -106,7 +106,7 @@ went y y' agent ty released k h tends =
     said None state = (refl, state, refl)
     said (Some to) state = (refl, state, refl)
 
-pub tend_plays : (y y' : SystemState) (agent : Agent) (credit : Option CreditType) (result : Result (Option Released) Refusal) → IsSystem y → refusal_of result ≡ tend_refusal y agent.0 credit → IfOk result (λ released. TendsIn y y' agent credit released) → OnErr result (y' ≡ y)
+pub tend_plays : (y y' : SystemState) (agent : Agent) (credit : Option CreditType) (result : Result (Option Released) Refusal) → IsSystem y → refusal_of result ≡ tend_refusal_in y agent.0 credit → IfOk result (λ released. TendsIn y y' agent credit released) → OnErr result (y' ≡ y)
     → PlaysOn (tend (machine_of y) agent credit) y y' (reply_text (tend_reply result))
 tend_plays y y' agent None (Err refusal) k h ok err = refused_plays y y' (Some OutOfRange) refusal (tend (machine_of y) agent None) (out_of_range y agent.0 (Some refusal) h) err
 tend_plays y y' agent None (Ok released) k h ok err = absurd ok.requester

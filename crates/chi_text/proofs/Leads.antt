@@ -4,7 +4,7 @@ use Rattle.atomic_table.specs.Seated.{TableId}
 use Rattle.chi_script.specs.declared.commands.Command.{Command}
 use Rattle.chi_config.specs.Config.{Sizes}
 use Rattle.chi_tracker.specs.Views.{PortView}
-use Rattle.chi_system.specs.System.{SystemState, opening_system}
+use Rattle.chi_node.specs.System.{SystemState, opening_system}
 use Rattle.chi_text.specs.Session.{machine_of, ports_of}
 use Rattle.chi_text.proofs.Openings.{opening_machine, opening_views}
 use Rattle.chi_text.specs.Turns.{Answer, Machine, opening, turn}

@@ -7,8 +7,8 @@ use Rattle.chi_flit.specs.declared.numbers.Agent.{Agent}
 use Rattle.chi_tracker.specs.Views.{PortView}
 use Rattle.chi_credit.specs.declared.slot.SlotRecord.{SlotRecord}
 use Rattle.chi_node.specs.Requester.{RequesterState, no_requester}
-use Rattle.chi_system.specs.Home.{HomeState}
-use Rattle.chi_system.specs.System.{IsSystem, OthersStay, SystemState, requester_of}
+use Rattle.chi_node.specs.Home.{HomeState}
+use Rattle.chi_node.specs.System.{IsSystem, OthersStay, SystemState, requester_of}
 use Rattle.chi_text.specs.Ports.{seen_counts}
 use Rattle.chi_text.specs.Turns.{credits_of, slots_of}
 use Rattle.chi_text.specs.Texts.{AtPort}

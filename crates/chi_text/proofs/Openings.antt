@@ -15,8 +15,8 @@ use Rattle.chi_credit.specs.Account.{all_idle}
 use Rattle.chi_config.specs.Config.{Sizes}
 use Rattle.chi_node.specs.Parts.{opening_requesters}
 use Rattle.chi_node.specs.Requester.{RequesterState, opening_requester}
-use Rattle.chi_system.specs.Home.{opening_home}
-use Rattle.chi_system.specs.System.{SystemState, opening_system}
+use Rattle.chi_node.specs.Home.{opening_home}
+use Rattle.chi_node.specs.System.{SystemState, opening_system}
 use Rattle.chi_text.specs.Ports.{seen_counts}
 use Rattle.chi_text.specs.Turns.{no_credits, opening}
 use Rattle.chi_text.specs.Texts.{opening_ports}

@@ -23,10 +23,10 @@ use Rattle.chi_node.specs.Requester as requester
 use Rattle.chi_node.specs.Calls.{is_slot_taken, wanted_credit, refused_with}
 use Rattle.chi_node.specs.Calls as calls
 use Rattle.chi_node.proofs.Openings.{all_types, few_entries}
-use Rattle.chi_system.specs.Home.{slice_of}
-use Rattle.chi_system.specs.System.{IsSystem, SystemState, arrive_refusal, requester_of, step_refusal}
-use Rattle.chi_system.specs.System as system
-use Rattle.chi_system.proofs.Homes.{sizes_at}
+use Rattle.chi_node.specs.Home.{slice_of}
+use Rattle.chi_node.specs.System.{IsSystem, SystemState, arrive_refusal, requester_of, step_refusal}
+use Rattle.chi_node.specs.System as system
+use Rattle.chi_node.proofs.Homes.{sizes_at}
 use Rattle.chi_text.specs.Ports.{seen_counts}
 use Rattle.chi_text.specs.Turns.{act_refusal, cancelled_refusal, credit_refusal, credits_of, has_spare, slots_of, type_refusal}
 use Rattle.chi_text.specs.Session.{machine_of}
@@ -92,7 +92,7 @@ typed_same : (y : SystemState) (agent : Agent) (ty : CreditType) → IsSystem y 
 typed_same y agent ty k at = sym (all_types y.home.config (requester_of y agent.0).port.shape k.home.limits (k.shapes agent.0 no_requester (omega (arith, at, k.count))) (credit_number ty) (credit_below ty))
 
 -- a tend
-pub tend_same : (y : SystemState) (agent : Agent) (ty : CreditType) → IsSystem y → type_refusal (machine_of y) agent ty ≡ system.tend_refusal y agent.0 (Some ty)
+pub tend_same : (y : SystemState) (agent : Agent) (ty : CreditType) → IsSystem y → type_refusal (machine_of y) agent ty ≡ system.tend_refusal_in y agent.0 (Some ty)
 tend_same y agent ty k = go (nat_lt agent.0 y.home.config.agents) refl
   where
     go : (b : Bool) → nat_lt agent.0 y.home.config.agents ≡ b
@@ -110,7 +110,7 @@ then_first true o = refl
 then_first false o = refl
 
 pub give_back_same : (y : SystemState) (agent : Agent) (ty : CreditType) → IsSystem y
-    → option_or (type_refusal (machine_of y) agent ty) (cancelled_refusal (slots_of (machine_of y) agent) (credits_of (machine_of y) agent) ty) ≡ system.give_back_refusal y agent.0 (Some ty)
+    → option_or (type_refusal (machine_of y) agent ty) (cancelled_refusal (slots_of (machine_of y) agent) (credits_of (machine_of y) agent) ty) ≡ system.give_back_refusal_in y agent.0 (Some ty)
 give_back_same y agent ty k =
     let r : RequesterState = requester_of y agent.0 in
     ap (λ (x : List SlotRecord). option_or (type_refusal (machine_of y) agent ty) (cancelled_refusal x (credits_of (machine_of y) agent) ty)) (slots_at y agent)

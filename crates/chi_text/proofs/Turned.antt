@@ -37,8 +37,8 @@ use Rattle.chi_node.specs.AfterStep.{Completes, Finishes, account_after, request
 use Rattle.chi_node.specs.Calls.{ArrivesAt, arrival_action, is_own_step, place_at}
 use Rattle.chi_script.specs.declared.commands.Command.TheVariants as commands
 use Rattle.chi_slice.specs.Audits.{IsAudited, loads_in}
-use Rattle.chi_system.specs.Home.{HomeState, slices_after, line, slice_of}
-use Rattle.chi_system.specs.System.{ArrivesIn, IsSystem, OthersStay, StepsIn, SystemState, arrive_refusal, requester_of, step_refusal}
+use Rattle.chi_node.specs.Home.{HomeState, slices_after, line, slice_of}
+use Rattle.chi_node.specs.System.{ArrivesIn, IsSystem, OthersStay, StepsIn, SystemState, arrive_refusal, requester_of, step_refusal}
 use Rattle.chi_reply.specs.Replies.{audit_text, reply_text, totals_text}
 use Rattle.chi_reply.specs.declared.replies.Reply.TheVariants as replies
 use Rattle.chi_text.specs.Ports.{Claims, Owes, Releases, Spends, seen_counts}

@@ -1,4 +1,4 @@
--- What is answered to each call of a node (docs/PROTOCOL.md, "Replay files").
+-- What is answered to each call of a node (docs/FORMATS.md, "Replay files").
 use Rattle.std.specs.Prelude.{Option, Some, None, Result, Ok, Err}
 use Rattle.chi_flit.specs.declared.action.Effect.{Effect}
 use Rattle.chi_flit.specs.declared.action.Effect.TheVariants as effects

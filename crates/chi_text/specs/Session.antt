@@ -1,9 +1,9 @@
 -- Of the code alone, no public promise cites it: a node that commands are played on, as the table of the
--- commands sees it (docs/PROTOCOL.md, "Replay files").
+-- commands sees it (docs/FORMATS.md, "Replay files").
 use Rattle.std.specs.Prelude.{ℕ, List, map}
 use Rattle.chi_script.specs.declared.commands.Command.{Command}
 use Rattle.chi_tracker.specs.Views.{PortView}
-use Rattle.chi_system.specs.System.{SystemState}
+use Rattle.chi_node.specs.System.{SystemState}
 use Rattle.chi_text.specs.Ports.{seen_counts}
 use Rattle.chi_text.specs.Turns.{Answer, Machine, Turn, turn}
 use Rattle.chi_text.specs.Texts.{Plays, Says}

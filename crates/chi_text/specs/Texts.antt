@@ -1,5 +1,5 @@
 -- The text of a list of commands, under the tracker's answers, and which answers are allowed
--- (docs/PROTOCOL.md, "Replay files").
+-- (docs/FORMATS.md, "Replay files").
 use Rattle.std.specs.Prelude.{◌≡◌, ◌⊎◌, ◌↔◌, ℕ, All, IsTrue, List, [], ◌∷◌, ◌++◌, Some, codes, slice_get, slice_set, Ok}
 use Rattle.std.specs.Fmt.{decimal}
 use Rattle.chi_flit.specs.declared.numbers.Agent.{Agent}

@@ -1,5 +1,5 @@
 -- What each command of a replay file asks of the tracker, answers and leaves: the table of the commands
--- (docs/PROTOCOL.md, "Replay files").
+-- (docs/FORMATS.md, "Replay files").
 use Rattle.std.specs.Prelude.{ℕ, ◌-◌, nat_lt, List, [], ◌∷◌, Bool, true, false, ◌&&◌, Option, Some, None, replicate, slice_index, slice_set, if◌then◌else◌}
 use Rattle.std.specs.Option.{option_or}
 use Rattle.std.specs.List.{slice_index_or}
@@ -36,7 +36,7 @@ use Rattle.chi_node.specs.AfterStep.{account_after}
 use Rattle.chi_node.specs.Parts.{is_of_profile}
 use Rattle.chi_node.specs.Calls.{arrival_action, arrival_refusal, is_own_step, is_slot_taken, place_at, wanted_credit, refused_with}
 use Rattle.chi_slice.specs.Audits.{loads_in, stores_in}
-use Rattle.chi_system.specs.Home.{HomeState, slices_after, flits_refusal, last_of, line, opening_home, slice_of, view_refusal}
+use Rattle.chi_node.specs.Home.{HomeState, slices_after, flits_refusal, last_of, line, opening_home, slice_of, view_refusal}
 use Rattle.chi_reply.specs.Replies.{audit_text, credits_text, flits_text, reply_text, shown_text, totals_text}
 use Rattle.chi_reply.specs.declared.replies.Reply.{Reply}
 use Rattle.chi_reply.specs.declared.replies.Reply.TheVariants as replies

@@ -7,9 +7,9 @@ ghost use Rattle.chi_text.specs.Texts.{IsText, IsTextOfLines};
 
 use crate::session::answer;
 use chi_flit::NoMemory;
+use chi_node::System;
 use chi_script::{Command, Fault, command_in, first_line};
 use chi_slice::Config;
-use chi_system::System;
 use std::alloc::Allocator;
 
 /// Plays the commands on a new node of that size, and answers the text of their answers, a line for each
@@ -18,7 +18,7 @@ use std::alloc::Allocator;
 /// of their lines is coherent and each journal is legal.
 ///
 /// Refused where memory runs out.
-/// Source: `docs/PROTOCOL.md`, "Replay files".
+/// Source: `docs/FORMATS.md`, "Replay files".
 pub fn run<A: Allocator + Copy>(
     alloc: A,
     config: &Config,
@@ -39,7 +39,7 @@ pub fn run<A: Allocator + Copy>(
 ///
 /// The fault is that of the first faulty line: `BadCommand`, or `MissingNewline` where bytes stand behind
 /// the last line end. `NoMemory` where memory runs out before.
-/// Source: `docs/PROTOCOL.md`, "Replay files".
+/// Source: `docs/FORMATS.md`, "Replay files".
 pub fn run_lines<A: Allocator + Copy>(
     alloc: A,
     config: &Config,

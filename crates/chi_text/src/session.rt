@@ -9,9 +9,9 @@ ghost use Rattle.chi_text.specs.Session.{PlaysOn, SaysTurn, machine_of};
 
 use crate::node_replies::{arrival_reply, give_back_reply, step_reply, tend_reply, totals_told};
 use chi_flit::{Agent, CreditType, Line, NoMemory, Step};
+use chi_node::System;
 use chi_reply::{Audit, Credits, InFlight, Reply, Shown, Wording};
 use chi_script::Command;
-use chi_system::System;
 use std::alloc::Allocator;
 
 /// Prints an answer and the end of its line behind the text.
@@ -26,7 +26,7 @@ fn say<W: Wording, B: Allocator>(answer: &W, text: &mut String<B>) -> Result<(),
 /// Does what a command says, and puts its answer, a line with its end, behind the text.
 ///
 /// Refused where memory for the text runs out.
-/// Source: `docs/PROTOCOL.md`, "Replay files".
+/// Source: `docs/FORMATS.md`, "Replay files".
 pub fn answer<A: Allocator, B: Allocator>(
     system: &mut System<A>,
     command: Command,

@@ -1,4 +1,4 @@
-//! Tests of the texts that a replay reads and prints, by `docs/PROTOCOL.md`, "Replay files".
+//! Tests of the texts that a replay reads and prints, by `docs/FORMATS.md`, "Replay files".
 #![tactic(auto)]
 
 #[cfg(test)]

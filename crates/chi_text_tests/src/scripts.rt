@@ -1,4 +1,4 @@
-//! Files of commands, good and faulty, by `docs/PROTOCOL.md`, "Replay files".
+//! Files of commands, good and faulty, by `docs/FORMATS.md`, "Replay files".
 
 use chi_flit::{Action, Agent, CreditType, Kind, Line, Profile, Slot, Step, WordNo};
 use chi_script::{

@@ -17,12 +17,14 @@ use Rattle.chi_tracker.specs.Shape.{count_of, owed_in}
 use Rattle.chi_tracker.specs.Words.{c_of, p_of, o_of}
 use Rattle.chi_tracker.specs.Views.{PortView}
 use Rattle.chi_tracker.specs.Rule.{weigh, duty_is, TrackerRule}
-use Rattle.chi_tracker.specs.Steps.{solo}
-use Rattle.chi_tracker.specs.Laws.{port_at, Ledger, duties}
+use Rattle.chi_tracker.specs.Steps.{Shown, shown, solo}
+use Rattle.chi_tracker.specs.Acts.{Act}
+use Rattle.chi_tracker.specs.History.{port_at, longer, after, Legal, ArePortsOf}
+use Rattle.chi_tracker.specs.Laws.{Ledger, duties}
 use Rattle.chi_tracker.specs.Calls.{Owner}
-use Rattle.chi_tracker.specs.Totals.{views_of, sum_of, AreDue, AreCredits, credits_at, no_credits, closed_state, IsClosed, IsCount, IsBalanced}
-use Rattle.chi_tracker.proofs.Moving.{of_mine, of_other}
-use Rattle.chi_tracker.proofs.Opening.{regroup, seats-at}
+use Rattle.chi_tracker.specs.Totals.{views_of, longest, sum_of, AreDue, AreCredits, credits_at, no_credits, closed_state, IsClosed, IsCount, IsBalanced}
+use Rattle.chi_tracker.proofs.Moves.{of_mine, of_other}
+use Rattle.chi_tracker.proofs.Start.{regroup, seats-at}
 use Rattle.chi_tracker.proofs.Exactly.{ledgers}
 
 -- a read by get_elem? is a read by index
@@ -51,6 +53,7 @@ pub record IsGathering (z : TableId) (all left : List Owner) (seat : Seat ℕ Se
   pub idle : (n t : ℕ) → duties n t seat.me.0.ports ≡ 0
   pub due : AreDue dues seat.me.0.ports
   pub small : (i : ℕ) → i < 32 → slice_index dues i ≤ 8 * length seat.me.0.ports
+  pub told : (rest : List Owner) × (all ≡ left ++ rest) × (seat.me.0.history ≡ longest rest)
 
 -- of a list of eight ports at most eight are gathered
 pub gathered_few : (z : TableId) (all left : List Owner) (seat : Seat ℕ SeatView) (dues : List ℕ) → length all ≤ 8 → IsGathering z all left seat dues → (i : ℕ) → i < 32 → slice_index dues i ≤ 1000
@@ -66,20 +69,20 @@ rest_own z left o all k d l = ap (λ (x : Owner). x.table) (sym (get_or-append l
 pub popped_own : (z : TableId) (all left left' : List Owner) (seat : Seat ℕ SeatView) (dues : List ℕ) (o : Owner) → IsGathering z all left seat dues → left ≡ left' ++ o ∷ [] → o.table ≡ z
 popped_own z all left left' seat dues o g is = last_own z left' o (subst (All (λ o. o.table ≡ z)) is g.own)
 
-pub gathering_first : (z : TableId) (all : List Owner) (seat : Seat ℕ SeatView) (dues : List ℕ) → seat.table_id ≡ z → All (λ o. o.table ≡ z) all → seat.me ≡ (record { ports = [] }, []) → ((i : ℕ) → i < 32 → slice_index dues i ≡ 0) → IsGathering z all all seat dues
+pub gathering_first : (z : TableId) (all : List Owner) (seat : Seat ℕ SeatView) (dues : List ℕ) → seat.table_id ≡ z → All (λ o. o.table ≡ z) all → seat.me ≡ (record { ports = []; history = [] }, []) → ((i : ℕ) → i < 32 → slice_index dues i ≡ 0) → IsGathering z all all seat dues
 gathering_first z all seat dues table own me zeros =
     let h : OnPorts all all [] dues = (append-nil (views_of all), (λ n t. refl), (λ n t ln lt. omega (arith, zeros (4 * n + t) (omega arith))), (λ i l. omega (arith, zeros i l))) in
     let k = subst (λ (ps : List PortView). OnPorts all all ps dues) (sym (ap (λ (m : Me ℕ SeatView). m.0.ports) me)) h in
-    record { table = table; own = own; ports = k.0; idle = k.1; due = k.2; small = k.3 }
+    record { table = table; own = own; ports = k.0; idle = k.1; due = k.2; small = k.3; told = ([], sym (append-nil all), ap (λ (m : Me ℕ SeatView). m.0.history) me) }
 
 pub gathering_more : (z : TableId) (all left left' : List Owner) (seat seat' : Seat ℕ SeatView) (own : Me ℕ SeatView) (dues dues' : List ℕ) (o : Owner) (number : ℕ) (due : List ℕ) → IsGathering z all left seat dues → left ≡ left' ++ o ∷ []
-    → seat'.table_id ≡ seat.table_id → own ≡ solo o.port → seat'.me ≡ (record { ports = own.0.ports ++ seat.me.0.ports }, seat.me.1) → number ≡ o.port.who → o.port.duty ≡ None
+    → seat'.table_id ≡ seat.table_id → shown own ≡ solo o.port → own.0.history ≡ o.history → seat'.me ≡ (record { ports = own.0.ports ++ seat.me.0.ports; history = longer own.0.history seat.me.0.history }, seat.me.1) → number ≡ o.port.who → o.port.duty ≡ None
     → ((t : ℕ) → t < 4 → slice_index due t + (slice_index o.port.spent t + slice_index o.port.returned t) ≡ slice_index o.port.retries t)
     → ((n t : ℕ) → n < 8 → t < 4 → slice_index dues' (4 * n + t) ≡ slice_index dues (4 * n + t) + cond (eqb number n) (slice_index due t) 0) → ((i : ℕ) → i < 32 → slice_index dues' i ≤ slice_index dues i + 8)
     → IsGathering z all left' seat' dues'
-gathering_more z all left left' seat seat' own dues dues' o number due g is table own_is joined num duty due_is sum small =
+gathering_more z all left left' seat seat' own dues dues' o number due g is table own_is own_told joined num duty due_is sum small =
     let p : PortView = o.port in let ps : List PortView = seat.me.0.ports in
-    let now : seat'.me.0.ports ≡ p ∷ ps = ap (λ (m : Me ℕ SeatView). m.0.ports) joined ∙ ap (λ (m : Me ℕ SeatView). m.0.ports ++ ps) own_is in
+    let now : seat'.me.0.ports ≡ p ∷ ps = ap (λ (m : Me ℕ SeatView). m.0.ports) joined ∙ ap (λ (m : Shown). m.0 ++ ps) own_is in
     let h : OnPorts all left' (p ∷ ps) dues' = (
       sym (append_assoc (views_of left') (p ∷ []) ps) ∙ ap (λ vs. vs ++ ps) (sym (views-append left' (o ∷ [])) ∙ ap views_of (sym is)) ∙ g.ports,
       (λ n t. let a : duty_is n t p.duty ≡ 0 = ap (duty_is n t) duty in let b = g.idle n t in omega arith),
@@ -91,7 +94,7 @@ gathering_more z all left left' seat seat' own dues dues' o number due g is tabl
       (λ i l. let h = g.small i l in let k = small i l in omega arith),
     ) in
     let k = subst (λ (qs : List PortView). OnPorts all left' qs dues') (sym now) h in
-    record { table = table ∙ g.table; own = rest_own z left' o (subst (All (λ o. o.table ≡ z)) is g.own); ports = k.0; idle = k.1; due = k.2; small = k.3 }
+    record { table = table ∙ g.table; own = rest_own z left' o (subst (All (λ o. o.table ≡ z)) is g.own); ports = k.0; idle = k.1; due = k.2; small = k.3; told = (o ∷ g.told.0, g.told.1 ∙ ap (λ xs. xs ++ g.told.0) is ∙ append_assoc left' (o ∷ []) g.told.0, ap (λ (m : Me ℕ SeatView). m.0.history) joined ∙ ap (λ h. longer h seat.me.0.history) own_told ∙ ap (λ h. longer o.history h) g.told.2) }
 
 -- who has all ports has all views
 none-else : (f : PortView → ℕ) (ps : List PortView) → total (λ _. 1) ps ≡ 0 → total f ps ≡ 0
@@ -115,7 +118,7 @@ whole f (w ∷ vs) (suc id) v at e =
     term (w ∷ vs) zero v at = let a : total (λ _. 1) w.ports ≡ total (λ _. 1) v.ports = ap (λ (u : SeatView). total (λ _. 1) u.ports) (some-injective w v at) in omega arith
     term (w ∷ vs) (suc id) v at = omega (arith, term vs id v at)
 
-ones : (ps : List PortView) → total (λ _. 1) ps ≡ length ps
+pub ones : (ps : List PortView) → total (λ _. 1) ps ≡ length ps
 ones [] = refl
 ones (p ∷ ps) = omega (arith, ones ps)
 
@@ -146,15 +149,20 @@ one_seat key st id v rule at many =
       words = rule.words;
       agents = rule.agents;
       entries = rule.entries;
-      fits = regroup key (c_of st.words) (p_of st.words) (o_of st.words) st.views (record { ports = v.ports } ∷ []) (λ f. omega (arith, all f)) (seats-at key st.views id v rule.fits.sound at, tt) rule.fits;
+      fits = regroup key (c_of st.words) (p_of st.words) (o_of st.words) st.views (record { ports = v.ports; history = [] } ∷ []) (λ f. omega (arith, all f)) (seats-at key st.views id v rule.fits.sound at, tt) rule.fits;
     }
 
 -- the numbers read from the words at the end
-pub closes : (key s : Shape) (ws : List ℕ) (gathered ports : List PortView) (dues : List ℕ) (counts : Counts) (credits : List Credits) → key ≡ s → gathered ≡ ports → TrackerRule key (closed_state ws gathered)
-    → ((n t : ℕ) → duties n t ports ≡ 0) → AreDue dues ports → IsCount s ws counts → AreCredits s ws dues s.agents credits → IsClosed s ports counts credits
-closes key s ws gathered ports dues counts credits key_is all rule idle due counted handed =
+pub closes : (key s : Shape) (ws : List ℕ) (gathered ports : List PortView) (known history : List Act) (dues : List ℕ) (counts : Counts) (credits : List Credits) → key ≡ s → gathered ≡ ports → known ≡ history → TrackerRule key (closed_state ws gathered) → Legal key known × (ws ≡ (after key known).words) × ArePortsOf key known [] gathered
+    → ((n t : ℕ) → duties n t ports ≡ 0) → AreDue dues ports → IsCount s ws counts → AreCredits s ws dues s.agents credits → IsClosed s ports history counts credits
+closes key s ws gathered ports known history dues counts credits key_is all known_is rule by idle due counted handed =
+    let B : Shape → List PortView → List Act → Type 0 = λ (k : Shape) (ps : List PortView) (h : List Act). Legal k h × (ws ≡ (after k h).words) × ArePortsOf k h [] ps in
+    let made : B s ports history = subst (λ (k : Shape). B k ports history) key_is (subst (λ (ps : List PortView). B key ps history) all (subst (λ (h : List Act). B key gathered h) known_is by)) in
     let kept : TrackerRule s (closed_state ws ports) = subst (λ k. TrackerRule k (closed_state ws ports)) key_is (subst (λ ps. TrackerRule key (closed_state ws ps)) all rule) in record {
       words = ws;
+      legal = made.0;
+      made = made.1;
+      left = made.2;
       rule = kept;
       no_duty = idle;
       counted = counted;
@@ -165,8 +173,8 @@ closes key s ws gathered ports dues counts credits key_is all rule idle due coun
     }
 
 -- what is due is what is owed and what is promised
-pub balances : (s : Shape) (ports : List PortView) (counts : Counts) (credits : List Credits) → IsClosed s ports counts credits → IsBalanced s.agents credits
-balances s ports counts credits closed n t ln lt =
+pub balances : (s : Shape) (ports : List PortView) (history : List Act) (counts : Counts) (credits : List Credits) → IsClosed s ports history counts credits → IsBalanced s.agents credits
+balances s ports history counts credits closed n t ln lt =
     let led : Ledger s (p_of closed.words) (o_of closed.words) ports n t = subst (λ (ps : List PortView). Ledger s (p_of closed.words) (o_of closed.words) ps n t) (append-nil ports) (ledgers s (closed_state closed.words ports) closed.rule n t ln lt) in let i : ℕ = led.0 in
     let h = closed.due n t ln lt in let d = closed.no_duty n t in let o = closed.owed n t ln lt in let q = closed.promised n t ln lt in
     let mine : (f : PortView → ℕ) → sum_of n f ports ≡ f (port_at ports i) = λ f. sum-mine n f ports i led.1 led.2 led.3 in
@@ -180,3 +188,7 @@ balances s ports counts credits closed n t ln lt =
     sum-mine n f [] i l w h = absurd (omega arith)
     sum-mine n f (p ∷ ps) zero l w h = omega (arith, of_mine n f p w, sum-none n f ps (λ j lj. h (suc j) (omega arith) (λ q. omega arith)))
     sum-mine n f (p ∷ ps) (suc i) l w h = omega (arith, of_other n f p (h 0 (omega arith) (λ q. omega arith)), sum-mine n f ps i (omega arith) w (λ j lj d. h (suc j) (omega arith) (λ q. d (omega arith))))
+
+-- who has gathered all ports
+pub gathered_all : (z : TableId) (all left : List Owner) (seat : Seat ℕ SeatView) (dues : List ℕ) → IsGathering z all left seat dues → left ≡ [] → seat.me.0.history ≡ longest all
+gathered_all z all left seat dues g none = g.told.2 ∙ ap longest (sym (g.told.1 ∙ ap (λ xs. xs ++ g.told.0) none))

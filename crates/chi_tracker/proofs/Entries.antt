@@ -12,7 +12,7 @@ use Rattle.chi_tracker.specs.Shape.{size, low, IsOf, count_of, owed_in}
 use Rattle.chi_tracker.specs.Views.{PortView}
 use Rattle.chi_tracker.specs.Calls.{first_entries, port_after_scan, into_hand}
 use Rattle.chi_tracker.proofs.BitLaws.{with_here, with_else}
-use Rattle.chi_tracker.proofs.Adding.{below_same, below_moved, below_term}
+use Rattle.chi_tracker.proofs.Addition.{below_same, below_moved, below_term}
 
 pub low_up : (s : Shape) (u t : ℕ) → u < t → low s u + size s u ≤ low s t
 low_up s u zero l = absurd (omega arith)

@@ -13,10 +13,11 @@ use Rattle.chi_tracker.specs.Words.{c_of, p_of, o_of}
 use Rattle.chi_tracker.specs.Views.{PortView, Duty, has, new_port}
 use Rattle.chi_tracker.specs.Rule.{weigh, of_port, duty_is, note_is, IsSound, AllSound, AllSeatsSound, Fits, TrackerRule}
 use Rattle.chi_tracker.specs.Steps.{no_shape}
-use Rattle.chi_tracker.specs.Laws.{all_ports, port_at, Place, Places, Ledger, Ledgers, AllKnow}
-use Rattle.chi_tracker.proofs.Adding.{total-append, below_term}
-use Rattle.chi_tracker.proofs.Moving.{of_mine, of_other}
-use Rattle.chi_tracker.proofs.Opening.{sound-join}
+use Rattle.chi_tracker.specs.History.{port_at}
+use Rattle.chi_tracker.specs.Laws.{all_ports, Place, Places, Ledger, Ledgers, AllKnow}
+use Rattle.chi_tracker.proofs.Addition.{total-append, below_term}
+use Rattle.chi_tracker.proofs.Moves.{of_mine, of_other}
+use Rattle.chi_tracker.proofs.Start.{sound-join}
 
 abbrev nobody : PortView
 nobody = new_port no_shape 0

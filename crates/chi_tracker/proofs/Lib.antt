@@ -1,16 +1,20 @@
-pub mod Adding
-mod Counting
+pub mod Addition
+mod Tallies
 pub mod BitLaws
 pub mod Entries
-mod Moving
+mod Moves
 mod Written
 mod Places
-mod Fitting
+mod Fits
 mod Allowed
-mod Opening
-mod Dealing
-mod Keeping
+pub mod Start
+pub mod Histories
+mod Advance
+mod Seats
+mod Whole
+mod Deals
+mod Upkeep
 pub mod Sweeps
 mod Exactly
 pub mod Balance
-mod InOrder
+pub mod Conduct

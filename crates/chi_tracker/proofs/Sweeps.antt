@@ -5,13 +5,12 @@ use native.Mathlib.Decide.{ℕ_discrete}
 use Rattle.std.specs.Int.{bit_at}
 use Rattle.std.proofs.lemmas.Nat.{xor_lt, and_le_l}
 use Rattle.std.proofs.lemmas.Nat.Bits.{same_from_bits_below, bit_at-zero}
-use Rattle.atomic_table.specs.Table.{Me}
 use Rattle.atomic_table.specs.declared.shared.Seat.{Seat}
 use Rattle.chi_tracker.specs.declared.view.SeatView.{SeatView}
 use Rattle.chi_tracker.specs.Sums.{without_bit, with_bit}
 use Rattle.chi_tracker.specs.Views.{PortView, Sweep, has}
 use Rattle.chi_tracker.specs.Shape.{low}
-use Rattle.chi_tracker.specs.Steps.{solo, port_of, byte_of, left_after, settles}
+use Rattle.chi_tracker.specs.Steps.{Shown, shown, solo, port_of, byte_of, left_after, settles}
 use Rattle.chi_tracker.specs.Calls.{with_sweep, into_hand, port_after_scan, Ended, Tended, HasSameCredits}
 use Rattle.chi_tracker.specs.declared.released.Released.{Released}
 use Rattle.chi_tracker.specs.declared.released.Released.TheVariants.{Granted, Freed}
@@ -72,10 +71,10 @@ settled_all t word left s = same_from_bits_below 8 left 0 s.small (omega arith) 
 -- a port's seat while the places of one requester are tried, from the seat before
 pub record IsSettling (first now : Seat ℕ SeatView) (t word place : ℕ) : Type 0 where
   pub table : now.table_id ≡ first.table_id
-  pub view : now.me ≡ solo (with_sweep (record (port_of first.me).sweep { left = (port_of now.me).sweep.left }) (port_of first.me))
-  pub left : IsSettled t word place (port_of now.me).sweep.left
+  pub view : (shown now.me) ≡ solo (with_sweep (record (port_of (shown first.me)).sweep { left = (port_of (shown now.me)).sweep.left }) (port_of (shown first.me)))
+  pub left : IsSettled t word place (port_of (shown now.me)).sweep.left
 
-pub settling_first : (seat : Seat ℕ SeatView) (t agent word : ℕ) → seat.me ≡ solo (port_of seat.me) → (port_of seat.me).sweep ≡ record { opened = (port_of seat.me).sweep.opened; kind = t; at = agent; left = byte_of t word } → IsSettling seat seat t word (8 * t)
+pub settling_first : (seat : Seat ℕ SeatView) (t agent word : ℕ) → (shown seat.me) ≡ solo (port_of (shown seat.me)) → (port_of (shown seat.me)).sweep ≡ record { opened = (port_of (shown seat.me)).sweep.opened; kind = t; at = agent; left = byte_of t word } → IsSettling seat seat t word (8 * t)
 settling_first seat t agent word alone sweep = record {
   table = refl;
   view = alone;
@@ -83,28 +82,28 @@ settling_first seat t agent word alone sweep = record {
 }
 
 pub settling_unset : (first now : Seat ℕ SeatView) (t word place : ℕ) → 8 * t ≤ place → bit_at word place ≡ 0 → IsSettling first now t word place → IsSettling first now t word (place + 1)
-settling_unset first now t word place le unset s = record { table = s.table; view = s.view; left = settled_unset t word place (port_of now.me).sweep.left le unset s.left }
+settling_unset first now t word place le unset s = record { table = s.table; view = s.view; left = settled_unset t word place (port_of (shown now.me)).sweep.left le unset s.left }
 
 both_true : (a b c d : ℕ) (x y : ℕ) → a ≡ b → c ≡ d → cond (eqb a b && eqb c d) x y ≡ x
 both_true a b c d x y e f = ap (λ (z : Bool). cond (z && eqb c d) x y) (eq-eqb a b e) ∙ ap (λ (z : Bool). cond z x y) (eq-eqb c d f)
 
-pub settling_clear : (first now next : Seat ℕ SeatView) (t agent word place entry old : ℕ) → 8 * t ≤ place → place < 8 * t + 8 → (port_of first.me).sweep ≡ record { opened = (port_of first.me).sweep.opened; kind = t; at = agent; left = byte_of t word }
-    → IsSettling first now t word place → next.table_id ≡ now.table_id → next.me ≡ solo (settles entry agent place old (port_of now.me)) → old ≡ 0 → IsSettling first next t word (place + 1)
+pub settling_clear : (first now next : Seat ℕ SeatView) (t agent word place entry old : ℕ) → 8 * t ≤ place → place < 8 * t + 8 → (port_of (shown first.me)).sweep ≡ record { opened = (port_of (shown first.me)).sweep.opened; kind = t; at = agent; left = byte_of t word }
+    → IsSettling first now t word place → next.table_id ≡ now.table_id → (shown next.me) ≡ solo (settles entry agent place old (port_of (shown now.me))) → old ≡ 0 → IsSettling first next t word (place + 1)
 settling_clear first now next t agent word place entry old le lt sweep s table is zero_bit =
-    let p : PortView = port_of first.me in let left : ℕ = (port_of now.me).sweep.left in let after : ℕ = without_bit left (place % 8) in
+    let p : PortView = port_of (shown first.me) in let left : ℕ = (port_of (shown now.me)).sweep.left in let after : ℕ = without_bit left (place % 8) in
     let q : PortView = with_sweep (record p.sweep { left = left }) p in
     let kind : p.sweep.kind ≡ place / 8 = ap (λ (x : Sweep). x.kind) sweep ∙ (let h : t ≡ place / 8 = omega arith in h) in
     let at : p.sweep.at ≡ agent = ap (λ (x : Sweep). x.at) sweep in
     let gone : left_after agent place q.sweep ≡ after = both_true p.sweep.at agent p.sweep.kind (place / 8) after left at kind in
-    let next_is : next.me ≡ solo (with_sweep (record p.sweep { left = after }) p) = is ∙ ap (λ o. solo (settles entry agent place o (port_of now.me))) zero_bit ∙ ap (λ (m : Me ℕ SeatView). solo (settles entry agent place 0 (port_of m))) s.view ∙ ap (λ l. solo (with_sweep (record p.sweep { left = l }) p)) gone in
-    let left_is : (port_of next.me).sweep.left ≡ after = ap (λ (m : Me ℕ SeatView). (port_of m).sweep.left) next_is in record {
+    let next_is : (shown next.me) ≡ solo (with_sweep (record p.sweep { left = after }) p) = is ∙ ap (λ o. solo (settles entry agent place o (port_of (shown now.me)))) zero_bit ∙ ap (λ (m : Shown). solo (settles entry agent place 0 (port_of m))) s.view ∙ ap (λ l. solo (with_sweep (record p.sweep { left = l }) p)) gone in
+    let left_is : (port_of (shown next.me)).sweep.left ≡ after = ap (λ (m : Shown). (port_of m).sweep.left) next_is in record {
       table = table ∙ s.table;
       view = next_is ∙ ap (λ l. solo (with_sweep (record p.sweep { left = l }) p)) (sym left_is);
       left = subst (IsSettled t word (place + 1)) (sym left_is) (settled_clear t word place left le lt s.left);
     }
 
-pub settling_all : (first now : Seat ℕ SeatView) (t word place : ℕ) → place ≡ 8 * t + 8 → IsSettling first now t word place → now.me ≡ solo (with_sweep (record (port_of first.me).sweep { left = 0 }) (port_of first.me))
-settling_all first now t word place e s = s.view ∙ ap (λ l. solo (with_sweep (record (port_of first.me).sweep { left = l }) (port_of first.me))) (settled_all t word (port_of now.me).sweep.left (subst (λ k. IsSettled t word k (port_of now.me).sweep.left) e s.left))
+pub settling_all : (first now : Seat ℕ SeatView) (t word place : ℕ) → place ≡ 8 * t + 8 → IsSettling first now t word place → (shown now.me) ≡ solo (with_sweep (record (port_of (shown first.me)).sweep { left = 0 }) (port_of (shown first.me)))
+settling_all first now t word place e s = s.view ∙ ap (λ l. solo (with_sweep (record (port_of (shown first.me)).sweep { left = l }) (port_of (shown first.me)))) (settled_all t word (port_of (shown now.me)).sweep.left (subst (λ k. IsSettled t word k (port_of (shown now.me)).sweep.left) e s.left))
 
 -- what the end of a release leaves as it was
 pub ended_same : (p : PortView) (t e : ℕ) (r : Released) (q : PortView) → Ended p t e r q → HasSameCredits p q

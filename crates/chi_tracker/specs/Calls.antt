@@ -2,9 +2,9 @@
 -- (docs/PROTOCOL.md, "Steps of the tracker").
 use Rattle.std.specs.Prelude.{◌≡◌, ◌≢◌, ◌⊎◌, ℕ, zero, suc, ◌+◌, ◌-◌, ◌<◌, ◌≤◌, List, [], ◌∷◌, Option, Some, None, slice_index}
 use Rattle.std.specs.Int.{bit_at}
-use Rattle.atomic_table.specs.Table.{Me}
 use Rattle.atomic_table.specs.Seated.{TableId}
 use Rattle.atomic_table.specs.declared.shared.Seat.{Seat}
+use Rattle.chi_tracker.specs.Acts.{Act}
 use Rattle.chi_tracker.specs.declared.shape.Shape.{Shape}
 use Rattle.chi_tracker.specs.declared.view.SeatView.{SeatView}
 use Rattle.chi_tracker.specs.Sums.{below, one_more, with_bit, without_bit, set_at}
@@ -12,32 +12,45 @@ use Rattle.chi_tracker.specs.Shape.{low, size, IsOf, IsShape}
 use Rattle.chi_tracker.specs.Views.{PortView, Sweep, has, IsDue, new_port, new_ports, was_freed, was_promised}
 use Rattle.chi_tracker.specs.declared.released.Released.{Released}
 use Rattle.chi_tracker.specs.declared.released.Released.TheVariants.{Granted, Freed}
-use Rattle.chi_tracker.specs.Steps.{solo, port_of, no_shape, returns_credit}
+use Rattle.chi_tracker.specs.Words.{word_count}
+use Rattle.chi_tracker.specs.Steps.{Shown, shown, solo, port_of, no_shape, returns_credit}
+use Rattle.chi_tracker.specs.History.{port_in}
 
 -- a tracker: which table its words are, its entries by type and its requesters
 pub record Home : Type 0 where
   pub table : TableId
   pub shape : Shape
 
--- a port: which tracker's it is, and its view
+-- a port: which tracker's it is, its view, and the history of the tracker up to its last step, the last
+-- act first
 pub record Owner : Type 0 where
   pub table : TableId
   pub port : PortView
+  pub history : List Act
 
 -- a port of no tracker
 abbrev pub nowhere : TableId
 nowhere = record { words = 0; slots = 0; views_name = 0; atom = 0; block = 0; offset = 0; slot_names = [] }
 
 abbrev pub no_owner : Owner
-no_owner = record { table = nowhere; port = new_port no_shape 0 }
+no_owner = record { table = nowhere; port = new_port no_shape 0; history = [] }
+
+-- what a seat of one port is of
+abbrev pub owner_in : Seat ℕ SeatView → Owner
+owner_in seat = record { table = seat.table_id; port = port_in seat.me; history = seat.me.0.history }
 
 abbrev pub owner_of : Option (Seat ℕ SeatView) → Owner
 owner_of None = no_owner
-owner_of (Some seat) = record { table = seat.table_id; port = port_of seat.me }
+owner_of (Some seat) = owner_in seat
+
+-- a seat of one port, at a table of the tracker's words
+abbrev pub IsSeat : TableId → Seat ℕ SeatView → Type 0
+IsSeat table seat = (seat.table_id ≡ table) × (table.words ≡ word_count) × (shown seat.me ≡ solo (port_in seat.me))
 
 -- what a port keeps between two calls: its seat stands for it alone, the seen credits and the credits
--- due are those of its view, at most 8 of a type are due, and no duty and no note is open
-pub record IsHeld (me : Me ℕ SeatView) (number : ℕ) (shape : Shape) (seen due : List ℕ) : Type 0 where
+-- due are those of its view, at most 8 of a type are due, no duty and no note is open, and what is in
+-- hand is one of the tracker's entries
+pub record IsHeld (me : Shown) (number : ℕ) (shape : Shape) (seen due : List ℕ) : Type 0 where
   pub alone : me ≡ solo (port_of me)
   pub who : (port_of me).who ≡ number
   pub near : number < shape.agents
@@ -48,10 +61,11 @@ pub record IsHeld (me : Me ℕ SeatView) (number : ℕ) (shape : Shape) (seen du
   pub few : (t : ℕ) → t < 4 → slice_index due t ≤ 8
   pub no_duty : (port_of me).duty ≡ None
   pub no_note : (port_of me).noted ≡ None
+  pub inside : (e : ℕ) → has e (port_of me) ≡ 1 → e < low (port_of me).shape 4
 
 abbrev pub IsKept : Option (Seat ℕ SeatView) → ℕ → Shape → List ℕ → List ℕ → Type 0
 IsKept None number shape seen due = (shape ≡ no_shape) × (seen ≡ 0 ∷ 0 ∷ 0 ∷ 0 ∷ []) × (due ≡ 0 ∷ 0 ∷ 0 ∷ 0 ∷ [])
-IsKept (Some seat) number shape seen due = IsHeld seat.me number shape seen due
+IsKept (Some seat) number shape seen due = IsHeld (shown seat.me) number shape seen due
 
 -- the first n entries of type t, as a set
 abbrev pub first_entries : Shape → ℕ → ℕ → ℕ
@@ -86,7 +100,7 @@ rest_ports (p ∷ ps) = ps
 -- ports of one tracker
 abbrev pub owners : TableId → List PortView → List Owner
 owners table [] = []
-owners table (p ∷ ps) = record { table = table; port = p } ∷ owners table ps
+owners table (p ∷ ps) = record { table = table; port = p; history = [] } ∷ owners table ps
 
 -- the ports of a new tracker, of all requesters in rising order
 abbrev pub new_owners : TableId → Shape → List Owner

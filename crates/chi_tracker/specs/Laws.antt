@@ -1,6 +1,6 @@
 -- What the rule means in literal words: Place, Ledger, and what a port knows (docs/PROTOCOL.md, "Words of
 -- the tracker").
-use Rattle.std.specs.Prelude.{◌≡◌, ◌≢◌, ◌⊎◌, ℕ, ◌+◌, ◌<◌, List, [], ◌∷◌, ◌++◌, IfSome, length, slice_index, slice_index_or}
+use Rattle.std.specs.Prelude.{◌≡◌, ◌≢◌, ◌⊎◌, ℕ, ◌+◌, ◌<◌, List, [], ◌∷◌, ◌++◌, IfSome, length, slice_index}
 use Rattle.std.specs.Int.{bit_at}
 use Rattle.atomic_table.specs.Table.{State}
 use Rattle.chi_tracker.specs.declared.shape.Shape.{Shape}
@@ -8,18 +8,14 @@ use Rattle.chi_tracker.specs.declared.view.SeatView.{SeatView}
 use Rattle.chi_tracker.specs.Sums.{total, set_at}
 use Rattle.chi_tracker.specs.Shape.{low, IsOf, count_of, owed_in}
 use Rattle.chi_tracker.specs.Words.{c_of, p_of, o_of}
-use Rattle.chi_tracker.specs.Views.{PortView, has, new_port}
-use Rattle.chi_tracker.specs.Rule.{duty_is}
-use Rattle.chi_tracker.specs.Steps.{no_shape}
+use Rattle.chi_tracker.specs.Views.{PortView, has}
+use Rattle.chi_tracker.specs.Rule.{duty_is, TrackerRule}
+use Rattle.chi_tracker.specs.History.{port_at, view_at}
 
 -- the ports of all seats
 abbrev pub all_ports : List SeatView → List PortView
 all_ports [] = []
 all_ports (v ∷ vs) = v.ports ++ all_ports vs
-
--- the port at a place of a list; past its end one with nothing
-abbrev pub port_at : List PortView → ℕ → PortView
-port_at ports i = slice_index_or ports i (new_port no_shape 0)
 
 -- no port has the entry in hand
 abbrev pub InNoHand : List PortView → ℕ → Type 0
@@ -72,3 +68,11 @@ pub record Knows (s : Shape) (ws : List ℕ) (p : PortView) : Type 0 where
 
 abbrev pub AllKnow : Shape → State ℕ SeatView → Type 0
 AllKnow key st = (i : ℕ) → i < length (all_ports st.views) → Knows key st.words (port_at (all_ports st.views) i)
+
+-- the port has a seat of its own in this state
+abbrev pub HasSeat : PortView → State ℕ SeatView → Type 0
+HasSeat p st = (i : ℕ) × (view_at st.views i ≡ record { ports = p ∷ []; history = [] })
+
+-- there is a state of the words and of all ports that keeps the sums, and in it this is a port's view
+abbrev pub IsOfRunning : PortView → Type 0
+IsOfRunning p = (st : State ℕ SeatView) × TrackerRule p.shape st × HasSeat p st

@@ -3,8 +3,10 @@ pub mod Shape
 pub mod Words
 pub mod Views
 pub mod Rule
+pub mod Acts
 pub mod Steps
+pub mod History
 pub mod Calls
 pub mod Laws
-pub mod Sweeping
 pub mod Totals
+pub mod Conduct

@@ -1,13 +1,13 @@
 -- The rule of the tracker: what holds between any two atomic steps, whichever ports do them
 -- (docs/PROTOCOL.md, "The rule between steps").
-use Rattle.std.specs.Prelude.{◌≡◌, ℕ, ◌+◌, ◌<◌, ◌≤◌, List, [], ◌∷◌, Option, Some, None, IfSome, length, slice_index, slice_index_or, cond, ◌==◌}
+use Rattle.std.specs.Prelude.{◌≡◌, ℕ, ◌+◌, ◌<◌, ◌≤◌, List, [], ◌∷◌, Option, Some, None, IfSome, length, slice_index, cond, ◌==◌}
 use Rattle.std.specs.Int.{bit_at}
 use Rattle.atomic_table.specs.Table.{State}
 use Rattle.chi_tracker.specs.declared.shape.Shape.{Shape}
 use Rattle.chi_tracker.specs.declared.view.SeatView.{SeatView}
 use Rattle.chi_tracker.specs.Sums.{below, total, set_at}
 use Rattle.chi_tracker.specs.Shape.{low, IsOf, count_of, owed_in}
-use Rattle.chi_tracker.specs.Words.{c_of, p_of, o_of}
+use Rattle.chi_tracker.specs.Words.{word_count, c_of, p_of, o_of}
 use Rattle.chi_tracker.specs.Views.{PortView, Duty, has, new_ports}
 
 -- the sum of f over the ports of all seats
@@ -63,19 +63,11 @@ pub record Fits (s : Shape) (c : ℕ → ℕ) (p : ℕ → ℕ → ℕ) (o : ℕ
   pub sound : AllSeatsSound s vs
 
 pub record TrackerRule (key : Shape) (st : State ℕ SeatView) : Type 0 where
-  pub words : length st.words ≡ 44
+  pub words : length st.words ≡ word_count
   pub agents : key.agents ≤ 8
   pub entries : low key 4 ≤ 256
   pub fits : Fits key (c_of st.words) (p_of st.words) (o_of st.words) st.views
 
 -- the view of the first seat, which stands for all ports
 abbrev pub all_new : Shape → SeatView
-all_new s = record { ports = new_ports s 0 s.agents }
-
--- the port has a seat of its own in this state
-abbrev pub HasSeat : PortView → State ℕ SeatView → Type 0
-HasSeat p st = (i : ℕ) × (slice_index_or st.views i (record { ports = [] }) ≡ record { ports = p ∷ [] })
-
--- there is a state of the words and of all ports that keeps the rule, and in it this is a port's view
-abbrev pub IsOfRunning : PortView → Type 0
-IsOfRunning p = (st : State ℕ SeatView) × TrackerRule p.shape st × HasSeat p st
+all_new s = record { ports = new_ports s 0 s.agents; history = [] }

@@ -1,33 +1,30 @@
--- The eight kinds of atomic step, each with its operation and its effect on the view of the port that
--- does it (docs/PROTOCOL.md, "Steps of the tracker"). A look and a spend have two readings each, by what
--- the step is for.
-use Rattle.std.specs.Prelude.{◌≡◌, ℕ, zero, suc, Bool, ◌+◌, ◌*◌, ◌/◌, ◌%◌, ◌^◌, ◌<◌, ◌≤◌, List, [], ◌∷◌, Option, Some, None, slice_index, slice_set, cond, ◌==◌, ◌&&◌}
+-- The atomic steps: on which word each is done, what becomes of the word and of the view of the port that
+-- does it, and when the port may do it (docs/PROTOCOL.md, "Steps of the tracker").
+use Rattle.std.specs.Prelude.{◌≡◌, ℕ, zero, suc, Bool, ◌+◌, ◌*◌, ◌/◌, ◌%◌, ◌^◌, ◌<◌, List, [], ◌∷◌, Option, Some, None, slice_set, cond, ◌==◌, ◌&&◌, bit_and, bit_or}
 use Rattle.std.specs.Int.{bit_at}
-use Rattle.atomic_table.specs.Table.{Me, Step}
+use Rattle.atomic_table.specs.Table.{Me}
 use Rattle.chi_tracker.specs.declared.shape.Shape.{Shape}
 use Rattle.chi_tracker.specs.declared.view.SeatView.{SeatView}
-use Rattle.chi_tracker.specs.Sums.{one_more, with_bit, without_bit, all_but, take_out}
-use Rattle.chi_tracker.specs.Shape.{low, owed_in}
-use Rattle.chi_tracker.specs.Rule.{IsOfRunning}
-use Rattle.chi_tracker.specs.Views.{Duty, End, was_freed, was_promised, Sweep, PortView, has, new_port}
+use Rattle.chi_tracker.specs.declared.step.Step.{Step}
+use Rattle.chi_tracker.specs.declared.step.Step.TheVariants.{Claim, Free, Note, Owe, Look, Settle, Promise, See, Spend, Return}
+use Rattle.chi_tracker.specs.Sums.{one_more, with_bit, without_bit, all_but, set_at, take_out}
+use Rattle.chi_tracker.specs.Shape.{low, IsOf}
+use Rattle.chi_tracker.specs.Words.{promise_word, owed_word}
+use Rattle.chi_tracker.specs.Views.{Duty, End, was_freed, was_promised, Sweep, PortView, has, CanOwe, new_port}
 
--- what a step is for, where its operand can't say it: a credit type, an entry, a requester, and a place
--- of a type as 8 * type + place
-pub record Aim : Type 0 where
-  pub kind : ℕ
-  pub entry : ℕ
-  pub agent : ℕ
-  pub bit : ℕ
-
-abbrev pub no_aim : Aim
-no_aim = record { kind = 0; entry = 0; agent = 0; bit = 0 }
-
--- the seat of one port, and the port of a seat
+-- the seat of one port, of no history
 abbrev pub one : PortView → SeatView
-one p = record { ports = p ∷ [] }
+one p = record { ports = p ∷ []; history = [] }
 
-abbrev pub solo : PortView → Me ℕ SeatView
-solo p = (one p, [])
+-- what of a seat's view its ports are, and the seat of one port
+abbrev pub Shown : Type 0
+Shown = List PortView × List (ℕ × ℕ)
+
+abbrev pub shown : Me ℕ SeatView → Shown
+shown m = (m.0.ports, m.1)
+
+abbrev pub solo : PortView → Shown
+solo p = (p ∷ [], [])
 
 abbrev pub no_shape : Shape
 no_shape = record { sizes = 0 ∷ 0 ∷ 0 ∷ 0 ∷ []; agents = 0 }
@@ -36,12 +33,8 @@ abbrev pub first_port : List PortView → PortView
 first_port [] = new_port no_shape 0
 first_port (p ∷ ps) = p
 
-abbrev pub port_of : Me ℕ SeatView → PortView
-port_of m = first_port m.0.ports
-
--- the seat of one port, after its view went by f
-abbrev pub Becomes : Me ℕ SeatView → Me ℕ SeatView → (PortView → PortView) → Type 0
-Becomes m w f = w ≡ solo (f (port_of m))
+abbrev pub port_of : Shown → PortView
+port_of s = first_port s.0
 
 -- claim e: the old bit clear, e comes to hand; set, e is found claimed. A scan is opened at the lowest
 -- entry of its type
@@ -140,66 +133,54 @@ spends t e p = record p { hand = with_bit p.hand e; seen = take_out p.seen e; sp
 abbrev pub returns_credit : ℕ → ℕ → PortView → PortView
 returns_credit t e p = record p { hand = with_bit p.hand e; seen = take_out p.seen e; returned = one_more p.returned t }
 
--- The kinds of step, and there are no others. A look has two readings: one notes a clear place of the
--- port's own, one sweeps what is owed to a requester. So has a spend: the credit counts as spent, or as
--- returned.
-pub data Kind : Type 0 where
-  claim : Kind
-  free : Kind
-  note : Kind
-  owe : Kind
-  sweep : Kind
-  settle : Kind
-  promise : Kind
-  see : Kind
-  spend : Kind
-  give : Kind
+-- the word that a step of requester n is done on
+abbrev pub word_of : Step → ℕ → ℕ
+word_of (Claim t e) n = e / 64
+word_of (Free e) n = e / 64
+word_of (Note t) n = owed_word n
+word_of (Owe k) n = owed_word n
+word_of (Look t m) n = owed_word m
+word_of (Settle e m k) n = owed_word m
+word_of (Promise e m) n = promise_word m (e / 64)
+word_of (See i) n = promise_word n i
+word_of (Spend t e) n = promise_word n (e / 64)
+word_of (Return t e) n = promise_word n (e / 64)
 
--- the word that a step of a kind is done on by a port, and the step's operand
-abbrev pub IsOperation : Kind → Aim → PortView → Step ℕ → Type 0
-IsOperation claim a p st = (st.word ≡ a.entry / 64) × (st.first ≡ 2 ^ (a.entry % 64))
-IsOperation free a p st = (st.word ≡ a.entry / 64) × (st.first ≡ all_but (a.entry % 64))
-IsOperation note a p st = st.word ≡ 8 + 5 * p.who
-IsOperation owe a p st = (st.word ≡ 8 + 5 * p.who) × (st.first ≡ 2 ^ a.bit)
-IsOperation sweep a p st = st.word ≡ 8 + 5 * a.agent
-IsOperation settle a p st = (st.word ≡ 8 + 5 * a.agent) × (st.first ≡ all_but a.bit)
-IsOperation promise a p st = (st.word ≡ 4 + 5 * a.agent + a.entry / 64) × (st.first ≡ 2 ^ (a.entry % 64))
-IsOperation see a p st = st.word ≡ 4 + 5 * p.who + a.bit
-IsOperation spend a p st = (st.word ≡ 4 + 5 * p.who + a.entry / 64) × (st.first ≡ all_but (a.entry % 64))
-IsOperation give a p st = (st.word ≡ 4 + 5 * p.who + a.entry / 64) × (st.first ≡ all_but (a.entry % 64))
+-- a step's operation: what becomes of the word r
+abbrev pub written : Step → ℕ → ℕ
+written (Claim t e) r = bit_or r (2 ^ (e % 64))
+written (Free e) r = bit_and r (all_but (e % 64))
+written (Note t) r = r
+written (Owe k) r = bit_or r (2 ^ k)
+written (Look t m) r = r
+written (Settle e m k) r = bit_and r (all_but k)
+written (Promise e m) r = bit_or r (2 ^ (e % 64))
+written (See i) r = r
+written (Spend t e) r = bit_and r (all_but (e % 64))
+written (Return t e) r = bit_and r (all_but (e % 64))
 
--- what a step of a kind makes of the port's view, r being the word as it was found
-abbrev pub effect : Kind → Aim → ℕ → PortView → PortView
-effect claim a r = claims a.kind a.entry (bit_at r (a.entry % 64))
-effect free a r = frees a.entry
-effect note a r = notes a.kind r
-effect owe a r = owes
-effect sweep a r = sweeps a.kind a.agent r
-effect settle a r = settles a.entry a.agent a.bit (bit_at r a.bit)
-effect promise a r = promises
-effect see a r = views_word a.bit r
-effect spend a r = spends a.kind a.entry
-effect give a r = returns_credit a.kind a.entry
+-- its effect: what becomes of the port's view, r being the word as it was found
+abbrev pub effect : Step → ℕ → PortView → PortView
+effect (Claim t e) r = claims t e (bit_at r (e % 64))
+effect (Free e) r = frees e
+effect (Note t) r = notes t r
+effect (Owe k) r = owes
+effect (Look t m) r = sweeps t m r
+effect (Settle e m k) r = settles e m k (bit_at r k)
+effect (Promise e m) r = promises
+effect (See i) r = views_word i r
+effect (Spend t e) r = spends t e
+effect (Return t e) r = returns_credit t e
 
--- a seen credit's entry isn't in hand, and a credit of its type is due
-abbrev pub Spendable : Aim → PortView → Type 0
-Spendable a p = (has a.entry p ≡ 0)
-    × (slice_index p.spent a.kind + slice_index p.returned a.kind < slice_index p.retries a.kind)
-
--- what the port, which goes from p to q, learns of the whole
-abbrev pub Learns : Kind → Aim → ℕ → PortView → PortView → Type 0
-Learns claim a r p q = has a.entry p ≤ bit_at r (a.entry % 64)
-Learns free a r p q = Unit {0}
-Learns note a r p q = owed_in a.kind r + slice_index p.spent a.kind + slice_index p.returned a.kind ≤ slice_index p.retries a.kind
-Learns owe a r p q = Unit {0}
-Learns sweep a r p q = Unit {0}
-Learns settle a r p q = Unit {0}
-Learns promise a r p q = Unit {0}
-Learns see a r p q = ((i : ℕ) → i < 64 → bit_at (slice_index p.seen a.bit) i ≤ bit_at r i) × IsOfRunning q
-Learns spend a r p q = Spendable a p
-Learns give a r p q = Spendable a p
-
--- What a step of a kind tells: where it is done on the kind's word and with its operand, the view goes by
--- the kind's effect, and the port learns what the kind shows.
-abbrev pub TakesEffect : Kind → Aim → Step ℕ → Me ℕ SeatView → ℕ → Me ℕ SeatView → Type 0
-TakesEffect k a st m r w = IsOperation k a (port_of m) st → Becomes m w (effect k a r) × Learns k a r (port_of m) (port_of w)
+-- when a port may do it
+abbrev pub May : Step → PortView → Type 0
+May (Claim t e) p = (t < 4) × IsOf p.shape t e × (p.duty ≡ None)
+May (Free e) p = (e < 256) × (has e p ≡ 1) × (p.duty ≡ None)
+May (Note t) p = (t < 4) × CanOwe p t
+May (Owe k) p = (p.noted ≡ Some k) × (k < 32)
+May (Look t m) p = (t < 4) × (m < p.shape.agents)
+May (Settle e m k) p = (m < p.shape.agents) × (k < 32) × (has e p ≡ 1) × (p.duty ≡ None) × IsOf p.shape (k / 8) e
+May (Promise e m) p = (d : Duty) × (p.duty ≡ Some d) × (d.to ≡ m) × (d.entry ≡ e)
+May (See i) p = i < 4
+May (Spend t e) p = (t < 4) × (p.duty ≡ None) × IsOf p.shape t e × (set_at p.seen e ≡ 1)
+May (Return t e) p = (t < 4) × (p.duty ≡ None) × IsOf p.shape t e × (set_at p.seen e ≡ 1)

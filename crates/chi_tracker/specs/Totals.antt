@@ -8,9 +8,11 @@ use Rattle.chi_tracker.specs.declared.totals.Counts.{Counts}
 use Rattle.chi_tracker.specs.declared.totals.Credits.{Credits}
 use Rattle.chi_tracker.specs.Sums.{below, total}
 use Rattle.chi_tracker.specs.Shape.{count_of, owed_in}
-use Rattle.chi_tracker.specs.Words.{c_of, p_of, o_of}
+use Rattle.chi_tracker.specs.Words.{word_count, c_of, p_of, o_of}
 use Rattle.chi_tracker.specs.Views.{PortView}
 use Rattle.chi_tracker.specs.Rule.{of_port, TrackerRule}
+use Rattle.chi_tracker.specs.Acts.{Act}
+use Rattle.chi_tracker.specs.History.{after, Legal, ArePortsOf, longer}
 use Rattle.chi_tracker.specs.Laws.{duties}
 use Rattle.chi_tracker.specs.Calls.{Owner}
 
@@ -41,9 +43,9 @@ pub record IsCount (s : Shape) (ws : List ℕ) (counts : Counts) : Type 0 where
   pub promised : (t : ℕ) → t < 4 → slice_index counts.promised t ≡ count_of s t (is_promised ws s.agents)
   pub owed : (t : ℕ) → t < 4 → slice_index counts.owed t ≡ owed_all ws t s.agents
 
--- the counts are those of some 44 words, loaded one after the other while ports may do steps
+-- the counts are those of some words, loaded one after the other while ports may do steps
 abbrev pub IsGlance : Shape → Counts → Type 0
-IsGlance s counts = (words : List ℕ) × (length words ≡ 44) × IsCount s words counts
+IsGlance s counts = (words : List ℕ) × (length words ≡ word_count) × IsCount s words counts
 
 abbrev pub no_credits : Credits
 no_credits = record { due = []; owed = []; promised = [] }
@@ -78,13 +80,21 @@ pub record AreCredits (s : Shape) (ws dues : List ℕ) (m : ℕ) (credits : List
 
 -- the words and the views at the end, when one seat stands for all ports
 abbrev pub closed_state : List ℕ → List PortView → State ℕ SeatView
-closed_state words ports = record { words = words; homes = []; views = record { ports = ports } ∷ [] }
+closed_state words ports = record { words = words; homes = []; views = record { ports = ports; history = [] } ∷ [] }
 
--- What the words at the end hold, beside the views of the ports that were handed in: the rule of the
--- tracker (each entry in one place, each seen credit promised, the ledgers), no duty, and the numbers
--- handed out.
-pub record IsClosed (s : Shape) (ports : List PortView) (counts : Counts) (credits : List Credits) : Type 0 where
+-- the longest of the histories that ports know
+abbrev pub longest : List Owner → List Act
+longest [] = []
+longest (o ∷ os) = longer o.history (longest os)
+
+-- What the words at the end hold, beside the views of the ports that were handed in: a legal history
+-- made the words and these ports, and keeps the rule of the tracker (each entry in one place, each seen
+-- credit promised, the ledgers); no duty, and the numbers handed out.
+pub record IsClosed (s : Shape) (ports : List PortView) (history : List Act) (counts : Counts) (credits : List Credits) : Type 0 where
   pub words : List ℕ
+  pub legal : Legal s history
+  pub made : words ≡ (after s history).words
+  pub left : ArePortsOf s history [] ports
   pub rule : TrackerRule s (closed_state words ports)
   pub no_duty : (n t : ℕ) → duties n t ports ≡ 0
   pub counted : IsCount s words counts

@@ -1,11 +1,13 @@
 //! The end of a tracker: the ports' seats are joined, and what they were due is added up.
 
-ghost use Rattle.std.specs.Prelude.{◌≡◌, ℕ, ◌+◌, ◌*◌, ◌<◌, ◌≤◌, All, length, slice_index, cond, ◌==◌};
+ghost use Rattle.std.specs.Prelude.{◌≡◌, ℕ, [], ◌+◌, ◌*◌, ◌<◌, ◌≤◌, All, length, slice_index, cond, ◌==◌};
 ghost use Rattle.std.specs.Slots.{slots_items, slots_len, IsFull};
 ghost use Rattle.chi_tracker.specs.Shape.{low};
+ghost use Rattle.chi_tracker.specs.Words.{word_count};
 ghost use Rattle.chi_tracker.specs.Rule.{TrackerRule};
+ghost use Rattle.chi_tracker.specs.History.{after, Legal, ArePortsOf};
 ghost use Rattle.chi_tracker.specs.Laws.{duties};
-ghost use Rattle.chi_tracker.specs.Totals.{views_of, closed_state, AreDue, AreCredits};
+ghost use Rattle.chi_tracker.specs.Totals.{views_of, longest, closed_state, AreDue, AreCredits};
 
 use crate::law::{Board, Chair, Law};
 use crate::plays::{Enter, Gather};
@@ -14,6 +16,7 @@ use crate::shape::Shape;
 use crate::tally::{Words, owed_to, promised_of};
 use crate::totals::Credits;
 use crate::view::SeatView;
+use crate::words::WORD_COUNT;
 use arrayvec::ArrayVec;
 use atomic_table::{Closed, Table};
 use std::alloc::Allocator;
@@ -53,10 +56,11 @@ fn add_due(mut dues: Dues, number: usize, due: [u32; 4]) -> Dues
 
 /// Joins the seats of all ports.
 pub(crate) fn gather(board: &Board, mut ports: ArrayVec<Port, 8>) -> Gathered
-    requires table { (board.now.table_id.words ≡ 44) × All (λ p. p.table ≡ board.now.table_id) ports.items }
+    requires table { (board.now.table_id.words ≡ word_count) × All (λ p. p.table ≡ board.now.table_id) ports.items }
     requires few { length ports.items ≤ 8 }
     ensures chair { (result.chair.table_id ≡ board.now.table_id)
         × (result.chair.me.0.ports ≡ views_of ports.items) }
+    ensures history { result.chair.me.0.history ≡ longest ports.items }
     ensures idle { (n t : ℕ) → duties n t (views_of ports.items) ≡ 0 }
     ensures due { AreDue result.dues (views_of ports.items) }
 {
@@ -77,11 +81,11 @@ pub(crate) fn gather(board: &Board, mut ports: ArrayVec<Port, 8>) -> Gathered
 
 /// The words of a closed tracker.
 fn read<A: Allocator>(closed: &Closed<u8, A>) -> Words
-    requires { (slots_len closed.now.words ≡ 44) × IsFull closed.now.words }
+    requires { (slots_len closed.now.words ≡ word_count) × IsFull closed.now.words }
     ensures { result ≡ slots_items closed.now.words }
 {
-    let mut words = [0; 44];
-    for i in 0..44 {
+    let mut words = [0; WORD_COUNT];
+    for i in 0..WORD_COUNT {
         words[i] = closed.word(i);
     }
     words
@@ -92,10 +96,13 @@ pub(crate) fn last_words<A: Allocator>(
     table: Table<u8, SeatView, Shape, Law, A>,
     chair: Chair,
 ) -> Words
-    requires words { (table.shared.table_id.words ≡ 44) × (table.shared.table_id.slots ≡ 0) }
+    requires words { (table.shared.table_id.words ≡ word_count) × (table.shared.table_id.slots ≡ 0) }
     requires table { chair.table_id ≡ table.shared.table_id }
     requires all { length chair.me.0.ports ≡ table.shared.key.agents }
-    ensures { TrackerRule table.shared.key (closed_state result chair.me.0.ports) }
+    ensures rule { TrackerRule table.shared.key (closed_state result chair.me.0.ports) }
+    ensures history { Legal table.shared.key chair.me.0.history
+        × (result ≡ (after table.shared.key chair.me.0.history).words)
+        × ArePortsOf table.shared.key chair.me.0.history [] chair.me.0.ports }
 {
     let closed = table.close_with(chair);
     let words = read(&closed);

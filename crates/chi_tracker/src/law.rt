@@ -1,17 +1,19 @@
 //! The rule of the tracker's table.
 
-ghost use Rattle.chi_tracker.specs.Rule.{TrackerRule, all_new};
+ghost use Rattle.chi_tracker.specs.Rule.{all_new};
+ghost use Rattle.chi_tracker.specs.History.{Reached};
 
 use crate::shape::Shape;
 use crate::view::SeatView;
 use atomic_table::{Seat, Shared, TableRule};
 
-/// What holds between any two atomic steps.
+/// What holds between any two atomic steps: that there is a history of legal acts which made the words and all
+/// ports, and of which each seat knows its part.
 /// Source: `docs/PROTOCOL.md`, "The rule between steps".
 pub struct Law;
 
 impl TableRule<u8, SeatView, Shape> for Law {
-    ghost holds = { TrackerRule };
+    ghost holds = { Reached };
 
     ghost first = { all_new };
 }
@@ -22,9 +24,42 @@ impl Law {
     ghost use Rattle.chi_tracker.specs.declared.shape.Shape.{Shape};
     ghost use Rattle.chi_tracker.specs.declared.view.SeatView.{SeatView};
     ghost use Rattle.std.specs.Prelude.{List};
-    ghost use Rattle.chi_tracker.specs.Laws.{Places, Ledgers, AllKnow};
+    ghost use Rattle.chi_tracker.specs.Acts.{Act};
+    ghost use Rattle.chi_tracker.specs.Rule.{TrackerRule};
+    ghost use Rattle.chi_tracker.specs.History.{Reached, Legal, after, state_of, IsAfter, ViewsAre, HistoriesAgree};
+    ghost use Rattle.chi_tracker.specs.Laws.{Places, Ledgers, AllKnow, IsOfRunning};
     ghost use Rattle.chi_tracker.specs.Views.{PortView};
-    ghost use Rattle.chi_tracker.specs.Sweeping.{Act, SweepsInOrder};
+
+    /// Whatever legal acts make of the words and the ports keeps the tracker's rule, and so does each state
+    /// that the table's rule allows. Does nothing: its contract is the law.
+    /// Source: `docs/PROTOCOL.md`, "The rule between steps".
+    pub fn history()
+        ensures made { (key : Shape) (acts : List Act) → Legal key acts
+            → TrackerRule key (state_of (after key acts)) }
+        ensures kept { (key : Shape) (st : State ℕ SeatView) → Reached key st → TrackerRule key st }
+    {}
+
+    /// A port as a legal history leaves it is a port of a state that keeps the tracker's rule: what `place`,
+    /// `ledger` and `knowledge` say holds of it. Does nothing: its contract is the law.
+    /// Source: `docs/PROTOCOL.md`, "The rule between steps".
+    pub fn running()
+        ensures { (history : List Act) (p : PortView) → IsAfter history p → IsOfRunning p }
+    {}
+
+    /// Whatever steps were done, by whatever plays: each port's view is as legal acts leave it. So no step
+    /// can write anything else into a view. Does nothing: its contract is the law.
+    /// Source: `docs/PROTOCOL.md`, "The rule between steps".
+    pub fn views()
+        ensures { (key : Shape) (st : State ℕ SeatView) → Reached key st → ViewsAre st }
+    {}
+
+    /// Of each two seats one knows all that the other does: its history goes on from the other's, with acts of
+    /// which none is one of the other's ports. So what two threads know fits together. Does nothing: its
+    /// contract is the law.
+    /// Source: `docs/PROTOCOL.md`, "The rule between steps".
+    pub fn histories()
+        ensures { (key : Shape) (st : State ℕ SeatView) → Reached key st → HistoriesAgree st }
+    {}
 
     /// Between any two atomic steps each entry is free, in the hand of exactly one port, or promised to
     /// exactly one requester. Does nothing: its contract is the law.
@@ -46,15 +81,6 @@ impl Law {
     /// Source: `docs/PROTOCOL.md`, "The rule between steps".
     pub fn knowledge()
         ensures { (key : Shape) (st : State ℕ SeatView) → TrackerRule key st → AllKnow key st }
-    {}
-
-    /// Whatever looks and settles a port does, in whatever order: once they opened a sweep, each requester
-    /// before the one that the sweep stands at was looked at, and each place that the look showed set was
-    /// then found clear by a settle; where the sweep stands each such place is left or was found clear. Does
-    /// nothing: its contract is the law.
-    /// Source: `docs/PROTOCOL.md`, "Steps of the tracker", look and settle.
-    pub fn sweep()
-        ensures { (p : PortView) (acts : List Act) → SweepsInOrder p acts }
     {}
 }
 

@@ -15,12 +15,14 @@ mod released;
 mod scan;
 mod sets;
 mod shape;
+mod step;
 mod steps;
 mod sweep;
 mod tally;
 mod totals;
 mod tracker;
 mod view;
+mod words;
 
 pub use law::Law;
 pub use port::Port;

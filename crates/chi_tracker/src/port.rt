@@ -1,12 +1,13 @@
 //! A requester's port to the tracker.
 
-ghost use Rattle.std.specs.Prelude.{◌≡◌, None, ℕ, ◌<◌, ◌≤◌, IfSome, IfNone, slice_index};
+ghost use Rattle.std.specs.Prelude.{◌≡◌, None, ℕ, [], ◌∷◌, ◌<◌, ◌≤◌, IfSome, IfNone, slice_index};
 ghost use Rattle.chi_flit.specs.Credit.{credit_number};
 ghost use Rattle.chi_tracker.specs.Sums.{set_at, without_bit};
-ghost use Rattle.chi_tracker.specs.Shape.{low, size, IsShape};
+ghost use Rattle.chi_tracker.specs.Shape.{low, size, IsOf, IsShape};
 ghost use Rattle.chi_tracker.specs.Views.{has, new_port, IsDue, CanOwe};
-ghost use Rattle.chi_tracker.specs.Rule.{IsOfRunning};
-ghost use Rattle.chi_tracker.specs.Steps.{solo, frees, spends};
+ghost use Rattle.chi_tracker.specs.History.{IsAfter};
+ghost use Rattle.chi_tracker.specs.Conduct.{Does, FoundFree, FoundTaken, One, Then, OweActs, SeeActs, ReleaseActs, TendActs};
+ghost use Rattle.chi_tracker.specs.Steps.{shown, solo, frees, spends};
 ghost use Rattle.chi_tracker.specs.Calls.{no_owner, scanned_all, owed_one, saw_all, seen_of, FoundAll, HasClaimed, IsLowestSeen, EndedAsItsType, Tended, HasReturned, HasSameCredits, HasOneLess};
 
 use crate::law::Chair;
@@ -16,6 +17,7 @@ use crate::released::Released;
 use crate::scan::scan;
 use crate::sets::{counts_by_type, lowest};
 use crate::shape::Shape;
+use crate::step::Step;
 use crate::steps::{free_step, see_step};
 use crate::sweep::{release_entry, tend_type};
 use crate::tracker::Tracker;
@@ -28,6 +30,12 @@ use std::marker::Model;
 ///
 /// Each call that does a step takes the tracker by reference. No call takes memory or a lock, or waits for
 /// anybody.
+///
+/// Contracts see the port's view and the history of the tracker up to the port's last step. Each call that does
+/// a step says what it did (`acts`): these steps, each with the word that it found, and no others, whatever
+/// other ports did meanwhile. And it says that this history is legal and leaves the port so (`running`): what
+/// `Law::place`, `Law::ledger` and `Law::knowledge` say holds of the port in the running tracker, by
+/// `Law::running`.
 /// Source: `docs/PROTOCOL.md`, "Words of the tracker".
 #[derive(Drop)]
 pub struct Port {
@@ -75,9 +83,9 @@ impl Default for Port {
 impl Port {
     // The port of requester `number`, which has done nothing yet.
     pub(crate) fn on_chair(chair: Chair, number: usize, shape: Shape) -> Port
-        requires view { chair.me ≡ solo (new_port shape number) }
+        requires view { (shown chair.me ≡ solo (new_port shape number)) × (chair.me.0.history ≡ []) }
         requires shape { IsShape shape × (number < shape.agents) }
-        ensures { result ≡ record { table = chair.table_id; port = new_port shape number } }
+        ensures { result ≡ record { table = chair.table_id; port = new_port shape number; history = [] } }
     {
         Port {
             chair: Some(chair),
@@ -91,7 +99,8 @@ impl Port {
     // The port's seat, with its number and the credits due.
     pub(crate) fn into_seated(self) -> Seated
         requires { 0 < self.table.words }
-        ensures chair { (result.chair.table_id ≡ self.table) × (result.chair.me ≡ solo self.port) }
+        ensures chair { (result.chair.table_id ≡ self.table) × (shown result.chair.me ≡ solo self.port)
+            × (result.chair.me.0.history ≡ self.history) }
         ensures number { (result.number ≡ self.port.who) × (self.port.duty ≡ None) }
         ensures due { (t : ℕ) → t < 4 → IsDue self.port t (slice_index result.due t) }
         ensures few { (t : ℕ) → t < 4 → slice_index result.due t ≤ 8 }
@@ -125,6 +134,11 @@ impl Port {
         ensures found { IfNone result (FoundAll self.old.port.shape (credit_number ty) self.new.port) }
         ensures mine { IfSome result (λ e. has e.0 self.new.port ≡ 1) }
         ensures entry { IfSome result (λ e. e.0 < low self.new.port.shape 4) }
+        ensures free { IfSome result (λ e. let t = credit_number ty in
+            Does self.old (FoundFree t (low self.old.port.shape t) e.0) self.new) }
+        ensures taken { IfNone result (let t = credit_number ty in let s = self.old.port.shape in
+            Does self.old (FoundTaken t (low s t) (size s t)) self.new) }
+        ensures running { IsAfter self.new.history self.new.port }
     {
         let board = tracker.board();
         let Some(mut chair) = self.chair.take() else {
@@ -148,6 +162,8 @@ impl Port {
         requires entry { has entry.0 self.old.port ≡ 1 }
         ensures table { self.new.table ≡ self.old.table }
         ensures port { self.new.port ≡ frees entry.0 self.old.port }
+        ensures acts { Does self.old (One (Step.Free entry.0)) self.new }
+        ensures running { IsAfter self.new.history self.new.port }
     {
         let board = tracker.board();
         let Some(mut chair) = self.chair.take() else {
@@ -170,6 +186,8 @@ impl Port {
         requires few { CanOwe self.old.port (credit_number ty) }
         ensures table { self.new.table ≡ self.old.table }
         ensures port { self.new.port ≡ owed_one (credit_number ty) self.old.port }
+        ensures acts { Does self.old (OweActs (credit_number ty)) self.new }
+        ensures running { IsAfter self.new.history self.new.port }
     {
         let board = tracker.board();
         let Some(mut chair) = self.chair.take() else {
@@ -183,8 +201,7 @@ impl Port {
 
     /// Looks at what is promised to the port, one step on each of its four words, and answers the seen
     /// credits by type. A credit that was seen before is seen still. The port's hand, and what it has counted
-    /// of its credits, stay. There is a state of the words and of all ports which keeps the tracker's rule and
-    /// in which this is the port's view: what `Law::place`, `Law::ledger` and `Law::knowledge` say holds of it.
+    /// of its credits, stay.
     ///
     /// Condition: the port is one that this tracker gave.
     /// Source: `docs/PROTOCOL.md`, "Steps of the tracker", see.
@@ -194,7 +211,8 @@ impl Port {
         ensures port { self.new.port ≡ saw_all self.new.port.seen self.old.port }
         ensures more { (e : ℕ) → e < 256 → set_at self.old.port.seen e ≤ set_at self.new.port.seen e }
         ensures counts { (t : ℕ) → t < 4 → slice_index result t ≡ seen_of self.new.port t }
-        ensures running { IsOfRunning self.new.port }
+        ensures running { IsAfter self.new.history self.new.port }
+        ensures acts { Does self.old (SeeActs self.new.port.seen) self.new }
     {
         let board = tracker.board();
         let Some(mut chair) = self.chair.take() else {
@@ -241,6 +259,8 @@ impl Port {
         ensures mine { has result.0 self.new.port ≡ 1 }
         ensures entry { result.0 < low self.new.port.shape 4 }
         ensures fewer { HasOneLess (credit_number ty) self.old.port self.new.port }
+        ensures acts { Does self.old (One (Step.Spend (credit_number ty) result.0)) self.new }
+        ensures running { IsAfter self.new.history self.new.port }
     {
         let board = tracker.board();
         let Some(mut chair) = self.chair.take() else {
@@ -260,23 +280,23 @@ impl Port {
     /// freed.
     ///
     /// The contract says that the entry left the hand, and that it was promised to the requester that is
-    /// answered, which is one of the tracker's and the one that the sweep of its type stands at, which this
-    /// call opened: so each requester before it was looked at with no bit left. Or it was freed after such a
-    /// sweep came to the last requester with no bit left. The port's other entries in hand and its credits
-    /// stay. That a credit of the type was owed to the requester isn't in the contract, and follows from the
-    /// law that each step keeps (`Law::ledger`): one more promise to a requester is one less of the credits
-    /// that were owed to it.
+    /// answered, which is one of the tracker's: a look at its word, after all requesters before it were swept in
+    /// vain, showed a place of the entry's type that a settle then found set, and so owed to it. Or it was freed
+    /// after all requesters were swept in vain: each was looked at, and each place of the type that a look
+    /// showed was then found clear. The port's other entries in hand and its credits stay.
     ///
-    /// Conditions: the port is one that this tracker gave, and the entry is one of the tracker's and in its
-    /// hand.
+    /// Conditions: the port is one that this tracker gave, and the entry is in its hand.
     /// Source: `docs/PROTOCOL.md`, "Steps of the tracker", release.
     pub fn release<A: Allocator>(&mut self, tracker: &Tracker<A>, entry: Entry) -> Released
         requires table { self.old.table ≡ tracker.now.table }
-        requires entry { (entry.0 < low self.old.port.shape 4) × (has entry.0 self.old.port ≡ 1) }
+        requires entry { has entry.0 self.old.port ≡ 1 }
         ensures table { self.new.table ≡ self.old.table }
         ensures port { EndedAsItsType self.old.port entry.0 result self.new.port }
         ensures credits { HasSameCredits self.old.port self.new.port }
         ensures hand { self.new.port.hand ≡ without_bit self.old.port.hand entry.0 }
+        ensures acts { (t : ℕ) × (t < 4) × IsOf self.old.port.shape t entry.0
+            × Does self.old (ReleaseActs self.old.port.shape.agents t entry.0 result) self.new }
+        ensures running { IsAfter self.new.history self.new.port }
     {
         let board = tracker.board();
         let Some(mut chair) = self.chair.take() else {
@@ -303,6 +323,10 @@ impl Port {
         ensures port { HasReturned (credit_number ty) self.old.port result self.new.port }
         ensures hand { (i : ℕ) → has i self.new.port ≡ has i self.old.port }
         ensures fewer { HasOneLess (credit_number ty) self.old.port self.new.port }
+        ensures acts { (e : ℕ) × IsLowestSeen self.old.port (credit_number ty) e
+            × Does self.old (Then (One (Step.Return (credit_number ty) e))
+            (ReleaseActs self.old.port.shape.agents (credit_number ty) e result)) self.new }
+        ensures running { IsAfter self.new.history self.new.port }
     {
         let board = tracker.board();
         let Some(mut chair) = self.chair.take() else {
@@ -329,7 +353,7 @@ impl Port {
     ///
     /// Conditions: the port is one that this tracker gave, and the type has entries.
     /// Source: `docs/PROTOCOL.md`, "Steps of the tracker", tend.
-    #[tactic(auto, using(crate::proofs::Sweeps::tended_hand))]
+    #[tactic(auto, using(crate::proofs::Sweeps::tended_hand, crate::proofs::Upkeep::inside_after))]
     pub fn tend<A: Allocator>(&mut self, tracker: &Tracker<A>, ty: CreditType) -> Option<Released>
         requires table { self.old.table ≡ tracker.now.table }
         requires entries { 0 < size self.old.port.shape (credit_number ty) }
@@ -337,6 +361,8 @@ impl Port {
         ensures port { Tended self.old.port (credit_number ty) result self.new.port }
         ensures credits { HasSameCredits self.old.port self.new.port }
         ensures hand { (i : ℕ) → has i self.new.port ≡ has i self.old.port }
+        ensures acts { Does self.old (TendActs self.old.port (credit_number ty) result) self.new }
+        ensures running { IsAfter self.new.history self.new.port }
     {
         let board = tracker.board();
         let Some(mut chair) = self.chair.take() else {

@@ -3,8 +3,10 @@
 ghost use Rattle.std.specs.Prelude.{◌≡◌, ◌+◌, ◌-◌, ◌<◌, ◌≤◌, None, IfSome, IfNone};
 ghost use Rattle.chi_tracker.specs.Shape.{low, size, IsOf};
 ghost use Rattle.chi_tracker.specs.Views.{has};
-ghost use Rattle.chi_tracker.specs.Steps.{solo, port_of};
-ghost use Rattle.chi_tracker.specs.Calls.{port_after_scan, into_hand};
+ghost use Rattle.chi_tracker.specs.Steps.{shown, solo};
+ghost use Rattle.chi_tracker.specs.History.{IsAfter, port_in};
+ghost use Rattle.chi_tracker.specs.Calls.{IsSeat, owner_in, port_after_scan, into_hand};
+ghost use Rattle.chi_tracker.specs.Conduct.{Does, FoundFree, FoundTaken};
 
 use crate::law::{Board, Chair};
 use crate::marks::is_set;
@@ -18,15 +20,19 @@ pub(crate) fn scan(
     first: usize,
     count: usize,
 ) -> Option<usize>
-    requires table { (chair.old.table_id ≡ board.now.table_id) × (board.now.table_id.words ≡ 44) }
-    requires view { (chair.old.me ≡ solo (port_of chair.old.me)) × ((port_of chair.old.me).duty ≡ None) }
-    requires range { (first ≡ low (port_of chair.old.me).shape ty)
-        × (count ≡ size (port_of chair.old.me).shape ty) × (0 < count) × (first + count ≤ 256) }
+    requires seat { IsSeat board.now.table_id chair.old }
+    requires idle { (port_in chair.old.me).duty ≡ None }
+    requires kind { ty < 4 }
+    requires range { (first ≡ low (port_in chair.old.me).shape ty)
+        × (count ≡ size (port_in chair.old.me).shape ty) × (0 < count) × (first + count ≤ 256) }
     ensures table { chair.new.table_id ≡ chair.old.table_id }
     ensures some { IfSome result
-        (λ e. IsOf (port_of chair.old.me).shape ty e × (has e (port_of chair.old.me) ≡ 0)
-        × (chair.new.me ≡ solo (into_hand e (port_after_scan ty (e - first) (port_of chair.old.me))))) }
-    ensures none { IfNone result (chair.new.me ≡ solo (port_after_scan ty count (port_of chair.old.me))) }
+        (λ e. IsOf (port_in chair.old.me).shape ty e × (has e (port_in chair.old.me) ≡ 0)
+        × (shown chair.new.me ≡ solo (into_hand e (port_after_scan ty (e - first) (port_in chair.old.me))))) }
+    ensures none { IfNone result (shown chair.new.me ≡ solo (port_after_scan ty count (port_in chair.old.me))) }
+    ensures free { IfSome result (λ e. Does (owner_in chair.old) (FoundFree ty first e) (owner_in chair.new)) }
+    ensures taken { IfNone result (Does (owner_in chair.old) (FoundTaken ty first count) (owner_in chair.new)) }
+    ensures after { IsAfter chair.new.me.0.history (port_in chair.new.me) }
 {
     let word = claim_step(board, chair, ty, first);
     if !is_set(word, first % 64) {

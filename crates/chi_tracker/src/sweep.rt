@@ -1,15 +1,18 @@
 //! The sweep of the requesters for an owed credit of a type.
 
-ghost use Rattle.std.specs.Prelude.{◌≡◌, ℕ, ◌+◌, ◌<◌, ◌*◌, ◌/◌, ◌≤◌, None, MatchBool, MatchOption};
+ghost use Rattle.std.specs.Prelude.{◌≡◌, ℕ, [], ◌∷◌, ⊤, ◌+◌, ◌<◌, ◌*◌, ◌/◌, ◌≤◌, None, MatchBool, MatchOption};
 ghost use Rattle.chi_tracker.specs.Shape.{low, size, IsOf};
 ghost use Rattle.chi_tracker.specs.Views.{PortView, has};
-ghost use Rattle.chi_tracker.specs.Steps.{solo, port_of, byte_of, settles, promises};
-ghost use Rattle.chi_tracker.specs.Calls.{with_sweep, stands_at, swept_all, granted_to, freed_entry, Ended, ShowsOwed, Tended};
+ghost use Rattle.chi_tracker.specs.Steps.{shown, solo, byte_of, settles, promises};
+ghost use Rattle.chi_tracker.specs.History.{IsAfter, port_in};
+ghost use Rattle.chi_tracker.specs.Calls.{IsSeat, owner_in, with_sweep, stands_at, swept_all, granted_to, freed_entry, Ended, ShowsOwed, Tended};
+ghost use Rattle.chi_tracker.specs.Conduct.{Does, Then, One, Found, FoundClear, Settled, SettledIn, PromisedAt, SweptFor, ReleaseActs, LookedUntil, LookedInVain, TendActs};
 
 use crate::law::{Board, Chair};
 use crate::marks::is_set;
 use crate::released::Released;
 use crate::scan::scan;
+use crate::step::Step;
 use crate::steps::{free_step, promise_step, settle_step, sweep_step};
 use chi_flit::Agent;
 
@@ -24,21 +27,24 @@ fn byte(word: u64, ty: usize) -> u64
 /// Tries to settle a place at a requester, and promises it the entry in hand where the place was still
 /// set. True where it did.
 fn settle_one(board: &Board, chair: &mut Chair, agent: usize, place: usize, entry: usize) -> bool
-    requires table { (chair.old.table_id ≡ board.now.table_id) × (board.now.table_id.words ≡ 44) }
-    requires view { (chair.old.me ≡ solo (port_of chair.old.me)) × ((port_of chair.old.me).duty ≡ None)
-        × (has entry (port_of chair.old.me) ≡ 1) }
-    requires range { (agent < (port_of chair.old.me).shape.agents) × (agent < 8) × (entry < 256) }
-    requires place { (place < 32) × IsOf (port_of chair.old.me).shape (place / 8) entry }
+    requires seat { IsSeat board.now.table_id chair.old }
+    requires held { ((port_in chair.old.me).duty ≡ None) × (has entry (port_in chair.old.me) ≡ 1) }
+    requires range { (agent < (port_in chair.old.me).shape.agents) × (agent < 8) × (entry < 256) }
+    requires place { (place < 32) × IsOf (port_in chair.old.me).shape (place / 8) entry }
     ensures table { chair.new.table_id ≡ chair.old.table_id }
     ensures view { MatchBool result
-        (chair.new.me ≡ solo (promises (settles entry agent place 1 (port_of chair.old.me))))
-        (chair.new.me ≡ solo (settles entry agent place 0 (port_of chair.old.me))) }
+        (shown chair.new.me ≡ solo (promises (settles entry agent place 1 (port_in chair.old.me))))
+        (shown chair.new.me ≡ solo (settles entry agent place 0 (port_in chair.old.me))) }
+    ensures acts { MatchBool result
+        (Does (owner_in chair.old) (Settled entry agent place) (owner_in chair.new))
+        (Does (owner_in chair.old) (Found (Step.Settle entry agent place) place 0) (owner_in chair.new)) }
+    ensures after { IsAfter chair.new.me.0.history (port_in chair.new.me) }
 {
     let old = settle_step(board, chair, agent, place, entry);
     if !is_set(old, place) {
         return false;
     }
-    promise_step(board, chair, agent, place, entry);
+    promise_step(board, chair, agent, entry);
     true
 }
 
@@ -52,22 +58,26 @@ fn settle_places(
     word: u64,
     entry: usize,
 ) -> bool
-    requires table { (chair.old.table_id ≡ board.now.table_id) × (board.now.table_id.words ≡ 44) }
-    requires view { (chair.old.me ≡ solo (port_of chair.old.me)) × ((port_of chair.old.me).duty ≡ None)
-        × (has entry (port_of chair.old.me) ≡ 1) }
-    requires sweep { (port_of chair.old.me).sweep ≡ record {
-      opened = (port_of chair.old.me).sweep.opened;
+    requires seat { IsSeat board.now.table_id chair.old }
+    requires held { ((port_in chair.old.me).duty ≡ None) × (has entry (port_in chair.old.me) ≡ 1) }
+    requires sweep { (port_in chair.old.me).sweep ≡ record {
+      opened = (port_in chair.old.me).sweep.opened;
       kind = ty;
       at = agent;
       left = byte_of ty word;
     } }
-    requires range { (ty < 4) × (agent < (port_of chair.old.me).shape.agents) × (agent < 8)
-        × (entry < 256) × IsOf (port_of chair.old.me).shape ty entry }
+    requires range { (ty < 4) × (agent < (port_in chair.old.me).shape.agents) × (agent < 8)
+        × (entry < 256) × IsOf (port_in chair.old.me).shape ty entry }
     ensures table { chair.new.table_id ≡ chair.old.table_id }
     ensures view { MatchBool result
-        ((left : ℕ) × (chair.new.me ≡ solo (granted_to agent entry
-        (with_sweep (record (port_of chair.old.me).sweep { left = left }) (port_of chair.old.me)))))
-        (chair.new.me ≡ solo (with_sweep (record (port_of chair.old.me).sweep { left = 0 }) (port_of chair.old.me))) }
+        ((left : ℕ) × (shown chair.new.me ≡ solo (granted_to agent entry
+        (with_sweep (record (port_in chair.old.me).sweep { left = left }) (port_in chair.old.me)))))
+        (shown chair.new.me
+        ≡ solo (with_sweep (record (port_in chair.old.me).sweep { left = 0 }) (port_in chair.old.me))) }
+    ensures acts { MatchBool result
+        (Does (owner_in chair.old) (SettledIn ty entry agent word) (owner_in chair.new))
+        (Does (owner_in chair.old) (FoundClear ty entry agent word 8) (owner_in chair.new)) }
+    ensures after { MatchBool result (IsAfter chair.new.me.0.history (port_in chair.new.me)) ⊤ }
 {
     for place in 8 * ty..8 * ty + 8 {
         if is_set(word, place) && settle_one(board, chair, agent, place, entry) {
@@ -86,16 +96,21 @@ fn settle_first(
     agents: usize,
     entry: usize,
 ) -> Option<usize>
-    requires table { (chair.old.table_id ≡ board.now.table_id) × (board.now.table_id.words ≡ 44) }
-    requires view { (chair.old.me ≡ solo (port_of chair.old.me)) × ((port_of chair.old.me).duty ≡ None)
-        × (has entry (port_of chair.old.me) ≡ 1) }
-    requires range { (ty < 4) × (agents ≡ (port_of chair.old.me).shape.agents) × (0 < agents)
-        × (agents ≤ 8) × (entry < 256) × IsOf (port_of chair.old.me).shape ty entry }
+    requires seat { IsSeat board.now.table_id chair.old }
+    requires held { ((port_in chair.old.me).duty ≡ None) × (has entry (port_in chair.old.me) ≡ 1) }
+    requires range { (ty < 4) × (agents ≡ (port_in chair.old.me).shape.agents) × (0 < agents)
+        × (agents ≤ 8) × (entry < 256) × IsOf (port_in chair.old.me).shape ty entry }
     ensures table { chair.new.table_id ≡ chair.old.table_id }
     ensures view { MatchOption result
-        (chair.new.me ≡ solo (freed_entry entry (swept_all ty (port_of chair.old.me))))
+        (shown chair.new.me ≡ solo (freed_entry entry (swept_all ty (port_in chair.old.me))))
         (λ m. (m < agents) × ((left : ℕ)
-        × (chair.new.me ≡ solo (granted_to m entry (stands_at ty m left (port_of chair.old.me)))))) }
+        × (shown chair.new.me ≡ solo (granted_to m entry (stands_at ty m left (port_in chair.old.me)))))) }
+    ensures acts { MatchOption result
+        (Does (owner_in chair.old) (Then (SweptFor ty entry agents) (One (Step.Free entry)))
+        (owner_in chair.new))
+        (λ m. Does (owner_in chair.old) (Then (SweptFor ty entry m) (PromisedAt ty entry m))
+        (owner_in chair.new)) }
+    ensures after { IsAfter chair.new.me.0.history (port_in chair.new.me) }
 {
     for agent in 0..agents {
         let word = sweep_step(board, chair, ty, agent);
@@ -115,14 +130,15 @@ pub(crate) fn release_entry(
     agents: usize,
     entry: usize,
 ) -> Released
-    requires table { (chair.old.table_id ≡ board.now.table_id) × (board.now.table_id.words ≡ 44) }
-    requires view { (chair.old.me ≡ solo (port_of chair.old.me)) × ((port_of chair.old.me).duty ≡ None)
-        × (has entry (port_of chair.old.me) ≡ 1) }
-    requires range { (ty < 4) × (agents ≡ (port_of chair.old.me).shape.agents) × (0 < agents)
-        × (agents ≤ 8) × (entry < 256) × IsOf (port_of chair.old.me).shape ty entry }
+    requires seat { IsSeat board.now.table_id chair.old }
+    requires held { ((port_in chair.old.me).duty ≡ None) × (has entry (port_in chair.old.me) ≡ 1) }
+    requires range { (ty < 4) × (agents ≡ (port_in chair.old.me).shape.agents) × (0 < agents)
+        × (agents ≤ 8) × (entry < 256) × IsOf (port_in chair.old.me).shape ty entry }
     ensures table { chair.new.table_id ≡ chair.old.table_id }
-    ensures alone { chair.new.me ≡ solo (port_of chair.new.me) }
-    ensures view { Ended (port_of chair.old.me) ty entry result (port_of chair.new.me) }
+    ensures alone { shown chair.new.me ≡ solo (port_in chair.new.me) }
+    ensures view { Ended (port_in chair.old.me) ty entry result (port_in chair.new.me) }
+    ensures acts { Does (owner_in chair.old) (ReleaseActs agents ty entry result) (owner_in chair.new) }
+    ensures after { IsAfter chair.new.me.0.history (port_in chair.new.me) }
 {
     match settle_first(board, chair, ty, agents, entry) {
         Some(agent) => Released::Granted(Agent(agent as u8)),
@@ -133,13 +149,17 @@ pub(crate) fn release_entry(
 /// Looks at the requesters, in rising order, until one shows an owed credit of the type. True where one
 /// did.
 pub(crate) fn look_owed(board: &Board, chair: &mut Chair, ty: usize, agents: usize) -> bool
-    requires table { (chair.old.table_id ≡ board.now.table_id) × (board.now.table_id.words ≡ 44) }
-    requires view { chair.old.me ≡ solo (port_of chair.old.me) }
-    requires range { (ty < 4) × (agents ≡ (port_of chair.old.me).shape.agents) × (0 < agents) × (agents ≤ 8) }
+    requires seat { IsSeat board.now.table_id chair.old }
+    requires range { (ty < 4) × (agents ≡ (port_in chair.old.me).shape.agents) × (0 < agents)
+        × (agents ≤ 8) }
     ensures table { chair.new.table_id ≡ chair.old.table_id }
     ensures view { MatchBool result
-        ((x : PortView) × (chair.new.me ≡ solo x) × ShowsOwed ty (port_of chair.old.me) x)
-        (chair.new.me ≡ solo (swept_all ty (port_of chair.old.me))) }
+        ((x : PortView) × (shown chair.new.me ≡ solo x) × ShowsOwed ty (port_in chair.old.me) x)
+        (shown chair.new.me ≡ solo (swept_all ty (port_in chair.old.me))) }
+    ensures acts { MatchBool result
+        (Does (owner_in chair.old) (LookedUntil ty agents) (owner_in chair.new))
+        (Does (owner_in chair.old) (LookedInVain ty agents) (owner_in chair.new)) }
+    ensures after { IsAfter chair.new.me.0.history (port_in chair.new.me) }
 {
     for agent in 0..agents {
         let shown = sweep_step(board, chair, ty, agent);
@@ -160,15 +180,17 @@ pub(crate) fn tend_type(
     first: usize,
     count: usize,
 ) -> Option<Released>
-    requires table { (chair.old.table_id ≡ board.now.table_id) × (board.now.table_id.words ≡ 44) }
-    requires view { (chair.old.me ≡ solo (port_of chair.old.me)) × ((port_of chair.old.me).duty ≡ None) }
-    requires agents { (ty < 4) × (agents ≡ (port_of chair.old.me).shape.agents) × (0 < agents)
+    requires seat { IsSeat board.now.table_id chair.old }
+    requires idle { (port_in chair.old.me).duty ≡ None }
+    requires agents { (ty < 4) × (agents ≡ (port_in chair.old.me).shape.agents) × (0 < agents)
         × (agents ≤ 8) }
-    requires range { (first ≡ low (port_of chair.old.me).shape ty)
-        × (count ≡ size (port_of chair.old.me).shape ty) × (0 < count) × (first + count ≤ 256) }
+    requires range { (first ≡ low (port_in chair.old.me).shape ty)
+        × (count ≡ size (port_in chair.old.me).shape ty) × (0 < count) × (first + count ≤ 256) }
     ensures table { chair.new.table_id ≡ chair.old.table_id }
-    ensures alone { chair.new.me ≡ solo (port_of chair.new.me) }
-    ensures view { Tended (port_of chair.old.me) ty result (port_of chair.new.me) }
+    ensures alone { shown chair.new.me ≡ solo (port_in chair.new.me) }
+    ensures view { Tended (port_in chair.old.me) ty result (port_in chair.new.me) }
+    ensures acts { Does (owner_in chair.old) (TendActs (port_in chair.old.me) ty result) (owner_in chair.new) }
+    ensures after { IsAfter chair.new.me.0.history (port_in chair.new.me) }
 {
     if !look_owed(board, chair, ty, agents) {
         return None;

@@ -10,9 +10,10 @@ use crate::marks::inverse;
 use crate::sets::{counts_by_type, ones_from};
 use crate::shape::Shape;
 use crate::totals::Counts;
+use crate::words::{WORD_COUNT, owed_word, promise_word};
 
 /// The tracker's words, as they were read.
-pub(crate) type Words = [u64; 44];
+pub(crate) type Words = [u64; WORD_COUNT];
 
 /// The entries that are promised to some requester.
 fn promised_set(words: &Words, agents: usize) -> [u64; 4]
@@ -21,7 +22,7 @@ fn promised_set(words: &Words, agents: usize) -> [u64; 4]
 {
     let mut set = [0; 4];
     for agent in 0..agents {
-        let at = 4 + 5 * agent;
+        let at = promise_word(agent, 0);
         let more = [
             set[0] | words[at],
             set[1] | words[at + 1],
@@ -69,7 +70,7 @@ pub(crate) fn owed_to(words: &Words, agent: usize) -> [u32; 4]
     ensures is { (t : ℕ) → t < 4 → slice_index result t ≡ owed_in t (o_of words.now agent) }
     ensures few { (t : ℕ) → t < 4 → slice_index result t ≤ 8 }
 {
-    let word = words[8 + 5 * agent];
+    let word = words[owed_word(agent)];
     [
         ones_from(word, 0, 8),
         ones_from(word, 8, 8),
@@ -83,7 +84,7 @@ pub(crate) fn promised_of(words: &Words, agent: usize, shape: &Shape) -> [u32; 4
     requires { (agent < 8) × (low shape.now 4 ≤ 256) }
     ensures { (t : ℕ) → t < 4 → slice_index result t ≡ count_of shape.now t (p_of words.now agent) }
 {
-    let at = 4 + 5 * agent;
+    let at = promise_word(agent, 0);
     let set = [words[at], words[at + 1], words[at + 2], words[at + 3]];
     counts_by_type(&set, shape)
 }
@@ -95,7 +96,7 @@ fn owed_by_all(words: &Words, agents: usize) -> [u32; 4]
 {
     let mut owed = [0; 4];
     for agent in 0..agents {
-        if words[8 + 5 * agent] != 0 {
+        if words[owed_word(agent)] != 0 {
             let own = owed_to(words, agent);
             let sums = [
                 owed[0] + own[0],

@@ -2,10 +2,11 @@
 
 ghost use Rattle.std.specs.Prelude.{◌≡◌, ◌<◌, ◌≤◌, [], All, IfOk, length};
 ghost use Rattle.chi_tracker.specs.Shape.{low};
+ghost use Rattle.chi_tracker.specs.Words.{word_count};
 ghost use Rattle.chi_tracker.specs.Views.{new_ports};
 ghost use Rattle.chi_tracker.specs.Rule.{all_new};
 ghost use Rattle.chi_tracker.specs.Calls.{owners, new_owners, shape_of, IsOwnerAt};
-ghost use Rattle.chi_tracker.specs.Totals.{views_of, IsClosed, IsBalanced, IsGlance};
+ghost use Rattle.chi_tracker.specs.Totals.{views_of, longest, IsClosed, IsBalanced, IsGlance};
 
 use crate::closing::{Gathered, credits, gather, last_words};
 use crate::law::{Board, Chair, Law};
@@ -15,6 +16,7 @@ use crate::shape::Shape;
 use crate::tally::counts;
 use crate::totals::{Counts, Totals};
 use crate::view::SeatView;
+use crate::words::{WORD_COUNT, owed_word};
 use arrayvec::ArrayVec;
 use atomic_table::Table;
 use chi_flit::NoMemory;
@@ -32,6 +34,7 @@ pub struct Tracker<A: Allocator> {
 
 impl<A: Allocator> Model for Tracker<A> {
     ghost use Rattle.std.specs.Prelude.{◌≡◌};
+    ghost use Rattle.chi_tracker.specs.Words.{word_count};
     ghost use Rattle.chi_tracker.specs.Calls.{Home};
     ghost use Rattle.chi_tracker.specs.Shape.{IsShape};
 
@@ -39,7 +42,7 @@ impl<A: Allocator> Model for Tracker<A> {
 
     ghost view = { λ t. record { table = t.table.shared.table_id; shape = t.shape } };
 
-    ghost invariant = { λ t. (t.table.shared.table_id.words ≡ 44) × (t.table.shared.table_id.slots ≡ 0) × (t.table.shared.key ≡ t.shape) × IsShape t.shape };
+    ghost invariant = { λ t. (t.table.shared.table_id.words ≡ word_count) × (t.table.shared.table_id.slots ≡ 0) × (t.table.shared.key ≡ t.shape) × IsShape t.shape };
 }
 
 impl<A: Allocator> Tracker<A> {
@@ -62,14 +65,14 @@ impl<A: Allocator> Tracker<A> {
         ensures all { IfOk result (λ made. length made.1.items ≡ agents) }
     {
         let shape = Shape::of(entries, usize::from(agents));
-        let (table, chair) = Table::of_words(alloc, &[0; 44], &shape)?;
+        let (table, chair) = Table::of_words(alloc, &[0; WORD_COUNT], &shape)?;
         let tracker = Tracker { table, shape };
         let ports = tracker.deal(chair);
         Ok((tracker, ports))
     }
 
     // Gives each port of the seat, which has all, a seat of its own.
-    #[tactic(auto, using(crate::proofs::Dealing::dealt_own, crate::proofs::Dealing::dealt_all))]
+    #[tactic(auto, using(crate::proofs::Deals::dealt_own, crate::proofs::Deals::dealt_all))]
     fn deal(&self, mut chair: Chair) -> ArrayVec<Port, 8>
         requires { (chair.table_id ≡ self.now.table) × (chair.me ≡ (all_new self.now.shape, [])) }
         ensures ports { result.items
@@ -88,7 +91,7 @@ impl<A: Allocator> Tracker<A> {
 
     // The words as ports share them.
     pub(crate) fn board(&self) -> &Board
-        ensures { (result.now.table_id ≡ self.now.table) × (result.now.table_id.words ≡ 44) }
+        ensures { (result.now.table_id ≡ self.now.table) × (result.now.table_id.words ≡ word_count) }
     {
         &self.table.shared
     }
@@ -103,7 +106,7 @@ impl<A: Allocator> Tracker<A> {
     pub fn close(self, ports: ArrayVec<Port, 8>) -> Totals
         requires all { length ports.items ≡ self.shape.agents }
         requires table { All (λ p. p.table ≡ self.table) ports.items }
-        ensures closed { IsClosed self.shape (views_of ports.items) result.counts result.requesters.items }
+        ensures closed { IsClosed self.shape (views_of ports.items) (longest ports.items) result.counts result.requesters.items }
         ensures balanced { IsBalanced self.shape.agents result.requesters.items }
     {
         let Tracker { table, shape } = self;
@@ -116,15 +119,16 @@ impl<A: Allocator> Tracker<A> {
 
     /// Loads the words one after the other, those of C and of each requester, and counts what they held, by
     /// type. Ports may do steps between two loads: the contract promises that the counts are those of the
-    /// same 44 words, and nothing of when each was what it was.
+    /// same words, and nothing of when each was what it was.
     /// Source: `docs/PROTOCOL.md`, "Totals".
     pub fn glance(&self) -> Counts
         ensures { IsGlance self.now.shape result }
     {
         let board = self.board();
         let shape = &self.shape;
-        let mut words = [0; 44];
-        for i in 0..4 + 5 * shape.agents {
+        let mut words = [0; WORD_COUNT];
+        let end = owed_word(shape.agents - 1) + 1;
+        for i in 0..end {
             words[i] = board.peek(i);
         }
         counts(&words, shape)

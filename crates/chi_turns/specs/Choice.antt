@@ -1,5 +1,5 @@
 -- What a turn has a requester do on the slice of its line: one choice, of three parts in their order
--- (docs/PROTOCOL.md, "A turn").
+-- (docs/FORMATS.md, "A turn").
 use Rattle.std.specs.Prelude.{◌≡◌, ℕ, ◌<◌, ◌/◌, ◌%◌, Bool, true, false, not, nat_lt, List}
 use Rattle.std.specs.Prelude.{[], ◌∷◌, length, slice_get, position, Option, Some, None, is_some, option_map, ⊤, if◌then◌else◌}
 use Rattle.std.specs.List.{filter}

@@ -1,4 +1,4 @@
--- The unfinished operations of an agent's script, in its order (docs/PROTOCOL.md, "A turn").
+-- The unfinished operations of an agent's script, in its order (docs/FORMATS.md, "A turn").
 use Rattle.std.specs.Prelude.{◌≡◌, ◌≢◌, ℕ, ◌<◌, ◌≤◌, ◌==◌, Bool, true, false, List, ◌++◌, map, length, take, drop, position, slice_index_or, Option, option_map}
 use Rattle.chi_flit.specs.declared.operation.Operation.{Operation}
 use Rattle.chi_flit.specs.declared.operation.Task.TheVariants.{Drop}

@@ -1,4 +1,4 @@
--- What a turn does of its choice, and what the script makes of the answer (docs/PROTOCOL.md, "A turn").
+-- What a turn does of its choice, and what the script makes of the answer (docs/FORMATS.md, "A turn").
 use Rattle.std.specs.Prelude.{◌≡◌, ℕ, ◌+◌, ◌-◌, ◌^◌, ◌<◌, Bool, true, false, List, [], ◌⊎◌, remove, slice_set, Option, Some, None, min}
 use Rattle.chi_flit.specs.declared.action.Action.{Action}
 use Rattle.chi_flit.specs.declared.action.Step.{Step}

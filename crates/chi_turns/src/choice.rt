@@ -24,7 +24,7 @@ pub enum Call {
 }
 
 /// What is done in a turn.
-/// Source: `docs/PROTOCOL.md`, "A turn".
+/// Source: `docs/FORMATS.md`, "A turn".
 #[derive(Clone, Copy, Debug, PartialEq, Eq)]
 pub enum Choice {
     /// The operation at the place is skipped, or its request has ended: it is finished.
@@ -36,7 +36,7 @@ pub enum Choice {
 }
 
 /// The line of a turn: the word of the draw, modulo the number of lines.
-/// Source: `docs/PROTOCOL.md`, "A turn".
+/// Source: `docs/FORMATS.md`, "A turn".
 pub fn line_of(config: &Config, x: u32) -> Line
     ensures { result ≡ line_of config.now x }
 {
@@ -78,19 +78,20 @@ fn choose_at<A: Allocator, B: Allocator>(
     delivery_at(sight, number)
 }
 
-/// What is done for the word of the draw; `None` where nothing is, and of a slice that hasn't the line. A
-/// choice is a finish or a try of an operation of the window, or a call.
+/// What is done for the word of the draw, which drew the line; `None` where nothing is, and of a slice that
+/// hasn't the line. A choice is a finish or a try of an operation of the window, or a call.
 pub(crate) fn choose<A: Allocator, B: Allocator>(
     slice: &Slice<B>,
     requester: &Requester,
     operations: &Operations<A>,
     stopped: bool,
+    line: Line,
     x: u32,
 ) -> Option<Choice>
+    requires { line ≡ line_of slice.now.config x }
     ensures is { result ≡ choice slice.now requester.now operations.now stopped x }
     ensures own { IfSome result (IsOwn operations.now) }
 {
-    let line = line_of(slice.config(), x);
     let number = number_of(slice.config(), x);
     let sight = Sight::of(slice, requester, line)?;
     choose_at(&sight, operations, stopped, number)

@@ -16,7 +16,7 @@ use std::alloc::Allocator;
 
 /// A delivery at a line: of a flit to the agent, or of one of the agent's to the home, or a start of the
 /// agent's request there.
-/// Source: `docs/PROTOCOL.md`, "A turn".
+/// Source: `docs/FORMATS.md`, "A turn".
 #[derive(Clone, Copy, Debug, PartialEq, Eq)]
 pub enum Delivery {
     RecvSnp,

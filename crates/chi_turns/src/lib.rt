@@ -1,6 +1,6 @@
 //! The turns of an agent: what one turn does on the slice of its line.
 //!
-//! Source: `docs/PROTOCOL.md`, "A turn".
+//! Source: `docs/FORMATS.md`, "A turn".
 #![tactic(auto)]
 
 mod calls;

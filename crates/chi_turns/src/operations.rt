@@ -9,12 +9,12 @@ use std::alloc::Allocator;
 use std::marker::Model;
 
 /// The place of an operation among the unfinished ones, from 0.
-/// Source: `docs/PROTOCOL.md`, "A turn".
+/// Source: `docs/FORMATS.md`, "A turn".
 #[derive(Clone, Copy, Debug, PartialEq, Eq)]
 pub struct Place(pub usize);
 
 /// An operation that isn't finished, and whether its request was issued.
-/// Source: `docs/PROTOCOL.md`, "A turn".
+/// Source: `docs/FORMATS.md`, "A turn".
 #[derive(Clone, Copy, Debug, PartialEq, Eq)]
 pub struct Unfinished {
     pub operation: Operation,
@@ -55,7 +55,7 @@ fn first_on(operations: &[Unfinished], line: Line) -> Option<usize>
 /// The operations of a script that aren't finished. Contracts see their list, in the script's order.
 ///
 /// The first eight of them are the window; one there is eligible where no earlier one is on its line.
-/// Source: `docs/PROTOCOL.md`, "A turn".
+/// Source: `docs/FORMATS.md`, "A turn".
 #[derive(Drop)]
 pub struct Operations<A: Allocator> {
     window: ArrayVec<Unfinished, 8>,
@@ -77,7 +77,7 @@ impl<A: Allocator> Model for Operations<A> {
 
 impl<A: Allocator> Operations<A> {
     /// All operations of a script, none of them issued. It takes no memory.
-    /// Source: `docs/PROTOCOL.md`, "Storm files".
+    /// Source: `docs/FORMATS.md`, "Storm files".
     pub fn new(script: Vec<Operation, A>) -> Operations<A>
         ensures { result ≡ map unissued_operation script.items }
     {
@@ -94,7 +94,7 @@ impl<A: Allocator> Operations<A> {
     }
 
     /// Whether all operations are finished.
-    /// Source: `docs/PROTOCOL.md`, "A turn".
+    /// Source: `docs/FORMATS.md`, "A turn".
     pub fn is_empty(&self) -> bool
         ensures { IsTrue result ↔ (self.now ≡ []) }
     {
@@ -102,7 +102,7 @@ impl<A: Allocator> Operations<A> {
     }
 
     /// The place of the eligible operation on a line; `None` where no operation of the window is on it.
-    /// Source: `docs/PROTOCOL.md`, "A turn".
+    /// Source: `docs/FORMATS.md`, "A turn".
     pub fn eligible(&self, line: Line) -> Option<Place>
         ensures is { result ≡ eligible_on self.now line.0 }
         ensures some { IfSome result (λ place. IsEligible self.now line.0 place.0) }
@@ -115,7 +115,7 @@ impl<A: Allocator> Operations<A> {
     /// The operation at a place of the window.
     ///
     /// Conditions: the place is below 8, and so many operations are unfinished.
-    /// Source: `docs/PROTOCOL.md`, "A turn".
+    /// Source: `docs/FORMATS.md`, "A turn".
     pub fn at(&self, place: Place) -> Unfinished
         requires window { place.0 < 8 }
         requires there { place.0 < length self.now }
@@ -127,7 +127,7 @@ impl<A: Allocator> Operations<A> {
     /// The request of the operation at a place of the window was issued. All else stays.
     ///
     /// Conditions: the place is below 8, and so many operations are unfinished.
-    /// Source: `docs/PROTOCOL.md`, "A turn".
+    /// Source: `docs/FORMATS.md`, "A turn".
     pub fn issue(&mut self, place: Place)
         requires window { place.0 < 8 }
         requires there { place.0 < length self.old }
@@ -140,7 +140,7 @@ impl<A: Allocator> Operations<A> {
     /// memory.
     ///
     /// Conditions: the place is below 8, and so many operations are unfinished.
-    /// Source: `docs/PROTOCOL.md`, "A turn".
+    /// Source: `docs/FORMATS.md`, "A turn".
     #[tactic(auto, using(crate::proofs::Windows::finished_refilled))]
     pub fn finish(&mut self, place: Place)
         requires window { place.0 < 8 }

@@ -4,21 +4,21 @@ ghost use Rattle.std.specs.Prelude.{◌≡◌, ◌↔◌, IsTrue, false};
 ghost use Rattle.chi_node.specs.Agree.{KeepsAgreement};
 ghost use Rattle.chi_node.specs.Calls.{IsSameRequester, IsSameSlice};
 ghost use Rattle.chi_node.specs.Parts.{HasTypes};
-ghost use Rattle.chi_turns.specs.Choice.{IsInWindow, IsOwn};
+ghost use Rattle.chi_turns.specs.Choice.{line_of, IsInWindow, IsOwn};
 ghost use Rattle.chi_turns.specs.Turns.{after_issue, after_refusal, after_step, player_after_answer, count_after, player_without, AreIdle, HasEnded, IsFinished, TurnsTo};
 
 use crate::calls::perform;
 use crate::choice::{Choice, choose, line_of};
 use crate::operations::{Operations, Place};
 use chi_credit::SlotState;
-use chi_flit::{Kind, Refusal, Slot, Step};
+use chi_flit::{Kind, Line, Refusal, Slot, Step};
 use chi_node::Requester;
 use chi_slice::Slice;
 use chi_tracker::Tracker;
 use std::alloc::Allocator;
 
 /// An agent that plays its script: its requester, the operations that aren't finished, and what it met.
-/// Source: `docs/PROTOCOL.md`, "A turn".
+/// Source: `docs/FORMATS.md`, "A turn".
 #[derive(Drop)]
 pub struct Player<A: Allocator> {
     pub requester: Requester,
@@ -46,7 +46,7 @@ fn are_idle(requester: &Requester) -> bool
 
 impl<A: Allocator> Player<A> {
     /// An agent that has played nothing of its script.
-    /// Source: `docs/PROTOCOL.md`, "A turn".
+    /// Source: `docs/FORMATS.md`, "A turn".
     pub fn new(requester: Requester, operations: Operations<A>) -> Player<A>
         ensures { result ≡ record {
           requester = requester;
@@ -68,7 +68,7 @@ impl<A: Allocator> Player<A> {
     }
 
     /// Whether no operation of the script is left unfinished. A script that has stopped keeps its operation.
-    /// Source: `docs/PROTOCOL.md`, "A turn".
+    /// Source: `docs/FORMATS.md`, "A turn".
     pub fn has_finished(&self) -> bool
         ensures { IsTrue result ↔ IsFinished self.now }
     {
@@ -76,7 +76,7 @@ impl<A: Allocator> Player<A> {
     }
 
     /// Whether the script is finished or has stopped, and every slot of the account is Idle.
-    /// Source: `docs/PROTOCOL.md`, "A turn".
+    /// Source: `docs/FORMATS.md`, "A turn".
     pub fn has_ended(&self) -> bool
         ensures { IsTrue result ↔ HasEnded self.now }
     {
@@ -169,7 +169,7 @@ impl<A: Allocator> Player<A> {
     /// else. Conditions: the tracker is the requester's, and it has entries of each type of the node's
     /// profile. Whoever agreed with the slice before agrees with it after, and so does the requester with
     /// the node's other slices.
-    /// Source: `docs/PROTOCOL.md`, "A turn".
+    /// Source: `docs/FORMATS.md`, "A turn".
     pub fn turn_on<B: Allocator, C: Allocator>(
         &mut self,
         slice: &mut Slice<B>,
@@ -184,7 +184,28 @@ impl<A: Allocator> Player<A> {
         ensures slice { IsSameSlice slice.old slice.new }
     {
         let line = line_of(slice.config(), x);
-        let Some(choice) = choose(slice, &self.requester, &self.operations, self.stopped, x) else {
+        self.turn_at(slice, tracker, line, x)
+    }
+
+    /// What `turn_on` does, lent the line that the word `x` drew, as whoever locked its slice has it.
+    /// Source: `docs/FORMATS.md`, "A turn".
+    pub fn turn_at<B: Allocator, C: Allocator>(
+        &mut self,
+        slice: &mut Slice<B>,
+        tracker: &Tracker<C>,
+        line: Line,
+        x: u32,
+    ) -> bool
+        requires table { self.old.requester.table ≡ tracker.now.table }
+        requires types { HasTypes slice.old.config self.old.requester.port.shape }
+        requires line { line ≡ line_of slice.old.config x }
+        ensures turns { TurnsTo slice.old slice.new x self.old self.new result }
+        ensures agreement { KeepsAgreement slice.old slice.new self.old.requester self.new.requester }
+        ensures same { IsSameRequester self.old.requester self.new.requester }
+        ensures slice { IsSameSlice slice.old slice.new }
+    {
+        let (requester, operations) = (&self.requester, &self.operations);
+        let Some(choice) = choose(slice, requester, operations, self.stopped, line, x) else {
             return false;
         };
         let answer = perform(slice, tracker, &mut self.requester, line, choice);

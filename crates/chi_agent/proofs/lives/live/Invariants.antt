@@ -1,6 +1,14 @@
--- The requester stays that of its number and of its tracker.
+-- So many turns were played.
 use Rattle.std.proofs.Common.{◌≡◌}
+use Rattle.chi_node.specs.Calls.{IsSameRequester}
+use Rattle.chi_draws.specs.Stream.{start_of}
+use Rattle.chi_agent.specs.Lives.{Played}
 use Rattle.chi_agent.proofs.lives.live.Given as goal
 
 abbrev pub invariant-loop : goal.invariant-loop
-invariant-loop g l = (l.runner.player.requester.number ≡ l.fn.runner.player.requester.number) × (l.runner.player.requester.table ≡ l.fn.runner.player.requester.table) × (l.runner.player.requester.port.shape ≡ l.fn.runner.player.requester.port.shape)
+invariant-loop g l = record {
+  same : IsSameRequester l.fn.runner.player.requester l.runner.player.requester;
+  turns : l.runner.turns ≡ l.counter;
+  draws : l.runner.draws ≡ record (start_of l.fn.plan.seed l.fn.runner.player.requester.number) { word_pos = l.counter };
+  played : Played l.fn.node.config l.fn.plan.seed l.fn.runner.player.requester.number l.fn.runner.player l.counter l.runner.player;
+}

@@ -1,6 +1,6 @@
 -- So far the scripts of the first writers, and the writers of the others.
 use Rattle.std.proofs.Common.{◌≡◌, ◌+◌, All, length}
-use Rattle.chi_tallies.specs.Tallies.{IsFresh}
+use Rattle.chi_audit.specs.Tallies.{IsFresh}
 use Rattle.chi_agent.specs.Script.{AreFresh}
 use Rattle.chi_agent_tests.proofs.bench.scripts_of.Given as goal
 

@@ -1,6 +1,6 @@
 -- The requesters that are left are the node's own.
 use Rattle.std.proofs.Common.{◌≡◌, ◌+◌, All, length}
-use Rattle.chi_home.specs.Node.{IsOwn}
+use Rattle.chi_node.specs.Node.{IsOwn}
 use Rattle.chi_agent_tests.proofs.guests.guests_of.Given as goal
 
 abbrev pub invariant-loop : goal.invariant-loop

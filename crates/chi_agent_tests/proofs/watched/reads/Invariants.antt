@@ -1,6 +1,6 @@
 -- The watcher stays that of the cells.
 use Rattle.std.proofs.Common.{◌≡◌, map}
-use Rattle.chi_tallies.specs.Tallies.{cell_of}
+use Rattle.chi_audit.specs.Tallies.{cell_of}
 use Rattle.chi_agent_tests.proofs.watched.reads.Given as goal
 
 abbrev pub invariant-loop : goal.invariant-loop

@@ -1,8 +1,9 @@
 -- The slot is as the arrival needs it, and agreement is kept.
-use Rattle.std.proofs.Common.{◌≡◌, ℕ, ◌∙◌, ap}
+use Rattle.std.proofs.Common.{◌≡◌, ℕ, ◌∙◌, ap, rules}
 use Rattle.chi_flit.specs.declared.action.Step.{Step}
 use Rattle.chi_slice.specs.Slice.{slice_after}
 use Rattle.chi_node.specs.Calls.{arrival_action}
+use Rattle.chi_node.proofs.Histories.{arrival_running, arrival_same}
 use Rattle.chi_node.proofs.CallArrivals.{arrival_slot, can_arrive, keeps_arrival}
 use Rattle.chi_node.proofs.calls.arrive_agreed.Goals as goal
 
@@ -12,9 +13,14 @@ arrive-arrived-requires-clause-slot g c = arrival_slot c.args.slice.now c.args.r
 pub arrive-arrived-requires-clause-fits : goal.arrive-arrived-requires-clause-fits
 arrive-arrived-requires-clause-fits g c = can_arrive c.args.slice.now c.args.requester.now c.args.line c.in_ok-request.request c.in_ok-request.ensures.ok c.requires.agrees c.requires.types
 
-pub returns-clause-agreement : goal.returns-clause-agreement
-returns-clause-agreement g c =
+pub returns-clause-call : goal.returns-clause-call
+returns-clause-call g c =
     let after : c.act_under.new.self ≡ slice_after c.args.slice.now (arrival_action c.args.requester.now.number c.args.line c.arrive-arrived.result) =
     c.in-Ok.ensures.after ∙ (ap (λ (n : ℕ). slice_after c.args.slice.now (record { agent = record { 0 = n }; line = c.args.line; step = c.arrival_step-step.result })) c.number-agent.ensures.is
     ∙ ap (λ (z : Step). slice_after c.args.slice.now (record { agent = record { 0 = c.args.requester.now.number }; line = c.args.line; step = z })) c.arrival_step-step.ensures) in
-    keeps_arrival c.args.slice.now c.act_under.new.self c.args.requester.now c.arrive-arrived.new.self c.args.line c.in_ok-request.request c.arrive-arrived.result c.in_ok-request.ensures.ok c.requires.agrees c.arrive-arrived.ensures after
+    let agreement = keeps_arrival c.args.slice.now c.act_under.new.self c.args.requester.now c.arrive-arrived.new.self c.args.line c.in_ok-request.request c.arrive-arrived.result c.in_ok-request.ensures.ok c.requires.agrees c.arrive-arrived.ensures after in
+    record {
+      ok = record { slice = after; step = search (rules); requester = search (rules) };
+      err = search (rules);
+      kept = record { agreement = agreement; same = arrival_same c.in_ok-request.request.allow_retry c.in_ok-request.request.slot.0 c.arrive-arrived.result c.args.requester.now c.arrive-arrived.new.self c.arrive-arrived.ensures; slice = search (rules); running = λ _. arrival_running c.in_ok-request.request.allow_retry c.in_ok-request.request.slot.0 c.arrive-arrived.result c.args.requester.now c.arrive-arrived.new.self c.arrive-arrived.ensures };
+    }

@@ -3,6 +3,7 @@ use Rattle.std.proofs.Common.{◌≡◌, Some, ◌∙◌, ap, rules}
 use Rattle.chi_slice.specs.declared.terms.Terms.{Terms}
 use Rattle.chi_slice.specs.Slice.{refused_under}
 use Rattle.chi_node.specs.Calls.{call_refusal}
+use Rattle.chi_node.proofs.Histories.{step_running, step_same}
 use Rattle.chi_node.proofs.Refusing.{called}
 use Rattle.chi_node.proofs.StepCalls.{StepKept, can_finish, can_step, place_is, step_kept}
 use Rattle.chi_node.proofs.calls.step_agreed.Given as given
@@ -29,8 +30,10 @@ kept g c =
     let place = place_is c.args.slice.now c.act_under.new.self c.args.action c.index.result c.profile.result c.in_ok-done.done.slot c.in_ok-done.ensures.after c.index.ensures (search (rules, c.profile.ensures, c.config.ensures)) c.in_ok-done.ensures.slot in
     step_kept c.args.slice.now _ c.args.requester.now _ c.args.action _ c.in_ok-done.done.effect c.finish-released.result can c.in_ok-done.ensures.effect c.in_ok-done.ensures.after place c.finish-released.ensures
 
-pub returns-clause-agreement : goal.returns-clause-agreement
-returns-clause-agreement g c = (kept g c).agreement
-
-pub returns-clause-history : goal.returns-clause-history
-returns-clause-history g c = (kept g c).history
+pub returns-clause-call : goal.returns-clause-call
+returns-clause-call g c = record {
+  ok = search (rules);
+  history = (kept g c).history;
+  err = search (rules);
+  kept = record { agreement = (kept g c).agreement; same = step_same _ c.args.action.step _ c.finish-released.result c.args.requester.now c.finish-released.new.self c.finish-released.ensures; slice = search (rules); running = step_running _ c.args.action.step _ c.finish-released.result c.args.requester.now c.finish-released.new.self c.finish-released.ensures };
+}

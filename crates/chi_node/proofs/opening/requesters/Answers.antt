@@ -18,6 +18,12 @@ new-requires-in-loop-number-clause-port g c =
     let is = first_port c.in_ok-tracker.tracker.table s n c.agents-agents.result c.loop-number.ports.items c.remove-port.result c.loop-number-test.true c.loop-number.invariant.left c.remove-port.ensures.value in
     ap (λ (o : Owner). o.port) is ∙ ap (λ (o : Owner). new_port o.port.shape n) (sym is)
 
+pub new-requires-in-loop-number-clause-history : goal.new-requires-in-loop-number-clause-history
+new-requires-in-loop-number-clause-history g c =
+    let s = c.in_ok-tracker.tracker.shape in let n = c.loop-number.number in
+    let is = first_port c.in_ok-tracker.tracker.table s n c.agents-agents.result c.loop-number.ports.items c.remove-port.result c.loop-number-test.true c.loop-number.invariant.left c.remove-port.ensures.value in
+    ap (λ (o : Owner). o.history) is
+
 pub new-requires-in-loop-number-clause-sizes : goal.new-requires-in-loop-number-clause-sizes
 new-requires-in-loop-number-clause-sizes g c =
     let s = c.in_ok-tracker.tracker.shape in let n = c.loop-number.number in

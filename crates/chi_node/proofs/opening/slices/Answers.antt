@@ -6,7 +6,7 @@ use Rattle.chi_node.specs.Parts.{opening_slices}
 use Rattle.chi_node.proofs.opening.slices.Goals as goal
 
 pub loop-index-preserved : goal.loop-index-preserved
-loop-index-preserved g c = let more = map-range_with_len_more (opening_slice c.args.config.now) 0 c.loop-index.index c.loop-index.index (omega arith) in cc (c.in_ok-push.ensures.items, c.in_ok-slice.ensures)
+loop-index-preserved g c = let more = map-range_with_len_more (opening_slice c.args.config.now) 0 c.loop-index.index c.loop-index.index (omega arith) in cc (c.in_ok-push.ensures.items, c.in_ok-slice.ensures.parts)
 
 pub returns-clause-slices : goal.returns-clause-slices
 returns-clause-slices g c =

@@ -1,6 +1,6 @@
 -- One agent after the other is looked at.
 use Rattle.std.proofs.Common.{◌≡◌, ◌↔◌, ℕ, List, refl, sym, subst, arith, rules}
-use Rattle.chi_line.specs.Coherent.{Coherent}
+use Rattle.chi_line.specs.Clean.{CoherentParts}
 use Rattle.chi_slice.specs.Verdict.{IsPassed}
 use Rattle.chi_slice.proofs.Verdicts.{agents_of, both_ways, found_of, judged, next_walked, of_line}
 use Rattle.chi_slice.proofs.verdict.is_line_coherent.Goals as goal
@@ -19,5 +19,5 @@ returns c =
     let line = c.args.line.now in
     let memory : c.memory.result ≡ line.home.memory = cc (c.memory.ensures, c.home-home.ensures) in
     both_ways _ _ _ c.is_passed.ensures
-    (subst (λ (words : List ℕ). IsPassed c.loop-agent.backed c.loop-agent.clean words c.args.last c.loop-agent.states ↔ Coherent c.args.last line) (sym memory)
+    (subst (λ (words : List ℕ). IsPassed c.loop-agent.backed c.loop-agent.clean words c.args.last c.loop-agent.states ↔ CoherentParts c.args.last line) (sym memory)
     (both_ways _ _ _ (judged (agents_of line) line.home.memory c.args.last c.loop-agent.states c.loop-agent.backed c.loop-agent.clean c.loop-agent.agent (omega (arith, c.loop-agent-test.false, c.loop-agent.auto.agent-end)) c.loop-agent.invariant) (of_line line c.args.last)))

@@ -7,7 +7,7 @@ use Rattle.chi_storm.proofs.Known.{outcome_of_known}
 use Rattle.chi_storm.proofs.storms.outcome_of_input.Goals as goal
 
 pub returns-clause-ok : goal.returns-clause-ok
-returns-clause-ok g c = outcome_of_known (g.I.Input.left c.args.input.now) c.in_ok-bytes.bytes.items c.outcome_in.result c.in_ok-bytes.ensures.front (rw (← c.deref.ensures.value) c.outcome_in.ensures.ok)
+returns-clause-ok g c = outcome_of_known (g.I.Input.left c.args.input.now) c.in_ok-bytes.bytes.items c.args.seed c.args.turns c.outcome_in.result c.in_ok-bytes.ensures.front (rw (← c.deref.ensures.value) c.outcome_in.ensures.ok)
 
 pub returns-clause-err : goal.returns-clause-err
 returns-clause-err g c = fault_of_known storm_of front_enough (g.I.Input.left c.args.input.now) _ _ c.in_ok-bytes.bytes.items c.outcome_in.result c.in_ok-bytes.ensures.front (rw (← c.deref.ensures.value) c.outcome_in.ensures.err)

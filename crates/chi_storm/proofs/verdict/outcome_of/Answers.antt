@@ -1,10 +1,10 @@
 -- What the closed node gave, and what was seen of its slices before.
-use Rattle.std.proofs.Common.{◌≡◌, ◌↔◌, ◌≤◌, ◌∙◌, All, List, ap, length, subst, sym, arith, rules}
+use Rattle.std.proofs.Common.{◌≡◌, ◌↔◌, ◌≤◌, ◌∙◌, All, List, Bool, ap, length, subst, sym, arith, rules}
 use Rattle.std.specs.Prelude.{IsTrue}
-use Rattle.chi_node.specs.Agree.{Agree}
 use Rattle.chi_node.specs.Requester.{RequesterState}
 use Rattle.chi_config.specs.Config.{Sizes}
 use Rattle.chi_slice.proofs.Rows.{InLimits, in_limits}
+use Rattle.chi_storm.specs.Verdicts.{AgreeFrom, IsGoodSo}
 use Rattle.chi_storm.proofs.Judged.{judged}
 use Rattle.chi_storm.proofs.verdict.outcome_of.Goals as goal
 
@@ -19,9 +19,10 @@ pub returns : goal.returns
 returns g c =
     let slices = c.deref.result.now in
     let seen = c.all_agree-agree.ensures.slices in
-    let rs = c.args.requesters.items in
-    let same = ap (λ (k : Sizes). k.slices) c.config.ensures.value in
-    let agree : IsTrue c.all_agree-agree.result ↔ All (λ s. All (Agree s) rs) seen = subst (λ (xs : List RequesterState). IsTrue c.all_agree-agree.result ↔ All (λ s. All (Agree s) xs) seen) c.as_slice.ensures.value c.all_agree-agree.ensures.agree in
+    let config = c.args.node.config in
+    let rs = c.args.ended.requesters.items in
+    let agree : IsTrue c.all_agree-agree.result ↔ AgreeFrom config rs 0 seen = subst (λ (xs : List RequesterState). IsTrue c.all_agree-agree.result ↔ AgreeFrom config xs 0 seen) c.as_slice.ensures.value c.all_agree-agree.ensures.agree in
+    let verdict : IsTrue c.verdict_of.result ↔ IsGoodSo c.audit_of-audit.result.coherent c.all_agree-agree.result c.args.ended.not_open.items = subst (λ (xs : List Bool). IsTrue c.verdict_of.result ↔ IsGoodSo c.audit_of-audit.result.coherent c.all_agree-agree.result xs) c.as_slice-met.ensures.value c.verdict_of.ensures in
     record {
       slices = slices;
       seen = seen;
@@ -35,5 +36,5 @@ returns g c =
       stores = search (rules, c.audit_of-audit.ensures.stores);
       closed = search (rules, c.close-slices.ensures.closed);
       holdings = search (rules, c.totals_told-holdings.ensures, c.profile.ensures, c.config.ensures.value);
-      verdict = judged slices seen rs c.args.not_open.now c.audit_of-audit.result.coherent c.all_agree-agree.result c.are_all_open-all_open.result c.audit_of-audit.ensures.coherent agree c.are_all_open-all_open.ensures;
+      verdict = judged config slices seen rs c.args.ended.not_open.items c.audit_of-audit.result.coherent c.all_agree-agree.result c.verdict_of.result c.audit_of-audit.ensures.coherent agree verdict;
     }

@@ -5,7 +5,7 @@ use Rattle.chi_flit.specs.Refusal.{refusal_of}
 use Rattle.chi_node.specs.Calls.{is_own_step}
 use Rattle.chi_reply.specs.Replies.{reply_text}
 use Rattle.chi_script.specs.declared.commands.Command.{Command}
-use Rattle.chi_system.specs.System.{ArrivesIn, arrive_refusal}
+use Rattle.chi_node.specs.System.{ArrivesIn, arrive_refusal}
 use Rattle.chi_text.specs.NodeReplies.{arrival_reply, step_reply}
 use Rattle.chi_text.specs.Turns.{acting, arrive}
 use Rattle.chi_text.specs.Session.{PlaysOn, SaysTurn, machine_of}

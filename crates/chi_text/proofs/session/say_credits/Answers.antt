@@ -3,7 +3,7 @@ use Rattle.std.proofs.Common.{◌≡◌, None, Some, [], ◌∷◌, ◌++◌, ap
 use Rattle.chi_flit.specs.declared.credit.Profile.{Profile}
 use Rattle.chi_config.specs.Config.{Sizes}
 use Rattle.chi_reply.specs.Replies.{credits_text}
-use Rattle.chi_system.specs.System.{SeesIn, agent_refusal}
+use Rattle.chi_node.specs.System.{SeesIn, agent_refusal}
 use Rattle.chi_text.proofs.Credited.{see_plays}
 use Rattle.chi_text.proofs.Turned.{refused_on, said_on}
 use Rattle.chi_text.proofs.session.say_credits.Goals as goal

@@ -3,7 +3,7 @@ use Rattle.std.proofs.Common.{◌≡◌, None, Some, ap, ◌∙◌, rules, refl,
 use Rattle.chi_wires.specs.declared.cells.Cells.{Cells}
 use Rattle.chi_line.specs.LineState.{cells_of}
 use Rattle.chi_reply.specs.Replies.{flits_text}
-use Rattle.chi_system.specs.Home.{flits_refusal, line}
+use Rattle.chi_node.specs.Home.{flits_refusal, line}
 use Rattle.chi_text.proofs.Turned.{refused_on, shown_on}
 use Rattle.chi_text.proofs.session.say_flits.Goals as goal
 

@@ -4,7 +4,7 @@ use Rattle.chi_line.specs.declared.view.LineView.{LineView}
 use Rattle.chi_line.specs.View.{line_view}
 use Rattle.chi_config.specs.Config.{Sizes}
 use Rattle.chi_reply.specs.Replies.{shown_text}
-use Rattle.chi_system.specs.Home.{last_of, line, view_refusal}
+use Rattle.chi_node.specs.Home.{last_of, line, view_refusal}
 use Rattle.chi_text.proofs.Turned.{refused_on, shown_on}
 use Rattle.chi_text.proofs.session.say_line.Goals as goal
 

@@ -1,7 +1,7 @@
 -- A type that is tended plays its turn.
 use Rattle.std.proofs.Common.{◌≡◌, IfOk, rules}
 use Rattle.chi_flit.specs.Refusal.{refusal_of}
-use Rattle.chi_system.specs.System.{TendsIn, tend_refusal}
+use Rattle.chi_node.specs.System.{TendsIn, tend_refusal_in}
 use Rattle.chi_text.specs.NodeReplies.{tend_reply}
 use Rattle.chi_text.proofs.Credited.{tend_plays}
 use Rattle.chi_text.proofs.session.tend.Goals as goal
@@ -10,6 +10,6 @@ pub returns : goal.returns
 returns g c =
     let did = c.tend-tended in
     let said : c.tend_reply.result ≡ tend_reply did.result = search (rules, c.tend_reply.ensures) in
-    let refusal : refusal_of did.result ≡ tend_refusal c.args.system.now c.args.agent.0 c.args.credit = search (rules, did.ensures.refusal) in
+    let refusal : refusal_of did.result ≡ tend_refusal_in c.args.system.now c.args.agent.0 c.args.credit = search (rules, did.ensures.refusal) in
     let ok : IfOk did.result (λ released. TendsIn c.args.system.now did.new.self c.args.agent c.args.credit released) = search (rules, did.ensures.ok) in
     rw said (tend_plays c.args.system.now did.new.self c.args.agent c.args.credit did.result did.ensures.kept refusal ok did.ensures.err)

@@ -1,6 +1,7 @@
-use Rattle.std.proofs.Common.{ap, ◌∙◌, arith}
-use Rattle.chi_tracker.proofs.Opening.{enters, joins, zeros}
-use Rattle.chi_tracker.proofs.Balance.{gathered_few, popped_own, gathering_first, gathering_more}
+use Rattle.std.proofs.Common.{rules, ◌≡◌, [], ap, ◌∙◌, arith}
+use Rattle.chi_tracker.proofs.Start.{zeros}
+use Rattle.chi_tracker.proofs.Seats.{enters, joins}
+use Rattle.chi_tracker.proofs.Balance.{gathered_all, gathered_few, popped_own, gathering_first, gathering_more}
 use Rattle.chi_tracker.proofs.closing.gather.Goals as goal
 
 pub load_new_seat-chair-requires : goal.load_new_seat-chair-requires
@@ -32,4 +33,9 @@ pub loop-port-preserved : goal.loop-port-preserved
 loop-port-preserved c =
     let seated = c.into_seated-own.ensures in let joined = c.join_seat.ensures in
     gathering_more c.args.board.now.table_id c.args.ports.items c.loop-port.ports.items c.pop.new.self.items c.loop-port.chair c.join_seat.new.seat c.into_seated-own.result.chair.me c.loop-port.dues c.add_due-sums.result c.in-Some.port c.into_seated-own.result.number c.into_seated-own.result.due
-    c.loop-port.invariant c.in-Some.ensures.items joined.0 seated.chair.1 joined.2 seated.number.0 seated.number.1 seated.due c.add_due-sums.ensures.sum c.add_due-sums.ensures.small
+    c.loop-port.invariant c.in-Some.ensures.items joined.0 seated.chair.1 seated.chair.2 joined.2 seated.number.0 seated.number.1 seated.due c.add_due-sums.ensures.sum c.add_due-sums.ensures.small
+
+pub returns-clause-history : goal.returns-clause-history
+returns-clause-history c =
+    let none : c.loop-port.ports.items ≡ [] = search rules in
+    gathered_all c.args.board.now.table_id c.args.ports.items c.loop-port.ports.items c.loop-port.chair c.loop-port.dues c.loop-port.invariant none

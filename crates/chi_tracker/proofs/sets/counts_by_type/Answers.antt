@@ -2,9 +2,9 @@ use Rattle.std.proofs.Common.{◌≡◌, ◌+◌, [], ◌∷◌, ◌∙◌, sym,
 use Rattle.chi_tracker.specs.Sums.{set_at}
 use Rattle.chi_tracker.specs.Shape.{low, size}
 use Rattle.chi_tracker.specs.Calls.{set_count}
-use Rattle.chi_tracker.proofs.Adding.{four_are, part_is}
-use Rattle.chi_tracker.proofs.Counting.{rank_between, rank_first, rank_up}
-use Rattle.chi_tracker.proofs.Opening.{none_set}
+use Rattle.chi_tracker.proofs.Addition.{four_are, part_is}
+use Rattle.chi_tracker.proofs.Tallies.{rank_between, rank_first, rank_up}
+use Rattle.chi_tracker.proofs.Start.{none_set}
 use Rattle.chi_tracker.proofs.sets.counts_by_type.Goals as goal
 
 pub returns-then-eq : goal.returns-then-eq

@@ -1,6 +1,6 @@
 use Rattle.std.proofs.Common.{◌+◌, arith}
 use Rattle.chi_tracker.specs.Sums.{set_at}
-use Rattle.chi_tracker.proofs.Adding.{below_same, below_zero}
+use Rattle.chi_tracker.proofs.Addition.{below_same, below_zero}
 use Rattle.chi_tracker.proofs.sets.lowest.Goals as goal
 
 pub unreachable-requires : goal.unreachable-requires

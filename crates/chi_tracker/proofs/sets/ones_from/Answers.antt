@@ -1,5 +1,5 @@
 use Rattle.std.proofs.Common.{arith}
-use Rattle.chi_tracker.proofs.Counting.{ones_run, run_few}
+use Rattle.chi_tracker.proofs.Tallies.{ones_run, run_few}
 use Rattle.chi_tracker.proofs.sets.ones_from.Goals as goal
 
 pub returns-clause-is : goal.returns-clause-is

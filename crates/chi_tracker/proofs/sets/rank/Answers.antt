@@ -1,6 +1,6 @@
 use Rattle.std.proofs.Common.{◌≡◌, ◌+◌, ◌*◌, ◌/◌, ap, arith}
 use Rattle.chi_tracker.specs.Sums.{below, set_at}
-use Rattle.chi_tracker.proofs.Counting.{rank_more, rank_rest}
+use Rattle.chi_tracker.proofs.Tallies.{rank_more, rank_rest}
 use Rattle.chi_tracker.proofs.sets.rank.Goals as goal
 
 pub loop-part-preserved : goal.loop-part-preserved

@@ -1,4 +1,4 @@
 use Rattle.chi_tracker.proofs.steps.claim_step.Given as goal
 
-abbrev pub ghosts-claim_as : goal.ghosts-claim_as
-ghosts-claim_as a = record { aim = record { kind = a.ty; entry = a.entry; agent = 0; bit = 0 } }
+abbrev pub ghosts-set_bits : goal.ghosts-set_bits
+ghosts-set_bits a = record { step = a.step }

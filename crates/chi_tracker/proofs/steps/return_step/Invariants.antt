@@ -1,4 +1,4 @@
 use Rattle.chi_tracker.proofs.steps.return_step.Given as goal
 
-abbrev pub ghosts-return_as : goal.ghosts-return_as
-ghosts-return_as a = record { aim = record { kind = a.ty; entry = a.entry; agent = 0; bit = 0 } }
+abbrev pub ghosts-clear_bits : goal.ghosts-clear_bits
+ghosts-clear_bits a = record { step = a.step }

@@ -1,4 +1,4 @@
 use Rattle.chi_tracker.proofs.steps.settle_step.Given as goal
 
-abbrev pub ghosts-settle_as : goal.ghosts-settle_as
-ghosts-settle_as a = record { aim = record { kind = 0; entry = a.entry; agent = a.agent; bit = a.place } }
+abbrev pub ghosts-clear_bits : goal.ghosts-clear_bits
+ghosts-clear_bits a = record { step = a.step }

@@ -1,7 +1,14 @@
-use Rattle.std.proofs.Common.{◌≡◌}
-use Rattle.chi_tracker.specs.Steps.{solo, port_of}
-use Rattle.chi_tracker.specs.Calls.{swept_by}
+use Rattle.std.proofs.Common.{◌≡◌, ◌<◌}
+use Rattle.chi_tracker.specs.Steps.{shown, solo}
+use Rattle.chi_tracker.specs.History.{IsAfter, port_in}
+use Rattle.chi_tracker.specs.Calls.{owner_in, swept_by}
+use Rattle.chi_tracker.specs.Conduct.{Does, LookedInVain}
 use Rattle.chi_tracker.proofs.sweep.look_owed.Given as goal
 
 abbrev pub invariant-loop-agent : goal.invariant-loop-agent
-invariant-loop-agent l = record { table : l.chair.table_id ≡ l.fn.chair.table_id; view : l.chair.me ≡ solo (swept_by l.ty l.agent (port_of l.fn.chair.me)) }
+invariant-loop-agent l = record {
+  table : l.chair.table_id ≡ l.fn.chair.table_id;
+  view : shown l.chair.me ≡ solo (swept_by l.ty l.agent (port_in l.fn.chair.me));
+  acts : Does (owner_in l.fn.chair) (LookedInVain l.ty l.agent) (owner_in l.chair);
+  after : 0 < l.agent → IsAfter l.chair.me.0.history (port_in l.chair.me);
+}

@@ -1,7 +1,13 @@
 use Rattle.std.proofs.Common.{◌≡◌}
-use Rattle.chi_tracker.specs.Steps.{solo, port_of}
-use Rattle.chi_tracker.specs.Calls.{swept_by}
+use Rattle.chi_tracker.specs.Steps.{shown, solo}
+use Rattle.chi_tracker.specs.History.{port_in}
+use Rattle.chi_tracker.specs.Calls.{owner_in, swept_by}
+use Rattle.chi_tracker.specs.Conduct.{Does, SweptFor}
 use Rattle.chi_tracker.proofs.sweep.settle_first.Given as goal
 
 abbrev pub invariant-loop-agent : goal.invariant-loop-agent
-invariant-loop-agent l = record { table : l.chair.table_id ≡ l.fn.chair.table_id; view : l.chair.me ≡ solo (swept_by l.ty l.agent (port_of l.fn.chair.me)) }
+invariant-loop-agent l = record {
+  table : l.chair.table_id ≡ l.fn.chair.table_id;
+  view : shown l.chair.me ≡ solo (swept_by l.ty l.agent (port_in l.fn.chair.me));
+  acts : Does (owner_in l.fn.chair) (SweptFor l.ty l.entry l.agent) (owner_in l.chair);
+}

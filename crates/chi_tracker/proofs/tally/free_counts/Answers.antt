@@ -2,7 +2,7 @@ use Rattle.std.proofs.Common.{[], ◌∷◌, ◌∙◌}
 use Rattle.chi_tracker.specs.Sums.{set_at}
 use Rattle.chi_tracker.specs.Totals.{is_free}
 use Rattle.chi_tracker.proofs.Entries.{count_same}
-use Rattle.chi_tracker.proofs.Counting.{free_set}
+use Rattle.chi_tracker.proofs.Tallies.{free_set}
 use Rattle.chi_tracker.proofs.tally.free_counts.Goals as goal
 
 pub returns : goal.returns

@@ -2,7 +2,7 @@ use Rattle.std.proofs.Common.{[], ◌∷◌, ◌∙◌, bit_and, slice_index}
 use Rattle.chi_tracker.specs.Sums.{set_at}
 use Rattle.chi_tracker.specs.Totals.{is_in_hand}
 use Rattle.chi_tracker.proofs.Entries.{count_same}
-use Rattle.chi_tracker.proofs.Counting.{hand_set}
+use Rattle.chi_tracker.proofs.Tallies.{hand_set}
 use Rattle.chi_tracker.proofs.tally.hand_counts.Goals as goal
 
 pub returns : goal.returns

@@ -28,7 +28,7 @@ use Rattle.std.specs.contracts.impls.GlobalAllocator.TheImpl.{ghosts}
 use Rattle.std.specs.declared.option.Option.{Option}
 use Rattle.std.specs.declared.option.Option.TheVariants.{None, Some}
 use Rattle.std_alloc.proofs.ResultValues.{and_tt}
-use Rattle.chi_system.specs.System.{SystemState}
+use Rattle.chi_node.specs.System.{SystemState}
 use Rattle.chi_library.specs.NodeHandle.{node_row}
 use Rattle.chi_library.proofs.Fields.{both, both_good}
 use Rattle.chi_library.proofs.Pointers.{Pointer, pointer_in}

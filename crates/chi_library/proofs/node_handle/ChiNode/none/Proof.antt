@@ -24,7 +24,7 @@ use Rattle.std.proofs.raw_atomic.Walks.{proved_at, leaves}
 use Rattle.std.specs.contracts.impls.GlobalAllocator.TheImpl.{ghosts}
 use Rattle.std.specs.declared.option.Option.{Option}
 use Rattle.std.specs.declared.option.Option.TheVariants.{None}
-use Rattle.chi_system.specs.System.{SystemState}
+use Rattle.chi_node.specs.System.{SystemState}
 use Rattle.std_alloc.proofs.ResultValues.{and_tt}
 use Rattle.chi_library.proofs.Fields.{both, heap}
 use Rattle.chi_library.proofs.NodeHandles.{Handle, Z, handle_in}

@@ -57,3 +57,6 @@ returns-clause-slot g c = (end g c).slot_is
 
 pub returns-clause-after : goal.returns-clause-after
 returns-clause-after g c = (end g c).after
+
+pub returns-clause-protocol : goal.returns-clause-protocol
+returns-clause-protocol g c = (end g c).protocol

@@ -10,7 +10,7 @@ loop-action-init g c = runs_start c.args.self.now c.args.actions.now
 pub loop-action-preserved : goal.loop-action-preserved
 loop-action-preserved g c =
     runs_next c.args.self.now c.loop-action.self c.act.new.self c.args.actions.now c.loop-action.done c.if-is_ok.done c.loop-action.action-index _ c.act.result c.loop-action-test.true c.loop-action.invariant
-    (record { refusal = c.act.ensures.refusal; step = c.act.ensures.step; flits = c.act.ensures.flits; journal = c.act.ensures.journal; others = c.act.ensures.others; effect = c.act.ensures.effect; after = c.act.ensures.after; err = c.act.ensures.err })
+    (record { refusal = c.act.ensures.refusal; step = c.act.ensures.protocol; others = c.act.ensures.others; after = c.act.ensures.after; err = c.act.ensures.err })
     (λ ok. elim c.if-is_ok.branch [ then-is_ok w ↦ search (rules, w.done-is) | else-is_ok w ↦ absurd (cc (w.if-is_ok.false, c.is_ok.ensures.value, ok)) ])
     (λ err. elim c.if-is_ok.branch [ then-is_ok w ↦ absurd (cc (w.if-is_ok.true, c.is_ok.ensures.value, err)) | else-is_ok w ↦ search (rules, w.done-is) ])
 

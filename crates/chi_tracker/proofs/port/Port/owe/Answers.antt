@@ -1,7 +1,8 @@
 use Rattle.std.proofs.Common.{sym, ap, ◌∙◌, arith}
+use Rattle.chi_tracker.specs.Steps.{shown}
 use Rattle.chi_tracker.specs.Calls.{owed_one}
 use Rattle.chi_tracker.proofs.Entries.{credit_below}
-use Rattle.chi_tracker.proofs.Keeping.{held_of, owner_is, owed_held, owed_view}
+use Rattle.chi_tracker.proofs.Upkeep.{held_of, owner_is, owed_held, owed_view}
 use Rattle.chi_tracker.proofs.port.Port.owe.Goals as goal
 
 pub invariant_of-self : goal.invariant_of-self
@@ -10,7 +11,7 @@ invariant_of-self g c =
     let held = held_of i.chair seat i.number i.shape i.seen i.due (sym c.take.ensures.value ∙ c.in-Some.is) c.self.invariant in
     let at = ap (λ w. w.port) (owner_is i.chair seat c.args.self.now (sym c.take.ensures.value ∙ c.in-Some.is) c.self.view_is) in
     let few = rw (sym c.number-kind.ensures) at (rw at at c.requires.few) in
-    owed_held seat.me c.owe_one.new.chair.me i.number i.shape i.seen i.due t held (omega (arith, c.number-kind.ensures, credit_below c.args.ty)) (omega arith) few c.owe_one.ensures.view
+    owed_held (shown seat.me) (shown c.owe_one.new.chair.me) i.number i.shape i.seen i.due t held (omega (arith, c.number-kind.ensures, credit_below c.args.ty)) (omega arith) few c.owe_one.ensures.view c.owe_one.new.chair.me.0.history c.owe_one.ensures.after
 
 pub returns-clause-port : goal.returns-clause-port
 returns-clause-port g c =
@@ -18,5 +19,5 @@ returns-clause-port g c =
     let held = held_of i.chair seat i.number i.shape i.seen i.due (sym c.take.ensures.value ∙ c.in-Some.is) c.self.invariant in
     let at = ap (λ w. w.port) (owner_is i.chair seat c.args.self.now (sym c.take.ensures.value ∙ c.in-Some.is) c.self.view_is) in
     let few = rw (sym c.number-kind.ensures) at (rw at at c.requires.few) in
-    owed_view seat.me c.owe_one.new.chair.me i.number i.shape i.seen i.due t held (omega (arith, c.number-kind.ensures, credit_below c.args.ty)) (omega arith) few c.owe_one.ensures.view
+    owed_view (shown seat.me) (shown c.owe_one.new.chair.me) i.number i.shape i.seen i.due t held (omega (arith, c.number-kind.ensures, credit_below c.args.ty)) (omega arith) few c.owe_one.ensures.view c.owe_one.new.chair.me.0.history c.owe_one.ensures.after
     ∙ ap (λ p. owed_one t p) (sym at) ∙ ap (λ u. owed_one u c.args.self.now.port) c.number-kind.ensures

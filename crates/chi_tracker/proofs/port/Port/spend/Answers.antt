@@ -3,11 +3,11 @@ use Rattle.chi_flit.specs.Credit.{credit_number}
 use Rattle.chi_tracker.specs.declared.shape.Shape.{Shape}
 use Rattle.chi_tracker.specs.Shape.{low}
 use Rattle.chi_tracker.specs.Views.{PortView, has}
-use Rattle.chi_tracker.specs.Steps.{port_of, spends}
+use Rattle.chi_tracker.specs.Steps.{shown, port_of, spends}
 use Rattle.chi_tracker.specs.Calls.{IsLowestSeen}
 use Rattle.chi_tracker.proofs.BitLaws.{with_here}
 use Rattle.chi_tracker.proofs.Entries.{credit_below, of_credit}
-use Rattle.chi_tracker.proofs.Keeping.{held_of, owner_is, one_due, in_bounds, word_of, as_byte, kind_below, spent_held, lowest_seen, spent_less}
+use Rattle.chi_tracker.proofs.Upkeep.{held_of, owner_is, one_due, in_bounds, word_of, as_byte, kind_below, spent_held, lowest_seen, spent_less}
 use Rattle.chi_tracker.proofs.port.Port.spend.Goals as goal
 
 pub first-requires : goal.first-requires
@@ -33,7 +33,7 @@ pub overflow_sub-self : goal.overflow_sub-self
 overflow_sub-self g c =
     let i = c.self.inside in let seat = c.in-Some.chair in
     let held = held_of i.chair seat i.number i.shape i.seen i.due (sym c.take.ensures.value ∙ c.in-Some.is) c.self.invariant in
-    one_due seat.me i.number i.shape i.seen i.due c.number-kind.result held (kind_below c.number-kind.result c.args.ty c.number-kind.ensures) c.pay.ensures.due
+    one_due (shown seat.me) i.number i.shape i.seen i.due c.number-kind.result held (kind_below c.number-kind.result c.args.ty c.number-kind.ensures) c.pay.ensures.due
 
 pub returns-clause-table : goal.returns-clause-table
 returns-clause-table g c =
@@ -49,7 +49,7 @@ pub invariant_of-self : goal.invariant_of-self
 invariant_of-self g c =
     let i = c.self.inside in let seat = c.in-Some.chair in let t = c.number-kind.result in
     let held = held_of i.chair seat i.number i.shape i.seen i.due (sym c.take.ensures.value ∙ c.in-Some.is) c.self.invariant in
-    rw c.others.ensures (spent_held seat.me c.pay.new.chair.me i.number i.shape i.seen i.due t c.lowest-entry.result held (omega (arith, c.number-kind.ensures, credit_below c.args.ty)) (omega arith) c.pay.ensures.due c.pay.ensures.view)
+    rw c.others.ensures (spent_held (shown seat.me) (shown c.pay.new.chair.me) i.number i.shape i.seen i.due t c.lowest-entry.result held (omega (arith, c.number-kind.ensures, credit_below c.args.ty)) (omega arith) c.pay.ensures.due c.pay.new.chair.me.0.history c.pay.ensures.after c.pay.ensures.view)
 
 pub returns-clause-lowest : goal.returns-clause-lowest
 returns-clause-lowest g c =
@@ -58,7 +58,7 @@ returns-clause-lowest g c =
     let at = ap (λ w. w.port) (owner_is i.chair seat c.args.self.now (sym c.take.ensures.value ∙ c.in-Some.is) c.self.view_is) in
     let found = c.lowest-entry.ensures in
     subst (λ (p : PortView). IsLowestSeen p t c.lowest-entry.result) (sym at)
-    (lowest_seen seat.me i.number i.shape i.seen i.due t c.lowest-entry.result held (omega (arith, found.within.0, c.first.ensures), omega (arith, found.within.1, c.first.ensures, c.count.ensures)) found.set (λ k le. found.lowest k (omega (arith, le, c.first.ensures))))
+    (lowest_seen (shown seat.me) i.number i.shape i.seen i.due t c.lowest-entry.result held (omega (arith, found.within.0, c.first.ensures), omega (arith, found.within.1, c.first.ensures, c.count.ensures)) found.set (λ k le. found.lowest k (omega (arith, le, c.first.ensures))))
 
 pub returns-clause-held : goal.returns-clause-held
 returns-clause-held g c =
@@ -70,10 +70,10 @@ pub returns-clause-port : goal.returns-clause-port
 returns-clause-port g c =
     let i = c.self.inside in let seat = c.in-Some.chair in let e = c.lowest-entry.result in
     let at = ap (λ w. w.port) (owner_is i.chair seat c.args.self.now (sym c.take.ensures.value ∙ c.in-Some.is) c.self.view_is) in
-    ap port_of c.pay.ensures.view ∙ ap (λ t. spends t e (port_of seat.me)) c.number-kind.ensures ∙ ap (λ p. spends (credit_number c.args.ty) e p) (sym at)
+    ap port_of c.pay.ensures.view ∙ ap (λ t. spends t e (port_of (shown seat.me))) c.number-kind.ensures ∙ ap (λ p. spends (credit_number c.args.ty) e p) (sym at)
 
 pub returns-clause-mine : goal.returns-clause-mine
-returns-clause-mine g c = ap (λ m. has c.lowest-entry.result (port_of m)) c.pay.ensures.view ∙ with_here (port_of c.in-Some.chair.me).hand c.lowest-entry.result
+returns-clause-mine g c = ap (λ m. has c.lowest-entry.result (port_of m)) c.pay.ensures.view ∙ with_here (port_of (shown c.in-Some.chair.me)).hand c.lowest-entry.result
 
 pub returns-clause-entry : goal.returns-clause-entry
 unfolding returns-clause-lowest
@@ -89,5 +89,5 @@ returns-clause-fewer g c =
     let held = held_of i.chair seat i.number i.shape i.seen i.due (sym c.take.ensures.value ∙ c.in-Some.is) c.self.invariant in
     let at = ap (λ w. w.port) (owner_is i.chair seat c.args.self.now (sym c.take.ensures.value ∙ c.in-Some.is) c.self.view_is) in
     let found = returns-clause-lowest g c in
-    spent_less c.args.self.now.port seat.me c.pay.new.chair.me i.number i.shape i.seen i.due t e held (omega arith) at (credit_below c.args.ty) found.0 found.1
+    spent_less c.args.self.now.port (shown seat.me) (shown c.pay.new.chair.me) i.number i.shape i.seen i.due t e held (omega arith) at (credit_below c.args.ty) found.0 found.1
     (ap (λ m. (port_of m).shape) c.pay.ensures.view) (ap (λ m. (port_of m).seen) c.pay.ensures.view)

@@ -1,5 +1,5 @@
 use Rattle.std.proofs.Common.{ap, ◌∙◌, sym, subst, length}
-use Rattle.chi_tracker.specs.Totals.{views_of, IsClosed}
+use Rattle.chi_tracker.specs.Totals.{views_of, longest, IsClosed}
 use Rattle.chi_tracker.proofs.Balance.{views-length, closes, balances}
 use Rattle.chi_tracker.proofs.tracker.Tracker.close.Goals as goal
 
@@ -10,9 +10,9 @@ last_words-words-requires-clause-all g c =
 pub returns-clause-closed : goal.returns-clause-closed
 returns-clause-closed g c =
     let i = c.self.inside in
-    subst (λ s. IsClosed s (views_of c.args.ports.items) c.counts-counts.result c.credits-requesters.result.items) (ap (λ h. h.shape) c.self.view_is)
-    (closes i.table.shared.key i.shape c.last_words-words.result c.gather-chair.result.chair.me.0.ports (views_of c.args.ports.items) c.gather-chair.result.dues c.counts-counts.result c.credits-requesters.result.items
-    c.self.invariant.2 c.gather-chair.ensures.chair.1 c.last_words-words.ensures c.gather-chair.ensures.idle c.gather-chair.ensures.due c.counts-counts.ensures c.credits-requesters.ensures)
+    subst (λ s. IsClosed s (views_of c.args.ports.items) (longest c.args.ports.items) c.counts-counts.result c.credits-requesters.result.items) (ap (λ h. h.shape) c.self.view_is)
+    (closes i.table.shared.key i.shape c.last_words-words.result c.gather-chair.result.chair.me.0.ports (views_of c.args.ports.items) c.gather-chair.result.chair.me.0.history (longest c.args.ports.items) c.gather-chair.result.dues c.counts-counts.result c.credits-requesters.result.items
+    c.self.invariant.2 c.gather-chair.ensures.chair.1 c.gather-chair.ensures.history c.last_words-words.ensures.rule c.last_words-words.ensures.history c.gather-chair.ensures.idle c.gather-chair.ensures.due c.counts-counts.ensures c.credits-requesters.ensures)
 
 pub returns-clause-balanced : goal.returns-clause-balanced
-returns-clause-balanced g c = balances c.args.self.shape (views_of c.args.ports.items) c.counts-counts.result c.credits-requesters.result.items (returns-clause-closed g c)
+returns-clause-balanced g c = balances c.args.self.shape (views_of c.args.ports.items) (longest c.args.ports.items) c.counts-counts.result c.credits-requesters.result.items (returns-clause-closed g c)

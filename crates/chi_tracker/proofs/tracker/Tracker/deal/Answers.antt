@@ -1,7 +1,7 @@
 use Rattle.std.proofs.Common.{◌+◌, ◌-◌, sym, ap, ◌∙◌, arith, length}
 use Rattle.chi_tracker.specs.Views.{new_port, new_ports}
-use Rattle.chi_tracker.proofs.Dealing.{first_left, owners-length, dealt_left, dealt_more}
-use Rattle.chi_tracker.proofs.Opening.{deals}
+use Rattle.chi_tracker.proofs.Deals.{first_left, owners-length, dealt_left, dealt_more}
+use Rattle.chi_tracker.proofs.Seats.{deals}
 use Rattle.chi_tracker.proofs.tracker.Tracker.deal.Goals as goal
 
 pub split_seat-own-requires : goal.split_seat-own-requires

@@ -1,0 +1,91 @@
+//! The flits that an action sends, beside those that were seen.
+
+ghost use Rattle.std.specs.Prelude.{◌≡◌, ◌∷◌, ◌++◌, IfSome, IsTrue};
+ghost use Rattle.chi_wires.specs.Cell.{cell_of};
+ghost use Rattle.chi_explain.specs.Sent.{new_flit, sent_below, sent_of_agent};
+
+use crate::same::is_same_message;
+use chi_flit::{Agent, Channel, Msg};
+use chi_wires::{Cells, cells_of};
+
+/// A message that a requester sent to the home, or the home to it.
+/// Source: `docs/FORMATS.md`, "Explanations".
+#[derive(Clone, Copy, Debug, PartialEq, Eq)]
+pub struct SentFlit {
+    /// The requester.
+    pub agent: Agent,
+    pub message: Msg,
+}
+
+/// What is left of the flits that were seen behind that which an action has put on an agent's channel, if it has.
+/// `None` where it has put one that wasn't seen there.
+fn behind_new<'f>(
+    flits: &'f [SentFlit],
+    agent: Agent,
+    before: &Cells,
+    after: &Cells,
+    channel: Channel,
+) -> Option<&'f [SentFlit]>
+    ensures { IfSome result
+        (λ rest. flits.now ≡ new_flit agent (cell_of before.now channel) (cell_of after.now channel) ++ rest.now) }
+{
+    match (before.get(channel), after.get(channel)) {
+        (None, Some(message)) => behind(flits, SentFlit { agent, message }),
+        (Some(_), _) | (None, None) => Some(flits),
+    }
+}
+
+/// What is left of the flits behind this one, where it is the first.
+pub(crate) fn behind(flits: &[SentFlit], flit: SentFlit) -> Option<&[SentFlit]>
+    ensures { IfSome result (λ rest. flits.now ≡ flit ∷ rest.now) }
+{
+    match flits {
+        [first, rest @ ..] if is_same(first, &flit) => Some(rest),
+        _ => None,
+    }
+}
+
+/// Whether two flits are the same.
+fn is_same(one: &SentFlit, other: &SentFlit) -> bool
+    ensures { IsTrue result → one.now ≡ other.now }
+{
+    if one.agent.0 != other.agent.0 {
+        return false;
+    }
+    is_same_message(&one.message, &other.message)
+}
+
+/// What is left of the flits that were seen behind those that an action has put on an agent's channels, but
+/// for snoops. `None` where it has put others.
+fn behind_agent<'f>(
+    flits: &'f [SentFlit],
+    agent: Agent,
+    before: &Cells,
+    after: &Cells,
+) -> Option<&'f [SentFlit]>
+    ensures { IfSome result (λ rest. flits.now ≡ sent_of_agent agent before.now after.now ++ rest.now) }
+{
+    let rest = behind_new(flits, agent, before, after, Channel::Req)?;
+    let rest = behind_new(rest, agent, before, after, Channel::RspDown)?;
+    let rest = behind_new(rest, agent, before, after, Channel::DatDown)?;
+    let rest = behind_new(rest, agent, before, after, Channel::RspUp)?;
+    let rest = behind_new(rest, agent, before, after, Channel::DatUp)?;
+    Some(rest)
+}
+
+/// What is left of the flits that were seen behind those that an action has put on the channels of all agents, but
+/// for snoops. `None` where it has put others.
+pub(crate) fn behind_all<'f>(
+    flits: &'f [SentFlit],
+    before: &[Cells; 8],
+    after: &[Cells; 8],
+) -> Option<&'f [SentFlit]>
+    ensures { IfSome result (λ rest. flits.now ≡ sent_below before.now after.now 8 ++ rest.now) }
+{
+    let mut rest = flits;
+    for number in 0..8 {
+        let agent = Agent(number);
+        rest = behind_agent(rest, agent, cells_of(before, agent), cells_of(after, agent))?;
+    }
+    Some(rest)
+}

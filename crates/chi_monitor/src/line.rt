@@ -1,0 +1,643 @@
+//! What the flits so far have shown of a line, and the actions that explain them.
+
+ghost use Rattle.std.specs.Prelude.{◌<◌};
+
+use crate::faults::LineFault;
+use crate::filter::{Agents, Filter, NOBODY, has, has_any, with_mark};
+use crate::requester::{Asked, Given, Requester, Stage};
+use crate::values::{Unknown, Values, Words};
+use chi_flit::{
+    Agent, CompData, DatUp, Data, Kind, Msg, NO_DATA, RspUp, Slot, Snoop, State, Step, WordNo,
+    answer,
+};
+use std::alloc::Allocator;
+
+/// An item of an explanation, in which a stored value may be unknown.
+#[derive(Clone, Copy)]
+pub(crate) enum Draft {
+    Act(Agent, Step),
+    Store(Agent, WordNo, Unknown),
+    Snoop(Agent),
+}
+
+/// A group of snoops, whose request a completion tells.
+#[derive(Clone, Copy)]
+struct Group {
+    snoop: Snoop,
+    /// Whose request it may be.
+    may_be: Agents,
+    snooped: Agents,
+    answered: Agents,
+    /// The items that are to name whose it is: an Admit, and the Start behind it.
+    at: usize,
+}
+
+/// What the home does.
+#[derive(Clone, Copy)]
+enum Service {
+    Idle,
+    Snooping(Group),
+    AwaitingAck(Agent),
+    AwaitingWriteData(Agent, Kind),
+}
+
+/// A line as the flits so far have shown it.
+#[derive(Drop)]
+pub(crate) struct Search<A: Allocator> {
+    values: Values<A>,
+    opening: Words,
+    memory: Words,
+    filter: Filter,
+    service: Service,
+    requesters: [Requester; 8],
+    /// The message by which each agent has answered.
+    answers: [Option<Answer>; 8],
+    items: Vec<Draft, A>,
+}
+
+/// What an answer to a snoop does to the home.
+#[derive(Clone, Copy)]
+enum Answer {
+    Invalid,
+    Clean,
+    /// Dirty data, and no copy is left.
+    InvalidPassed(Words),
+    /// Dirty data, and a clean copy is left.
+    CleanPassed(Words),
+    /// Data whose sender stays responsible.
+    Shared(Words),
+}
+
+const SLOT: Slot = Slot(0);
+
+impl<A: Allocator + Copy> Search<A> {
+    /// A line that nobody has a copy of, and nothing is known of its memory.
+    pub fn new(alloc: A) -> Result<Search<A>, LineFault> {
+        let mut values = Values::new(alloc);
+        let memory = values.unknown_line()?;
+        Ok(Search {
+            values,
+            opening: memory,
+            memory,
+            filter: Filter::NONE,
+            service: Service::Idle,
+            requesters: [Requester::NONE; 8],
+            answers: [None; 8],
+            items: Vec::new(alloc),
+        })
+    }
+}
+
+impl<A: Allocator> Search<A> {
+    /// The items of the explanation so far.
+    pub fn items(&self) -> &[Draft] {
+        &self.items
+    }
+
+    /// What memory had at first, as far as it is known.
+    pub fn opening(&self) -> Data {
+        self.values.line(&self.opening)
+    }
+
+    /// The value of a word, as far as it is known.
+    pub fn value(&self, word: Unknown) -> u64 {
+        self.values.value(word)
+    }
+
+    fn act(&mut self, agent: Agent, step: Step) -> Result<(), LineFault> {
+        self.items.push(Draft::Act(agent, step))?;
+        Ok(())
+    }
+
+    /// The agent's side.
+    fn at(&self, agent: Agent) -> Requester
+        requires { agent.0 < 8 }
+    {
+        self.requesters[usize::from(agent.0)]
+    }
+
+    fn put(&mut self, agent: Agent, requester: Requester)
+        requires { agent.0 < 8 }
+    {
+        self.requesters[usize::from(agent.0)] = requester;
+    }
+
+    /// Stores the words, one after the other.
+    fn store_all(&mut self, agent: Agent, words: &Words) -> Result<(), LineFault> {
+        for (number, word) in words.iter().enumerate() {
+            self.items
+                .push(Draft::Store(agent, WordNo(number as u8), *word))?;
+        }
+        Ok(())
+    }
+
+    /// A first attempt.
+    pub fn issue(&mut self, agent: Agent, kind: Kind) -> Result<(), LineFault>
+        requires { agent.0 < 8 }
+    {
+        let mut side = self.at(agent);
+        if side.asked.is_some() || side.given.is_some() {
+            return Err(LineFault::Pending);
+        }
+        match (kind, side.base) {
+            (Kind::ReadNotSharedDirty | Kind::ReadShared | Kind::ReadUnique, State::I) => {}
+            (
+                Kind::ReadNotSharedDirty | Kind::ReadShared | Kind::ReadUnique,
+                State::SC | State::UC,
+            ) => {
+                self.act(agent, Step::Drop)?;
+                side.base = State::I;
+            }
+            (Kind::WriteBackFull | Kind::WriteCleanFull, State::UC | State::UD) => {
+                side.words = self.values.unknown_line()?;
+                self.store_all(agent, &side.words)?;
+                side.base = State::UD;
+            }
+            (kind, base) if kind.needs(base) => {}
+            (kind, base) => return Err(LineFault::Needs(kind, base)),
+        }
+        self.act(agent, Step::Issue(kind, SLOT))?;
+        if matches!(kind, Kind::Evict) {
+            side.base = State::I;
+        }
+        side.asked = Some(Asked {
+            kind,
+            stage: Stage::First,
+        });
+        self.put(agent, side);
+        Ok(())
+    }
+
+    /// A request that is sent again.
+    pub fn resend(&mut self, agent: Agent, kind: Kind) -> Result<(), LineFault>
+        requires { agent.0 < 8 }
+    {
+        let mut side = self.at(agent);
+        match side.asked {
+            Some(asked) if asked.stage == Stage::Retried && asked.kind == kind => {
+                side.move_to(Stage::Again);
+                self.put(agent, side);
+                self.act(agent, Step::Resend)
+            }
+            Some(_) | None => Err(LineFault::NotRetried(kind)),
+        }
+    }
+
+    /// A RetryAck.
+    pub fn retry(&mut self, agent: Agent) -> Result<(), LineFault>
+        requires { agent.0 < 8 }
+    {
+        let mut side = self.at(agent);
+        match side.asked {
+            Some(asked) if asked.stage == Stage::First => {}
+            Some(_) | None => return Err(LineFault::NothingToRetry),
+        }
+        if let Service::Snooping(mut group) = self.service {
+            group.may_be = with_mark(group.may_be, agent, false);
+            if !has_any(&group.may_be) {
+                return Err(LineFault::ServedRetry);
+            }
+            self.service = Service::Snooping(group);
+        }
+        self.act(agent, Step::Retry)?;
+        self.act(agent, Step::RecvRetry)?;
+        side.move_to(Stage::Retried);
+        self.put(agent, side);
+        self.cancel_lost(agent)
+    }
+
+    /// A retried copy-back that the copy doesn't fit any more is given up.
+    fn cancel_lost(&mut self, agent: Agent) -> Result<(), LineFault>
+        requires { agent.0 < 8 }
+    {
+        let mut side = self.at(agent);
+        if side.is_lost() {
+            side.asked = None;
+            self.put(agent, side);
+            self.act(agent, Step::Cancel)?;
+        }
+        Ok(())
+    }
+
+    /// The agents whose waiting request asks for this snoop of the agent, among these.
+    fn askers(&self, snoop: Snoop, agent: Agent, among: &Agents) -> Agents
+        requires { agent.0 < 8 }
+    {
+        let mut askers = NOBODY;
+        for number in 0..8 {
+            let other = Agent(number);
+            let asks = match self.at(other).waiting() {
+                Some(kind) => {
+                    kind.snoop() == Some(snoop) && has(&self.filter.targets(other, kind), agent)
+                }
+                None => false,
+            };
+            askers = with_mark(askers, other, asks && has(among, other));
+        }
+        askers
+    }
+
+    /// A snoop to the agent.
+    pub fn snoop(&mut self, agent: Agent, snoop: Snoop) -> Result<(), LineFault>
+        requires { agent.0 < 8 }
+    {
+        let group = match self.service {
+            Service::Idle => {
+                let may_be = self.askers(snoop, agent, &[true; 8]);
+                let at = self.items.len();
+                self.act(agent, Step::Admit)?;
+                self.act(agent, Step::Start)?;
+                self.answers = [None; 8];
+                Group {
+                    snoop,
+                    may_be,
+                    snooped: with_mark(NOBODY, agent, true),
+                    answered: NOBODY,
+                    at,
+                }
+            }
+            Service::Snooping(mut group) => {
+                if has(&group.snooped, agent) {
+                    return Err(LineFault::SnoopedTwice);
+                }
+                group.may_be = self.askers(snoop, agent, &group.may_be);
+                group.snooped = with_mark(group.snooped, agent, true);
+                group
+            }
+            Service::AwaitingAck(_) | Service::AwaitingWriteData(_, _) => {
+                return Err(LineFault::Busy);
+            }
+        };
+        if !has_any(&group.may_be) || group.snoop != snoop {
+            return Err(LineFault::NobodyAsks(snoop));
+        }
+        self.service = Service::Snooping(group);
+        let mut side = self.at(agent);
+        side.snoop = Some(snoop);
+        self.put(agent, side);
+        self.items.push(Draft::Snoop(agent))?;
+        Ok(())
+    }
+
+    /// The agent's answer to its snoop.
+    pub fn answer(&mut self, agent: Agent, message: &Msg) -> Result<(), LineFault>
+        requires { agent.0 < 8 }
+    {
+        let mut side = self.at(agent);
+        let Some(snoop) = side.snoop else {
+            return Err(LineFault::NothingToAnswer);
+        };
+        let Service::Snooping(mut group) = self.service else {
+            return Err(LineFault::NothingToAnswer);
+        };
+        let free = side.asked.is_none() && side.given.is_none();
+        let (next, given) = self.answered(agent, &mut side, snoop, message, free)?;
+        self.act(agent, Step::RecvSnp)?;
+        side.base = next;
+        side.snoop = None;
+        self.put(agent, side);
+        group.answered = with_mark(group.answered, agent, true);
+        self.service = Service::Snooping(group);
+        self.answers[usize::from(agent.0)] = Some(given);
+        self.cancel_lost(agent)
+    }
+
+    /// The state that the answer leaves, and what it does to the home. Where nothing is pending the copy may have been
+    /// dropped, or stored to.
+    fn answered(
+        &mut self,
+        agent: Agent,
+        side: &mut Requester,
+        snoop: Snoop,
+        message: &Msg,
+        free: bool,
+    ) -> Result<(State, Answer), LineFault> {
+        let fault = LineFault::Answer(side.base, snoop);
+        let leaves = answer(side.base, snoop, NO_DATA).0;
+        match message {
+            Msg::RspUp(RspUp::SnpRespI) => match side.base {
+                State::I => Ok((State::I, Answer::Invalid)),
+                State::SC | State::UC if matches!(leaves, State::I) => {
+                    Ok((State::I, Answer::Invalid))
+                }
+                State::SC | State::UC if free => {
+                    self.act(agent, Step::Drop)?;
+                    Ok((State::I, Answer::Invalid))
+                }
+                State::SC | State::UC | State::UD | State::SD => Err(fault),
+            },
+            Msg::RspUp(RspUp::SnpRespSC) => match side.base {
+                State::SC | State::UC if matches!(leaves, State::SC) => {
+                    Ok((State::SC, Answer::Clean))
+                }
+                State::I | State::SC | State::UC | State::UD | State::SD => Err(fault),
+            },
+            Msg::DatUp(message) => self.answered_by_data(agent, side, snoop, message, free),
+            Msg::RspUp(RspUp::CompAck)
+            | Msg::Req(_)
+            | Msg::Snp(_)
+            | Msg::RspDown(_)
+            | Msg::DatDown(_) => Err(fault),
+        }
+    }
+
+    /// The same of an answer with data.
+    fn answered_by_data(
+        &mut self,
+        agent: Agent,
+        side: &mut Requester,
+        snoop: Snoop,
+        message: &DatUp,
+        free: bool,
+    ) -> Result<(State, Answer), LineFault> {
+        let fault = LineFault::Answer(side.base, snoop);
+        let (leaves, data) = match message {
+            DatUp::SnpRespDataIPD(data) => (State::I, data),
+            DatUp::SnpRespDataSCPD(data) => (State::SC, data),
+            DatUp::SnpRespDataSD(data) => (State::SD, data),
+            DatUp::CopyBackWrData(_, _) => return Err(fault),
+        };
+        match side.base {
+            State::UC | State::UD if free => {
+                side.words = self.values.known_line(data)?;
+                let words = side.words;
+                self.store_all(agent, &words)?;
+            }
+            State::UD | State::SD => {
+                if !self.values.are_now(&side.words, data) {
+                    return Err(LineFault::Words);
+                }
+            }
+            State::I | State::SC | State::UC => return Err(fault),
+        }
+        if answer(State::UD, snoop, NO_DATA).0 != leaves {
+            return Err(fault);
+        }
+        let words = side.words;
+        Ok((
+            leaves,
+            match message {
+                DatUp::SnpRespDataIPD(_) => Answer::InvalidPassed(words),
+                DatUp::SnpRespDataSCPD(_) => Answer::CleanPassed(words),
+                DatUp::SnpRespDataSD(_) | DatUp::CopyBackWrData(_, _) => Answer::Shared(words),
+            },
+        ))
+    }
+
+    /// The agent's request is admitted and started here, or was at the first snoop of its group, whose answers then
+    /// come to the home. The data that an answer gave for the completion, if one did.
+    fn begin(&mut self, agent: Agent, kind: Kind) -> Result<Option<Words>, LineFault>
+        requires { agent.0 < 8 }
+    {
+        let targets = self.filter.targets(agent, kind);
+        match self.service {
+            Service::Idle => {
+                if has_any(&targets) {
+                    return Err(LineFault::Snoops);
+                }
+                self.act(agent, Step::Admit)?;
+                self.act(agent, Step::Start)?;
+                Ok(None)
+            }
+            Service::Snooping(group) => {
+                if !has(&group.may_be, agent)
+                    || targets != group.snooped
+                    || targets != group.answered
+                {
+                    return Err(LineFault::Snoops);
+                }
+                self.fill(group.at, agent);
+                self.take_answers()
+            }
+            Service::AwaitingAck(_) | Service::AwaitingWriteData(_, _) => Err(LineFault::Busy),
+        }
+    }
+
+    /// The Admit and the Start at this place are those of the agent.
+    fn fill(&mut self, at: usize, agent: Agent) {
+        if let Some(item) = self.items.get_mut(at) {
+            *item = Draft::Act(agent, Step::Admit);
+        }
+        if let Some(item) = self.items.get_mut(at.saturating_add(1)) {
+            *item = Draft::Act(agent, Step::Start);
+        }
+    }
+
+    /// The flits end here: a group of snoops whose completion wasn't seen may be for any request that it fits.
+    pub fn close(&mut self) {
+        if let Service::Snooping(group) = self.service {
+            for number in 0..8 {
+                if has(&group.may_be, Agent(number)) {
+                    self.fill(group.at, Agent(number));
+                }
+            }
+        }
+    }
+
+    /// All answers come to the home.
+    fn take_answers(&mut self) -> Result<Option<Words>, LineFault> {
+        let mut given = None;
+        for number in 0..8 {
+            let agent = Agent(number);
+            let Some(answer) = self.answers[usize::from(number)] else {
+                continue;
+            };
+            self.act(agent, Step::RecvSnpResp)?;
+            match answer {
+                Answer::Invalid => self.filter.leave(agent),
+                Answer::Clean => {
+                    self.filter.unique = false;
+                    self.filter.disown(agent);
+                }
+                Answer::InvalidPassed(words) => {
+                    self.memory = words;
+                    self.filter.leave(agent);
+                }
+                Answer::CleanPassed(words) => {
+                    self.memory = words;
+                    self.filter.unique = false;
+                    self.filter.disown(agent);
+                }
+                Answer::Shared(words) => {
+                    given = Some(words);
+                    self.filter.unique = false;
+                    self.filter.owner = Some(agent);
+                }
+            }
+        }
+        self.answers = [None; 8];
+        Ok(given)
+    }
+
+    /// The data of the agent's read.
+    pub fn complete_read(&mut self, agent: Agent, message: &CompData) -> Result<(), LineFault>
+        requires { agent.0 < 8 }
+    {
+        let mut side = self.at(agent);
+        let kind = match side.waiting() {
+            Some(kind @ (Kind::ReadNotSharedDirty | Kind::ReadShared | Kind::ReadUnique)) => kind,
+            Some(_) | None => return Err(LineFault::NothingToComplete),
+        };
+        let given = self.begin(agent, kind)?;
+        let alone = matches!(kind, Kind::ReadUnique) || !has_any(&self.filter.others(agent));
+        if message.unique != alone {
+            return Err(LineFault::Form);
+        }
+        let words = match (kind, given) {
+            (Kind::ReadShared, Some(words)) if !alone => words,
+            _ => self.memory,
+        };
+        if !self.values.are_now(&words, &message.words) {
+            return Err(LineFault::Words);
+        }
+        if alone {
+            self.filter.only(agent);
+        } else {
+            self.filter.join(agent);
+        }
+        let state = if alone { State::UC } else { State::SC };
+        side.given = Some(Given::Data(state, words));
+        side.move_to(Stage::Served);
+        self.put(agent, side);
+        self.service = Service::AwaitingAck(agent);
+        Ok(())
+    }
+
+    /// Comp_UC of the agent's CleanUnique.
+    pub fn complete_unique(&mut self, agent: Agent) -> Result<(), LineFault>
+        requires { agent.0 < 8 }
+    {
+        let mut side = self.at(agent);
+        match side.waiting() {
+            Some(Kind::CleanUnique) => {}
+            Some(_) | None => return Err(LineFault::NothingToComplete),
+        }
+        let _ = self.begin(agent, Kind::CleanUnique)?;
+        self.filter.only(agent);
+        side.given = Some(Given::Unique);
+        side.move_to(Stage::Served);
+        self.put(agent, side);
+        self.service = Service::AwaitingAck(agent);
+        Ok(())
+    }
+
+    /// The agent's CompAck.
+    pub fn acknowledge(&mut self, agent: Agent) -> Result<(), LineFault>
+        requires { agent.0 < 8 }
+    {
+        let mut side = self.at(agent);
+        match self.service {
+            Service::AwaitingAck(served) if served.0 == agent.0 => {}
+            _ => return Err(LineFault::NotAwaited),
+        }
+        match side.given {
+            Some(Given::Data(state, words)) => {
+                self.act(agent, Step::RecvData)?;
+                side.base = state;
+                side.words = words;
+            }
+            Some(Given::Unique) => {
+                self.act(agent, Step::RecvComp)?;
+                side.base = match side.base {
+                    State::SC => State::UC,
+                    State::SD => State::UD,
+                    other => other,
+                };
+            }
+            None => return Err(LineFault::NotAwaited),
+        }
+        side.given = None;
+        side.asked = None;
+        self.put(agent, side);
+        self.service = Service::Idle;
+        self.act(agent, Step::RecvAck)
+    }
+
+    /// Whether nothing is served.
+    fn is_idle(&self) -> bool {
+        matches!(self.service, Service::Idle)
+    }
+
+    /// Comp_I of the agent's Evict.
+    pub fn complete_evict(&mut self, agent: Agent) -> Result<(), LineFault>
+        requires { agent.0 < 8 }
+    {
+        let mut side = self.at(agent);
+        match side.waiting() {
+            Some(Kind::Evict) => {}
+            Some(_) | None => return Err(LineFault::NothingToComplete),
+        }
+        if !self.is_idle() {
+            return Err(LineFault::Busy);
+        }
+        self.act(agent, Step::Admit)?;
+        self.act(agent, Step::Start)?;
+        self.act(agent, Step::RecvComp)?;
+        self.filter.leave(agent);
+        side.asked = None;
+        self.put(agent, side);
+        Ok(())
+    }
+
+    /// CompDBIDResp of the agent's copy-back.
+    pub fn ask_write_data(&mut self, agent: Agent) -> Result<(), LineFault>
+        requires { agent.0 < 8 }
+    {
+        let mut side = self.at(agent);
+        let kind = match side.waiting() {
+            Some(kind) if kind.is_copy_back() => kind,
+            Some(_) | None => return Err(LineFault::NothingToComplete),
+        };
+        if !self.is_idle() {
+            return Err(LineFault::Busy);
+        }
+        self.act(agent, Step::Admit)?;
+        self.act(agent, Step::Start)?;
+        side.move_to(Stage::Served);
+        self.put(agent, side);
+        self.service = Service::AwaitingWriteData(agent, kind);
+        Ok(())
+    }
+
+    /// The agent's write data.
+    pub fn write(&mut self, agent: Agent, form: State, data: &Data) -> Result<(), LineFault>
+        requires { agent.0 < 8 }
+    {
+        let mut side = self.at(agent);
+        let kind = match self.service {
+            Service::AwaitingWriteData(served, kind) if served.0 == agent.0 => kind,
+            _ => return Err(LineFault::NotAwaited),
+        };
+        if form != side.base {
+            return Err(LineFault::WriteForm(side.base));
+        }
+        let same = match form {
+            State::I => *data == NO_DATA,
+            State::SC | State::UC | State::UD | State::SD => {
+                self.values.are_now(&side.words, data)
+            }
+        };
+        if !same {
+            return Err(LineFault::Words);
+        }
+        self.act(agent, Step::RecvDbid)?;
+        self.act(agent, Step::RecvWrData)?;
+        if form.is_dirty() {
+            self.memory = side.words;
+        }
+        if kind.gives_up() || !form.is_valid() {
+            self.filter.leave(agent);
+        } else {
+            self.filter.disown(agent);
+        }
+        side.base = match (kind.gives_up(), form) {
+            (true, _) | (false, State::I) => State::I,
+            (false, State::UD | State::UC) => State::UC,
+            (false, State::SD | State::SC) => State::SC,
+        };
+        side.asked = None;
+        self.put(agent, side);
+        self.service = Service::Idle;
+        Ok(())
+    }
+}

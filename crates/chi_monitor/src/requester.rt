@@ -1,0 +1,88 @@
+//! A requester's side of a line, as the flits show it.
+
+use crate::values::{Unknown, Words};
+use chi_flit::{Kind, Snoop, State};
+
+/// How far a request has come.
+#[derive(Clone, Copy, PartialEq, Eq)]
+pub(crate) enum Stage {
+    /// A first attempt, on its way or waiting.
+    First,
+    /// A RetryAck has come to it.
+    Retried,
+    /// It was sent again, and is on its way or waits.
+    Again,
+    /// It is served, or was completed.
+    Served,
+}
+
+/// A request that isn't over for its requester.
+#[derive(Clone, Copy)]
+pub(crate) struct Asked {
+    pub kind: Kind,
+    pub stage: Stage,
+}
+
+/// A completion that its requester hasn't acknowledged.
+#[derive(Clone, Copy)]
+pub(crate) enum Given {
+    /// Data, for a copy in this state.
+    Data(State, Words),
+    /// Comp_UC.
+    Unique,
+}
+
+/// What is known of a requester.
+#[derive(Clone, Copy)]
+pub(crate) struct Requester {
+    /// The state of the copy after the last flit of the requester.
+    pub base: State,
+    pub words: Words,
+    pub asked: Option<Asked>,
+    /// A snoop that isn't answered.
+    pub snoop: Option<Snoop>,
+    pub given: Option<Given>,
+}
+
+impl Requester {
+    /// No copy, and nothing under way.
+    pub const NONE: Requester = Requester {
+        base: State::I,
+        words: [Unknown(0); 8],
+        asked: None,
+        snoop: None,
+        given: None,
+    };
+
+    /// The kind of the request that is on its way or waits.
+    pub fn waiting(&self) -> Option<Kind> {
+        match self.asked {
+            Some(asked) if asked.stage == Stage::First || asked.stage == Stage::Again => {
+                Some(asked.kind)
+            }
+            Some(_) | None => None,
+        }
+    }
+
+    /// The request is now in this stage.
+    pub fn move_to(&mut self, stage: Stage) {
+        if let Some(asked) = self.asked {
+            self.asked = Some(Asked {
+                kind: asked.kind,
+                stage,
+            });
+        }
+    }
+
+    /// Whether a retried copy-back is pending that the copy's state doesn't fit any more.
+    pub fn is_lost(&self) -> bool {
+        match self.asked {
+            Some(asked) => {
+                asked.stage == Stage::Retried
+                    && asked.kind.is_copy_back()
+                    && !asked.kind.needs(self.base)
+            }
+            None => false,
+        }
+    }
+}

@@ -1,0 +1,114 @@
+-- A node on one thread: its slices and its requesters (docs/PROTOCOL.md, "A requester and its calls" and
+-- "Agreement").
+use Rattle.std.specs.Prelude.{◌≡◌, ℕ, ◌<◌, List, All, nat_lt, Option, Some, None, length, slice_set, if◌then◌else◌}
+use Rattle.std.specs.Option.{option_or}
+use Rattle.std.specs.List.{slice_index_or}
+use Rattle.atomic_table.specs.Seated.{TableId}
+use Rattle.chi_flit.specs.declared.action.Action.{Action}
+use Rattle.chi_flit.specs.declared.credit.CreditType.{CreditType}
+use Rattle.chi_flit.specs.declared.numbers.Agent.{Agent}
+use Rattle.chi_flit.specs.declared.numbers.Line.{Line}
+use Rattle.chi_flit.specs.declared.refusal.Refusal.{Refusal}
+use Rattle.chi_flit.specs.declared.refusal.Refusal.TheVariants.{OutOfRange}
+use Rattle.chi_tracker.specs.declared.released.Released.{Released}
+use Rattle.chi_tracker.specs.declared.totals.Counts.{Counts}
+use Rattle.chi_tracker.specs.Calls.{Home, shape_of}
+use Rattle.chi_tracker.specs.Totals.{IsGlance}
+use Rattle.chi_line.specs.LineState.{cells_of}
+use Rattle.chi_line.specs.Step.{effect_of}
+use Rattle.chi_config.specs.Config.{Sizes}
+use Rattle.chi_node.specs.declared.answers.Arrived.{Arrived}
+use Rattle.chi_node.specs.declared.answers.Stepped.{Stepped}
+use Rattle.chi_node.specs.Agree.{AllAgree}
+use Rattle.chi_node.specs.Calls.{arrival_action, arrival_refusal, call_refusal, place_at, ArrivesAt}
+use Rattle.chi_node.specs.AfterStep.{Finishes}
+use Rattle.chi_node.specs.Parts.{opening_requesters}
+use Rattle.chi_node.specs.Requester.{RequesterState, give_back_refusal, no_requester, tend_refusal, IsRunning}
+use Rattle.chi_node.specs.Home.{HomeState, IsHome, slices_after, line, opening_home, slice_of}
+use Rattle.chi_node.specs.Credits.{GivesBack, Sees, Tends, Typed, typed_refusal}
+
+-- the slices of a node, and its requesters in rising order
+pub record SystemState : Type 0 where
+  pub home : HomeState
+  pub requesters : List RequesterState
+
+abbrev pub requester_of : SystemState → ℕ → RequesterState
+requester_of y n = slice_index_or y.requesters n no_requester
+
+-- a new node, whose tracker's words are these
+abbrev pub opening_system : Sizes → TableId → SystemState
+opening_system config table = record { home = opening_home config; requesters = opening_requesters table (shape_of config.entries config.agents) config.agents }
+
+-- 10: the agent is none of the node's
+abbrev pub agent_refusal : SystemState → ℕ → Option Refusal
+agent_refusal y n = if nat_lt n y.home.config.agents then None else Some OutOfRange
+
+-- why nothing of an agent arrives at a line
+abbrev pub arrive_refusal : SystemState → ℕ → ℕ → Option Refusal
+arrive_refusal y n l = arrival_refusal (slice_of y.home l) n l
+
+-- why an agent's step isn't done
+abbrev pub step_refusal : SystemState → Action → Option Refusal
+step_refusal y action = call_refusal (slice_of y.home action.line.0) (requester_of y action.agent.0) action
+
+-- why an agent can't give a credit back, and can't tend a type
+abbrev pub give_back_refusal_in : SystemState → ℕ → Option CreditType → Option Refusal
+give_back_refusal_in y n ty = option_or (agent_refusal y n) (typed_refusal (give_back_refusal (requester_of y n)) ty)
+
+abbrev pub tend_refusal_in : SystemState → ℕ → Option CreditType → Option Refusal
+tend_refusal_in y n ty = option_or (agent_refusal y n) (typed_refusal (tend_refusal (requester_of y n)) ty)
+
+-- all requesters but the agent's are as they were
+abbrev pub OthersStay : SystemState → SystemState → Agent → Type 0
+OthersStay y y' agent = y'.requesters ≡ slice_set y.requesters agent.0 (requester_of y' agent.0)
+
+-- an arrival was done: by the slice of its line, and by the agent's requester
+pub record ArrivesIn (y y' : SystemState) (agent : Agent) (l : Line) (arrived : Arrived) : Type 0 where
+  pub home : y'.home ≡ slices_after y.home (arrival_action agent.0 l arrived)
+  pub requester : ArrivesAt (cells_of (line y.home l.0) agent.0).req arrived (requester_of y agent.0) (requester_of y' agent.0)
+  pub others : OthersStay y y' agent
+
+-- a step was done: by the slice of its line, and by the agent's requester
+pub record StepsIn (y y' : SystemState) (action : Action) (stepped : Stepped) : Type 0 where
+  pub home : y'.home ≡ slices_after y.home action
+  pub effect : stepped.effect ≡ effect_of (line y.home action.line.0) action
+  pub requester : Finishes (place_at (slice_of y.home action.line.0) action) action.step stepped.effect stepped.released
+      (requester_of y action.agent.0) (requester_of y' action.agent.0)
+  pub others : OthersStay y y' action.agent
+
+-- an agent looked at its promises, gave a credit back, or tended a type: the slices stay
+pub record SeesIn (y y' : SystemState) (agent : Agent) (seen : List ℕ) : Type 0 where
+  pub home : y'.home ≡ y.home
+  pub requester : Sees seen (requester_of y agent.0) (requester_of y' agent.0)
+  pub others : OthersStay y y' agent
+
+pub record GivesBackIn (y y' : SystemState) (agent : Agent) (ty : Option CreditType) (released : Released) : Type 0 where
+  pub home : y'.home ≡ y.home
+  pub requester : Typed ty (λ t. GivesBack t released (requester_of y agent.0) (requester_of y' agent.0))
+  pub others : OthersStay y y' agent
+
+pub record TendsIn (y y' : SystemState) (agent : Agent) (ty : Option CreditType) (released : Option Released) : Type 0 where
+  pub home : y'.home ≡ y.home
+  pub requester : Typed ty (λ t. Tends t released (requester_of y agent.0) (requester_of y' agent.0))
+  pub others : OthersStay y y' agent
+
+-- what a node keeps: there are as many requesters as agents, each with its place as its number and with a
+-- port to a tracker of the node's entries, each agrees with each slice, and a legal history of the tracker
+-- leaves each port as it is
+pub record IsSystem (y : SystemState) : Type 0 where
+  pub home : IsHome y.home
+  pub count : length y.requesters ≡ y.home.config.agents
+  pub numbers : (n : ℕ) → n < y.home.config.agents → (requester_of y n).number ≡ n
+  pub shapes : All (λ r. r.port.shape ≡ shape_of y.home.config.entries y.home.config.agents) y.requesters
+  pub agree : AllAgree y.home.slices y.requesters
+  pub running : All IsRunning y.requesters
+
+-- and all ports are those of one tracker, which has the node's entries and agents
+pub record IsOf (tracker : Home) (y : SystemState) : Type 0 where
+  pub system : IsSystem y
+  pub tables : All (λ r. r.table ≡ tracker.table) y.requesters
+  pub shape : tracker.shape ≡ shape_of y.home.config.entries y.home.config.agents
+
+-- a glance at the node's tracker shows these counts: those of some words of a tracker of its entries and agents
+abbrev pub Glances : SystemState → Counts → Type 0
+Glances y counts = IsGlance (shape_of y.home.config.entries y.home.config.agents) counts

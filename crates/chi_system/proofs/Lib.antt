@@ -1,4 +1,0 @@
-pub mod Homes
-pub mod Systems
-pub mod Changed
-pub mod Credits

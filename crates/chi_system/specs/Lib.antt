@@ -1,3 +1,0 @@
-pub mod Home
-pub mod Credits
-pub mod System

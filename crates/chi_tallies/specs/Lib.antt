@@ -1,3 +1,0 @@
-pub mod Tally
-pub mod Rule
-pub mod Tallies

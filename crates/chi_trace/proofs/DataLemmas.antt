@@ -1,0 +1,207 @@
+-- The data of a line is read as it is written, and only so.
+use Rattle.std.proofs.Common.{◌≡◌, ◌⊎◌, inl, inr, ℕ, zero, suc, ◌+◌, ◌==◌, ◌&&◌, Bool, true, false, cond, List, [], ◌∷◌, ◌++◌, length, Option, Some, None, refl, sym, ap, subst, ◌∙◌, arith, codes, append_assoc}
+use Rattle.std.specs.Prelude.{is_none}
+use Rattle.std.specs.List.{position, slice_split}
+use Rattle.std.proofs.lemmas.Bool.Decides.{nat_tests}
+use Rattle.std.proofs.lemmas.List.{append-nil}
+use Rattle.chi_script.specs.Words.{◌>>=◌, is_text}
+use Rattle.chi_script.proofs.LineLemmas.{uncut}
+use Rattle.chi_script.proofs.NumberLemmas.{bound}
+use Rattle.chi_trace.specs.declared.fields.Payload.{Payload}
+use Rattle.chi_trace.specs.declared.fields.Payload.TheVariants as payloads
+use Rattle.chi_trace.specs.declared.uses.Form.{Form}
+use Rattle.chi_trace.specs.declared.uses.Form.TheVariants as forms
+use Rattle.chi_trace.specs.Fields.{first_of, line_words_of, listed_of, only_of, parts_of, payload_of, vector_of, word_of}
+use Rattle.chi_trace.specs.Numbers.{hex_of}
+use Rattle.chi_trace.specs.Spelling.{AreListed, AreNumbers, AreWords, IsHex, IsPayload, IsVector, IsWord, sixteens}
+use Rattle.chi_trace.proofs.FieldLemmas.{is_same, text_is}
+use Rattle.chi_trace.proofs.HexLemmas.{hex_again, hex_read}
+
+-- one word of a list
+x_case : (part : List ℕ) (w : Option ℕ) (b : Bool) → is_text part (codes "x") ≡ b → cond b (Some None) (hex_of 0xffff_ffff_ffff_ffff part >>= λ n. Some (Some n)) ≡ Some w → IsWord w part
+x_case part w true at e = let same : None ≡ w = cc in subst (λ (o : Option ℕ). IsWord o part) same (text_is part (codes "x") at)
+x_case part w false at e =
+    let one = bound (hex_of 0xffff_ffff_ffff_ffff part) (λ n. Some (Some n)) w e in
+    let same : Some one.0 ≡ w = let last = one.2 in cc in
+    subst (λ (o : Option ℕ). IsWord o part) same (hex_read 0xffff_ffff_ffff_ffff one.0 part one.1)
+
+word_read : (part : List ℕ) (w : Option ℕ) → word_of part ≡ Some w → IsWord w part
+word_read part w e = x_case part w (is_text part (codes "x")) refl e
+
+-- an x is no number
+no_x : (most n : ℕ) → IsHex most n (codes "x") → ⊥
+no_x most n is = let digit = is.0.1 in cc
+
+hex_no_x : (most n : ℕ) (part : List ℕ) (b : Bool) → is_text part (codes "x") ≡ b → IsHex most n part → b ≡ false
+hex_no_x most n part false at is = refl
+hex_no_x most n part true at is = absurd (no_x most n (subst (λ (w : List ℕ). IsHex most n w) (text_is part (codes "x") at) is))
+
+word_again : (w : Option ℕ) (part : List ℕ) → IsWord w part → word_of part ≡ Some w
+word_again None part is = ap word_of is
+word_again (Some n) part is =
+    let plain : is_text part (codes "x") ≡ false = hex_no_x 0xffff_ffff_ffff_ffff n part (is_text part (codes "x")) refl is in
+    rw (plain, hex_again 0xffff_ffff_ffff_ffff n part is) refl
+
+-- so many words more behind these
+abbrev chain : ℕ → List (Option ℕ) → List (List ℕ) → Option (List (Option ℕ))
+chain zero front parts = only_of parts >>= λ w. Some (front ++ w ∷ [])
+chain (suc k) front parts = first_of parts >>= λ found. chain k (front ++ found.0 ∷ []) found.1
+
+listed_is : (parts : List (List ℕ)) → listed_of parts ≡ chain 7 [] parts
+unfolding listed_of
+listed_is parts = refl
+
+-- what the first part gives
+record IsFirst (parts : List (List ℕ)) (w : Option ℕ) (rest : List (List ℕ)) : Type 0 where
+  part : List ℕ
+  is : parts ≡ part ∷ rest
+  word : IsWord w part
+
+first_read : (parts : List (List ℕ)) (found : Option ℕ × List (List ℕ)) → first_of parts ≡ Some found → IsFirst parts found.0 found.1
+first_read [] found e = cc
+first_read (part ∷ []) found e = cc
+first_read (part ∷ next ∷ rest) found e =
+    let one = bound (word_of part) (λ w. Some (w, next ∷ rest)) found e in
+    let same : ◌≡◌ {A = Option ℕ × List (List ℕ)} (one.0, next ∷ rest) found = let last = one.2 in cc in
+    subst (λ (f : Option ℕ × List (List ℕ)). IsFirst (part ∷ next ∷ rest) f.0 f.1) same (record { part = part; is = refl; word = word_read part one.0 one.1 })
+
+only_read : (parts : List (List ℕ)) (w : Option ℕ) → only_of parts ≡ Some w → IsFirst parts w []
+only_read [] w e = cc
+only_read (part ∷ []) w e = record { part = part; is = refl; word = word_read part w e }
+only_read (part ∷ next ∷ rest) w e = cc
+
+-- the words that were read behind those in front
+record AreBehind (k : ℕ) (front : List (Option ℕ)) (parts : List (List ℕ)) (words : List (Option ℕ)) : Type 0 where
+  later : List (Option ℕ)
+  all : words ≡ front ++ later
+  spelled : AreWords later parts
+  count : length later ≡ k + 1
+
+chain_read : (k : ℕ) (front : List (Option ℕ)) (parts : List (List ℕ)) (words : List (Option ℕ)) → chain k front parts ≡ Some words → AreBehind k front parts words
+chain_read zero front parts words e =
+    let one = bound (only_of parts) (λ w. Some (front ++ w ∷ [])) words e in
+    let same : front ++ one.0 ∷ [] ≡ words = let last = one.2 in cc in
+    let read = only_read parts one.0 one.1 in
+    record { later = one.0 ∷ []; all = sym same; spelled = subst (λ (ps : List (List ℕ)). AreWords (one.0 ∷ []) ps) (sym read.is) (read.word, tt); count = refl }
+chain_read (suc k) front parts words e =
+    let one = bound (first_of parts) (λ found. chain k (front ++ found.0 ∷ []) found.1) words e in
+    let read = first_read parts one.0 one.1 in
+    let rest = chain_read k (front ++ one.0.0 ∷ []) one.0.1 words one.2 in
+    record {
+      later = one.0.0 ∷ rest.later;
+      all = rest.all ∙ append_assoc front (one.0.0 ∷ []) rest.later;
+      spelled = subst (λ (ps : List (List ℕ)). AreWords (one.0.0 ∷ rest.later) ps) (sym read.is) (read.word, rest.spelled);
+      count = omega (arith, rest.count);
+    }
+
+chain_again : (k : ℕ) (front later : List (Option ℕ)) (parts : List (List ℕ)) → AreWords later parts → length later ≡ k + 1 → chain k front parts ≡ Some (front ++ later)
+chain_again zero front [] parts is count = absurd (omega (arith, count))
+chain_again zero front (w ∷ []) [] is count = absurd is
+chain_again zero front (w ∷ []) (part ∷ []) is count = rw (word_again w part is.0) refl
+chain_again zero front (w ∷ []) (part ∷ next ∷ rest) is count = absurd is.1
+chain_again zero front (w ∷ v ∷ later) parts is count = absurd (omega (arith, count))
+chain_again (suc k) front [] parts is count = absurd (omega (arith, count))
+chain_again (suc k) front (w ∷ []) parts is count = absurd (omega (arith, count))
+chain_again (suc k) front (w ∷ v ∷ later) [] is count = absurd is
+chain_again (suc k) front (w ∷ v ∷ later) (part ∷ []) is count = absurd is.1
+chain_again (suc k) front (w ∷ v ∷ later) (part ∷ next ∷ rest) is count =
+    rw (word_again w part is.0) (chain_again k (front ++ w ∷ []) (v ∷ later) (next ∷ rest) is.1 (omega (arith, count)) ∙ ap Some (append_assoc front (w ∷ []) (v ∷ later)))
+
+-- one number
+numbers_from : List (Option ℕ) → List (List ℕ) → Option (List (Option ℕ))
+numbers_from front [] = Some front
+numbers_from front (text ∷ texts) = hex_of 0xffff_ffff_ffff_ffff text >>= λ w. numbers_from (front ++ Some w ∷ []) texts
+
+vector_is : (digits : List ℕ) → vector_of digits ≡ numbers_from [] (sixteens digits)
+unfolding vector_of numbers_from
+vector_is digits = refl
+
+record AreAfter (front : List (Option ℕ)) (texts : List (List ℕ)) (words : List (Option ℕ)) : Type 0 where
+  later : List (Option ℕ)
+  all : words ≡ front ++ later
+  spelled : AreNumbers later texts
+
+numbers_read : (front : List (Option ℕ)) (texts : List (List ℕ)) (words : List (Option ℕ)) → numbers_from front texts ≡ Some words → AreAfter front texts words
+unfolding numbers_from
+numbers_read front [] words e = let same : front ≡ words = cc in record { later = []; all = sym same ∙ sym (append-nil front); spelled = tt }
+numbers_read front (text ∷ texts) words e =
+    let one = bound (hex_of 0xffff_ffff_ffff_ffff text) (λ w. numbers_from (front ++ Some w ∷ []) texts) words e in
+    let rest = numbers_read (front ++ Some one.0 ∷ []) texts words one.2 in
+    record { later = Some one.0 ∷ rest.later; all = rest.all ∙ append_assoc front (Some one.0 ∷ []) rest.later; spelled = (hex_read 0xffff_ffff_ffff_ffff one.0 text one.1, rest.spelled) }
+
+numbers_again : (front later : List (Option ℕ)) (texts : List (List ℕ)) → AreNumbers later texts → numbers_from front texts ≡ Some (front ++ later)
+unfolding numbers_from
+numbers_again front [] [] is = ap Some (sym (append-nil front))
+numbers_again front [] (text ∷ texts) is = absurd is
+numbers_again front (None ∷ later) texts is = absurd is
+numbers_again front (Some n ∷ later) [] is = absurd is
+numbers_again front (Some n ∷ later) (text ∷ texts) is =
+    rw (hex_again 0xffff_ffff_ffff_ffff n text is.0) (numbers_again (front ++ Some n ∷ []) later texts is.1 ∙ ap Some (append_assoc front (Some n ∷ []) later))
+
+-- a list, or one number
+none_there : (o : Option ℕ) → is_none o ≡ true → None ≡ o
+none_there None e = refl
+none_there (Some i) e = cc
+
+is_128 : (n : ℕ) → (n == 128) ≡ true → n ≡ 128
+is_128 n e = grind (arith, nat_tests)
+
+both : (a b : Bool) → (a && b) ≡ true → (a ≡ true) × (b ≡ true)
+both true b e = (refl, e)
+both false b e = cc
+
+line_case : (word : List ℕ) (words : List (Option ℕ)) (b : Bool) → (length word == 128 && is_none (position (λ x. x == 44) word)) ≡ b
+    → cond b (vector_of word) (listed_of (parts_of word)) ≡ Some words → AreListed words word ⊎ IsVector words word
+line_case word words true at e =
+    let test = both (length word == 128) (is_none (position (λ x. x == 44) word)) at in
+    let read = numbers_read [] (sixteens word) words (sym (vector_is word) ∙ e) in
+    inr (record { size = is_128 (length word) test.0; no_comma = none_there (position (λ x. x == 44) word) test.1; numbers = subst (λ (ws : List (Option ℕ)). AreNumbers ws (sixteens word)) (sym read.all) read.spelled })
+line_case word words false at e =
+    let read = chain_read 7 [] (parts_of word) words (sym (listed_is (parts_of word)) ∙ e) in
+    inl (subst (λ (ws : List (Option ℕ)). AreListed ws word) (sym read.all) (read.spelled, read.count))
+
+line_read : (word : List ℕ) (words : List (Option ℕ)) → line_words_of word ≡ Some words → AreListed words word ⊎ IsVector words word
+line_read word words e = line_case word words (length word == 128 && is_none (position (λ x. x == 44) word)) refl e
+
+-- eight words aren't one part
+not_one : (words : List (Option ℕ)) (part : List ℕ) → AreWords words (part ∷ []) → length words ≡ 8 → ⊥
+not_one [] part is count = is
+not_one (w ∷ []) part is count = omega (arith, count)
+not_one (w ∷ v ∷ ws) part is count = is.1
+
+no_vector : (words : List (Option ℕ)) (word : List ℕ) (a b : Bool) → AreListed words word → (is_none (position (λ x. x == 44) word) ≡ b) → (a && b) ≡ false
+no_vector words word false b is at = refl
+no_vector words word true false is at = refl
+no_vector words word true true is at =
+    absurd (not_one words word (subst (λ (ps : List (List ℕ)). AreWords words ps) (uncut (λ (x : ℕ). x == 44) word (none_there (position (λ x. x == 44) word) at)) is.0) is.1)
+
+line_again : (words : List (Option ℕ)) (word : List ℕ) → AreListed words word ⊎ IsVector words word → line_words_of word ≡ Some words
+line_again words word (inl is) =
+    let list : (length word == 128 && is_none (position (λ x. x == 44) word)) ≡ false = no_vector words word (length word == 128) (is_none (position (λ x. x == 44) word)) is refl in
+    rw list (listed_is (parts_of word) ∙ chain_again 7 [] words (parts_of word) is.0 is.1)
+line_again words word (inr is) =
+    let size = is.size in
+    let none = is.no_comma in
+    rw (← none, size) (vector_is word ∙ numbers_again [] words (sixteens word) is.numbers)
+
+pub payload_read : (form : Form) (word : List ℕ) (payload : Payload) → payload_of form word ≡ Some payload → IsPayload form payload word
+payload_read forms.Nothing word payload e = let same : payloads.Nothing ≡ payload = cc in subst (λ (p : Payload). IsPayload forms.Nothing p word) same tt
+payload_read forms.Words word payload e =
+    let one = bound (line_words_of word) (λ ws. Some (payloads.Words ws)) payload e in
+    let same : payloads.Words one.0 ≡ payload = let last = one.2 in cc in
+    subst (λ (p : Payload). IsPayload forms.Words p word) same (line_read word one.0 one.1)
+payload_read forms.Value word payload e =
+    let one = bound (hex_of 0xffff_ffff_ffff_ffff word) (λ n. Some (payloads.Value n)) payload e in
+    let same : payloads.Value one.0 ≡ payload = let last = one.2 in cc in
+    subst (λ (p : Payload). IsPayload forms.Value p word) same (hex_read 0xffff_ffff_ffff_ffff one.0 word one.1)
+
+pub payload_again : (form : Form) (payload : Payload) (word : List ℕ) → IsPayload form payload word → payload_of form word ≡ Some payload
+payload_again forms.Nothing payloads.Nothing word is = refl
+payload_again forms.Nothing (payloads.Words ws) word is = absurd is
+payload_again forms.Nothing (payloads.Value n) word is = absurd is
+payload_again forms.Words payloads.Nothing word is = absurd is
+payload_again forms.Words (payloads.Words ws) word is = rw (line_again ws word is) refl
+payload_again forms.Words (payloads.Value n) word is = absurd is
+payload_again forms.Value payloads.Nothing word is = absurd is
+payload_again forms.Value (payloads.Words ws) word is = absurd is
+payload_again forms.Value (payloads.Value n) word is = rw (hex_again 0xffff_ffff_ffff_ffff n word is) refl

@@ -1,0 +1,11 @@
+pub mod FaultLemmas
+pub mod FlitLoop
+pub mod WordLemmas
+pub mod PartLemmas
+pub mod HexLemmas
+pub mod FieldLemmas
+pub mod OpcodeLemmas
+pub mod DataLemmas
+pub mod SeenLemmas
+pub mod LineLemmas
+pub mod FileLemmas

@@ -1,0 +1,114 @@
+-- The first word of a line.
+use Rattle.std.proofs.Common.{◌≡◌, ℕ, zero, suc, ◌+◌, ◌-◌, ◌<◌, ◌≤◌, Bool, true, false, not, cond, nat_lt, List, [], ◌∷◌, length, take, drop, Option, Some, None, filter, refl, ap, sym, subst, ◌∙◌, arith}
+use Rattle.std.specs.List.{slice_split, position, position_or_len, prefix_len}
+use Rattle.std.proofs.lemmas.Bool.Decides.{nat_tests}
+use Rattle.std.proofs.lemmas.List.{take_rest}
+use Rattle.std.proofs.lemmas.List.Splits.{slice_split-cons_yes}
+use Rattle.chi_script.proofs.LineLemmas.{cut_at, uncut}
+use Rattle.chi_trace.specs.Columns.{first_of}
+use Rattle.chi_trace.specs.Words.{has_bytes, is_blank, words_of}
+
+-- what was found, or not, of a test on two numbers
+found : (n m i : ℕ) → Some i ≡ cond (nat_lt n m) (Some n) None → (n < m) × (i ≡ n)
+found n m i e = grind (arith, nat_tests)
+
+not_found : (n m : ℕ) → None ≡ cond (nat_lt n m) (Some n) None → m ≤ n
+not_found n m e = grind (arith, nat_tests)
+
+-- a blank more in front changes nothing
+behind_blank : (b : ℕ) (bs : List ℕ) → is_blank b ≡ true → words_of (b ∷ bs) ≡ words_of bs
+unfolding words_of
+behind_blank b bs is = ap (filter has_bytes) (slice_split-cons_yes is_blank b bs is)
+
+abbrev pub begins : List ℕ → Bool
+begins [] = false
+begins (b ∷ bs) = not (is_blank b)
+
+-- how many blanks stand in front
+abbrev blanks : List ℕ → ℕ
+blanks xs = prefix_len (λ b. not (not (is_blank b))) xs
+
+blanks_yes : (b : ℕ) (bs : List ℕ) → is_blank b ≡ true → blanks (b ∷ bs) ≡ suc (blanks bs)
+blanks_yes b bs is = ap (λ (v : Bool). cond (not (not v)) (1 + blanks bs) 0) is ∙ omega arith
+
+blanks_no : (b : ℕ) (bs : List ℕ) → is_blank b ≡ false → blanks (b ∷ bs) ≡ 0
+blanks_no b bs is = ap (λ (v : Bool). cond (not (not v)) (1 + blanks bs) 0) is
+
+-- the same words, and no blank in front
+pub record IsText (xs text : List ℕ) : Type 0 where
+  pub same : words_of text ≡ words_of xs
+  pub first : begins text ≡ true
+
+text_case : (b : ℕ) (bs : List ℕ) (blank : Bool) → is_blank b ≡ blank → blanks (b ∷ bs) < length (b ∷ bs)
+    → (blanks bs < length bs → IsText bs (drop (blanks bs) bs)) → IsText (b ∷ bs) (drop (blanks (b ∷ bs)) (b ∷ bs))
+text_case b bs true is low go =
+    let e = blanks_yes b bs is in
+    let rest = go (omega (arith, e, low)) in
+    subst (λ (n : ℕ). IsText (b ∷ bs) (drop n (b ∷ bs))) (sym e) (record { same = rest.same ∙ sym (behind_blank b bs is); first = rest.first })
+text_case b bs false is low go =
+    subst (λ (n : ℕ). IsText (b ∷ bs) (drop n (b ∷ bs))) (sym (blanks_no b bs is)) (record { same = refl; first = ap not is })
+
+text_of : (xs : List ℕ) → blanks xs < length xs → IsText xs (drop (blanks xs) xs)
+text_of [] low = absurd (omega (arith, low))
+text_of (b ∷ bs) low = text_case b bs (is_blank b) refl low (text_of bs)
+
+all_case : (b : ℕ) (bs : List ℕ) (blank : Bool) → is_blank b ≡ blank → length (b ∷ bs) ≤ blanks (b ∷ bs) → (length bs ≤ blanks bs → words_of bs ≡ []) → words_of (b ∷ bs) ≡ []
+all_case b bs true is le go = behind_blank b bs is ∙ go (omega (arith, blanks_yes b bs is, le))
+all_case b bs false is le go = absurd (omega (arith, blanks_no b bs is, le))
+
+all_blank : (xs : List ℕ) → length xs ≤ blanks xs → words_of xs ≡ []
+unfolding words_of
+all_blank [] le = refl
+all_blank (b ∷ bs) le = all_case b bs (is_blank b) refl le (all_blank bs)
+
+has_first : (text : List ℕ) (i : ℕ) → begins text ≡ true → Some i ≡ position is_blank text → has_bytes (take i text) ≡ true
+has_first [] i first e = absurd (cc (first))
+has_first (b ∷ bs) i first e =
+    let at = found (position_or_len is_blank (b ∷ bs)) (length (b ∷ bs)) i e in
+    let one : position_or_len is_blank (b ∷ bs) ≡ suc (prefix_len (λ x. not (is_blank x)) bs) = ap (λ (v : Bool). cond v (1 + prefix_len (λ x. not (is_blank x)) bs) 0) first ∙ omega arith in
+    subst (λ (n : ℕ). has_bytes (take n (b ∷ bs)) ≡ true) (sym (at.1 ∙ one)) refl
+
+has_all : (text : List ℕ) → begins text ≡ true → has_bytes text ≡ true
+has_all [] first = absurd (cc (first))
+has_all (b ∷ bs) first = refl
+
+-- what stands behind the blank at a place
+abbrev behind : List ℕ → ℕ → List ℕ
+behind text i = take (length text - (i + 1)) (drop (i + 1) text)
+
+first_cut : (text : List ℕ) (i : ℕ) → begins text ≡ true → Some i ≡ position is_blank text → first_of (words_of text) ≡ Some (take i text, words_of (behind text i))
+unfolding words_of
+first_cut text i first e =
+    let cut = cut_at is_blank text 0 i e in
+    let some = has_first text i first e in
+    rw (cut.0, some) refl
+
+first_whole : (text : List ℕ) → begins text ≡ true → None ≡ position is_blank text → first_of (words_of text) ≡ Some (text, words_of [])
+unfolding words_of
+first_whole text first e =
+    let some = has_all text first in
+    rw (uncut is_blank text e, some) refl
+
+-- the line from its first byte on that isn't blank
+abbrev from : List ℕ → ℕ → List ℕ
+from line i = take (length line - i) (drop i line)
+
+line_text : (line : List ℕ) (i : ℕ) → Some i ≡ position (λ b. not (is_blank b)) line → IsText line (from line i)
+line_text line i e =
+    let at = found (position_or_len (λ b. not (is_blank b)) line) (length line) i e in
+    rw (take_rest line i, at.1) (text_of line at.0)
+
+pub no_word : (line : List ℕ) → None ≡ position (λ b. not (is_blank b)) line → None ≡ first_of (words_of line)
+no_word line e = sym (ap first_of (all_blank line (not_found (position_or_len (λ b. not (is_blank b)) line) (length line) e)))
+
+pub first_of_more : (line : List ℕ) (i j : ℕ) → Some i ≡ position (λ b. not (is_blank b)) line → Some j ≡ position is_blank (from line i)
+    → Some (take j (from line i), words_of (behind (from line i) j)) ≡ first_of (words_of line)
+first_of_more line i j e f =
+    let text = line_text line i e in
+    sym (ap first_of (sym text.same) ∙ first_cut (from line i) j text.first f)
+
+pub first_of_one : (line : List ℕ) (i : ℕ) → Some i ≡ position (λ b. not (is_blank b)) line → None ≡ position is_blank (from line i)
+    → Some (from line i, words_of []) ≡ first_of (words_of line)
+first_of_one line i e f =
+    let text = line_text line i e in
+    sym (ap first_of (sym text.same) ∙ first_whole (from line i) text.first f)

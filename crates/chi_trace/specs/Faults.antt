@@ -1,0 +1,17 @@
+-- How the faults of reading a trace are told (docs/FORMATS.md, "Traces").
+use Rattle.std.specs.Prelude.{◌≡◌, Result, Ok, Err}
+use Rattle.chi_trace.specs.declared.faults.Fault.{Fault}
+use Rattle.chi_trace.specs.declared.faults.Fault.TheVariants.{NoMemory, TooLarge, MissingNewline, FewWords, BadWord}
+
+-- a fault that reading answers is the one that the grammar names, but for want of memory
+abbrev pub Fails : {Y : Type 0} → Fault → Result Y Fault → Type 0
+Fails NoMemory read = Unit {0}
+Fails TooLarge read = read ≡ Err TooLarge
+Fails (MissingNewline line) read = read ≡ Err (MissingNewline line)
+Fails (FewWords line) read = read ≡ Err (FewWords line)
+Fails (BadWord line column) read = read ≡ Err (BadWord line column)
+
+-- what a function returned, seen by view, is what the grammar reads, unless memory ran out
+abbrev pub Gives : {X Y : Type 0} → (X → Y) → Result X Fault → Result Y Fault → Type 0
+Gives view (Ok x) read = read ≡ Ok (view x)
+Gives view (Err fault) read = Fails fault read

@@ -1,0 +1,119 @@
+-- What the columns of a flit hold (docs/FORMATS.md, "Traces").
+use Rattle.std.specs.Prelude.{ℕ, ◌==◌, ◌&&◌, Bool, true, false, List, [], ◌∷◌, Option, Some, None, if◌then◌else◌, codes, is_none, length, slice_range}
+use Rattle.std.specs.List.{position, slice_split}
+use Rattle.std.specs.Option.{option_map}
+use Rattle.chi_script.specs.Words.{◌>>=◌, is_text}
+use Rattle.chi_trace.specs.Numbers.{hex_of}
+use Rattle.chi_trace.specs.declared.fields.NodeId.{NodeId}
+use Rattle.chi_trace.specs.declared.fields.TxnId.{TxnId}
+use Rattle.chi_trace.specs.declared.fields.DbId.{DbId}
+use Rattle.chi_trace.specs.declared.fields.PcrdType.{PcrdType}
+use Rattle.chi_trace.specs.declared.fields.Address.{Address}
+use Rattle.chi_trace.specs.declared.fields.Resp.{Resp}
+use Rattle.chi_trace.specs.declared.fields.Resp.TheVariants.{I, SC, UC, UD, SD, IPD, SCPD, UCPD, UDPD, SDPD}
+use Rattle.chi_trace.specs.declared.fields.Payload.{Payload}
+use Rattle.chi_trace.specs.declared.fields.Payload.TheVariants as payloads
+use Rattle.chi_trace.specs.declared.uses.Form.{Form}
+use Rattle.chi_trace.specs.declared.uses.Form.TheVariants as forms
+
+-- there is nothing
+abbrev pub is_dash : List ℕ → Bool
+is_dash word = is_text word (codes "-")
+
+-- numbers of 16 bits, of 4 and of 64
+abbrev pub node_of : List ℕ → Option NodeId
+node_of word = hex_of 0xffff word >>= λ n. Some (record { 0 = n })
+
+abbrev pub txn_of : List ℕ → Option TxnId
+txn_of word = hex_of 0xffff word >>= λ n. Some (record { 0 = n })
+
+abbrev pub dbid_of : List ℕ → Option DbId
+dbid_of word = hex_of 0xffff word >>= λ n. Some (record { 0 = n })
+
+abbrev pub pcrd_of : List ℕ → Option PcrdType
+pcrd_of word = hex_of 0xf word >>= λ n. Some (record { 0 = n })
+
+abbrev pub address_of : List ℕ → Option Address
+address_of word = hex_of 0xffff_ffff_ffff_ffff word >>= λ n. Some (record { 0 = n })
+
+-- whether AllowRetry is asserted
+abbrev pub allow_of : List ℕ → Option Bool
+allow_of word = if is_text word (codes "1") then Some true else (if is_text word (codes "0") then Some false else None)
+
+abbrev pub resp_text : Resp → List ℕ
+resp_text I = codes "I"
+resp_text SC = codes "SC"
+resp_text UC = codes "UC"
+resp_text UD = codes "UD"
+resp_text SD = codes "SD"
+resp_text IPD = codes "I_PD"
+resp_text SCPD = codes "SC_PD"
+resp_text UCPD = codes "UC_PD"
+resp_text UDPD = codes "UD_PD"
+resp_text SDPD = codes "SD_PD"
+
+unfoldable pub resp_of : List ℕ → Option Resp
+resp_of word =
+    if is_text word (resp_text I) then Some I else (
+    if is_text word (resp_text SC) then Some SC else (
+    if is_text word (resp_text UC) then Some UC else (
+    if is_text word (resp_text UD) then Some UD else (
+    if is_text word (resp_text SD) then Some SD else (
+    if is_text word (resp_text IPD) then Some IPD else (
+    if is_text word (resp_text SCPD) then Some SCPD else (
+    if is_text word (resp_text UCPD) then Some UCPD else (
+    if is_text word (resp_text UDPD) then Some UDPD else (
+    if is_text word (resp_text SDPD) then Some SDPD else None)))))))))
+
+-- a word of the line, or none where it is in another beat
+abbrev pub word_of : List ℕ → Option (Option ℕ)
+word_of part = if is_text part (codes "x") then Some None else (hex_of 0xffff_ffff_ffff_ffff part >>= λ n. Some (Some n))
+
+-- a comma stands between two words of a list
+abbrev pub parts_of : List ℕ → List (List ℕ)
+parts_of list = slice_split (λ b. b == 44) list
+
+abbrev pub first_of : List (List ℕ) → Option (Option ℕ × List (List ℕ))
+first_of [] = None
+first_of (part ∷ []) = None
+first_of (part ∷ next ∷ rest) = word_of part >>= λ w. Some (w, next ∷ rest)
+
+abbrev pub only_of : List (List ℕ) → Option (Option ℕ)
+only_of [] = None
+only_of (part ∷ []) = word_of part
+only_of (part ∷ next ∷ rest) = None
+
+-- eight words
+unfoldable pub listed_of : List (List ℕ) → Option (List (Option ℕ))
+listed_of parts = do
+  w0 ← first_of parts
+  w1 ← first_of w0.1
+  w2 ← first_of w1.1
+  w3 ← first_of w2.1
+  w4 ← first_of w3.1
+  w5 ← first_of w4.1
+  w6 ← first_of w5.1
+  w7 ← only_of w6.1
+  Some (w0.0 ∷ w1.0 ∷ w2.0 ∷ w3.0 ∷ w4.0 ∷ w5.0 ∷ w6.0 ∷ w7 ∷ [])
+
+-- one number of 512 bits, word 7 first
+unfoldable pub vector_of : List ℕ → Option (List (Option ℕ))
+vector_of digits = do
+  w0 ← hex_of 0xffff_ffff_ffff_ffff (slice_range digits 112 128)
+  w1 ← hex_of 0xffff_ffff_ffff_ffff (slice_range digits 96 112)
+  w2 ← hex_of 0xffff_ffff_ffff_ffff (slice_range digits 80 96)
+  w3 ← hex_of 0xffff_ffff_ffff_ffff (slice_range digits 64 80)
+  w4 ← hex_of 0xffff_ffff_ffff_ffff (slice_range digits 48 64)
+  w5 ← hex_of 0xffff_ffff_ffff_ffff (slice_range digits 32 48)
+  w6 ← hex_of 0xffff_ffff_ffff_ffff (slice_range digits 16 32)
+  w7 ← hex_of 0xffff_ffff_ffff_ffff (slice_range digits 0 16)
+  Some (Some w0 ∷ Some w1 ∷ Some w2 ∷ Some w3 ∷ Some w4 ∷ Some w5 ∷ Some w6 ∷ Some w7 ∷ [])
+
+-- a list, or one number of 128 digits
+abbrev pub line_words_of : List ℕ → Option (List (Option ℕ))
+line_words_of word = if length word == 128 && is_none (position (λ b. b == 44) word) then vector_of word else listed_of (parts_of word)
+
+abbrev pub payload_of : Form → List ℕ → Option Payload
+payload_of forms.Nothing word = Some payloads.Nothing
+payload_of forms.Words word = line_words_of word >>= λ ws. Some (payloads.Words ws)
+payload_of forms.Value word = hex_of 0xffff_ffff_ffff_ffff word >>= λ n. Some (payloads.Value n)

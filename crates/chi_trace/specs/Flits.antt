@@ -1,0 +1,71 @@
+-- The flit that a line is (docs/FORMATS.md, "Traces").
+use Rattle.std.specs.Prelude.{ℕ, ◌==◌, Bool, false, List, [], ◌∷◌, Option, Some, None, Result, Ok, Err, if◌then◌else◌, ok_or}
+use Rattle.chi_trace.specs.declared.columns.Column.{Column}
+use Rattle.chi_trace.specs.declared.columns.Column.TheVariants as columns
+use Rattle.chi_trace.specs.declared.faults.Fault.{Fault}
+use Rattle.chi_trace.specs.declared.faults.Fault.TheVariants.{BadWord, FewWords}
+use Rattle.chi_trace.specs.declared.flits.Seen.{Seen}
+use Rattle.chi_trace.specs.declared.opcodes.Opcode.{Opcode}
+use Rattle.chi_trace.specs.Columns.{Row, first_of, row_behind}
+use Rattle.chi_trace.specs.Fields.{address_of, allow_of, dbid_of, node_of, payload_of, pcrd_of, resp_of, txn_of}
+use Rattle.chi_trace.specs.Opcodes.{channel_in, opcode_in}
+use Rattle.chi_trace.specs.Uses.{address_use, allow_use, dbid_use, form_of, pcrd_use, resp_use, target_use, txn_use, used_in}
+
+infixl 10 ◌>>=◌
+abbrev pub ◌>>=◌ : {A B : Type 0} → Result A Column → (A → Result B Column) → Result B Column
+(Ok x) >>= next = next x
+(Err column) >>= next = Err column
+
+abbrev pub opcode_of : Row → Result Opcode Column
+opcode_of row = ok_or (channel_in row.channel) columns.Channel >>= λ channel. ok_or (opcode_in channel row.opcode) columns.Opcode
+
+-- the flit of line n with these columns, or the first column that is wrong
+unfoldable pub seen_of : ℕ → Row → Result Seen Column
+seen_of n row = do
+  opcode ← opcode_of row
+  source ← ok_or (node_of row.source) columns.Source
+  target ← used_in (target_use opcode) row.target (node_of row.target) columns.Target
+  txn ← used_in (txn_use opcode) row.txn (txn_of row.txn) columns.Txn
+  address ← used_in (address_use opcode) row.address (address_of row.address) columns.Address
+  resp ← used_in (resp_use opcode) row.resp (resp_of row.resp) columns.Resp
+  dbid ← used_in (dbid_use opcode resp) row.dbid (dbid_of row.dbid) columns.Dbid
+  allow ← used_in (allow_use opcode) row.allow_retry (allow_of row.allow_retry) columns.AllowRetry
+  pcrd ← used_in (pcrd_use opcode allow) row.pcrd (pcrd_of row.pcrd) columns.Pcrd
+  payload ← ok_or (payload_of (form_of opcode) row.payload) columns.Data
+  Ok (record {
+    line = n;
+    opcode = opcode;
+    source = source;
+    target = target;
+    txn = txn;
+    address = address;
+    resp = resp;
+    dbid = dbid;
+    allow_retry = allow;
+    pcrd = pcrd;
+    payload = payload;
+  })
+
+-- a line whose first word begins with #
+abbrev pub is_comment : List ℕ → Bool
+is_comment [] = false
+is_comment (b ∷ bs) = b == 35
+
+-- which column of line n is wrong
+abbrev pub told_at : ℕ → Result Seen Column → Result (Option Seen) Fault
+told_at n (Ok seen) = Ok (Some seen)
+told_at n (Err column) = Err (BadWord n column)
+
+-- the flit of line n with these columns, if there are so many
+abbrev pub flit_of_row : ℕ → Option Row → Result (Option Seen) Fault
+flit_of_row n None = Err (FewWords n)
+flit_of_row n (Some row) = told_at n (seen_of n row)
+
+-- the same of a first word and those behind it; none where it is a comment or there is no word
+abbrev pub flit_from : ℕ → Option (List ℕ × List (List ℕ)) → Result (Option Seen) Fault
+flit_from n None = Ok None
+flit_from n (Some found) = if is_comment found.0 then Ok None else flit_of_row n (row_behind found.0 found.1)
+
+-- the flit of line n with these words
+abbrev pub flit_at : ℕ → List (List ℕ) → Result (Option Seen) Fault
+flit_at n words = flit_from n (first_of words)

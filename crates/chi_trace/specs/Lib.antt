@@ -1,0 +1,10 @@
+pub mod Words
+pub mod Numbers
+pub mod Columns
+pub mod Fields
+pub mod Opcodes
+pub mod Uses
+pub mod Flits
+pub mod Faults
+pub mod Files
+pub mod Spelling

@@ -1,0 +1,149 @@
+-- How traces are written (docs/FORMATS.md, "Traces"): apart from how they are read.
+use Rattle.std.specs.Prelude.{◌≡◌, ◌⊎◌, ◌==◌, ℕ, ◌+◌, ◌*◌, ◌≤◌, Bool, true, false, List, [], ◌∷◌, ◌++◌, Option, Some, None, codes, length, slice_range}
+use Rattle.std.specs.List.{position}
+use Rattle.chi_script.specs.Files.{lines_of}
+use Rattle.chi_trace.specs.declared.fields.Address.{Address}
+use Rattle.chi_trace.specs.declared.fields.DbId.{DbId}
+use Rattle.chi_trace.specs.declared.fields.NodeId.{NodeId}
+use Rattle.chi_trace.specs.declared.fields.Payload.{Payload}
+use Rattle.chi_trace.specs.declared.fields.Payload.TheVariants as payloads
+use Rattle.chi_trace.specs.declared.fields.PcrdType.{PcrdType}
+use Rattle.chi_trace.specs.declared.fields.Resp.{Resp}
+use Rattle.chi_trace.specs.declared.fields.TxnId.{TxnId}
+use Rattle.chi_trace.specs.declared.flits.Seen.{Seen}
+use Rattle.chi_trace.specs.declared.uses.Form.{Form}
+use Rattle.chi_trace.specs.declared.uses.Form.TheVariants as forms
+use Rattle.chi_trace.specs.declared.uses.Use.{Use}
+use Rattle.chi_trace.specs.declared.uses.Use.TheVariants.{Needed, Allowed, Unused}
+use Rattle.chi_trace.specs.Columns.{Row}
+use Rattle.chi_trace.specs.Fields.{parts_of, resp_text}
+use Rattle.chi_trace.specs.Flits.{is_comment}
+use Rattle.chi_trace.specs.Numbers.{digit_of}
+use Rattle.chi_trace.specs.Opcodes.{channel_of, channel_text, opcode_text}
+use Rattle.chi_trace.specs.Uses.{address_use, allow_use, dbid_use, form_of, pcrd_use, resp_use, target_use, txn_use}
+use Rattle.chi_trace.specs.Words.{words_of}
+
+-- digits that continue a number, in hexadecimal
+abbrev pub Continue : ℕ → ℕ → List ℕ → Type 0
+Continue n front [] = n ≡ front
+Continue n front (d ∷ ds) = (v : ℕ) × (digit_of d ≡ Some v) × Continue n (front * 16 + v) ds
+
+-- a number of one digit or more, within the most that there may be
+abbrev pub IsHex : ℕ → ℕ → List ℕ → Type 0
+IsHex most n [] = ⊥
+IsHex most n (d ∷ ds) = Continue n 0 (d ∷ ds) × (n ≤ most)
+
+abbrev pub IsNode : NodeId → List ℕ → Type 0
+IsNode node word = IsHex 0xffff node.0 word
+
+abbrev pub IsTxn : TxnId → List ℕ → Type 0
+IsTxn txn word = IsHex 0xffff txn.0 word
+
+abbrev pub IsDbid : DbId → List ℕ → Type 0
+IsDbid dbid word = IsHex 0xffff dbid.0 word
+
+abbrev pub IsPcrd : PcrdType → List ℕ → Type 0
+IsPcrd ty word = IsHex 0xf ty.0 word
+
+abbrev pub IsAddress : Address → List ℕ → Type 0
+IsAddress address word = IsHex 0xffff_ffff_ffff_ffff address.0 word
+
+abbrev pub IsAllow : Bool → List ℕ → Type 0
+IsAllow true word = word ≡ codes "1"
+IsAllow false word = word ≡ codes "0"
+
+abbrev pub IsResp : Resp → List ℕ → Type 0
+IsResp resp word = word ≡ resp_text resp
+
+-- a field by its use: where a flit has it, it is there and written so, or left out where it may be
+abbrev pub Holds : {A : Type 0} → (A → List ℕ → Type 0) → Use → Option A → List ℕ → Type 0
+Holds Is Unused field word = field ≡ None
+Holds Is Needed None word = ⊥
+Holds Is Needed (Some x) word = Is x word
+Holds Is Allowed None word = word ≡ codes "-"
+Holds Is Allowed (Some x) word = Is x word
+
+-- a word of a line, or x where it is in another beat
+abbrev pub IsWord : Option ℕ → List ℕ → Type 0
+IsWord None text = text ≡ codes "x"
+IsWord (Some n) text = IsHex 0xffff_ffff_ffff_ffff n text
+
+abbrev pub AreWords : List (Option ℕ) → List (List ℕ) → Type 0
+AreWords [] [] = Unit {0}
+AreWords (w ∷ ws) (text ∷ texts) = IsWord w text × AreWords ws texts
+AreWords ws texts = ⊥
+
+-- the words of a list
+abbrev pub AreListed : List (Option ℕ) → List ℕ → Type 0
+AreListed words list = AreWords words (parts_of list) × (length words ≡ 8)
+
+-- sixteen digits each, the last first
+abbrev pub sixteens : List ℕ → List (List ℕ)
+sixteens digits =
+    slice_range digits 112 128 ∷ slice_range digits 96 112 ∷ slice_range digits 80 96 ∷ slice_range digits 64 80 ∷
+    slice_range digits 48 64 ∷ slice_range digits 32 48 ∷ slice_range digits 16 32 ∷ slice_range digits 0 16 ∷ []
+
+abbrev pub AreNumbers : List (Option ℕ) → List (List ℕ) → Type 0
+AreNumbers [] [] = Unit {0}
+AreNumbers (Some n ∷ ws) (text ∷ texts) = IsHex 0xffff_ffff_ffff_ffff n text × AreNumbers ws texts
+AreNumbers ws texts = ⊥
+
+-- the words of one number of 128 digits
+pub record IsVector (words : List (Option ℕ)) (digits : List ℕ) : Type 0 where
+  pub size : length digits ≡ 128
+  pub no_comma : None ≡ position (λ b. b == 44) digits
+  pub numbers : AreNumbers words (sixteens digits)
+
+abbrev pub IsPayload : Form → Payload → List ℕ → Type 0
+IsPayload forms.Nothing payloads.Nothing word = Unit {0}
+IsPayload forms.Words (payloads.Words words) word = AreListed words word ⊎ IsVector words word
+IsPayload forms.Value (payloads.Value n) word = IsHex 0xffff_ffff_ffff_ffff n word
+IsPayload form payload word = ⊥
+
+-- the columns of line n, which is this flit; the columns that a flit hasn't may hold anything
+pub record IsFlit (n : ℕ) (seen : Seen) (row : Row) : Type 0 where
+  pub line : seen.line ≡ n
+  pub channel : row.channel ≡ channel_text (channel_of seen.opcode)
+  pub opcode : row.opcode ≡ opcode_text seen.opcode
+  pub source : IsNode seen.source row.source
+  pub target : Holds IsNode (target_use seen.opcode) seen.target row.target
+  pub txn : Holds IsTxn (txn_use seen.opcode) seen.txn row.txn
+  pub address : Holds IsAddress (address_use seen.opcode) seen.address row.address
+  pub resp : Holds IsResp (resp_use seen.opcode) seen.resp row.resp
+  pub dbid : Holds IsDbid (dbid_use seen.opcode seen.resp) seen.dbid row.dbid
+  pub allow_retry : Holds IsAllow (allow_use seen.opcode) seen.allow_retry row.allow_retry
+  pub pcrd : Holds IsPcrd (pcrd_use seen.opcode seen.allow_retry) seen.pcrd row.pcrd
+  pub payload : IsPayload (form_of seen.opcode) seen.payload row.payload
+
+-- the words of a row, with whatever words behind them
+abbrev pub row_words : Row → List (List ℕ) → List (List ℕ)
+row_words row more =
+    row.channel ∷ row.source ∷ row.target ∷ row.txn ∷ row.opcode ∷ row.address ∷
+    row.resp ∷ row.dbid ∷ row.allow_retry ∷ row.pcrd ∷ row.payload ∷ more
+
+-- line n, which is this flit: its columns, and whatever words behind them
+pub record IsFlitLine (n : ℕ) (seen : Seen) (line : List ℕ) : Type 0 where
+  pub row : Row
+  pub more : List (List ℕ)
+  pub words : words_of line ≡ row_words row more
+  pub flit : IsFlit n seen row
+
+-- a line without words, or one whose first word begins with #
+abbrev pub IsComment : List (List ℕ) → Type 0
+IsComment [] = Unit {0}
+IsComment (first ∷ rest) = is_comment first ≡ true
+
+-- the lines from line n on are comments and these flits, in their order
+abbrev pub AreFlits : ℕ → List Seen → List (List ℕ) → Type 0
+AreFlits n flits [] = flits ≡ []
+AreFlits n flits (line ∷ lines) =
+    (IsComment (words_of line) × AreFlits (n + 1) flits lines)
+    ⊎ ((seen : Seen) × (later : List Seen) × (flits ≡ seen ∷ later) × IsFlitLine n seen line × AreFlits (n + 1) later lines)
+
+-- a file that is a trace of these flits: lines with a line end behind each, and no more bytes than a trace may
+-- have
+pub record IsTrace (flits : List Seen) (file : List ℕ) : Type 0 where
+  pub size : length file ≤ 67108864
+  pub lines : List (List ℕ)
+  pub closed : lines_of file ≡ lines ++ [] ∷ []
+  pub text : AreFlits 1 flits lines

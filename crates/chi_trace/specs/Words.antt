@@ -1,0 +1,15 @@
+-- The words of a line of a trace: what stands between blanks (docs/FORMATS.md, "Traces").
+use Rattle.std.specs.Prelude.{ℕ, ◌==◌, ◌||◌, not, Bool, true, false, List, [], ◌∷◌, filter}
+use Rattle.std.specs.List.{slice_split}
+
+-- a space, a tab, or the carriage return before a line end
+abbrev pub is_blank : ℕ → Bool
+is_blank b = (b == 32 || b == 9) || b == 13
+
+abbrev pub has_bytes : List ℕ → Bool
+has_bytes [] = false
+has_bytes (b ∷ bs) = true
+
+-- one blank or more stand between two words
+unfoldable pub words_of : List ℕ → List (List ℕ)
+words_of line = filter has_bytes (slice_split is_blank line)

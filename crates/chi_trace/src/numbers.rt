@@ -1,0 +1,57 @@
+//! Numbers as a trace writes them: in hexadecimal.
+
+ghost use Rattle.std.specs.Prelude.{◌≡◌, ◌≤◌, ◌<◌, IfSome};
+ghost use Rattle.chi_trace.specs.Numbers.{digit_of, digits_from, hex_of, with_digit};
+
+/// The number that the word writes in hexadecimal, with leading zeros or without, at most `most`. `None` for
+/// every other word.
+/// Source: `docs/FORMATS.md`, "Traces".
+pub(crate) fn hex(word: &[u8], most: u64) -> Option<u64>
+    ensures read { result ≡ hex_of most word.now }
+    ensures fits { IfSome result (λ number. number ≤ most) }
+{
+    match word {
+        [] => None,
+        [_, ..] => digits(word, most),
+    }
+}
+
+/// The number whose digits are all of `word`.
+#[tactic(auto, unfolding(crate::specs::Numbers::digits_from))]
+fn digits(word: &[u8], most: u64) -> Option<u64>
+    ensures read { result ≡ digits_from most 0 word.now }
+    ensures fits { IfSome result (λ number. number ≤ most) }
+{
+    let mut number = 0;
+    for digit in word {
+        number = with_digit(number, *digit, most)?;
+    }
+    Some(number)
+}
+
+/// The number with one more digit at its end.
+fn with_digit(number: u64, digit: u8, most: u64) -> Option<u64>
+    requires { number ≤ most }
+    ensures read { result ≡ with_digit most number digit }
+    ensures fits { IfSome result (λ number. number ≤ most) }
+{
+    let more = u128::from(number) * 16 + u128::from(digit_value(digit)?);
+    if more <= u128::from(most) {
+        Some(more as u64)
+    } else {
+        None
+    }
+}
+
+/// What a digit is worth.
+fn digit_value(digit: u8) -> Option<u8>
+    ensures value { result ≡ digit_of digit }
+    ensures small { IfSome result (λ value. value < 16) }
+{
+    match digit {
+        b'0'..=b'9' => Some(digit - b'0'),
+        b'a'..=b'f' => Some(digit - b'a' + 10),
+        b'A'..=b'F' => Some(digit - b'A' + 10),
+        _ => None,
+    }
+}

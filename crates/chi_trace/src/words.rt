@@ -1,0 +1,43 @@
+//! The words of a line, between which any number of blanks may stand.
+
+ghost use Rattle.std.specs.Prelude.{◌≡◌, not};
+ghost use Rattle.std.specs.List.{position};
+ghost use Rattle.std.specs.Option.{option_map};
+ghost use Rattle.chi_trace.specs.Columns.{first_of};
+ghost use Rattle.chi_trace.specs.Words.{is_blank, words_of};
+
+/// Whether the byte parts words: a space, a tab, or the carriage return before a line end.
+/// Source: `docs/FORMATS.md`, "Traces".
+#[inline(always)]
+fn is_blank(byte: u8) -> bool
+    ensures { result ≡ is_blank byte }
+{
+    byte == b' ' || byte == b'\t' || byte == b'\r'
+}
+
+/// The first word of a line, and what stands behind the blank after it. `None` where the line has no word.
+/// Source: `docs/FORMATS.md`, "Traces".
+pub(crate) fn first_word(line: &[u8]) -> Option<(&[u8], &[u8])>
+    ensures { option_map (λ found. (found.0.now, words_of found.1.now)) result ≡ first_of (words_of line.now) }
+{
+    let start = word_start(line)?;
+    let text = &line[start..];
+    match word_end(text) {
+        Some(end) => Some((&text[..end], &text[end + 1..])),
+        None => Some((text, &[])),
+    }
+}
+
+/// Where the first byte stands that isn't blank.
+fn word_start(line: &[u8]) -> Option<usize>
+    ensures { result ≡ position (λ byte. not (is_blank byte)) line.now }
+{
+    line.iter().position(|byte| !is_blank(*byte))
+}
+
+/// Where the first blank stands.
+fn word_end(text: &[u8]) -> Option<usize>
+    ensures { result ≡ position is_blank text.now }
+{
+    text.iter().position(|byte| is_blank(*byte))
+}
