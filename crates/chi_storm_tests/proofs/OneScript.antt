@@ -1,5 +1,5 @@
 -- The one script of one writer.
-use Rattle.std.proofs.Common.{◌≡◌, ◌<◌, List, [], ◌∷◌, ◌++◌, All, get_or, length, map, ◌∙◌, ap, subst, sym, arith}
+use Rattle.std.proofs.Common.{◌≡◌, ◌<◌, List, [], ◌∷◌, ◌++◌, All, get_or, length, map, ◌∙◌, ap, subst, sym, arith, rules}
 use Rattle.std.proofs.lemmas.List.Elements.{All-nil, All-push}
 use Rattle.atomic_table.specs.Seated.{TableId}
 use Rattle.chi_audit.specs.Tallies.{IsFresh, WriterState, agent_of}

@@ -1,6 +1,6 @@
 //! The verdict on a storm: what it is made of, and storms in which a slice is exchanged behind its lock.
 
-ghost use Rattle.std.specs.Prelude.{◌≡◌, ℕ, [], ◌∷◌, map};
+ghost use Rattle.std.specs.Prelude.{◌≡◌, map, vec_len};
 ghost use Rattle.chi_config.specs.Config.{two_types};
 ghost use Rattle.chi_node.specs.Node.{AreOwn};
 ghost use Rattle.chi_audit.specs.Numbers.{numbers};
@@ -19,8 +19,6 @@ use std::alloc::Global;
 use std::mem::swap;
 use std::process::Abort;
 use std::sync::{Mutex, Wait};
-use std::thread::Threads;
-use std::time::Clock;
 
 #[test]
 fn a_verdict_asks_each_of_its_parts(rt: HostRuntime) {
@@ -70,6 +68,7 @@ fn script_of(rt: &impl Abort, alloc: Global, writer: Writer) -> Script<Global>
 fn opened(rt: &impl Abort, alloc: Global) -> (Tallies, Vec<Script<Global>>)
     ensures fresh { AreFresh result.0 result.1.items }
     ensures writers { map writer_of result.1.items ≡ numbers 1 }
+    ensures count { vec_len result.1 ≡ 1 }
 {
     let made = chi_audit::tallies(alloc, 1);
     let (tallies, mut writers, _watcher) = made.expect(rt, "memory for tallies");
@@ -82,14 +81,14 @@ fn opened(rt: &impl Abort, alloc: Global) -> (Tallies, Vec<Script<Global>>)
 /// Exchanges the slice behind the lock of line 0 for another one at the beginning of the second turn, and back
 /// at that of the third.
 #[derive(Drop)]
-struct Exchange<'n, R> {
-    rt: &'n R,
+struct Exchanger<'r, 'n, R> {
+    rt: &'r R,
     node: &'n Node<Global>,
     other: Mutex<Slice<Global>>,
 }
 
 /// Exchanges the slice behind the lock of line 0 for the other.
-fn exchange<R: Wait>(rt: &R, node: &Node<Global>, other: &Mutex<Slice<Global>>) {
+fn swap_slices<R: Wait>(rt: &R, node: &Node<Global>, other: &Mutex<Slice<Global>>) {
     let Ok(mut slice) = node.lock(rt, Line(0)) else {
         return;
     };
@@ -97,10 +96,10 @@ fn exchange<R: Wait>(rt: &R, node: &Node<Global>, other: &Mutex<Slice<Global>>) 
     swap(&mut *slice, &mut *other);
 }
 
-impl<R: Wait + Sync> Gate for Exchange<'_, R> {
+impl<R: Wait + Sync> Gate for Exchanger<'_, '_, R> {
     fn pass(&self, _agent: Agent, turn: u64) {
         if turn == 2 || turn == 3 {
-            exchange(self.rt, self.node, &self.other);
+            swap_slices(self.rt, self.node, &self.other);
         }
     }
 }
@@ -117,23 +116,25 @@ fn another(rt: &impl Abort, alloc: Global) -> Mutex<Slice<Global>> {
 fn an_agent_that_meets_refusal_11_stops(rt: HostRuntime) {
     let (node, requesters) = node_of(&rt, rt.alloc());
     let (tallies, scripts) = opened(&rt, rt.alloc());
-    let gate = Exchange {
-        rt: &rt,
-        node: &node,
-        other: another(&rt, rt.alloc()),
+    let ended = {
+        let gate = Exchanger {
+            rt: &rt,
+            node: &node,
+            other: another(&rt, rt.alloc()),
+        };
+        let ran = run_agents(
+            &rt,
+            rt.alloc(),
+            &node,
+            &tallies,
+            requesters,
+            scripts,
+            1,
+            1_000,
+            &gate,
+        );
+        ran.expect(&rt, "memory and threads for agents")
     };
-    let ran = run_agents(
-        &rt,
-        rt.alloc(),
-        &node,
-        &tallies,
-        requesters,
-        scripts,
-        1,
-        1_000,
-        &gate,
-    );
-    let ended = ran.expect(&rt, "memory and threads for agents");
     assert!(rt; ended.not_open.get(0) == Some(&true));
     let outcome = outcome_of(&rt, node, ended);
     assert_eq!(rt; (outcome.agents, outcome.finished), (1, 0));
@@ -159,6 +160,6 @@ fn a_requester_that_does_not_agree_is_seen(rt: HostRuntime) {
     );
     let ended = ran.expect(&rt, "memory and threads for agents");
     assert!(rt; ended.not_open.get(0) == Some(&false));
-    exchange(&rt, &node, &another(&rt, rt.alloc()));
+    swap_slices(&rt, &node, &another(&rt, rt.alloc()));
     assert!(rt; !outcome_of(&rt, node, ended).coherent);
 }
