@@ -1,3 +1,9 @@
+pub mod Windows
+pub mod Places
+pub mod Slots
+pub mod Tried
+pub mod Choosing
+pub mod Marked
 pub mod Returns
 pub mod Counts
 pub mod Plays

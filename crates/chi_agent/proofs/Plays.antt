@@ -1,10 +1,10 @@
 -- Turns one after the other.
 use Rattle.std.proofs.Common.{◌≡◌, ℕ, suc, ◌+◌, ◌<◌, ◌%◌, ◌^◌, Bool, sym, ◌∙◌, ap, subst, arith}
 use Rattle.rand_chacha.specs.ChaCha.{ChaCha}
-use Rattle.chi_draws.specs.Stream.{word_after}
-use Rattle.chi_turns.specs.Turns.{count_after}
+use Rattle.chi_agent.specs.Draws.{word_after}
+use Rattle.chi_agent.specs.Turns.{count_after}
 use Rattle.chi_config.specs.Config.{Sizes}
-use Rattle.chi_turns.specs.declared.player.Player.{Player}
+use Rattle.chi_agent.specs.declared.player.Player.{Player}
 use Rattle.chi_agent.specs.Lives.{Played, Turned, word_of}
 
 -- one turn more

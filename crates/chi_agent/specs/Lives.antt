@@ -12,11 +12,11 @@ use Rattle.chi_node.specs.Agree.{KeepsAgreement}
 use Rattle.chi_node.specs.Credits.{GivesBack, Sees, Tends}
 use Rattle.chi_node.specs.Node.{IsSliceOf}
 use Rattle.chi_node.specs.Requester.{RequesterState, give_back_refusal, tend_refusal}
-use Rattle.chi_draws.specs.Stream.{start_of, word_after}
-use Rattle.chi_turns.specs.declared.player.Player.{Player}
-use Rattle.chi_turns.specs.Choice.{line_of}
-use Rattle.chi_turns.specs.Operations.{unissued_operation}
-use Rattle.chi_turns.specs.Turns.{after_refusal, HasEnded, IsFinished, TurnsTo}
+use Rattle.chi_agent.specs.Draws.{stream_of, word_after}
+use Rattle.chi_agent.specs.declared.player.Player.{Player}
+use Rattle.chi_agent.specs.Choice.{line_of}
+use Rattle.chi_agent.specs.Operations.{unissued_operation}
+use Rattle.chi_agent.specs.Turns.{after_refusal, HasEnded, IsFinished, TurnsTo}
 use Rattle.chi_audit.specs.declared.reports.Report.{Report}
 
 -- a credit of type t is given back, where that isn't refused
@@ -89,7 +89,7 @@ pub record Turned {A : Type 0} (config : Sizes) (x number : ℕ) (p p' : Player 
 
 -- the word of an agent's stream after so many
 abbrev pub word_of : ℕ → ℕ → ℕ → ℕ
-word_of seed agent k = word_after (record (start_of seed agent) { word_pos = k })
+word_of seed agent k = word_after (record (stream_of seed agent) { word_pos = k })
 
 -- so many turns lead from the first player to the other: turn k + 1 is that of word k
 abbrev pub Played : {A : Type 0} → Sizes → ℕ → ℕ → Player A → ℕ → Player A → Type 0

@@ -6,7 +6,7 @@ use Rattle.chi_config.specs.Config.{Sizes}
 use Rattle.chi_node.specs.Requester.{RequesterState}
 use Rattle.chi_audit.specs.declared.reports.Report.{Report}
 use Rattle.chi_audit.specs.Gathered.{AreToldKept}
-use Rattle.chi_turns.specs.declared.player.Player.{Player}
+use Rattle.chi_agent.specs.declared.player.Player.{Player}
 use Rattle.chi_agent.specs.declared.threads.Back.{Back}
 use Rattle.chi_agent.specs.Lives.{opening_player, IsReportOf, Lived}
 

@@ -1,7 +1,7 @@
 //! All turns of an agent.
 
 ghost use Rattle.std.specs.Prelude.{◌≡◌};
-ghost use Rattle.chi_draws.specs.Stream.{start_of};
+ghost use Rattle.chi_agent.specs.Draws.{stream_of};
 ghost use Rattle.chi_node.specs.Calls.{IsSameRequester};
 ghost use Rattle.chi_node.specs.Node.{IsOwn};
 ghost use Rattle.chi_agent.specs.Lives.{Lived};
@@ -34,7 +34,7 @@ pub(crate) fn live<R: Wait + Clock, A: Allocator, B: Allocator, G: Gate>(
     runner: &mut Runner<'_, A>,
 )
     requires own { IsOwn node.now runner.old.player.requester }
-    requires draws { runner.old.draws ≡ start_of plan.seed runner.old.player.requester.number }
+    requires draws { runner.old.draws ≡ stream_of plan.seed runner.old.player.requester.number }
     requires turns { runner.old.turns ≡ 0 }
     ensures lived { Lived node.now.config plan.seed plan.turns runner.old.player.requester.number
         runner.old.player runner.new.player }

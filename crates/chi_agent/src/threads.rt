@@ -9,18 +9,18 @@ ghost use Rattle.chi_audit.specs.Tallies.{IsFresh};
 ghost use Rattle.chi_agent.specs.Script.{operations_of, writer_of, AreFresh};
 ghost use Rattle.chi_agent.specs.Ended.{number_of, outbox_of, AreSame};
 
+use crate::draws::Draws;
 use crate::gates::Gate;
 use crate::lives::{Plan, live};
+use crate::player::Player;
 use crate::runner::Runner;
 use crate::scripts::Script;
 use crate::seats::{Seat, first_seat};
 use arrayvec::ArrayVec;
 use chi_audit::{Inbox, Outbox, Report, Sent, Tallies};
-use chi_draws::Draws;
 use chi_flit::NoMemory;
 use chi_node::{Node, Requester};
 use chi_slice::Config;
-use chi_turns::Player;
 use std::alloc::{Allocator, Global};
 use std::snapshot::Snapshot;
 use std::sync::Wait;
@@ -110,7 +110,7 @@ fn run<R: Wait + Clock, A: Allocator, G: Gate>(
         script,
         outbox,
     } = seat;
-    let draws = Draws::new(plan.seed, requester.number().0);
+    let draws = Draws::new(plan.seed, requester.number());
     let mut runner = Runner::new(tallies, script, requester, draws);
     live(rt, node, gate, ended, plan, &mut runner);
     let Runner { player, .. } = runner;

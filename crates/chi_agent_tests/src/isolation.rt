@@ -8,10 +8,9 @@ ghost use Rattle.chi_agent.specs.Script.{AreFresh};
 use crate::bench::{eight_scripts, eight_sizes, node_of, on, opened};
 use crate::guests::{Guest, guests_of};
 use crate::sights::Sights;
-use chi_agent::{OpenGate, Runner, Script};
+use chi_agent::{Draws, OpenGate, Runner, Script};
 use chi_audit::Tallies;
 use chi_credit::SlotState;
-use chi_draws::Draws;
 use chi_flit::{Line, Operation, Slot, Task, WordNo};
 use chi_node::Node;
 use std::alloc::Global;
@@ -35,7 +34,7 @@ impl<'t, 'n> Mover<'t, 'n> {
         requires { IsFresh tallies.now script.writer }
     {
         let Guest { node, requester } = guest;
-        let agent = requester.number().0;
+        let agent = requester.number();
         let draws = Draws::new(SEED, agent);
         let runner = Runner::new(tallies, script, requester, draws);
         Mover {

@@ -7,6 +7,8 @@ mod bench;
 #[cfg(test)]
 mod crossing;
 #[cfg(test)]
+mod draws;
+#[cfg(test)]
 mod gates;
 #[cfg(test)]
 mod guests;

@@ -3,12 +3,12 @@
 ghost use Rattle.std.specs.Prelude.{◌≡◌, [], ◌∷◌};
 ghost use Rattle.chi_config.specs.Config.{two_types};
 
+use chi_agent::{Operations, Player};
 use chi_credit::SlotState;
 use chi_flit::{Line, Operation, Slot, Task, WordNo};
 use chi_node::parts;
 use chi_slice::{Config, Slice};
 use chi_tracker::Tracker;
-use chi_turns::{Operations, Player};
 use std::alloc::Global;
 use std::marker::Model;
 use std::process::Abort;

@@ -1,7 +1,7 @@
 //! The window of a script: its first eight unfinished operations.
 
+use chi_agent::{Operations, Place};
 use chi_flit::{Line, Operation, Task};
-use chi_turns::{Operations, Place};
 use std::alloc::{AllocError, Allocator};
 
 /// Nine drops: eight on the lines 0 to 7, and one more on line 8.

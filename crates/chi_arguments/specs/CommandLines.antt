@@ -1,17 +1,19 @@
 -- What the words of a command line ask for, as clap reads them (docs/FORMATS.md, "The program").
-use Rattle.std.specs.Prelude.{◌≡◌, ℕ, List, [], ◌∷◌, true, Option, Some, None, Result, Ok, Err, codes, if◌then◌else◌}
+use Rattle.std.specs.Prelude.{◌≡◌, ℕ, Bool, List, [], ◌∷◌, true, Option, Some, None, Result, Ok, Err, codes, if◌then◌else◌}
 use Rattle.std.specs.Option.{option_and_then, option_map}
 use Rattle.std.specs.Str.{bytes_eq}
 use Rattle.clap.specs.Words.{App, Kinds, Row, Rule, Text, fault_of, first_of, new_app, new_rule, subcommand_of, with_rule, with_subcommand}
 use Rattle.clap.specs.Simple.{on_top}
-use Rattle.clap.specs.declared.builder.action.ArgAction.TheVariants.{Set}
+use Rattle.clap.specs.declared.builder.action.ArgAction.TheVariants.{Set, SetTrue}
 use Rattle.chi_flit.specs.declared.numbers.Line.{Line}
+use Rattle.chi_resolution.specs.declared.ledger.Types.{Types}
 use Rattle.chi_script.specs.Words.{◌>>=◌}
-use Rattle.chi_arguments.specs.Options.{only_of, seed_of, turns_of}
+use Rattle.chi_trace.specs.declared.fields.Address.{Address}
+use Rattle.chi_arguments.specs.Options.{asked_address_of, is_given, only_of, seed_of, turns_of, types_of}
 use Rattle.chi_arguments.specs.declared.faults.ArgFault.{ArgFault}
 use Rattle.chi_arguments.specs.declared.faults.ArgFault.TheVariants.{Bad, NoMemory}
 use Rattle.chi_arguments.specs.declared.jobs.Job.{Job}
-use Rattle.chi_arguments.specs.declared.jobs.Job.TheVariants.{Chart, Check, Replay, Storm}
+use Rattle.chi_arguments.specs.declared.jobs.Job.TheVariants.{Chart, Check, Explain, Replay, Storm}
 
 -- FILE: the file is one word, and has to be there
 abbrev pub file_rule : Rule
@@ -20,6 +22,10 @@ file_rule = record (new_rule (codes "FILE")) { required = true; action = Some Se
 -- --NAME VALUE: the option stands once at most
 abbrev pub option_rule : Text → Rule
 option_rule name = record (new_rule name) { long = Some name; action = Some Set }
+
+-- --NAME: the option has no value, and stands once at most
+abbrev pub flag_rule : Text → Rule
+flag_rule name = record (new_rule name) { long = Some name; action = Some SetTrue }
 
 -- `replay FILE`
 abbrev pub replay_line : App
@@ -33,6 +39,10 @@ check_line = with_rule (new_app (codes "check")) file_rule
 abbrev pub chart_line : App
 chart_line = with_rule (with_rule (new_app (codes "chart")) file_rule) (option_rule (codes "line"))
 
+-- `explain FILE [--types T] [--early-grants] [--line ADDR]`
+abbrev pub explain_line : App
+explain_line = with_rule (with_rule (with_rule (with_rule (new_app (codes "explain")) file_rule) (option_rule (codes "types"))) (flag_rule (codes "early-grants"))) (option_rule (codes "line"))
+
 -- `storm FILE [--seed N] [--turns N]`
 abbrev pub storm_line : App
 storm_line = with_rule (with_rule (with_rule (new_app (codes "storm")) file_rule) (option_rule (codes "seed"))) (option_rule (codes "turns"))
@@ -41,16 +51,19 @@ storm_line = with_rule (with_rule (with_rule (new_app (codes "storm")) file_rule
 abbrev pub program_line : App
 program_line = on_top (λ s. record s { subcommand_required = true }) (new_app (codes "chihome"))
 
--- the program's command lines: these four, and no other
+-- the program's command lines: these five, and no other
 abbrev pub command_lines : App
-command_lines = with_subcommand (with_subcommand (with_subcommand (with_subcommand program_line replay_line.top) check_line.top) chart_line.top) storm_line.top
+command_lines =
+    with_subcommand (with_subcommand (with_subcommand (with_subcommand (with_subcommand program_line replay_line.top) check_line.top) chart_line.top) explain_line.top) storm_line.top
 
 -- what a command line asks for: the replay of a file, its check, its chart, of one line alone where one is
--- given, or a storm with its seed and its turns
+-- given, the explanation of a trace, with its types of credit, whether grants may come early, and the one line
+-- that is written where one is given, or a storm with its seed and its turns
 pub data Asked : Type 0 where
   replay : Text → Asked
   check : Text → Asked
   chart : Text → Option Line → Asked
+  explain : Text → Types → Bool → Option Address → Asked
   storm : Text → ℕ → ℕ → Asked
 
 -- behind `replay` stands the path
@@ -68,6 +81,14 @@ chart_in rows = do
   only ← only_of (first_of (codes "line") rows)
   Some (chart path only)
 
+-- behind `explain` stand the path and the options
+abbrev pub explain_in : List Row → Option Asked
+explain_in rows = do
+  path ← first_of (codes "FILE") rows
+  types ← types_of (first_of (codes "types") rows)
+  only ← asked_address_of (first_of (codes "line") rows)
+  Some (explain path types (is_given (first_of (codes "early-grants") rows)) only)
+
 -- behind `storm` stand the path and the options
 abbrev pub storm_in : List Row → Option Asked
 storm_in rows = do
@@ -82,7 +103,8 @@ asked_behind (name, rows) =
     if bytes_eq name (codes "replay") then replay_in rows else (
     if bytes_eq name (codes "check") then check_in rows else (
     if bytes_eq name (codes "chart") then chart_in rows else (
-    if bytes_eq name (codes "storm") then storm_in rows else None)))
+    if bytes_eq name (codes "explain") then explain_in rows else (
+    if bytes_eq name (codes "storm") then storm_in rows else None))))
 
 -- the same, where the words have no fault
 abbrev pub asked_if : Kinds → Option (Text × List Row) → Option Asked
@@ -98,6 +120,7 @@ abbrev pub asked_by : Job → Asked
 asked_by (Replay path) = replay path.now
 asked_by (Check path) = check path.now
 asked_by (Chart path only) = chart path.now only
+asked_by (Explain path types early only) = explain path.now types early only
 asked_by (Storm path seed turns) = storm path.now seed turns
 
 -- the job is what was asked for, and the words are bad where nothing is; memory may run out at any words

@@ -1,8 +1,12 @@
--- The numbers of a chart's and a storm's options (docs/FORMATS.md, "The program").
-use Rattle.std.specs.Prelude.{ℕ, List, Option, Some, None, if◌then◌else◌}
+-- The values of options (docs/FORMATS.md, "The program").
+use Rattle.std.specs.Prelude.{ℕ, Bool, false, List, Option, Some, None, codes, if◌then◌else◌}
 use Rattle.chi_flit.specs.declared.numbers.Line.{Line}
+use Rattle.chi_resolution.specs.declared.ledger.Types.{Types}
+use Rattle.chi_resolution.specs.declared.ledger.Types.TheVariants.{Two, Four, Any}
 use Rattle.chi_script.specs.Headers.{is_from}
-use Rattle.chi_script.specs.Words.{◌>>=◌, number_of}
+use Rattle.chi_script.specs.Words.{◌>>=◌, is_text, number_of}
+use Rattle.chi_trace.specs.Fields.{address_of}
+use Rattle.chi_trace.specs.declared.fields.Address.{Address}
 
 -- the seed is any number of a replay file, and 1 where none is given
 abbrev pub seed_of : Option (List ℕ) → Option ℕ
@@ -19,3 +23,21 @@ turns_of (Some word) = number_of word >>= λ n. if is_from 1 4000000000 n then S
 abbrev pub only_of : Option (List ℕ) → Option (Option Line)
 only_of None = Some None
 only_of (Some word) = number_of word >>= λ n. if is_from 0 63 n then Some (Some (record { 0 = n })) else None
+
+-- the types of credit of a trace, and those of two types where none are given
+abbrev pub types_of : Option (List ℕ) → Option Types
+types_of None = Some Two
+types_of (Some word) =
+    if is_text word (codes "two") then Some Two else (
+    if is_text word (codes "four") then Some Four else (
+    if is_text word (codes "any") then Some Any else None))
+
+-- whether an option without a value was given: clap finds the text `true` then
+abbrev pub is_given : Option (List ℕ) → Bool
+is_given None = false
+is_given (Some word) = is_text word (codes "true")
+
+-- the line alone that is explained is named by an address of a trace, and there is none where none is given
+abbrev pub asked_address_of : Option (List ℕ) → Option (Option Address)
+asked_address_of None = Some None
+asked_address_of (Some word) = address_of word >>= λ a. Some (Some a)

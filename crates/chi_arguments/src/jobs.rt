@@ -3,11 +3,13 @@
 ghost use Rattle.std.specs.Prelude.{◌≡◌, IfOk, false, map};
 ghost use Rattle.std.specs.Option.{option_and_then, option_map};
 ghost use Rattle.clap.specs.Words.{app_of, first_of, found_of, rows_of, rule_of, subcommand_rows_of};
-ghost use Rattle.chi_arguments.specs.CommandLines.{Asks, asked_behind, asked_by, asked_in, chart_in, check_in, command_lines, file_rule, option_rule, replay_in, storm_in};
+ghost use Rattle.chi_arguments.specs.CommandLines.{Asks, asked_behind, asked_by, asked_in, chart_in, check_in, command_lines, explain_in, file_rule, flag_rule, option_rule, replay_in, storm_in};
 
 use crate::faults::ArgFault;
-use crate::options::{only, seed, turns};
+use crate::options::{address, is_given, only, seed, turns, types};
 use chi_flit::Line;
+use chi_resolution::Types;
+use chi_trace::Address;
 use clap::{Arg, ArgAction, ArgMatches, Command};
 use std::alloc::{AllocError, Global};
 
@@ -25,6 +27,17 @@ pub enum Job<'a> {
         path: &'a str,
         /// The line alone that is shown, 0 to 63; all lines where it isn't given.
         only: Option<Line>,
+    },
+    /// `explain FILE [--types two|four|any] [--early-grants] [--line ADDR]`: holds the trace at this path against the
+    /// model.
+    Explain {
+        path: &'a str,
+        /// Which types of credit it has; those of profile `Two` where it isn't given.
+        types: Types,
+        /// Whether its monitors stand at the requesters, where a grant may come before its RetryAck.
+        early_grants: bool,
+        /// The address of the line whose explanation is written as a check file, where one is given.
+        only: Option<Address>,
     },
     /// `storm FILE [--seed N] [--turns N]`: runs the scripts of the file at this path in threads.
     Storm {
@@ -59,14 +72,23 @@ const CHECK: &str = "check";
 /// The subcommand that draws a chart.
 const CHART: &str = "chart";
 
+/// The subcommand that explains a trace.
+const EXPLAIN: &str = "explain";
+
 /// The subcommand that runs a storm.
 const STORM: &str = "storm";
 
 /// The argument that is a file's path.
 const FILE: &str = "FILE";
 
-/// The option that is the line alone that a chart shows.
+/// The option that is the line alone that a chart shows, or the address of the line alone that is explained.
 const LINE: &str = "line";
+
+/// The option that says which types of credit a trace has.
+const TYPES: &str = "types";
+
+/// The option that says that grants may come early.
+const EARLY_GRANTS: &str = "early-grants";
 
 /// The option that is a storm's seed.
 const SEED: &str = "seed";
@@ -83,6 +105,11 @@ fn command_line<'a>(alloc: Global) -> Result<Command<'a>, AllocError>
     let chart = Command::new(alloc, CHART)
         .arg(file(alloc))?
         .arg(option(alloc, LINE))?;
+    let explain = Command::new(alloc, EXPLAIN)
+        .arg(file(alloc))?
+        .arg(option(alloc, TYPES))?
+        .arg(flag(alloc, EARLY_GRANTS))?
+        .arg(option(alloc, LINE))?;
     let storm = Command::new(alloc, STORM)
         .arg(file(alloc))?
         .arg(option(alloc, SEED))?
@@ -92,6 +119,7 @@ fn command_line<'a>(alloc: Global) -> Result<Command<'a>, AllocError>
         .subcommand(replay)?
         .subcommand(check)?
         .subcommand(chart)?
+        .subcommand(explain)?
         .subcommand(storm)
 }
 
@@ -111,6 +139,14 @@ fn option<'a>(alloc: Global, name: &'a str) -> Arg<'a>
     Arg::new(alloc, name).long(name).action(ArgAction::Set)
 }
 
+/// An option of this name that has no value.
+fn flag<'a>(alloc: Global, name: &'a str) -> Arg<'a>
+    ensures rule { rule_of result ≡ flag_rule name.entry.now }
+    ensures local { result.global ≡ false }
+{
+    Arg::new(alloc, name).long(name).action(ArgAction::SetTrue)
+}
+
 /// The job of the subcommand that was read.
 fn read_job<'a>(matches: &ArgMatches<'a>) -> Result<Job<'a>, ArgFault>
     ensures { Asks (option_and_then asked_behind (subcommand_rows_of matches.now)) result }
@@ -119,6 +155,7 @@ fn read_job<'a>(matches: &ArgMatches<'a>) -> Result<Job<'a>, ArgFault>
         Some((REPLAY, replay)) => read_replay(replay),
         Some((CHECK, check)) => read_check(check),
         Some((CHART, chart)) => read_chart(chart).ok_or(ArgFault::Bad),
+        Some((EXPLAIN, explain)) => read_explain(explain).ok_or(ArgFault::Bad),
         Some((STORM, storm)) => read_storm(storm).ok_or(ArgFault::Bad),
         _ => Err(ArgFault::Bad),
     }
@@ -151,6 +188,22 @@ fn read_chart<'a>(matches: &ArgMatches<'a>) -> Option<Job<'a>>
     let path = text_of(matches, FILE)?;
     let only = only(text_of(matches, LINE))?;
     Some(Job::Chart { path, only })
+}
+
+/// The job of `explain FILE` and its options.
+fn read_explain<'a>(matches: &ArgMatches<'a>) -> Option<Job<'a>>
+    ensures { option_map asked_by result ≡ explain_in (rows_of (found_of matches.now)) }
+{
+    let path = text_of(matches, FILE)?;
+    let types = types(text_of(matches, TYPES))?;
+    let early_grants = is_given(text_of(matches, EARLY_GRANTS));
+    let only = address(text_of(matches, LINE))?;
+    Some(Job::Explain {
+        path,
+        types,
+        early_grants,
+        only,
+    })
 }
 
 /// The job of `storm FILE` and its options.

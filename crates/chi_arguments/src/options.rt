@@ -1,10 +1,12 @@
-//! The numbers of a chart's and a storm's options.
+//! The values of options.
 
-ghost use Rattle.std.specs.Prelude.{◌≡◌, option_map};
-ghost use Rattle.chi_arguments.specs.Options.{only_of, seed_of, turns_of};
+ghost use Rattle.std.specs.Prelude.{◌≡◌, Some, option_map};
+ghost use Rattle.chi_arguments.specs.Options.{asked_address_of, is_given, only_of, seed_of, turns_of, types_of};
 
 use chi_flit::Line;
-use chi_script::number;
+use chi_resolution::Types;
+use chi_script::{is, number};
+use chi_trace::{Address, read_address};
 
 /// The seed of a storm whose `--seed` has this value: 1 where it isn't given, and `None` where the value
 /// is no number of a replay file.
@@ -45,5 +47,55 @@ pub fn only(value: Option<&str>) -> Option<Option<Line>>
             line @ 0..=63 => Some(Some(Line(line as u8))),
             _ => None,
         },
+    }
+}
+
+/// Which types of credit a trace has whose `--types` has this value: those of profile `Two` where it isn't given, and
+/// `None` where the value is none of `two`, `four` and `any`.
+/// Source: `docs/FORMATS.md`, "The program".
+pub fn types(value: Option<&str>) -> Option<Types>
+    ensures { result ≡ types_of (option_map (λ word. word.now) value.entry) }
+{
+    match value {
+        None => Some(Types::Two),
+        Some(word) => types_in(word.as_bytes()),
+    }
+}
+
+/// The types of this name.
+fn types_in(word: &[u8]) -> Option<Types>
+    ensures { result ≡ types_of (Some word.now) }
+{
+    if is(word, "two") {
+        Some(Types::Two)
+    } else if is(word, "four") {
+        Some(Types::Four)
+    } else if is(word, "any") {
+        Some(Types::Any)
+    } else {
+        None
+    }
+}
+
+/// Whether an option without a value was given, of which the command line has this word.
+/// Source: `docs/FORMATS.md`, "The program".
+pub fn is_given(value: Option<&str>) -> bool
+    ensures { result ≡ is_given (option_map (λ word. word.now) value.entry) }
+{
+    match value {
+        None => false,
+        Some(word) => is(word.as_bytes(), "true"),
+    }
+}
+
+/// The address whose line alone is explained where `--line` has this value: none where it isn't given, and `None`
+/// where the value is no address of a trace.
+/// Source: `docs/FORMATS.md`, "The program".
+pub fn address(value: Option<&str>) -> Option<Option<Address>>
+    ensures { result ≡ asked_address_of (option_map (λ word. word.now) value.entry) }
+{
+    match value {
+        None => Some(None),
+        Some(word) => Some(Some(read_address(word.as_bytes())?)),
     }
 }

@@ -10,7 +10,7 @@ use Rattle.atomic_table.proofs.Lists.{at_set, at_snoc}
 use Rattle.crossbeam_channel.specs.Fifo.{Pushes, Pops, Forks, Merges, Learns}
 use Rattle.chi_audit.specs.declared.reports.Report.{Report}
 use Rattle.chi_audit.specs.declared.report_view.ReportView.{ReportView}
-use Rattle.chi_audit.specs.Boxes.{opener, sending, telling, spent_view, one, times, there, may_tell, total, AreSent, OneEach, first_of, IsTaken, IsOver}
+use Rattle.chi_audit.specs.Boxes.{opener, sender_view, teller_view, spent_view, one, times, there, may_tell, total, AreSent, OneEach, first_of, IsTaken, IsOver}
 
 total_set : (a : ℕ) (vs : List ReportView) (i : ℕ) (v w : ReportView) → get_elem? vs i ≡ some v → total a (set vs i w) + may_tell a v ≡ total a vs + may_tell a w
 total_set a [] i v w e = absurd (some-ne-none v (sym e))
@@ -128,9 +128,9 @@ begins = keeps [] (opener 0 ∷ []) (λ _. None) [] 0 (λ a. let few : one (nat_
     only zero u e = subst (Fits (λ _. None) [] 0 0) (some-injective (opener 0) u e) ((λ _. (refl, refl)), tt)
     only (suc j) u e = absurd (some-ne-none u (sym e))
 
-pub sends : (n pass : ℕ) (v : ReportView) (r : Report) → v ≡ sending r.agent.0 → Pushes OneEach n pass v r (λ w. w ≡ telling r)
+pub sends : (n pass : ℕ) (v : ReportView) (r : Report) → v ≡ sender_view r.agent.0 → Pushes OneEach n pass v r (λ w. w ≡ teller_view r)
 sends n pass v r is items views room holds at =
-    let w : ReportView = telling r in
+    let w : ReportView = teller_view r in
     let own : (a : ℕ) → may_tell a v ≡ one (r.agent.0 == a) + 0 = λ a. ap (may_tell a) is in
     let unsent : holds.sent r.agent.0 ≡ None = none_there (holds.sent r.agent.0)
     (let kept = total_set r.agent.0 views pass v w at in
@@ -230,16 +230,16 @@ learns_over pass v opens items views holds at empty a t told =
 pub learns : (pass : ℕ) (v : ReportView) → Learns OneEach pass v (λ items. ⊤)
 learns pass v items views holds at = tt
 
-pub forks : (pass : ℕ) (v : ReportView) (n : ℕ) → v ≡ opener n → Forks OneEach pass v (opener (v.from + 1)) (sending v.from)
+pub forks : (pass : ℕ) (v : ReportView) (n : ℕ) → v ≡ opener n → Forks OneEach pass v (opener (v.from + 1)) (sender_view v.from)
 forks pass v n is items views holds at =
     let left : ReportView = opener (v.from + 1) in
-    let right : ReportView = sending v.from in
+    let right : ReportView = sender_view v.from in
     let own = holds.reader pass v at (ap (λ (u : ReportView). u.opens) is) in
     keeps items (set views pass left ++ right ∷ []) holds.sent holds.got holds.seat
     (λ a.
     let kept = total_set a views pass v left at in
     let last = total_snoc a (set views pass left) right in
-    let parts : may_tell a v ≡ may_tell a left + may_tell a right = subst (λ (u : ReportView). may_tell a u ≡ may_tell a (opener (u.from + 1)) + may_tell a (sending u.from)) (sym is) (let step = above n a in omega arith) in
+    let parts : may_tell a v ≡ may_tell a left + may_tell a right = subst (λ (u : ReportView). may_tell a u ≡ may_tell a (opener (u.from + 1)) + may_tell a (sender_view u.from)) (sym is) (let step = above n a in omega arith) in
     let few = holds.one a in
     omega arith)
     holds.each holds.queued holds.received
@@ -250,7 +250,7 @@ forks pass v n is items views holds at =
     (λ (same : right ≡ u). subst (Fits holds.sent holds.got holds.seat j) same ((λ k. absurd (true≢false (sym k))), tt))
     (at_snoc (set views pass left) right u j e))
 
-pub merges : (pass : ℕ) (v : ReportView) (other : ℕ) (w : ReportView) (r : Report) → w ≡ telling r
+pub merges : (pass : ℕ) (v : ReportView) (other : ℕ) (w : ReportView) (r : Report) → w ≡ teller_view r
     → Merges OneEach pass v other w (record v { told = v.told ++ w.told }) spent_view
 merges pass v other w r is items views holds at apart there_w =
     let both : ReportView = record v { told = v.told ++ w.told } in

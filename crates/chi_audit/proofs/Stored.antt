@@ -7,7 +7,7 @@ use Rattle.atomic_table.proofs.Lists.{at_set, at_snoc, set_again}
 use Rattle.chi_audit.specs.declared.tally.Tally.{Tally}
 use Rattle.chi_audit.specs.declared.tally_view.TallyView.{TallyView}
 use Rattle.chi_audit.specs.Tally.{last_of, NotAbove, Rises, IsBeginning}
-use Rattle.chi_audit.specs.Cells.{tally_of, storing, watching, Kept, IsStored, IsSeen, AreBeginnings}
+use Rattle.chi_audit.specs.Cells.{tally_of, writer_view, watcher_view, Kept, IsStored, IsSeen, AreBeginnings}
 use Rattle.chi_audit.proofs.Orders.{begins_whole, last_added, rises_added}
 
 -- what the rule says of one pass
@@ -38,11 +38,11 @@ keeps words views log seat rising last fits = record {
 longer : (front log : List Tally) (t : Tally) → IsBeginning front log → IsBeginning front (log ++ t ∷ [])
 longer front log t begins = (begins.0 ++ t ∷ [], ap (λ (ts : List Tally). ts ++ t ∷ []) begins.1 ∙ append_assoc front begins.0 (t ∷ []))
 
-pub opens : Kept (0 ∷ 0 ∷ 0 ∷ []) (storing [] ∷ [])
-opens = keeps (0 ∷ 0 ∷ 0 ∷ []) (storing [] ∷ []) [] 0 tt refl only
+pub opens : Kept (0 ∷ 0 ∷ 0 ∷ []) (writer_view [] ∷ [])
+opens = keeps (0 ∷ 0 ∷ 0 ∷ []) (writer_view [] ∷ []) [] 0 tt refl only
   where
-    only : (j : ℕ) (u : TallyView) → get_elem? (storing [] ∷ []) j ≡ some u → Fits [] 0 j u
-    only zero u e = subst (Fits [] 0 0) (some-injective (storing []) u e) ((λ _. (refl, refl)), begins_whole [])
+    only : (j : ℕ) (u : TallyView) → get_elem? (writer_view [] ∷ []) j ≡ some u → Fits [] 0 j u
+    only zero u e = subst (Fits [] 0 0) (some-injective (writer_view []) u e) ((λ _. (refl, refl)), begins_whole [])
     only (suc j) u e = absurd (some-ne-none u (sym e))
 
 pub stores : (pass : ℕ) (v : TallyView) (words : List ℕ) → v.writes ≡ true → NotAbove (last_of v.seen) (tally_of words)
@@ -73,12 +73,12 @@ reads pass v words views kept at =
       record { longer = kept.known pass v at; rising = kept.rising; last = kept.last },
     )
 
-pub watches : (pass : ℕ) (v : TallyView) → Forks Kept pass v v (watching v.seen)
-watches pass v words views kept at = keeps words (set views pass v ++ watching v.seen ∷ []) kept.log kept.seat kept.rising kept.last
+pub watches : (pass : ℕ) (v : TallyView) → Forks Kept pass v v (watcher_view v.seen)
+watches pass v words views kept at = keeps words (set views pass v ++ watcher_view v.seen ∷ []) kept.log kept.seat kept.rising kept.last
     (λ j u e. ⊎_elim
     (λ was. let old = subst (λ (l : List TallyView). get_elem? l j ≡ some u) (set_again views pass v at) was in (kept.writer j u old, kept.known j u old))
-    (λ (same : watching v.seen ≡ u). subst (Fits kept.log kept.seat j) same ((λ k. absurd (true≢false (sym k))), kept.known pass v at))
-    (at_snoc (set views pass v) (watching v.seen) u j e))
+    (λ (same : watcher_view v.seen ≡ u). subst (Fits kept.log kept.seat j) same ((λ k. absurd (true≢false (sym k))), kept.known pass v at))
+    (at_snoc (set views pass v) (watcher_view v.seen) u j e))
 
 pub begins_all : (words : List ℕ) (views : List TallyView) → Kept words views → AreBeginnings words views
 begins_all words views kept = record {

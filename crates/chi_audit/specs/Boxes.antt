@@ -13,12 +13,12 @@ abbrev pub opener : ℕ → ReportView
 opener from = record { opens = true; sends = false; from = from; got = []; told = [] }
 
 -- it may send one report of this agent
-abbrev pub sending : ℕ → ReportView
-sending agent = record { opens = false; sends = true; from = agent; got = []; told = [] }
+abbrev pub sender_view : ℕ → ReportView
+sender_view agent = record { opens = false; sends = true; from = agent; got = []; told = [] }
 
 -- it sent this report
-abbrev pub telling : Report → ReportView
-telling r = record { opens = false; sends = false; from = 0; got = []; told = r ∷ [] }
+abbrev pub teller_view : Report → ReportView
+teller_view r = record { opens = false; sends = false; from = 0; got = []; told = r ∷ [] }
 
 -- nothing is left to it
 abbrev pub spent_view : ReportView

@@ -12,12 +12,12 @@ tally_of words =
     record { turns = slice_index words 0; loads = slice_index words 1; stores = slice_index words 2 }
 
 -- the pass that stores, and has stored these
-abbrev pub storing : List Tally → TallyView
-storing stored = record { writes = true; seen = stored }
+abbrev pub writer_view : List Tally → TallyView
+writer_view stored = record { writes = true; seen = stored }
 
 -- a pass that reads, and knows that these were stored
-abbrev pub watching : List Tally → TallyView
-watching seen = record { writes = false; seen = seen }
+abbrev pub watcher_view : List Tally → TallyView
+watcher_view seen = record { writes = false; seen = seen }
 
 -- There is one list of what was stored. No number goes back in it, its last tally is in the cell, the one pass
 -- that stores knows it whole, and each pass knows a beginning of it.

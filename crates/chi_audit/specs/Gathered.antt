@@ -1,7 +1,7 @@
 -- What is kept of the reports that were received (docs/FORMATS.md, "Reports and tallies").
 use Rattle.std.specs.Prelude.{◌≡◌, ℕ, ◌<◌, ◌≤◌, ◌↔◌, true, List, Option, Some, None, IsSome, slice_index_or}
 use Rattle.chi_audit.specs.declared.reports.Report.{Report}
-use Rattle.chi_audit.specs.declared.gathering.Gathered.{Gathered}
+use Rattle.chi_audit.specs.declared.gathered.Gathered.{Gathered}
 use Rattle.chi_audit.specs.Boxes.{first_of}
 
 -- what stands in the agent's place

@@ -3,8 +3,8 @@ use Rattle.std.specs.Prelude.{◌≡◌, ◌≤◌, List, [], ◌∷◌, ◌++�
 use Rattle.chi_audit.specs.declared.tally.Tally.{Tally}
 
 -- the tally of an agent that did nothing so far
-abbrev pub opening : Tally
-opening = record { turns = 0; loads = 0; stores = 0 }
+abbrev pub opening_tally : Tally
+opening_tally = record { turns = 0; loads = 0; stores = 0 }
 
 -- no number of t is above that of u
 pub record NotAbove (t u : Tally) : Type 0 where
@@ -19,7 +19,7 @@ last_after t (u ∷ us) = last_after u us
 
 -- the last tally, or the opening one where none was stored
 abbrev pub last_of : List Tally → Tally
-last_of ts = last_after opening ts
+last_of ts = last_after opening_tally ts
 
 -- from t on no number goes back
 abbrev pub RisesAfter : Tally → List Tally → Type 0
@@ -28,7 +28,7 @@ RisesAfter t (u ∷ us) = NotAbove t u × RisesAfter u us
 
 -- no number goes back
 abbrev pub Rises : List Tally → Type 0
-Rises ts = RisesAfter opening ts
+Rises ts = RisesAfter opening_tally ts
 
 -- the first list is a beginning of the second
 abbrev pub IsBeginning : List Tally → List Tally → Type 0

@@ -29,7 +29,7 @@ impl<A: Allocator> Model for Outbox<A> {
     ghost use Rattle.std.specs.Prelude.{◌≡◌};
     ghost use Rattle.crossbeam_channel.specs.Claims.{IsSeatAt, view as knows};
     ghost use Rattle.crossbeam_channel.specs.Ends.{sends_on};
-    ghost use Rattle.chi_audit.specs.Boxes.{sending, OutboxState};
+    ghost use Rattle.chi_audit.specs.Boxes.{sender_view, OutboxState};
 
     ghost Value = { OutboxState };
 
@@ -42,7 +42,7 @@ impl<A: Allocator> Model for Outbox<A> {
     } };
 
     ghost invariant = { λ o. IsSeatAt (sends_on o.sender) o.pass
-        × (knows o.pass ≡ sending o.agent.0) };
+        × (knows o.pass ≡ sender_view o.agent.0) };
 }
 
 impl<A: Allocator> Outbox<A> {
@@ -92,7 +92,7 @@ impl<A: Allocator> Model for Sent<A> {
     ghost use Rattle.std.specs.Prelude.{◌≡◌};
     ghost use Rattle.crossbeam_channel.specs.Claims.{IsSeatAt, view as knows};
     ghost use Rattle.crossbeam_channel.specs.Ends.{sends_on};
-    ghost use Rattle.chi_audit.specs.Boxes.{telling, SentState};
+    ghost use Rattle.chi_audit.specs.Boxes.{teller_view, SentState};
 
     ghost Value = { SentState };
 
@@ -105,7 +105,7 @@ impl<A: Allocator> Model for Sent<A> {
     } };
 
     ghost invariant = { λ s. IsSeatAt (sends_on s.sender) s.pass
-        × (knows s.pass ≡ telling s.report) };
+        × (knows s.pass ≡ teller_view s.report) };
 }
 
 impl<A: Allocator> Sent<A> {

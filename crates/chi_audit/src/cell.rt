@@ -2,7 +2,7 @@
 
 ghost use Rattle.std.specs.Prelude.{◌≡◌, [], IfOk, true};
 ghost use Rattle.crossbeam_utils.specs.Seq.{cell_view};
-ghost use Rattle.chi_audit.specs.Cells.{storing, tally_of, watching, IsSeen, IsTold};
+ghost use Rattle.chi_audit.specs.Cells.{writer_view, tally_of, watcher_view, IsSeen, IsTold};
 ghost use Rattle.chi_audit.specs.Tally.{last_of, NotAbove};
 
 use crate::rising::{CellPass, Reads, Stores, Watches, Words};
@@ -36,7 +36,7 @@ impl Cell {
     /// A cell with the opening tally, and the pass that stores.
     pub(crate) fn open(alloc: Global) -> Result<(Cell, CellPass), AllocError>
         ensures cell { IfOk result (λ made. made.1.table_id ≡ made.0) }
-        ensures view { IfOk result (λ made. cell_view made.1 ≡ storing []) }
+        ensures view { IfOk result (λ made. cell_view made.1 ≡ writer_view []) }
     {
         let (words, pass) = Words::ruled(alloc, [0; 3])?;
         Ok((Cell { words }, pass))
@@ -48,7 +48,7 @@ impl Cell {
         ensures lent { (pass.new.table_id ≡ pass.old.table_id)
             × (cell_view pass.new ≡ cell_view pass.old) }
         ensures cell { result.table_id ≡ pass.old.table_id }
-        ensures view { cell_view result ≡ watching (cell_view pass.old).seen }
+        ensures view { cell_view result ≡ watcher_view (cell_view pass.old).seen }
     {
         self.words.split_pass::<Watches>(pass)
     }

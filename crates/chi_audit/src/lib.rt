@@ -7,7 +7,7 @@
 mod boxes;
 mod cell;
 mod cells;
-mod gathering;
+mod gathered;
 mod once;
 mod opening;
 mod report_view;
@@ -21,7 +21,7 @@ mod writer;
 pub use boxes::{Inbox, Outbox, Sent, open_boxes};
 pub use cells::Tallies;
 pub use chi_slice::{LineView, check};
-pub use gathering::{Gathered, gather};
+pub use gathered::{Gathered, gather};
 pub use opening::tallies;
 pub use reports::Report;
 pub use rising::Rising;

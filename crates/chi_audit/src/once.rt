@@ -20,11 +20,11 @@ pub(crate) struct Next;
 
 impl Split<ReportView> for Next {
     ghost use Rattle.std.specs.Prelude.{◌+◌};
-    ghost use Rattle.chi_audit.specs.Boxes.{opener, sending};
+    ghost use Rattle.chi_audit.specs.Boxes.{opener, sender_view};
 
     ghost left = { λ v. opener (v.from + 1) };
 
-    ghost right = { λ v. sending v.from };
+    ghost right = { λ v. sender_view v.from };
 }
 
 /// An outbox sends its report.
@@ -32,9 +32,9 @@ pub(crate) struct Sends;
 
 impl Outcome<Report, ReportView> for Sends {
     ghost use Rattle.std.specs.Prelude.{◌≡◌};
-    ghost use Rattle.chi_audit.specs.Boxes.{telling};
+    ghost use Rattle.chi_audit.specs.Boxes.{teller_view};
 
-    ghost then = { λ v r w. w ≡ telling r };
+    ghost then = { λ v r w. w ≡ teller_view r };
 }
 
 impl Lesson<Report, ReportView> for Sends {

@@ -11,11 +11,11 @@ pub struct Rising;
 
 impl Protocol<[u64; 3], TallyView> for Rising {
     ghost use Rattle.std.specs.Prelude.{[]};
-    ghost use Rattle.chi_audit.specs.Cells.{storing, Kept};
+    ghost use Rattle.chi_audit.specs.Cells.{writer_view, Kept};
 
     ghost holds = { Kept };
 
-    ghost first = { storing [] };
+    ghost first = { writer_view [] };
 }
 
 impl Rising {
@@ -55,11 +55,11 @@ impl Outcome<[u64; 3], TallyView> for Reads {
 pub(crate) struct Watches;
 
 impl Split<TallyView> for Watches {
-    ghost use Rattle.chi_audit.specs.Cells.{watching};
+    ghost use Rattle.chi_audit.specs.Cells.{watcher_view};
 
     ghost left = { λ v. v };
 
-    ghost right = { λ v. watching v.seen };
+    ghost right = { λ v. watcher_view v.seen };
 }
 
 /// Three words under the rule: turns, loads and stores.

@@ -7,20 +7,16 @@ use Rattle.chi_script.specs.declared.faults.Fault.{Fault}
 use Rattle.chi_script.specs.declared.headers.Header.{Header}
 use Rattle.chi_script.specs.Headers.{node_sizes}
 use Rattle.chi_config.specs.Config.{Sizes}
-use Rattle.chi_check_script.specs.declared.checks.Check.{Check}
-use Rattle.chi_check_script.specs.Checks.{CheckLine, line_of_check}
-use Rattle.chi_check_script.specs.Files.{check_file_of}
-use Rattle.chi_check_script.proofs.FileLemmas.{front_enough}
+use Rattle.chi_script.specs.declared.checks.Check.{Check}
+use Rattle.chi_script.specs.Checks.{CheckLine, line_of_check}
+use Rattle.chi_script.specs.CheckFiles.{check_file_of}
+use Rattle.chi_script.proofs.CheckFileLemmas.{front_enough}
 use Rattle.chi_chart.specs.declared.frame.Layout.{Layout}
 use Rattle.chi_chart.specs.Charts.{IsChart, IsChartOf, IsLayout}
 use Rattle.chi_chart.specs.Picture.{svg_of}
 use Rattle.chi_chart.specs.Played.{IsRun}
 use Rattle.chi_chart.specs.Rows.{Row, bottom_of, top}
-use Rattle.chi_chart.specs.Steps.{commands_in}
-
-pub same_commands : (checks : List Check) → map (λ check. check.command) checks ≡ commands_in (map line_of_check checks)
-same_commands [] = refl
-same_commands (check ∷ checks) = ap (λ (cs : List Command). check.command ∷ cs) (same_commands checks)
+use Rattle.chi_replay.specs.Checks.{commands_in}
 
 -- the rows of a run of the commands, drawn, are the chart
 chart_of_run : (header : Header) (config : Sizes) (checks : List CheckLine) (commands lent : List Command) (only : Option Line) (rows lent_rows : List Row) (bottom : ℕ) (layout : Layout) (bytes : List ℕ)

@@ -7,11 +7,11 @@ use Rattle.chi_script.specs.declared.commands.Command.{Command}
 use Rattle.chi_config.specs.Config.{Sizes}
 use Rattle.chi_tracker.specs.Views.{PortView}
 use Rattle.chi_node.specs.System.{SystemState, opening_system}
-use Rattle.chi_text.specs.Session.{machine_of, ports_of}
-use Rattle.chi_text.specs.Texts.{Allowed, Ending, opening_ports}
-use Rattle.chi_text.specs.Turns.{Answer, Machine, opening, turn}
-use Rattle.chi_text.proofs.Openings.{opening_machine, opening_views}
-use Rattle.chi_text.proofs.Playing.{made_plays}
+use Rattle.chi_replay.specs.Session.{machine_of, ports_of}
+use Rattle.chi_replay.specs.Texts.{Allowed, Ending, opening_ports}
+use Rattle.chi_replay.specs.Turns.{Answer, Machine, opening, turn}
+use Rattle.chi_replay.proofs.Openings.{opening_machine, opening_views}
+use Rattle.chi_replay.proofs.Playing.{made_plays}
 use Rattle.chi_chart.specs.Played.{IsPlayed, IsRows, IsRun}
 use Rattle.chi_chart.specs.Rows.{Row, below, bottom_of, is_line, next_y, row_of, rows_of, shown_rows, top}
 use Rattle.chi_chart.specs.Steps.{Step, line_of, steps_of}

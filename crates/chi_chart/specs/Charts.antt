@@ -5,14 +5,15 @@ use Rattle.chi_devices.specs.Devices.{AppendsFront}
 use Rattle.chi_flit.specs.declared.numbers.Line.{Line}
 use Rattle.chi_script.specs.Headers.{node_sizes}
 use Rattle.chi_script.specs.declared.headers.Header.{Header}
-use Rattle.chi_text.specs.Texts.{Allowed, opening_ports}
-use Rattle.chi_text.specs.Turns.{Answer, opening}
-use Rattle.chi_check_script.specs.Checks.{CheckLine}
-use Rattle.chi_check_script.specs.Files.{check_file_of}
+use Rattle.chi_replay.specs.Texts.{Allowed, opening_ports}
+use Rattle.chi_replay.specs.Turns.{Answer, opening}
+use Rattle.chi_script.specs.Checks.{CheckLine}
+use Rattle.chi_script.specs.CheckFiles.{check_file_of}
 use Rattle.chi_chart.specs.declared.frame.Layout.{Layout}
 use Rattle.chi_chart.specs.Picture.{svg_of}
 use Rattle.chi_chart.specs.Rows.{Row, bottom_of, rows_of, top}
-use Rattle.chi_chart.specs.Steps.{commands_in, steps_of}
+use Rattle.chi_chart.specs.Steps.{steps_of}
+use Rattle.chi_replay.specs.Checks.{commands_in}
 
 -- the rows of the commands of a header and checks, where the tracker answers so
 abbrev pub rows_in : Header → List CheckLine → Option Line → List Answer → List Row

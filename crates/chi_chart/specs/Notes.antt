@@ -6,7 +6,7 @@ use Rattle.chi_flit.specs.declared.action.Step.{Step}
 use Rattle.chi_flit.specs.declared.action.Step.TheVariants as steps
 use Rattle.chi_script.specs.declared.commands.Command.{Command}
 use Rattle.chi_script.specs.declared.commands.Command.TheVariants as commands
-use Rattle.chi_check_script.specs.Checks.{begins_with}
+use Rattle.chi_script.specs.Checks.{begins_with}
 use Rattle.chi_chart.specs.declared.frame.Layout.{Layout}
 use Rattle.chi_chart.specs.Layout.{home_words_x, words_x}
 use Rattle.chi_chart.specs.Drawn.{escaped_text}

@@ -4,9 +4,9 @@ use Rattle.std.specs.Prelude.{◌≡◌, ℕ, List, [], ◌∷◌, ◌++◌, Opt
 use Rattle.chi_flit.specs.declared.numbers.Line.{Line}
 use Rattle.chi_script.specs.declared.commands.Command.{Command}
 use Rattle.chi_node.specs.System.{SystemState}
-use Rattle.chi_text.specs.Session.{machine_of, ports_of}
-use Rattle.chi_text.specs.Texts.{Allowed, Plays, opening_ports}
-use Rattle.chi_text.specs.Turns.{Answer, opening, turn}
+use Rattle.chi_replay.specs.Session.{machine_of, ports_of}
+use Rattle.chi_replay.specs.Texts.{Allowed, Plays, opening_ports}
+use Rattle.chi_replay.specs.Turns.{Answer, opening, turn}
 use Rattle.chi_config.specs.Config.{Sizes}
 use Rattle.chi_chart.specs.declared.rows.Row as code
 use Rattle.chi_chart.specs.Rows.{Row, bottom_of, row_of, rows_of, top}

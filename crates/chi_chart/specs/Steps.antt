@@ -1,16 +1,15 @@
 -- The steps of a run: what each command says, and what the node is before and after it (docs/FORMATS.md,
 -- "Charts").
-use Rattle.std.specs.Prelude.{◌≡◌, ℕ, List, [], ◌∷◌, ◌++◌, Option, Some, None, map}
+use Rattle.std.specs.Prelude.{◌≡◌, ℕ, List, [], ◌∷◌, ◌++◌, Option, Some, None}
 use Rattle.chi_flit.specs.declared.numbers.Line.{Line}
 use Rattle.chi_flit.specs.declared.refusal.Refusal.{Refusal}
 use Rattle.chi_line.specs.declared.view.LineView.{LineView}
 use Rattle.chi_line.specs.View.{line_view}
 use Rattle.chi_script.specs.declared.commands.Command.{Command}
-use Rattle.chi_check_script.specs.Checks.{CheckLine}
 use Rattle.chi_script.specs.declared.commands.Command.TheVariants as commands
 use Rattle.chi_node.specs.Home.{HomeState, last_of, line, view_refusal}
-use Rattle.chi_text.specs.Texts.{ending}
-use Rattle.chi_text.specs.Turns.{Answer, Machine, turn}
+use Rattle.chi_replay.specs.Texts.{ending}
+use Rattle.chi_replay.specs.Turns.{Answer, Machine, turn}
 
 -- a command, the line that a replay prints for it, with its end, and the home before and after
 pub record Step : Type 0 where
@@ -51,7 +50,3 @@ view_if (Some refusal) view = None
 abbrev pub seen_line : HomeState → Option Line → Option LineView
 seen_line home None = None
 seen_line home (Some l) = view_if (view_refusal home l.0) (line_view (line home l.0) (last_of home l.0))
-
--- the commands of a file
-abbrev pub commands_in : List CheckLine → List Command
-commands_in checks = map (λ check. check.command) checks

@@ -5,27 +5,18 @@ ghost use Rattle.std.specs.Io.KnownBytes.{Keeps};
 ghost use Rattle.chi_script.specs.Faults.{Fails};
 ghost use Rattle.chi_script.specs.Headers.{is_in_limits};
 ghost use Rattle.chi_replay.specs.Replays.{AtWrite, KeepsAtFault, NoText, NoTextAt, RefusesFault};
-ghost use Rattle.chi_check_script.specs.Checks.{line_of_check};
-ghost use Rattle.chi_check_script.specs.Files.{check_file_of};
+ghost use Rattle.chi_script.specs.Checks.{line_of_check};
+ghost use Rattle.chi_script.specs.CheckFiles.{check_file_of};
 ghost use Rattle.chi_chart.specs.Charts.{Begins, Draws, IsChart, IsChartOf, IsLayout};
-ghost use Rattle.chi_chart.specs.Steps.{commands_in};
 
 use crate::frame::Layout;
 use crate::picture::svg_of;
 use crate::rows::rows_of;
-use chi_check_script::{Check, CheckScript, read_checks};
 use chi_devices::{Failed, Input, Output, read_all};
 use chi_flit::{Line, NoMemory};
-use chi_replay::config_of;
-use chi_script::{Command, Fault, Header};
-use std::alloc::{AllocError, Allocator};
-
-/// The commands of the checks, in order.
-fn commands_of<A: Allocator>(alloc: A, checks: &[Check]) -> Result<Vec<Command, A>, AllocError>
-    ensures { IfOk result (λ commands. commands.items ≡ commands_in (map line_of_check checks.now)) }
-{
-    checks.iter().map(|check| check.command).collect(alloc)
-}
+use chi_replay::{commands_of, config_of};
+use chi_script::{CheckFile, Fault, Header, read_checks};
+use std::alloc::Allocator;
 
 /// How a chart of a node of a header's sizes is laid out.
 fn layout_of(header: &Header) -> Layout
@@ -42,7 +33,7 @@ fn layout_of(header: &Header) -> Layout
 /// The chart of a good file. Refused where memory runs out.
 fn chart_on<A: Allocator + Copy>(
     alloc: A,
-    script: &CheckScript<'_, A>,
+    script: &CheckFile<'_, A>,
     only: Option<Line>,
 ) -> Result<Vec<u8, A>, NoMemory>
     ensures { IfOk result
@@ -79,7 +70,8 @@ fn chart_of_input<A: Allocator + Copy, I: Input>(
     only: Option<Line>,
 ) -> Result<Vec<u8, A>, Fault>
     requires { I.failures input.old + 1 < 2 ^ 64 }
-    ensures ok { IfOk result (λ text. IfSome (I.left input.old) (λ file. IsChartOf only file text.items)) }
+    ensures ok { IfOk result
+        (λ text. IfSome (I.left input.old) (λ file. IsChartOf only file text.items)) }
     ensures err { IfErr result
         (NoText check_file_of (I.left input.old) (I.failures input.old) (I.failures input.new)) }
 {
@@ -106,7 +98,8 @@ pub fn chart<A: Allocator + Copy, I: Input, O: Output>(
 ) -> Result<(), Fault>
     requires reads { I.failures input.old + 1 < 2 ^ 64 }
     requires writes { O.failures output.old + 1 < 2 ^ 64 }
-    ensures ok { OnOk result (Draws only (I.left input.old) (O.written output.old) (O.written output.new)) }
+    ensures ok { OnOk result
+        (Draws only (I.left input.old) (O.written output.old) (O.written output.new)) }
     ensures write { AtWrite result (O.failures output.new ≡ O.failures output.old + 1) }
     ensures front { AtWrite result
         (Begins only (I.left input.old) (O.written output.old) (O.written output.new)) }

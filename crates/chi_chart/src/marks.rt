@@ -121,7 +121,8 @@ fn add_marks<A: Allocator>(
     before: &LineView,
     after: &LineView,
 ) -> Result<(), NoMemory>
-    ensures { OnOk result (marks.new.items ≡ marks.old.items ++ view_marks line before.now after.now) }
+    ensures { OnOk result
+        (marks.new.items ≡ marks.old.items ++ view_marks line before.now after.now) }
 {
     add_serving(marks, line, before.serving, after.serving)?;
     for agent in 0..8 {
@@ -154,7 +155,8 @@ fn add_agent<A: Allocator>(
     after: &LineView,
 ) -> Result<(), NoMemory>
     requires { agent < 8 }
-    ensures { OnOk result (marks.new.items ≡ marks.old.items ++ agent_marks line before.now after.now agent) }
+    ensures { OnOk result
+        (marks.new.items ≡ marks.old.items ++ agent_marks line before.now after.now agent) }
 {
     let place = usize::from(agent);
     add_state(
@@ -195,7 +197,8 @@ fn add_flits<A: Allocator>(
     before: &Cells,
     after: &Cells,
 ) -> Result<(), NoMemory>
-    ensures { OnOk result (marks.new.items ≡ marks.old.items ++ flit_marks line agent before.now after.now) }
+    ensures { OnOk result
+        (marks.new.items ≡ marks.old.items ++ flit_marks line agent before.now after.now) }
 {
     add_channels(marks, line, agent, before, after, &CHANNELS)
 }

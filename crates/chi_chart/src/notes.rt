@@ -172,7 +172,8 @@ pub(crate) fn add_note<A: Allocator>(
     command: Command,
     answer: &[u8],
 ) -> Result<(), NoMemory>
-    ensures { OnOk result (text.new.items ≡ text.old.items ++ note_text layout.now y command answer.now) }
+    ensures { OnOk result
+        (text.new.items ≡ text.old.items ++ note_text layout.now y command answer.now) }
 {
     if answer.starts_with(b"refused") {
         let x = refused_x(layout, command);

@@ -10,8 +10,8 @@ use chi_config::Config;
 use chi_flit::{Line, NoMemory};
 use chi_line::LineView;
 use chi_node::System;
+use chi_replay::answer;
 use chi_script::Command;
-use chi_text::answer;
 use std::alloc::Allocator;
 
 /// A command, the line that a replay prints for it, and what it changed.

@@ -58,7 +58,8 @@ pub trait Output {
     fn write_all(&mut self, bytes: &[u8]) -> Result<(), Failed>
         requires { failures self.old + 1 < 2 ^ 64 }
         ensures written { OnOk result (Appends (written self.old) (written self.new) bytes.now) }
-        ensures front { OnErr result (AppendsFront (written self.old) (written self.new) bytes.now) }
+        ensures front { OnErr result
+            (AppendsFront (written self.old) (written self.new) bytes.now) }
         ensures ok { OnOk result (failures self.new ≡ failures self.old) }
         ensures err { OnErr result (failures self.new ≡ failures self.old + 1) };
 }

@@ -11,7 +11,7 @@ mod system;
 
 pub use devices::{Failed, Input, Output};
 pub use memory::{MemoryInput, MemoryOutput};
-pub use reading::read_all;
+pub use reading::{read_all, read_most};
 pub use system::{FileInput, StandardOutput};
 
 #[cfg(test)]

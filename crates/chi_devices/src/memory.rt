@@ -46,7 +46,8 @@ impl Input for MemoryInput<'_> {
     fn read(&mut self, buffer: &mut [u8]) -> Result<usize, Failed>
         requires { self.old.failures + 1 < 2 ^ 64 }
         ensures bound { IfOk result (λ count. count ≤ length buffer.new) }
-        ensures bytes { ReadConsumes (Some self.old.left.now) (Some self.new.left.now) result buffer.new }
+        ensures bytes { ReadConsumes (Some self.old.left.now)
+            (Some self.new.left.now) result buffer.new }
         ensures ok { OnOk result (self.new.failures ≡ self.old.failures) }
         ensures err { OnErr result (self.new.failures ≡ self.old.failures + 1) }
         ensures good { OnOk result (self.old.good_reads ≡ self.new.good_reads + 1) }
@@ -113,8 +114,10 @@ impl<A: Allocator> Output for MemoryOutput<A> {
     /// write that failed there is no room, and so nothing more can be written.
     fn write_all(&mut self, bytes: &[u8]) -> Result<(), Failed>
         requires { self.old.failures + 1 < 2 ^ 64 }
-        ensures written { OnOk result (Appends (Some self.old.bytes.items) (Some self.new.bytes.items) bytes.now) }
-        ensures front { OnErr result (AppendsFront (Some self.old.bytes.items) (Some self.new.bytes.items) bytes.now) }
+        ensures written { OnOk result
+            (Appends (Some self.old.bytes.items) (Some self.new.bytes.items) bytes.now) }
+        ensures front { OnErr result
+            (AppendsFront (Some self.old.bytes.items) (Some self.new.bytes.items) bytes.now) }
         ensures ok { OnOk result (self.new.failures ≡ self.old.failures) }
         ensures err { OnErr result (self.new.failures ≡ self.old.failures + 1) }
         ensures room { OnOk result (self.old.room ≡ self.new.room + length bytes.now) }

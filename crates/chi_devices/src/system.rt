@@ -126,7 +126,8 @@ impl<W: Write> Output for StandardOutput<W> {
 /// Writes all of the bytes and flushes. Where that fails, a front of them was written.
 fn write_whole<W: Write>(stream: &mut W, bytes: &[u8]) -> Result<(), Failed>
     ensures ok { OnOk result (Appends (W.contents stream.old) (W.contents stream.new) bytes.now) }
-    ensures err { OnErr result (AppendsFront (W.contents stream.old) (W.contents stream.new) bytes.now) }
+    ensures err { OnErr result
+        (AppendsFront (W.contents stream.old) (W.contents stream.new) bytes.now) }
 {
     let mut done = 0;
     'writes: for _ in 0..u64::MAX {

@@ -1,4 +1,4 @@
--- What explains the flits that were seen of a line (docs/FORMATS.md, "Explanations").
+-- What explains the flits that were seen of a line (docs/TRACES.md, "Explanations").
 use Rattle.std.specs.Prelude.{◌≡◌, ℕ, Bool, true, false, List, [], ◌∷◌, ◌++◌, Option, Some, None, replicate, slice_set}
 use Rattle.std.specs.List.{slice_index_or}
 use Rattle.chi_config.specs.Config.{Sizes}

@@ -1,4 +1,4 @@
--- A line that nobody has a copy of, at which nothing is under way (docs/FORMATS.md, "Explanations").
+-- A line that nobody has a copy of, at which nothing is under way (docs/TRACES.md, "Explanations").
 use Rattle.std.specs.Prelude.{◌≡◌, ◌&&◌, ℕ, Bool, List, true, false, not, Option, Some, None, is_none}
 use Rattle.std.specs.List.{All}
 use Rattle.chi_config.specs.Config.{Sizes}

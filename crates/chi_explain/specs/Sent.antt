@@ -1,4 +1,4 @@
--- The flits that an action sends: those in flight after it that weren't before (docs/FORMATS.md,
+-- The flits that an action sends: those in flight after it that weren't before (docs/TRACES.md,
 -- "Explanations").
 use Rattle.std.specs.Prelude.{ℕ, zero, suc, List, [], ◌∷◌, ◌++◌, Option, Some, None}
 use Rattle.chi_flit.specs.declared.numbers.Agent.{Agent}

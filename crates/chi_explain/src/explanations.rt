@@ -12,7 +12,7 @@ use chi_wires::Cells;
 use std::alloc::Allocator;
 
 /// An item of an explanation.
-/// Source: `docs/FORMATS.md`, "Explanations".
+/// Source: `docs/TRACES.md`, "Explanations".
 #[derive(Clone, Copy, Debug, PartialEq, Eq)]
 pub enum Deed {
     /// The agent's step is done.
@@ -22,7 +22,7 @@ pub enum Deed {
 }
 
 /// Why the items of an explanation don't explain the flits.
-/// Source: `docs/FORMATS.md`, "Explanations".
+/// Source: `docs/TRACES.md`, "Explanations".
 #[derive(Clone, Copy, Debug, PartialEq, Eq)]
 pub enum Unexplained {
     /// Memory ran out.
@@ -57,7 +57,7 @@ enum Missed {
 /// Does the items in their order on a line whose memory has these words at first, in a node of this size, and
 /// compares what they send with the flits that were seen: they are explained where each item is enabled and sends
 /// what was seen next, and nothing that was seen is left.
-/// Source: `docs/FORMATS.md`, "Explanations".
+/// Source: `docs/TRACES.md`, "Explanations".
 pub fn explain_line<A: Allocator + Copy>(
     alloc: A,
     config: &Config,

@@ -1,7 +1,7 @@
 //! Explanations of what was seen of a line: actions of the model that are done one after the other, and send
 //! just the flits that were seen.
 //!
-//! Source: `docs/FORMATS.md`, "Explanations".
+//! Source: `docs/TRACES.md`, "Explanations".
 #![tactic(auto)]
 
 mod explanations;

@@ -41,7 +41,7 @@ const WRITE_BACK: [Step; 5] = [
 /// The first slice of a node, at whose line 0 nobody has a copy and nothing is under way, and whose memory has
 /// these words there: a requester has stored them and written them back. `None` where the journal has no room
 /// for eight stores. Refused where memory runs out.
-/// Source: `docs/FORMATS.md`, "Explanations".
+/// Source: `docs/TRACES.md`, "Explanations".
 pub fn opened<A: Allocator + Copy>(
     alloc: A,
     config: &Config,

@@ -9,7 +9,7 @@ use chi_flit::{Agent, Channel, Msg};
 use chi_wires::{Cells, cells_of};
 
 /// A message that a requester sent to the home, or the home to it.
-/// Source: `docs/FORMATS.md`, "Explanations".
+/// Source: `docs/TRACES.md`, "Explanations".
 #[derive(Clone, Copy, Debug, PartialEq, Eq)]
 pub struct SentFlit {
     /// The requester.

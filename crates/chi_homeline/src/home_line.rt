@@ -7,6 +7,7 @@ ghost use Rattle.chi_filter.specs.Filter.{is_named};
 ghost use Rattle.chi_homeline.specs.Home.{Home, home_after_ack, acks_for, home_after_admit, answer_taken, asks, home_after_completion, completes_unique, completion_form, data_to_send, finished_home, finished_sends, idle_home, leaves, home_after_service, served_kind, served_sends, served_slot, snoop_answered, snoop_answered_sends, start_refusal, home_after_start, started_as, started_sends, started_with, waiting_of, writes_for, home_after_write};
 ghost use Rattle.chi_flit.specs.declared.kind.Kind.{Kind};
 ghost use Rattle.chi_flit.specs.declared.numbers.Slot.{Slot};
+ghost use Rattle.chi_flit.specs.declared.snoop.Snoop.{Snoop};
 ghost use Rattle.chi_homeline.specs.declared.serving.Completion.{Completion};
 ghost use Rattle.chi_homeline.specs.declared.serving.Waiting.{Waiting};
 ghost use Rattle.chi_homeline.specs.declared.serving.Started.TheVariants.{Sends};
@@ -141,28 +142,32 @@ impl HomeLine {
 
     /// Snoops for a request, or completes it at once where there is nobody to ask.
     fn serve(&mut self, agent: Agent, kind: Kind, snoop: Snoop, slot: Slot) -> Begun
-        requires { agent.0 < 8 }
+        requires agent { agent.0 < 8 }
+        requires snoop { snoop_of kind ≡ Some snoop }
         ensures sends { started_with result self.old.memory ≡ served_sends self.old snoop agent }
         ensures memory { self.new.memory ≡ self.old.memory }
         ensures after { self.new ≡ home_after_service self.old kind snoop agent slot }
     {
-        let agents = agents_to_ask(&self.filter, snoop, agent);
+        let agents = agents_to_ask(&self.filter, kind, agent);
         if has_any(&agents) {
             self.serving = Serving::Snooping { agent, kind, slot };
             self.awaited = agents;
             return Begun::Snoops { snoop, agents };
         }
-        Begun::Completes(self.complete(agent, snoop, slot))
+        Begun::Completes(self.complete(agent, kind, slot))
     }
 
-    /// Completes a request. Answers the form of its completion.
+    /// Completes a request of the kind. Answers the form of its completion.
     /// Source: `docs/PROTOCOL.md`, "Completion".
-    fn complete(&mut self, agent: Agent, snoop: Snoop, slot: Slot) -> CompletionForm
+    fn complete(&mut self, agent: Agent, kind: Kind, slot: Slot) -> CompletionForm
         requires { agent.0 < 8 }
-        ensures form { result ≡ completion_form snoop (completes_unique snoop self.old.filter agent.0) }
-        ensures after { self.new ≡ home_after_completion self.old snoop agent slot }
+        ensures form { (snoop : Snoop) → snoop_of kind ≡ Some snoop
+            → result ≡ completion_form snoop (completes_unique snoop self.old.filter agent.0) }
+        ensures after { (snoop : Snoop) → snoop_of kind ≡ Some snoop
+            → self.new ≡ home_after_completion self.old snoop agent slot }
+        ensures memory { self.new.memory ≡ self.old.memory }
     {
-        let unique = completes_unique(&self.filter, snoop, agent);
+        let unique = completes_unique(&self.filter, kind, agent);
         if unique {
             self.filter.only(agent);
         } else {
@@ -170,7 +175,7 @@ impl HomeLine {
             self.filter.add(agent);
         }
         self.serving = Serving::AwaitingCompAck { agent, slot };
-        completion_form(snoop, unique)
+        completion_form(kind, unique)
     }
 
     /// Takes the agent's CompAck: the line is idle. Answers the slot of the request that is complete, or
@@ -190,10 +195,7 @@ impl HomeLine {
                 self.serving = Serving::Idle;
                 Some(slot)
             }
-            Serving::AwaitingCompAck { .. }
-            | Serving::Idle
-            | Serving::Snooping { .. }
-            | Serving::AwaitingWriteData { .. } => None,
+            _ => None,
         }
     }
 
@@ -317,8 +319,8 @@ impl HomeLine {
         if has_any(&self.awaited) {
             return None;
         }
-        let snoop = kind.snoop()?;
-        let message = self.complete(agent, snoop, slot).message(sent);
+        kind.snoop()?;
+        let message = self.complete(agent, kind, slot).message(sent);
         Some(Completion { agent, message })
     }
 
@@ -352,10 +354,7 @@ impl HomeLine {
                 self.serving = Serving::Idle;
                 Some(slot)
             }
-            Serving::AwaitingWriteData { .. }
-            | Serving::Idle
-            | Serving::Snooping { .. }
-            | Serving::AwaitingCompAck { .. } => None,
+            _ => None,
         }
     }
 }
@@ -377,44 +376,47 @@ fn leaves(kind: Kind, form: State) -> bool
     kind.gives_up() || !form.is_valid()
 }
 
-/// Whom a request asks, by the snoop that serves it.
-fn agents_to_ask(filter: &Filter, snoop: Snoop, agent: Agent) -> [bool; 8]
+/// Whom a request asks, by its kind.
+/// Source: `docs/PROTOCOL.md`, "Start".
+fn agents_to_ask(filter: &Filter, kind: Kind, agent: Agent) -> [bool; 8]
     requires { agent.0 < 8 }
-    ensures { result ≡ asks snoop filter.now agent.0 }
+    ensures { (snoop : Snoop) → snoop_of kind ≡ Some snoop → result ≡ asks snoop filter.now agent.0 }
 {
     let others = filter.others_than(agent);
-    match snoop {
-        Snoop::SnpNotSharedDirty | Snoop::SnpShared => {
+    match kind {
+        Kind::ReadNotSharedDirty | Kind::ReadShared => {
             if filter.is_unique() && has_any(&others) {
                 others
             } else {
                 filter.other_owner(agent)
             }
         }
-        Snoop::SnpUnique | Snoop::SnpCleanInvalid => others,
+        Kind::ReadUnique | Kind::CleanUnique => others,
+        _ => [false; 8],
     }
 }
 
-/// Whether a completion leaves its agent the only one named.
-fn completes_unique(filter: &Filter, snoop: Snoop, agent: Agent) -> bool
-    requires { agent.0 < 8 }
-    ensures { result ≡ completes_unique snoop filter.now agent.0 }
-{
-    match snoop {
-        Snoop::SnpNotSharedDirty | Snoop::SnpShared => !has_any(&filter.others_than(agent)),
-        Snoop::SnpUnique | Snoop::SnpCleanInvalid => true,
-    }
-}
-
-/// The form of a completion, by the snoop that serves the request: a CleanUnique's has no data.
+/// Whether a completion leaves its agent the only one named, by the kind of its request.
 /// Source: `docs/PROTOCOL.md`, "Completion".
-fn completion_form(snoop: Snoop, unique: bool) -> CompletionForm
-    ensures { result ≡ completion_form snoop unique }
+fn completes_unique(filter: &Filter, kind: Kind, agent: Agent) -> bool
+    requires { agent.0 < 8 }
+    ensures { (snoop : Snoop) → snoop_of kind ≡ Some snoop
+        → result ≡ completes_unique snoop filter.now agent.0 }
 {
-    match snoop {
-        Snoop::SnpNotSharedDirty | Snoop::SnpShared | Snoop::SnpUnique => {
-            CompletionForm::Data { unique }
-        }
-        Snoop::SnpCleanInvalid => CompletionForm::NoData,
+    match kind {
+        Kind::ReadNotSharedDirty | Kind::ReadShared => !has_any(&filter.others_than(agent)),
+        Kind::ReadUnique | Kind::CleanUnique => true,
+        _ => false,
+    }
+}
+
+/// The form of a completion, by the kind of its request: a CleanUnique's has no data.
+/// Source: `docs/PROTOCOL.md`, "Completion".
+fn completion_form(kind: Kind, unique: bool) -> CompletionForm
+    ensures { (snoop : Snoop) → snoop_of kind ≡ Some snoop → result ≡ completion_form snoop unique }
+{
+    match kind {
+        Kind::CleanUnique => CompletionForm::NoData,
+        _ => CompletionForm::Data { unique },
     }
 }

@@ -40,6 +40,20 @@ credit_refusal credits (Some ty) = if slice_index_or credits (credit_number ty) 
 abbrev pub resend_step_refusal : Conditions → Rn → Option Refusal
 resend_step_refusal c rn = option_or (resend_refusal rn) (credit_refusal c.credits (pending_credit c.profile rn.pending))
 
+-- whether the flit that a step takes is among its agent's
+abbrev pub has_flit : Cells → Step → Bool
+has_flit cells steps.Admit = is_some cells.req
+has_flit cells steps.Retry = is_some cells.req
+has_flit cells steps.RecvRetry = is_retry cells.rsp_down
+has_flit cells steps.RecvSnp = is_some cells.snp
+has_flit cells steps.RecvSnpResp = is_some (answer_in cells)
+has_flit cells steps.RecvData = is_some cells.dat_down
+has_flit cells steps.RecvComp = is_comp cells.rsp_down
+has_flit cells steps.RecvAck = is_ack cells.rsp_up
+has_flit cells steps.RecvDbid = is_dbid cells.rsp_down
+has_flit cells steps.RecvWrData = is_write_data cells.dat_up
+has_flit cells other = false
+
 -- why an action of an agent is refused, its numbers being in range
 abbrev pub step_refusal : Conditions → LineState → Agent → Step → Option Refusal
 step_refusal c s agent (steps.Load word) = option_or (load_refusal (rn_of s agent.0)) (full_if c.journal_full)

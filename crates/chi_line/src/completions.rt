@@ -17,12 +17,12 @@ ghost use Rattle.chi_line.specs.Traffic.{Balances, completion_ack, flit_on};
 ghost use Rattle.chi_line.specs.Upshots.{upshot_of_end, upshot_with_move};
 ghost use Rattle.chi_line.specs.declared.seen.Where.TheVariants.{Answered};
 
+use crate::flits::has_flit;
 use crate::line::Line;
 use crate::seen::Where;
 use crate::slots::pending_slot;
 use crate::upshots::Upshot;
-use chi_flit::{Agent, Channel, DatUp, Refusal, RspDown, RspUp};
-use chi_wires::{clear, exchange};
+use chi_flit::{Agent, Channel, DatUp, Refusal, RspDown, Step};
 
 impl Line {
     /// RecvData: the agent's copy is that of the data, nothing is pending, and its CompAck is in flight.
@@ -42,12 +42,12 @@ impl Line {
             (flit agent (messages.RspUp CompAck) ∷ []) self.old self.new) }
         ensures err { OnErr result (self.new ≡ self.old) }
     {
-        let cells = &self.flits[usize::from(agent.0)];
+        let cells = self.flits.cells(agent);
         let message = cells.dat_down.ok_or(Refusal::NoFlit)?;
         let copy = &mut self.requesters[usize::from(agent.0)];
         let slot = pending_slot(copy.pending());
         let answer = copy.data(message);
-        exchange(&mut self.flits, agent, Channel::DatDown, answer);
+        self.flits.exchange(agent, Channel::DatDown, answer);
         Ok(Upshot::with_move(slot, Some(Where::Answered)))
     }
 
@@ -69,23 +69,23 @@ impl Line {
             (flit_of agent (completion_ack (cells_of self.old agent.0).rsp_down)) self.old self.new) }
         ensures err { OnErr result (self.new ≡ self.old) }
     {
-        let cells = &self.flits[usize::from(agent.0)];
+        let cells = self.flits.cells(agent);
         match cells.rsp_down {
             Some(RspDown::CompUC) => {
                 let copy = &mut self.requesters[usize::from(agent.0)];
                 let slot = pending_slot(copy.pending());
                 let answer = copy.comp();
-                exchange(&mut self.flits, agent, Channel::RspDown, answer);
+                self.flits.exchange(agent, Channel::RspDown, answer);
                 Ok(Upshot::with_move(slot, Some(Where::Answered)))
             }
             Some(RspDown::CompI) => {
-                clear(&mut self.flits, agent, Channel::RspDown);
+                self.flits.clear(agent, Channel::RspDown);
                 let copy = &mut self.requesters[usize::from(agent.0)];
                 let slot = pending_slot(copy.pending());
                 copy.evicted();
                 Ok(Upshot::with_move(slot, None))
             }
-            Some(RspDown::RetryAck(_) | RspDown::CompDBIDResp) | None => Err(Refusal::NoFlit),
+            _ => Err(Refusal::NoFlit),
         }
     }
 
@@ -104,17 +104,14 @@ impl Line {
         ensures flits { OnOk result (Balances (flit_on self.old agent channels.RspUp) [] self.old self.new) }
         ensures err { OnErr result (self.new ≡ self.old) }
     {
-        let cells = &self.flits[usize::from(agent.0)];
-        match cells.rsp_up {
-            Some(RspUp::CompAck) => {
-                clear(&mut self.flits, agent, Channel::RspUp);
-                let Some(slot) = self.home.ack(agent) else {
-                    unreachable!()
-                };
-                Ok(Upshot::of_end(slot))
-            }
-            Some(RspUp::SnpRespI | RspUp::SnpRespSC) | None => Err(Refusal::NoFlit),
+        if !has_flit(self.flits.cells(agent), Step::RecvAck) {
+            return Err(Refusal::NoFlit);
         }
+        self.flits.clear(agent, Channel::RspUp);
+        let Some(slot) = self.home.ack(agent) else {
+            unreachable!()
+        };
+        Ok(Upshot::of_end(slot))
     }
 
     /// RecvDbid: the agent takes the leave to send its write data; that of the copy as it stands is in
@@ -139,19 +136,14 @@ impl Line {
             self.old self.new) }
         ensures err { OnErr result (self.new ≡ self.old) }
     {
-        let cells = &self.flits[usize::from(agent.0)];
-        match cells.rsp_down {
-            Some(RspDown::CompDBIDResp) => {
-                let copy = &mut self.requesters[usize::from(agent.0)];
-                let slot = pending_slot(copy.pending());
-                let answer = copy.dbid();
-                exchange(&mut self.flits, agent, Channel::RspDown, answer);
-                Ok(Upshot::with_move(slot, Some(Where::Answered)))
-            }
-            Some(RspDown::RetryAck(_) | RspDown::CompUC | RspDown::CompI) | None => {
-                Err(Refusal::NoFlit)
-            }
+        if !has_flit(self.flits.cells(agent), Step::RecvDbid) {
+            return Err(Refusal::NoFlit);
         }
+        let copy = &mut self.requesters[usize::from(agent.0)];
+        let slot = pending_slot(copy.pending());
+        let answer = copy.dbid();
+        self.flits.exchange(agent, Channel::RspDown, answer);
+        Ok(Upshot::with_move(slot, Some(Where::Answered)))
     }
 
     /// RecvWrData: the home takes the agent's write data; the line is idle, and the request is complete.
@@ -173,17 +165,16 @@ impl Line {
         ensures flits { OnOk result (Balances (flit_on self.old agent channels.DatUp) [] self.old self.new) }
         ensures err { OnErr result (self.new ≡ self.old) }
     {
-        let cells = &self.flits[usize::from(agent.0)];
+        let cells = self.flits.cells(agent);
         match cells.dat_up {
             Some(DatUp::CopyBackWrData(form, words)) => {
-                clear(&mut self.flits, agent, Channel::DatUp);
+                self.flits.clear(agent, Channel::DatUp);
                 let Some(slot) = self.home.wr_data(agent, form, words) else {
                     unreachable!()
                 };
                 Ok(Upshot::of_end(slot))
             }
-            Some(DatUp::SnpRespDataIPD(_) | DatUp::SnpRespDataSCPD(_) | DatUp::SnpRespDataSD(_))
-            | None => Err(Refusal::NoFlit),
+            _ => Err(Refusal::NoFlit),
         }
     }
 }

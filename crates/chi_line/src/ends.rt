@@ -5,12 +5,12 @@ ghost use Rattle.chi_flit.specs.Kind.{is_copy_back, snoop_of};
 ghost use Rattle.chi_homeline.specs.Home.{served_slot, start_refusal, waiting_of};
 ghost use Rattle.chi_line.specs.LineState.{cells_of};
 ghost use Rattle.chi_line.specs.Refused.{completed_at, no_flit_unless};
-ghost use Rattle.chi_line.specs.Step.{completed_effect, evicted_if, is_ack, is_write_data, slot_unless, waiting_effect};
+ghost use Rattle.chi_line.specs.Step.{completed_effect, evicted_if, slot_unless, waiting_effect};
 
+use crate::flits::has_flit;
 use crate::line::Line;
-use chi_flit::{Agent, DatUp, RspUp, Slot, Step};
+use chi_flit::{Agent, Kind, Slot, Step};
 use chi_homeline::{HomeLine, Serving, Waiting};
-use chi_wires::Cells;
 
 impl Line {
     /// The slot of the request that a step of the agent would complete; `None` where the step would be
@@ -22,25 +22,11 @@ impl Line {
         requires { agent.0 < 8 }
         ensures { result ≡ completed_at self.now.home (cells_of self.now agent.0) agent step }
     {
-        let cells = &self.flits[usize::from(agent.0)];
+        let cells = self.flits.cells(agent);
         match step {
             Step::Start => evicted_slot(&self.home, agent),
-            Step::RecvAck => acknowledged_slot(&self.home, cells),
-            Step::RecvWrData => written_slot(&self.home, cells),
-            Step::Load(_)
-            | Step::Store(_, _)
-            | Step::Drop
-            | Step::Issue(_, _)
-            | Step::Admit
-            | Step::Retry
-            | Step::RecvRetry
-            | Step::Resend
-            | Step::Cancel
-            | Step::RecvSnp
-            | Step::RecvSnpResp
-            | Step::RecvData
-            | Step::RecvComp
-            | Step::RecvDbid => None,
+            Step::RecvAck | Step::RecvWrData => ended_slot(&self.home, has_flit(cells, step)),
+            _ => None,
         }
     }
 }
@@ -55,9 +41,7 @@ fn evicted_slot(home: &HomeLine, agent: Agent) -> Option<Slot>
     let request = home.waiting(agent)?;
     match home.serving() {
         Serving::Idle => slot_of_evict(request),
-        Serving::Snooping { .. }
-        | Serving::AwaitingCompAck { .. }
-        | Serving::AwaitingWriteData { .. } => None,
+        _ => None,
     }
 }
 
@@ -65,33 +49,21 @@ fn evicted_slot(home: &HomeLine, agent: Agent) -> Option<Slot>
 fn slot_of_evict(request: Waiting) -> Option<Slot>
     ensures { result ≡ evicted_if (snoop_of request.kind) (is_copy_back request.kind) request.slot }
 {
-    if request.kind.snoop().is_some() || request.kind.is_copy_back() {
-        return None;
-    }
-    Some(request.slot)
-}
-
-/// The slot that the CompAck among these cells would complete.
-fn acknowledged_slot(home: &HomeLine, cells: &Cells) -> Option<Slot>
-    ensures { result
-        ≡ slot_unless (no_flit_unless (is_ack cells.now.rsp_up)) (completed_effect (served_slot home.now.serving)) }
-{
-    match cells.rsp_up {
-        Some(RspUp::CompAck) => served_slot(home.serving()),
-        Some(RspUp::SnpRespI | RspUp::SnpRespSC) | None => None,
+    match request.kind {
+        Kind::Evict => Some(request.slot),
+        _ => None,
     }
 }
 
-/// The slot that the write data among these cells would complete.
-fn written_slot(home: &HomeLine, cells: &Cells) -> Option<Slot>
+/// The slot of the request that a CompAck or write data would complete, if it is there.
+fn ended_slot(home: &HomeLine, there: bool) -> Option<Slot>
     ensures { result
-        ≡ slot_unless (no_flit_unless (is_write_data cells.now.dat_up))
-        (completed_effect (served_slot home.now.serving)) }
+        ≡ slot_unless (no_flit_unless there) (completed_effect (served_slot home.now.serving)) }
 {
-    match cells.dat_up {
-        Some(DatUp::CopyBackWrData(..)) => served_slot(home.serving()),
-        Some(DatUp::SnpRespDataIPD(_) | DatUp::SnpRespDataSCPD(_) | DatUp::SnpRespDataSD(_))
-        | None => None,
+    if there {
+        served_slot(home.serving())
+    } else {
+        None
     }
 }
 

@@ -6,6 +6,7 @@ mod act;
 mod completions;
 mod copies;
 mod ends;
+mod flits;
 mod line;
 mod refusals;
 mod requests;
@@ -17,6 +18,7 @@ mod upshots;
 mod view;
 
 pub use act::Conditions;
+pub use flits::has_flit;
 pub use line::Line;
 pub use seen::Where;
 pub use slots::pending_slot;

@@ -10,7 +10,7 @@ ghost use Rattle.chi_line.specs.LineState.{cells_of, opening_line, rn_of};
 use chi_flit::Agent;
 use chi_homeline::HomeLine;
 use chi_rnline::RnLine;
-use chi_wires::Cells;
+use chi_wires::{Cells, Wires};
 use std::marker::Model;
 
 /// One line: what each of the eight requesters and the home keep of it, and what is in flight between them.
@@ -20,7 +20,7 @@ use std::marker::Model;
 pub struct Line {
     pub(crate) requesters: [RnLine; 8],
     pub(crate) home: HomeLine,
-    pub(crate) flits: [Cells; 8],
+    pub(crate) flits: Wires,
 }
 
 impl Model for Line {
@@ -41,7 +41,7 @@ impl Line {
         Line {
             requesters: [RnLine::new(); 8],
             home: HomeLine::new(),
-            flits: [Cells::new(); 8],
+            flits: Wires::new(),
         }
     }
 
@@ -66,7 +66,7 @@ impl Line {
         ensures once { (channel : Channel)
             → filter (is_at channel agent) (in_flight self.now.flits) ≡ flit_of agent (cell_of result.now channel) }
     {
-        chi_wires::cells_of(&self.flits, agent)
+        self.flits.cells(agent)
     }
 
     /// What the home keeps of the line, lent.

@@ -6,12 +6,11 @@ ghost use Rattle.chi_flit.specs.Credit.{credit_number, credit_type_of};
 ghost use Rattle.chi_flit.specs.declared.refusal.Refusal.TheVariants as refusals;
 ghost use Rattle.chi_rnline.specs.Rn.{issue_refusal, load_refusal, store_refusal};
 ghost use Rattle.chi_line.specs.Refused.{full_if, line_refusal, no_flit_unless, resend_step_refusal, retry_refusal};
-ghost use Rattle.chi_line.specs.Step.{is_ack, is_comp, is_dbid, is_retry, is_write_data};
 
 use crate::act::Conditions;
+use crate::flits::has_flit;
 use crate::line::Line;
-use crate::snoops::answer_in;
-use chi_flit::{Action, DatUp, Kind, Refusal, Request, RspDown, RspUp, Step, credit_type};
+use chi_flit::{Action, Kind, Refusal, Request, Step, credit_type};
 use chi_rnline::{Pending, RnLine};
 
 impl Line {
@@ -24,25 +23,25 @@ impl Line {
         ensures { result ≡ line_refusal conditions self.now action }
     {
         let copy = &self.requesters[usize::from(action.agent.0)];
-        let cells = &self.flits[usize::from(action.agent.0)];
+        let cells = self.flits.cells(action.agent);
         match action.step {
             Step::Load(_) => why_no_load(copy, conditions.journal_full),
             Step::Store(_, _) => why_no_store(copy, conditions.journal_full),
             Step::Drop => copy.why_no_drop(),
             Step::Issue(kind, _) => why_no_issue(copy, kind, conditions.slot_used),
-            Step::Admit => no_flit_unless(cells.req.is_some()),
             Step::Retry => why_no_retry(cells.req),
-            Step::RecvRetry => no_flit_unless(is_retry(cells.rsp_down)),
             Step::Resend => why_no_resend(copy, conditions),
             Step::Cancel => copy.why_no_cancel(),
             Step::Start => self.home.why_no_start(action.agent),
-            Step::RecvSnp => no_flit_unless(cells.snp.is_some()),
-            Step::RecvSnpResp => no_flit_unless(answer_in(cells).is_some()),
-            Step::RecvData => no_flit_unless(cells.dat_down.is_some()),
-            Step::RecvComp => no_flit_unless(is_comp(cells.rsp_down)),
-            Step::RecvAck => no_flit_unless(is_ack(cells.rsp_up)),
-            Step::RecvDbid => no_flit_unless(is_dbid(cells.rsp_down)),
-            Step::RecvWrData => no_flit_unless(is_write_data(cells.dat_up)),
+            Step::Admit
+            | Step::RecvRetry
+            | Step::RecvSnp
+            | Step::RecvSnpResp
+            | Step::RecvData
+            | Step::RecvComp
+            | Step::RecvAck
+            | Step::RecvDbid
+            | Step::RecvWrData => no_flit_unless(has_flit(cells, action.step)),
         }
     }
 }
@@ -124,39 +123,4 @@ fn no_flit_unless(there: bool) -> Option<Refusal>
     ensures { result ≡ no_flit_unless there }
 {
     if there { None } else { Some(Refusal::NoFlit) }
-}
-
-/// Whether it is a RetryAck.
-fn is_retry(response: Option<RspDown>) -> bool
-    ensures { result ≡ is_retry response }
-{
-    matches!(response, Some(RspDown::RetryAck(_)))
-}
-
-/// Whether it is Comp_UC or Comp_I.
-fn is_comp(response: Option<RspDown>) -> bool
-    ensures { result ≡ is_comp response }
-{
-    matches!(response, Some(RspDown::CompUC | RspDown::CompI))
-}
-
-/// Whether it is CompDBIDResp.
-fn is_dbid(response: Option<RspDown>) -> bool
-    ensures { result ≡ is_dbid response }
-{
-    matches!(response, Some(RspDown::CompDBIDResp))
-}
-
-/// Whether it is a CompAck.
-fn is_ack(response: Option<RspUp>) -> bool
-    ensures { result ≡ is_ack response }
-{
-    matches!(response, Some(RspUp::CompAck))
-}
-
-/// Whether it is write data.
-fn is_write_data(sent: Option<DatUp>) -> bool
-    ensures { result ≡ is_write_data sent }
-{
-    matches!(sent, Some(DatUp::CopyBackWrData(..)))
 }

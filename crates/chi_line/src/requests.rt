@@ -20,17 +20,18 @@ ghost use Rattle.chi_line.specs.Upshots.{upshot_of_start, upshot_with_move};
 ghost use Rattle.chi_line.specs.declared.seen.Where.TheVariants.{Admitted, Refused, Retried, Riding, Sent};
 
 use crate::act::Conditions;
+use crate::flits::has_flit;
 use crate::line::Line;
 use crate::refusals::has_credit;
 use crate::seen::Where;
 use crate::slots::pending_slot;
 use crate::upshots::Upshot;
 use chi_flit::{
-    Agent, Channel, CompData, Effect, Kind, Msg, Profile, Refusal, Request, RspDown, Slot,
+    Agent, Channel, CompData, Effect, Kind, Msg, Profile, Refusal, Request, RspDown, Slot, Step,
     credit_type,
 };
 use chi_homeline::{Begun, CompletionForm, HomeLine, Waiting};
-use chi_wires::{Cells, clear, exchange, put, put_data, put_snoops};
+use chi_wires::Wires;
 
 impl Line {
     /// Issue: the agent's request is pending, and in flight with AllowRetry.
@@ -59,7 +60,7 @@ impl Line {
             return Err(Refusal::Pending);
         }
         let request = self.requesters[usize::from(agent.0)].issue(kind, slot)?;
-        put(&mut self.flits, agent, request);
+        self.flits.put(agent, request);
         Ok(Upshot::with_move(Some(slot), Some(Where::Sent)))
     }
 
@@ -77,9 +78,9 @@ impl Line {
         ensures flits { OnOk result (Balances (flit_on self.old agent channels.Req) [] self.old self.new) }
         ensures err { OnErr result (self.new ≡ self.old) }
     {
-        let cells = &self.flits[usize::from(agent.0)];
+        let cells = self.flits.cells(agent);
         let Request { kind, slot, .. } = cells.req.ok_or(Refusal::NoFlit)?;
-        clear(&mut self.flits, agent, Channel::Req);
+        self.flits.clear(agent, Channel::Req);
         self.home.admit(agent, Waiting { kind, slot });
         Ok(Upshot::with_move(Some(slot), Some(Where::Admitted)))
     }
@@ -102,13 +103,13 @@ impl Line {
             (flit_of agent (retry_ack profile (cells_of self.old agent.0).req)) self.old self.new) }
         ensures err { OnErr result (self.new ≡ self.old) }
     {
-        let cells = &self.flits[usize::from(agent.0)];
+        let cells = self.flits.cells(agent);
         let request = cells.req.ok_or(Refusal::NoFlit)?;
         if !request.allow_retry {
             return Err(Refusal::MustAccept);
         }
         let answer = Msg::RspDown(RspDown::RetryAck(credit_type(profile, request.kind)));
-        exchange(&mut self.flits, agent, Channel::Req, answer);
+        self.flits.exchange(agent, Channel::Req, answer);
         Ok(Upshot::with_move(Some(request.slot), Some(Where::Refused)))
     }
 
@@ -126,19 +127,14 @@ impl Line {
             (Balances (flit_on self.old agent channels.RspDown) [] self.old self.new) }
         ensures err { OnErr result (self.new ≡ self.old) }
     {
-        let cells = &self.flits[usize::from(agent.0)];
-        match cells.rsp_down {
-            Some(RspDown::RetryAck(_)) => {
-                clear(&mut self.flits, agent, Channel::RspDown);
-                let copy = &mut self.requesters[usize::from(agent.0)];
-                let slot = pending_slot(copy.pending());
-                copy.retried();
-                Ok(Upshot::with_move(slot, Some(Where::Retried)))
-            }
-            Some(RspDown::CompUC | RspDown::CompI | RspDown::CompDBIDResp) | None => {
-                Err(Refusal::NoFlit)
-            }
+        if !has_flit(self.flits.cells(agent), Step::RecvRetry) {
+            return Err(Refusal::NoFlit);
         }
+        self.flits.clear(agent, Channel::RspDown);
+        let copy = &mut self.requesters[usize::from(agent.0)];
+        let slot = pending_slot(copy.pending());
+        copy.retried();
+        Ok(Upshot::with_move(slot, Some(Where::Retried)))
     }
 
     /// Resend: the agent's retried request is in flight again, without AllowRetry.
@@ -168,7 +164,7 @@ impl Line {
             return Err(copy.why_no_resend().unwrap_or(Refusal::NoCredit));
         }
         let message = copy.resend()?;
-        put(&mut self.flits, agent, message);
+        self.flits.put(agent, message);
         Ok(Upshot::with_move(Some(request.slot), Some(Where::Riding)))
     }
 
@@ -200,15 +196,15 @@ impl Line {
                 Ok(Upshot::without_move(Effect::Nothing))
             }
             Begun::WriteData => {
-                put(&mut self.flits, agent, Msg::RspDown(RspDown::CompDBIDResp));
+                self.flits.put(agent, Msg::RspDown(RspDown::CompDBIDResp));
                 Ok(Upshot::without_move(Effect::Nothing))
             }
             Begun::Evicted(slot) => {
-                put(&mut self.flits, agent, Msg::RspDown(RspDown::CompI));
+                self.flits.put(agent, Msg::RspDown(RspDown::CompI));
                 Ok(Upshot::of_evict(slot))
             }
             Begun::Snoops { snoop, agents } => {
-                put_snoops(&mut self.flits, agents, snoop);
+                self.flits.put_snoops(agents, snoop);
                 Ok(Upshot::without_move(Effect::Nothing))
             }
         }
@@ -218,7 +214,7 @@ impl Line {
 /// Puts the completion of this form to the agent, whose cell must be empty; its data is the memory, which is
 /// copied once.
 #[inline(always)]
-fn put_form(flits: &mut [Cells; 8], agent: Agent, form: CompletionForm, home: &HomeLine)
+fn put_form(flits: &mut Wires, agent: Agent, form: CompletionForm, home: &HomeLine)
     requires agent { agent.0 < 8 }
     requires empty { cell_of (cells_at flits.old agent.0) (channel_of (form_message form home.now.memory))
         ≡ None }
@@ -230,8 +226,8 @@ fn put_form(flits: &mut [Cells; 8], agent: Agent, form: CompletionForm, home: &H
     match form {
         CompletionForm::Data { unique } => {
             let words = home.memory();
-            put_data(flits, agent, CompData { unique, words });
+            flits.put_data(agent, CompData { unique, words });
         }
-        CompletionForm::NoData => put(flits, agent, Msg::RspDown(RspDown::CompUC)),
+        CompletionForm::NoData => flits.put(agent, Msg::RspDown(RspDown::CompUC)),
     }
 }

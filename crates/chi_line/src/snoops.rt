@@ -14,16 +14,17 @@ ghost use Rattle.chi_homeline.specs.declared.serving.Completion.{Completion};
 ghost use Rattle.chi_line.specs.Kept.{snoops_for};
 ghost use Rattle.chi_line.specs.LineState.{cells_of, rn_of};
 ghost use Rattle.chi_line.specs.Refused.{no_flit_unless};
-ghost use Rattle.chi_line.specs.Snooped.{answer_channel, completion_put};
-ghost use Rattle.chi_line.specs.Step.{answer_in, answered_by, data_answer, snooped_line, where_some};
+ghost use Rattle.chi_line.specs.Snooped.{completion_put};
+ghost use Rattle.chi_line.specs.Step.{answer_in, answered_by, snooped_line, where_some};
 ghost use Rattle.chi_line.specs.Traffic.{Balances, answer_flit, answered_flits, completion_flits, flit_on, snoop_answer};
 ghost use Rattle.chi_line.specs.Upshots.{upshot_without_move};
 
+use crate::flits::answer_in;
 use crate::line::Line;
 use crate::upshots::Upshot;
-use chi_flit::{Agent, Channel, DatUp, Effect, Refusal, RspUp};
-use chi_homeline::{Completion, SnoopAnswer};
-use chi_wires::{Cells, clear, exchange, put};
+use chi_flit::{Agent, Channel, Effect, Refusal};
+use chi_homeline::Completion;
+use chi_wires::Wires;
 
 impl Line {
     /// RecvSnp: the agent takes its snoop, and the answer of its copy is in flight.
@@ -42,10 +43,10 @@ impl Line {
             (flit_of agent (snoop_answer (rn_of self.old agent.0) (cells_of self.old agent.0).snp)) self.old self.new) }
         ensures err { OnErr result (self.new ≡ self.old) }
     {
-        let cells = &self.flits[usize::from(agent.0)];
+        let cells = self.flits.cells(agent);
         let snoop = cells.snp.ok_or(Refusal::NoFlit)?;
         let answer = self.requesters[usize::from(agent.0)].snooped(snoop);
-        exchange(&mut self.flits, agent, Channel::Snp, answer);
+        self.flits.exchange(agent, Channel::Snp, answer);
         Ok(Upshot::without_move(Effect::Nothing))
     }
 
@@ -70,51 +71,18 @@ impl Line {
             (answered_flits self.old.home agent (answer_in (cells_of self.old agent.0))) self.old self.new) }
         ensures err { OnErr result (self.new ≡ self.old) }
     {
-        let cells = &self.flits[usize::from(agent.0)];
-        let answer = answer_in(cells).ok_or(Refusal::NoFlit)?;
-        clear(&mut self.flits, agent, channel_of(&answer));
-        let completion = self.home.snp_resp(agent, answer);
+        let cells = self.flits.cells(agent);
+        let found = answer_in(cells).ok_or(Refusal::NoFlit)?;
+        self.flits.clear(agent, found.channel);
+        let completion = self.home.snp_resp(agent, found.answer);
         put_completion(&mut self.flits, completion);
         Ok(Upshot::without_move(Effect::Nothing))
     }
 }
 
-/// The answer to a snoop among these cells.
-pub(crate) fn answer_in(cells: &Cells) -> Option<SnoopAnswer>
-    ensures { result ≡ answer_in cells.now }
-{
-    match cells.rsp_up {
-        Some(RspUp::SnpRespI) => Some(SnoopAnswer::I),
-        Some(RspUp::SnpRespSC) => Some(SnoopAnswer::SC),
-        Some(RspUp::CompAck) | None => data_answer(cells.dat_up),
-    }
-}
-
-/// The answer to a snoop that data is.
-fn data_answer(response: Option<DatUp>) -> Option<SnoopAnswer>
-    ensures { result ≡ data_answer response }
-{
-    match response {
-        Some(DatUp::SnpRespDataIPD(words)) => Some(SnoopAnswer::IPD(words)),
-        Some(DatUp::SnpRespDataSCPD(words)) => Some(SnoopAnswer::SCPD(words)),
-        Some(DatUp::SnpRespDataSD(words)) => Some(SnoopAnswer::SD(words)),
-        Some(DatUp::CopyBackWrData(..)) | None => None,
-    }
-}
-
-/// The channel of an answer.
-fn channel_of(answer: &SnoopAnswer) -> Channel
-    ensures { result ≡ answer_channel answer.now }
-{
-    match answer {
-        SnoopAnswer::I | SnoopAnswer::SC => Channel::RspUp,
-        SnoopAnswer::IPD(_) | SnoopAnswer::SCPD(_) | SnoopAnswer::SD(_) => Channel::DatUp,
-    }
-}
-
 /// Puts the completion, if there is one, whose cell must be empty.
 #[inline(always)]
-fn put_completion(flits: &mut [Cells; 8], completion: Option<Completion>)
+fn put_completion(flits: &mut Wires, completion: Option<Completion>)
     requires agent { (some : Completion) → completion ≡ Some some → some.agent.0 < 8 }
     requires empty { (some : Completion) → completion ≡ Some some
         → cell_of (cells_at flits.old some.agent.0) (channel_of some.message) ≡ None }
@@ -122,6 +90,6 @@ fn put_completion(flits: &mut [Cells; 8], completion: Option<Completion>)
     ensures adds { IsPermutation (in_flight flits.new) (completion_flits completion ++ in_flight flits.old) }
 {
     if let Some(completion) = completion {
-        put(flits, completion.agent, completion.message);
+        flits.put(completion.agent, completion.message);
     }
 }

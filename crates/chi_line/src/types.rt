@@ -32,7 +32,7 @@ impl Line {
             credit,
         } = typed;
         let pending = self.requesters[usize::from(agent.0)].pending();
-        let cells = &self.flits[usize::from(agent.0)];
+        let cells = self.flits.cells(agent);
         has_type(profile, credit, pending_kind_of(pending, slot))
             && has_type(profile, credit, requested_kind_of(cells.req, slot))
             && has_type(

@@ -72,7 +72,7 @@ impl Line {
             serving: home.serving(),
             awaited: home.awaited(),
             waiting: home.all_waiting(),
-            flits: self.flits,
+            flits: self.flits.all(),
             last,
         }
     }

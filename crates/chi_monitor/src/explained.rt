@@ -10,7 +10,7 @@ use chi_slice::Config;
 use std::alloc::Allocator;
 
 /// Why there is no explanation.
-/// Source: `docs/FORMATS.md`, "Explanations".
+/// Source: `docs/TRACES.md`, "Explanations".
 #[derive(Clone, Copy, Debug, PartialEq, Eq)]
 pub enum NoExplanation {
     /// No run of the model sends this flit, counted from 0, behind those before it.
@@ -23,7 +23,7 @@ pub enum NoExplanation {
 /// and compared with the flits.
 ///
 /// `Fault` where none are found, with the first flit that no run of the model sends.
-/// Source: `docs/FORMATS.md`, "Explanations".
+/// Source: `docs/TRACES.md`, "Explanations".
 pub fn explain_flits<A: Allocator + Copy>(
     alloc: A,
     config: &Config,
@@ -40,4 +40,14 @@ pub fn explain_flits<A: Allocator + Copy>(
         Ok(()) => Ok(witness),
         Err(undone) => Err(NoExplanation::Undone(undone)),
     }
+}
+
+/// The first of the flits, counted from 0, that no run of the model sends behind those before it, and why; none is
+/// done. `None` where there is no such flit.
+/// Source: `docs/TRACES.md`, "Explanations".
+pub fn first_fault<A: Allocator + Copy>(
+    alloc: A,
+    flits: &[SentFlit],
+) -> Option<(usize, LineFault)> {
+    search_line(alloc, flits).err()
 }

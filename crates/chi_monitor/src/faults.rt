@@ -1,11 +1,12 @@
 //! Why no run of the model sends a flit.
 
+use crate::values::Known;
 use chi_flit::{Kind, Snoop, State};
 use std::alloc::{AllocError, AllocFailed};
 use std::fmt;
 
 /// Why no run of the model sends the flit that was seen next.
-/// Source: `docs/FORMATS.md`, "Explanations".
+/// Source: `docs/TRACES.md`, "Explanations".
 #[derive(Clone, Copy, Debug, PartialEq, Eq)]
 pub enum LineFault {
     /// Memory ran out.
@@ -32,8 +33,8 @@ pub enum LineFault {
     NothingToAnswer,
     /// An answer that the copy doesn't give: its last known state is this, and the snoop this.
     Answer(State, Snoop),
-    /// Data that isn't what the sender has.
-    Words,
+    /// Data that isn't what the sender has: these words, as far as they are known.
+    Words(Known),
     /// A completion, and no request of the node that it completes waits.
     NothingToComplete,
     /// A completion, and others are to be snooped before it, or were snooped that aren't to be.
@@ -42,7 +43,7 @@ pub enum LineFault {
     Form,
     /// A CompAck or write data, and the home doesn't await it from this node.
     NotAwaited,
-    /// Write data in another form than that of the copy, whose last known state is this.
+    /// Write data in another form than that of the copy, whose state is this.
     WriteForm(State),
 }
 
@@ -58,31 +59,53 @@ impl<T: Drop> From<AllocFailed<T>> for LineFault {
     }
 }
 
+/// The states that a copy may be in by now whose last known state is this, where nothing is pending.
+fn reachable(state: State) -> &'static str {
+    match state {
+        State::I => "I",
+        State::SC => "SC or I",
+        State::UC => "UC, UD or I",
+        State::UD => "UD",
+        State::SD => "SD",
+    }
+}
+
 impl fmt::Display for LineFault {
     fn fmt<W: fmt::Write>(&self, f: &mut fmt::Formatter<W>) -> fmt::Result {
         match self {
-            LineFault::NoMemory => f.write_str("out of memory"),
-            LineFault::NoAgent => f.write_str("it is no requester"),
-            LineFault::Pending => f.write_str("a request of it to the line is pending"),
+            LineFault::NoMemory => f.write_str("memory ran out"),
+            LineFault::NoAgent => f.write_str("it is none of eight requesters"),
+            LineFault::Pending => f.write_str("an earlier request of it to the line isn't over"),
             LineFault::Needs(kind, state) => {
-                write!(f, "its copy is {state}, and {kind} isn't issued from there")
+                let states = reachable(*state);
+                write!(
+                    f,
+                    "its copy is {states}, and {kind} isn't issued from there"
+                )
             }
             LineFault::NotRetried(kind) => write!(f, "no {kind} of it was retried"),
             LineFault::NothingToRetry => f.write_str("no first attempt of it is under way"),
-            LineFault::ServedRetry => f.write_str("its request is being served"),
-            LineFault::NobodyAsks(snoop) => write!(f, "no request asks for {snoop} of it"),
-            LineFault::Busy => f.write_str("the home awaits a CompAck or write data"),
-            LineFault::SnoopedTwice => f.write_str("it was snooped for the same request"),
+            LineFault::ServedRetry => f.write_str("the snoops that were sent are for its request"),
+            LineFault::NobodyAsks(snoop) => {
+                write!(f, "no request that waits asks for {snoop} of it now")
+            }
+            LineFault::Busy => f.write_str("the home awaits a CompAck or write data there"),
+            LineFault::SnoopedTwice => f.write_str("it was snooped for this request already"),
             LineFault::NothingToAnswer => f.write_str("no snoop to it is unanswered"),
             LineFault::Answer(state, snoop) => {
-                write!(f, "its copy is {state}, which answers {snoop} otherwise")
+                let states = reachable(*state);
+                write!(f, "its copy is {states}, which answers {snoop} otherwise")
             }
-            LineFault::Words => f.write_str("the data isn't what its sender has"),
-            LineFault::NothingToComplete => f.write_str("no such request of it waits"),
-            LineFault::Snoops => f.write_str("other agents are to be snooped first"),
-            LineFault::Form => f.write_str("the filter says another form"),
+            LineFault::Words(known) => write!(f, "its sender has the words {known}"),
+            LineFault::NothingToComplete => f.write_str("no request of it that it completes waits"),
+            LineFault::Snoops => {
+                f.write_str(
+                    "other agents are to be snooped and to answer first, or fewer were to be",
+                )
+            }
+            LineFault::Form => f.write_str("the home's filter says the other form"),
             LineFault::NotAwaited => f.write_str("the home doesn't await it"),
-            LineFault::WriteForm(state) => write!(f, "its copy is {state}"),
+            LineFault::WriteForm(state) => write!(f, "its copy is {state}, which has another form"),
         }
     }
 }

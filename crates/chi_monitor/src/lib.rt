@@ -1,9 +1,10 @@
 //! The search for an explanation of the flits that a monitor saw of a line: without backtracking and without a
 //! look ahead.
 //!
-//! Source: `docs/FORMATS.md`, "Explanations".
+//! Source: `docs/TRACES.md`, "Explanations".
 #![tactic(auto)]
 
+mod choices;
 mod explained;
 mod faults;
 mod filter;
@@ -12,6 +13,8 @@ mod requester;
 mod search;
 mod values;
 
-pub use explained::{NoExplanation, explain_flits};
+pub use choices::allowed;
+pub use explained::{NoExplanation, explain_flits, first_fault};
 pub use faults::LineFault;
 pub use search::Witness;
+pub use values::Known;

@@ -5,7 +5,7 @@ ghost use Rattle.std.specs.Prelude.{◌<◌};
 use crate::faults::LineFault;
 use crate::filter::{Agents, Filter, NOBODY, has, has_any, with_mark};
 use crate::requester::{Asked, Given, Requester, Stage};
-use crate::values::{Unknown, Values, Words};
+use crate::values::{Known, Unknown, Values, Words};
 use chi_flit::{
     Agent, CompData, DatUp, Data, Kind, Msg, NO_DATA, RspUp, Slot, Snoop, State, Step, WordNo,
     answer,
@@ -102,6 +102,29 @@ impl<A: Allocator> Search<A> {
     /// The value of a word, as far as it is known.
     pub fn value(&self, word: Unknown) -> u64 {
         self.values.value(word)
+    }
+
+    /// The words that the next data of the agent to the home has, as far as they are known; 0 where they aren't.
+    pub fn words_of(&self, agent: Agent) -> Data
+        requires { agent.0 < 8 }
+    {
+        self.values.line(&self.at(agent).words)
+    }
+
+    /// The dirty words that an agent has given for the completion that is next; those of memory where none has.
+    pub fn given(&self) -> Data {
+        let mut words = self.memory;
+        for answer in self.answers {
+            match answer {
+                Some(
+                    Answer::Shared(given)
+                    | Answer::InvalidPassed(given)
+                    | Answer::CleanPassed(given),
+                ) => words = given,
+                Some(Answer::Invalid | Answer::Clean) | None => {}
+            }
+        }
+        self.values.line(&words)
     }
 
     fn act(&mut self, agent: Agent, step: Step) -> Result<(), LineFault> {
@@ -365,7 +388,7 @@ impl<A: Allocator> Search<A> {
             }
             State::UD | State::SD => {
                 if !self.values.are_now(&side.words, data) {
-                    return Err(LineFault::Words);
+                    return Err(LineFault::Words(self.values.known(&side.words)));
                 }
             }
             State::I | State::SC | State::UC => return Err(fault),
@@ -488,7 +511,7 @@ impl<A: Allocator> Search<A> {
             _ => self.memory,
         };
         if !self.values.are_now(&words, &message.words) {
-            return Err(LineFault::Words);
+            return Err(LineFault::Words(self.values.known(&words)));
         }
         if alone {
             self.filter.only(agent);
@@ -611,14 +634,15 @@ impl<A: Allocator> Search<A> {
         if form != side.base {
             return Err(LineFault::WriteForm(side.base));
         }
-        let same = match form {
-            State::I => *data == NO_DATA,
-            State::SC | State::UC | State::UD | State::SD => {
-                self.values.are_now(&side.words, data)
-            }
+        let (same, has) = match form {
+            State::I => (*data == NO_DATA, Known([Some(0); 8])),
+            State::SC | State::UC | State::UD | State::SD => (
+                self.values.are_now(&side.words, data),
+                self.values.known(&side.words),
+            ),
         };
         if !same {
-            return Err(LineFault::Words);
+            return Err(LineFault::Words(has));
         }
         self.act(agent, Step::RecvDbid)?;
         self.act(agent, Step::RecvWrData)?;

@@ -7,11 +7,13 @@ use chi_flit::{DatUp, Data, Msg, RspDown, RspUp, Step};
 use std::alloc::Allocator;
 
 /// Actions that explain the flits of a line, and what its memory had at first.
-/// Source: `docs/FORMATS.md`, "Explanations".
+/// Source: `docs/TRACES.md`, "Explanations".
 #[derive(Drop)]
 pub struct Witness<A: Allocator> {
     pub memory: Data,
     pub deeds: Vec<Deed, A>,
+    /// For each flit, how many of the items were found once it was taken.
+    pub ends: Vec<usize, A>,
 }
 
 /// The first flit that no run of the model sends, counted from 0, and why.
@@ -23,24 +25,41 @@ pub(crate) fn search_line<A: Allocator + Copy>(
     alloc: A,
     flits: &[SentFlit],
 ) -> Result<Witness<A>, FirstFault> {
+    let mut ends = Vec::new(alloc);
     let mut search = match Search::new(alloc) {
         Ok(search) => search,
         Err(fault) => return Err((0, fault)),
     };
     for (at, flit) in flits.iter().enumerate() {
-        if let Err(fault) = take(&mut search, flit) {
+        let taken = take(&mut search, flit);
+        if let Err(fault) = taken {
             return Err((at, fault));
+        }
+        if ends.push(search.items().len()).is_err() {
+            return Err((at, LineFault::NoMemory));
         }
     }
     search.close();
-    match explanation(alloc, &search) {
+    match explanation(alloc, &search, ends) {
         Ok(witness) => Ok(witness),
         Err(fault) => Err((flits.len(), fault)),
     }
 }
 
+/// The line behind these flits, of which none is a fault.
+pub(crate) fn line_behind<A: Allocator + Copy>(
+    alloc: A,
+    flits: &[SentFlit],
+) -> Result<Search<A>, LineFault> {
+    let mut search = Search::new(alloc)?;
+    for flit in flits {
+        take(&mut search, flit)?;
+    }
+    Ok(search)
+}
+
 /// Takes the next flit.
-fn take<A: Allocator>(search: &mut Search<A>, flit: &SentFlit) -> Result<(), LineFault> {
+pub(crate) fn take<A: Allocator>(search: &mut Search<A>, flit: &SentFlit) -> Result<(), LineFault> {
     let agent = flit.agent;
     if agent.0 >= 8 {
         return Err(LineFault::NoAgent);
@@ -61,7 +80,11 @@ fn take<A: Allocator>(search: &mut Search<A>, flit: &SentFlit) -> Result<(), Lin
 }
 
 /// The explanation, in which words that no flit has shown are 0.
-fn explanation<A: Allocator + Copy>(alloc: A, search: &Search<A>) -> Result<Witness<A>, LineFault> {
+fn explanation<A: Allocator + Copy>(
+    alloc: A,
+    search: &Search<A>,
+    ends: Vec<usize, A>,
+) -> Result<Witness<A>, LineFault> {
     let mut deeds = Vec::new(alloc);
     for item in search.items() {
         deeds.push(deed(search, *item))?;
@@ -69,6 +92,7 @@ fn explanation<A: Allocator + Copy>(alloc: A, search: &Search<A>) -> Result<Witn
     Ok(Witness {
         memory: search.opening(),
         deeds,
+        ends,
     })
 }
 

@@ -2,6 +2,7 @@
 
 use chi_flit::Data;
 use std::alloc::{AllocError, Allocator};
+use std::fmt;
 
 /// A word that a flit may show later: until then it has no value.
 #[derive(Clone, Copy, Debug, PartialEq, Eq)]
@@ -9,6 +10,25 @@ pub(crate) struct Unknown(pub usize);
 
 /// The words of a line.
 pub(crate) type Words = [Unknown; 8];
+
+/// The words of a line, as far as they are known.
+#[derive(Clone, Copy, Debug, PartialEq, Eq)]
+pub struct Known(pub [Option<u64>; 8]);
+
+impl fmt::Display for Known {
+    fn fmt<W: fmt::Write>(&self, f: &mut fmt::Formatter<W>) -> fmt::Result {
+        for (number, word) in self.0.iter().enumerate() {
+            if number > 0 {
+                f.write_str(",")?;
+            }
+            match word {
+                Some(value) => write!(f, "{value:x}")?,
+                None => f.write_str("x")?,
+            }
+        }
+        Ok(())
+    }
+}
 
 /// The values that the flits so far have shown.
 #[derive(Drop)]
@@ -49,27 +69,50 @@ impl<A: Allocator> Values<A> {
         Ok(words)
     }
 
-    /// Whether the word may have the value; then it has it from now on.
-    fn is_now(&mut self, word: Unknown, value: u64) -> bool {
-        match self.shown.get_mut(word.0) {
-            Some(shown) => match *shown {
-                Some(known) => known == value,
-                None => {
-                    *shown = Some(value);
-                    true
-                }
-            },
-            None => false,
+    /// What is known of a word.
+    fn known_word(&self, word: Unknown) -> Option<u64> {
+        match self.shown.get(word.0) {
+            Some(shown) => *shown,
+            None => None,
+        }
+    }
+
+    /// Whether the word may have the value.
+    fn may_be(&self, word: Unknown, value: u64) -> bool {
+        match self.known_word(word) {
+            Some(known) => known == value,
+            None => true,
+        }
+    }
+
+    /// The word has the value from now on.
+    fn bind(&mut self, word: Unknown, value: u64) {
+        if let Some(shown) = self.shown.get_mut(word.0) {
+            *shown = Some(value);
         }
     }
 
     /// Whether the words may have these values; then they have them from now on.
     pub fn are_now(&mut self, words: &Words, values: &Data) -> bool {
-        let mut may = true;
-        for (word, value) in words.iter().zip(values) {
-            may &= self.is_now(*word, *value);
+        let may = words
+            .iter()
+            .zip(values)
+            .all(|(word, value)| self.may_be(*word, *value));
+        if may {
+            for (word, value) in words.iter().zip(values) {
+                self.bind(*word, *value);
+            }
         }
         may
+    }
+
+    /// What is known of the words of a line.
+    pub fn known(&self, words: &Words) -> Known {
+        let mut known = [None; 8];
+        for (place, word) in known.iter_mut().zip(words) {
+            *place = self.known_word(*word);
+        }
+        Known(known)
     }
 
     /// The word's value; 0 where no flit has shown it.

@@ -21,6 +21,7 @@ use Rattle.chi_line.specs.declared.seen.Where.{Where}
 use Rattle.chi_line.specs.declared.seen.Where.TheVariants as places
 use Rattle.chi_line.specs.LineState.{cells_of}
 use Rattle.chi_line.specs.Moves.{requested_slot}
+use Rattle.chi_line.specs.Step.{is_step_in_range}
 use Rattle.chi_line.proofs.MoveLaw.{flit_at}
 use Rattle.chi_line.specs.Refused.{no_flit_unless, retry_refusal}
 use Rattle.chi_slice.specs.Slice.{SliceState, slice_after, is_in_range, is_line_in_range, line, action_refusal}
@@ -41,6 +42,11 @@ use Rattle.chi_node.proofs.Records.{tells_of}
 use Rattle.chi_node.proofs.Agreement.{OwnFollows, action_of, keeps}
 use Rattle.chi_node.proofs.Stepping.{Own, Ready, arrival_follows, own_at}
 use Rattle.chi_node.proofs.StepCalls.{ready_by}
+
+-- the numbers of an arrival's step are in their ranges
+pub step_fits : (arrived : Arrived) → is_step_in_range (arrival_step arrived) ≡ true
+step_fits (Admitted entry) = refl
+step_fits (Retried ty) = refl
 
 abbrev agent_of : RequesterState → Agent
 agent_of r = record { 0 = r.number }

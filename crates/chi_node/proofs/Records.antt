@@ -85,8 +85,8 @@ closed x is = freed x (after_answer x) (ap (λ (z : SlotState). after_answer_in 
 pub ended : (x : SlotRecord) → x.answered ≡ true → Becomes x (after_finish x) None
 ended x is = freed x (after_finish x) (ap (λ (b : Bool). if b then idle_slot else in_state Closing x) is)
 
-pub closing : (x : SlotRecord) → x.answered ≡ false → Becomes x (after_finish x) (Some places.Closing)
-closing x is = subst (λ (b : Bool). Becomes x (if b then idle_slot else in_state Closing x) (Some places.Closing)) (sym is) (restated x Closing (Some places.Closing) refl)
+pub closes : (x : SlotRecord) → x.answered ≡ false → Becomes x (after_finish x) (Some places.Closing)
+closes x is = subst (λ (b : Bool). Becomes x (if b then idle_slot else in_state Closing x) (Some places.Closing)) (sym is) (restated x Closing (Some places.Closing) refl)
 
 -- so it says of the line where it was that its request is there, and nothing of others
 pub says_here : (x y : SlotRecord) (l : ℕ) (to : Option Where) → x.line.0 ≡ l → Becomes x y to → where_of_record y l ≡ to

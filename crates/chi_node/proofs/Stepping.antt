@@ -39,7 +39,7 @@ use Rattle.chi_node.specs.Agree.{MatchesRecord, where_of_state}
 use Rattle.chi_node.specs.AfterStep.{CanFinish, CanFollow, Completes, Finishes, SlotMeets, account_after, changed_at, counts_after, requester_after}
 use Rattle.chi_node.specs.Calls.{place_at}
 use Rattle.chi_node.proofs.Matches.{itself}
-use Rattle.chi_node.proofs.Records.{Becomes, answered, closed, closing, ended, only_after, only_nowhere, only_there, record_here, record_is, restated, says_here, tells_of}
+use Rattle.chi_node.proofs.Records.{Becomes, answered, closed, closes, ended, only_after, only_nowhere, only_there, record_here, record_is, restated, says_here, tells_of}
 use Rattle.chi_node.proofs.Agreement.{AllFollow, CountsFollow, OwnFollows, action_of, left_line, moves_to, none_moves, one_moves}
 
 -- a step that the slice doesn't refuse, of a requester that agrees with it
@@ -206,7 +206,7 @@ fine_start s agent l r (Completed slot) ready is =
     let own : Own s agent l steps.Start r places.Admitted slot = own_at s agent l steps.Start r places.Admitted slot ready is (ap (λ (o : Option Slot). if_moved o places.Admitted) is) in
     let state = tells_of (slot_at r.slots slot.0) places.Admitted own.tells in
     completes s agent l steps.Start r places.Admitted slot ready own refl refl state.0
-    (subst (Becomes (slot_at r.slots slot.0) (after_finish (slot_at r.slots slot.0))) (sym (ap (λ (o : Option Slot). if_moved o places.Closing) is)) (closing (slot_at r.slots slot.0) state.1))
+    (subst (Becomes (slot_at r.slots slot.0) (after_finish (slot_at r.slots slot.0))) (sym (ap (λ (o : Option Slot). if_moved o places.Closing) is)) (closes (slot_at r.slots slot.0) state.1))
 
 -- a request that arrives at the home
 pub arrival_follows : (s : SliceState) (agent : Agent) (l : Line) (step : Step) (r : RequesterState) (from : Where) (slot : Slot) (state : SlotState) (port : PortView) (history : List Act) → Ready s agent l step r → Own s agent l step r from slot → issued_slot step ≡ None → record_of (line s l.0) (action_of agent l step) ≡ None

@@ -2,6 +2,7 @@
 
 ghost use Rattle.std.specs.Prelude.{◌≡◌, true, IfOk};
 ghost use Rattle.chi_flit.specs.Refusal.{refusal_of};
+ghost use Rattle.chi_slice.specs.Slice.{CanAct, IsRow};
 ghost use Rattle.chi_node.specs.Agree.{Agree};
 ghost use Rattle.chi_node.specs.Calls.{arrival_refusal, arrival_step, call_refusal, is_own_step};
 ghost use Rattle.chi_node.specs.Calls.{BothKept, CanArriveOn, DoesArrival, DoesStep, IsArrivalRefusal, IsStepRefusal};
@@ -12,7 +13,7 @@ use crate::answers::{Arrived, Stepped};
 use crate::requester::Requester;
 use crate::steps::StepPlace;
 use chi_flit::{Action, Line, Refusal, Request, Step};
-use chi_slice::{Slice, Terms};
+use chi_slice::{AgentRow, Slice, Terms};
 use chi_tracker::Tracker;
 use std::alloc::Allocator;
 
@@ -63,30 +64,33 @@ pub fn arrive_agreed<A: Allocator, B: Allocator>(
     ensures refusal { refusal_of result ≡ arrival_refusal slice.old requester.old.number line.0 }
     ensures call { DoesArrival slice.old slice.new line requester.old requester.new result }
 {
-    let request = arrival(slice, requester, line)?;
-    let agent = requester.number();
+    let (at, request) = arrival(slice, requester, line)?;
     let arrived = requester.arrive(tracker, request.slot, request.allow_retry);
     let step = arrival_step(arrived);
-    let Ok(_) = slice.act_under(Action { agent, line, step }, Terms::NONE) else {
+    let Ok(_) = slice.act_in(at, step, Terms::NONE) else {
         unreachable!();
     };
     Ok(arrived)
 }
 
-/// The requester's request that is in flight at the line.
+/// The requester's request that is in flight at the line, and the row of the two there, which is asked for once.
 fn arrival<A: Allocator>(
     slice: &Slice<A>,
     requester: &Requester,
     line: Line,
-) -> Result<Request, Refusal>
+) -> Result<(AgentRow, Request), Refusal>
     ensures refusal { refusal_of result ≡ arrival_refusal slice.now requester.now.number line.0 }
-    ensures ok { IfOk result (λ request. CanArriveOn slice.now requester.now line request) }
+    ensures ok { IfOk result (λ found. CanArriveOn slice.now requester.now line found.1) }
+    ensures row { IfOk result (λ found. IsRow slice.now found.0) }
+    ensures inside { IfOk result (λ found. CanAct slice.now found.0) }
+    ensures agent { IfOk result (λ found. found.0.agent.0 ≡ requester.now.number) }
+    ensures line { IfOk result (λ found. found.0.line ≡ line) }
 {
-    let cells = slice.flits(requester.number(), line)?;
-    let Some(request) = cells.req else {
+    let at = slice.row_for(requester.number(), line)?;
+    let Some(request) = slice.flits_in(at).req else {
         return Err(Refusal::NoFlit);
     };
-    Ok(request)
+    Ok((at, request))
 }
 
 /// What the slice does where a request arrived so.

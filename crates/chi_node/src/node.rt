@@ -14,7 +14,7 @@ ghost use Rattle.chi_node.specs.Locked.{ArrivesLocked, StepsLocked};
 
 use crate::answers::{Arrived, Stepped};
 use crate::calls::{arrive_on, step_on};
-use crate::closing::{behind_locks, out_of_locks, ports_of};
+use crate::locks::{behind_locks, out_of_locks, ports_of};
 use crate::opening::parts;
 use crate::own::is_slice_of;
 use crate::requester::Requester;

@@ -11,6 +11,8 @@ use Rattle.chi_program.specs.declared.program.End.{End}
 use Rattle.chi_program.specs.declared.program.End.TheVariants as ends
 use Rattle.chi_program.specs.declared.program.Stop.{Stop}
 use Rattle.chi_program.specs.declared.program.Stop.TheVariants.{Arguments, Run}
+use Rattle.chi_verdict.specs.declared.reports.Outcome.{Outcome}
+use Rattle.chi_verdict.specs.declared.reports.Outcome.TheVariants as outcomes
 
 abbrev pub stop_status : Stop → ℕ
 stop_status (Arguments fault) = words.status_of fault
@@ -24,11 +26,19 @@ abbrev pub end_status : End → ℕ
 end_status ends.Done = 0
 end_status ends.Unfinished = 2
 end_status ends.Differs = 5
+end_status ends.Malformed = 1
+end_status ends.Unexplained = 6
 
 -- the end of a check of which all answers hold, or not
 abbrev pub check_end : Bool → End
 check_end true = ends.Done
 check_end false = ends.Differs
+
+-- the end of an explanation of which this came
+abbrev pub explain_end : Outcome → End
+explain_end outcomes.Explained = ends.Done
+explain_end outcomes.Faulty = ends.Unexplained
+explain_end outcomes.Malformed = ends.Malformed
 
 -- the end of a storm of which all scripts finished, or not
 abbrev pub storm_end : Bool → End
@@ -41,9 +51,9 @@ run_status (Ok end) = end_status end
 run_status (Err stop) = stop_status stop
 
 -- the statuses that the program can end with: all went well, a faulty file or a device that failed, a script
--- that didn't finish, want of memory, bad arguments, and an answer that differs
+-- that didn't finish, want of memory, bad arguments, an answer that differs, and a flit that isn't explained
 abbrev pub statuses : List ℕ
-statuses = 0 ∷ 1 ∷ 2 ∷ 3 ∷ 4 ∷ 5 ∷ []
+statuses = 0 ∷ 1 ∷ 2 ∷ 3 ∷ 4 ∷ 5 ∷ 6 ∷ []
 
 -- why the words of the command line weren't had: every cause but want of memory is bad arguments
 abbrev pub words_fault : ErrorKind → ArgFault

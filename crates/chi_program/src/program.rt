@@ -4,16 +4,18 @@ ghost use Rattle.std.specs.Prelude.{◌≡◌, Some, IfOk, IfErr, Contains, map,
 ghost use Rattle.std.specs.Vec.Iter.{into_iter_items};
 ghost use Rattle.chi_arguments.specs.declared.faults.ArgFault.{ArgFault};
 ghost use Rattle.chi_program.specs.declared.program.Stop.TheVariants.{Arguments, Run};
-ghost use Rattle.chi_program.specs.Stops.{check_end, end_status, run_status, statuses, stop_status, stop_text, storm_end, words_fault};
+ghost use Rattle.chi_program.specs.Stops.{check_end, end_status, explain_end, run_status, statuses, stop_status, stop_text, storm_end, words_fault};
 
 use chi_arguments::{ArgFault, Job, arguments};
 use chi_chart::chart;
-use chi_check::check;
 use chi_devices::{FileInput, StandardOutput};
 use chi_flit::Line;
-use chi_replay::replay;
+use chi_replay::{check, replay};
+use chi_resolution::Options;
 use chi_script::Fault;
 use chi_storm::storm;
+use chi_trace::Address;
+use chi_verdict::{Outcome, explain};
 use std::alloc::Global;
 use std::env::Args;
 use std::io::ErrorKind;
@@ -82,6 +84,10 @@ enum End {
     Unfinished,
     /// An answer of a check differs from the one that is wanted.
     Differs,
+    /// The file is no trace.
+    Malformed,
+    /// Some flit of a trace isn't explained.
+    Unexplained,
 }
 
 impl End {
@@ -93,6 +99,8 @@ impl End {
             End::Done => 0,
             End::Unfinished => 2,
             End::Differs => 5,
+            End::Malformed => 1,
+            End::Unexplained => 6,
         }
     }
 }
@@ -122,7 +130,7 @@ fn report_end<R: Eprint>(rt: &R, run: Result<End, Stop>) -> u8
 }
 
 /// Reads the command line, and does what it asks for.
-fn follow<R: Env + Files + AllocGlobal + Print + Threads + Wait + Clock + Sync>(
+fn follow<R: Env + Files + AllocGlobal + Print + Eprint + Threads + Wait + Clock + Sync>(
     rt: &R,
 ) -> Result<End, Stop> {
     let texts = match env::args(rt) {
@@ -134,6 +142,18 @@ fn follow<R: Env + Files + AllocGlobal + Print + Threads + Wait + Clock + Sync>(
         Job::Replay(path) => Ok(replay_file(rt, path)?),
         Job::Check(path) => Ok(check_file(rt, path)?),
         Job::Chart { path, only } => Ok(chart_file(rt, path, only)?),
+        Job::Explain {
+            path,
+            types,
+            early_grants,
+            only,
+        } => {
+            let options = Options {
+                types,
+                early_grants,
+            };
+            Ok(explain_file(rt, path, options, only)?)
+        }
         Job::Storm { path, seed, turns } => Ok(storm_file(rt, path, seed, turns)?),
     }
 }
@@ -217,4 +237,31 @@ fn storm_end(finished: bool) -> End
     ensures { result ≡ storm_end finished }
 {
     if finished { End::Done } else { End::Unfinished }
+}
+
+/// Writes to standard output what explains the trace at the path; of a malformed one a line is on standard error.
+fn explain_file<R: Files + AllocGlobal + Print + Eprint>(
+    rt: &R,
+    path: &str,
+    options: Options,
+    only: Option<Address>,
+) -> Result<End, Fault> {
+    let mut input = FileInput::open(rt, path)?;
+    let mut output = StandardOutput::new(io::writer(rt));
+    let report = explain(rt.alloc(), &mut input, &mut output, options, only)?;
+    if report.outcome == Outcome::Malformed {
+        let _ = rt.eprintln(report.text.as_str());
+    }
+    Ok(explain_end(report.outcome))
+}
+
+/// The end of an explanation of which this came.
+fn explain_end(outcome: Outcome) -> End
+    ensures { result ≡ explain_end outcome }
+{
+    match outcome {
+        Outcome::Explained => End::Done,
+        Outcome::Faulty => End::Unexplained,
+        Outcome::Malformed => End::Malformed,
+    }
 }

@@ -17,12 +17,6 @@ const FIRST_PATH: &[u8] =
 const FIRST_PATH_TEXT: &[u8] =
     b"ok\nok admitted 0\nok\nok CompData_UC\nok\nok CompAck\nok free 0 1 hand 1 0 promised 0 0 owed 0 0\nok completed 0 freed\nok free 1 1 hand 0 0 promised 0 0 owed 0 0\nrefused 2 WrongState\nok copies UC named 0 unique yes serving none waiting - memory 0 0 0 0 0 0 0 0\n";
 
-const HANDED_ON: &[u8] =
-    b"node 2 1 1 1 1 8\nissue 0 0 ReadNotSharedDirty 0\narrive 0 0\nstart 0 0\ndata 0 0\nack 0 0\nstore 0 0 3 7\nissue 1 0 ReadNotSharedDirty 0\narrive 1 0\nstart 1 0\nsnp 0 0\nflits 0 0\nsnpresp 0 0\ndata 1 0\nload 1 0 3\nack 1 0\nshow 0\n";
-
-const HANDED_ON_TEXT: &[u8] =
-    b"ok\nok admitted 0\nok\nok\nok completed 0 freed\nok\nok\nok admitted 0\nok\nok\nok SnpRespData_SC_PD\nok\nok\nok value 7\nok completed 0 freed\nok copies SC,SC named 0,1 unique no serving none waiting - memory 0 0 0 7 0 0 0 0\n";
-
 const TOTALS: &[u8] = b"node 1 1 1 1 1 4\ntotals\n";
 
 const TOTALS_TEXT: &[u8] = b"ok free 1 1 hand 0 0 promised 0 0 owed 0 0\n";
@@ -31,34 +25,12 @@ const TWO_COMMANDS: &[u8] = b"node 1 1 1 1 1 4\ntotals\nflits 0 0\n";
 
 const TWO_COMMANDS_TEXT: &[u8] = b"ok free 1 1 hand 0 0 promised 0 0 owed 0 0\nok none\n";
 
-const ABOVE_THE_RANGES: &[u8] =
-    b"node 1 1 1 1 1 4\nload 256 0 0\nload 0 0 8\nstore 0 0 0 18446744073709551615\n";
-
-const ABOVE_THE_RANGES_TEXT: &[u8] =
-    b"refused 10 OutOfRange\nrefused 10 OutOfRange\nrefused 2 WrongState\n";
-
 #[test]
 fn the_first_path_is_answered(rt: HostRuntime) {
     let mut input = MemoryInput::new(FIRST_PATH, 10);
     let mut output = MemoryOutput::new(rt.alloc(), 1_000);
     same(&rt, replay(rt.alloc(), &mut input, &mut output), Ok(()));
     assert!(rt; output.bytes() == FIRST_PATH_TEXT);
-}
-
-#[test]
-fn dirty_data_is_handed_on_to_another_agent(rt: HostRuntime) {
-    let mut input = MemoryInput::new(HANDED_ON, 10);
-    let mut output = MemoryOutput::new(rt.alloc(), 1_000);
-    same(&rt, replay(rt.alloc(), &mut input, &mut output), Ok(()));
-    assert!(rt; output.bytes() == HANDED_ON_TEXT);
-}
-
-#[test]
-fn a_number_above_its_range_is_refused_and_told(rt: HostRuntime) {
-    let mut input = MemoryInput::new(ABOVE_THE_RANGES, 10);
-    let mut output = MemoryOutput::new(rt.alloc(), 1_000);
-    same(&rt, replay(rt.alloc(), &mut input, &mut output), Ok(()));
-    assert!(rt; output.bytes() == ABOVE_THE_RANGES_TEXT);
 }
 
 /// The replay of this file must end with this line and status 1, and write nothing.
@@ -74,45 +46,6 @@ fn tells(rt: &(impl Abort + AllocGlobal), file: &[u8], line: &str) -> Result<(),
         }
     }
     assert!(rt; output.bytes().is_empty(), "{line}");
-    Ok(())
-}
-
-#[test]
-fn a_faulty_file_is_told_and_nothing_written(rt: HostRuntime) -> Result<(), AllocError> {
-    let files: [(&[u8], &str); 11] = [
-        (b"", "chihome: line 1: bad header"),
-        (b"node 1 1 1 1 1 4", "chihome: line 1: missing newline"),
-        (b"node 1 1 1 1 1 4\r\n", "chihome: line 1: bad header"),
-        (b"node 9 64 8 32 32 65536\n", "chihome: line 1: bad header"),
-        (
-            b"node 8 64 8 100 100 30 27 65536\ntotals\n",
-            "chihome: line 1: bad header",
-        ),
-        (
-            b"node 1 1 1 1 1 4\nload 0 0\n",
-            "chihome: line 2: bad command",
-        ),
-        (
-            b"node 1 1 1 1 1 4\nload 00 0 0\n",
-            "chihome: line 2: bad command",
-        ),
-        (
-            b"node 1 1 1 1 1 4\nload  0 0 0\n",
-            "chihome: line 2: bad command",
-        ),
-        (b"node 1 1 1 1 1 4\n\n", "chihome: line 2: bad command"),
-        (
-            b"node 1 1 1 1 1 4\nload 18446744073709551616 0 0\n",
-            "chihome: line 2: bad command",
-        ),
-        (
-            b"node 1 1 1 1 1 2\nissue 0 0 Read",
-            "chihome: line 2: missing newline",
-        ),
-    ];
-    for (file, line) in files {
-        tells(&rt, file, line)?;
-    }
     Ok(())
 }
 

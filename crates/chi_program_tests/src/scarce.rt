@@ -3,7 +3,7 @@
 use crate::comparison::same;
 use bumpalo::Bump;
 use chi_devices::{MemoryInput, read_all};
-use chi_script::{Command, Fault, Script, read_file};
+use chi_script::{Command, Fault, ReplayFile, read_file};
 use linked_list_allocator::LocalHeap;
 use std::alloc::{AllocError, Allocator};
 use std::process::Abort;
@@ -12,14 +12,14 @@ const FILE: &[u8] =
     b"node 1 2 1 4 2 8\nissue 0 0 ReadNotSharedDirty 0\nshow 1\nflits 0 0\narrive 0 0\ntotals\n";
 
 /// Reads the file from an input over memory, all with this allocator.
-fn read<A: Allocator + Copy>(alloc: A) -> Result<Script<A>, Fault> {
+fn read<A: Allocator + Copy>(alloc: A) -> Result<ReplayFile<A>, Fault> {
     let mut input = MemoryInput::new(FILE, 10);
     let bytes = read_all(alloc, &mut input)?;
     read_file(alloc, &bytes)
 }
 
 /// Whether the file was read; otherwise memory ran out.
-fn is_read<A: Allocator>(rt: &impl Abort, read: Result<Script<A>, Fault>) -> bool {
+fn is_read<A: Allocator>(rt: &impl Abort, read: Result<ReplayFile<A>, Fault>) -> bool {
     match read {
         Ok(script) => {
             same(rt, script.commands.len(), 5);

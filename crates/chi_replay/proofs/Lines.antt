@@ -7,7 +7,7 @@ use Rattle.chi_script.specs.Files.{commands_of, file_of, lines_of, with_header}
 use Rattle.chi_script.specs.Headers.{node_sizes}
 use Rattle.chi_script.proofs.FileLemmas.{bad_commands, good_commands}
 use Rattle.chi_config.specs.Config.{Sizes}
-use Rattle.chi_text.specs.Texts.{IsTextOfLines}
+use Rattle.chi_replay.specs.Texts.{IsTextOfLines}
 use Rattle.chi_replay.specs.Replays.{IsTextOf}
 
 text_of_file : (file lines : List ℕ) (header : Header) (bytes : List ℕ) → file_of file ≡ with_header header (commands_of 2 (lines_of lines)) → IsTextOfLines (node_sizes header) lines bytes → IsTextOf file bytes

@@ -1,1 +1,9 @@
+pub mod Ports
+pub mod Turns
+pub mod Texts
+pub mod NodeReplies
+pub mod Session
+pub mod Answers
 pub mod Replays
+pub mod Reports
+pub mod Checks

@@ -6,14 +6,14 @@ ghost use Rattle.chi_script.specs.Headers.{is_in_limits, node_sizes};
 ghost use Rattle.chi_config.specs.Config.{config_if};
 ghost use Rattle.chi_script.specs.Faults.{Fails};
 ghost use Rattle.chi_script.specs.Files.{commands_of, file_of, lines_of};
-ghost use Rattle.chi_text.specs.Texts.{IsTextOfLines};
+ghost use Rattle.chi_replay.specs.Texts.{IsTextOfLines};
 ghost use Rattle.chi_replay.specs.Replays.{AtWrite, IsTextOf, KeepsAtFault, NoText, NoTextAt, RefusesFault, WritesFront, WritesText, read_sizes};
 
+use crate::runs::run_lines;
 use chi_devices::{Failed, Input, Output, read_all};
 use chi_flit::Profile;
 use chi_script::{Fault, Header, check_lines, read_head};
 use chi_slice::Config;
-use chi_text::run_lines;
 use std::alloc::Allocator;
 
 /// The sizes of a header, where a node may have them.
@@ -72,8 +72,10 @@ fn text_of_lines<A: Allocator + Copy>(
 /// The same of an input's bytes; `Read` where reading them failed.
 fn text_of_input<A: Allocator + Copy, I: Input>(alloc: A, input: &mut I) -> Result<String<A>, Fault>
     requires { I.failures input.old + 1 < 2 ^ 64 }
-    ensures ok { IfOk result (λ text. IfSome (I.left input.old) (λ file. IsTextOf file (string_bytes text))) }
-    ensures err { IfErr result (NoText file_of (I.left input.old) (I.failures input.old) (I.failures input.new)) }
+    ensures ok { IfOk result
+        (λ text. IfSome (I.left input.old) (λ file. IsTextOf file (string_bytes text))) }
+    ensures err { IfErr result
+        (NoText file_of (I.left input.old) (I.failures input.old) (I.failures input.new)) }
 {
     let bytes = read_all(alloc, input)?;
     text_of(alloc, &bytes)
@@ -96,13 +98,18 @@ pub fn replay<A: Allocator + Copy, I: Input, O: Output>(
 ) -> Result<(), Fault>
     requires reads { I.failures input.old + 1 < 2 ^ 64 }
     requires writes { O.failures output.old + 1 < 2 ^ 64 }
-    ensures ok { OnOk result (WritesText (I.left input.old) (O.written output.old) (O.written output.new)) }
+    ensures ok { OnOk result
+        (WritesText (I.left input.old) (O.written output.old) (O.written output.new)) }
     ensures write { AtWrite result (O.failures output.new ≡ O.failures output.old + 1) }
-    ensures front { AtWrite result (WritesFront (I.left input.old) (O.written output.old) (O.written output.new)) }
-    ensures err { NoTextAt result file_of (I.left input.old) (I.failures input.old) (I.failures input.new) }
-    ensures kept { IfErr result (λ fault. fault ≢ Fault.Write → Keeps (O.written output.old) (O.written output.new)) }
+    ensures front { AtWrite result
+        (WritesFront (I.left input.old) (O.written output.old) (O.written output.new)) }
+    ensures err { NoTextAt result file_of (I.left input.old)
+        (I.failures input.old) (I.failures input.new) }
+    ensures kept { IfErr result
+        (λ fault. fault ≢ Fault.Write → Keeps (O.written output.old) (O.written output.new)) }
     ensures faulty { RefusesFault file_of (I.left input.old) result }
-    ensures silent { KeepsAtFault file_of (I.left input.old) (O.written output.old) (O.written output.new) }
+    ensures silent { KeepsAtFault file_of (I.left input.old)
+        (O.written output.old) (O.written output.new) }
 {
     let text = text_of_input(alloc, input)?;
     match output.write_all(text.as_bytes()) {

@@ -24,9 +24,9 @@ use Rattle.chi_tracker.specs.declared.released.Released.{Released}
 use Rattle.chi_tracker.specs.declared.released.Released.TheVariants.{Granted, Freed}
 use Rattle.chi_reply.specs.declared.replies.Reply.{Reply}
 use Rattle.chi_reply.specs.declared.replies.Reply.TheVariants.{Done, Value, Admitted, Retry, Completed, Paid, Idle, Refused}
-use Rattle.chi_reply.specs.declared.credits.Credits.{Credits}
-use Rattle.chi_reply.specs.declared.totals.Totals.{Totals}
-use Rattle.chi_reply.specs.declared.audits.Audit.{Audit}
+use Rattle.chi_reply.specs.declared.credits.SeenCredits.{SeenCredits}
+use Rattle.chi_reply.specs.declared.totals.NodeTotals.{NodeTotals}
+use Rattle.chi_slice.specs.declared.audits.Audit.{Audit}
 
 -- where a released entry went
 abbrev pub released_text : Released → List ℕ
@@ -116,20 +116,20 @@ abbrev pub counts_text : Profile → List ℕ → List ℕ
 counts_text profile counts = spaced_texts decimal (take (type_count profile) counts)
 
 -- `see`
-abbrev pub credits_text : Credits → List ℕ
+abbrev pub credits_text : SeenCredits → List ℕ
 credits_text credits = codes "ok credits" ++ counts_text credits.profile credits.counts
 
 -- the entries by type, and the owed credits
-abbrev pub holdings_text : Totals → List ℕ
-holdings_text totals =
+abbrev pub storm_totals_text : NodeTotals → List ℕ
+storm_totals_text totals =
     codes "free" ++ (counts_text totals.profile totals.free
     ++ (codes " hand" ++ (counts_text totals.profile totals.hand
     ++ (codes " promised" ++ (counts_text totals.profile totals.promised
     ++ (codes " owed" ++ counts_text totals.profile totals.owed))))))
 
 -- `totals`
-abbrev pub totals_text : Totals → List ℕ
-totals_text totals = codes "ok " ++ holdings_text totals
+abbrev pub totals_text : NodeTotals → List ℕ
+totals_text totals = codes "ok " ++ storm_totals_text totals
 
 -- what an audit finds
 abbrev pub verdict_text : Bool → List ℕ

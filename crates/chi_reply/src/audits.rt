@@ -1,22 +1,13 @@
-//! The answer of `audit`.
+//! The answer of `audit`: what an audit of a node found.
 
 ghost use Rattle.std.specs.Prelude.{◌≡◌};
 ghost use Rattle.chi_reply.specs.Replies.{audit_text, verdict_text};
 
-use crate::prints::Wording;
+use crate::prints::Printable;
+use chi_slice::Audit;
 use std::alloc::{AllocError, Allocator};
 
-/// How many loads and stores the journals of a node have, and whether its lines are coherent and its
-/// journals legal. It prints as the answer of `audit`, without the line feed.
-/// Source: `docs/FORMATS.md`, "Replay files".
-#[derive(Clone, Copy, Debug, PartialEq, Eq)]
-pub struct Audit {
-    pub loads: u64,
-    pub stores: u64,
-    pub coherent: bool,
-}
-
-impl Wording for Audit {
+impl Printable for Audit {
     ghost text = { audit_text };
 
     fn print<A: Allocator>(&self, printed: &mut String<A>) -> Result<(), AllocError> {

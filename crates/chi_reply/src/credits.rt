@@ -3,7 +3,7 @@
 ghost use Rattle.chi_reply.specs.Replies.{credits_text};
 
 use crate::numbers::type_count;
-use crate::prints::{Wording, print_numbers};
+use crate::prints::{Printable, print_numbers};
 use chi_flit::Profile;
 use std::alloc::{AllocError, Allocator};
 
@@ -11,12 +11,12 @@ use std::alloc::{AllocError, Allocator};
 /// the line feed: the numbers of the types that the profile has.
 /// Source: `docs/FORMATS.md`, "Replay files".
 #[derive(Clone, Copy, Debug, PartialEq, Eq)]
-pub struct Credits {
+pub struct SeenCredits {
     pub counts: [u32; 4],
     pub profile: Profile,
 }
 
-impl Wording for Credits {
+impl Printable for SeenCredits {
     ghost text = { credits_text };
 
     fn print<A: Allocator>(&self, printed: &mut String<A>) -> Result<(), AllocError> {

@@ -4,7 +4,7 @@ ghost use Rattle.std.specs.Prelude.{◌≡◌, Some, option_to_list};
 ghost use Rattle.chi_flit.specs.Message.{message_text};
 ghost use Rattle.chi_reply.specs.Replies.{flits_text, has_none, messages_in, spaced_texts};
 
-use crate::prints::Wording;
+use crate::prints::Printable;
 use chi_flit::{Channel, Msg};
 use chi_wires::Cells;
 use std::alloc::{AllocError, Allocator};
@@ -46,7 +46,7 @@ impl<'a> fmt::Display for InFlight<'a> {
     }
 }
 
-impl<'a> Wording for InFlight<'a> {
+impl<'a> Printable for InFlight<'a> {
     ghost text = { λ flits. flits_text flits.0.now };
 
     fn print<A: Allocator>(&self, printed: &mut String<A>) -> Result<(), AllocError> {

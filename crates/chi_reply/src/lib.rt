@@ -14,10 +14,10 @@ mod replies;
 mod shown;
 mod totals;
 
-pub use audits::{Audit, verdict_word};
-pub use credits::Credits;
+pub use audits::verdict_word;
+pub use credits::SeenCredits;
 pub use flights::InFlight;
-pub use prints::Wording;
+pub use prints::Printable;
 pub use replies::Reply;
 pub use shown::Shown;
-pub use totals::{Holdings, Totals};
+pub use totals::{NodeTotals, StormTotals};

@@ -8,13 +8,14 @@ use std::alloc::{AllocError, Allocator};
 
 /// What has a text that is printed.
 /// Source: `docs/FORMATS.md`, "Replay files".
-pub trait Wording {
+pub trait Printable {
     ghost text: { Self → List ℕ };
 
     /// Puts its text behind what was printed before, without a line feed. Refused where memory for the text
     /// runs out.
     fn print<A: Allocator>(&self, printed: &mut String<A>) -> Result<(), AllocError>
-        ensures { OnOk result (string_bytes printed.new ≡ string_bytes printed.old ++ text self.now) };
+        ensures { OnOk result
+            (string_bytes printed.new ≡ string_bytes printed.old ++ text self.now) };
 }
 
 /// Prints a number in decimal. Most have one digit or two, which are put there one by one.
@@ -56,7 +57,8 @@ pub(crate) fn print_numbers<A: Allocator>(
     numbers: &[u32],
     printed: &mut String<A>,
 ) -> Result<(), AllocError>
-    ensures { OnOk result (string_bytes printed.new ≡ string_bytes printed.old ++ spaced_texts decimal numbers.now) }
+    ensures { OnOk result
+        (string_bytes printed.new ≡ string_bytes printed.old ++ spaced_texts decimal numbers.now) }
 {
     for number in numbers {
         printed.push(' ')?;

@@ -4,7 +4,7 @@ ghost use Rattle.std.specs.Prelude.{◌≡◌, ◌++◌, OnOk, string_bytes};
 ghost use Rattle.std.specs.Fmt.{decimal};
 ghost use Rattle.chi_reply.specs.Replies.{released_text, reply_text};
 
-use crate::prints::{Wording, print_number};
+use crate::prints::{Printable, print_number};
 use chi_flit::{CreditType, Entry, Refusal, Slot};
 use chi_tracker::Released;
 use std::alloc::{AllocError, Allocator};
@@ -33,7 +33,7 @@ pub enum Reply {
     Refused(Refusal),
 }
 
-impl Wording for Reply {
+impl Printable for Reply {
     ghost text = { reply_text };
 
     fn print<A: Allocator>(&self, printed: &mut String<A>) -> Result<(), AllocError> {
@@ -66,7 +66,8 @@ fn print_numbered<A: Allocator>(
     number: u64,
     printed: &mut String<A>,
 ) -> Result<(), AllocError>
-    ensures { OnOk result (string_bytes printed.new ≡ string_bytes printed.old ++ (words.now ++ decimal number)) }
+    ensures { OnOk result
+        (string_bytes printed.new ≡ string_bytes printed.old ++ (words.now ++ decimal number)) }
 {
     printed.push_str(words)?;
     print_number(number, printed)
@@ -77,7 +78,8 @@ fn print_released<A: Allocator>(
     released: Released,
     printed: &mut String<A>,
 ) -> Result<(), AllocError>
-    ensures { OnOk result (string_bytes printed.new ≡ string_bytes printed.old ++ released_text released) }
+    ensures { OnOk result
+        (string_bytes printed.new ≡ string_bytes printed.old ++ released_text released) }
 {
     match released {
         Released::Granted(agent) => print_numbered("granted ", u64::from(agent.0), printed),

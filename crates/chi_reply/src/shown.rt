@@ -6,7 +6,7 @@ ghost use Rattle.chi_reply.specs.Replies.{serving_text, shown_text, yes_no};
 use crate::agents::{Agents, members};
 use crate::copies::{States, first_copies};
 use crate::numbers::Words;
-use crate::prints::Wording;
+use crate::prints::Printable;
 use chi_homeline::{Serving, Waiting};
 use chi_line::LineView;
 use std::alloc::{AllocError, Allocator};
@@ -25,7 +25,7 @@ pub struct Shown<'a> {
 #[derive(Drop)]
 struct Served(Serving);
 
-impl<'a> Wording for Shown<'a> {
+impl<'a> Printable for Shown<'a> {
     ghost text = { λ shown. shown_text shown.agents shown.view.now };
 
     fn print<A: Allocator>(&self, printed: &mut String<A>) -> Result<(), AllocError> {

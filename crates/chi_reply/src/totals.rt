@@ -2,10 +2,10 @@
 
 ghost use Rattle.std.specs.Prelude.{◌≡◌, ◌++◌, OnOk, string_bytes};
 ghost use Rattle.std.specs.Fmt.{decimal};
-ghost use Rattle.chi_reply.specs.Replies.{holdings_text, spaced_texts, totals_text};
+ghost use Rattle.chi_reply.specs.Replies.{storm_totals_text, spaced_texts, totals_text};
 
 use crate::numbers::type_count;
-use crate::prints::{Wording, print_numbers};
+use crate::prints::{Printable, print_numbers};
 use chi_flit::Profile;
 use std::alloc::{AllocError, Allocator};
 
@@ -14,7 +14,7 @@ use std::alloc::{AllocError, Allocator};
 /// that the profile has.
 /// Source: `docs/FORMATS.md`, "Replay files".
 #[derive(Clone, Copy, Debug, PartialEq, Eq)]
-pub struct Totals {
+pub struct NodeTotals {
     pub free: [u32; 4],
     pub hand: [u32; 4],
     pub promised: [u32; 4],
@@ -25,19 +25,19 @@ pub struct Totals {
 /// The same numbers, without the word that an answer begins with: the line of a storm.
 /// Source: `docs/FORMATS.md`, "The output of a storm".
 #[derive(Clone, Copy, Debug, PartialEq, Eq)]
-pub struct Holdings(pub Totals);
+pub struct StormTotals(pub NodeTotals);
 
-impl Wording for Totals {
+impl Printable for NodeTotals {
     ghost text = { totals_text };
 
     fn print<A: Allocator>(&self, printed: &mut String<A>) -> Result<(), AllocError> {
         printed.push_str("ok ")?;
-        Holdings(*self).print(printed)
+        StormTotals(*self).print(printed)
     }
 }
 
-impl Wording for Holdings {
-    ghost text = { λ holdings. holdings_text holdings.0 };
+impl Printable for StormTotals {
+    ghost text = { λ totals. storm_totals_text totals.0 };
 
     fn print<A: Allocator>(&self, printed: &mut String<A>) -> Result<(), AllocError> {
         let totals = self.0;
@@ -55,7 +55,8 @@ fn print_named<A: Allocator>(
     numbers: &[u32],
     printed: &mut String<A>,
 ) -> Result<(), AllocError>
-    ensures { OnOk result (string_bytes printed.new ≡ string_bytes printed.old ++ (name.now ++ spaced_texts decimal numbers.now)) }
+    ensures { OnOk result (string_bytes printed.new ≡ string_bytes printed.old ++
+        (name.now ++ spaced_texts decimal numbers.now)) }
 {
     printed.push_str(name)?;
     print_numbers(numbers, printed)

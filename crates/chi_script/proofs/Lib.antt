@@ -11,3 +11,15 @@ pub mod HeaderLemmas
 pub mod WordLemmas
 pub mod UsualLemmas
 pub mod LackLemmas
+pub mod PartLemmas
+pub mod MarkLemmas
+pub mod CheckLemmas
+pub mod CheckLoop
+pub mod CheckHeaderLoop
+pub mod CheckFileLemmas
+pub mod ReplayLemmas
+pub mod OperationLemmas
+pub mod OperationLoop
+pub mod StormLemmas
+pub mod StormTextLemmas
+pub mod LineEndLemmas

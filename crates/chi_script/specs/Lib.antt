@@ -4,3 +4,9 @@ pub mod Headers
 pub mod Faults
 pub mod Files
 pub mod Spelling
+pub mod Checks
+pub mod CheckFiles
+pub mod CheckSpelling
+pub mod Operations
+pub mod Storms
+pub mod StormSpelling

@@ -112,7 +112,8 @@ fn after_four(
     third: &[u8],
     rest: &[u8],
 ) -> Option<Command>
-    ensures { result ≡ command_of (verb.now ∷ first.now ∷ second.now ∷ third.now ∷ words_of rest.now) }
+    ensures { result ≡ command_of
+        (verb.now ∷ first.now ∷ second.now ∷ third.now ∷ words_of rest.now) }
 {
     match first_argument(rest) {
         None => command_of_step(first, second, step_with_two(verb, third, rest)?),

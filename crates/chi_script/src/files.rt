@@ -20,7 +20,7 @@ pub const MOST_BYTES: usize = 1_048_576;
 /// A good replay file: the sizes of the system, and the commands in order.
 /// Source: `docs/FORMATS.md`, "Replay files".
 #[derive(Drop)]
-pub struct Script<A: Allocator> {
+pub struct ReplayFile<A: Allocator> {
     pub header: Header,
     pub commands: Vec<Command, A>,
     pub ghost in_limits: { is_in_limits header ≡ true },
@@ -32,12 +32,12 @@ pub struct Script<A: Allocator> {
 /// faulty line is told: `BadHeader`, `BadCommand`, or `MissingNewline` where bytes stand behind the last
 /// line end. An empty file is `BadHeader`. `NoMemory` where memory runs out.
 /// Source: `docs/FORMATS.md`, "Replay files".
-pub fn read_file<A: Allocator + Copy>(alloc: A, bytes: &[u8]) -> Result<Script<A>, Fault>
+pub fn read_file<A: Allocator + Copy>(alloc: A, bytes: &[u8]) -> Result<ReplayFile<A>, Fault>
     ensures { Gives (λ script. (script.header, script.commands.items)) result (file_of bytes.now) }
 {
     let (header, lines) = read_head(alloc, bytes)?;
     let commands = read_commands(alloc, lines)?;
-    Ok(Script { header, commands })
+    Ok(ReplayFile { header, commands })
 }
 
 /// The header of a replay file, and the lines behind it, which aren't read yet: they are its commands, or
@@ -49,7 +49,8 @@ pub fn read_file<A: Allocator + Copy>(alloc: A, bytes: &[u8]) -> Result<Script<A
 /// Source: `docs/FORMATS.md`, "Replay files".
 #[tactic(auto, unfolding(crate::specs::Files::file_of))]
 pub fn read_head<A: Allocator>(alloc: A, bytes: &[u8]) -> Result<(Header, &[u8]), Fault>
-    ensures lines { IfOk result (λ head. file_of bytes.now ≡ with_header head.0 (commands_of 2 (lines_of head.1.now))) }
+    ensures lines { IfOk result
+        (λ head. file_of bytes.now ≡ with_header head.0 (commands_of 2 (lines_of head.1.now))) }
     ensures kept { IfOk result (λ head. is_in_limits head.0 ≡ true) }
     ensures err { IfErr result (λ fault. Fails fault (file_of bytes.now)) }
 {
@@ -61,7 +62,8 @@ pub fn read_head<A: Allocator>(alloc: A, bytes: &[u8]) -> Result<(Header, &[u8])
 
 /// The header that line 1 is, and the lines behind it.
 fn read_first_line<A: Allocator>(alloc: A, bytes: &[u8]) -> Result<(Header, &[u8]), Fault>
-    ensures lines { IfOk result (λ head. script_of (lines_of bytes.now) ≡ with_header head.0 (commands_of 2 (lines_of head.1.now))) }
+    ensures lines { IfOk result (λ head. script_of
+        (lines_of bytes.now) ≡ with_header head.0 (commands_of 2 (lines_of head.1.now))) }
     ensures kept { IfOk result (λ head. is_in_limits head.0 ≡ true) }
     ensures err { IfErr result (λ fault. Fails fault (script_of (lines_of bytes.now))) }
 {
@@ -119,7 +121,8 @@ pub fn command_in(line: &[u8], number: usize) -> Result<Command, Fault>
 /// The bytes before the first line end, and those after it. `None` where there is no line end.
 /// Source: `docs/FORMATS.md`, "Bytes, lines and numbers".
 pub fn first_line(bytes: &[u8]) -> Option<(&[u8], &[u8])>
-    ensures some { IfSome result (λ parts. lines_of bytes.now ≡ parts.0.now ∷ lines_of parts.1.now) }
+    ensures some { IfSome result
+        (λ parts. lines_of bytes.now ≡ parts.0.now ∷ lines_of parts.1.now) }
     ensures shorter { IfSome result (λ parts. length parts.1.now < length bytes.now) }
     ensures none { IfNone result (lines_of bytes.now ≡ bytes.now ∷ []) }
 {

@@ -1,9 +1,11 @@
-//! The grammar of replay files: from a file's bytes to its header and its commands, or to its first
-//! fault.
+//! The grammars of replay, check and storm files: from a file's bytes to its header and its commands, checks
+//! or operations, or to its first fault.
 //!
-//! Source: `docs/FORMATS.md`, "Replay files", and `docs/PROTOCOL.md`, "Limits".
+//! Source: `docs/FORMATS.md`, "Replay files", "Check files" and "Storm files", and `docs/PROTOCOL.md`, "Limits".
 #![tactic(auto)]
 
+mod check_files;
+mod checks;
 mod commands;
 mod faults;
 mod files;
@@ -11,14 +13,24 @@ mod good_lines;
 mod headers;
 mod laws;
 mod numbers;
+mod operations;
+mod storms;
 mod usual_lines;
 mod words;
 
+pub use check_files::{CheckFile, read_checks};
+pub use checks::Check;
 pub use commands::{Command, read_command};
 pub use faults::Fault;
-pub use files::{MOST_BYTES, Script, command_in, first_line, header_in, read_file, read_head};
+pub use files::{MOST_BYTES, ReplayFile, command_in, first_line, header_in, read_file, read_head};
 pub use good_lines::check_lines;
 pub use headers::{Header, read_header};
-pub use laws::{commands_are_lines, front_is_enough, headers_are_lines, numbers_are_decimal};
+pub use laws::{
+    check_files_are_lines, check_front_is_enough, checks_are_lines, commands_are_lines,
+    headers_are_lines, numbers_are_decimal, operations_are_lines, replay_front_is_enough,
+    replays_are_check_files, storm_front_is_enough, storms_are_files,
+};
 pub use numbers::{number, small};
+pub use operations::{AgentOperation, read_operation};
+pub use storms::{StormFile, read_storm};
 pub use words::{first_word, is, read_words};

@@ -87,7 +87,8 @@ fn step_on(line: &[u8], verb: &[u8], step: Step) -> Option<Command>
 #[inline(always)]
 fn two_behind(line: &[u8], verb: &[u8]) -> Option<(u8, u8)>
     requires { has_no_space verb.now ≡ true }
-    ensures { IfSome result (λ numbers. command_of (words_of line.now) ≡ command_two verb.now numbers.0 numbers.1) }
+    ensures { IfSome result
+        (λ numbers. command_of (words_of line.now) ≡ command_two verb.now numbers.0 numbers.1) }
 {
     let rest = behind(line, verb)?;
     let (first, second) = first_argument(rest)?;

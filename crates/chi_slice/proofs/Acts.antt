@@ -156,6 +156,13 @@ inside_of s action h = go (is_in_range s action) refl h
     go true is h = is
     go false is h = absurd (cc (h))
 
+pub not_out : (s : SliceState) (action : Action) → is_in_range s action ≡ true → None ≡ range_refusal s action
+not_out s action inside = go (is_in_range s action) inside
+  where
+    go : (b : Bool) → b ≡ true → None ≡ (if b then None else Some OutOfRange)
+    go true is = refl
+    go false is = absurd (cc (is))
+
 -- one whose numbers are refused is refused, whatever its line says
 pub out_refused : (terms : Terms) (s : SliceState) (action : Action) (refusal : Refusal) → Some refusal ≡ range_refusal s action → Some refusal ≡ refused_under terms s action
 out_refused terms s action refusal h = go (is_in_range s action) h

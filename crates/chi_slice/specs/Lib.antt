@@ -8,3 +8,7 @@ pub mod Verdict
 pub mod Audits
 pub mod Protocol
 pub mod Words
+pub mod Servings
+pub mod Wheres
+pub mod Phases
+pub mod Records

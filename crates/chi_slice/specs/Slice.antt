@@ -13,6 +13,7 @@ use Rattle.chi_flit.specs.declared.refusal.Refusal.TheVariants.{OutOfRange}
 use Rattle.chi_journal.specs.declared.record.Record.{Record}
 use Rattle.chi_journal.specs.Journal.{IsLegal, Log, log_with, is_full, last_words, opening_log}
 use Rattle.chi_config.specs.Config.{Sizes, are_in_limits}
+use Rattle.chi_slice.specs.declared.agent_line.AgentRow.{AgentRow}
 use Rattle.chi_slice.specs.declared.terms.Terms.{Terms}
 use Rattle.chi_line.specs.LineState.{LineState, opening_line}
 use Rattle.chi_line.specs.declared.act.Conditions.{Conditions}
@@ -68,6 +69,17 @@ are_in_range s n l = nat_lt n s.config.agents && is_line_in_range s l
 -- whether the numbers of an action are in their ranges, and its line in the slice
 abbrev pub is_in_range : SliceState → Action → Bool
 is_in_range s action = nat_lt action.agent.0 s.config.agents && (is_line_in_range s action.line.0 && is_step_in_range action.step)
+
+-- the action of an agent in a row, and that its row is that of its line
+abbrev pub action_in : AgentRow → Step → Action
+action_in at step = record { agent = at.agent; line = at.line; step = step }
+
+abbrev pub IsRow : SliceState → AgentRow → Type 0
+IsRow s at = at.row ≡ row_of_line s at.line.0
+
+-- the agent in a row can do each step whose numbers are in their ranges
+abbrev pub CanAct : SliceState → AgentRow → Type 0
+CanAct s at = (step : Step) → is_step_in_range step ≡ true → is_in_range s (action_in at step) ≡ true
 
 -- whether the slot that a step names, if it names one, is in use
 abbrev pub uses_named : SliceState → ℕ → Option Slot → Bool

@@ -11,9 +11,11 @@ pub use Rattle.chi_line.specs.declared.seen.Where.{Where}
 pub use Rattle.chi_line.specs.declared.view.CopyView.{CopyView}
 pub use Rattle.chi_line.specs.declared.view.LineView.{LineView}
 pub use Rattle.chi_line.specs.LineState.{LineState, cells_of, opening_line, rn_of}
+pub use Rattle.chi_line.specs.Coherence.{Coherent}
+pub use Rattle.chi_line.specs.Meaning.{standing_of}
 pub use Rattle.chi_line.specs.Moves.{completed_to, if_moved, moved_slot, moved_to, requested_slot}
 pub use Rattle.chi_line.specs.Places.{where_at}
-pub use Rattle.chi_line.specs.Refused.{full_if, line_refusal, no_flit_unless, retry_refusal, step_refusal}
+pub use Rattle.chi_line.specs.Refused.{full_if, has_flit, line_refusal, no_flit_unless, retry_refusal, step_refusal}
 pub use Rattle.chi_line.specs.Step.{after_step, answer_in, completed_slot, data_answer, effect_of, is_comp, is_slot, issued_slot, pending_slot, record_of}
 pub use Rattle.chi_line.specs.Table.{IsAt, IsFound}
 pub use Rattle.chi_line.specs.Types.{has_type, is_of_type, pending_credit, pending_kind_of, requested_kind_of}
@@ -23,3 +25,5 @@ pub use Rattle.chi_rnline.specs.declared.pending.Phase.{Phase}
 pub use Rattle.chi_rnline.specs.Rn.{Rn, is_clean_copy, load_refusal, resend_refusal, store_refusal}
 pub use Rattle.chi_wires.specs.declared.cells.Cells.{Cells}
 pub use Rattle.chi_wires.specs.Cell.{cell_of, no_flits}
+pub use Rattle.chi_wires.specs.Flight.{Flit, flit, in_flight}
+pub use Rattle.chi_wires.specs.Flits.{cells_at}

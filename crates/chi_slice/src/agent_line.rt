@@ -1,5 +1,6 @@
 //! What one agent and the home have of a line.
 
+use chi_flit::{Agent, Line};
 use chi_homeline::HomeLine;
 use chi_rnline::RnLine;
 use chi_wires::Cells;
@@ -12,4 +13,14 @@ pub struct AgentLine<'s> {
     pub copy: &'s RnLine,
     pub flits: &'s Cells,
     pub home: &'s HomeLine,
+}
+
+/// An agent of the node and a line of a slice, and the row of the line there: so whoever looks at the line and
+/// then acts on it asks once whether both are there.
+/// Source: `docs/PROTOCOL.md`, "Limits".
+#[derive(Clone, Copy)]
+pub struct AgentRow {
+    pub(crate) agent: Agent,
+    pub(crate) line: Line,
+    pub(crate) row: u8,
 }

@@ -11,15 +11,15 @@ mod slice;
 mod terms;
 mod verdict;
 
-pub use agent_line::AgentLine;
+pub use agent_line::{AgentLine, AgentRow};
 pub use audits::{Audit, audit_of, check_slice};
 pub use chi_config::Config;
 pub use chi_flit::{Action, Effect, Step};
 pub use chi_homeline::{HomeLine, Serving, Waiting};
 pub use chi_journal::{Journal, Record};
-pub use chi_line::{CopyView, LineView, Where};
+pub use chi_line::{CopyView, LineView, Where, has_flit, pending_credit};
 pub use chi_rnline::{Pending, Phase, RnLine};
-pub use chi_wires::Cells;
+pub use chi_wires::{Cells, cells_of};
 pub use laws::{an_action_leaves_one_slice, only_room_and_slots_join_lines};
 pub use places::Place;
 pub use slice::Slice;

@@ -35,21 +35,7 @@ fn done_record(agent: Agent, line: Line, step: Step, effect: Effect) -> Option<R
             word,
             value,
         }),
-        Step::Drop
-        | Step::Issue(_, _)
-        | Step::Admit
-        | Step::Retry
-        | Step::RecvRetry
-        | Step::Resend
-        | Step::Cancel
-        | Step::Start
-        | Step::RecvSnp
-        | Step::RecvSnpResp
-        | Step::RecvData
-        | Step::RecvComp
-        | Step::RecvAck
-        | Step::RecvDbid
-        | Step::RecvWrData => None,
+        _ => None,
     }
 }
 
@@ -64,7 +50,7 @@ fn load_record(agent: Agent, line: Line, word: WordNo, effect: Effect) -> Option
             word,
             value,
         }),
-        Effect::Nothing | Effect::Completed(_) => None,
+        _ => None,
     }
 }
 
@@ -75,19 +61,6 @@ pub fn is_step_in_range(step: Step) -> bool
     match step {
         Step::Load(word) | Step::Store(word, _) => word.0 < 8,
         Step::Issue(_, slot) => slot.0 < 8,
-        Step::Drop
-        | Step::Admit
-        | Step::Retry
-        | Step::RecvRetry
-        | Step::Resend
-        | Step::Cancel
-        | Step::Start
-        | Step::RecvSnp
-        | Step::RecvSnpResp
-        | Step::RecvData
-        | Step::RecvComp
-        | Step::RecvAck
-        | Step::RecvDbid
-        | Step::RecvWrData => true,
+        _ => true,
     }
 }

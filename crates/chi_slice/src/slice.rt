@@ -16,10 +16,10 @@ ghost use Rattle.chi_config.specs.Config.{are_in_limits};
 ghost use Rattle.chi_slice.specs.Index.{HasType, IsInside, IsShown, SlotsInRange, is_slot_of, typed_at};
 ghost use Rattle.chi_slice.specs.Protocol.{IsEnabled, IsOpening, SliceStep, refused};
 ghost use Rattle.chi_slice.specs.Run.{IsRun};
-ghost use Rattle.chi_slice.specs.Slice.{IsBalanced, IsStep, OtherLinesStay, SliceKept, slice_after, are_in_range, completes, conditions_under, entry_of, flits_refusal, is_in_range, is_line_in_range, is_slot_used, last_of, line as line_of_slice, moved_by, no_terms, opening_slice, range_refusal, log_after, action_refusal, refused_under, row_count, row_of_line, run_after, run_done, uses, view_refusal};
+ghost use Rattle.chi_slice.specs.Slice.{CanAct, IsBalanced, IsRow, IsStep, OtherLinesStay, SliceKept, slice_after, action_in, are_in_range, completes, conditions_under, entry_of, flits_refusal, is_in_range, is_line_in_range, is_slot_used, last_of, line as line_of_slice, moved_by, no_terms, opening_slice, range_refusal, log_after, action_refusal, refused_under, row_count, row_of_line, run_after, run_done, uses, view_refusal};
 ghost use Rattle.chi_slice.specs.Table.{IsByTable};
 
-use crate::agent_line::AgentLine;
+use crate::agent_line::{AgentLine, AgentRow};
 use crate::places::{Place, Places};
 use crate::records::{is_step_in_range, note};
 use crate::terms::{Done, Terms};
@@ -143,22 +143,7 @@ impl<A: Allocator> Slice<A> {
     {
         match step {
             Step::Issue(_, slot) => self.uses(agent, slot),
-            Step::Load(_)
-            | Step::Store(_, _)
-            | Step::Drop
-            | Step::Admit
-            | Step::Retry
-            | Step::RecvRetry
-            | Step::Resend
-            | Step::Cancel
-            | Step::Start
-            | Step::RecvSnp
-            | Step::RecvSnpResp
-            | Step::RecvData
-            | Step::RecvComp
-            | Step::RecvAck
-            | Step::RecvDbid
-            | Step::RecvWrData => false,
+            _ => false,
         }
     }
 
@@ -246,9 +231,84 @@ impl<A: Allocator> Slice<A> {
         ensures after { OnOk result (self.new ≡ slice_after self.old action) }
         ensures err { OnErr result (self.new ≡ self.old) }
     {
-        let site = self.site(action, terms)?;
-        let line = &mut self.lines[site.row];
-        let upshot = line.act(site.conditions, action)?;
+        let Some(row) = self.row_in_range(action) else {
+            return Err(Refusal::OutOfRange);
+        };
+        let at = AgentRow {
+            agent: action.agent,
+            line: action.line,
+            row,
+        };
+        self.act_in(at, action.step, terms)
+    }
+
+    /// Where the agent acts on the line: whether both are there is asked once, for `flits_in` and `act_in`.
+    ///
+    /// Refused 10 (OutOfRange) exactly where the agent or the line is outside the node, or the line is in
+    /// another slice.
+    /// Source: `docs/PROTOCOL.md`, "Limits".
+    pub fn row_for(&self, agent: Agent, line: Line) -> Result<AgentRow, Refusal>
+        ensures agent { IfOk result (λ at. at.agent ≡ agent) }
+        ensures line { IfOk result (λ at. at.line ≡ line) }
+        ensures row { IfOk result (λ at. IsRow self.now at) }
+        ensures inside { IfOk result (λ at. CanAct self.now at) }
+        ensures refusal { refusal_of result ≡ flits_refusal self.now agent.0 line.0 }
+        ensures kept { SliceKept self.now }
+        ensures slots { SlotsInRange self.now }
+    {
+        match self.config.row_in(self.index, line.0) {
+            Some(row) if agent.0 < self.config.agents() => Ok(AgentRow { agent, line, row }),
+            _ => Err(Refusal::OutOfRange),
+        }
+    }
+
+    /// What is in flight between an agent and the home for a line, lent.
+    ///
+    /// Conditions: the row is one that `row_for` of this slice answered.
+    /// Source: `docs/PROTOCOL.md`, "Messages".
+    pub fn flits_in(&self, at: AgentRow) -> &Cells
+        requires row { IsRow self.now at }
+        requires inside { CanAct self.now at }
+        ensures { result.now ≡ cells_of (line_of_slice self.now at.line.0) at.agent.0 }
+    {
+        self.lines[usize::from(at.row)].flits(at.agent)
+    }
+
+    /// Does one action of the agent in a row on the terms of its requester, as `act_under` does it, and asks
+    /// for neither the agent nor the line again.
+    ///
+    /// Refused as by `act_under`, but never 10; nothing changes then. Conditions: the row is one that `row_for` of
+    /// this slice answered, and the step's numbers are in their ranges.
+    ///
+    /// Of the representation, for callers that compute with it: `refusal`, `step`, `journal`, `flits`, `effect`,
+    /// `slot`, `after`.
+    /// Source: `docs/PROTOCOL.md`, "The actions" and "A requester and its calls".
+    #[inline(always)]
+    pub fn act_in(&mut self, at: AgentRow, step: Step, terms: Terms) -> Result<Done, Refusal>
+        requires row { IsRow self.old at }
+        requires inside { is_in_range self.old (action_in at step) ≡ true }
+        ensures refusal { refusal_of result ≡ refused_under terms self.old (action_in at step) }
+        ensures step { IfOk result (λ done. IsStep self.old (action_in at step) done.effect self.new) }
+        ensures protocol { IfOk result
+            (λ done. SliceStep self.old (action_in at step) done.effect self.new) }
+        ensures journal { OnOk result
+            (self.new.journal ≡ log_after self.old.journal (entry_of self.old (action_in at step))) }
+        ensures flits { OnOk result (IsBalanced self.old (action_in at step) self.new) }
+        ensures others { OnOk result (OtherLinesStay self.old self.new at.line.0) }
+        ensures effect { IfOk result (λ done. done.effect
+            ≡ effect_of (line_of_slice self.old at.line.0) (action_in at step)) }
+        ensures slot { IfOk result (λ done. done.slot ≡ moved_by self.old (action_in at step)) }
+        ensures after { OnOk result (self.new ≡ slice_after self.old (action_in at step)) }
+        ensures err { OnErr result (self.new ≡ self.old) }
+    {
+        let action = Action {
+            agent: at.agent,
+            line: at.line,
+            step,
+        };
+        let conditions = self.conditions(action, terms);
+        let line = &mut self.lines[usize::from(at.row)];
+        let upshot = line.act(conditions, action)?;
         self.places
             .follow(action.agent, action.line, upshot.slot, upshot.to);
         note(&mut self.journal, action, upshot.effect);
@@ -258,7 +318,7 @@ impl<A: Allocator> Slice<A> {
         })
     }
 
-    /// Tries the actions in their order; a refused one changes nothing. AnswerRow how many were done.
+    /// Tries the actions in their order; a refused one changes nothing. Answers how many were done.
     /// Takes no memory; the sizes and the index stay.
     /// Source: `docs/PROTOCOL.md`, "The actions".
     pub fn run(&mut self, actions: &[Action]) -> usize

@@ -4,9 +4,9 @@ ghost use Rattle.std.specs.Prelude.{◌≡◌};
 
 use crate::moves::{answer, look};
 use chi_flit::{Agent, Kind, Line, NO_DATA, Refusal, Slot};
-use chi_homeline::Serving;
-use chi_slice::{Action, Config, CopyView, Effect, LineView, Place, Slice, Step, Where};
-use chi_wires::Cells;
+use chi_slice::{
+    Action, Cells, Config, CopyView, Effect, LineView, Place, Serving, Slice, Step, Where,
+};
 use std::alloc::Global;
 use std::process::Abort;
 

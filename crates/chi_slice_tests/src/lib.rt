@@ -17,6 +17,8 @@ mod refused;
 #[cfg(test)]
 mod retries;
 #[cfg(test)]
+mod rows;
+#[cfg(test)]
 mod runs;
 #[cfg(test)]
 mod shown;

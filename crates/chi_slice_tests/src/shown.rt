@@ -5,9 +5,7 @@ use crate::four_slices::{
     slice_one, start,
 };
 use chi_flit::{CompData, Kind, Line, NO_DATA, Request, RspDown, RspUp, Slot, Snoop, State};
-use chi_homeline::{Serving, Waiting};
-use chi_rnline::{Pending, Phase};
-use chi_slice::{Action, LineView, Slice, Step};
+use chi_slice::{Action, LineView, Pending, Phase, Serving, Slice, Step, Waiting};
 use std::alloc::Global;
 use std::process::Abort;
 

@@ -12,8 +12,7 @@ use chi_flit::Kind::{
 };
 use chi_flit::State::{self, I, SC, SD, UC, UD};
 use chi_flit::{DatUp, NO_DATA, Slot, WordNo};
-use chi_homeline::Serving;
-use chi_slice::{Effect, LineView, Slice, Step};
+use chi_slice::{Effect, LineView, Serving, Slice, Step};
 use std::alloc::Global;
 use std::process::Abort;
 

@@ -6,12 +6,12 @@ use Rattle.chi_node.specs.Requester.{RequesterState}
 use Rattle.chi_node.specs.Parts.{opening_requesters}
 use Rattle.chi_node.specs.Node.{NodeState}
 use Rattle.chi_audit.specs.declared.reports.Report.{Report}
-use Rattle.chi_storm_script.specs.declared.operations.Deed.{Deed}
+use Rattle.chi_script.specs.declared.operations.AgentOperation.{AgentOperation}
 use Rattle.chi_agent.specs.Runs.{starts, AllLeave, Start}
 use Rattle.chi_storm.specs.Scripts.{scripts_below}
 use Rattle.chi_storm.specs.Storms.{storm_starts}
 
-pub storm_lives : (n : NodeState) (size : Sizes) (deeds : List Deed) (seed turns : ℕ) (rs : List RequesterState) (scripts : List (List Operation)) (back : List RequesterState) (told : List Report) (met : List Bool) → n.config ≡ size
+pub storm_lives : (n : NodeState) (size : Sizes) (deeds : List AgentOperation) (seed turns : ℕ) (rs : List RequesterState) (scripts : List (List Operation)) (back : List RequesterState) (told : List Report) (met : List Bool) → n.config ≡ size
     → rs ≡ opening_requesters n.tracker.table n.tracker.shape size.agents → scripts ≡ scripts_below size.agents deeds → AllLeave (starts n.config seed turns rs scripts) back told met → AllLeave (storm_starts n deeds seed turns) back told met
 storm_lives n size deeds seed turns rs scripts back told met same requesters own lives =
     let first : rs ≡ opening_requesters n.tracker.table n.tracker.shape n.config.agents = requesters ∙ ap (λ (z : Sizes). opening_requesters n.tracker.table n.tracker.shape z.agents) (sym same) in

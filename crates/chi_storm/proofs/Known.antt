@@ -1,8 +1,8 @@
 -- What came of the front of a file that was read came of the file.
 use Rattle.std.proofs.Common.{◌≡◌, ℕ, List, Option, Some, None, Result, Ok, Err, IfOk, IfSome, sym, ◌∙◌, ap, take}
 use Rattle.chi_script.specs.declared.faults.Fault.{Fault}
-use Rattle.chi_storm_script.specs.Storms.{storm_of}
-use Rattle.chi_storm_script.proofs.StormLemmas.{front_enough}
+use Rattle.chi_script.specs.Storms.{storm_of}
+use Rattle.chi_script.proofs.StormLemmas.{front_enough}
 use Rattle.chi_storm.specs.declared.outcome.Outcome.{Outcome}
 use Rattle.chi_storm.specs.Storms.{IsStormOf}
 

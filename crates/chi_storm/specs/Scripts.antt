@@ -3,16 +3,16 @@ use Rattle.std.specs.Prelude.{ℕ, ◌==◌, List, map}
 use Rattle.std.specs.List.{filter}
 use Rattle.chi_audit.specs.Numbers.{numbers}
 use Rattle.chi_flit.specs.declared.operation.Operation.{Operation}
-use Rattle.chi_storm_script.specs.declared.operations.Deed.{Deed}
+use Rattle.chi_script.specs.declared.operations.AgentOperation.{AgentOperation}
 
 -- the agent's lines of a file, in their order
-abbrev pub deeds_of : ℕ → List Deed → List Deed
-deeds_of agent deeds = filter (λ (deed : Deed). deed.agent.0 == agent) deeds
+abbrev pub deeds_of : ℕ → List AgentOperation → List AgentOperation
+deeds_of agent deeds = filter (λ (deed : AgentOperation). deed.agent.0 == agent) deeds
 
 -- what is to be done in them
-abbrev pub script_of : ℕ → List Deed → List Operation
-script_of agent deeds = map (λ (deed : Deed). deed.operation) (deeds_of agent deeds)
+abbrev pub script_of : ℕ → List AgentOperation → List Operation
+script_of agent deeds = map (λ (deed : AgentOperation). deed.operation) (deeds_of agent deeds)
 
 -- those of the agents below n, in rising order
-abbrev pub scripts_below : ℕ → List Deed → List (List Operation)
+abbrev pub scripts_below : ℕ → List AgentOperation → List (List Operation)
 scripts_below n deeds = map (λ agent. script_of agent deeds) (numbers n)

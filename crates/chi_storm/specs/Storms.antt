@@ -12,8 +12,8 @@ use Rattle.chi_node.specs.Parts.{opening_requesters}
 use Rattle.chi_tracker.specs.Calls.{shape_of}
 use Rattle.chi_node.specs.Node.{AreOwn, NodeState}
 use Rattle.chi_agent.specs.Runs.{starts, AllLeave, KeepsTold, Start}
-use Rattle.chi_storm_script.specs.declared.operations.Deed.{Deed}
-use Rattle.chi_storm_script.specs.Storms.{storm_of}
+use Rattle.chi_script.specs.declared.operations.AgentOperation.{AgentOperation}
+use Rattle.chi_script.specs.Storms.{storm_of}
 use Rattle.chi_script.specs.Headers.{node_sizes}
 use Rattle.chi_storm.specs.declared.outcome.Outcome.{Outcome}
 use Rattle.chi_storm.specs.Outcomes.{outcome_text}
@@ -22,12 +22,12 @@ use Rattle.chi_storm.specs.Verdicts.{IsOutcome}
 
 -- how the agents of a node begin: its requesters as they are at first, each with its lines of the file as its
 -- script, with this seed, and so many turns at most
-abbrev pub storm_starts : NodeState → List Deed → ℕ → ℕ → List Start
+abbrev pub storm_starts : NodeState → List AgentOperation → ℕ → ℕ → List Start
 storm_starts n deeds seed turns = starts n.config seed turns (opening_requesters n.tracker.table n.tracker.shape n.config.agents) (scripts_below n.config.agents deeds)
 
 -- what came of a node of this size whose agents played these scripts: each agent's requester, the report that it
 -- told, which is the one that was kept, and whether it met refusal 11
-pub record ComesOf (config : Sizes) (deeds : List Deed) (seed turns : ℕ) (o : Outcome) : Type 0 where
+pub record ComesOf (config : Sizes) (deeds : List AgentOperation) (seed turns : ℕ) (o : Outcome) : Type 0 where
   pub node : NodeState
   pub requesters : List RequesterState
   pub told : List Report
@@ -43,7 +43,7 @@ pub record ComesOf (config : Sizes) (deeds : List Deed) (seed turns : ℕ) (o : 
 -- a good file, and what came of its scripts on a node of its header's size
 pub record IsStormOf (file : List ℕ) (seed turns : ℕ) (o : Outcome) : Type 0 where
   pub header : Header
-  pub deeds : List Deed
+  pub deeds : List AgentOperation
   pub good : storm_of file ≡ Ok (header, deeds)
   pub comes : ComesOf (node_sizes header) deeds seed turns o
 

@@ -8,7 +8,7 @@ use Rattle.chi_tracker.specs.Totals.{IsClosed, longest, views_of}
 use Rattle.chi_slice.specs.Audits.{loads_in, stores_in}
 use Rattle.chi_slice.specs.Coherence.{IsCoherentSlice}
 use Rattle.chi_node.specs.Node.{IsSliceOf, NodeState, owners_of}
-use Rattle.chi_text.specs.NodeReplies.{totals_told}
+use Rattle.chi_replay.specs.NodeReplies.{totals_told}
 use Rattle.chi_storm.specs.declared.outcome.Outcome.{Outcome}
 use Rattle.chi_audit.specs.declared.reports.Report.{Report}
 use Rattle.chi_slice.specs.Slice.{SliceState}

@@ -2,7 +2,7 @@
 
 ghost use Rattle.chi_storm.specs.Outcomes.{outcome_text};
 
-use chi_reply::{Holdings, Wording, verdict_word};
+use chi_reply::{Printable, StormTotals, verdict_word};
 use std::alloc::{AllocError, Allocator};
 
 /// What came of a storm: how many agents there were and how many finished their scripts, the loads and
@@ -15,11 +15,11 @@ pub struct Outcome {
     pub finished: u8,
     pub loads: u64,
     pub stores: u64,
-    pub holdings: Holdings,
+    pub holdings: StormTotals,
     pub coherent: bool,
 }
 
-impl Wording for Outcome {
+impl Printable for Outcome {
     ghost text = { outcome_text };
 
     fn print<A: Allocator>(&self, printed: &mut String<A>) -> Result<(), AllocError> {

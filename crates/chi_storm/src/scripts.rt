@@ -8,18 +8,18 @@ ghost use Rattle.chi_storm.specs.Scripts.{deeds_of, script_of, scripts_below};
 use chi_agent::Script;
 use chi_audit::{Tallies, Writer};
 use chi_flit::{NoMemory, Operation};
-use chi_storm_script::Deed;
+use chi_script::AgentOperation;
 use std::alloc::{AllocError, Allocator, Global};
 
 /// Whether an operation is the agent's.
-fn is_of(deed: &Deed, agent: u8) -> bool
+fn is_of(deed: &AgentOperation, agent: u8) -> bool
     ensures { result ≡ (deed.now.agent.0 == agent) }
 {
     deed.agent.0 == agent
 }
 
 /// How many of the file's operations are the agent's.
-fn count_of(deeds: &[Deed], agent: u8) -> usize
+fn count_of(deeds: &[AgentOperation], agent: u8) -> usize
     ensures { result ≡ length (deeds_of agent deeds.now) }
 {
     let mut count = 0;
@@ -36,7 +36,7 @@ fn count_of(deeds: &[Deed], agent: u8) -> usize
 /// Source: `docs/FORMATS.md`, "Storm files".
 pub fn script_of<A: Allocator>(
     alloc: A,
-    deeds: &[Deed],
+    deeds: &[AgentOperation],
     agent: u8,
 ) -> Result<Vec<Operation, A>, AllocError>
     ensures script { IfOk result (λ script. script.items ≡ script_of agent deeds.now) }
@@ -56,7 +56,7 @@ pub fn script_of<A: Allocator>(
 pub(crate) fn scripts_of(
     alloc: Global,
     tallies: &Tallies,
-    deeds: &[Deed],
+    deeds: &[AgentOperation],
     agents: u8,
     mut writers: Vec<Writer>,
 ) -> Result<Vec<Script<Global>>, NoMemory>

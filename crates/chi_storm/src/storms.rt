@@ -4,7 +4,7 @@ ghost use Rattle.std.specs.Prelude.{◌≡◌, ◌≢◌, ◌↔◌, ◌+◌, �
 ghost use Rattle.std.specs.Io.KnownBytes.{Appends, Keeps};
 ghost use Rattle.chi_script.specs.Faults.{Fails};
 ghost use Rattle.chi_script.specs.declared.faults.Fault.{Fault};
-ghost use Rattle.chi_storm_script.specs.Storms.{storm_of};
+ghost use Rattle.chi_script.specs.Storms.{storm_of};
 ghost use Rattle.chi_replay.specs.Replays.{AtWrite, KeepsAtFault, NoText, NoTextAt, RefusesFault};
 ghost use Rattle.chi_storm.specs.Outcomes.{outcome_text};
 ghost use Rattle.chi_storm.specs.Storms.{ComesOf, IsStormOf, NotTold, WritesFront, WritesOutcome};
@@ -17,10 +17,9 @@ use chi_devices::{Failed, Input, Output, read_all};
 use chi_flit::NoMemory;
 use chi_node::Node;
 use chi_replay::config_of;
-use chi_reply::Wording;
-use chi_script::Fault;
+use chi_reply::Printable;
+use chi_script::{AgentOperation, Fault, StormFile, read_storm};
 use chi_slice::Config;
-use chi_storm_script::{Deed, Storm, read_storm};
 use std::alloc::Global;
 use std::sync::Wait;
 use std::thread::Threads;
@@ -33,7 +32,7 @@ fn outcome_on<R: Threads + Wait + Clock + Sync>(
     rt: &R,
     alloc: Global,
     config: &Config,
-    deeds: &[Deed],
+    deeds: &[AgentOperation],
     seed: u64,
     turns: u64,
 ) -> Result<Outcome, NoMemory>
@@ -60,7 +59,7 @@ fn outcome_in<R: Threads + Wait + Clock + Sync>(
     ensures ok { IfOk result (IsStormOf bytes.now seed turns) }
     ensures err { IfErr result (λ fault. Fails fault (storm_of bytes.now)) }
 {
-    let Storm { header, deeds, .. } = read_storm(alloc, bytes)?;
+    let StormFile { header, deeds, .. } = read_storm(alloc, bytes)?;
     let config = config_of(&header);
     match outcome_on(rt, alloc, &config, &deeds, seed, turns) {
         Ok(outcome) => Ok(outcome),

@@ -9,9 +9,9 @@ use chi_agent::Ended;
 use chi_audit::Report;
 use chi_flit::Line;
 use chi_node::{Node, Requester, agree_with};
-use chi_reply::Holdings;
+use chi_replay::totals_told;
+use chi_reply::StormTotals;
 use chi_slice::{Config, Slice, audit_of};
-use chi_text::totals_told;
 use std::alloc::Allocator;
 use std::sync::Wait;
 
@@ -130,7 +130,7 @@ pub fn outcome_of<R: Wait, A: Allocator>(rt: &R, node: Node<A>, ended: Ended) ->
         finished: finished_in(&gathered.reports),
         loads: audit.loads,
         stores: audit.stores,
-        holdings: Holdings(holdings),
+        holdings: StormTotals(holdings),
         coherent: verdict_of(audit.coherent, agree, met),
     }
 }

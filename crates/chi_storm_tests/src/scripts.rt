@@ -1,17 +1,17 @@
 //! The script of each agent.
 
 use chi_flit::{Agent, Line, Operation, Task, WordNo};
+use chi_script::AgentOperation;
 use chi_storm::script_of;
-use chi_storm_script::Deed;
 use std::alloc::AllocError;
 
 /// A load of the agent on the line.
-fn load(agent: u8, line: u8) -> Deed {
+fn load(agent: u8, line: u8) -> AgentOperation {
     let agent = Agent(agent);
     let line = Line(line);
     let task = Task::Load(WordNo(0));
     let operation = Operation { line, task };
-    Deed { agent, operation }
+    AgentOperation { agent, operation }
 }
 
 #[test]

@@ -1,4 +1,4 @@
--- The columns of a line: its first eleven words (docs/FORMATS.md, "Traces").
+-- The columns of a line: its first eleven words (docs/TRACES.md, "Traces").
 use Rattle.std.specs.Prelude.{ℕ, List, [], ◌∷◌, Option, Some, None}
 use Rattle.chi_script.specs.Words.{◌>>=◌}
 use Rattle.chi_trace.specs.declared.columns.Columns.{Columns}

@@ -1,4 +1,4 @@
--- How the faults of reading a trace are told (docs/FORMATS.md, "Traces").
+-- How the faults of reading a trace are told (docs/TRACES.md, "Traces").
 use Rattle.std.specs.Prelude.{◌≡◌, Result, Ok, Err}
 use Rattle.chi_trace.specs.declared.faults.Fault.{Fault}
 use Rattle.chi_trace.specs.declared.faults.Fault.TheVariants.{NoMemory, TooLarge, MissingNewline, FewWords, BadWord}

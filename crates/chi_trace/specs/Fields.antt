@@ -1,4 +1,4 @@
--- What the columns of a flit hold (docs/FORMATS.md, "Traces").
+-- What the columns of a flit hold (docs/TRACES.md, "Traces").
 use Rattle.std.specs.Prelude.{ℕ, ◌==◌, ◌&&◌, Bool, true, false, List, [], ◌∷◌, Option, Some, None, if◌then◌else◌, codes, is_none, length, slice_range}
 use Rattle.std.specs.List.{position, slice_split}
 use Rattle.std.specs.Option.{option_map}

@@ -1,5 +1,5 @@
 -- A trace is flits with comments between them, or faulty: then its first faulty line is told
--- (docs/FORMATS.md, "Traces").
+-- (docs/TRACES.md, "Traces").
 use Rattle.std.specs.Prelude.{ℕ, ◌+◌, ◌==◌, nat_lt, List, [], ◌∷◌, ◌++◌, Option, Some, None, Result, Ok, Err, length, if◌then◌else◌}
 use Rattle.chi_script.specs.Files.{lines_of}
 use Rattle.chi_trace.specs.declared.faults.Fault.{Fault}

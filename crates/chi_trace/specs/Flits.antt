@@ -1,4 +1,4 @@
--- The flit that a line is (docs/FORMATS.md, "Traces").
+-- The flit that a line is (docs/TRACES.md, "Traces").
 use Rattle.std.specs.Prelude.{ℕ, ◌==◌, Bool, false, List, [], ◌∷◌, Option, Some, None, Result, Ok, Err, if◌then◌else◌, ok_or}
 use Rattle.chi_trace.specs.declared.columns.Column.{Column}
 use Rattle.chi_trace.specs.declared.columns.Column.TheVariants as columns

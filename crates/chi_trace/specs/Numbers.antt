@@ -1,4 +1,4 @@
--- Numbers of a trace, in hexadecimal (docs/FORMATS.md, "Traces").
+-- Numbers of a trace, in hexadecimal (docs/TRACES.md, "Traces").
 use Rattle.std.specs.Prelude.{ℕ, ◌+◌, ◌-◌, ◌*◌, ◌&&◌, nat_le, List, [], ◌∷◌, Option, Some, None, if◌then◌else◌}
 use Rattle.chi_script.specs.Words.{◌>>=◌}
 

@@ -1,4 +1,4 @@
--- Channels and opcodes, by their names (docs/FORMATS.md, "Traces").
+-- Channels and opcodes, by their names (docs/TRACES.md, "Traces").
 use Rattle.std.specs.Prelude.{ℕ, List, Option, Some, None, if◌then◌else◌, codes}
 use Rattle.chi_flit.specs.Kind.{kind_text}
 use Rattle.chi_flit.specs.Snoop.{snoop_text}

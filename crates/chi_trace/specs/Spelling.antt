@@ -1,4 +1,4 @@
--- How traces are written (docs/FORMATS.md, "Traces"): apart from how they are read.
+-- How traces are written (docs/TRACES.md, "Traces"): apart from how they are read.
 use Rattle.std.specs.Prelude.{◌≡◌, ◌⊎◌, ◌==◌, ℕ, ◌+◌, ◌*◌, ◌≤◌, Bool, true, false, List, [], ◌∷◌, ◌++◌, Option, Some, None, codes, length, slice_range}
 use Rattle.std.specs.List.{position}
 use Rattle.chi_script.specs.Files.{lines_of}

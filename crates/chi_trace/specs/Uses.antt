@@ -1,4 +1,4 @@
--- Which columns a flit of each opcode has, a table for each column (docs/FORMATS.md, "Traces").
+-- Which columns a flit of each opcode has, a table for each column (docs/TRACES.md, "Traces").
 use Rattle.std.specs.Prelude.{ℕ, Bool, true, false, List, Option, Some, None, Result, Ok, Err, if◌then◌else◌}
 use Rattle.chi_trace.specs.declared.columns.Column.{Column}
 use Rattle.chi_trace.specs.declared.fields.Resp.{Resp}

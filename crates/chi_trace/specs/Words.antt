@@ -1,4 +1,4 @@
--- The words of a line of a trace: what stands between blanks (docs/FORMATS.md, "Traces").
+-- The words of a line of a trace: what stands between blanks (docs/TRACES.md, "Traces").
 use Rattle.std.specs.Prelude.{ℕ, ◌==◌, ◌||◌, not, Bool, true, false, List, [], ◌∷◌, filter}
 use Rattle.std.specs.List.{slice_split}
 

@@ -8,7 +8,7 @@ ghost use Rattle.chi_trace.specs.Words.{words_of};
 use crate::words::first_word;
 
 /// A column of a line: one of its first eleven words.
-/// Source: `docs/FORMATS.md`, "Traces".
+/// Source: `docs/TRACES.md`, "Traces".
 #[derive(Clone, Copy, Debug, PartialEq, Eq)]
 pub enum Column {
     Channel,

@@ -7,7 +7,7 @@ use crate::columns::Column;
 use std::alloc::{AllocError, AllocFailed};
 
 /// Why a file is no trace. Lines are counted from 1.
-/// Source: `docs/FORMATS.md`, "Traces".
+/// Source: `docs/TRACES.md`, "Traces".
 #[derive(Clone, Copy, Debug, PartialEq, Eq)]
 pub enum Fault {
     /// Memory ran out.

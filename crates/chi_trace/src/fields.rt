@@ -11,33 +11,33 @@ use chi_script::is;
 use std::fmt;
 
 /// A node of the interconnect, by its NodeID.
-/// Source: `docs/FORMATS.md`, "Traces".
+/// Source: `docs/TRACES.md`, "Traces".
 #[derive(Clone, Copy, Debug, PartialEq, Eq)]
 pub struct NodeId(pub u16);
 
 /// What the TxnID field of a flit holds.
-/// Source: `docs/FORMATS.md`, "Traces".
+/// Source: `docs/TRACES.md`, "Traces".
 #[derive(Clone, Copy, Debug, PartialEq, Eq)]
 pub struct TxnId(pub u16);
 
 /// What the DBID field of a flit holds.
-/// Source: `docs/FORMATS.md`, "Traces".
+/// Source: `docs/TRACES.md`, "Traces".
 #[derive(Clone, Copy, Debug, PartialEq, Eq)]
 pub struct DbId(pub u16);
 
 /// A type of protocol credit, by the number that a flit's PCrdType field holds.
-/// Source: `docs/FORMATS.md`, "Traces".
+/// Source: `docs/TRACES.md`, "Traces".
 #[derive(Clone, Copy, Debug, PartialEq, Eq)]
 pub struct PcrdType(pub u8);
 
 /// A byte's address.
-/// Source: `docs/FORMATS.md`, "Traces".
+/// Source: `docs/TRACES.md`, "Traces".
 #[derive(Clone, Copy, Debug, PartialEq, Eq)]
 pub struct Address(pub u64);
 
 /// What the Resp field of a flit holds: the state that is left, or that is given, and whether the
 /// responsibility for the data goes along (`_PD`).
-/// Source: `docs/FORMATS.md`, "Traces".
+/// Source: `docs/TRACES.md`, "Traces".
 #[derive(Clone, Copy, Debug, PartialEq, Eq)]
 pub enum Resp {
     I,
@@ -53,7 +53,7 @@ pub enum Resp {
 }
 
 /// What the data of a line holds.
-/// Source: `docs/FORMATS.md`, "Traces".
+/// Source: `docs/TRACES.md`, "Traces".
 #[derive(Clone, Copy, Debug, PartialEq, Eq)]
 pub enum Payload {
     /// No data belongs to the flit.
@@ -131,8 +131,9 @@ pub(crate) fn read_pcrd(word: &[u8]) -> Option<PcrdType>
     Some(PcrdType(number as u8))
 }
 
-/// The address that the word names.
-pub(crate) fn read_address(word: &[u8]) -> Option<Address>
+/// The address that the word names: a hexadecimal number of 64 bits. `None` for every other word.
+/// Source: `docs/TRACES.md`, "Traces".
+pub fn read_address(word: &[u8]) -> Option<Address>
     ensures { result ≡ address_of word.now }
 {
     let number = hex(word, u64::MAX)?;

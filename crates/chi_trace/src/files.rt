@@ -11,7 +11,7 @@ use chi_script::first_line;
 use std::alloc::Allocator;
 
 /// The most bytes that a trace may have: 64 MiB.
-/// Source: `docs/FORMATS.md`, "Traces".
+/// Source: `docs/TRACES.md`, "Traces".
 pub const MOST_BYTES: usize = 67_108_864;
 
 /// The flits of a trace, which is read whole, in the order of their lines; comments and lines without words
@@ -20,7 +20,7 @@ pub const MOST_BYTES: usize = 67_108_864;
 /// `TooLarge` where the file has more than `MOST_BYTES` bytes, before all else. Otherwise the first faulty
 /// line is told: `FewWords` or `BadWord`, or `MissingNewline` where bytes stand behind the last line end.
 /// `NoMemory` where memory runs out.
-/// Source: `docs/FORMATS.md`, "Traces".
+/// Source: `docs/TRACES.md`, "Traces".
 #[tactic(auto, unfolding(crate::specs::Files::trace_of))]
 pub fn read_trace<A: Allocator + Copy>(alloc: A, bytes: &[u8]) -> Result<Vec<Seen, A>, Fault>
     ensures { Gives (λ flits. flits.items) result (trace_of bytes.now) }

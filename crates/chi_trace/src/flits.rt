@@ -21,7 +21,7 @@ use crate::words::first_word;
 
 /// A flit that a monitor saw, or a load or a store of a processor: a line of a trace. A field is there
 /// exactly where a flit of the opcode has it, but that the address of a response or of data may be left out.
-/// Source: `docs/FORMATS.md`, "Traces".
+/// Source: `docs/TRACES.md`, "Traces".
 #[derive(Clone, Copy, Debug, PartialEq, Eq)]
 pub struct Seen {
     /// The number of its line, counted from 1.

@@ -1,7 +1,7 @@
 //! The grammar of traces: from the bytes of a monitor's log to the flits that it saw, a flit a line, or to
 //! the first line that is none.
 //!
-//! Source: `docs/FORMATS.md`, "Traces".
+//! Source: `docs/TRACES.md`, "Traces".
 #![tactic(auto)]
 
 mod columns;
@@ -17,7 +17,7 @@ mod words;
 
 pub use columns::Column;
 pub use faults::Fault;
-pub use fields::{Address, DbId, NodeId, Payload, PcrdType, Resp, TxnId};
+pub use fields::{Address, DbId, NodeId, Payload, PcrdType, Resp, TxnId, read_address};
 pub use files::{MOST_BYTES, read_trace};
 pub use flits::Seen;
 pub use laws::{lines_are_flits, numbers_are_hexadecimal, traces_are_lines};

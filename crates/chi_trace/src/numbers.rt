@@ -5,7 +5,7 @@ ghost use Rattle.chi_trace.specs.Numbers.{digit_of, digits_from, hex_of, with_di
 
 /// The number that the word writes in hexadecimal, with leading zeros or without, at most `most`. `None` for
 /// every other word.
-/// Source: `docs/FORMATS.md`, "Traces".
+/// Source: `docs/TRACES.md`, "Traces".
 pub(crate) fn hex(word: &[u8], most: u64) -> Option<u64>
     ensures read { result ≡ hex_of most word.now }
     ensures fits { IfSome result (λ number. number ≤ most) }

@@ -9,7 +9,7 @@ use std::fmt;
 
 /// What a line of a trace was seen on: one of the four channels of flits, or a requester's side where its
 /// processor loads and stores.
-/// Source: `docs/FORMATS.md`, "Traces".
+/// Source: `docs/TRACES.md`, "Traces".
 #[derive(Clone, Copy, Debug, PartialEq, Eq)]
 pub enum Channel {
     Req,
@@ -20,7 +20,7 @@ pub enum Channel {
 }
 
 /// What a line of a trace is.
-/// Source: `docs/FORMATS.md`, "Traces".
+/// Source: `docs/TRACES.md`, "Traces".
 #[derive(Clone, Copy, Debug, PartialEq, Eq)]
 pub enum Opcode {
     /// A request of this kind.
@@ -172,7 +172,7 @@ fn cpu_opcode(word: &[u8]) -> Option<Opcode>
 
 impl Opcode {
     /// The channel that a line of this opcode names.
-    /// Source: `docs/FORMATS.md`, "Traces".
+    /// Source: `docs/TRACES.md`, "Traces".
     pub fn channel(self) -> Channel
         ensures { result ≡ channel_of self }
     {

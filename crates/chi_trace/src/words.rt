@@ -7,7 +7,7 @@ ghost use Rattle.chi_trace.specs.Columns.{first_of};
 ghost use Rattle.chi_trace.specs.Words.{is_blank, words_of};
 
 /// Whether the byte parts words: a space, a tab, or the carriage return before a line end.
-/// Source: `docs/FORMATS.md`, "Traces".
+/// Source: `docs/TRACES.md`, "Traces".
 #[inline(always)]
 fn is_blank(byte: u8) -> bool
     ensures { result ≡ is_blank byte }
@@ -16,7 +16,7 @@ fn is_blank(byte: u8) -> bool
 }
 
 /// The first word of a line, and what stands behind the blank after it. `None` where the line has no word.
-/// Source: `docs/FORMATS.md`, "Traces".
+/// Source: `docs/TRACES.md`, "Traces".
 pub(crate) fn first_word(line: &[u8]) -> Option<(&[u8], &[u8])>
     ensures { option_map (λ found. (found.0.now, words_of found.1.now)) result ≡ first_of (words_of line.now) }
 {

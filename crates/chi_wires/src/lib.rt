@@ -4,7 +4,7 @@
 #![tactic(auto)]
 
 mod cells;
-mod flits;
+mod wires;
 
 pub use cells::Cells;
-pub use flits::{cells_of, clear, exchange, put, put_data, put_snoops};
+pub use wires::{Wires, cells_of};

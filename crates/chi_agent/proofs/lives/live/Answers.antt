@@ -1,7 +1,7 @@
 -- Each turn of the loop is one more.
 use Rattle.std.proofs.Common.{rules, ◌≡◌, ◌+◌, ◌<◌, ◌^◌, ap, ◌∙◌, inr, arith}
-use Rattle.chi_draws.specs.Stream.{start_of, word_after}
-use Rattle.chi_turns.specs.Turns.{count_after, HasEnded}
+use Rattle.chi_agent.specs.Draws.{stream_of, word_after}
+use Rattle.chi_agent.specs.Turns.{count_after, HasEnded}
 use Rattle.chi_agent.proofs.Plays.{counts_on, goes_on, plays_on, word_at}
 use Rattle.chi_agent.proofs.lives.live.Goals as goal
 
@@ -16,8 +16,8 @@ loop-preserved g c =
     record {
       same = search rules;
       turns = next;
-      draws = goes_on (start_of c.args.plan.seed n) c.loop.runner.draws c.turn-done.new.self.draws k c.args.plan.turns i.draws e.draws c.loop-test.true fits;
-      played = plays_on c.args.node.now.config c.args.plan.seed n c.args.runner.now.player k c.turn-done.new.self.turns (word_after c.loop.runner.draws) c.loop.runner.player c.turn-done.new.self.player c.turn-done.result i.played (word_at (start_of c.args.plan.seed n) c.loop.runner.draws k i.draws) next e.turn;
+      draws = goes_on (stream_of c.args.plan.seed n) c.loop.runner.draws c.turn-done.new.self.draws k c.args.plan.turns i.draws e.draws c.loop-test.true fits;
+      played = plays_on c.args.node.now.config c.args.plan.seed n c.args.runner.now.player k c.turn-done.new.self.turns (word_after c.loop.runner.draws) c.loop.runner.player c.turn-done.new.self.player c.turn-done.result i.played (word_at (stream_of c.args.plan.seed n) c.loop.runner.draws k i.draws) next e.turn;
     }
 
 pub returns-then-has_ended-2-clause-lived : goal.returns-then-has_ended-2-clause-lived
@@ -33,5 +33,5 @@ returns-then-has_ended-2-clause-lived g c =
       turns = k + 1;
       few = omega (arith, c.loop-test.true);
       all = inr ended;
-      played = plays_on c.args.node.now.config c.args.plan.seed n c.args.runner.now.player k c.turn-done.new.self.turns (word_after c.loop.runner.draws) c.loop.runner.player c.turn-done.new.self.player c.turn-done.result i.played (word_at (start_of c.args.plan.seed n) c.loop.runner.draws k i.draws) next e.turn;
+      played = plays_on c.args.node.now.config c.args.plan.seed n c.args.runner.now.player k c.turn-done.new.self.turns (word_after c.loop.runner.draws) c.loop.runner.player c.turn-done.new.self.player c.turn-done.result i.played (word_at (stream_of c.args.plan.seed n) c.loop.runner.draws k i.draws) next e.turn;
     }

@@ -1,6 +1,6 @@
 -- What was read is enough of the input's file.
-use Rattle.chi_check_script.specs.Files.{check_file_of}
-use Rattle.chi_check_script.proofs.FileLemmas.{front_enough}
+use Rattle.chi_script.specs.CheckFiles.{check_file_of}
+use Rattle.chi_script.proofs.CheckFileLemmas.{front_enough}
 use Rattle.chi_replay.proofs.Enough.{fault_of_known}
 use Rattle.chi_chart.proofs.Enough.{chart_of_known}
 use Rattle.chi_chart.proofs.charts.chart_of_input.Goals as goal

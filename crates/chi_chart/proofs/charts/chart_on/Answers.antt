@@ -1,9 +1,9 @@
 -- The rows are those of a run of the checks' commands.
 use Rattle.std.proofs.Common.{◌≡◌, List, map, ap, ◌∙◌}
-use Rattle.chi_check_script.specs.declared.checks.Check.{Check}
-use Rattle.chi_check_script.specs.Checks.{line_of_check}
+use Rattle.chi_script.specs.declared.checks.Check.{Check}
+use Rattle.chi_script.specs.Checks.{line_of_check}
 use Rattle.chi_chart.specs.Played.{row_seen}
-use Rattle.chi_chart.specs.Steps.{commands_in}
+use Rattle.chi_replay.specs.Checks.{commands_in}
 use Rattle.chi_chart.proofs.Enough.{chart_if_drawn}
 use Rattle.chi_chart.proofs.charts.chart_on.Goals as goal
 

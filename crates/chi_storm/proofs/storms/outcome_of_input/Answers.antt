@@ -1,7 +1,7 @@
 -- What was read is enough of the input's file.
 use Rattle.std.proofs.Common.{◌≡◌}
-use Rattle.chi_storm_script.specs.Storms.{storm_of}
-use Rattle.chi_storm_script.proofs.StormLemmas.{front_enough}
+use Rattle.chi_script.specs.Storms.{storm_of}
+use Rattle.chi_script.proofs.StormLemmas.{front_enough}
 use Rattle.chi_replay.proofs.Enough.{fault_of_known}
 use Rattle.chi_storm.proofs.Known.{outcome_of_known}
 use Rattle.chi_storm.proofs.storms.outcome_of_input.Goals as goal

@@ -1,0 +1,98 @@
+//! What a turn has a requester do on the slice of its line.
+
+ghost use Rattle.std.specs.Prelude.{◌≡◌, ◌/◌, IfSome};
+ghost use Rattle.chi_agent.specs.Choice.{choice, choice_at, line_of, IsOwn};
+
+use crate::deliveries::delivery_at;
+use crate::operations::{Operations, Place};
+use crate::retries::retry;
+use crate::sight::Sight;
+use crate::tries::operation;
+use chi_flit::{Line, Step};
+use chi_node::Requester;
+use chi_slice::{Config, Slice};
+use std::alloc::Allocator;
+
+/// A call of a requester on a slice.
+/// Source: `docs/PROTOCOL.md`, "A requester and its calls".
+#[derive(Clone, Copy, Debug, PartialEq, Eq)]
+pub enum Call {
+    /// A step of its own.
+    Step(Step),
+    /// The arrival of its request that is in flight.
+    Arrival,
+}
+
+/// What is done in a turn.
+/// Source: `docs/FORMATS.md`, "A turn".
+#[derive(Clone, Copy, Debug, PartialEq, Eq)]
+pub enum Choice {
+    /// The operation at the place is skipped, or its request has ended: it is finished.
+    Finish(Place),
+    /// The operation at the place is tried by the step.
+    Try(Place, Step),
+    /// A retried request is resent or cancelled, or a message is delivered.
+    Do(Call),
+}
+
+/// The line of a turn: the word of the draw, modulo the number of lines.
+/// Source: `docs/FORMATS.md`, "A turn".
+pub fn line_of(config: &Config, x: u32) -> Line
+    ensures { result ≡ line_of config.now x }
+{
+    // (the largest node by a constant, so that its turns have no division)
+    match config.lines() {
+        64 => Line((x % 64) as u8),
+        lines => Line((x % u32::from(lines)) as u8),
+    }
+}
+
+/// The number by which a turn picks a delivery: the word of the draw, divided by the number of lines.
+fn number_of(config: &Config, x: u32) -> u32
+    ensures { result ≡ x / config.now.lines }
+{
+    match config.lines() {
+        64 => x / 64,
+        lines => x / u32::from(lines),
+    }
+}
+
+/// What is done at a line of the slice: the first of the three parts that has a choice.
+fn choose_at<A: Allocator, B: Allocator>(
+    sight: &Sight<'_, B>,
+    operations: &Operations<A>,
+    stopped: bool,
+    number: u32,
+) -> Option<Choice>
+    ensures is { result
+        ≡ choice_at sight.now.slice.now sight.now.requester.now operations.now stopped sight.now.line number }
+    ensures own { IfSome result (IsOwn operations.now) }
+{
+    let (requester, copy) = (sight.requester, sight.at.copy);
+    if let Some(choice) = retry(sight.slice.config().profile(), copy, requester) {
+        return Some(choice);
+    }
+    if let Some(choice) = operation(stopped, operations, copy, requester, sight.line) {
+        return Some(choice);
+    }
+    delivery_at(sight, number)
+}
+
+/// What is done for the word of the draw, which drew the line; `None` where nothing is, and of a slice that
+/// hasn't the line. A choice is a finish or a try of an operation of the window, or a call.
+pub(crate) fn choose<A: Allocator, B: Allocator>(
+    slice: &Slice<B>,
+    requester: &Requester,
+    operations: &Operations<A>,
+    stopped: bool,
+    line: Line,
+    x: u32,
+) -> Option<Choice>
+    requires { line ≡ line_of slice.now.config x }
+    ensures is { result ≡ choice slice.now requester.now operations.now stopped x }
+    ensures own { IfSome result (IsOwn operations.now) }
+{
+    let number = number_of(slice.config(), x);
+    let sight = Sight::of(slice, requester, line)?;
+    choose_at(&sight, operations, stopped, number)
+}

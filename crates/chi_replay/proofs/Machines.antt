@@ -1,0 +1,110 @@
+-- A node as the table of the commands sees it: of each requester its slots, its seen credits and its port.
+use Rattle.std.proofs.Common.{◌≡◌, ℕ, zero, suc, ◌<◌, List, [], ◌∷◌, length, map, get_or, refl, sym, ◌∙◌, ap, arith}
+use Rattle.std.proofs.lemmas.Option.{slice_get-get_or}
+use Rattle.std.proofs.Math.ListN.{set}
+use Rattle.std.specs.Prelude.{Some, slice_get}
+use Rattle.chi_flit.specs.declared.numbers.Agent.{Agent}
+use Rattle.chi_tracker.specs.Views.{PortView}
+use Rattle.chi_credit.specs.declared.slot.SlotRecord.{SlotRecord}
+use Rattle.chi_node.specs.Requester.{RequesterState, no_requester}
+use Rattle.chi_node.specs.Home.{HomeState}
+use Rattle.chi_node.specs.System.{IsSystem, OthersStay, SystemState, requester_of}
+use Rattle.chi_replay.specs.Ports.{seen_counts}
+use Rattle.chi_replay.specs.Turns.{credits_of, slots_of}
+use Rattle.chi_replay.specs.Texts.{AtPort}
+use Rattle.chi_replay.specs.Session.{machine_of, ports_of}
+
+mapped_at : {A B : Type 0} (f : A → B) (l : List A) (n : ℕ) (d : A) → get_or (map f l) n (f d) ≡ f (get_or l n d)
+mapped_at f [] n d = refl
+mapped_at f (x ∷ l) zero d = refl
+mapped_at f (x ∷ l) (suc n) d = mapped_at f l n d
+
+mapped_set : {A B : Type 0} (f : A → B) (l : List A) (n : ℕ) (x : A) → map f (set l n x) ≡ set (map f l) n (f x)
+mapped_set f [] n x = refl
+mapped_set f (y ∷ l) zero x = refl
+mapped_set {A} {B} f (y ∷ l) (suc n) x = ap (λ (t : List B). f y ∷ t) (mapped_set f l n x)
+
+mapped_length : {A B : Type 0} (f : A → B) (l : List A) → length (map f l) ≡ length l
+mapped_length f [] = refl
+mapped_length f (x ∷ l) = ap suc (mapped_length f l)
+
+-- what stands at a place, written there once more
+set_here : {A : Type 0} (l : List A) (n : ℕ) (d : A) → set l n (get_or l n d) ≡ l
+set_here [] n d = refl
+set_here (x ∷ l) zero d = refl
+set_here {A} (x ∷ l) (suc n) d = ap (λ (t : List A). x ∷ t) (set_here l n d)
+
+pub set_twice : {A : Type 0} (l : List A) (n : ℕ) (a b : A) → set (set l n a) n b ≡ set l n b
+set_twice [] n a b = refl
+set_twice (x ∷ l) zero a b = refl
+set_twice {A} (x ∷ l) (suc n) a b = ap (λ (t : List A). x ∷ t) (set_twice l n a b)
+
+pub slots_at : (y : SystemState) (agent : Agent) → slots_of (machine_of y) agent ≡ (requester_of y agent.0).slots
+slots_at y agent = mapped_at (λ (r : RequesterState). r.slots) y.requesters agent.0 no_requester
+
+pub credits_at : (y : SystemState) (agent : Agent) → credits_of (machine_of y) agent ≡ seen_counts (requester_of y agent.0).port
+credits_at y agent = mapped_at (λ (r : RequesterState). seen_counts r.port) y.requesters agent.0 no_requester
+
+-- the table's state after an agent's requester has changed
+pub machine_after : (y y' : SystemState) (agent : Agent) (slots : List SlotRecord) (credits : List ℕ) → OthersStay y y' agent → (requester_of y' agent.0).slots ≡ slots → seen_counts (requester_of y' agent.0).port ≡ credits
+    → machine_of y' ≡ record { home = y'.home; accounts = set (machine_of y).accounts agent.0 slots; seen = set (machine_of y).seen agent.0 credits }
+machine_after y y' agent slots credits others slots_are credits_are =
+    let accounts : (machine_of y').accounts ≡ set (machine_of y).accounts agent.0 slots =
+    ap (λ (l : List RequesterState). map (λ r. r.slots) l) others ∙ mapped_set (λ (r : RequesterState). r.slots) y.requesters agent.0 (requester_of y' agent.0) ∙ ap (λ (x : List SlotRecord). set (machine_of y).accounts agent.0 x) slots_are in
+    let seen : (machine_of y').seen ≡ set (machine_of y).seen agent.0 credits =
+    ap (λ (l : List RequesterState). map (λ r. seen_counts r.port) l) others ∙ mapped_set (λ (r : RequesterState). seen_counts r.port) y.requesters agent.0 (requester_of y' agent.0) ∙ ap (λ (x : List ℕ). set (machine_of y).seen agent.0 x) credits_are in
+    ap (λ (a : List (List SlotRecord)). record { home = y'.home; accounts = a; seen = (machine_of y').seen }) accounts
+    ∙ ap (λ (s : List (List ℕ)). record { home = y'.home; accounts = set (machine_of y).accounts agent.0 slots; seen = s }) seen
+
+-- and with the same seen credits
+pub machine_seen_same : (y y' : SystemState) (agent : Agent) (slots : List SlotRecord) → OthersStay y y' agent → (requester_of y' agent.0).slots ≡ slots → seen_counts (requester_of y' agent.0).port ≡ seen_counts (requester_of y agent.0).port
+    → machine_of y' ≡ record { home = y'.home; accounts = set (machine_of y).accounts agent.0 slots; seen = (machine_of y).seen }
+machine_seen_same y y' agent slots others slots_are same =
+    let credits : seen_counts (requester_of y' agent.0).port ≡ credits_of (machine_of y) agent = same ∙ sym (credits_at y agent) in
+    machine_after y y' agent slots (credits_of (machine_of y) agent) others slots_are credits
+    ∙ ap (λ (s : List (List ℕ)). record { home = y'.home; accounts = set (machine_of y).accounts agent.0 slots; seen = s }) (set_here (machine_of y).seen agent.0 (seen_counts no_requester.port))
+
+-- and with the same slots
+pub machine_slots_same : (y y' : SystemState) (agent : Agent) (credits : List ℕ) → OthersStay y y' agent → (requester_of y' agent.0).slots ≡ (requester_of y agent.0).slots → seen_counts (requester_of y' agent.0).port ≡ credits
+    → machine_of y' ≡ record { home = y'.home; accounts = (machine_of y).accounts; seen = set (machine_of y).seen agent.0 credits }
+machine_slots_same y y' agent credits others same credits_are =
+    let slots : (requester_of y' agent.0).slots ≡ slots_of (machine_of y) agent = same ∙ sym (slots_at y agent) in
+    machine_after y y' agent (slots_of (machine_of y) agent) credits others slots credits_are
+    ∙ ap (λ (a : List (List SlotRecord)). record { home = y'.home; accounts = a; seen = set (machine_of y).seen agent.0 credits }) (set_here (machine_of y).accounts agent.0 no_requester.slots)
+
+-- and with all of it the same
+pub machine_same : (y y' : SystemState) (agent : Agent) → y'.home ≡ y.home → OthersStay y y' agent → (requester_of y' agent.0).slots ≡ (requester_of y agent.0).slots → seen_counts (requester_of y' agent.0).port ≡ seen_counts (requester_of y agent.0).port
+    → machine_of y' ≡ machine_of y
+machine_same y y' agent home others slots_same seen_same =
+    machine_slots_same y y' agent (credits_of (machine_of y) agent) others slots_same (seen_same ∙ sym (credits_at y agent))
+    ∙ (ap (λ (s : List (List ℕ)). record { home = y'.home; accounts = (machine_of y).accounts; seen = s }) (set_here (machine_of y).seen agent.0 (seen_counts no_requester.port))
+    ∙ ap (λ (h : HomeState). record { home = h; accounts = (machine_of y).accounts; seen = (machine_of y).seen }) home)
+
+-- the ports after that
+pub ports_after : (y y' : SystemState) (agent : Agent) → OthersStay y y' agent → ports_of y' ≡ set (ports_of y) agent.0 (requester_of y' agent.0).port
+ports_after y y' agent others = ap (λ (l : List RequesterState). map (λ r. r.port) l) others ∙ mapped_set (λ (r : RequesterState). r.port) y.requesters agent.0 (requester_of y' agent.0)
+
+pub ports_same : (y y' : SystemState) (agent : Agent) → OthersStay y y' agent → (requester_of y' agent.0).port ≡ (requester_of y agent.0).port → ports_of y' ≡ ports_of y
+ports_same y y' agent others same =
+    ports_after y y' agent others ∙ ap (λ (p : PortView). set (ports_of y) agent.0 p) (same ∙ sym (mapped_at (λ (r : RequesterState). r.port) y.requesters agent.0 no_requester)) ∙ set_here (ports_of y) agent.0 no_requester.port
+
+-- an agent of the node has a port
+pub port_there : (y : SystemState) (agent : Agent) → IsSystem y → agent.0 < y.home.config.agents → slice_get (ports_of y) agent.0 ≡ Some (requester_of y agent.0).port
+port_there y agent k low =
+    slice_get-get_or (ports_of y) agent.0 no_requester.port (omega (arith, low, k.count, mapped_length (λ (r : RequesterState). r.port) y.requesters))
+    ∙ ap (λ (p : PortView). Some p) (mapped_at (λ (r : RequesterState). r.port) y.requesters agent.0 no_requester)
+
+-- and goes on by itself
+pub at_port : (y : SystemState) (agent : Agent) (new : List PortView) (after : PortView) (Goes : PortView → PortView → Type 0) → IsSystem y → agent.0 < y.home.config.agents → new ≡ set (ports_of y) agent.0 after → Goes (requester_of y agent.0).port after → AtPort agent (ports_of y) new Goes
+at_port y agent new after Goes k low is goes = ((requester_of y agent.0).port, after, port_there y agent k low, goes, is)
+
+-- a port that has gone on can go on once more
+pub at_port_again : (y : SystemState) (agent : Agent) (new : List PortView) (mid after : PortView) (Goes : PortView → PortView → Type 0) → IsSystem y → agent.0 < y.home.config.agents → new ≡ set (ports_of y) agent.0 after → Goes mid after → AtPort agent (set (ports_of y) agent.0 mid) new Goes
+at_port_again y agent new mid after Goes k low is goes =
+    let there : slice_get (set (ports_of y) agent.0 mid) agent.0 ≡ Some mid = set_there (ports_of y) agent.0 mid (omega (arith, low, k.count, mapped_length (λ (r : RequesterState). r.port) y.requesters)) in
+    (mid, after, there, goes, is ∙ sym (set_twice (ports_of y) agent.0 mid after))
+  where
+    set_there : {A : Type 0} (l : List A) (n : ℕ) (a : A) → n < length l → slice_get (set l n a) n ≡ Some a
+    set_there [] n a low = absurd (omega (arith, low))
+    set_there (x ∷ l) zero a low = refl
+    set_there (x ∷ l) (suc n) a low = set_there l n a (omega (arith, low))

@@ -1,0 +1,67 @@
+-- A new node, as the table of the commands sees it.
+use Rattle.std.proofs.Common.{◌≡◌, ℕ, zero, suc, ◌+◌, ◌/◌, ◌%◌, List, [], ◌∷◌, map, replicate, refl, sym, ◌∙◌, ap, arith}
+use Rattle.std.proofs.lemmas.Nat.Bits.{bit_at-zero}
+use Rattle.std.specs.Prelude.{slice_index}
+use Rattle.std.specs.Int.{bit_at}
+use Rattle.std.specs.List.{range_with_len}
+use Rattle.atomic_table.specs.Seated.{TableId}
+use Rattle.chi_tracker.specs.declared.shape.Shape.{Shape}
+use Rattle.chi_tracker.specs.Sums.{set_at}
+use Rattle.chi_tracker.specs.Shape.{low, size}
+use Rattle.chi_tracker.specs.Views.{PortView, new_port, new_ports}
+use Rattle.chi_tracker.specs.Calls.{set_count, shape_of}
+use Rattle.chi_credit.specs.declared.slot.SlotRecord.{SlotRecord}
+use Rattle.chi_credit.specs.Account.{all_idle}
+use Rattle.chi_config.specs.Config.{Sizes}
+use Rattle.chi_node.specs.Parts.{opening_requesters}
+use Rattle.chi_node.specs.Requester.{RequesterState, opening_requester}
+use Rattle.chi_node.specs.Home.{opening_home}
+use Rattle.chi_node.specs.System.{SystemState, opening_system}
+use Rattle.chi_replay.specs.Ports.{seen_counts}
+use Rattle.chi_replay.specs.Turns.{no_credits, opening}
+use Rattle.chi_replay.specs.Texts.{opening_ports}
+use Rattle.chi_replay.specs.Session.{machine_of, ports_of}
+
+-- nothing is seen
+none_in : (j : ℕ) → slice_index no_credits j ≡ 0
+none_in zero = refl
+none_in (suc zero) = refl
+none_in (suc (suc zero)) = refl
+none_in (suc (suc (suc zero))) = refl
+none_in (suc (suc (suc (suc j)))) = refl
+
+none_at : (e : ℕ) → set_at no_credits e ≡ 0
+none_at e = ap (λ w. bit_at w (e % 64)) (none_in (e / 64)) ∙ bit_at-zero (e % 64)
+
+none_from : (start n : ℕ) → set_count no_credits start n ≡ 0
+none_from start zero = refl
+none_from start (suc n) = omega (arith, none_from start n, none_at (start + n))
+
+no_counts : (s : Shape) (n : ℕ) → seen_counts (new_port s n) ≡ no_credits
+no_counts s n =
+    ap (λ m. m ∷ set_count no_credits (low s 1) (size s 1) ∷ set_count no_credits (low s 2) (size s 2) ∷ set_count no_credits (low s 3) (size s 3) ∷ []) (none_from (low s 0) (size s 0))
+    ∙ (ap (λ m. 0 ∷ m ∷ set_count no_credits (low s 2) (size s 2) ∷ set_count no_credits (low s 3) (size s 3) ∷ []) (none_from (low s 1) (size s 1))
+    ∙ (ap (λ m. 0 ∷ 0 ∷ m ∷ set_count no_credits (low s 3) (size s 3) ∷ []) (none_from (low s 2) (size s 2)) ∙ ap (λ m. 0 ∷ 0 ∷ 0 ∷ m ∷ []) (none_from (low s 3) (size s 3))))
+
+-- of n requesters from a start
+idle_accounts : (z : TableId) (s : Shape) (start n : ℕ) → map (λ (r : RequesterState). r.slots) (map (opening_requester z s) (range_with_len start n)) ≡ replicate n all_idle
+idle_accounts z s start zero = refl
+idle_accounts z s start (suc n) = ap (λ (l : List (List SlotRecord)). all_idle ∷ l) (idle_accounts z s (start + 1) n)
+
+no_credits_seen : (z : TableId) (s : Shape) (start n : ℕ) → map (λ (r : RequesterState). seen_counts r.port) (map (opening_requester z s) (range_with_len start n)) ≡ replicate n no_credits
+no_credits_seen z s start zero = refl
+no_credits_seen z s start (suc n) = ap (λ (c : List ℕ). c ∷ map (λ (r : RequesterState). seen_counts r.port) (map (opening_requester z s) (range_with_len (start + 1) n))) (no_counts s start) ∙ ap (λ (l : List (List ℕ)). no_credits ∷ l) (no_credits_seen z s (start + 1) n)
+
+new_views : (z : TableId) (s : Shape) (start n : ℕ) → map (λ (r : RequesterState). r.port) (map (opening_requester z s) (range_with_len start n)) ≡ new_ports s start n
+new_views z s start zero = refl
+new_views z s start (suc n) = ap (λ (l : List PortView). new_port s start ∷ l) (new_views z s (start + 1) n)
+
+-- the table's state, and the ports
+pub opening_machine : (config : Sizes) (z : TableId) (y : SystemState) → y ≡ opening_system config z → machine_of y ≡ opening config
+opening_machine config z y is =
+    ap machine_of is
+    ∙ (ap (λ (a : List (List SlotRecord)). record { home = opening_home config; accounts = a; seen = map (λ (r : RequesterState). seen_counts r.port) (opening_requesters z (shape_of config.entries config.agents) config.agents) }) (idle_accounts z (shape_of config.entries config.agents) 0 config.agents)
+    ∙ ap (λ (c : List (List ℕ)). record { home = opening_home config; accounts = replicate config.agents all_idle; seen = c }) (no_credits_seen z (shape_of config.entries config.agents) 0 config.agents))
+
+pub opening_views : (config : Sizes) (z : TableId) (y : SystemState) → y ≡ opening_system config z → ports_of y ≡ opening_ports config
+opening_views config z y is = ap ports_of is ∙ new_views z (shape_of config.entries config.agents) 0 config.agents

@@ -1,0 +1,289 @@
+-- What a node did for a command plays the command's turn.
+use Rattle.std.proofs.Common.{◌≡◌, ℕ, ◌<◌, Bool, true, false, List, [], ◌∷◌, ◌++◌, length, Option, Some, None, Result, Ok, Err, IfOk, OnOk, OnErr, refl, sym, ◌∙◌, ap, subst, arith}
+use Rattle.std.proofs.Math.ListN.{set}
+use Rattle.std.specs.Prelude.{slice_index}
+use Rattle.std.specs.Int.{bit_at}
+use Rattle.chi_flit.specs.declared.numbers.Agent.{Agent}
+use Rattle.chi_flit.specs.declared.numbers.Entry.{Entry}
+use Rattle.chi_flit.specs.declared.numbers.Line.{Line}
+use Rattle.chi_flit.specs.declared.numbers.Slot.{Slot}
+use Rattle.chi_flit.specs.declared.credit.CreditType.{CreditType}
+use Rattle.chi_flit.specs.declared.credit.CreditType.TheVariants.{T0, T1, T2, T3}
+use Rattle.chi_flit.specs.declared.action.Action.{Action}
+use Rattle.chi_flit.specs.declared.action.Effect.{Effect}
+use Rattle.chi_flit.specs.declared.action.Effect.TheVariants.{Completed, Nothing, Value}
+use Rattle.chi_flit.specs.declared.message.Request.{Request}
+use Rattle.chi_flit.specs.declared.refusal.Refusal.{Refusal}
+use Rattle.chi_flit.specs.Credit.{credit_number}
+use Rattle.chi_flit.specs.Refusal.{refusal_of}
+use Rattle.chi_tracker.specs.declared.released.Released.{Released}
+use Rattle.chi_tracker.specs.declared.totals.Counts.{Counts}
+use Rattle.chi_tracker.specs.Views.{PortView}
+use Rattle.chi_tracker.specs.Shape.{low, size}
+use Rattle.chi_tracker.specs.Calls.{owed_one, port_after_scan}
+use Rattle.chi_line.specs.LineState.{cells_of}
+use Rattle.chi_slice.specs.Slice.{SliceState}
+use Rattle.chi_credit.specs.declared.slot.SlotRecord.{SlotRecord}
+use Rattle.chi_credit.specs.declared.slot.SlotState.{SlotState}
+use Rattle.chi_credit.specs.declared.slot.SlotState.TheVariants as states
+use Rattle.chi_credit.specs.Slot.{after_finish}
+use Rattle.chi_credit.specs.Account.{slots_with_state, slot_at, state_at}
+use Rattle.chi_node.specs.declared.answers.Arrived.{Arrived}
+use Rattle.chi_node.specs.declared.answers.Arrived.TheVariants.{Admitted, Retried}
+use Rattle.chi_node.specs.declared.answers.Stepped.{Stepped}
+use Rattle.chi_node.specs.Requester.{RequesterState}
+use Rattle.chi_node.specs.Arrives.{Arrives}
+use Rattle.chi_node.specs.AfterStep.{Completes, Finishes, account_after, requester_after}
+use Rattle.chi_node.specs.Calls.{ArrivesAt, arrival_action, is_own_step, place_at}
+use Rattle.chi_script.specs.declared.commands.Command.TheVariants as commands
+use Rattle.chi_slice.specs.Audits.{IsAudited, loads_in}
+use Rattle.chi_node.specs.Home.{HomeState, slices_after, line, slice_of}
+use Rattle.chi_node.specs.System.{ArrivesIn, IsSystem, OthersStay, StepsIn, SystemState, arrive_refusal, requester_of, step_refusal}
+use Rattle.chi_reply.specs.Replies.{audit_text, reply_text, totals_text}
+use Rattle.chi_reply.specs.declared.replies.Reply.TheVariants as replies
+use Rattle.chi_replay.specs.Ports.{Claims, Owes, Releases, Spends, seen_counts}
+use Rattle.chi_replay.specs.Turns.{Claimed, Ends, Glanced, Judged, Machine, Owed, Spent, Turn, Went, act, act_refusal, acting, machine_after_admission, arrive, arriving, turn_of_attempt, by_type, completing, credits_of, turn_after_action, less_one, or_refused, slots_after, slots_of, with_action, with_arrival, with_credits, with_end, turn}
+use Rattle.chi_replay.specs.NodeReplies.{arrival_reply, done_reply, step_reply, totals_told}
+use Rattle.chi_replay.specs.Session.{PlaysOn, SaysOn, machine_of, ports_of}
+use Rattle.chi_replay.proofs.Machines.{at_port, at_port_again, credits_at, machine_after, machine_seen_same, ports_after, ports_same, slots_at}
+use Rattle.chi_replay.proofs.Reasons.{act_same, arrives_low, few_there, steps_low}
+use Rattle.chi_replay.proofs.Seen.{counts_less, same_counts}
+
+-- what is refused says so, and what isn't goes on
+pub refused_plays : (y y' : SystemState) (o : Option Refusal) (refusal : Refusal) (t : Turn) → Some refusal ≡ o → y' ≡ y → PlaysOn (or_refused o (machine_of y) t) y y' (reply_text (replies.Refused refusal))
+refused_plays y y' o refusal t h same =
+    subst (λ (x : Option Refusal). PlaysOn (or_refused x (machine_of y) t) y y' (reply_text (replies.Refused refusal))) h
+    (subst (λ (z : SystemState). PlaysOn (or_refused (Some refusal) (machine_of y) t) y z (reply_text (replies.Refused refusal))) (sym same) ([], (refl, refl, refl)))
+
+pub allowed_plays : (y y' : SystemState) (o : Option Refusal) (t : Turn) (said : List ℕ) → None ≡ o → PlaysOn t y y' said → PlaysOn (or_refused o (machine_of y) t) y y' said
+allowed_plays y y' o t said h plays = subst (λ (x : Option Refusal). PlaysOn (or_refused x (machine_of y) t) y y' said) h plays
+
+-- types of the same number
+same_type : (a b : CreditType) → credit_number a ≡ credit_number b → a ≡ b
+same_type T0 T0 e = refl
+same_type T0 T1 e = absurd (omega (arith, e))
+same_type T0 T2 e = absurd (omega (arith, e))
+same_type T0 T3 e = absurd (omega (arith, e))
+same_type T1 T0 e = absurd (omega (arith, e))
+same_type T1 T1 e = refl
+same_type T1 T2 e = absurd (omega (arith, e))
+same_type T1 T3 e = absurd (omega (arith, e))
+same_type T2 T0 e = absurd (omega (arith, e))
+same_type T2 T1 e = absurd (omega (arith, e))
+same_type T2 T2 e = refl
+same_type T2 T3 e = absurd (omega (arith, e))
+same_type T3 T0 e = absurd (omega (arith, e))
+same_type T3 T1 e = absurd (omega (arith, e))
+same_type T3 T2 e = absurd (omega (arith, e))
+same_type T3 T3 e = refl
+
+-- the slots of a requester of which one was moved
+moved_slots : (y y' : SystemState) (agent : Agent) (s : ℕ) (state : SlotState) → (requester_of y' agent.0).slots ≡ slots_with_state (requester_of y agent.0).slots s state → (requester_of y' agent.0).slots ≡ slots_with_state (slots_of (machine_of y) agent) s state
+moved_slots y y' agent s state is = is ∙ ap (λ (x : List SlotRecord). slots_with_state x s state) (sym (slots_at y agent))
+
+-- the table's state after an arrival
+arrived_state : (y y' : SystemState) (agent : Agent) (l : Line) (s : ℕ) (arrived : Arrived) (state : SlotState) → y'.home ≡ slices_after y.home (arrival_action agent.0 l arrived) → OthersStay y y' agent
+    → (requester_of y' agent.0).slots ≡ slots_with_state (requester_of y agent.0).slots s state → seen_counts (requester_of y' agent.0).port ≡ seen_counts (requester_of y agent.0).port → machine_of y' ≡ with_arrival (machine_of y) agent l s arrived state
+arrived_state y y' agent l s arrived state home others slots seen =
+    machine_seen_same y y' agent (slots_with_state (slots_of (machine_of y) agent) s state) others (moved_slots y y' agent s state slots) seen
+    ∙ ap (λ (h : HomeState). record { home = h; accounts = set (machine_of y).accounts agent.0 (slots_with_state (slots_of (machine_of y) agent) s state); seen = (machine_of y).seen }) home
+
+-- a first attempt that is admitted, one that is retried, and a resent request
+first_admitted : (y y' : SystemState) (agent : Agent) (l : Line) (s : ℕ) (e : Entry) → IsSystem y → agent.0 < y.home.config.agents → y'.home ≡ slices_after y.home (arrival_action agent.0 l (Admitted e)) → OthersStay y y' agent
+    → Arrives true s (Admitted e) (requester_of y agent.0) (requester_of y' agent.0) → PlaysOn (turn_of_attempt true (machine_of y) agent l s (slot_at (requester_of y agent.0).slots s).credit) y y' (reply_text (replies.Admitted e))
+first_admitted y y' agent l s e k low home others h =
+    let r : RequesterState = requester_of y agent.0 in
+    let ty : CreditType = (slot_at r.slots s).credit in (
+      Claimed (Some e) ∷ [],
+      (
+        ports_of y',
+        at_port y agent (ports_of y') (requester_of y' agent.0).port (λ before after. Claims before ty (Some e) after) k low (ports_after y y' agent others) (h.1, h.2, ap (λ (x : RequesterState). x.port) h.3),
+        (refl, arrived_state y y' agent l s (Admitted e) (states.Admitted e) home others (ap (λ (x : RequesterState). x.slots) h.3) (ap (λ (x : RequesterState). seen_counts x.port) h.3), refl),
+      ),
+    )
+
+first_retried : (y y' : SystemState) (agent : Agent) (l : Line) (s : ℕ) (told : CreditType) → IsSystem y → agent.0 < y.home.config.agents → y'.home ≡ slices_after y.home (arrival_action agent.0 l (Retried told)) → OthersStay y y' agent
+    → Arrives true s (Retried told) (requester_of y agent.0) (requester_of y' agent.0) → PlaysOn (turn_of_attempt true (machine_of y) agent l s (slot_at (requester_of y agent.0).slots s).credit) y y' (reply_text (replies.Retry told))
+first_retried y y' agent l s told k low home others h =
+    let r : RequesterState = requester_of y agent.0 in
+    let ty : CreditType = (slot_at r.slots s).credit in
+    let t : ℕ = credit_number ty in
+    let mid : PortView = port_after_scan t (size r.port.shape t) r.port in
+    let after : (requester_of y' agent.0).port ≡ owed_one t mid = ap (λ (x : RequesterState). x.port) h.2 in (
+      Claimed None ∷ Owed ∷ [],
+      (
+        set (ports_of y) agent.0 mid,
+        at_port y agent (set (ports_of y) agent.0 mid) mid (λ before after. Claims before ty None after) k low refl (refl, λ i is. sym (ap (λ (p : PortView). bit_at p.found i) after) ∙ h.1 i is),
+        (
+          ports_of y',
+          at_port_again y agent (ports_of y') mid (requester_of y' agent.0).port (λ before after. Owes before ty after) k low (ports_after y y' agent others) after,
+          (ap (λ (c : CreditType). reply_text (replies.Retry c)) (same_type told ty h.0), arrived_state y y' agent l s (Retried ty) states.Refused home others (ap (λ (x : RequesterState). x.slots) h.2) (ap (λ (x : RequesterState). seen_counts x.port) h.2), refl),
+        ),
+      ),
+    )
+
+resent_admitted : (y y' : SystemState) (agent : Agent) (l : Line) (s : ℕ) (e : Entry) → IsSystem y → agent.0 < y.home.config.agents → y'.home ≡ slices_after y.home (arrival_action agent.0 l (Admitted e)) → OthersStay y y' agent
+    → Arrives false s (Admitted e) (requester_of y agent.0) (requester_of y' agent.0) → PlaysOn (turn_of_attempt false (machine_of y) agent l s (slot_at (requester_of y agent.0).slots s).credit) y y' (reply_text (replies.Admitted e))
+resent_admitted y y' agent l s e k low home others h =
+    let r : RequesterState = requester_of y agent.0 in
+    let ty : CreditType = (slot_at r.slots s).credit in
+    let m : Machine = machine_of y in
+    let after = ap (λ (x : RequesterState). x.port) h.3 in
+    let credits : seen_counts (requester_of y' agent.0).port ≡ less_one (credits_of m agent) ty =
+    counts_less r.port (requester_of y' agent.0).port ty e.0 (few_there y agent.0 k low) h.1 (ap (λ (p : PortView). p.shape) after) (ap (λ (p : PortView). p.seen) after) ∙ ap (λ (x : List ℕ). less_one x ty) (sym (credits_at y agent)) in
+    let state : machine_of y' ≡ with_credits (machine_after_admission m agent l s e) agent (less_one (credits_of m agent) ty) =
+    machine_after y y' agent (slots_with_state (slots_of m agent) s (states.Admitted e)) (less_one (credits_of m agent) ty) others (moved_slots y y' agent s (states.Admitted e) (ap (λ (x : RequesterState). x.slots) h.3)) credits
+    ∙ ap (λ (z : HomeState). record { home = z; accounts = set m.accounts agent.0 (slots_with_state (slots_of m agent) s (states.Admitted e)); seen = set m.seen agent.0 (less_one (credits_of m agent) ty) }) home in (
+      Spent e ∷ [],
+      (
+        ports_of y',
+        at_port y agent (ports_of y') (requester_of y' agent.0).port (λ before after. Spends before ty e after) k low (ports_after y y' agent others) (h.1, h.2, after),
+        (refl, state, refl),
+      ),
+    )
+
+attempt_plays : (y y' : SystemState) (agent : Agent) (l : Line) (s : ℕ) (first : Bool) (arrived : Arrived) → IsSystem y → agent.0 < y.home.config.agents → y'.home ≡ slices_after y.home (arrival_action agent.0 l arrived) → OthersStay y y' agent
+    → Arrives first s arrived (requester_of y agent.0) (requester_of y' agent.0) → PlaysOn (turn_of_attempt first (machine_of y) agent l s (slot_at (requester_of y agent.0).slots s).credit) y y' (reply_text (arrival_reply (Ok arrived)))
+attempt_plays y y' agent l s true (Admitted e) k low home others h = first_admitted y y' agent l s e k low home others h
+attempt_plays y y' agent l s true (Retried told) k low home others h = first_retried y y' agent l s told k low home others h
+attempt_plays y y' agent l s false (Admitted e) k low home others h = resent_admitted y y' agent l s e k low home others h
+attempt_plays y y' agent l s false (Retried told) k low home others h = absurd h
+
+arriving_plays : (y y' : SystemState) (agent : Agent) (l : Line) (o : Option Request) (arrived : Arrived) → IsSystem y → agent.0 < y.home.config.agents → y'.home ≡ slices_after y.home (arrival_action agent.0 l arrived) → OthersStay y y' agent
+    → ArrivesAt o arrived (requester_of y agent.0) (requester_of y' agent.0) → PlaysOn (arriving (machine_of y) agent l o) y y' (reply_text (arrival_reply (Ok arrived)))
+arriving_plays y y' agent l None arrived k low home others h = absurd h
+arriving_plays y y' agent l (Some request) arrived k low home others h =
+    subst (λ (x : List SlotRecord). PlaysOn (turn_of_attempt request.allow_retry (machine_of y) agent l request.slot.0 (slot_at x request.slot.0).credit) y y' (reply_text (arrival_reply (Ok arrived)))) (sym (slots_at y agent))
+    (attempt_plays y y' agent l request.slot.0 request.allow_retry arrived k low home others h)
+
+-- an arrival
+pub arrive_plays : (y y' : SystemState) (agent : Agent) (l : Line) (result : Result Arrived Refusal) → IsSystem y → refusal_of result ≡ arrive_refusal y agent.0 l.0 → IfOk result (λ arrived. ArrivesIn y y' agent l arrived) → OnErr result (y' ≡ y)
+    → PlaysOn (arrive (machine_of y) agent l) y y' (reply_text (arrival_reply result))
+arrive_plays y y' agent l (Err refusal) k h ok err = refused_plays y y' (arrive_refusal y agent.0 l.0) refusal _ h err
+arrive_plays y y' agent l (Ok arrived) k h ok err =
+    allowed_plays y y' (arrive_refusal y agent.0 l.0) _ (reply_text (arrival_reply (Ok arrived))) h
+    (arriving_plays y y' agent l (cells_of (line y.home l.0) agent.0).req arrived k (arrives_low y agent l k h) ok.home ok.others ok.requester)
+
+-- the table's state after a step that completes nothing
+stepped_state : (y y' : SystemState) (action : Action) → y'.home ≡ slices_after y.home action → OthersStay y y' action.agent → requester_of y' action.agent.0 ≡ requester_after (place_at (slice_of y.home action.line.0) action) action.step (requester_of y action.agent.0)
+    → (machine_of y' ≡ with_action (machine_of y) action) × (ports_of y' ≡ ports_of y)
+stepped_state y y' action home others is =
+    let r : RequesterState = requester_of y action.agent.0 in
+    let z : SliceState = slice_of y.home action.line.0 in
+    let slots : (requester_of y' action.agent.0).slots ≡ slots_after (machine_of y) action =
+    ap (λ (x : RequesterState). x.slots) is ∙ ap (λ (x : List SlotRecord). account_after (place_at z action) action.step x) (sym (slots_at y action.agent)) in
+    let port : (requester_of y' action.agent.0).port ≡ r.port = ap (λ (x : RequesterState). x.port) is in (
+      machine_seen_same y y' action.agent (slots_after (machine_of y) action) others slots (ap seen_counts port)
+          ∙ ap (λ (h : HomeState). record { home = h; accounts = set (machine_of y).accounts action.agent.0 (slots_after (machine_of y) action); seen = (machine_of y).seen }) home,
+      ports_same y y' action.agent others port,
+    )
+
+-- a step that completes a request
+completing_plays : (y y' : SystemState) (action : Action) (slot : Slot) (released : Released) → IsSystem y → action.agent.0 < y.home.config.agents → y'.home ≡ slices_after y.home action → OthersStay y y' action.agent
+    → Completes slot.0 released (requester_of y action.agent.0) (requester_of y' action.agent.0) → PlaysOn (completing (state_at (requester_of y action.agent.0).slots slot.0) (machine_of y) action slot) y y' (reply_text (replies.Completed slot released))
+completing_plays y y' action slot released k low home others c =
+    let m : Machine = machine_of y in
+    let r : RequesterState = requester_of y action.agent.0 in
+    let e : Entry = c.ended.0 in
+    let ended : List SlotRecord = set (slots_of m action.agent) slot.0 (after_finish (slot_at (slots_of m action.agent) slot.0)) in
+    let slots : (requester_of y' action.agent.0).slots ≡ ended =
+    ap (λ (x : RequesterState). x.slots) c.after ∙ ap (λ (x : List SlotRecord). set x slot.0 (after_finish (slot_at x slot.0))) (sym (slots_at y action.agent)) in
+    let state : machine_of y' ≡ with_end m action slot =
+    machine_seen_same y y' action.agent ended others slots (same_counts r.port (requester_of y' action.agent.0).port c.credits.1 c.credits.2)
+    ∙ ap (λ (h : HomeState). record { home = h; accounts = set m.accounts action.agent.0 ended; seen = m.seen }) home in
+    subst (λ (x : SlotState). PlaysOn (completing x m action slot) y y' (reply_text (replies.Completed slot released))) (sym c.ended.1) (
+      Went released ∷ [],
+      (
+        ports_of y',
+        at_port y action.agent (ports_of y') (requester_of y' action.agent.0).port (λ before after. Releases before e released after) k low (ports_after y y' action.agent others) (c.held e c.ended.1, c.ended.2),
+        (refl, state, refl),
+      ),
+    )
+
+done_plays : (y y' : SystemState) (action : Action) (effect : Effect) (o : Option Released) → IsSystem y → action.agent.0 < y.home.config.agents → y'.home ≡ slices_after y.home action → OthersStay y y' action.agent
+    → Finishes (place_at (slice_of y.home action.line.0) action) action.step effect o (requester_of y action.agent.0) (requester_of y' action.agent.0) → PlaysOn (turn_after_action effect (machine_of y) action) y y' (reply_text (done_reply effect o))
+done_plays y y' action Nothing o k low home others h = let at = stepped_state y y' action home others h.1 in ([], (refl, at.0, at.1))
+done_plays y y' action (Value word) o k low home others h = let at = stepped_state y y' action home others h.1 in ([], (refl, at.0, at.1))
+done_plays y y' action (Completed slot) None k low home others h = absurd h.0
+done_plays y y' action (Completed slot) (Some released) k low home others h =
+    subst (λ (x : List SlotRecord). PlaysOn (completing (state_at x slot.0) (machine_of y) action slot) y y' (reply_text (replies.Completed slot released))) (sym (slots_at y action.agent))
+    (completing_plays y y' action slot released k low home others h.1)
+
+-- a step
+step_plays : (y y' : SystemState) (action : Action) (result : Result Stepped Refusal) → IsSystem y → refusal_of result ≡ step_refusal y action → IfOk result (λ stepped. StepsIn y y' action stepped) → OnErr result (y' ≡ y)
+    → PlaysOn (act (machine_of y) action) y y' (reply_text (step_reply result))
+step_plays y y' action (Err refusal) k h ok err = refused_plays y y' (act_refusal (machine_of y) action) refusal _ (h ∙ sym (act_same y action)) err
+step_plays y y' action (Ok stepped) k h ok err =
+    allowed_plays y y' (act_refusal (machine_of y) action) _ (reply_text (step_reply (Ok stepped))) (h ∙ sym (act_same y action))
+    (subst (λ (e : Effect). PlaysOn (turn_after_action e (machine_of y) action) y y' (reply_text (done_reply stepped.effect stepped.released))) ok.effect
+    (done_plays y y' action stepped.effect stepped.released k (steps_low y action k h) ok.home ok.others ok.requester))
+
+-- an action that is none of an arrival's
+pub own_plays : (y y' : SystemState) (action : Action) (result : Result Stepped Refusal) → is_own_step action.step ≡ true → IsSystem y → refusal_of result ≡ step_refusal y action → IfOk result (λ stepped. StepsIn y y' action stepped) → OnErr result (y' ≡ y)
+    → PlaysOn (acting (is_own_step action.step) (machine_of y) action) y y' (reply_text (step_reply result))
+own_plays y y' action result own k h ok err = subst (λ (b : Bool). PlaysOn (acting b (machine_of y) action) y y' (reply_text (step_reply result))) (sym own) (step_plays y y' action result k h ok err)
+
+-- a turn that was played says its line, with its end
+pub said_on : (y y' : SystemState) (t : Turn) (said before after : List ℕ) → PlaysOn t y y' said → after ≡ before ++ (said ++ (10 ∷ [])) → SaysOn t y y' before after
+said_on y y' t said before after plays is = (plays.0, said, plays.1, is)
+
+-- a turn that ends at once, where it isn't refused
+pub answered_on : (y y' : SystemState) (t : Turn) (said before after : List ℕ) {T E : Type 0} (put : Result T E) → PlaysOn t y y' said → OnOk put (after ≡ before ++ (said ++ (10 ∷ []))) → OnOk put (SaysOn t y y' before after)
+answered_on y y' t said before after (Ok x) plays bytes = said_on y y' t said before after plays bytes
+answered_on y y' t said before after (Err e) plays bytes = bytes
+
+pub shown_on : (y : SystemState) (o : Option Refusal) (said before after : List ℕ) → None ≡ o → after ≡ before ++ (said ++ (10 ∷ [])) → SaysOn (or_refused o (machine_of y) (Ends said (machine_of y))) y y before after
+shown_on y o said before after h is = said_on y y (or_refused o (machine_of y) (Ends said (machine_of y))) said before after (allowed_plays y y o (Ends said (machine_of y)) said h ([], (refl, refl, refl))) is
+
+-- what follows from what holds where a call succeeded
+on_ok : {T E : Type 0} (r : Result T E) {P Q : Type 0} → OnOk r P → (P → Q) → OnOk r Q
+on_ok (Ok value) h f = f h
+on_ok (Err error) h f = h
+
+-- a refusal that was put behind the text
+pub refused_on : (y y' : SystemState) (o : Option Refusal) (refusal : Refusal) (t : Turn) (before after : List ℕ) {T E : Type 0} (put : Result T E) → Some refusal ≡ o → y' ≡ y → OnOk put (after ≡ before ++ (reply_text (replies.Refused refusal) ++ (10 ∷ [])))
+    → OnOk put (SaysOn (or_refused o (machine_of y) t) y y' before after)
+refused_on y y' o refusal t before after put h same said = on_ok put said (said_on y y' (or_refused o (machine_of y) t) (reply_text (replies.Refused refusal)) before after (refused_plays y y' o refusal t h same))
+
+-- a list of four numbers holds one for each credit type
+abbrev typed : List ℕ → CreditType → ℕ
+typed numbers ty = slice_index numbers (credit_number ty)
+
+four_typed : (numbers : List ℕ) → length numbers ≡ 4 → numbers ≡ by_type (typed numbers)
+four_typed [] four = absurd (omega (arith, four))
+four_typed (a ∷ []) four = absurd (omega (arith, four))
+four_typed (a ∷ b ∷ []) four = absurd (omega (arith, four))
+four_typed (a ∷ b ∷ c ∷ []) four = absurd (omega (arith, four))
+four_typed (a ∷ b ∷ c ∷ d ∷ []) four = refl
+four_typed (a ∷ b ∷ c ∷ d ∷ e ∷ more) four = absurd (omega (arith, four))
+
+-- the numbers of entries, four of each
+pub record AreFours (counts : Counts) : Type 0 where
+  pub free : length counts.free ≡ 4
+  pub hand : length counts.hand ≡ 4
+  pub promised : length counts.promised ≡ 4
+  pub owed : length counts.owed ≡ 4
+
+abbrev typed_counts : Counts → Counts
+typed_counts counts = record { free = by_type (typed counts.free); hand = by_type (typed counts.hand); promised = by_type (typed counts.promised); owed = by_type (typed counts.owed) }
+
+counts_typed : (counts : Counts) → AreFours counts → counts ≡ typed_counts counts
+counts_typed counts four =
+    ap (λ (n : List ℕ). record counts { free = n }) (four_typed counts.free four.free)
+    ∙ (ap (λ (n : List ℕ). record counts { free = by_type (typed counts.free); hand = n }) (four_typed counts.hand four.hand)
+    ∙ (ap (λ (n : List ℕ). record counts { free = by_type (typed counts.free); hand = by_type (typed counts.hand); promised = n }) (four_typed counts.promised four.promised)
+    ∙ ap (λ (n : List ℕ). record (typed_counts counts) { owed = n }) (four_typed counts.owed four.owed)))
+
+pub glance_says : (y : SystemState) (counts : Counts) (before after : List ℕ) → AreFours counts → after ≡ before ++ (totals_text (totals_told counts y.home.config.profile) ++ (10 ∷ [])) → SaysOn (turn (machine_of y) commands.Totals) y y before after
+glance_says y counts before after four h = (
+  Glanced (typed counts.free) (typed counts.hand) (typed counts.promised) (typed counts.owed) ∷ [],
+  totals_text (totals_told counts y.home.config.profile),
+  (ports_of y, refl, (ap (λ (n : Counts). totals_text (totals_told n y.home.config.profile)) (counts_typed counts four), refl, refl)),
+  h,
+)
+
+-- an audit: the loads, the stores, and the verdict on the slices
+pub audit_says : (y : SystemState) (loads stores : ℕ) (coherent : Bool) (before after : List ℕ) → IsAudited y.home.slices loads stores coherent
+    → after ≡ before ++ (audit_text (record { loads = loads; stores = stores; coherent = coherent }) ++ (10 ∷ [])) → SaysOn (turn (machine_of y) commands.Audit) y y before after
+audit_says y loads stores coherent before after k h =
+    (Judged coherent ∷ [], audit_text (record { loads = loads; stores = stores; coherent = coherent }), (ports_of y, (k.coherent, refl), (ap (λ n. audit_text (record { loads = n; stores = stores; coherent = coherent })) k.loads ∙ ap (λ n. audit_text (record { loads = loads_in y.home.slices; stores = n; coherent = coherent })) k.stores, refl, refl)), h)

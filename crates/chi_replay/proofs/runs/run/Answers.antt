@@ -1,0 +1,29 @@
+-- Each command's line leads on, and the last one leads to the whole text.
+use Rattle.std.proofs.Common.{◌≡◌, ◌+◌, ◌<◌, ◌≤◌, ◌∷◌, drop, get_or, length, string_bytes, subst, add-one, drop-cons, arith, rules}
+use Rattle.std.proofs.Math.ListN.{drop_of_length-le}
+use Rattle.chi_script.specs.declared.commands.Command.TheVariants.{Totals}
+use Rattle.chi_replay.specs.Texts.{IsText}
+use Rattle.chi_replay.specs.Session.{machine_of, ports_of}
+use Rattle.chi_replay.proofs.Leads.{LeadsOn, leads_first, leads_further, leads_to}
+use Rattle.chi_replay.proofs.runs.run.Goals as goal
+
+pub loop-command-init : goal.loop-command-init
+loop-command-init g c =
+    let made = c.in_ok-system.ensures.opening in
+    leads_first c.args.config.now c.args.commands.now made.0 c.in_ok-system.system (string_bytes c.new-text.result) made.1 (search (rules, c.new-text.ensures.bytes))
+
+pub loop-command-preserved : goal.loop-command-preserved
+loop-command-preserved g c =
+    let all = c.args.commands.now in
+    let low : c.loop-command.command-index < length all = omega arith in
+    let cut : drop c.loop-command.command-index all ≡ get_or all c.loop-command.command-index Totals ∷ drop (c.loop-command.command-index + 1) all = rw add-one (drop-cons all c.loop-command.command-index Totals low) in
+    leads_further c.args.config.now all (string_bytes c.loop-command.text) _ (machine_of c.loop-command.system) _ (ports_of c.loop-command.system) _ (get_or all c.loop-command.command-index Totals) (drop (c.loop-command.command-index + 1) all)
+    (subst (LeadsOn c.args.config.now all (string_bytes c.loop-command.text) (machine_of c.loop-command.system) (ports_of c.loop-command.system)) cut c.loop-command.invariant) (search (rules, c.in_ok-answer.ensures))
+
+pub returns : goal.returns
+returns g c =
+    let all = c.args.commands.now in
+    let past : length all ≤ c.loop-command.command-index = omega arith in
+    let whole : IsText c.args.config.now all (string_bytes c.loop-command.text) = leads_to c.args.config.now all (string_bytes c.loop-command.text) (machine_of c.loop-command.system) (ports_of c.loop-command.system)
+    (subst (LeadsOn c.args.config.now all (string_bytes c.loop-command.text) (machine_of c.loop-command.system) (ports_of c.loop-command.system)) (drop_of_length-le all past) c.loop-command.invariant) in
+    search (rules, whole)

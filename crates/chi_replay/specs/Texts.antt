@@ -1,0 +1,112 @@
+-- The text of a list of commands, under the tracker's answers, and which answers are allowed
+-- (docs/FORMATS.md, "Replay files").
+use Rattle.std.specs.Prelude.{◌≡◌, ◌⊎◌, ◌↔◌, ℕ, All, IsTrue, List, [], ◌∷◌, ◌++◌, Some, codes, slice_get, slice_set, Ok}
+use Rattle.std.specs.Fmt.{decimal}
+use Rattle.chi_flit.specs.declared.numbers.Agent.{Agent}
+use Rattle.chi_script.specs.declared.commands.Command.{Command}
+use Rattle.chi_script.specs.declared.commands.Command.TheVariants as commands
+use Rattle.chi_script.specs.Files.{commands_of, lines_of}
+use Rattle.chi_slice.specs.Coherence.{IsCoherentSlice}
+use Rattle.chi_config.specs.Config.{Sizes}
+use Rattle.chi_slice.specs.Slice.{SliceState}
+use Rattle.chi_tracker.specs.Views.{PortView, new_ports}
+use Rattle.chi_tracker.specs.Calls.{shape_of}
+use Rattle.chi_slice.specs.Audits.{loads_in, stores_in}
+use Rattle.chi_replay.specs.Ports.{Claims, GivesBack, Owes, Releases, Sees, Spends, Tends}
+use Rattle.chi_replay.specs.Turns.{Answer, Call, Claim, Claimed, GiveBack, Glance, Glanced, Judge, Judged, Owe, Owed, Release, See, Saw, Spend, Spent, Tend, Tended, Went, Turn, Asks, Ends, Machine, opening, turn}
+
+-- the line that a turn says, the state that it leaves, and the answers that it leaves over
+pub record Ending : Type 0 where
+  pub said : List ℕ
+  pub state : Machine
+  pub left : List Answer
+
+-- a turn under the next answers; where one is lacking, which no allowed list does, it goes on as after Owed
+abbrev pub ending : Turn → List Answer → Ending
+ending (Ends said m) answers = record { said = said; state = m; left = answers }
+ending (Asks call next) [] = ending (next Owed) []
+ending (Asks call next) (answer ∷ answers) = ending (next answer) answers
+
+-- a line for each command
+abbrev pub text : Machine → List Command → List Answer → List ℕ
+text m [] answers = []
+text m (command ∷ rest) answers =
+    (ending (turn m command) answers).said ++ (10 ∷ text (ending (turn m command) answers).state rest (ending (turn m command) answers).left)
+
+-- the port of the agent, which has one, goes on so, and the other ports stay
+abbrev pub AtPort : Agent → List PortView → List PortView → (PortView → PortView → Type 0) → Type 0
+AtPort agent old new Goes = (before after : PortView) × (slice_get old agent.0 ≡ Some before) × Goes before after × (new ≡ slice_set old agent.0 after)
+
+-- what may be answered to a call, and the views of the ports then. The tracker's answers: the agent's port
+-- goes on by the clause of the call; a glance may show any number for each type. A verdict is that on the
+-- slices. No call has an answer of another kind.
+abbrev pub Permits : List PortView → Call → Answer → List PortView → Type 0
+Permits old (Claim agent ty) (Claimed claim) new = AtPort agent old new (λ before after. Claims before ty claim after)
+Permits old (Owe agent ty) Owed new = AtPort agent old new (λ before after. Owes before ty after)
+Permits old (Spend agent ty) (Spent entry) new = AtPort agent old new (λ before after. Spends before ty entry after)
+Permits old (Release agent entry) (Went released) new = AtPort agent old new (λ before after. Releases before entry released after)
+Permits old (See agent) (Saw counts) new = AtPort agent old new (λ before after. Sees before counts after)
+Permits old (GiveBack agent ty) (Went released) new = AtPort agent old new (λ before after. GivesBack before ty released after)
+Permits old (Tend agent ty) (Tended released) new = AtPort agent old new (λ before after. Tends before ty released after)
+Permits old Glance (Glanced free hand promised owed) new = new ≡ old
+Permits old (Judge slices) (Judged coherent) new = (IsTrue coherent ↔ All IsCoherentSlice slices) × (new ≡ old)
+Permits old call other new = ⊥
+
+-- a turn, played with just these answers
+abbrev pub Plays : Turn → List PortView → List Answer → List ℕ → Machine → List PortView → Type 0
+Plays (Ends said' m) old [] said state new = (said ≡ said') × (state ≡ m) × (new ≡ old)
+Plays (Ends said' m) old (answer ∷ answers) said state new = ⊥
+Plays (Asks call next) old [] said state new = ⊥
+Plays (Asks call next) old (answer ∷ answers) said state new =
+    (mid : List PortView) × Permits old call answer mid × Plays (next answer) mid answers said state new
+
+-- a turn was played, and its line, with its end, was put behind the bytes
+abbrev pub Says : Turn → List PortView → Machine → List PortView → List ℕ → List ℕ → Type 0
+Says played old state new before after =
+    (answers : List Answer) × (said : List ℕ) × Plays played old answers said state new × (after ≡ before ++ (said ++ (10 ∷ [])))
+
+-- the answers that a list of commands may get
+abbrev pub Allowed : Machine → List PortView → List Command → List Answer → Type 0
+Allowed m ports [] answers = answers ≡ []
+Allowed m ports (command ∷ rest) answers = (mine later : List Answer) × (said : List ℕ) × (state : Machine) × (new : List PortView)
+    × (answers ≡ mine ++ later) × Plays (turn m command) ports mine said state new × Allowed state new rest later
+
+-- the views of the ports to a new node's tracker
+abbrev pub opening_ports : Sizes → List PortView
+opening_ports config = new_ports (shape_of config.entries config.agents) 0 config.agents
+
+-- an audit's line: the loads and the stores in the journals of the slices, and a word
+abbrev pub audit_line : List SliceState → List ℕ → List ℕ
+audit_line slices word = codes "ok loads " ++ (decimal (loads_in slices) ++ (codes " stores " ++ (decimal (stores_in slices) ++ word)))
+
+-- what an audit of slices says: `coherent` exactly where each line of each slice is coherent and each
+-- journal is legal
+abbrev pub TellsSlices : List SliceState → List ℕ → Type 0
+TellsSlices slices said =
+    (All IsCoherentSlice slices × (said ≡ audit_line slices (codes " coherent")))
+    ⊎ ((All IsCoherentSlice slices → ⊥) × (said ≡ audit_line slices (codes " broken")))
+
+-- a command's line, where it is an audit, tells what the slices are
+abbrev pub Tells : Command → List SliceState → List ℕ → Type 0
+Tells commands.Audit slices said = TellsSlices slices said
+Tells other slices said = Unit {0}
+
+-- each audit among the commands tells what the slices are when its turn comes
+abbrev pub AuditsTell : Machine → List Command → List Answer → Type 0
+AuditsTell m [] answers = Unit {0}
+AuditsTell m (command ∷ rest) answers = Tells command m.home.slices (ending (turn m command) answers).said
+    × AuditsTell (ending (turn m command) answers).state rest (ending (turn m command) answers).left
+
+-- bytes that are the text of the commands on a new node, under some allowed answers, and whose audits tell
+-- what the slices are
+pub record IsText (config : Sizes) (all : List Command) (bytes : List ℕ) : Type 0 where
+  pub answers : List Answer
+  pub allowed : Allowed (opening config) (opening_ports config) all answers
+  pub same : bytes ≡ text (opening config) all answers
+  pub audits : AuditsTell (opening config) all answers
+
+-- and of the commands that the lines behind a header are
+pub record IsTextOfLines (config : Sizes) (lines bytes : List ℕ) : Type 0 where
+  pub commands : List Command
+  pub good : commands_of 2 (lines_of lines) ≡ Ok commands
+  pub text : IsText config commands bytes

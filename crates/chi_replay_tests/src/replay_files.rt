@@ -1,0 +1,386 @@
+//! Files of commands, good and faulty, by `docs/FORMATS.md`, "Replay files".
+
+use chi_flit::{Action, Agent, CreditType, Kind, Line, Profile, Slot, Step, WordNo};
+use chi_script::{
+    Command, Fault, Header, MOST_BYTES, commands_are_lines, headers_are_lines, number,
+    numbers_are_decimal, read_command, read_file, read_header, replay_front_is_enough, small,
+};
+use std::alloc::{AllocError, Global};
+use std::process::Abort;
+
+/// The header of six numbers that stands before the commands of most tests.
+const HEADER: &[u8] = b"node 2 4 1 1 1 4\n";
+
+/// What reading a file answers, without the commands.
+fn fault_of(alloc: Global, bytes: &[u8]) -> Option<Fault> {
+    match read_file(alloc, bytes) {
+        Ok(_) => None,
+        Err(fault) => Some(fault),
+    }
+}
+
+/// Reading the file has that fault, or none.
+fn faults(rt: &impl Abort, alloc: Global, file: &[u8], wanted: Option<Fault>) {
+    assert!(rt; fault_of(alloc, file) == wanted, "{file:?}");
+}
+
+/// What one line, which is given without its end, is as line 2 of a file.
+fn line_two(alloc: Global, line: &[u8]) -> Result<Option<Command>, Fault> {
+    let mut file = Vec::from_slice(alloc, HEADER)?;
+    file.extend_from_slice(line)?;
+    file.push(b'\n')?;
+    let script = read_file(alloc, &file)?;
+    Ok(script.commands.first().copied())
+}
+
+/// One line, which is given without its end, is read so.
+fn reads(rt: &impl Abort, alloc: Global, line: &[u8], wanted: Result<Option<Command>, Fault>) {
+    assert!(rt; line_two(alloc, line) == wanted, "{line:?}");
+}
+
+/// A command that is one step of agent 1 on line 3.
+fn act(step: Step) -> Command {
+    Command::Act(Action {
+        agent: Agent(1),
+        line: Line(3),
+        step,
+    })
+}
+
+#[test]
+fn a_good_file_is_its_header_and_its_commands(rt: HostRuntime) -> Result<(), Fault> {
+    let file =
+        b"node 8 64 1 32 32 65536\nissue 1 3 ReadNotSharedDirty 7\narrive 1 3\nstart 1 3\ndata 1 3\nack 1 3\nflits 256 300\nshow 255\ntotals\naudit\n";
+    let script = read_file(rt.alloc(), file)?;
+    let header = Header {
+        agents: 8,
+        lines: 64,
+        slices: 1,
+        entries: [32, 32, 0, 0],
+        journal: 65_536,
+        profile: Profile::Two,
+    };
+    assert!(rt; script.header == header);
+    let commands = [
+        act(Step::Issue(Kind::ReadNotSharedDirty, Slot(7))),
+        Command::Arrive {
+            agent: Agent(1),
+            line: Line(3),
+        },
+        act(Step::Start),
+        act(Step::RecvData),
+        act(Step::RecvAck),
+        Command::Flits {
+            agent: Agent(255),
+            line: Line(255),
+        },
+        Command::Show { line: Line(255) },
+        Command::Totals,
+        Command::Audit,
+    ];
+    assert!(rt; script.commands.as_slice() == commands.as_slice());
+    Ok(())
+}
+
+const ACTIONS: [(&[u8], Step); 18] = [
+    (b"load 1 3 0", Step::Load(WordNo(0))),
+    (b"load 1 3 256", Step::Load(WordNo(255))),
+    (b"store 1 3 0 0", Step::Store(WordNo(0), 0)),
+    (b"store 1 3 7 256", Step::Store(WordNo(7), 256)),
+    (
+        b"store 1 3 1000 18446744073709551615",
+        Step::Store(WordNo(255), 18_446_744_073_709_551_615),
+    ),
+    (b"drop 1 3", Step::Drop),
+    (b"issue 1 3 Evict 256", Step::Issue(Kind::Evict, Slot(255))),
+    (b"start 1 3", Step::Start),
+    (b"snp 1 3", Step::RecvSnp),
+    (b"snpresp 1 3", Step::RecvSnpResp),
+    (b"retryack 1 3", Step::RecvRetry),
+    (b"resend 1 3", Step::Resend),
+    (b"cancel 1 3", Step::Cancel),
+    (b"data 1 3", Step::RecvData),
+    (b"comp 1 3", Step::RecvComp),
+    (b"ack 1 3", Step::RecvAck),
+    (b"dbid 1 3", Step::RecvDbid),
+    (b"wrdata 1 3", Step::RecvWrData),
+];
+
+#[test]
+fn each_action_is_a_line(rt: HostRuntime) {
+    for (line, step) in &ACTIONS {
+        reads(&rt, rt.alloc(), line, Ok(Some(act(*step))));
+    }
+}
+
+const KINDS: [(&[u8], Kind); 8] = [
+    (b"issue 1 3 ReadNotSharedDirty 0", Kind::ReadNotSharedDirty),
+    (b"issue 1 3 ReadShared 0", Kind::ReadShared),
+    (b"issue 1 3 ReadUnique 0", Kind::ReadUnique),
+    (b"issue 1 3 CleanUnique 0", Kind::CleanUnique),
+    (b"issue 1 3 Evict 0", Kind::Evict),
+    (b"issue 1 3 WriteBackFull 0", Kind::WriteBackFull),
+    (b"issue 1 3 WriteCleanFull 0", Kind::WriteCleanFull),
+    (b"issue 1 3 WriteEvictFull 0", Kind::WriteEvictFull),
+];
+
+#[test]
+fn each_kind_is_named(rt: HostRuntime) {
+    for (line, kind) in &KINDS {
+        let issue = act(Step::Issue(*kind, Slot(0)));
+        reads(&rt, rt.alloc(), line, Ok(Some(issue)));
+    }
+}
+
+const OTHER_LINES: [&[u8]; 48] = [
+    b"audit 0",
+    b"audits",
+    b"Audit",
+    b"load 0 0",
+    b"load 0 0 0 0",
+    b"load 0 0 00",
+    b"load 0 0 18446744073709551616",
+    b"load 00 0 0",
+    b"load 0 x 0",
+    b"store 0 0 0",
+    b"store 0 0 0 0 0",
+    b"store 0 0 0 01",
+    b"store 0 0 0 18446744073709551616",
+    b"store 0 0 0 -1",
+    b"store 0 0 07 1",
+    b"store 0 0 0 ",
+    b"drop 0",
+    b"drop 0 0 0",
+    b"drop 0 01",
+    b"snp 0",
+    b"snpresp 0 0 0",
+    b"comp 0",
+    b"dbid 0 0 0",
+    b"wrdata 0",
+    b"wrdata 0 0 0 0",
+    b"issue 0 0 Evict",
+    b"issue 0 0 Evict 0 0",
+    b"issue 0 0 Evict 00",
+    b"issue 0 0 evict 0",
+    b"issue 0 0 ReadOnce 0",
+    b"issue 0 0 WriteBack 0",
+    b"issue 0 0  0",
+    b"Drop 0 0",
+    b"snpdata 0 0",
+    b"retryack 0",
+    b"resend 0 0 0",
+    b"cancel 00 0",
+    b"see",
+    b"see 0 0",
+    b"giveback 0",
+    b"giveback 0 0 0",
+    b"giveback 0 T0",
+    b"giveback 0 18446744073709551616",
+    b"tend 0",
+    b"tend 0 01",
+    b"comp  0 0",
+    b" load 0 0 0",
+    b"store 0 0 0 0 ",
+];
+
+#[test]
+fn other_lines_are_no_commands(rt: HostRuntime) {
+    for line in &OTHER_LINES {
+        reads(&rt, rt.alloc(), line, Err(Fault::BadCommand(2)));
+    }
+}
+
+const AGENT: Agent = Agent(1);
+
+const CREDIT: Option<CreditType> = Some(CreditType::T2);
+
+const CREDITS: [(&[u8], Command); 6] = [
+    (b"see 1", Command::See { agent: AGENT }),
+    (b"see 256", Command::See { agent: Agent(255) }),
+    (
+        b"giveback 1 2",
+        Command::GiveBack {
+            agent: AGENT,
+            credit: CREDIT,
+        },
+    ),
+    (
+        b"giveback 1 4",
+        Command::GiveBack {
+            agent: AGENT,
+            credit: None,
+        },
+    ),
+    (
+        b"tend 1 2",
+        Command::Tend {
+            agent: AGENT,
+            credit: CREDIT,
+        },
+    ),
+    (
+        b"tend 1 256",
+        Command::Tend {
+            agent: AGENT,
+            credit: None,
+        },
+    ),
+];
+
+#[test]
+fn credits_have_commands(rt: HostRuntime) {
+    for (line, command) in &CREDITS {
+        reads(&rt, rt.alloc(), line, Ok(Some(*command)));
+    }
+}
+
+const HEADERS: [&[u8]; 10] = [
+    b"node 1 1 1 1 1 4\n",
+    b"node 2 8 1 1 1 4\n",
+    b"node 7 64 1 32 32 65536\n",
+    b"node 8 1 1 1 1 1\n",
+    b"node 2 8 2 1 1 4\n",
+    b"node 2 8 4 1 1 4\n",
+    b"node 2 8 8 1 1 4\n",
+    b"node 1 1 1 1 1 1 1 4\n",
+    b"node 8 64 8 64 64 64 64 65536\n",
+    b"node 2 8 2 253 1 1 1 4\n",
+];
+
+#[test]
+fn headers_of_both_forms_are_read(rt: HostRuntime) {
+    for file in &HEADERS {
+        faults(&rt, rt.alloc(), file, None);
+    }
+}
+
+const OTHER_HEADERS: [&[u8]; 13] = [
+    b"node 0 8 1 1 1 4\n",
+    b"node 9 8 1 1 1 4\n",
+    b"node 257 8 1 1 1 4\n",
+    b"node 2 8 0 1 1 4\n",
+    b"node 2 8 3 1 1 4\n",
+    b"node 2 8 16 1 1 4\n",
+    b"node 2 7 8 1 1 4\n",
+    b"node 2 8 1 1 1 0 1 4\n",
+    b"node 2 8 1 1 1 1 0 4\n",
+    b"node 2 8 1 254 1 1 1 4\n",
+    b"node 2 8 1 1 1 1 1 0\n",
+    b"node 2 8 1 1 1 1 4\n",
+    b"node 2 8 1 1 1 1 1 1 4\n",
+];
+
+#[test]
+fn other_headers_are_bad(rt: HostRuntime) {
+    for file in &OTHER_HEADERS {
+        faults(&rt, rt.alloc(), file, Some(Fault::BadHeader(1)));
+    }
+}
+
+/// Files, and the fault of each.
+const FAULTY_FILES: [(&[u8], Fault); 25] = [
+    (b"", Fault::BadHeader(1)),
+    (b"\n", Fault::BadHeader(1)),
+    (b"node 1 1 1 1 1 4", Fault::MissingNewline(1)),
+    (b"node 1 1 1 1 1 4\r\n", Fault::BadHeader(1)),
+    (b"node 9 64 8 32 32 65536\ntotals\n", Fault::BadHeader(1)),
+    (b"node 1 0 1 1 1 4\n", Fault::BadHeader(1)),
+    (b"node 1 65 1 1 1 4\n", Fault::BadHeader(1)),
+    (b"node 1 1 1 0 1 4\n", Fault::BadHeader(1)),
+    (b"node 1 1 1 1 0 4\n", Fault::BadHeader(1)),
+    (b"node 1 1 1 32 33 4\n", Fault::BadHeader(1)),
+    (
+        b"node 1 1 1 1 18446744073709551615 4\n",
+        Fault::BadHeader(1),
+    ),
+    (b"node 1 1 1 1 1 0\n", Fault::BadHeader(1)),
+    (b"node 1 1 1 1 1 65537\n", Fault::BadHeader(1)),
+    (b"node 1 1 2 1 1 4\n", Fault::BadHeader(1)),
+    (b"node 1 1 1 1 1 1 0 4\n", Fault::BadHeader(1)),
+    (b"node 1 1 1 1 1 4\n\n", Fault::BadCommand(2)),
+    (b"node 1 1 1 1 1 4\nshow 00\n", Fault::BadCommand(2)),
+    (
+        b"node 1 1 1 1 1 4\nshow 18446744073709551616\n",
+        Fault::BadCommand(2),
+    ),
+    (b"node 1 1 1 1 1 4\nshow  0\n", Fault::BadCommand(2)),
+    (b"node 1 1 1 1 1 4\nshow\n", Fault::BadCommand(2)),
+    (
+        b"node 1 1 1 1 1 4\nissue 0 0 Read 0\n",
+        Fault::BadCommand(2),
+    ),
+    (
+        b"node 1 1 1 1 1 2\nissue 0 0 Read",
+        Fault::MissingNewline(2),
+    ),
+    (
+        b"node 1 1 1 1 1 2\ntotals\ntotals",
+        Fault::MissingNewline(3),
+    ),
+    (b"node 1 1 1 1 1 2\ntotal\ntotals", Fault::BadCommand(2)),
+    (b"node 1 1 1 1 1 2\ntotals \nTotals\n", Fault::BadCommand(2)),
+];
+
+#[test]
+fn the_first_fault_is_told(rt: HostRuntime) {
+    for (file, fault) in &FAULTY_FILES {
+        faults(&rt, rt.alloc(), file, Some(*fault));
+    }
+}
+
+#[test]
+fn the_largest_number_is_read(rt: HostRuntime) {
+    let file = b"node 1 1 1 1 1 1\nshow 18446744073709551615\n";
+    faults(&rt, rt.alloc(), file, None);
+    assert!(rt; number(b"18446744073709551615") == Some(18_446_744_073_709_551_615));
+    assert!(rt; small(b"254") == Some(254) && small(b"-1").is_none());
+}
+
+#[test]
+fn a_file_above_the_limit_is_too_large(rt: HostRuntime) -> Result<(), AllocError> {
+    let mut file = Vec::from_slice(rt.alloc(), b"node 1 1 1 1 1 1\n")?;
+    file.resize(MOST_BYTES, b' ')?;
+    faults(&rt, rt.alloc(), &file, Some(Fault::MissingNewline(2)));
+    file.push(b' ')?;
+    faults(&rt, rt.alloc(), &file, Some(Fault::TooLarge));
+    Ok(())
+}
+
+/// Each fault, its status and its line.
+const FAULTS: [(Fault, u8, &str); 7] = [
+    (Fault::NoMemory, 3, "chihome: out of memory"),
+    (Fault::BadHeader(1), 1, "chihome: line 1: bad header"),
+    (Fault::BadCommand(2), 1, "chihome: line 2: bad command"),
+    (
+        Fault::MissingNewline(30),
+        1,
+        "chihome: line 30: missing newline",
+    ),
+    (Fault::TooLarge, 1, "chihome: file too large"),
+    (Fault::Read, 1, "chihome: cannot read"),
+    (Fault::Write, 1, "chihome: cannot write"),
+];
+
+#[test]
+fn a_fault_is_a_line_and_a_status(rt: HostRuntime) {
+    for (fault, status, line) in &FAULTS {
+        is_told(&rt, rt.alloc(), fault, *status, line);
+    }
+}
+
+/// The fault has that status and that line.
+fn is_told(rt: &impl Abort, alloc: Global, fault: &Fault, status: u8, line: &str) {
+    let text = format!(in alloc; "{fault}").expect(rt, "memory for a line");
+    assert!(rt; fault.status() == status && text.as_str() == line, "{line}");
+}
+
+#[test]
+fn lines_are_read_alone(rt: HostRuntime) {
+    assert!(rt; read_command(b"show 1") == Some(Command::Show { line: Line(1) }));
+    let header: [&[u8]; 7] = [b"node", b"1", b"1", b"1", b"1", b"1", b"1"];
+    assert!(rt; read_header(&header).is_some());
+    numbers_are_decimal();
+    commands_are_lines();
+    headers_are_lines();
+    replay_front_is_enough();
+}

@@ -1,0 +1,39 @@
+//! The text of the entries' numbers.
+
+use crate::prints::prints;
+use chi_flit::Profile;
+use chi_reply::NodeTotals;
+
+#[test]
+fn prints_two_types(rt: HostRuntime) {
+    let totals = NodeTotals {
+        free: [0, 1, 0, 0],
+        hand: [2, 1, 0, 0],
+        promised: [1, 0, 0, 0],
+        owed: [6, 0, 0, 0],
+        profile: Profile::Two,
+    };
+    prints(
+        &rt,
+        rt.alloc(),
+        totals,
+        "ok free 0 1 hand 2 1 promised 1 0 owed 6 0",
+    );
+}
+
+#[test]
+fn prints_four_types(rt: HostRuntime) {
+    let totals = NodeTotals {
+        free: [62, 0, 2, 1],
+        hand: [1, 1, 0, 0],
+        promised: [0, 0, 0, 0],
+        owed: [0, 0, 0, 0],
+        profile: Profile::Four,
+    };
+    prints(
+        &rt,
+        rt.alloc(),
+        totals,
+        "ok free 62 0 2 1 hand 1 1 0 0 promised 0 0 0 0 owed 0 0 0 0",
+    );
+}

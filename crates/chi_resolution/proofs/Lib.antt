@@ -1,0 +1,3 @@
+pub mod Balance
+pub mod Kept
+pub mod Steps

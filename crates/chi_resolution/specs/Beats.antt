@@ -1,0 +1,68 @@
+-- Data in more than one beat: each has words of the line, none twice (docs/TRACES.md, "Traces").
+use Rattle.std.specs.Prelude.{ℕ, Bool, List, [], ◌∷◌, Option, Some, None, Result, Ok, Err, is_some}
+use Rattle.std.specs.List.{list_all, position, slice_get, slice_index_or}
+use Rattle.std.specs.Option.{unwrap_or}
+use Rattle.chi_flit.specs.declared.numbers.WordNo.{WordNo}
+use Rattle.chi_resolution.specs.declared.beats.Begun.{Begun}
+use Rattle.chi_resolution.specs.declared.beats.Unfinished.{Unfinished}
+use Rattle.chi_resolution.specs.declared.ids.OpenKey.{OpenKey}
+use Rattle.chi_resolution.specs.declared.reasons.IdReason.{IdReason}
+use Rattle.chi_resolution.specs.declared.reasons.IdReason.TheVariants.{WordAgain}
+use Rattle.chi_resolution.specs.Ids.{is_same_key}
+use Rattle.chi_resolution.specs.Reasons.{◌>>=◌}
+
+abbrev pub is_of : OpenKey → Unfinished → Bool
+is_of key begun = is_same_key begun.key key
+
+abbrev pub begun_at : ℕ → Option Unfinished → Option Begun
+begun_at place None = None
+begun_at place (Some begun) = Some (record { place = place; so_far = begun })
+
+abbrev pub begun_in : List Unfinished → Option ℕ → Option Begun
+begun_in unfinished None = None
+begun_in unfinished (Some place) = begun_at place (slice_get unfinished place)
+
+-- the unfinished data that frees an id, and its place
+abbrev pub data_of : OpenKey → List Unfinished → Option Begun
+data_of key unfinished = begun_in unfinished (position (is_of key) unfinished)
+
+-- whether no word lacks
+abbrev pub is_whole : List (Option ℕ) → Bool
+is_whole words = list_all is_some words
+
+-- 0 in place of each that lacks
+abbrev pub word_or_zero : List (Option ℕ) → ℕ → ℕ
+word_or_zero words n = unwrap_or (slice_index_or words n None) 0
+
+abbrev pub filled : List (Option ℕ) → List ℕ
+filled words =
+    word_or_zero words 0
+    ∷ word_or_zero words 1
+    ∷ word_or_zero words 2
+    ∷ word_or_zero words 3
+    ∷ word_or_zero words 4
+    ∷ word_or_zero words 5
+    ∷ word_or_zero words 6
+    ∷ word_or_zero words 7
+    ∷ []
+
+abbrev pub one_of : OpenKey → WordNo → Option ℕ → Option ℕ → Result (Option ℕ) IdReason
+one_of key number None new = Ok new
+one_of key number (Some value) None = Ok (Some value)
+one_of key number (Some value) (Some again) = Err (WordAgain key number)
+
+abbrev pub word_at : OpenKey → ℕ → List (Option ℕ) → List (Option ℕ) → Result (Option ℕ) IdReason
+word_at key n words more = one_of key (record { 0 = n }) (slice_index_or words n None) (slice_index_or more n None)
+
+-- the eight words that the beats so far have, and a further one
+unfoldable pub joined : OpenKey → List (Option ℕ) → List (Option ℕ) → Result (List (Option ℕ)) IdReason
+joined key words more = do
+  w0 ← word_at key 0 words more
+  w1 ← word_at key 1 words more
+  w2 ← word_at key 2 words more
+  w3 ← word_at key 3 words more
+  w4 ← word_at key 4 words more
+  w5 ← word_at key 5 words more
+  w6 ← word_at key 6 words more
+  w7 ← word_at key 7 words more
+  Ok (w0 ∷ w1 ∷ w2 ∷ w3 ∷ w4 ∷ w5 ∷ w6 ∷ w7 ∷ [])

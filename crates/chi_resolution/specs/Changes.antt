@@ -1,0 +1,324 @@
+-- What each flit does to what is open: which id it names and frees, which it opens, and what it books (docs/TRACES.md,
+-- "Nodes, ids and credits").
+use Rattle.std.specs.Prelude.{ℕ, ◌+◌, ◌/◌, ◌%◌, ◌==◌, ◌&&◌, nat_lt, Bool, true, false, List, Option, Some, None, Result, Ok, Err, if◌then◌else◌, length, ok_or}
+use Rattle.std.specs.Option.{option_map}
+use Rattle.chi_flit.specs.declared.kind.Kind.{Kind}
+use Rattle.chi_flit.specs.declared.message.Msg.{Msg}
+use Rattle.chi_flit.specs.declared.message.Msg.TheVariants as messages
+use Rattle.chi_flit.specs.declared.message.RspDown.{RspDown}
+use Rattle.chi_flit.specs.declared.message.RspDown.TheVariants as downs
+use Rattle.chi_flit.specs.declared.message.RspUp.{RspUp}
+use Rattle.chi_flit.specs.declared.message.RspUp.TheVariants as ups
+use Rattle.chi_flit.specs.declared.snoop.Snoop.{Snoop}
+use Rattle.chi_trace.specs.declared.fields.Address.{Address}
+use Rattle.chi_trace.specs.declared.fields.DbId.{DbId}
+use Rattle.chi_trace.specs.declared.fields.NodeId.{NodeId}
+use Rattle.chi_trace.specs.declared.fields.PcrdType.{PcrdType}
+use Rattle.chi_trace.specs.declared.fields.Resp.{Resp}
+use Rattle.chi_trace.specs.declared.flits.Seen.{Seen}
+use Rattle.chi_trace.specs.declared.opcodes.Opcode.{Opcode}
+use Rattle.chi_trace.specs.declared.opcodes.Opcode.TheVariants as opcodes
+use Rattle.chi_resolution.specs.declared.beats.Begun.{Begun}
+use Rattle.chi_resolution.specs.declared.beats.Unfinished.{Unfinished}
+use Rattle.chi_resolution.specs.declared.changes.Change.{Change}
+use Rattle.chi_resolution.specs.declared.changes.Change.TheVariants.{Flit, Credit, Beat}
+use Rattle.chi_resolution.specs.declared.changes.Further.{Further}
+use Rattle.chi_resolution.specs.declared.changes.LineFlit.{LineFlit}
+use Rattle.chi_resolution.specs.declared.changes.Tables.{Tables}
+use Rattle.chi_resolution.specs.declared.ids.Found.{Found}
+use Rattle.chi_resolution.specs.declared.ids.OpenId.{OpenId}
+use Rattle.chi_resolution.specs.declared.ids.OpenKey.{OpenKey}
+use Rattle.chi_resolution.specs.declared.ids.OpenKey.TheVariants as keys
+use Rattle.chi_resolution.specs.declared.ledger.Account.{Account}
+use Rattle.chi_resolution.specs.declared.ledger.Booking.{Booking}
+use Rattle.chi_resolution.specs.declared.ledger.CreditEvent.{CreditEvent}
+use Rattle.chi_resolution.specs.declared.ledger.CreditEvent.TheVariants as events
+use Rattle.chi_resolution.specs.declared.lines.CacheLine.{CacheLine}
+use Rattle.chi_resolution.specs.declared.lines.Observed.{Observed}
+use Rattle.chi_resolution.specs.declared.lines.Observed.TheVariants as observed
+use Rattle.chi_resolution.specs.declared.lines.Resolved.{Resolved}
+use Rattle.chi_resolution.specs.declared.nodes.Ends.{Ends}
+use Rattle.chi_resolution.specs.declared.reasons.IdReason.{IdReason}
+use Rattle.chi_resolution.specs.declared.reasons.IdReason.TheVariants as reasons
+use Rattle.chi_resolution.specs.declared.resolution.Options.{Options}
+use Rattle.chi_resolution.specs.Beats.{data_of, filled, is_whole, joined}
+use Rattle.chi_resolution.specs.Ids.{id_of, plain_id}
+use Rattle.chi_resolution.specs.Ledger.{attempts, credit_of, held_of, unused_of, wanted_of}
+use Rattle.chi_resolution.specs.Lines.{line_of}
+use Rattle.chi_resolution.specs.Messages.{answer_of, completion_of, is_same_resp, message_of}
+use Rattle.chi_resolution.specs.Reasons.{◌>>=◌, address_of, allow_of, buffer_of, dbid_of, pcrd_of, resp_of, txn_of, value_in, words_in}
+
+-- what is open, and the flits that are resolved
+pub record Open : Type 0 where
+  pub ids : List OpenId
+  pub unfinished : List Unfinished
+  pub accounts : List Account
+  pub flits : List Resolved
+
+-- what references to the tables point to
+abbrev pub table_of : Tables → Open
+table_of tables = record { ids = tables.ids.now; unfinished = tables.unfinished.now; accounts = tables.accounts.now; flits = tables.flits.now }
+
+-- a flit that neither frees, opens nor books
+abbrev pub plain_flit : CacheLine → Observed → LineFlit
+plain_flit line flit = record { line = line; flit = flit; frees = None; opens = None; books = None; begins = None }
+
+abbrev pub sent : Ends → Msg → Observed
+sent ends message = observed.Flit (record { agent = ends.agent; message = message })
+
+-- an id is opened that isn't in use
+abbrev pub unless_used : OpenKey → Option Found → Result OpenKey IdReason
+unless_used key None = Ok key
+unless_used key (Some found) = Err (reasons.InUse key)
+
+abbrev pub new_id : Open → OpenKey → Result OpenKey IdReason
+new_id table key = unless_used key (id_of key table.ids)
+
+-- an address, where a flit has one, is in the line of its id
+abbrev pub in_line : Option Address → Found → Result Found IdReason
+in_line None found = Ok found
+in_line (Some address) found = if (line_of address).0 == found.id.line.0 then Ok found else Err (reasons.WrongAddress address found.id.line)
+
+-- the open id that a flit names
+abbrev pub named : Open → OpenKey → Seen → Result Found IdReason
+named table key seen = ok_or (id_of key table.ids) (reasons.NotOpen key) >>= in_line seen.address
+
+-- the id that a flit without data frees: no data that frees it lacks words
+abbrev pub unless_begun : OpenKey → Found → Option Begun → Result Found IdReason
+unless_begun key found None = Ok found
+unless_begun key found (Some begun) = Err (reasons.Unfinished key)
+
+abbrev pub freed : Open → OpenKey → Seen → Result Found IdReason
+freed table key seen = named table key seen >>= λ found. unless_begun key found (data_of key table.unfinished)
+
+-- a credit is of the type that is wanted, if that isn't open
+abbrev pub right_type : PcrdType → Option PcrdType → Result PcrdType IdReason
+right_type pcrd None = Ok pcrd
+right_type pcrd (Some wanted) = if wanted.0 == pcrd.0 then Ok pcrd else Err (reasons.OtherType pcrd wanted)
+
+-- a first attempt opens an id; it shows that a request to the line that was retried is cancelled
+abbrev pub attempted : Open → Ends → Kind → OpenId → Observed → LineFlit
+attempted table ends kind id flit = record (plain_flit id.line flit) {
+  frees = option_map (λ found. found.place) (id_of (keys.Retried ends.requester id.line) table.ids);
+  opens = Some (record id { may_retry = Some kind });
+}
+
+-- a request without AllowRetry takes a credit: G - S - B > 0, in the type that the RetryAck of the node to the line named
+abbrev pub with_credit : Ends → PcrdType → OpenId → Observed → Found → Booking → Result LineFlit IdReason
+with_credit ends pcrd id flit retried booking =
+    if unused_of booking.held.account == 0 then Err (reasons.NoCredit ends.requester pcrd) else Ok (record (plain_flit id.line flit) {
+      frees = Some retried.place;
+      opens = Some id;
+      books = Some booking;
+    })
+
+abbrev pub booking_of : Open → NodeId → PcrdType → CreditEvent → Booking
+booking_of table node pcrd event = record { held = held_of node pcrd table.accounts; event = event }
+
+unfoldable pub sent_again : Open → Ends → Seen → OpenId → Observed → Result LineFlit IdReason
+sent_again table ends seen id flit = do
+  pcrd ← pcrd_of seen
+  retried ← ok_or (id_of (keys.Retried ends.requester id.line) table.ids) (reasons.NotOpen (keys.Retried ends.requester id.line))
+  type ← right_type pcrd retried.id.waits_for
+  with_credit ends type id flit retried (booking_of table ends.requester type events.Resent)
+
+abbrev pub request_by : Bool → Open → Ends → Seen → Kind → OpenId → Observed → Result LineFlit IdReason
+request_by true table ends seen kind id flit = Ok (attempted table ends kind id flit)
+request_by false table ends seen kind id flit = sent_again table ends seen id flit
+
+-- a request opens its id
+unfoldable pub requested : Open → Ends → Seen → Kind → Result LineFlit IdReason
+requested table ends seen kind = do
+  address ← address_of seen
+  txn ← txn_of seen
+  allow ← allow_of seen
+  key ← new_id table (keys.Request ends.requester txn)
+  request_by allow table ends seen kind (plain_id key (line_of address))
+      (sent ends (messages.Req (record { kind = kind; slot = record { 0 = 0 }; allow_retry = allow })))
+
+-- a snoop opens its id
+unfoldable pub snooped : Open → Ends → Seen → Snoop → Result LineFlit IdReason
+snooped table ends seen snoop = do
+  address ← address_of seen
+  txn ← txn_of seen
+  key ← new_id table (keys.Snoop ends.requester txn)
+  Ok (record (plain_flit (line_of address) (sent ends (messages.Snp snoop))) { opens = Some (plain_id key (line_of address)) })
+
+-- a RetryAck frees a first attempt, which then waits for a credit
+unfoldable pub retried : Options → Open → Ends → Seen → Result LineFlit IdReason
+retried options table ends seen = do
+  txn ← txn_of seen
+  pcrd ← pcrd_of seen
+  found ← freed table (keys.Request ends.requester txn) seen
+  kind ← ok_or found.id.may_retry (reasons.NotRetryable ends.requester txn)
+  type ← right_type pcrd (wanted_of options.types kind)
+  key ← new_id table (keys.Retried ends.requester found.id.line)
+  Ok (record (plain_flit found.id.line (sent ends (messages.RspDown (downs.RetryAck (credit_of options.types kind))))) {
+    frees = Some found.place;
+    opens = Some (record (plain_id key found.id.line) { waits_for = Some type });
+    books = Some (booking_of table ends.requester type events.Retried);
+  })
+
+-- Comp_UC and CompDBIDResp free a request and open a DBID
+unfoldable pub responded : Open → Ends → Seen → RspDown → Result LineFlit IdReason
+responded table ends seen response = do
+  txn ← txn_of seen
+  dbid ← dbid_of seen
+  found ← freed table (keys.Request ends.requester txn) seen
+  key ← new_id table (keys.Buffer ends.requester dbid)
+  Ok (record (plain_flit found.id.line (sent ends (messages.RspDown response))) {
+    frees = Some found.place;
+    opens = Some (plain_id key found.id.line);
+  })
+
+-- Comp_I frees a request
+abbrev pub completed_by : Open → Ends → Seen → RspDown → Result LineFlit IdReason
+completed_by table ends seen response = do
+  txn ← txn_of seen
+  found ← freed table (keys.Request ends.requester txn) seen
+  Ok (record (plain_flit found.id.line (sent ends (messages.RspDown response))) { frees = Some found.place })
+
+abbrev pub completed_with : Open → Ends → Seen → Resp → Option RspDown → Result LineFlit IdReason
+completed_with table ends seen resp None = Err (reasons.Form resp)
+completed_with table ends seen resp (Some downs.CompUC) = responded table ends seen downs.CompUC
+completed_with table ends seen resp (Some other) = completed_by table ends seen other
+
+unfoldable pub completed : Open → Ends → Seen → Result LineFlit IdReason
+completed table ends seen = resp_of seen >>= λ resp. completed_with table ends seen resp (completion_of resp)
+
+-- CompAck frees a DBID, SnpResp a snoop
+unfoldable pub replied : Open → Ends → Seen → OpenKey → RspUp → Result LineFlit IdReason
+replied table ends seen key response = do
+  found ← freed table key seen
+  Ok (record (plain_flit found.id.line (sent ends (messages.RspUp response))) { frees = Some found.place })
+
+unfoldable pub answered : Open → Ends → Seen → Result LineFlit IdReason
+answered table ends seen = do
+  resp ← resp_of seen
+  txn ← txn_of seen
+  response ← ok_or (answer_of resp) (reasons.Form resp)
+  replied table ends seen (keys.Snoop ends.requester txn) response
+
+-- CompData opens a DBID, at its first beat
+abbrev pub opened : Open → Ends → Seen → CacheLine → Opcode → Result (Option OpenId) IdReason
+opened table ends seen line opcodes.CompData = do
+  dbid ← dbid_of seen
+  key ← new_id table (keys.Buffer ends.requester dbid)
+  Ok (Some (plain_id key line))
+opened table ends seen line other = Ok None
+
+-- data frees its id, once no word lacks
+abbrev pub begun_or_freed : Bool → Open → Found → Unfinished → LineFlit → LineFlit
+begun_or_freed true table found begun flit = record flit { frees = Some found.place }
+begun_or_freed false table found begun flit = record flit { begins = Some begun }
+
+unfoldable pub first_beat : Open → Ends → Seen → Found → List (Option ℕ) → Result LineFlit IdReason
+first_beat table ends seen found words = do
+  resp ← resp_of seen
+  message ← ok_or (message_of seen.opcode resp (filled words)) (reasons.Form resp)
+  opens ← opened table ends seen found.id.line seen.opcode
+  Ok (begun_or_freed (is_whole words) table found
+      (record { key = found.id.key; place = length table.flits; resp = resp; dbid = seen.dbid; words = words })
+      (record (plain_flit found.id.line (sent ends message)) { opens = opens }))
+
+-- a further beat has the RESP and the DBID of the first
+abbrev pub is_same_dbid : Option DbId → Option DbId → Bool
+is_same_dbid None None = true
+is_same_dbid (Some dbid) (Some other) = dbid.0 == other.0
+is_same_dbid one other = false
+
+abbrev pub place_if : Bool → ℕ → Option ℕ
+place_if true place = Some place
+place_if false place = None
+
+abbrev pub is_form : Unfinished → Option Resp → Option DbId → Bool
+is_form begun None dbid = false
+is_form begun (Some resp) dbid = is_same_resp resp begun.resp && is_same_dbid dbid begun.dbid
+
+abbrev pub joined_as : Unfinished → Seen → List (Option ℕ) → Result (List (Option ℕ)) IdReason
+joined_as begun seen more = if is_form begun seen.resp seen.dbid then joined begun.key begun.words more else Err (reasons.OtherBeat begun.key)
+
+unfoldable pub later_beat : Ends → Seen → Found → Begun → List (Option ℕ) → Result Further IdReason
+later_beat ends seen found begun more = do
+  words ← joined_as begun.so_far seen more
+  message ← ok_or (message_of seen.opcode begun.so_far.resp (filled words)) (reasons.Form begun.so_far.resp)
+  Ok (record {
+    place = begun.place;
+    joined = record begun.so_far { words = words };
+    flit = sent ends message;
+    frees = place_if (is_whole words) found.place;
+  })
+
+abbrev pub beat_by : Open → Ends → Seen → Found → List (Option ℕ) → Option Begun → Result Change IdReason
+beat_by table ends seen found words None = first_beat table ends seen found words >>= λ flit. Ok (Flit flit)
+beat_by table ends seen found words (Some begun) = later_beat ends seen found begun words >>= λ further. Ok (Beat further)
+
+-- a beat of data that frees an id: the first, or a further one
+unfoldable pub beat_of : Open → Ends → Seen → OpenKey → Result Change IdReason
+beat_of table ends seen key = do
+  words ← words_in seen.payload
+  found ← named table key seen
+  beat_by table ends seen found words (data_of key table.unfinished)
+
+-- with early grants a credit may be granted for a first attempt
+abbrev pub early_of : Options → Open → NodeId → PcrdType → ℕ
+early_of options table node pcrd = if options.early_grants then attempts options.types node pcrd table.ids else 0
+
+-- G < R, or as far above R as that
+abbrev pub may_grant : Account → ℕ → Bool
+may_grant account early = nat_lt account.granted (account.retried + early)
+
+abbrev pub granted_to : NodeId → PcrdType → ℕ → Booking → Result Booking IdReason
+granted_to node pcrd early booking =
+    if may_grant booking.held.account early then Ok booking else Err (reasons.NothingRetried node pcrd)
+
+unfoldable pub granted : Options → Open → Ends → Seen → Result Booking IdReason
+granted options table ends seen = do
+  pcrd ← pcrd_of seen
+  granted_to ends.requester pcrd (early_of options table ends.requester pcrd) (booking_of table ends.requester pcrd events.Granted)
+
+-- G - S - B > 0
+abbrev pub returned_by : NodeId → PcrdType → Booking → Result Booking IdReason
+returned_by node pcrd booking = if unused_of booking.held.account == 0 then Err (reasons.NothingToReturn node pcrd) else Ok booking
+
+unfoldable pub given_back : Open → Ends → Seen → Result Booking IdReason
+given_back table ends seen = do
+  pcrd ← pcrd_of seen
+  returned_by ends.requester pcrd (booking_of table ends.requester pcrd events.Returned)
+
+-- what a processor did: the word that the address is in
+abbrev pub access_with : Opcode → Ends → Address → ℕ → Observed
+access_with opcodes.Load ends address value = observed.Load ends.agent (record { 0 = address.0 % 64 / 8 }) value
+access_with other ends address value = observed.Store ends.agent (record { 0 = address.0 % 64 / 8 }) value
+
+unfoldable pub access_of : Ends → Seen → Result LineFlit IdReason
+access_of ends seen = do
+  address ← address_of seen
+  value ← value_in seen.payload
+  Ok (plain_flit (line_of address) (access_with seen.opcode ends address value))
+
+abbrev pub flit_change : Result LineFlit IdReason → Result Change IdReason
+flit_change flit = flit >>= λ flit. Ok (Flit flit)
+
+abbrev pub credit_change : Result Booking IdReason → Result Change IdReason
+credit_change booking = booking >>= λ booking. Ok (Credit booking)
+
+-- what a flit of each opcode does
+abbrev pub change_by : Opcode → Options → Open → Ends → Seen → Result Change IdReason
+change_by (opcodes.Request kind) options table ends seen = flit_change (requested table ends seen kind)
+change_by opcodes.PCrdReturn options table ends seen = credit_change (given_back table ends seen)
+change_by (opcodes.Snoop snoop) options table ends seen = flit_change (snooped table ends seen snoop)
+change_by opcodes.RetryAck options table ends seen = flit_change (retried options table ends seen)
+change_by opcodes.Comp options table ends seen = flit_change (completed table ends seen)
+change_by opcodes.CompDBIDResp options table ends seen = flit_change (responded table ends seen downs.CompDBIDResp)
+change_by opcodes.PCrdGrant options table ends seen = credit_change (granted options table ends seen)
+change_by opcodes.SnpResp options table ends seen = flit_change (answered table ends seen)
+change_by opcodes.CompAck options table ends seen = buffer_of seen >>= λ dbid. flit_change (replied table ends seen (keys.Buffer ends.requester dbid) ups.CompAck)
+change_by opcodes.CompData options table ends seen = txn_of seen >>= λ txn. beat_of table ends seen (keys.Request ends.requester txn)
+change_by opcodes.SnpRespData options table ends seen = txn_of seen >>= λ txn. beat_of table ends seen (keys.Snoop ends.requester txn)
+change_by opcodes.CopyBackWrData options table ends seen = buffer_of seen >>= λ dbid. beat_of table ends seen (keys.Buffer ends.requester dbid)
+change_by opcodes.Load options table ends seen = flit_change (access_of ends seen)
+change_by opcodes.Store options table ends seen = flit_change (access_of ends seen)
+
+unfoldable pub change_of : Options → Open → Ends → Seen → Result Change IdReason
+change_of options table ends seen = change_by seen.opcode options table ends seen

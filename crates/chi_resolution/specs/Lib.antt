@@ -1,0 +1,9 @@
+pub mod Beats
+pub mod Changes
+pub mod Ids
+pub mod Ledger
+pub mod Lines
+pub mod Messages
+pub mod Nodes
+pub mod Reasons
+pub mod Resolution

@@ -1,0 +1,109 @@
+-- What a trace resolves to: each flit is taken with what those before it have left open, up to the first that isn't
+-- allowed (docs/TRACES.md, "Nodes, ids and credits").
+use Rattle.std.specs.Prelude.{ℕ, ◌+◌, List, [], ◌∷◌, ◌++◌, Option, Some, None, Result, Ok, Err, if◌then◌else◌, is_some, slice_set}
+use Rattle.std.specs.List.{remove, slice_get}
+use Rattle.std.specs.Option.{option_to_list}
+use Rattle.chi_trace.specs.declared.fields.NodeId.{NodeId}
+use Rattle.chi_trace.specs.declared.flits.Seen.{Seen}
+use Rattle.chi_resolution.specs.declared.beats.Unfinished.{Unfinished}
+use Rattle.chi_resolution.specs.declared.changes.Change.{Change}
+use Rattle.chi_resolution.specs.declared.changes.Change.TheVariants.{Flit, Credit, Beat}
+use Rattle.chi_resolution.specs.declared.changes.Further.{Further}
+use Rattle.chi_resolution.specs.declared.changes.LineFlit.{LineFlit}
+use Rattle.chi_resolution.specs.declared.ids.OpenId.{OpenId}
+use Rattle.chi_resolution.specs.declared.ledger.Account.{Account}
+use Rattle.chi_resolution.specs.declared.lines.Observed.{Observed}
+use Rattle.chi_resolution.specs.declared.lines.Resolved.{Resolved}
+use Rattle.chi_resolution.specs.declared.reasons.IdFault.{IdFault}
+use Rattle.chi_resolution.specs.declared.reasons.IdReason.{IdReason}
+use Rattle.chi_resolution.specs.declared.resolution.Options.{Options}
+use Rattle.chi_resolution.specs.declared.resolution.Allowed.{Allowed}
+use Rattle.chi_resolution.specs.Changes.{Open, change_of}
+use Rattle.chi_resolution.specs.Ids.{without}
+use Rattle.chi_resolution.specs.Ledger.{booked, booked_all}
+use Rattle.chi_resolution.specs.Nodes.{ends_of, with_home, with_requester}
+use Rattle.chi_resolution.specs.Reasons.{◌>>=◌}
+
+-- the nodes so far, and what is open
+pub record Progress : Type 0 where
+  pub home : Option NodeId
+  pub requesters : List NodeId
+  pub table : Open
+
+abbrev pub progress_of : Option NodeId → List NodeId → List OpenId → List Unfinished → List Account → List Resolved → Progress
+progress_of home requesters ids unfinished accounts flits = record {
+  home = home;
+  requesters = requesters;
+  table = record { ids = ids; unfinished = unfinished; accounts = accounts; flits = flits };
+}
+
+abbrev pub nothing : Progress
+nothing = progress_of None [] [] [] [] []
+
+-- the id at a place is free, if one is, and another one open behind the others
+abbrev pub ids_after : Option ℕ → Option OpenId → List OpenId → List OpenId
+ids_after frees opens ids = without frees ids ++ option_to_list opens
+
+abbrev pub after_flit : ℕ → LineFlit → Open → Open
+after_flit at flit table = record {
+  ids = ids_after flit.frees flit.opens table.ids;
+  unfinished = table.unfinished ++ option_to_list flit.begins;
+  accounts = booked_all flit.books table.accounts;
+  flits = table.flits ++ record { at = at; line = flit.line; flit = flit.flit } ∷ [];
+}
+
+-- data with the words of a further beat; it is finished where it frees its id
+abbrev pub data_after : Further → List Unfinished → List Unfinished
+data_after further unfinished = if is_some further.frees then remove unfinished further.place else slice_set unfinished further.place further.joined
+
+-- a flit of data stands at the place of its first beat
+abbrev pub refilled_by : ℕ → Observed → List Resolved → Option Resolved → List Resolved
+refilled_by place flit flits None = flits
+refilled_by place flit flits (Some resolved) = slice_set flits place (record resolved { flit = flit })
+
+abbrev pub refilled : ℕ → Observed → List Resolved → List Resolved
+refilled place flit flits = refilled_by place flit flits (slice_get flits place)
+
+abbrev pub after_beat : Further → Open → Open
+after_beat further table = record {
+  ids = ids_after further.frees None table.ids;
+  unfinished = data_after further table.unfinished;
+  accounts = table.accounts;
+  flits = refilled further.joined.place further.flit table.flits;
+}
+
+abbrev pub after : ℕ → Change → Open → Open
+after at (Flit flit) table = after_flit at flit table
+after at (Credit booking) table = record table { accounts = booked booking table.accounts }
+after at (Beat further) table = after_beat further table
+
+-- the nodes of the next flit, and what it does
+unfoldable pub allowed_of : Options → Progress → Seen → Result Allowed IdReason
+allowed_of options progress seen = do
+  ends ← ends_of progress.home progress.requesters seen
+  change ← change_of options progress.table ends seen
+  Ok (record { ends = ends; change = change })
+
+-- the flit of number at is taken
+abbrev pub taken : ℕ → Allowed → Progress → Progress
+taken at allowed progress = record {
+  home = with_home allowed.ends progress.home;
+  requesters = with_requester allowed.ends progress.requesters;
+  table = after at allowed.change progress.table;
+}
+
+-- all flits that are allowed, and the first that isn't
+pub record Outcome : Type 0 where
+  pub progress : Progress
+  pub fault : Option IdFault
+
+abbrev pub ended : ℕ → Progress → Result Allowed IdReason → (Allowed → Outcome) → Outcome
+ended at progress (Ok allowed) rest = rest allowed
+ended at progress (Err reason) rest = record { progress = progress; fault = Some (record { at = at; reason = reason }) }
+
+unfoldable pub resolved_from : Options → ℕ → Progress → List Seen → Outcome
+resolved_from options at progress [] = record { progress = progress; fault = None }
+resolved_from options at progress (seen ∷ rest) = ended at progress (allowed_of options progress seen) (λ allowed. resolved_from options (at + 1) (taken at allowed progress) rest)
+
+abbrev pub resolution_of : Options → List Seen → Outcome
+resolution_of options seen = resolved_from options 0 nothing seen

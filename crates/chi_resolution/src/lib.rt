@@ -1,0 +1,23 @@
+//! The flits of a trace, resolved: which agent and which line each is of, by the ids that are open, and
+//! the ledger of the protocol credits.
+//!
+//! Source: `docs/TRACES.md`, "Traces" and "Explanations".
+#![tactic(auto)]
+
+mod beats;
+mod changes;
+mod ids;
+mod ledger;
+mod lines;
+mod messages;
+mod nodes;
+mod reasons;
+mod resolution;
+
+pub use beats::Unfinished;
+pub use ids::{OpenId, OpenKey};
+pub use ledger::{Account, Types};
+pub use lines::{CacheLine, Observed, Resolved, line_of};
+pub use nodes::Nodes;
+pub use reasons::{IdFault, IdReason};
+pub use resolution::{Options, Resolution, resolve};

@@ -1,0 +1,257 @@
+//! The flits of a trace, resolved one after the other.
+
+ghost use Rattle.std.specs.Prelude.{◌≡◌, All, IfOk, OnOk};
+ghost use Rattle.chi_resolution.specs.Ledger.{IsBalanced, booked};
+ghost use Rattle.chi_resolution.specs.Resolution.{after_beat, after_flit, allowed_of, data_after, ids_after, nothing, resolution_of, taken};
+
+use crate::beats::Unfinished;
+use crate::changes::{Change, Further, LineFlit, Tables};
+use crate::ids::OpenId;
+use crate::ledger::{Account, Booking, Types};
+use crate::lines::Resolved;
+use crate::nodes::{Ends, Nodes};
+use crate::reasons::{IdFault, IdReason};
+use chi_flit::NoMemory;
+use chi_trace::Seen;
+use std::alloc::{AllocError, Allocator};
+use std::marker::Model;
+
+/// What a trace is taken for.
+/// Source: `docs/TRACES.md`, "Nodes, ids and credits".
+#[derive(Clone, Copy, Debug, PartialEq, Eq)]
+pub struct Options {
+    pub types: Types,
+    /// The monitors stand at the requesters, where a grant may come before its RetryAck.
+    pub early_grants: bool,
+}
+
+/// The flits of a trace, resolved, and what is open behind them.
+/// Source: `docs/TRACES.md`, "Nodes, ids and credits".
+#[derive(Debug, Drop)]
+pub struct Resolution<A: Allocator> {
+    /// In the order of the trace; data stands at the place of its first beat. Words that no beat has had are 0.
+    pub flits: Vec<Resolved, A>,
+    pub nodes: Nodes<A>,
+    /// The first flit that isn't allowed; all before it are resolved, and nothing else.
+    pub fault: Option<IdFault>,
+    /// The ids that are open behind them, in the order in which they were opened.
+    pub ids: Vec<OpenId, A>,
+    /// The data that lacks words.
+    pub unfinished: Vec<Unfinished, A>,
+    /// The accounts of the nodes and types of which credits were seen.
+    pub accounts: Vec<Account, A>,
+}
+
+/// What the flits so far have left open, and those that are resolved.
+#[derive(Drop)]
+struct Resolver<A: Allocator> {
+    nodes: Nodes<A>,
+    ids: Vec<OpenId, A>,
+    unfinished: Vec<Unfinished, A>,
+    accounts: Vec<Account, A>,
+    flits: Vec<Resolved, A>,
+}
+
+impl<A: Allocator> Model for Resolver<A> {
+    ghost use Rattle.chi_resolution.specs.Resolution.{Progress, progress_of};
+
+    ghost Value = { Progress };
+
+    ghost view = { λ s.
+        progress_of s.nodes.home s.nodes.requesters.items s.ids.items s.unfinished.items
+        s.accounts.items s.flits.items };
+}
+
+/// The nodes of a flit, and what it does.
+#[derive(Clone, Copy)]
+struct Allowed {
+    ends: Ends,
+    change: Change,
+}
+
+/// Resolves the flits in their order, up to the first that the ids or the ledger don't allow.
+///
+/// `NoMemory` where memory runs out.
+/// Source: `docs/TRACES.md`, "Nodes, ids and credits".
+pub fn resolve<A: Allocator + Copy>(
+    alloc: A,
+    seen: &[Seen],
+    options: Options,
+) -> Result<Resolution<A>, NoMemory>
+    ensures flits { IfOk result (λ r.
+        r.flits.items ≡ (resolution_of options seen.now).progress.table.flits) }
+    ensures fault { IfOk result (λ r. r.fault ≡ (resolution_of options seen.now).fault) }
+
+    // What is open behind the flits that are resolved.
+    ensures home { IfOk result (λ r.
+        r.nodes.home ≡ (resolution_of options seen.now).progress.home) }
+    ensures requesters { IfOk result (λ r.
+        r.nodes.requesters.items ≡ (resolution_of options seen.now).progress.requesters) }
+    ensures ids { IfOk result (λ r.
+        r.ids.items ≡ (resolution_of options seen.now).progress.table.ids) }
+    ensures unfinished { IfOk result (λ r.
+        r.unfinished.items ≡ (resolution_of options seen.now).progress.table.unfinished) }
+    ensures accounts { IfOk result (λ r.
+        r.accounts.items ≡ (resolution_of options seen.now).progress.table.accounts) }
+
+    // Of each node and type: S + B ≤ G, and G ≤ R unless grants may be early.
+    ensures ledger { IfOk result (λ r. All (IsBalanced options.early_grants) r.accounts.items) }
+{
+    let mut state = Resolver::new(alloc, seen.len())?;
+    for (at, flit) in seen.iter().enumerate() {
+        match state.allowed_of(options, flit) {
+            Ok(allowed) => state.take(at, &allowed)?,
+            Err(reason) => return Ok(state.ended(Some(IdFault { at, reason }))),
+        }
+    }
+    Ok(state.ended(None))
+}
+
+/// The id at the place is free, if one is, and another one open.
+fn change_ids<A: Allocator>(
+    ids: &mut Vec<OpenId, A>,
+    frees: Option<usize>,
+    opens: Option<OpenId>,
+) -> Result<(), AllocError>
+    ensures { OnOk result (ids.new.items ≡ ids_after frees opens ids.old.items) }
+{
+    if let Some(place) = frees
+        && place < ids.len()
+    {
+        let _ = ids.remove(place);
+    }
+    if let Some(id) = opens {
+        ids.push(id)?;
+    }
+    Ok(())
+}
+
+/// The account has one more, and is in its place or behind the others. Its number is at most that of the flits.
+fn book<A: Allocator>(accounts: &mut Vec<Account, A>, booking: &Booking) -> Result<(), AllocError>
+    ensures { OnOk result (accounts.new.items ≡ booked booking.now accounts.old.items) }
+{
+    let Some(account) = booking.held.account.with_event(booking.event) else {
+        return Err(AllocError);
+    };
+    match booking.held.place {
+        Some(place) => {
+            if let Some(held) = accounts.get_mut(place) {
+                *held = account;
+            }
+        }
+        None => accounts.push(account)?,
+    }
+    Ok(())
+}
+
+/// The data has the words of a further beat; where it lacks none it is finished.
+fn change_data<A: Allocator>(unfinished: &mut Vec<Unfinished, A>, further: &Further)
+    ensures { unfinished.new.items ≡ data_after further.now unfinished.old.items }
+{
+    if further.place < unfinished.len() {
+        if further.frees.is_some() {
+            let _ = unfinished.remove(further.place);
+        } else {
+            unfinished[further.place] = further.joined;
+        }
+    }
+}
+
+impl<A: Allocator + Copy> Resolver<A> {
+    /// Nothing is seen yet, and there is room for so many flits.
+    fn new(alloc: A, count: usize) -> Result<Resolver<A>, AllocError>
+        ensures { IfOk result (λ state. state ≡ nothing) }
+    {
+        let flits = Vec::with_capacity(alloc, count)?;
+        Ok(Resolver {
+            nodes: Nodes::new(alloc),
+            ids: Vec::new(alloc),
+            unfinished: Vec::new(alloc),
+            accounts: Vec::new(alloc),
+            flits,
+        })
+    }
+}
+
+impl<A: Allocator> Resolver<A> {
+    /// The nodes of the next flit, and what it does, or why it isn't allowed.
+    #[tactic(auto, unfolding(crate::specs::Resolution::allowed_of))]
+    fn allowed_of(&self, options: Options, seen: &Seen) -> Result<Allowed, IdReason>
+        ensures { result ≡ allowed_of options self.now seen.now }
+    {
+        let ends = self.nodes.ends_of(seen)?;
+        let tables = Tables {
+            options,
+            ids: &self.ids,
+            unfinished: &self.unfinished,
+            accounts: &self.accounts,
+            flits: &self.flits,
+        };
+        let change = tables.change(&ends, seen)?;
+        Ok(Allowed { ends, change })
+    }
+
+    /// Takes the flit of this number.
+    fn take(&mut self, at: usize, allowed: &Allowed) -> Result<(), AllocError>
+        ensures { OnOk result (self.new ≡ taken at allowed.now self.old) }
+    {
+        self.nodes.add(&allowed.ends)?;
+        match allowed.change {
+            Change::Flit(flit) => self.tell(at, &flit),
+            Change::Credit(booking) => book(&mut self.accounts, &booking),
+            Change::Beat(further) => self.fill(&further),
+        }
+    }
+
+    /// A flit of a line.
+    fn tell(&mut self, at: usize, flit: &LineFlit) -> Result<(), AllocError>
+        ensures { OnOk result
+            (self.new ≡ record self.old { table = after_flit at flit.now self.old.table }) }
+    {
+        change_ids(&mut self.ids, flit.frees, flit.opens)?;
+        if let Some(booking) = flit.books {
+            book(&mut self.accounts, &booking)?;
+        }
+        if let Some(begun) = flit.begins {
+            self.unfinished.push(begun)?;
+        }
+        self.flits.push(Resolved {
+            at,
+            line: flit.line,
+            flit: flit.flit,
+        })?;
+        Ok(())
+    }
+
+    /// A further beat of data.
+    fn fill(&mut self, further: &Further) -> Result<(), AllocError>
+        ensures { OnOk result
+            (self.new ≡ record self.old { table = after_beat further.now self.old.table }) }
+    {
+        if let Some(resolved) = self.flits.get_mut(further.joined.place) {
+            resolved.flit = further.flit;
+        }
+        change_data(&mut self.unfinished, further);
+        change_ids(&mut self.ids, further.frees, None)
+    }
+
+    /// What the flits so far are resolved to.
+    fn ended(self, fault: Option<IdFault>) -> Resolution<A>
+        ensures flits { result.flits.items ≡ self.table.flits }
+        ensures fault { result.fault ≡ fault }
+        ensures home { result.nodes.home ≡ self.home }
+        ensures requesters { result.nodes.requesters.items ≡ self.requesters }
+        ensures ids { result.ids.items ≡ self.table.ids }
+        ensures unfinished { result.unfinished.items ≡ self.table.unfinished }
+        ensures accounts { result.accounts.items ≡ self.table.accounts }
+    {
+        Resolution {
+            flits: self.flits,
+            nodes: self.nodes,
+            fault,
+            ids: self.ids,
+            unfinished: self.unfinished,
+            accounts: self.accounts,
+        }
+    }
+}

@@ -1,0 +1,62 @@
+-- The action is done on its line; the index and the journal follow.
+use Rattle.std.proofs.Common.{◌≡◌, ◌∙◌, Some, ap, rules, slice_set}
+use Rattle.chi_slice.specs.Slice.{SliceState, action_in, refused_under, slice_of}
+use Rattle.chi_slice.proofs.Acts.{line_kept, not_out, ready, refused_now, room_for}
+use Rattle.chi_slice.proofs.Ends.{Ended, ended}
+use Rattle.chi_slice.proofs.slice.Slice.act_in.Given as given
+use Rattle.chi_slice.proofs.slice.Slice.act_in.Goals as goal
+
+pub act-requires-clause-kept : goal.act-requires-clause-kept
+act-requires-clause-kept g c =
+    line_kept (ready c.args.self.now c.args.terms (action_in c.args.at c.args.step) c.self.invariant.0 c.self.view_is (not_out c.args.self.now (action_in c.args.at c.args.step) c.requires.inside) (c.from.ensures ∙ c.requires.row) c.conditions-conditions.ensures c.index_mut-line.ensures.value)
+
+pub note-requires : goal.note-requires
+note-requires g c =
+    room_for (ready c.args.self.now c.args.terms (action_in c.args.at c.args.step) c.self.invariant.0 c.self.view_is (not_out c.args.self.now (action_in c.args.at c.args.step) c.requires.inside) (c.from.ensures ∙ c.requires.row) c.conditions-conditions.ensures c.index_mut-line.ensures.value)
+    c.in_ok-upshot.ensures.refusal c.in_ok-upshot.ensures.effect
+
+pub returns-in_err-upshot-clause-refusal : goal.returns-in_err-upshot-clause-refusal
+returns-in_err-upshot-clause-refusal g c =
+    let by_line : Some c.in_err-upshot.field-0.0 ≡ refused_under c.args.terms c.args.self.now (action_in c.args.at c.args.step) =
+    c.in_err-upshot.ensures.refusal ∙ refused_now c.self.view_is
+    (ready c.args.self.now c.args.terms (action_in c.args.at c.args.step) c.self.invariant.0 c.self.view_is (not_out c.args.self.now (action_in c.args.at c.args.step) c.requires.inside) (c.from.ensures ∙ c.requires.row) c.conditions-conditions.ensures c.index_mut-line.ensures.value) in
+    search (rules, by_line)
+
+end : (g : given.Over) (c : goal.After-note g)
+    → Ended c.args.self.now c.args.terms (action_in c.args.at c.args.step) c.in_ok-upshot.upshot.effect c.in_ok-upshot.upshot.slot (slice_of c.self.inside.config c.self.inside.index (slice_set c.self.inside.lines.items c.from.result c.act.new.self) c.note.new.journal) c.follow.new.self
+end g c =
+    ended c.args.self.now c.args.terms (action_in c.args.at c.args.step) c.self.inside.places c.follow.new.self c.note.new.journal c.self.view_is c.self.invariant.1
+    (ready c.args.self.now c.args.terms (action_in c.args.at c.args.step) c.self.invariant.0 c.self.view_is (not_out c.args.self.now (action_in c.args.at c.args.step) c.requires.inside) (c.from.ensures ∙ c.requires.row) c.conditions-conditions.ensures c.index_mut-line.ensures.value)
+    (record { refusal = c.in_ok-upshot.ensures.refusal; effect_is = c.in_ok-upshot.ensures.effect; after_is = c.in_ok-upshot.ensures.after; flits = c.in_ok-upshot.ensures.flits })
+    (record { slot_is = c.in_ok-upshot.ensures.slot; to_is = c.in_ok-upshot.ensures.to })
+    c.follow.ensures c.note.ensures
+
+pub invariant_of-self-2 : goal.invariant_of-self-2
+invariant_of-self-2 g c = ((end g c).kept, (end g c).indexed)
+
+pub returns-clause-refusal : goal.returns-clause-refusal
+returns-clause-refusal g c = (end g c).refusal
+
+pub returns-clause-step : goal.returns-clause-step
+returns-clause-step g c = (end g c).step
+
+pub returns-clause-flits : goal.returns-clause-flits
+returns-clause-flits g c = (end g c).flits
+
+pub returns-clause-journal : goal.returns-clause-journal
+returns-clause-journal g c = ap (λ (s : SliceState). s.journal) (end g c).after
+
+pub returns-clause-others : goal.returns-clause-others
+returns-clause-others g c = (end g c).others
+
+pub returns-clause-effect : goal.returns-clause-effect
+returns-clause-effect g c = (end g c).effect_is
+
+pub returns-clause-slot : goal.returns-clause-slot
+returns-clause-slot g c = (end g c).slot_is
+
+pub returns-clause-after : goal.returns-clause-after
+returns-clause-after g c = (end g c).after
+
+pub returns-clause-protocol : goal.returns-clause-protocol
+returns-clause-protocol g c = (end g c).protocol

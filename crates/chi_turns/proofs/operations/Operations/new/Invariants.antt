@@ -1,6 +1,0 @@
-use Rattle.std.proofs.Common.{◌≡◌, take, map}
-use Rattle.chi_turns.specs.Operations.{unissued_operation}
-use Rattle.chi_turns.proofs.operations.Operations.new.Given as goal
-
-abbrev pub invariant-loop-place : goal.invariant-loop-place
-invariant-loop-place g l = l.window.items ≡ map unissued_operation (take l.place l.script.items)

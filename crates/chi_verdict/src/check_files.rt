@@ -1,0 +1,184 @@
+//! The explanation of a line as a check file.
+
+use crate::ballast::Ballast;
+use crate::names::{LineName, NodeName, SeenName, kept, requester_of};
+use chi_explain::Deed;
+use chi_flit::{Agent, Data, NO_DATA, NoMemory, Profile, Step};
+use chi_monitor::{Known, Witness};
+use chi_resolution::{CacheLine, Resolved};
+use chi_trace::{NodeId, Seen};
+use std::alloc::Allocator;
+use std::fmt::Write;
+
+/// What a check file tells of a line: its flits in the trace, and what explains them.
+#[derive(Clone, Copy)]
+pub(crate) struct Told<'a> {
+    pub seen: &'a [Seen],
+    pub requesters: &'a [NodeId],
+    pub home: Option<NodeId>,
+    pub profile: Profile,
+    pub line: CacheLine,
+    /// The items of the line that are explained.
+    pub items: &'a [Resolved],
+}
+
+impl Told<'_> {
+    /// Puts the check file behind the text: the explanation that was found, in the protocol's commands, with the
+    /// flits of the trace as comments.
+    pub fn write<A: Allocator>(
+        &self,
+        text: &mut String<A>,
+        witness: &Witness<A>,
+    ) -> Result<(), NoMemory> {
+        self.write_nodes(text)?;
+        let agents = self.requesters.len().clamp(1, 8) as u8;
+        let mut ballast = Ballast::new(self.profile, agents, &witness.deeds);
+        ballast.write_header(text)?;
+        write_memory(text, &witness.memory)?;
+        let mut done = 0;
+        for (item, end) in self.items.iter().zip(&witness.ends) {
+            self.write_flit(text, item)?;
+            let end = (*end).min(witness.deeds.len());
+            if done < end {
+                write_deeds(text, &mut ballast, &witness.deeds[done..end])?;
+                done = end;
+            }
+        }
+        Ok(())
+    }
+
+    /// The nodes and the address, as comments.
+    fn write_nodes<A: Allocator>(&self, text: &mut String<A>) -> Result<(), NoMemory> {
+        let line = LineName(self.line);
+        kept(writeln!(text, "# line 0 is the cache line at {line}"))?;
+        for (number, node) in self.requesters.iter().enumerate() {
+            let node = NodeName(*node);
+            kept(writeln!(text, "# agent {number} is node {node}"))?;
+        }
+        if let Some(node) = self.home {
+            let node = NodeName(node);
+            kept(writeln!(text, "# the home is node {node}"))?;
+        }
+        Ok(())
+    }
+
+    /// A flit of the trace, as a comment.
+    fn write_flit<A: Allocator>(
+        &self,
+        text: &mut String<A>,
+        item: &Resolved,
+    ) -> Result<(), NoMemory> {
+        let Some(seen) = self.seen.get(item.at) else {
+            return Ok(());
+        };
+        let (node, side) = requester_of(seen);
+        let (number, name, node) = (seen.line, SeenName(seen), NodeName(node));
+        kept(writeln!(text, "# line {number}: {name} {side} node {node}"))
+    }
+}
+
+/// The steps after which memory has these words.
+fn write_memory<A: Allocator>(text: &mut String<A>, memory: &Data) -> Result<(), NoMemory> {
+    if *memory == NO_DATA {
+        return Ok(());
+    }
+    let words = Known(memory.map(|word| Some(word)));
+    kept(writeln!(text, "# memory has {words} at first"))?;
+    kept(writeln!(
+        text,
+        "issue 0 0 ReadUnique 0\narrive 0 0\nstart 0 0\ndata 0 0\nack 0 0"
+    ))?;
+    for (number, word) in memory.iter().enumerate() {
+        kept(writeln!(text, "store 0 0 {number} {word}"))?;
+    }
+    kept(writeln!(
+        text,
+        "issue 0 0 WriteBackFull 0\narrive 0 0\nstart 0 0\ndbid 0 0\nwrdata 0 0"
+    ))
+}
+
+/// Puts the commands of some items behind the text.
+fn write_deeds<A: Allocator>(
+    text: &mut String<A>,
+    ballast: &mut Ballast,
+    deeds: &[Deed],
+) -> Result<(), NoMemory> {
+    for deed in deeds {
+        if let Deed::Act(agent, step) = *deed {
+            write_before(text, ballast, agent, step)?;
+            write_step(text, ballast, agent, step)?;
+            ballast.note(agent, step);
+            write_after(text, ballast, agent, step)?;
+        }
+    }
+    Ok(())
+}
+
+/// What has to be done for the tracker before a step.
+fn write_before<A: Allocator>(
+    text: &mut String<A>,
+    ballast: &mut Ballast,
+    agent: Agent,
+    step: Step,
+) -> Result<(), NoMemory> {
+    match step {
+        Step::Admit => ballast.write_room(text, agent),
+        Step::Retry => ballast.write_full(text, agent),
+        _ => Ok(()),
+    }
+}
+
+/// What has to be done for the tracker after a step.
+fn write_after<A: Allocator>(
+    text: &mut String<A>,
+    ballast: &mut Ballast,
+    agent: Agent,
+    step: Step,
+) -> Result<(), NoMemory> {
+    match step {
+        Step::RecvRetry => ballast.write_grant(text, agent),
+        Step::Cancel => ballast.write_return(text, agent),
+        _ => Ok(()),
+    }
+}
+
+/// The command of a step, with its answer where that is known.
+fn write_step<A: Allocator>(
+    text: &mut String<A>,
+    ballast: &Ballast,
+    agent: Agent,
+    step: Step,
+) -> Result<(), NoMemory> {
+    kept(match step {
+        Step::Load(word) => writeln!(text, "load {agent} 0 {word}"),
+        Step::Store(word, value) => writeln!(text, "store {agent} 0 {word} {value} -> ok"),
+        Step::Issue(kind, slot) => writeln!(text, "issue {agent} 0 {kind} {slot} -> ok"),
+        Step::Admit => writeln!(text, "arrive {agent} 0"),
+        Step::Retry => {
+            let ty = ballast.type_of(agent);
+            writeln!(text, "arrive {agent} 0 -> ok retry {ty}")
+        }
+        Step::Start => writeln!(text, "start {agent} 0"),
+        Step::RecvAck => writeln!(text, "ack {agent} 0"),
+        Step::RecvWrData => writeln!(text, "wrdata {agent} 0"),
+        _ => {
+            let command = plain_command(step);
+            writeln!(text, "{command} {agent} 0 -> ok")
+        }
+    })
+}
+
+/// The command of a step that takes an agent and a line alone, and answers no more than `ok`.
+fn plain_command(step: Step) -> &'static str {
+    match step {
+        Step::Drop => "drop",
+        Step::RecvRetry => "retryack",
+        Step::Resend => "resend",
+        Step::Cancel => "cancel",
+        Step::RecvSnp => "snp",
+        Step::RecvSnpResp => "snpresp",
+        Step::RecvData => "data",
+        Step::RecvComp => "comp",
+        _ => "dbid",
+    }
+}

@@ -1,0 +1,19 @@
+//! The verdict on a trace: each of its cache lines is explained by actions of the model, or the first flit is told
+//! that no run of the model sends.
+//!
+//! Source: `docs/TRACES.md`, "What is printed".
+#![tactic(auto)]
+
+mod ballast;
+mod check_files;
+mod explanations;
+mod id_texts;
+mod lines;
+mod malformed;
+mod names;
+mod open_texts;
+mod reports;
+
+pub use explanations::explain;
+pub use lines::{Obstacle, Totals, explain_lines};
+pub use reports::{Outcome, Report, report_on};

@@ -1,0 +1,272 @@
+//! The cache lines of a trace, each explained by itself.
+
+ghost use Rattle.std.specs.Prelude.{◌≡◌, ◌≤◌, ◌+◌, [], true, IfOk, OnOk, length, map, take};
+ghost use Rattle.std.specs.List.{All};
+ghost use Rattle.chi_verdict.specs.Lines.{AreExplained, AreLinesExplained, is_of, said_by};
+ghost use Rattle.chi_resolution.specs.declared.lines.Observed.TheVariants.{Flit};
+
+use chi_explain::{Deed, SentFlit, Unexplained};
+use chi_flit::{NoMemory, Refusal};
+use chi_monitor::{LineFault, NoExplanation, explain_flits, first_fault};
+use chi_resolution::{CacheLine, Observed, Resolved};
+use chi_slice::Config;
+use std::alloc::{AllocError, AllocFailed, Allocator};
+
+/// How much was explained.
+/// Source: `docs/TRACES.md`, "What is printed".
+#[derive(Clone, Copy, Debug, PartialEq, Eq)]
+pub struct Totals {
+    pub flits: usize,
+    pub actions: usize,
+    pub lines: usize,
+}
+
+/// Why the flits of a cache line aren't explained. A flit is named by its place in the trace, counted from 0.
+/// Source: `docs/TRACES.md`, "What is printed".
+#[derive(Clone, Copy, Debug, PartialEq, Eq)]
+pub enum Obstacle {
+    /// Memory ran out.
+    NoMemory,
+    /// No run of the model sends this flit behind those before it.
+    Fault { at: usize, fault: LineFault },
+    /// A load or a store of a processor, which explanations don't take.
+    Processor { at: usize },
+    /// The explanation of this line has more loads and stores than a journal has room for.
+    Long(CacheLine),
+    /// No explanation of this line was found that holds, though none of its flits is a fault.
+    Undone(CacheLine),
+}
+
+impl From<AllocError> for Obstacle {
+    fn from(_lack: AllocError) -> Obstacle {
+        Obstacle::NoMemory
+    }
+}
+
+impl<T: Drop> From<AllocFailed<T>> for Obstacle {
+    fn from(_lack: AllocFailed<T>) -> Obstacle {
+        Obstacle::NoMemory
+    }
+}
+
+impl From<NoMemory> for Obstacle {
+    fn from(_lack: NoMemory) -> Obstacle {
+        Obstacle::NoMemory
+    }
+}
+
+/// The flits of the items in front that are of the line, put into a list that is empty; how many items these are.
+fn gather<A: Allocator>(
+    flits: &mut Vec<SentFlit, A>,
+    line: CacheLine,
+    items: &[Resolved],
+) -> Result<usize, Obstacle>
+    requires { flits.old.items ≡ [] }
+    ensures bound { IfOk result (λ count. count ≤ length items.now) }
+    ensures line { IfOk result (λ count. All (λ item. is_of line item ≡ true) (take count items.now)) }
+    ensures flits { IfOk result
+        (λ count. map Flit flits.new.items ≡ said_by (take count items.now)) }
+{
+    for (count, item) in items.iter().enumerate() {
+        if item.line.0 != line.0 {
+            return Ok(count);
+        }
+        match item.flit {
+            Observed::Flit(flit) => flits.push(flit)?,
+            Observed::Load(_, _, _) | Observed::Store(_, _, _) => {
+                return Err(Obstacle::Processor { at: item.at });
+            }
+        }
+    }
+    Ok(items.len())
+}
+
+/// The obstacle at a line whose flits, which these items are, have no explanation.
+fn obstacle_at(line: CacheLine, items: &[Resolved], cause: NoExplanation) -> Obstacle {
+    match cause {
+        NoExplanation::Fault(_, LineFault::NoMemory)
+        | NoExplanation::Undone(Unexplained::NoMemory) => Obstacle::NoMemory,
+        NoExplanation::Fault(number, fault) => match items.get(number) {
+            Some(item) => Obstacle::Fault { at: item.at, fault },
+            None => Obstacle::NoMemory,
+        },
+        NoExplanation::Undone(
+            Unexplained::NoRoom | Unexplained::Refused(_, Refusal::JournalFull),
+        ) => Obstacle::Long(line),
+        NoExplanation::Undone(_) => Obstacle::Undone(line),
+    }
+}
+
+/// The items in front that are of one line, explained.
+#[derive(Clone, Copy)]
+struct Front {
+    line: CacheLine,
+    /// How many items they are.
+    count: usize,
+    /// How many actions explain them.
+    actions: usize,
+}
+
+/// Explains the items in front that are of the first one's line.
+fn explain_front<A: Allocator + Copy>(
+    alloc: A,
+    config: &Config,
+    items: &[Resolved],
+) -> Result<Front, Obstacle>
+    ensures bound { IfOk result (λ front. front.count ≤ length items.now) }
+    ensures line { IfOk result
+        (λ front. All (λ item. is_of front.line item ≡ true) (take front.count items.now)) }
+    ensures explained { IfOk result
+        (λ front. AreExplained config.now (take front.count items.now)) }
+{
+    let line = match items.first() {
+        Some(item) => item.line,
+        None => CacheLine(0),
+    };
+    let mut flits = Vec::new(alloc);
+    let count = gather(&mut flits, line, items)?;
+    match explain_flits(alloc, config, &flits) {
+        Ok(witness) => Ok(Front {
+            line,
+            count,
+            actions: count_actions(&witness.deeds),
+        }),
+        Err(cause) => Err(obstacle_at(line, items, cause)),
+    }
+}
+
+/// How many of the items are actions.
+fn count_actions(deeds: &[Deed]) -> usize {
+    deeds
+        .iter()
+        .filter(|deed| matches!(**deed, Deed::Act(_, _)))
+        .count()
+}
+
+/// The number behind that of a line.
+fn number_behind(line: CacheLine) -> u128
+    ensures { result ≡ line.0 + 1 }
+{
+    u128::from(line.0) + 1
+}
+
+/// Explains items that ascend by their lines.
+fn explain_sorted<A: Allocator + Copy>(
+    alloc: A,
+    config: &Config,
+    sorted: &[Resolved],
+) -> Result<Totals, Obstacle>
+    ensures { OnOk result (AreLinesExplained config.now sorted.now) }
+{
+    let mut totals = Totals {
+        flits: sorted.len(),
+        actions: 0,
+        lines: 0,
+    };
+    let mut floor: u128 = 0;
+    let mut at = 0;
+    while at < sorted.len() {
+        let (_, rest) = sorted.split_at(at);
+        let front = explain_front(alloc, config, rest)?;
+        if front.count == 0 || u128::from(front.line.0) < floor {
+            return Err(Obstacle::Undone(front.line));
+        }
+        floor = number_behind(front.line);
+        totals.actions = totals.actions.saturating_add(front.actions);
+        totals.lines = totals.lines.saturating_add(1);
+        at += front.count;
+    }
+    Ok(totals)
+}
+
+/// Puts items that ascend by line, and explains those of each line by themselves, in a node of this size: how much
+/// was explained.
+///
+/// `Fault`, `Processor`, `Long` or `Undone` where a line isn't explained: of all lines that which comes first in the
+/// trace, where it is the flit that is told. `NoMemory` where memory runs out. The items stay the same, but for their
+/// order: they ascend by line, and those of a line stand as before.
+/// Source: `docs/TRACES.md`, "What is printed".
+pub fn explain_lines<A: Allocator + Copy>(
+    alloc: A,
+    config: &Config,
+    items: &mut Vec<Resolved, A>,
+) -> Result<Totals, Obstacle>
+    ensures { OnOk result (AreLinesExplained config.now items.old.items) }
+{
+    items.sort_by_key(|item| item.line.0)?;
+    match explain_sorted(alloc, config, items) {
+        Ok(totals) => Ok(totals),
+        Err(obstacle) => Err(first_obstacle(alloc, items, obstacle)),
+    }
+}
+
+/// The obstacle that comes first in the trace among items that ascend by line, where one was met.
+pub(crate) fn first_obstacle<A: Allocator + Copy>(
+    alloc: A,
+    sorted: &[Resolved],
+    met: Obstacle,
+) -> Obstacle {
+    let mut first = met;
+    let mut rest = sorted;
+    for _ in 0..sorted.len() {
+        let [item, ..] = rest else {
+            break;
+        };
+        let found = search_line(alloc, item.line, rest);
+        rest = found.1;
+        first = earlier(first, found.0);
+    }
+    first
+}
+
+/// The fault of the items in front that are of the line, if there is one, and the items behind them.
+fn search_line<A: Allocator + Copy>(
+    alloc: A,
+    line: CacheLine,
+    items: &[Resolved],
+) -> (Option<Obstacle>, &[Resolved]) {
+    let mut flits = Vec::new(alloc);
+    match gather(&mut flits, line, items) {
+        Ok(count) => {
+            let found = match first_fault(alloc, &flits) {
+                Some((at, fault)) => Some(obstacle_at(
+                    line,
+                    items,
+                    NoExplanation::Fault(at, fault),
+                )),
+                None => None,
+            };
+            (found, &items[count..])
+        }
+        Err(obstacle) => (Some(obstacle), behind(line, items)),
+    }
+}
+
+/// The items behind those in front that are of the line.
+fn behind(line: CacheLine, items: &[Resolved]) -> &[Resolved] {
+    match items.iter().position(|item| item.line != line) {
+        Some(end) if end <= items.len() => &items[end..],
+        Some(_) | None => &[],
+    }
+}
+
+/// Of two obstacles the one whose flit comes first in the trace; want of memory before all.
+fn earlier(one: Obstacle, other: Option<Obstacle>) -> Obstacle {
+    match (one, other) {
+        (Obstacle::NoMemory, _) | (_, Some(Obstacle::NoMemory)) => Obstacle::NoMemory,
+        (_, Some(other)) => match (place_of(&one), place_of(&other)) {
+            (Some(first), Some(second)) if first <= second => one,
+            (Some(_), None) => one,
+            (_, _) => other,
+        },
+        (_, None) => one,
+    }
+}
+
+/// The flit that an obstacle tells, by its place in the trace.
+fn place_of(obstacle: &Obstacle) -> Option<usize> {
+    match obstacle {
+        Obstacle::Fault { at, fault: _ } | Obstacle::Processor { at } => Some(*at),
+        Obstacle::NoMemory | Obstacle::Long(_) | Obstacle::Undone(_) => None,
+    }
+}

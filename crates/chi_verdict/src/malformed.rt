@@ -1,0 +1,151 @@
+//! What is told of a file that is no trace.
+
+use crate::names::kept;
+use chi_flit::NoMemory;
+use chi_script::first_line;
+use chi_trace::{Channel, Column, Fault};
+use std::alloc::Allocator;
+use std::fmt;
+use std::fmt::Write;
+
+/// The most bytes of a wrong word that are shown.
+const SHOWN: usize = 40;
+
+/// A word of a file, of which bytes that aren't printable are shown as `?`.
+#[derive(Clone, Copy)]
+struct Word<'a>(&'a [u8]);
+
+/// A column, by its name at the head of a trace.
+#[derive(Clone, Copy)]
+struct ColumnName(Column);
+
+impl fmt::Display for Word<'_> {
+    fn fmt<W: fmt::Write>(&self, f: &mut fmt::Formatter<W>) -> fmt::Result {
+        for byte in self.0.iter().take(SHOWN) {
+            let shown = if byte.is_ascii_graphic() { *byte } else { b'?' };
+            f.write_char(char::from(shown))?;
+        }
+        if self.0.len() > SHOWN {
+            f.write_str("..")?;
+        }
+        Ok(())
+    }
+}
+
+impl fmt::Display for ColumnName {
+    fn fmt<W: fmt::Write>(&self, f: &mut fmt::Formatter<W>) -> fmt::Result {
+        f.write_str(match self.0 {
+            Column::Channel => "CH",
+            Column::Source => "SRC",
+            Column::Target => "TGT",
+            Column::Txn => "TXN",
+            Column::Opcode => "OPCODE",
+            Column::Address => "ADDR",
+            Column::Resp => "RESP",
+            Column::Dbid => "DBID",
+            Column::AllowRetry => "AR",
+            Column::Pcrd => "PCRD",
+            Column::Data => "DATA",
+        })
+    }
+}
+
+/// The place of a column in its line, counted from 0.
+fn place_of(column: Column) -> usize {
+    match column {
+        Column::Channel => 0,
+        Column::Source => 1,
+        Column::Target => 2,
+        Column::Txn => 3,
+        Column::Opcode => 4,
+        Column::Address => 5,
+        Column::Resp => 6,
+        Column::Dbid => 7,
+        Column::AllowRetry => 8,
+        Column::Pcrd => 9,
+        Column::Data => 10,
+    }
+}
+
+/// What is expected in a column, behind this word in the first one.
+fn expected(column: Column, channel: &[u8]) -> &'static str {
+    match column {
+        Column::Channel => "REQ, SNP, RSP or DAT",
+        Column::Source | Column::Target | Column::Txn | Column::Dbid => {
+            "a hexadecimal number, ffff at most"
+        }
+        Column::Opcode => opcodes(channel),
+        Column::Address => "a hexadecimal number of 64 bits",
+        Column::Resp => "I, SC, UC, UD, SD, I_PD, SC_PD, UC_PD, UD_PD or SD_PD",
+        Column::AllowRetry => "0 or 1",
+        Column::Pcrd => "a hexadecimal number, f at most",
+        Column::Data => "eight hexadecimal words or x with commas between them, or 128 digits",
+    }
+}
+
+/// The opcodes of a channel.
+fn opcodes(channel: &[u8]) -> &'static str {
+    match channel {
+        b"REQ" => {
+            "ReadNotSharedDirty, ReadShared, ReadUnique, CleanUnique, Evict, WriteBackFull, WriteCleanFull, WriteEvictFull or PCrdReturn"
+        }
+        b"SNP" => "SnpShared, SnpNotSharedDirty, SnpUnique or SnpCleanInvalid",
+        b"RSP" => "RetryAck, Comp, CompDBIDResp, PCrdGrant, SnpResp or CompAck",
+        _ => "CompData, SnpRespData or CopyBackWrData",
+    }
+}
+
+/// The line of this number, counted from 1; empty where there is none.
+fn line_at(bytes: &[u8], number: usize) -> &[u8] {
+    let mut rest = bytes;
+    for _ in 1..number {
+        match first_line(rest) {
+            Some((_, after)) => rest = after,
+            None => return &[],
+        }
+    }
+    match first_line(rest) {
+        Some((line, _)) => line,
+        None => rest,
+    }
+}
+
+/// The word at this place of a line, counted from 0; empty where there is none.
+fn word_at(line: &[u8], place: usize) -> &[u8] {
+    let mut words = line
+        .split(|byte| matches!(*byte, b' ' | b'\t' | b'\r'))
+        .filter(|word| !word.is_empty());
+    words.nth(place).unwrap_or(&[])
+}
+
+/// Puts what is wrong with a file of these bytes behind the text.
+pub(crate) fn write_malformed<A: Allocator>(
+    text: &mut String<A>,
+    bytes: &[u8],
+    fault: Fault,
+) -> Result<(), NoMemory> {
+    let written = match fault {
+        Fault::NoMemory => return Err(NoMemory),
+        Fault::TooLarge => write!(text, "chihome: file too large"),
+        Fault::MissingNewline(line) => write!(text, "chihome: line {line}: missing newline"),
+        Fault::FewWords(line) => {
+            write!(
+                text,
+                "chihome: line {line}: fewer than eleven words, expected {HEAD}"
+            )
+        }
+        Fault::BadWord { line, column } => {
+            let words = line_at(bytes, line);
+            let (name, word) = (ColumnName(column), Word(word_at(words, place_of(column))));
+            let wanted = expected(column, word_at(words, 0));
+            write!(
+                text,
+                "chihome: line {line}: {name} {word}, expected {wanted}"
+            )
+        }
+    };
+    kept(written)
+}
+
+/// The columns of a line.
+const HEAD: &str = "CH SRC TGT TXN OPCODE ADDR RESP DBID AR PCRD DATA";

@@ -1,0 +1,100 @@
+//! How nodes, lines and flits of a trace are written.
+
+use chi_flit::{Msg, NoMemory, RspDown};
+use chi_resolution::CacheLine;
+use chi_trace::{NodeId, Opcode, Seen};
+use std::alloc::AllocError;
+use std::fmt;
+
+/// A node, in hexadecimal as in a trace.
+#[derive(Clone, Copy)]
+pub(crate) struct NodeName(pub NodeId);
+
+/// The address of a line, in hexadecimal.
+#[derive(Clone, Copy)]
+pub(crate) struct LineName(pub CacheLine);
+
+/// A flit: its opcode and its RESP, and that it is a resend.
+#[derive(Clone, Copy)]
+pub(crate) struct SeenName<'a>(pub &'a Seen);
+
+/// A message as a trace would show it.
+#[derive(Clone, Copy)]
+pub(crate) struct MessageName(pub Msg);
+
+impl fmt::Display for NodeName {
+    fn fmt<W: fmt::Write>(&self, f: &mut fmt::Formatter<W>) -> fmt::Result {
+        let number = self.0.0;
+        write!(f, "{number:x}")
+    }
+}
+
+impl fmt::Display for LineName {
+    fn fmt<W: fmt::Write>(&self, f: &mut fmt::Formatter<W>) -> fmt::Result {
+        let address = u128::from(self.0.0) * 64;
+        write!(f, "{address:x}")
+    }
+}
+
+impl fmt::Display for SeenName<'_> {
+    fn fmt<W: fmt::Write>(&self, f: &mut fmt::Formatter<W>) -> fmt::Result {
+        let opcode = self.0.opcode;
+        write!(f, "{opcode}")?;
+        if let Some(resp) = self.0.resp {
+            write!(f, "_{resp}")?;
+        }
+        if let Some(false) = self.0.allow_retry {
+            f.write_str(" with AR 0")?;
+        }
+        Ok(())
+    }
+}
+
+impl fmt::Display for MessageName {
+    fn fmt<W: fmt::Write>(&self, f: &mut fmt::Formatter<W>) -> fmt::Result {
+        match self.0 {
+            Msg::Req(request) => {
+                let kind = request.kind;
+                let again = if request.allow_retry {
+                    ""
+                } else {
+                    " with AR 0"
+                };
+                write!(f, "{kind}{again}")
+            }
+            Msg::RspDown(RspDown::RetryAck(_)) => f.write_str("RetryAck"),
+            message => write!(f, "{message}"),
+        }
+    }
+}
+
+/// The node that a flit's requester is, and whether the flit is of it or to it.
+pub(crate) fn requester_of(seen: &Seen) -> (NodeId, &'static str) {
+    match seen.opcode {
+        Opcode::Snoop(_)
+        | Opcode::RetryAck
+        | Opcode::Comp
+        | Opcode::CompDBIDResp
+        | Opcode::PCrdGrant
+        | Opcode::CompData => match seen.target {
+            Some(node) => (node, "to"),
+            None => (seen.source, "of"),
+        },
+        Opcode::Request(_)
+        | Opcode::PCrdReturn
+        | Opcode::SnpResp
+        | Opcode::CompAck
+        | Opcode::SnpRespData
+        | Opcode::CopyBackWrData
+        | Opcode::Load
+        | Opcode::Store => (seen.source, "of"),
+    }
+}
+
+/// Text that was written; `NoMemory` where memory ran out.
+pub(crate) fn kept(written: Result<(), AllocError>) -> Result<(), NoMemory> {
+    match written {
+        Ok(()) => Ok(()),
+        Err(_) => Err(NoMemory),
+    }
+}
