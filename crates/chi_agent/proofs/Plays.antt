@@ -5,13 +5,13 @@ use Rattle.chi_agent.specs.Draws.{word_after}
 use Rattle.chi_agent.specs.Turns.{count_after}
 use Rattle.chi_config.specs.Config.{Sizes}
 use Rattle.chi_agent.specs.declared.player.Player.{Player}
-use Rattle.chi_agent.specs.Lives.{Played, Turned, word_of}
+use Rattle.chi_agent.specs.Lives.{Played, Turned, random_word}
 
 -- one turn more
-pub plays_on : {A : Type 0} (config : Sizes) (seed agent : ℕ) (first : Player A) (k n x : ℕ) (p q : Player A) (done : Bool) → Played config seed agent first k p → x ≡ word_of seed agent k → n ≡ k + 1 → Turned config x n p q done → Played config seed agent first (k + 1) q
+pub plays_on : {A : Type 0} (config : Sizes) (seed agent : ℕ) (first : Player A) (k n x : ℕ) (p q : Player A) (done : Bool) → Played config seed agent first k p → x ≡ random_word seed agent k → n ≡ k + 1 → Turned config x n p q done → Played config seed agent first (k + 1) q
 plays_on config seed agent first k n x p q done so_far word number turned =
     let next : k + 1 ≡ suc k = omega arith in
-    let turn : Turned config (word_of seed agent k) (suc k) p q done = subst (λ (m : ℕ). Turned config (word_of seed agent k) m p q done) (number ∙ next) (subst (λ (w : ℕ). Turned config w n p q done) word turned) in
+    let turn : Turned config (random_word seed agent k) (suc k) p q done = subst (λ (m : ℕ). Turned config (random_word seed agent k) m p q done) (number ∙ next) (subst (λ (w : ℕ). Turned config w n p q done) word turned) in
     subst (λ (m : ℕ). Played config seed agent first m q) (sym next) (p, done, so_far, turn)
 
 -- the stream goes on by one word

@@ -29,7 +29,7 @@ use Rattle.chi_config.specs.Config.{Sizes}
 use Rattle.chi_slice.specs.Slice.{SliceState, are_in_range, line, action_refusal}
 use Rattle.chi_tracker.specs.Calls.{seen_of}
 use Rattle.chi_credit.specs.declared.slot.SlotRecord.{SlotRecord}
-use Rattle.chi_credit.specs.Slot.{is_idle}
+use Rattle.chi_credit.specs.Slot.{is_idle_state}
 use Rattle.chi_credit.specs.Account.{riding_of}
 use Rattle.chi_node.specs.Calls.{arrival_refusal, is_own_step}
 use Rattle.chi_node.specs.Requester.{RequesterState}
@@ -40,7 +40,7 @@ use Rattle.chi_agent.specs.declared.choice.Choice.TheVariants.{Finish, Try, Do}
 use Rattle.chi_agent.specs.declared.deliveries.Delivery.{Delivery}
 use Rattle.chi_agent.specs.declared.deliveries.Delivery.TheVariants.{RecvSnp, RecvRetry, RecvData, RecvComp, RecvDbid}
 use Rattle.chi_agent.specs.declared.deliveries.Delivery.TheVariants.{Arrival, Start, RecvSnpResp, RecvAck, RecvWrData}
-use Rattle.chi_agent.specs.declared.operations.Place.{Place}
+use Rattle.chi_agent.specs.declared.operations.OperationPlace.{OperationPlace}
 use Rattle.chi_agent.specs.declared.operations.Unfinished.{Unfinished}
 use Rattle.chi_agent.specs.Operations.{eligible_on, unfinished_at}
 
@@ -50,9 +50,9 @@ abbrev pub is_retried_in : Phase → Bool
 is_retried_in Sent = false
 is_retried_in Retried = true
 
-abbrev pub is_retried : Option Pending → Bool
-is_retried None = false
-is_retried (Some request) = is_retried_in request.phase
+abbrev pub is_pending_retried : Option Pending → Bool
+is_pending_retried None = false
+is_pending_retried (Some request) = is_retried_in request.phase
 
 abbrev pub has_credit : RequesterState → Option CreditType → Bool
 has_credit r None = false
@@ -64,27 +64,27 @@ cancel_or_resend None true = Some (Do (calls.Step steps.Resend))
 cancel_or_resend None false = None
 
 abbrev pub retry : Profile → Rn → RequesterState → Option Choice
-retry profile rn r = if is_retried rn.pending then cancel_or_resend (resend_refusal rn) (has_credit r (pending_credit profile rn.pending)) else None
+retry profile rn r = if is_pending_retried rn.pending then cancel_or_resend (resend_refusal rn) (has_credit r (pending_credit profile rn.pending)) else None
 
 -- second part: the eligible operation is tried, by its task and the copy. Nothing is issued while a request is
 -- pending, or where no slot is idle
-abbrev pub is_free : SlotRecord → Bool
-is_free slot = is_idle slot.state
+abbrev pub is_idle_slot : SlotRecord → Bool
+is_idle_slot slot = is_idle_state slot.state
 
 abbrev pub lowest_idle : List SlotRecord → Option Slot
-lowest_idle slots = option_map (λ s. record { 0 = s }) (position is_free slots)
+lowest_idle slots = option_map (λ s. record { 0 = s }) (position is_idle_slot slots)
 
-abbrev pub issue_into : Option Slot → Place → Kind → Option Choice
+abbrev pub issue_into : Option Slot → OperationPlace → Kind → Option Choice
 issue_into None place kind = None
 issue_into (Some slot) place kind = Some (Try place (steps.Issue kind slot))
 
-abbrev pub issue : Rn → List SlotRecord → Place → Kind → Option Choice
+abbrev pub issue : Rn → List SlotRecord → OperationPlace → Kind → Option Choice
 issue rn slots place kind = if is_some rn.pending then None else issue_into (lowest_idle slots) place kind
 
-abbrev pub load : Rn → List SlotRecord → Place → WordNo → Kind → Option Choice
+abbrev pub load : Rn → List SlotRecord → OperationPlace → WordNo → Kind → Option Choice
 load rn slots place word kind = if is_valid rn.state then Some (Try place (steps.Load word)) else issue rn slots place kind
 
-abbrev pub store_in : State → Rn → List SlotRecord → Place → WordNo → ℕ → Option Choice
+abbrev pub store_in : State → Rn → List SlotRecord → OperationPlace → WordNo → ℕ → Option Choice
 store_in I rn slots place word value = issue rn slots place kinds.ReadUnique
 store_in SC rn slots place word value = issue rn slots place kinds.CleanUnique
 store_in UC rn slots place word value = Some (Try place (steps.Store word value))
@@ -93,14 +93,14 @@ store_in SD rn slots place word value = issue rn slots place kinds.CleanUnique
 
 -- a copy-back or an Evict: in another state than the needed one it is skipped, and once it is issued it is
 -- finished when nothing is pending
-abbrev pub hand_back : Bool → Rn → List SlotRecord → Place → Kind → Option Choice
+abbrev pub hand_back : Bool → Rn → List SlotRecord → OperationPlace → Kind → Option Choice
 hand_back true rn slots place kind = if is_some rn.pending then None else Some (Finish place)
 hand_back false rn slots place kind = if is_needed kind rn.state then issue rn slots place kind else Some (Finish place)
 
-abbrev pub drop_or_skip : Rn → Place → Option Choice
+abbrev pub drop_or_skip : Rn → OperationPlace → Option Choice
 drop_or_skip rn place = if is_clean_copy rn.state then Some (Try place steps.Drop) else Some (Finish place)
 
-abbrev pub by_task : Task → Bool → Rn → List SlotRecord → Place → Option Choice
+abbrev pub by_task : Task → Bool → Rn → List SlotRecord → OperationPlace → Option Choice
 by_task (tasks.Load word) issued rn slots place = load rn slots place word kinds.ReadNotSharedDirty
 by_task (tasks.Share word) issued rn slots place = load rn slots place word kinds.ReadShared
 by_task (tasks.Store word value) issued rn slots place = store_in rn.state rn slots place word value
@@ -110,7 +110,7 @@ by_task tasks.WriteEvict issued rn slots place = hand_back issued rn slots place
 by_task tasks.Evict issued rn slots place = hand_back issued rn slots place kinds.Evict
 by_task tasks.Drop issued rn slots place = drop_or_skip rn place
 
-abbrev pub try_at : Option Place → List Unfinished → Rn → List SlotRecord → Option Choice
+abbrev pub try_at : Option OperationPlace → List Unfinished → Rn → List SlotRecord → Option Choice
 try_at None ops rn slots = None
 try_at (Some place) ops rn slots = by_task (unfinished_at ops place.0).operation.task (unfinished_at ops place.0).issued rn slots place
 
@@ -133,12 +133,12 @@ call_of RecvSnpResp = calls.Step steps.RecvSnpResp
 call_of RecvAck = calls.Step steps.RecvAck
 call_of RecvWrData = calls.Step steps.RecvWrData
 
-abbrev pub call_refusal : SliceState → ℕ → Line → Call → Option Refusal
-call_refusal s n l (calls.Step step) = action_refusal s (record { agent = record { 0 = n }; line = l; step = step })
-call_refusal s n l calls.Arrival = arrival_refusal s n l.0
+abbrev pub turn_call_refusal : SliceState → ℕ → Line → Call → Option Refusal
+turn_call_refusal s n l (calls.Step step) = action_refusal s (record { agent = record { 0 = n }; line = l; step = step })
+turn_call_refusal s n l calls.Arrival = arrival_refusal s n l.0
 
 abbrev pub is_enabled : SliceState → ℕ → Line → Delivery → Bool
-is_enabled s n l delivery = not (is_some (call_refusal s n l (call_of delivery)))
+is_enabled s n l delivery = not (is_some (turn_call_refusal s n l (call_of delivery)))
 
 abbrev pub enabled_deliveries : SliceState → ℕ → Line → List Delivery
 enabled_deliveries s n l = filter (is_enabled s n l) deliveries
@@ -150,8 +150,8 @@ abbrev pub delivery : SliceState → ℕ → Line → ℕ → Option Choice
 delivery s n l number = option_map do_delivery (slice_get (enabled_deliveries s n l) (number % length (enabled_deliveries s n l)))
 
 -- the line of a turn: x mod L
-abbrev pub line_of : Sizes → ℕ → Line
-line_of config x = record { 0 = x % config.lines }
+abbrev pub drawn_line : Sizes → ℕ → Line
+drawn_line config x = record { 0 = x % config.lines }
 
 -- the first of two choices, if there is one
 abbrev pub else_choice : Option Choice → Option Choice → Option Choice
@@ -165,20 +165,20 @@ choice_at s r ops stopped l number = else_choice (retry s.config.profile (rn_of 
 
 -- what is done for the word x; nothing in a slice that hasn't the line
 abbrev pub choice : SliceState → RequesterState → List Unfinished → Bool → ℕ → Option Choice
-choice s r ops stopped x = if are_in_range s r.number (x % s.config.lines) then choice_at s r ops stopped (line_of s.config x) (x / s.config.lines) else None
+choice s r ops stopped x = if are_in_range s r.number (x % s.config.lines) then choice_at s r ops stopped (drawn_line s.config x) (x / s.config.lines) else None
 
 -- what is known of each choice: its place is one of the window, and its step the requester's own
-abbrev pub IsInWindow : List Unfinished → Place → Type 0
+abbrev pub IsInWindow : List Unfinished → OperationPlace → Type 0
 IsInWindow ops place = (place.0 < 8) × (place.0 < length ops)
 
 abbrev pub IsOwnCall : Call → Type 0
 IsOwnCall (calls.Step step) = is_own_step step ≡ true
 IsOwnCall calls.Arrival = ⊤
 
-abbrev pub IsOwn : List Unfinished → Choice → Type 0
-IsOwn ops (Finish place) = IsInWindow ops place
-IsOwn ops (Try place step) = IsInWindow ops place × (is_own_step step ≡ true)
-IsOwn ops (Do call) = IsOwnCall call
+abbrev pub IsOwnChoice : List Unfinished → Choice → Type 0
+IsOwnChoice ops (Finish place) = IsInWindow ops place
+IsOwnChoice ops (Try place step) = IsInWindow ops place × (is_own_step step ≡ true)
+IsOwnChoice ops (Do call) = IsOwnCall call
 
 -- the step that a choice tries is the requester's own
 abbrev pub IsOwnStep : Choice → Type 0
@@ -192,7 +192,7 @@ IsCall (Finish place) = ⊥
 IsCall (Try place step) = ⊥
 IsCall (Do call) = IsOwnCall call
 
-abbrev pub IsAt : Place → Choice → Type 0
-IsAt place (Finish other) = other ≡ place
-IsAt place (Try other step) = (other ≡ place) × (is_own_step step ≡ true)
-IsAt place (Do call) = ⊥
+abbrev pub IsChosenAt : OperationPlace → Choice → Type 0
+IsChosenAt place (Finish other) = other ≡ place
+IsChosenAt place (Try other step) = (other ≡ place) × (is_own_step step ≡ true)
+IsChosenAt place (Do call) = ⊥

@@ -12,8 +12,8 @@ AreSame [] (q ∷ qs) = ⊥
 AreSame (r ∷ rs) [] = ⊥
 AreSame (r ∷ rs) (q ∷ qs) = IsSameRequester r q × AreSame rs qs
 
-abbrev pub number_of : RequesterState → ℕ
-number_of r = r.number
+abbrev pub requester_number : RequesterState → ℕ
+requester_number r = r.number
 
 -- the outbox of a requester's agent, in that channel
 abbrev pub outbox_of : ChannelName → RequesterState → OutboxState

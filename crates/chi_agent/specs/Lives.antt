@@ -14,7 +14,7 @@ use Rattle.chi_node.specs.Node.{IsSliceOf}
 use Rattle.chi_node.specs.Requester.{RequesterState, give_back_refusal, tend_refusal}
 use Rattle.chi_agent.specs.Draws.{stream_of, word_after}
 use Rattle.chi_agent.specs.declared.player.Player.{Player}
-use Rattle.chi_agent.specs.Choice.{line_of}
+use Rattle.chi_agent.specs.Choice.{drawn_line}
 use Rattle.chi_agent.specs.Operations.{unissued_operation}
 use Rattle.chi_agent.specs.Turns.{after_refusal, HasEnded, IsFinished, TurnsTo}
 use Rattle.chi_audit.specs.declared.reports.Report.{Report}
@@ -63,7 +63,7 @@ player_with r p = record p { requester = r }
 pub record VisitsSlice {A : Type 0} (config : Sizes) (x : ℕ) (p p' : Player A) (done : Bool) : Type 0 where
   pub before : SliceState
   pub after : SliceState
-  pub own : IsSliceOf config (line_of config x).0 before
+  pub own : IsSliceOf config (drawn_line config x).0 before
   pub turns : TurnsTo before after x p p' done
   pub agreement : KeepsAgreement before after p.requester p'.requester
 
@@ -88,13 +88,13 @@ pub record Turned {A : Type 0} (config : Sizes) (x number : ℕ) (p p' : Player 
   pub ends : EndsTurn done config number found p'
 
 -- the word of an agent's stream after so many
-abbrev pub word_of : ℕ → ℕ → ℕ → ℕ
-word_of seed agent k = word_after (record (stream_of seed agent) { word_pos = k })
+abbrev pub random_word : ℕ → ℕ → ℕ → ℕ
+random_word seed agent k = word_after (record (stream_of seed agent) { word_pos = k })
 
 -- so many turns lead from the first player to the other: turn k + 1 is that of word k
 abbrev pub Played : {A : Type 0} → Sizes → ℕ → ℕ → Player A → ℕ → Player A → Type 0
 Played config seed agent first zero p = p ≡ first
-Played {A} config seed agent first (suc k) p = (q : Player A) × (done : Bool) × Played config seed agent first k q × Turned config (word_of seed agent k) (suc k) q p done
+Played {A} config seed agent first (suc k) p = (q : Player A) × (done : Bool) × Played config seed agent first k q × Turned config (random_word seed agent k) (suc k) q p done
 
 -- an agent's life: no more than so many turns, and fewer only where it has ended
 pub record Lived {A : Type 0} (config : Sizes) (seed most agent : ℕ) (first last : Player A) : Type 0 where

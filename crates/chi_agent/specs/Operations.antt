@@ -3,7 +3,7 @@ use Rattle.std.specs.Prelude.{◌≡◌, ◌≢◌, ℕ, ◌<◌, ◌≤◌, ◌
 use Rattle.chi_flit.specs.declared.operation.Operation.{Operation}
 use Rattle.chi_flit.specs.declared.operation.Task.TheVariants.{Drop}
 use Rattle.chi_agent.specs.declared.operations.Unfinished.{Unfinished}
-use Rattle.chi_agent.specs.declared.operations.Place.{Place}
+use Rattle.chi_agent.specs.declared.operations.OperationPlace.{OperationPlace}
 
 -- an operation of the script, before its request is issued
 abbrev pub unissued_operation : Operation → Unfinished
@@ -22,8 +22,8 @@ abbrev pub unfinished_at : List Unfinished → ℕ → Unfinished
 unfinished_at ops p = slice_index_or ops p no_operation
 
 -- the number of the line that it is on
-abbrev pub line_at : List Unfinished → ℕ → ℕ
-line_at ops p = (unfinished_at ops p).operation.line.0
+abbrev pub line_of_operation : List Unfinished → ℕ → ℕ
+line_of_operation ops p = (unfinished_at ops p).operation.line.0
 
 -- an operation is on line l
 abbrev pub is_on : ℕ → Unfinished → Bool
@@ -37,15 +37,15 @@ window ops = take 8 ops
 pub record IsEligible (ops : List Unfinished) (l p : ℕ) : Type 0 where
   pub in_window : p < 8
   pub there : p < length ops
-  pub on_line : line_at ops p ≡ l
-  pub first : (earlier : ℕ) → earlier < p → line_at ops earlier ≢ l
+  pub on_line : line_of_operation ops p ≡ l
+  pub first : (earlier : ℕ) → earlier < p → line_of_operation ops earlier ≢ l
 
 -- no operation of the window is on line l
 abbrev pub IsNoneEligible : List Unfinished → ℕ → Type 0
-IsNoneEligible ops l = (p : ℕ) → p < 8 → p < length ops → line_at ops p ≢ l
+IsNoneEligible ops l = (p : ℕ) → p < 8 → p < length ops → line_of_operation ops p ≢ l
 
 -- the place of the eligible operation on line l: the first of the window that is on it
-abbrev pub eligible_on : List Unfinished → ℕ → Option Place
+abbrev pub eligible_on : List Unfinished → ℕ → Option OperationPlace
 eligible_on ops l = option_map (λ p. record { 0 = p }) (position (is_on l) (window ops))
 
 -- the unfinished operations, where those from `next` on of the script stand behind the window

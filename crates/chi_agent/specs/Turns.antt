@@ -21,14 +21,14 @@ use Rattle.chi_agent.specs.declared.choice.Call.{Call}
 use Rattle.chi_agent.specs.declared.choice.Call.TheVariants as calls
 use Rattle.chi_agent.specs.declared.choice.Choice.{Choice}
 use Rattle.chi_agent.specs.declared.choice.Choice.TheVariants.{Finish, Try, Do}
-use Rattle.chi_agent.specs.declared.operations.Place.{Place}
+use Rattle.chi_agent.specs.declared.operations.OperationPlace.{OperationPlace}
 use Rattle.chi_agent.specs.declared.player.Player.{Player}
-use Rattle.chi_agent.specs.Choice.{choice, line_of}
+use Rattle.chi_agent.specs.Choice.{choice, drawn_line}
 use Rattle.chi_agent.specs.Operations.{issued_operation, unfinished_at}
 
 -- an action of a requester
-abbrev pub action_of : RequesterState → Line → Step → Action
-action_of r l step = record { agent = record { 0 = r.number }; line = l; step = step }
+abbrev pub action_by : RequesterState → Line → Step → Action
+action_by r l step = record { agent = record { 0 = r.number }; line = l; step = step }
 
 -- a step that is refused leaves all; one that is done is a step of the requester's, and is counted
 abbrev pub StepEnds : Option Refusal → SliceState → SliceState → Action → RequesterState → RequesterState → Type 0
@@ -56,12 +56,12 @@ pub record NothingTried (s s' : SliceState) (r r' : RequesterState) (answer : Op
 
 -- what is called, and how it is answered
 abbrev pub CallTried : Call → SliceState → SliceState → Line → RequesterState → RequesterState → Option Refusal → Type 0
-CallTried (calls.Step step) s s' l r r' answer = StepTried s s' (action_of r l step) r r' answer
+CallTried (calls.Step step) s s' l r r' answer = StepTried s s' (action_by r l step) r r' answer
 CallTried calls.Arrival s s' l r r' answer = ArrivalTried s s' l r r' answer
 
 abbrev pub ChoiceTried : Choice → SliceState → SliceState → Line → RequesterState → RequesterState → Option Refusal → Type 0
 ChoiceTried (Finish place) s s' l r r' answer = NothingTried s s' r r' answer
-ChoiceTried (Try place step) s s' l r r' answer = StepTried s s' (action_of r l step) r r' answer
+ChoiceTried (Try place step) s s' l r r' answer = StepTried s s' (action_by r l step) r r' answer
 ChoiceTried (Do call) s s' l r r' answer = CallTried call s s' l r r' answer
 
 -- one more, but no more than a word of 64 bits holds
@@ -69,15 +69,15 @@ abbrev pub count_after : ℕ → ℕ
 count_after n = min (n + 1) (2 ^ 64 - 1)
 
 -- the operation at the place is finished, and the others stay
-abbrev pub player_without : {A : Type 0} → Place → Player A → Player A
+abbrev pub player_without : {A : Type 0} → OperationPlace → Player A → Player A
 player_without place p = record p { operations = remove p.operations place.0 }
 
 -- the request of the operation at the place was issued
-abbrev pub player_with_issue : {A : Type 0} → Place → Player A → Player A
+abbrev pub player_with_issue : {A : Type 0} → OperationPlace → Player A → Player A
 player_with_issue place p = record p { operations = slice_set p.operations place.0 (issued_operation (unfinished_at p.operations place.0)) }
 
 -- an issue: that of a copy-back or an Evict is marked, and the operation of another kind is still to be tried
-abbrev pub after_issue : {A : Type 0} → Kind → Place → Player A → Player A
+abbrev pub after_issue : {A : Type 0} → Kind → OperationPlace → Player A → Player A
 after_issue kinds.Evict place p = player_with_issue place p
 after_issue kinds.WriteBackFull place p = player_with_issue place p
 after_issue kinds.WriteCleanFull place p = player_with_issue place p
@@ -85,16 +85,16 @@ after_issue kinds.WriteEvictFull place p = player_with_issue place p
 after_issue other place p = p
 
 -- a step of an operation that is done: a load, a store or a drop finishes it
-abbrev pub after_step : {A : Type 0} → Step → Place → Player A → Player A
-after_step (steps.Load word) place p = record (player_without place p) { loads = count_after p.loads }
-after_step (steps.Store word value) place p = record (player_without place p) { stores = count_after p.stores }
-after_step steps.Drop place p = player_without place p
-after_step (steps.Issue kind slot) place p = after_issue kind place p
-after_step other place p = p
+abbrev pub player_after_step : {A : Type 0} → Step → OperationPlace → Player A → Player A
+player_after_step (steps.Load word) place p = record (player_without place p) { loads = count_after p.loads }
+player_after_step (steps.Store word value) place p = record (player_without place p) { stores = count_after p.stores }
+player_after_step steps.Drop place p = player_without place p
+player_after_step (steps.Issue kind slot) place p = after_issue kind place p
+player_after_step other place p = p
 
 abbrev pub after_choice : {A : Type 0} → Choice → Player A → Player A
 after_choice (Finish place) p = player_without place p
-after_choice (Try place step) p = after_step step place p
+after_choice (Try place step) p = player_after_step step place p
 after_choice (Do call) p = p
 
 -- refusals 1 and 11 stop a script, and no other changes it
@@ -127,7 +127,7 @@ TurnsBy (Some choice) s s' l p p' result = Acts choice s s' l p p' result
 
 -- what a turn of the word x does
 abbrev pub TurnsTo : {A : Type 0} → SliceState → SliceState → ℕ → Player A → Player A → Bool → Type 0
-TurnsTo s s' x p p' result = TurnsBy (choice s p.requester p.operations p.stopped x) s s' (line_of s.config x) p p' result
+TurnsTo s s' x p p' result = TurnsBy (choice s p.requester p.operations p.stopped x) s s' (drawn_line s.config x) p p' result
 
 -- the script is finished: nothing unfinished is left; it has ended where it is finished or stopped, and every
 -- slot of the account is Idle

@@ -6,7 +6,7 @@ ghost use Rattle.chi_node.specs.Node.{AreOwn, IsOwn};
 ghost use Rattle.chi_audit.specs.Numbers.{numbers};
 ghost use Rattle.chi_agent.specs.Script.{operations_of, writer_of, AreFresh};
 ghost use Rattle.chi_agent.specs.Runs.{starts, AllLeave, KeepsTold};
-ghost use Rattle.chi_agent.specs.Ended.{number_of, outbox_of, AreSame};
+ghost use Rattle.chi_agent.specs.Ended.{requester_number, outbox_of, AreSame};
 
 use crate::ended::Ended;
 use crate::gates::Gate;
@@ -42,7 +42,7 @@ fn boxes_for(
     requesters: &ArrayVec<Requester, 8>,
 ) -> Result<(Vec<Outbox>, Inbox), NoMemory>
     requires some { 0 < agents }
-    requires numbers { map number_of requesters.now.items ≡ numbers agents }
+    requires numbers { map requester_number requesters.now.items ≡ numbers agents }
     ensures outboxes { IfOk result
         (λ made. made.0.items ≡ map (outbox_of made.1.channel) requesters.now.items) }
     ensures inbox { IfOk result (λ made. (made.1.got ≡ []) × (made.1.told ≡ [])) }
@@ -72,7 +72,7 @@ pub fn run_agents<R: Threads + Wait + Clock + Sync, A: Allocator + Send + Sync, 
     requires own { AreOwn node.now requesters.items }
     requires count { vec_len scripts ≡ node.now.tracker.shape.agents }
     requires fresh { AreFresh tallies.now scripts.items }
-    requires requesters { map number_of requesters.items ≡ numbers node.now.config.agents }
+    requires requesters { map requester_number requesters.items ≡ numbers node.now.config.agents }
     requires writers { map writer_of scripts.items ≡ numbers node.now.config.agents }
     ensures lives { IfOk result (λ e. AllLeave
         (starts node.now.config seed turns requesters.items (operations_of scripts.items))
@@ -99,7 +99,7 @@ pub fn run_agents<R: Threads + Wait + Clock + Sync, A: Allocator + Send + Sync, 
         |scope| -> (Ended, bool)
             requires own { All (IsOwn node.now) requesters.items }
             requires fresh { AreFresh tallies.now scripts.items }
-            requires writers { map writer_of scripts.items ≡ map number_of requesters.items }
+            requires writers { map writer_of scripts.items ≡ map requester_number requesters.items }
             requires outboxes { outboxes.items ≡ map (outbox_of inbox.channel) requesters.items }
             requires none { vec_len handles ≡ 0 }
             requires room { plan.agents ≤ vec_capacity handles }

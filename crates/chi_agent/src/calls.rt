@@ -5,7 +5,7 @@ ghost use Rattle.chi_node.specs.Agree.{KeepsAgreement};
 ghost use Rattle.chi_node.specs.Calls.{is_own_step, IsSameRequester, IsSameSlice};
 ghost use Rattle.chi_node.specs.Parts.{HasTypes};
 ghost use Rattle.chi_agent.specs.Choice.{IsOwnStep};
-ghost use Rattle.chi_agent.specs.Turns.{action_of, ArrivalTried, ChoiceTried, StepTried};
+ghost use Rattle.chi_agent.specs.Turns.{action_by, ArrivalTried, ChoiceTried, StepTried};
 
 use crate::choice::{Call, Choice};
 use chi_flit::{Action, Line, Refusal, Step};
@@ -24,7 +24,7 @@ fn try_step<A: Allocator, B: Allocator>(
 ) -> Option<Refusal>
     requires table { requester.old.table ≡ tracker.now.table }
     requires own { is_own_step step ≡ true }
-    ensures tried { StepTried slice.old slice.new (action_of requester.old line step)
+    ensures tried { StepTried slice.old slice.new (action_by requester.old line step)
         requester.old requester.new result }
     ensures agreement { KeepsAgreement slice.old slice.new requester.old requester.new }
     ensures same { IsSameRequester requester.old requester.new }

@@ -1,10 +1,10 @@
 //! What a turn has a requester do on the slice of its line.
 
 ghost use Rattle.std.specs.Prelude.{◌≡◌, ◌/◌, IfSome};
-ghost use Rattle.chi_agent.specs.Choice.{choice, choice_at, line_of, IsOwn};
+ghost use Rattle.chi_agent.specs.Choice.{choice, choice_at, drawn_line, IsOwnChoice};
 
 use crate::deliveries::delivery_at;
-use crate::operations::{Operations, Place};
+use crate::operations::{OperationPlace, Operations};
 use crate::retries::retry;
 use crate::sight::Sight;
 use crate::tries::operation;
@@ -28,9 +28,9 @@ pub enum Call {
 #[derive(Clone, Copy, Debug, PartialEq, Eq)]
 pub enum Choice {
     /// The operation at the place is skipped, or its request has ended: it is finished.
-    Finish(Place),
+    Finish(OperationPlace),
     /// The operation at the place is tried by the step.
-    Try(Place, Step),
+    Try(OperationPlace, Step),
     /// A retried request is resent or cancelled, or a message is delivered.
     Do(Call),
 }
@@ -38,7 +38,7 @@ pub enum Choice {
 /// The line of a turn: the word of the draw, modulo the number of lines.
 /// Source: `docs/FORMATS.md`, "A turn".
 pub fn line_of(config: &Config, x: u32) -> Line
-    ensures { result ≡ line_of config.now x }
+    ensures { result ≡ drawn_line config.now x }
 {
     // (the largest node by a constant, so that its turns have no division)
     match config.lines() {
@@ -66,7 +66,7 @@ fn choose_at<A: Allocator, B: Allocator>(
 ) -> Option<Choice>
     ensures is { result
         ≡ choice_at sight.now.slice.now sight.now.requester.now operations.now stopped sight.now.line number }
-    ensures own { IfSome result (IsOwn operations.now) }
+    ensures own { IfSome result (IsOwnChoice operations.now) }
 {
     let (requester, copy) = (sight.requester, sight.at.copy);
     if let Some(choice) = retry(sight.slice.config().profile(), copy, requester) {
@@ -88,9 +88,9 @@ pub(crate) fn choose<A: Allocator, B: Allocator>(
     line: Line,
     x: u32,
 ) -> Option<Choice>
-    requires { line ≡ line_of slice.now.config x }
+    requires { line ≡ drawn_line slice.now.config x }
     ensures is { result ≡ choice slice.now requester.now operations.now stopped x }
-    ensures own { IfSome result (IsOwn operations.now) }
+    ensures own { IfSome result (IsOwnChoice operations.now) }
 {
     let number = number_of(slice.config(), x);
     let sight = Sight::of(slice, requester, line)?;

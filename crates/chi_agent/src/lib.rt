@@ -34,7 +34,7 @@ pub use choice::{Call, Choice, line_of};
 pub use draws::Draws;
 pub use ended::Ended;
 pub use gates::{Gate, OpenGate};
-pub use operations::{Operations, Place, Unfinished};
+pub use operations::{OperationPlace, Operations, Unfinished};
 pub use player::Player;
 pub use runner::Runner;
 pub use scripts::Script;

@@ -11,7 +11,7 @@ use std::marker::Model;
 /// The place of an operation among the unfinished ones, from 0.
 /// Source: `docs/FORMATS.md`, "A turn".
 #[derive(Clone, Copy, Debug, PartialEq, Eq)]
-pub struct Place(pub usize);
+pub struct OperationPlace(pub usize);
 
 /// An operation that isn't finished, and whether its request was issued.
 /// Source: `docs/FORMATS.md`, "A turn".
@@ -103,20 +103,20 @@ impl<A: Allocator> Operations<A> {
 
     /// The place of the eligible operation on a line; `None` where no operation of the window is on it.
     /// Source: `docs/FORMATS.md`, "A turn".
-    pub fn eligible(&self, line: Line) -> Option<Place>
+    pub fn eligible(&self, line: Line) -> Option<OperationPlace>
         ensures is { result ≡ eligible_on self.now line.0 }
         ensures some { IfSome result (λ place. IsEligible self.now line.0 place.0) }
         ensures none { IfNone result (IsNoneEligible self.now line.0) }
     {
         let place = first_on(&self.window, line)?;
-        Some(Place(place))
+        Some(OperationPlace(place))
     }
 
     /// The operation at a place of the window.
     ///
     /// Conditions: the place is below 8, and so many operations are unfinished.
     /// Source: `docs/FORMATS.md`, "A turn".
-    pub fn at(&self, place: Place) -> Unfinished
+    pub fn at(&self, place: OperationPlace) -> Unfinished
         requires window { place.0 < 8 }
         requires there { place.0 < length self.now }
         ensures { result ≡ unfinished_at self.now place.0 }
@@ -128,7 +128,7 @@ impl<A: Allocator> Operations<A> {
     ///
     /// Conditions: the place is below 8, and so many operations are unfinished.
     /// Source: `docs/FORMATS.md`, "A turn".
-    pub fn issue(&mut self, place: Place)
+    pub fn issue(&mut self, place: OperationPlace)
         requires window { place.0 < 8 }
         requires there { place.0 < length self.old }
         ensures { self.new ≡ slice_set self.old place.0 (issued_operation (unfinished_at self.old place.0)) }
@@ -142,7 +142,7 @@ impl<A: Allocator> Operations<A> {
     /// Conditions: the place is below 8, and so many operations are unfinished.
     /// Source: `docs/FORMATS.md`, "A turn".
     #[tactic(auto, using(crate::proofs::Windows::finished_refilled))]
-    pub fn finish(&mut self, place: Place)
+    pub fn finish(&mut self, place: OperationPlace)
         requires window { place.0 < 8 }
         requires there { place.0 < length self.old }
         ensures { self.new ≡ remove self.old place.0 }

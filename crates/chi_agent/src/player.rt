@@ -4,12 +4,12 @@ ghost use Rattle.std.specs.Prelude.{◌≡◌, ◌↔◌, IsTrue, false};
 ghost use Rattle.chi_node.specs.Agree.{KeepsAgreement};
 ghost use Rattle.chi_node.specs.Calls.{IsSameRequester, IsSameSlice};
 ghost use Rattle.chi_node.specs.Parts.{HasTypes};
-ghost use Rattle.chi_agent.specs.Choice.{line_of, IsInWindow, IsOwn};
-ghost use Rattle.chi_agent.specs.Turns.{after_issue, after_refusal, after_step, player_after_answer, count_after, player_without, AreIdle, HasEnded, IsFinished, TurnsTo};
+ghost use Rattle.chi_agent.specs.Choice.{drawn_line, IsInWindow, IsOwnChoice};
+ghost use Rattle.chi_agent.specs.Turns.{after_issue, after_refusal, player_after_step, player_after_answer, count_after, player_without, AreIdle, HasEnded, IsFinished, TurnsTo};
 
 use crate::calls::perform;
-use crate::choice::{Choice, choose, line_of};
-use crate::operations::{Operations, Place};
+use crate::choice::{Choice, choose, drawn_line};
+use crate::operations::{OperationPlace, Operations};
 use chi_credit::SlotState;
 use chi_flit::{Kind, Line, Refusal, Slot, Step};
 use chi_node::Requester;
@@ -84,7 +84,7 @@ impl<A: Allocator> Player<A> {
     }
 
     /// The operation at the place is finished.
-    fn finish(&mut self, place: Place)
+    fn finish(&mut self, place: OperationPlace)
         requires { IsInWindow self.old.operations place }
         ensures after { self.new ≡ player_without place self.old }
         ensures requester { self.new.requester ≡ self.old.requester }
@@ -93,7 +93,7 @@ impl<A: Allocator> Player<A> {
     }
 
     /// What the script makes of an issue: that of a copy-back or an Evict is marked.
-    fn note_issue(&mut self, kind: Kind, place: Place)
+    fn note_issue(&mut self, kind: Kind, place: OperationPlace)
         requires { IsInWindow self.old.operations place }
         ensures after { self.new ≡ after_issue kind place self.old }
         ensures requester { self.new.requester ≡ self.old.requester }
@@ -107,9 +107,9 @@ impl<A: Allocator> Player<A> {
     }
 
     /// What the script makes of a step that was done for the operation at the place.
-    fn note_step(&mut self, step: Step, place: Place)
+    fn note_step(&mut self, step: Step, place: OperationPlace)
         requires { IsInWindow self.old.operations place }
-        ensures after { self.new ≡ after_step step place self.old }
+        ensures after { self.new ≡ player_after_step step place self.old }
         ensures requester { self.new.requester ≡ self.old.requester }
     {
         match step {
@@ -144,7 +144,7 @@ impl<A: Allocator> Player<A> {
 
     /// What the script makes of the answer to a choice.
     fn note(&mut self, choice: Choice, answer: Option<Refusal>)
-        requires { IsOwn self.old.operations choice }
+        requires { IsOwnChoice self.old.operations choice }
         ensures after { self.new ≡ player_after_answer answer choice self.old }
         ensures requester { self.new.requester ≡ self.old.requester }
     {
@@ -198,7 +198,7 @@ impl<A: Allocator> Player<A> {
     ) -> bool
         requires table { self.old.requester.table ≡ tracker.now.table }
         requires types { HasTypes slice.old.config self.old.requester.port.shape }
-        requires line { line ≡ line_of slice.old.config x }
+        requires line { line ≡ drawn_line slice.old.config x }
         ensures turns { TurnsTo slice.old slice.new x self.old self.new result }
         ensures agreement { KeepsAgreement slice.old slice.new self.old.requester self.new.requester }
         ensures same { IsSameRequester self.old.requester self.new.requester }

@@ -1,7 +1,7 @@
 //! A retried request: it is resent, or cancelled.
 
 ghost use Rattle.std.specs.Prelude.{◌≡◌, IfSome};
-ghost use Rattle.chi_agent.specs.Choice.{has_credit, is_retried, retry, IsCall};
+ghost use Rattle.chi_agent.specs.Choice.{has_credit, is_pending_retried, retry, IsCall};
 
 use crate::choice::{Call, Choice};
 use chi_flit::{CreditType, Profile, Step};
@@ -11,7 +11,7 @@ use chi_rnline::{Pending, Phase, RnLine};
 
 /// Whether the request is in phase Retried.
 fn is_retried(pending: Option<Pending>) -> bool
-    ensures { result ≡ is_retried pending }
+    ensures { result ≡ is_pending_retried pending }
 {
     match pending {
         Some(request) => matches!(request.phase, Phase::Retried),

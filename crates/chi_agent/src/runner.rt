@@ -6,7 +6,7 @@ ghost use Rattle.chi_node.specs.Agree.{KeepsAgreement};
 ghost use Rattle.chi_node.specs.Calls.{IsSameRequester, IsSameSlice};
 ghost use Rattle.chi_node.specs.Parts.{HasTypes};
 ghost use Rattle.chi_node.specs.Node.{IsOwn, IsSliceOf};
-ghost use Rattle.chi_agent.specs.Choice.{line_of};
+ghost use Rattle.chi_agent.specs.Choice.{drawn_line};
 ghost use Rattle.chi_agent.specs.Turns.{after_refusal, count_after, TurnsTo};
 ghost use Rattle.chi_agent.specs.Operations.{unissued_operation};
 ghost use Rattle.chi_agent.specs.Draws.{word_after};
@@ -112,7 +112,7 @@ impl<'t, A: Allocator> Runner<'t, A> {
     ) -> bool
         requires own { IsOwn node.now self.old.player.requester }
         requires types { HasTypes node.now.config node.now.tracker.shape }
-        requires line { line ≡ line_of node.now.config x }
+        requires line { line ≡ drawn_line node.now.config x }
         requires slice { IsSliceOf node.now.config line.0 slice.old }
         ensures visits { Visits node.now.config x self.old.player self.new.player result }
         ensures same { IsSameRequester self.old.player.requester self.new.player.requester }

@@ -2,7 +2,7 @@
 
 ghost use Rattle.std.specs.Prelude.{◌≡◌, ◌∷◌, IfNone, IfSome, map};
 ghost use Rattle.chi_agent.specs.Script.{writer_of};
-ghost use Rattle.chi_agent.specs.Ended.{number_of, outbox_of};
+ghost use Rattle.chi_agent.specs.Ended.{requester_number, outbox_of};
 
 use crate::scripts::Script;
 use arrayvec::ArrayVec;
@@ -28,7 +28,7 @@ pub(crate) fn first_seat(
     outboxes: &mut Vec<Outbox>,
     inbox: &Inbox,
 ) -> Option<Seat>
-    requires writers { map writer_of scripts.old.items ≡ map number_of requesters.old.items }
+    requires writers { map writer_of scripts.old.items ≡ map requester_number requesters.old.items }
     requires outboxes { outboxes.old.items ≡ map (outbox_of inbox.now.channel) requesters.old.items }
     ensures requester { IfSome result (λ seat. requesters.old.items ≡ seat.requester ∷ requesters.new.items) }
     ensures script { IfSome result (λ seat. scripts.old.items ≡ seat.script ∷ scripts.new.items) }

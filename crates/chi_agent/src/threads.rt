@@ -7,7 +7,7 @@ ghost use Rattle.chi_node.specs.Calls.{IsSameRequester};
 ghost use Rattle.chi_node.specs.Node.{IsOwn};
 ghost use Rattle.chi_audit.specs.Tallies.{IsFresh};
 ghost use Rattle.chi_agent.specs.Script.{operations_of, writer_of, AreFresh};
-ghost use Rattle.chi_agent.specs.Ended.{number_of, outbox_of, AreSame};
+ghost use Rattle.chi_agent.specs.Ended.{requester_number, outbox_of, AreSame};
 
 use crate::draws::Draws;
 use crate::gates::Gate;
@@ -202,7 +202,7 @@ pub(crate) fn start_all<
 ) -> (Vec<PromisedHandle<Came, Back>>, bool)
     requires own { All (IsOwn node.now) requesters.items }
     requires fresh { AreFresh tallies.now scripts.items }
-    requires writers { map writer_of scripts.items ≡ map number_of requesters.items }
+    requires writers { map writer_of scripts.items ≡ map requester_number requesters.items }
     requires outboxes { outboxes.items ≡ map (outbox_of inbox.now.channel) requesters.items }
     requires none { vec_len handles ≡ 0 }
     requires room { plan.agents ≤ vec_capacity handles }

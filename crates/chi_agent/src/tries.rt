@@ -1,10 +1,10 @@
 //! The eligible operation of a script: what is tried of it.
 
 ghost use Rattle.std.specs.Prelude.{◌≡◌, IfSome, length};
-ghost use Rattle.chi_agent.specs.Choice.{by_task, drop_or_skip, hand_back, issue, issue_into, load, lowest_idle, operation, store_in, IsAt, IsOwn};
+ghost use Rattle.chi_agent.specs.Choice.{by_task, drop_or_skip, hand_back, issue, issue_into, load, lowest_idle, operation, store_in, IsChosenAt, IsOwnChoice};
 
 use crate::choice::Choice;
-use crate::operations::{Operations, Place, Unfinished};
+use crate::operations::{OperationPlace, Operations, Unfinished};
 use chi_flit::{Kind, Line, Slot, State, Step, Task, WordNo};
 use chi_node::Requester;
 use chi_rnline::RnLine;
@@ -20,10 +20,10 @@ fn lowest_idle(requester: &Requester) -> Option<Slot>
 
 /// A request of the kind for the operation at the place; `None` where a request is pending, or no slot is
 /// idle.
-fn issue(copy: &RnLine, requester: &Requester, place: Place, kind: Kind) -> Option<Choice>
+fn issue(copy: &RnLine, requester: &Requester, place: OperationPlace, kind: Kind) -> Option<Choice>
     requires { length requester.now.slots ≡ 8 }
     ensures is { result ≡ issue copy.now requester.now.slots place kind }
-    ensures own { IfSome result (IsAt place) }
+    ensures own { IfSome result (IsChosenAt place) }
 {
     if copy.pending().is_some() {
         return None;
@@ -36,13 +36,13 @@ fn issue(copy: &RnLine, requester: &Requester, place: Place, kind: Kind) -> Opti
 fn load(
     copy: &RnLine,
     requester: &Requester,
-    place: Place,
+    place: OperationPlace,
     word: WordNo,
     kind: Kind,
 ) -> Option<Choice>
     requires { length requester.now.slots ≡ 8 }
     ensures is { result ≡ load copy.now requester.now.slots place word kind }
-    ensures own { IfSome result (IsAt place) }
+    ensures own { IfSome result (IsChosenAt place) }
 {
     if copy.state().is_valid() {
         return Some(Choice::Try(place, Step::Load(word)));
@@ -54,13 +54,13 @@ fn load(
 fn store(
     copy: &RnLine,
     requester: &Requester,
-    place: Place,
+    place: OperationPlace,
     word: WordNo,
     value: u64,
 ) -> Option<Choice>
     requires { length requester.now.slots ≡ 8 }
     ensures is { result ≡ store_in copy.now.state copy.now requester.now.slots place word value }
-    ensures own { IfSome result (IsAt place) }
+    ensures own { IfSome result (IsChosenAt place) }
 {
     match copy.state() {
         State::I => issue(copy, requester, place, Kind::ReadUnique),
@@ -75,12 +75,12 @@ fn hand_back(
     issued: bool,
     copy: &RnLine,
     requester: &Requester,
-    place: Place,
+    place: OperationPlace,
     kind: Kind,
 ) -> Option<Choice>
     requires { length requester.now.slots ≡ 8 }
     ensures is { result ≡ hand_back issued copy.now requester.now.slots place kind }
-    ensures own { IfSome result (IsAt place) }
+    ensures own { IfSome result (IsChosenAt place) }
 {
     if issued {
         return match copy.pending() {
@@ -95,9 +95,9 @@ fn hand_back(
 }
 
 /// A drop of a clean copy; it is skipped in another state.
-fn drop_or_skip(copy: &RnLine, place: Place) -> Option<Choice>
+fn drop_or_skip(copy: &RnLine, place: OperationPlace) -> Option<Choice>
     ensures is { result ≡ drop_or_skip copy.now place }
-    ensures own { IfSome result (IsAt place) }
+    ensures own { IfSome result (IsChosenAt place) }
 {
     match copy.state() {
         State::SC | State::UC => Some(Choice::Try(place, Step::Drop)),
@@ -106,10 +106,15 @@ fn drop_or_skip(copy: &RnLine, place: Place) -> Option<Choice>
 }
 
 /// What is tried of the operation at the place.
-fn by_task(found: Unfinished, copy: &RnLine, requester: &Requester, place: Place) -> Option<Choice>
+fn by_task(
+    found: Unfinished,
+    copy: &RnLine,
+    requester: &Requester,
+    place: OperationPlace,
+) -> Option<Choice>
     requires { length requester.now.slots ≡ 8 }
     ensures is { result ≡ by_task found.operation.task found.issued copy.now requester.now.slots place }
-    ensures own { IfSome result (IsAt place) }
+    ensures own { IfSome result (IsChosenAt place) }
 {
     match found.operation.task {
         Task::Load(word) => load(copy, requester, place, word, Kind::ReadNotSharedDirty),
@@ -134,7 +139,7 @@ pub(crate) fn operation<A: Allocator>(
 ) -> Option<Choice>
     requires { length requester.now.slots ≡ 8 }
     ensures is { result ≡ operation stopped operations.now copy.now requester.now.slots line.0 }
-    ensures own { IfSome result (IsOwn operations.now) }
+    ensures own { IfSome result (IsOwnChoice operations.now) }
 {
     if stopped {
         return None;

@@ -4,8 +4,8 @@ ghost use Rattle.std.specs.Prelude.{◌≡◌, ◌≤◌, All, length, map, vec_
 ghost use Rattle.chi_config.specs.Config.{two_types};
 ghost use Rattle.chi_node.specs.Node.{AreOwn};
 ghost use Rattle.chi_audit.specs.Numbers.{numbers};
-ghost use Rattle.chi_audit.specs.Tallies.{agent_of, cell_of, IsFresh};
-ghost use Rattle.chi_agent.specs.Ended.{number_of};
+ghost use Rattle.chi_audit.specs.Tallies.{writer_agent, reader_cell, IsFresh};
+ghost use Rattle.chi_agent.specs.Ended.{requester_number};
 ghost use Rattle.chi_agent.specs.Script.{writer_of, AreFresh};
 
 use arrayvec::ArrayVec;
@@ -42,7 +42,7 @@ pub fn node_of(
     ensures config { result.0.config ≡ config.now }
     ensures agents { result.0.tracker.shape.agents ≡ config.now.agents }
     ensures own { AreOwn result.0 result.1.items }
-    ensures numbers { map number_of result.1.items ≡ numbers config.now.agents }
+    ensures numbers { map requester_number result.1.items ≡ numbers config.now.agents }
 {
     Node::new(alloc, config).expect(rt, "memory for a node")
 }
@@ -100,7 +100,7 @@ fn scripts_of<const N: usize>(
     requires fresh { All (IsFresh tallies.now) writers.items }
     requires count { length writers.items ≡ length all.now }
     ensures fresh { AreFresh tallies.now result.items }
-    ensures writers { map writer_of result.items ≡ map agent_of writers.items }
+    ensures writers { map writer_of result.items ≡ map writer_agent writers.items }
     ensures count { vec_len result ≡ length all.now }
 {
     let mut scripts = Vec::new(alloc);
@@ -124,7 +124,7 @@ pub fn opened<const N: usize>(
     ensures writers { map writer_of result.1.items ≡ numbers agents }
     ensures count { vec_len result.1 ≡ agents }
     ensures cells { length result.0 ≡ agents }
-    ensures watched { map cell_of result.2 ≡ result.0 }
+    ensures watched { map reader_cell result.2 ≡ result.0 }
 {
     let made = chi_audit::tallies(alloc, agents);
     let (tallies, writers, watcher) = made.expect(rt, "memory for tallies");

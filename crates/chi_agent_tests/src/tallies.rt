@@ -1,7 +1,7 @@
 //! What is read of the tallies of agents that have ended, each of which did as much as no other.
 
 ghost use Rattle.std.specs.Prelude.{◌≡◌, ◌<◌, length, map};
-ghost use Rattle.chi_audit.specs.Tallies.{cell_of};
+ghost use Rattle.chi_audit.specs.Tallies.{reader_cell};
 
 use crate::bench::{eight_sizes, node_of, on, opened};
 use chi_agent::{Ended, OpenGate, run_agents};
@@ -61,7 +61,7 @@ fn is_told(ended: &Ended, agent: u8, wanted: Report) -> bool {
 
 /// The tally of each agent has the loads and the stores of its report.
 fn all_match<R: Abort + Wait>(rt: &R, tallies: &Tallies, watcher: &mut Watcher, ended: &Ended)
-    requires cells { map cell_of watcher.old ≡ tallies.now }
+    requires cells { map reader_cell watcher.old ≡ tallies.now }
     requires agents { length tallies.now ≡ 8 }
 {
     for agent in 0..8 {

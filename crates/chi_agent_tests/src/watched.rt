@@ -3,9 +3,9 @@
 ghost use Rattle.std.specs.Prelude.{◌≡◌, ◌<◌, length, map, vec_len};
 ghost use Rattle.chi_config.specs.Config.{two_types};
 ghost use Rattle.chi_node.specs.Node.{AreOwn};
-ghost use Rattle.chi_audit.specs.Tallies.{cell_of};
+ghost use Rattle.chi_audit.specs.Tallies.{reader_cell};
 ghost use Rattle.chi_audit.specs.Numbers.{numbers};
-ghost use Rattle.chi_agent.specs.Ended.{number_of};
+ghost use Rattle.chi_agent.specs.Ended.{requester_number};
 ghost use Rattle.chi_agent.specs.Script.{writer_of, AreFresh};
 
 use crate::bench::{node_of, on, opened};
@@ -52,7 +52,7 @@ fn sizes(rt: &impl Abort) -> Config
 
 /// Reads the tally until the agent did two turns, and opens the gate.
 fn reads<R: Wait>(rt: &R, tallies: &Tallies, watcher: &mut Watcher, gate: &Hold) -> Tally
-    requires cells { map cell_of watcher.old ≡ tallies.now }
+    requires cells { map reader_cell watcher.old ≡ tallies.now }
     requires some { 0 < length tallies.now }
 {
     let mut tally = Tally::default();
@@ -80,9 +80,9 @@ fn runs_and_reads<R: Threads + Wait + Clock + Sync>(
     requires own { AreOwn node.now requesters.items }
     requires count { vec_len scripts ≡ node.now.tracker.shape.agents }
     requires fresh { AreFresh tallies.now scripts.items }
-    requires requesters { map number_of requesters.items ≡ numbers node.now.config.agents }
+    requires requesters { map requester_number requesters.items ≡ numbers node.now.config.agents }
     requires writers { map writer_of scripts.items ≡ numbers node.now.config.agents }
-    requires cells { map cell_of watcher ≡ tallies.now }
+    requires cells { map reader_cell watcher ≡ tallies.now }
     requires some { 0 < length tallies.now }
 {
     thread::join(
@@ -91,7 +91,7 @@ fn runs_and_reads<R: Threads + Wait + Clock + Sync>(
             requires own { AreOwn node.now requesters.items }
             requires count { vec_len scripts ≡ node.now.tracker.shape.agents }
             requires fresh { AreFresh tallies.now scripts.items }
-            requires requesters { map number_of requesters.items ≡ numbers node.now.config.agents }
+            requires requesters { map requester_number requesters.items ≡ numbers node.now.config.agents }
             requires writers { map writer_of scripts.items ≡ numbers node.now.config.agents }
         {
             let ran = run_agents(
@@ -100,7 +100,7 @@ fn runs_and_reads<R: Threads + Wait + Clock + Sync>(
             ran.is_ok()
         },
         move || -> Tally
-            requires cells { map cell_of watcher ≡ tallies.now }
+            requires cells { map reader_cell watcher ≡ tallies.now }
             requires some { 0 < length tallies.now }
         {
             let mut watcher = watcher;

@@ -1,6 +1,6 @@
 //! The window of a script: its first eight unfinished operations.
 
-use chi_agent::{Operations, Place};
+use chi_agent::{OperationPlace, Operations};
 use chi_flit::{Line, Operation, Task};
 use std::alloc::{AllocError, Allocator};
 
@@ -19,7 +19,7 @@ fn nine<A: Allocator>(alloc: A) -> Result<Operations<A>, AllocError> {
 #[test]
 fn the_window_ends_at_eight(rt: HostRuntime) -> Result<(), AllocError> {
     let operations = nine(rt.alloc())?;
-    assert_eq!(rt; operations.eligible(Line(7)), Some(Place(7)));
+    assert_eq!(rt; operations.eligible(Line(7)), Some(OperationPlace(7)));
     assert_eq!(rt; operations.eligible(Line(8)), None);
     Ok(())
 }
@@ -32,8 +32,8 @@ fn a_finish_lets_the_next_in(rt: HostRuntime) -> Result<(), AllocError> {
     };
     operations.finish(place);
     assert_eq!(rt; operations.eligible(Line(3)), None);
-    assert_eq!(rt; operations.eligible(Line(4)), Some(Place(3)));
-    assert_eq!(rt; operations.eligible(Line(8)), Some(Place(7)));
+    assert_eq!(rt; operations.eligible(Line(4)), Some(OperationPlace(3)));
+    assert_eq!(rt; operations.eligible(Line(8)), Some(OperationPlace(7)));
     Ok(())
 }
 

@@ -9,7 +9,7 @@ use Rattle.chi_flit.specs.declared.numbers.Line.{Line}
 use Rattle.chi_resolution.specs.declared.ledger.Types.{Types}
 use Rattle.chi_script.specs.Words.{◌>>=◌}
 use Rattle.chi_trace.specs.declared.fields.Address.{Address}
-use Rattle.chi_arguments.specs.Options.{asked_address_of, is_given, only_of, seed_of, turns_of, types_of}
+use Rattle.chi_arguments.specs.Options.{asked_address_of, is_given, line_option, seed_of, turns_of, types_option}
 use Rattle.chi_arguments.specs.declared.faults.ArgFault.{ArgFault}
 use Rattle.chi_arguments.specs.declared.faults.ArgFault.TheVariants.{Bad, NoMemory}
 use Rattle.chi_arguments.specs.declared.jobs.Job.{Job}
@@ -78,20 +78,20 @@ check_in rows = option_map check (first_of (codes "FILE") rows)
 abbrev pub chart_in : List Row → Option Asked
 chart_in rows = do
   path ← first_of (codes "FILE") rows
-  only ← only_of (first_of (codes "line") rows)
+  only ← line_option (first_of (codes "line") rows)
   Some (chart path only)
 
 -- behind `explain` stand the path and the options
 abbrev pub explain_in : List Row → Option Asked
 explain_in rows = do
   path ← first_of (codes "FILE") rows
-  types ← types_of (first_of (codes "types") rows)
+  types ← types_option (first_of (codes "types") rows)
   only ← asked_address_of (first_of (codes "line") rows)
   Some (explain path types (is_given (first_of (codes "early-grants") rows)) only)
 
 -- behind `storm` stand the path and the options
-abbrev pub storm_in : List Row → Option Asked
-storm_in rows = do
+abbrev pub storm_asked : List Row → Option Asked
+storm_asked rows = do
   path ← first_of (codes "FILE") rows
   seed ← seed_of (first_of (codes "seed") rows)
   turns ← turns_of (first_of (codes "turns") rows)
@@ -104,7 +104,7 @@ asked_behind (name, rows) =
     if bytes_eq name (codes "check") then check_in rows else (
     if bytes_eq name (codes "chart") then chart_in rows else (
     if bytes_eq name (codes "explain") then explain_in rows else (
-    if bytes_eq name (codes "storm") then storm_in rows else None))))
+    if bytes_eq name (codes "storm") then storm_asked rows else None))))
 
 -- the same, where the words have no fault
 abbrev pub asked_if : Kinds → Option (Text × List Row) → Option Asked
@@ -124,7 +124,7 @@ asked_by (Explain path types early only) = explain path.now types early only
 asked_by (Storm path seed turns) = storm path.now seed turns
 
 -- the job is what was asked for, and the words are bad where nothing is; memory may run out at any words
-abbrev pub Asks : Option Asked → Result Job ArgFault → Type 0
-Asks asked (Ok job) = asked ≡ Some (asked_by job)
-Asks asked (Err Bad) = asked ≡ None
-Asks asked (Err NoMemory) = Unit {0}
+abbrev pub IsAsked : Option Asked → Result Job ArgFault → Type 0
+IsAsked asked (Ok job) = asked ≡ Some (asked_by job)
+IsAsked asked (Err Bad) = asked ≡ None
+IsAsked asked (Err NoMemory) = Unit {0}

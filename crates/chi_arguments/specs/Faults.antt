@@ -5,13 +5,13 @@ use Rattle.clap.specs.declared.error.kind.ErrorKind.TheVariants as kinds
 use Rattle.chi_arguments.specs.declared.faults.ArgFault.{ArgFault}
 use Rattle.chi_arguments.specs.declared.faults.ArgFault.TheVariants.{Bad, NoMemory}
 
-abbrev pub status_of : ArgFault → ℕ
-status_of Bad = 4
-status_of NoMemory = 3
+abbrev pub argument_fault_status : ArgFault → ℕ
+argument_fault_status Bad = 4
+argument_fault_status NoMemory = 3
 
-abbrev pub fault_text : ArgFault → List ℕ
-fault_text Bad = codes "chihome: bad arguments"
-fault_text NoMemory = codes "chihome: out of memory"
+abbrev pub argument_fault_text : ArgFault → List ℕ
+argument_fault_text Bad = codes "chihome: bad arguments"
+argument_fault_text NoMemory = codes "chihome: out of memory"
 
 -- why the words were refused: every cause but want of memory is bad arguments
 abbrev pub fault_at : ErrorKind → ArgFault

@@ -20,14 +20,14 @@ turns_of (Some word) = number_of word >>= λ n. if is_from 1 4000000000 n then S
 
 -- the line alone that a chart shows is a number of a replay file from 0 to 63, and there is none where none is
 -- given
-abbrev pub only_of : Option (List ℕ) → Option (Option Line)
-only_of None = Some None
-only_of (Some word) = number_of word >>= λ n. if is_from 0 63 n then Some (Some (record { 0 = n })) else None
+abbrev pub line_option : Option (List ℕ) → Option (Option Line)
+line_option None = Some None
+line_option (Some word) = number_of word >>= λ n. if is_from 0 63 n then Some (Some (record { 0 = n })) else None
 
 -- the types of credit of a trace, and those of two types where none are given
-abbrev pub types_of : Option (List ℕ) → Option Types
-types_of None = Some Two
-types_of (Some word) =
+abbrev pub types_option : Option (List ℕ) → Option Types
+types_option None = Some Two
+types_option (Some word) =
     if is_text word (codes "two") then Some Two else (
     if is_text word (codes "four") then Some Four else (
     if is_text word (codes "any") then Some Any else None))

@@ -1,7 +1,7 @@
 //! Why a command line isn't followed.
 
 ghost use Rattle.std.specs.Prelude.{◌≡◌, Some};
-ghost use Rattle.chi_arguments.specs.Faults.{status_of, fault_text, fault_at};
+ghost use Rattle.chi_arguments.specs.Faults.{argument_fault_status, argument_fault_text, fault_at};
 ghost use Rattle.clap.specs.Values.{kind_of};
 ghost use Rattle.chi_arguments.specs.declared.faults.ArgFault.TheVariants.{NoMemory};
 
@@ -24,7 +24,7 @@ impl ArgFault {
     /// The program's status at this fault: 4 for bad arguments, 3 for want of memory.
     /// Source: `docs/FORMATS.md`, "The program".
     pub fn status(self) -> u8
-        ensures { result ≡ status_of self }
+        ensures { result ≡ argument_fault_status self }
     {
         match self {
             ArgFault::Bad => 4,
@@ -34,7 +34,7 @@ impl ArgFault {
 }
 
 impl fmt::Display for ArgFault {
-    ghost output = { λ fault. Some (fault_text fault) };
+    ghost output = { λ fault. Some (argument_fault_text fault) };
 
     fn fmt<W: fmt::Write>(&self, f: &mut fmt::Formatter<W>) -> fmt::Result {
         match self {

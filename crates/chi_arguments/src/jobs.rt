@@ -3,7 +3,7 @@
 ghost use Rattle.std.specs.Prelude.{◌≡◌, IfOk, false, map};
 ghost use Rattle.std.specs.Option.{option_and_then, option_map};
 ghost use Rattle.clap.specs.Words.{app_of, first_of, found_of, rows_of, rule_of, subcommand_rows_of};
-ghost use Rattle.chi_arguments.specs.CommandLines.{Asks, asked_behind, asked_by, asked_in, chart_in, check_in, command_lines, explain_in, file_rule, flag_rule, option_rule, replay_in, storm_in};
+ghost use Rattle.chi_arguments.specs.CommandLines.{IsAsked, asked_behind, asked_by, asked_in, chart_in, check_in, command_lines, explain_in, file_rule, flag_rule, option_rule, replay_in, storm_asked};
 
 use crate::faults::ArgFault;
 use crate::options::{address, is_given, only, seed, turns, types};
@@ -57,7 +57,7 @@ pub enum Job<'a> {
 /// where memory runs out.
 /// Source: `docs/FORMATS.md`, "The program".
 pub fn arguments<'a>(alloc: Global, words: &'a [&'a str]) -> Result<Job<'a>, ArgFault>
-    ensures { Asks (asked_in (map (λ word. word.now) words.entry.now)) result }
+    ensures { IsAsked (asked_in (map (λ word. word.now) words.entry.now)) result }
 {
     let matches = command_line(alloc)?.try_get_matches_from(words)?;
     read_job(&matches)
@@ -149,7 +149,7 @@ fn flag<'a>(alloc: Global, name: &'a str) -> Arg<'a>
 
 /// The job of the subcommand that was read.
 fn read_job<'a>(matches: &ArgMatches<'a>) -> Result<Job<'a>, ArgFault>
-    ensures { Asks (option_and_then asked_behind (subcommand_rows_of matches.now)) result }
+    ensures { IsAsked (option_and_then asked_behind (subcommand_rows_of matches.now)) result }
 {
     match matches.subcommand() {
         Some((REPLAY, replay)) => read_replay(replay),
@@ -163,7 +163,7 @@ fn read_job<'a>(matches: &ArgMatches<'a>) -> Result<Job<'a>, ArgFault>
 
 /// The job of `replay FILE`.
 fn read_replay<'a>(matches: &ArgMatches<'a>) -> Result<Job<'a>, ArgFault>
-    ensures { Asks (replay_in (rows_of (found_of matches.now))) result }
+    ensures { IsAsked (replay_in (rows_of (found_of matches.now))) result }
 {
     match text_of(matches, FILE) {
         Some(path) => Ok(Job::Replay(path)),
@@ -173,7 +173,7 @@ fn read_replay<'a>(matches: &ArgMatches<'a>) -> Result<Job<'a>, ArgFault>
 
 /// The job of `check FILE`.
 fn read_check<'a>(matches: &ArgMatches<'a>) -> Result<Job<'a>, ArgFault>
-    ensures { Asks (check_in (rows_of (found_of matches.now))) result }
+    ensures { IsAsked (check_in (rows_of (found_of matches.now))) result }
 {
     match text_of(matches, FILE) {
         Some(path) => Ok(Job::Check(path)),
@@ -208,7 +208,7 @@ fn read_explain<'a>(matches: &ArgMatches<'a>) -> Option<Job<'a>>
 
 /// The job of `storm FILE` and its options.
 fn read_storm<'a>(matches: &ArgMatches<'a>) -> Option<Job<'a>>
-    ensures { option_map asked_by result ≡ storm_in (rows_of (found_of matches.now)) }
+    ensures { option_map asked_by result ≡ storm_asked (rows_of (found_of matches.now)) }
 {
     let path = text_of(matches, FILE)?;
     let seed = seed(text_of(matches, SEED))?;

@@ -1,7 +1,7 @@
 //! The values of options.
 
 ghost use Rattle.std.specs.Prelude.{◌≡◌, Some, option_map};
-ghost use Rattle.chi_arguments.specs.Options.{asked_address_of, is_given, only_of, seed_of, turns_of, types_of};
+ghost use Rattle.chi_arguments.specs.Options.{asked_address_of, is_given, line_option, seed_of, turns_of, types_option};
 
 use chi_flit::Line;
 use chi_resolution::Types;
@@ -39,7 +39,7 @@ pub fn turns(value: Option<&str>) -> Option<u64>
 /// where the value is no number of a replay file from 0 to 63.
 /// Source: `docs/FORMATS.md`, "The program".
 pub fn only(value: Option<&str>) -> Option<Option<Line>>
-    ensures { result ≡ only_of (option_map (λ word. word.now) value.entry) }
+    ensures { result ≡ line_option (option_map (λ word. word.now) value.entry) }
 {
     match value {
         None => Some(None),
@@ -54,7 +54,7 @@ pub fn only(value: Option<&str>) -> Option<Option<Line>>
 /// `None` where the value is none of `two`, `four` and `any`.
 /// Source: `docs/FORMATS.md`, "The program".
 pub fn types(value: Option<&str>) -> Option<Types>
-    ensures { result ≡ types_of (option_map (λ word. word.now) value.entry) }
+    ensures { result ≡ types_option (option_map (λ word. word.now) value.entry) }
 {
     match value {
         None => Some(Types::Two),
@@ -64,7 +64,7 @@ pub fn types(value: Option<&str>) -> Option<Types>
 
 /// The types of this name.
 fn types_in(word: &[u8]) -> Option<Types>
-    ensures { result ≡ types_of (Some word.now) }
+    ensures { result ≡ types_option (Some word.now) }
 {
     if is(word, "two") {
         Some(Types::Two)

@@ -10,42 +10,42 @@ use Rattle.atomic_table.proofs.Lists.{at_set, at_snoc}
 use Rattle.crossbeam_channel.specs.Fifo.{Pushes, Pops, Forks, Merges, Learns}
 use Rattle.chi_audit.specs.declared.reports.Report.{Report}
 use Rattle.chi_audit.specs.declared.report_view.ReportView.{ReportView}
-use Rattle.chi_audit.specs.Boxes.{opener, sender_view, teller_view, spent_view, one, times, there, may_tell, total, AreSent, OneEach, first_of, IsTaken, IsOver}
+use Rattle.chi_audit.specs.Boxes.{opener, sender_view, teller_view, spent_view, one_if, times, there, may_tell, report_total, AreSent, OneEach, first_report, IsTaken, IsOver}
 
-total_set : (a : ℕ) (vs : List ReportView) (i : ℕ) (v w : ReportView) → get_elem? vs i ≡ some v → total a (set vs i w) + may_tell a v ≡ total a vs + may_tell a w
+total_set : (a : ℕ) (vs : List ReportView) (i : ℕ) (v w : ReportView) → get_elem? vs i ≡ some v → report_total a (set vs i w) + may_tell a v ≡ report_total a vs + may_tell a w
 total_set a [] i v w e = absurd (some-ne-none v (sym e))
 total_set a (x ∷ xs) zero v w e = let is : may_tell a x ≡ may_tell a v = ap (may_tell a) (some-injective x v e) in omega arith
 total_set a (x ∷ xs) (suc i) v w e = let rest = total_set a xs i v w e in omega arith
 
-total_snoc : (a : ℕ) (vs : List ReportView) (w : ReportView) → total a (vs ++ w ∷ []) ≡ total a vs + may_tell a w
+total_snoc : (a : ℕ) (vs : List ReportView) (w : ReportView) → report_total a (vs ++ w ∷ []) ≡ report_total a vs + may_tell a w
 total_snoc a [] w = omega arith
 total_snoc a (x ∷ xs) w = let rest = total_snoc a xs w in omega arith
 
-times_snoc : (a : ℕ) (rs : List Report) (r : Report) → times a (rs ++ r ∷ []) ≡ times a rs + one (r.agent.0 == a)
+times_snoc : (a : ℕ) (rs : List Report) (r : Report) → times a (rs ++ r ∷ []) ≡ times a rs + one_if (r.agent.0 == a)
 times_snoc a [] r = omega arith
 times_snoc a (x ∷ xs) r = let rest = times_snoc a xs r in omega arith
 
-one_le : (b : Bool) → one b ≤ 1
+one_le : (b : Bool) → one_if b ≤ 1
 one_le true = omega arith
 one_le false = omega arith
 
-above : (n a : ℕ) → one (nat_le n a) ≡ one (nat_le (n + 1) a) + one (n == a)
+above : (n a : ℕ) → one_if (nat_le n a) ≡ one_if (nat_le (n + 1) a) + one_if (n == a)
 above n a = dite (ℕ_discrete n a)
     (λ same.
-    let this : one (nat_le n a) ≡ 1 = ap one (le-leb n a (omega arith)) in
-    let next : one (nat_le (n + 1) a) ≡ 0 = ap one (lt-leb (n + 1) a (omega arith)) in
-    let here : one (n == a) ≡ 1 = ap one (eq-eqb n a same) in
+    let this : one_if (nat_le n a) ≡ 1 = ap one_if (le-leb n a (omega arith)) in
+    let next : one_if (nat_le (n + 1) a) ≡ 0 = ap one_if (lt-leb (n + 1) a (omega arith)) in
+    let here : one_if (n == a) ≡ 1 = ap one_if (eq-eqb n a same) in
     omega arith)
     (λ other.
-    let here : one (n == a) ≡ 0 = ap one (ne_eqb n a other) in
+    let here : one_if (n == a) ≡ 0 = ap one_if (ne_eqb n a other) in
     dite (dec_le n a)
     (λ below.
-    let this : one (nat_le n a) ≡ 1 = ap one (le-leb n a below) in
-    let next : one (nat_le (n + 1) a) ≡ 1 = ap one (le-leb (n + 1) a (omega arith)) in
+    let this : one_if (nat_le n a) ≡ 1 = ap one_if (le-leb n a below) in
+    let next : one_if (nat_le (n + 1) a) ≡ 1 = ap one_if (le-leb (n + 1) a (omega arith)) in
     omega arith)
     (λ over.
-    let this : one (nat_le n a) ≡ 0 = ap one (lt-leb n a (omega arith)) in
-    let next : one (nat_le (n + 1) a) ≡ 0 = ap one (lt-leb (n + 1) a (omega arith)) in
+    let this : one_if (nat_le n a) ≡ 0 = ap one_if (lt-leb n a (omega arith)) in
+    let next : one_if (nat_le (n + 1) a) ≡ 0 = ap one_if (lt-leb (n + 1) a (omega arith)) in
     omega arith))
 
 -- what the rule says of one pass
@@ -63,13 +63,13 @@ fits_set sent got seat views by w others mine j u e =
 
 -- the rule, by what it says of each pass
 keeps : (items : List Report) (views : List ReportView) (sent : ℕ → Option Report) (got : List Report) (seat : ℕ)
-    → ((a : ℕ) → total a views + there (sent a) ≤ 1) → ((a : ℕ) → times a items + times a got ≡ there (sent a)) → AreSent sent items → AreSent sent got
+    → ((a : ℕ) → report_total a views + there (sent a) ≤ 1) → ((a : ℕ) → times a items + times a got ≡ there (sent a)) → AreSent sent items → AreSent sent got
     → ((j : ℕ) (u : ReportView) → get_elem? views j ≡ some u → Fits sent got seat j u) → OneEach items views
-keeps items views sent got seat one each queued received fits = record {
+keeps items views sent got seat one_if each queued received fits = record {
   sent = sent;
   got = got;
   seat = seat;
-  one = one;
+  one_if = one_if;
   each = each;
   queued = queued;
   received = received;
@@ -99,15 +99,15 @@ none_there (Some r) few = absurd (omega (arith, few))
 none_some : {A : Type 0} (x : A) (o : Option A) → o ≡ None → o ≡ Some x → ⊥
 none_some x o none is = true≢false (sym (ap Rattle.std.specs.Prelude.is_some (sym none ∙ is)))
 
-put_there : (sent : ℕ → Option Report) (r : Report) (a : ℕ) → sent r.agent.0 ≡ None → there (put sent r a) ≡ one (r.agent.0 == a) + there (sent a)
+put_there : (sent : ℕ → Option Report) (r : Report) (a : ℕ) → sent r.agent.0 ≡ None → there (put sent r a) ≡ one_if (r.agent.0 == a) + there (sent a)
 put_there sent r a none = dite (ℕ_discrete r.agent.0 a)
     (λ same.
-    let here : one (r.agent.0 == a) ≡ 1 = ap one (eq-eqb r.agent.0 a same) in
+    let here : one_if (r.agent.0 == a) ≡ 1 = ap one_if (eq-eqb r.agent.0 a same) in
     let now : there (put sent r a) ≡ 1 = ap (λ (b : Bool). there (if b then Some r else sent a)) (eq-eqb r.agent.0 a same) in
     let was : there (sent a) ≡ 0 = ap there (subst (λ (k : ℕ). sent k ≡ None) same none) in
     omega arith)
     (λ other.
-    let here : one (r.agent.0 == a) ≡ 0 = ap one (ne_eqb r.agent.0 a other) in
+    let here : one_if (r.agent.0 == a) ≡ 0 = ap one_if (ne_eqb r.agent.0 a other) in
     let now : there (put sent r a) ≡ there (sent a) = ap (λ (b : Bool). there (if b then Some r else sent a)) (ne_eqb r.agent.0 a other) in
     omega arith)
 
@@ -122,7 +122,7 @@ stays sent r none (x ∷ xs) all = (
 )
 
 pub begins : OneEach [] (opener 0 ∷ [])
-begins = keeps [] (opener 0 ∷ []) (λ _. None) [] 0 (λ a. let few : one (nat_le 0 a) ≤ 1 = one_le (nat_le 0 a) in omega arith) (λ a. refl) tt tt only
+begins = keeps [] (opener 0 ∷ []) (λ _. None) [] 0 (λ a. let few : one_if (nat_le 0 a) ≤ 1 = one_le (nat_le 0 a) in omega arith) (λ a. refl) tt tt only
   where
     only : (j : ℕ) (u : ReportView) → get_elem? (opener 0 ∷ []) j ≡ some u → Fits (λ _. None) [] 0 j u
     only zero u e = subst (Fits (λ _. None) [] 0 0) (some-injective (opener 0) u e) ((λ _. (refl, refl)), tt)
@@ -131,11 +131,11 @@ begins = keeps [] (opener 0 ∷ []) (λ _. None) [] 0 (λ a. let few : one (nat_
 pub sends : (n pass : ℕ) (v : ReportView) (r : Report) → v ≡ sender_view r.agent.0 → Pushes OneEach n pass v r (λ w. w ≡ teller_view r)
 sends n pass v r is items views room holds at =
     let w : ReportView = teller_view r in
-    let own : (a : ℕ) → may_tell a v ≡ one (r.agent.0 == a) + 0 = λ a. ap (may_tell a) is in
+    let own : (a : ℕ) → may_tell a v ≡ one_if (r.agent.0 == a) + 0 = λ a. ap (may_tell a) is in
     let unsent : holds.sent r.agent.0 ≡ None = none_there (holds.sent r.agent.0)
     (let kept = total_set r.agent.0 views pass v w at in
     let mine = own r.agent.0 in
-    let here : one (r.agent.0 == r.agent.0) ≡ 1 = ap one (eq-eqb r.agent.0 r.agent.0 refl) in
+    let here : one_if (r.agent.0 == r.agent.0) ≡ 1 = ap one_if (eq-eqb r.agent.0 r.agent.0 refl) in
     let none : may_tell r.agent.0 w ≡ 0 = refl in
     let few = holds.one r.agent.0 in
     omega arith) in
@@ -163,11 +163,11 @@ sends n pass v r is items views room holds at =
     )
 
 -- a report that was sent is the one that is told
-as_told : (sent : ℕ → Option Report) (a : ℕ) (told : List Report) (t : Report) → AreSent sent told → first_of a told ≡ Some t → sent a ≡ Some t
+as_told : (sent : ℕ → Option Report) (a : ℕ) (told : List Report) (t : Report) → AreSent sent told → first_report a told ≡ Some t → sent a ≡ Some t
 as_told sent a [] t all e = absurd (none_some t None refl e)
 as_told sent a (x ∷ xs) t all e = dite (ℕ_discrete x.agent.0 a)
-    (λ same. subst (λ (k : ℕ). sent k ≡ Some x) same all.0 ∙ (sym (ap (λ (b : Bool). if b then Some x else first_of a xs) (eq-eqb x.agent.0 a same)) ∙ e))
-    (λ other. as_told sent a xs t all.1 (sym (ap (λ (b : Bool). if b then Some x else first_of a xs) (ne_eqb x.agent.0 a other)) ∙ e))
+    (λ same. subst (λ (k : ℕ). sent k ≡ Some x) same all.0 ∙ (sym (ap (λ (b : Bool). if b then Some x else first_report a xs) (eq-eqb x.agent.0 a same)) ∙ e))
+    (λ other. as_told sent a xs t all.1 (sym (ap (λ (b : Bool). if b then Some x else first_report a xs) (ne_eqb x.agent.0 a other)) ∙ e))
 
 some_same : (x y : Report) → Some x ≡ Some y → x ≡ y
 some_same x y e = ap (value_or x) e
@@ -189,7 +189,7 @@ receives pass v opens x items views holds at =
           let few = holds.one a in
           omega arith)
           (λ a.
-          let before : (one (x.agent.0 == a) + times a items) + times a holds.got ≡ there (holds.sent a) = holds.each a in
+          let before : (one_if (x.agent.0 == a) + times a items) + times a holds.got ≡ there (holds.sent a) = holds.each a in
           let more = times_snoc a holds.got x in
           omega arith)
           holds.queued.1
@@ -204,12 +204,12 @@ receives pass v opens x items views holds at =
     )
 
 -- where the agent's reports in the list are one, its first one is that which it sent
-first_sent : (sent : ℕ → Option Report) (a : ℕ) (got : List Report) (t : Report) → AreSent sent got → times a got ≡ 1 → sent a ≡ Some t → first_of a got ≡ Some t
+first_sent : (sent : ℕ → Option Report) (a : ℕ) (got : List Report) (t : Report) → AreSent sent got → times a got ≡ 1 → sent a ≡ Some t → first_report a got ≡ Some t
 first_sent sent a [] t all count is = absurd (omega (arith, count))
 first_sent sent a (x ∷ xs) t all count is = dite (ℕ_discrete x.agent.0 a)
-    (λ same. ap (λ (b : Bool). if b then Some x else first_of a xs) (eq-eqb x.agent.0 a same) ∙ (sym (subst (λ (k : ℕ). sent k ≡ Some x) same all.0) ∙ is))
-    (λ other. ap (λ (b : Bool). if b then Some x else first_of a xs) (ne_eqb x.agent.0 a other)
-    ∙ first_sent sent a xs t all.1 (let none : one (x.agent.0 == a) ≡ 0 = ap one (ne_eqb x.agent.0 a other) in omega (arith, count)) is)
+    (λ same. ap (λ (b : Bool). if b then Some x else first_report a xs) (eq-eqb x.agent.0 a same) ∙ (sym (subst (λ (k : ℕ). sent k ≡ Some x) same all.0) ∙ is))
+    (λ other. ap (λ (b : Bool). if b then Some x else first_report a xs) (ne_eqb x.agent.0 a other)
+    ∙ first_sent sent a xs t all.1 (let none : one_if (x.agent.0 == a) ≡ 0 = ap one_if (ne_eqb x.agent.0 a other) in omega (arith, count)) is)
 
 none_of : (a : ℕ) (items : List Report) → length items ≡ 0 → times a items ≡ 0
 none_of a [] empty = refl

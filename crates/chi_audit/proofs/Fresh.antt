@@ -5,7 +5,7 @@ use Rattle.std.proofs.lemmas.List.Elements.{All-append}
 use Rattle.std.proofs.lemmas.List.{length-append, map-append}
 use Rattle.atomic_table.specs.Seated.{TableId}
 use Rattle.chi_audit.specs.Numbers.{numbers}
-use Rattle.chi_audit.specs.Tallies.{WriterState, ReaderState, agent_of, cell_of, unread, IsFresh}
+use Rattle.chi_audit.specs.Tallies.{WriterState, ReaderState, writer_agent, reader_cell, unread, IsFresh}
 
 get_front : (cells rest : List TableId) (k : ℕ) (cell : TableId) → slice_get cells k ≡ Some cell → slice_get (cells ++ rest) k ≡ Some cell
 get_front [] rest k cell e = absurd (cc)
@@ -31,17 +31,17 @@ fresh_added cells ws n cell is all = All-append (IsFresh (cells ++ cell ∷ []))
 -- one more cell, with its writer and its reader
 pub opened_more : (cells cells' : List TableId) (cell : TableId) (ws ws' : List WriterState) (rs rs' : List ReaderState) (n : ℕ)
     → cells' ≡ cells ++ cell ∷ [] → ws' ≡ ws ++ record { agent = n; cell = cell; stored = [] } ∷ [] → rs' ≡ rs ++ unread cell ∷ []
-    → length cells ≡ n → All (IsFresh cells) ws → map agent_of ws ≡ numbers n → rs ≡ map unread cells
-    → (length cells' ≡ n + 1) × All (IsFresh cells') ws' × (map agent_of ws' ≡ numbers (n + 1)) × (rs' ≡ map unread cells')
+    → length cells ≡ n → All (IsFresh cells) ws → map writer_agent ws ≡ numbers n → rs ≡ map unread cells
+    → (length cells' ≡ n + 1) × All (IsFresh cells') ws' × (map writer_agent ws' ≡ numbers (n + 1)) × (rs' ≡ map unread cells')
 opened_more cells cells' cell ws ws' rs rs' n isc isw isr long fresh agents unreads =
     let next : suc n ≡ n + 1 = omega arith in (
       ap length isc ∙ (length-append cells (cell ∷ []) ∙ ap (λ (k : ℕ). k + 1) long),
       subst (λ (cs : List TableId). All (IsFresh cs) ws') (sym isc) (subst (All (IsFresh (cells ++ cell ∷ []))) (sym isw) (fresh_added cells ws n cell long fresh)),
-      ap (map agent_of) isw ∙ (map-append agent_of ws _ ∙ (ap (λ (ks : List ℕ). ks ++ n ∷ []) agents ∙ ap numbers next)),
+      ap (map writer_agent) isw ∙ (map-append writer_agent ws _ ∙ (ap (λ (ks : List ℕ). ks ++ n ∷ []) agents ∙ ap numbers next)),
       isr ∙ (ap (λ (ys : List ReaderState). ys ++ unread cell ∷ []) unreads ∙ (sym (map-append unread cells (cell ∷ [])) ∙ ap (map unread) (sym isc))),
     )
 
 -- the cells of readers that read nothing
-pub cells_unread : (cells : List TableId) → map cell_of (map unread cells) ≡ cells
+pub cells_unread : (cells : List TableId) → map reader_cell (map unread cells) ≡ cells
 cells_unread [] = refl
 cells_unread (x ∷ xs) = ap (λ ys. x ∷ ys) (cells_unread xs)

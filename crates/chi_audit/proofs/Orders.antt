@@ -1,7 +1,7 @@
 -- Rising lists of tallies.
 use Rattle.std.proofs.Common.{◌≡◌, List, [], ◌∷◌, ◌++◌, refl, sym, subst, le_refl, le_trans, append-nil}
 use Rattle.chi_audit.specs.declared.tally.Tally.{Tally}
-use Rattle.chi_audit.specs.Tally.{opening_tally, NotAbove, last_after, last_of, RisesAfter, Rises, IsBeginning}
+use Rattle.chi_audit.specs.Tally.{opening_tally, NotAbove, last_after, last_tally, RisesAfter, Rises, IsBeginning}
 
 not_above_same : (t : Tally) → NotAbove t t
 not_above_same t = record { turns = le_refl _; loads = le_refl _; stores = le_refl _ }
@@ -13,14 +13,14 @@ last_added_after : (s : Tally) (ts : List Tally) (t : Tally) → last_after s (t
 last_added_after s [] t = refl
 last_added_after s (u ∷ us) t = last_added_after u us t
 
-pub last_added : (ts : List Tally) (t : Tally) → last_of (ts ++ t ∷ []) ≡ t
+pub last_added : (ts : List Tally) (t : Tally) → last_tally (ts ++ t ∷ []) ≡ t
 last_added ts t = last_added_after opening_tally ts t
 
 rises_added_after : (s : Tally) (ts : List Tally) (t : Tally) → RisesAfter s ts → NotAbove (last_after s ts) t → RisesAfter s (ts ++ t ∷ [])
 rises_added_after s [] t rises later = (later, tt)
 rises_added_after s (u ∷ us) t rises later = (rises.0, rises_added_after u us t rises.1 later)
 
-pub rises_added : (ts : List Tally) (t : Tally) → Rises ts → NotAbove (last_of ts) t → Rises (ts ++ t ∷ [])
+pub rises_added : (ts : List Tally) (t : Tally) → Rises ts → NotAbove (last_tally ts) t → Rises (ts ++ t ∷ [])
 rises_added ts t rises later = rises_added_after opening_tally ts t rises later
 
 first_not_above : (s : Tally) (ts : List Tally) → RisesAfter s ts → NotAbove s (last_after s ts)
@@ -35,6 +35,6 @@ pub begins_whole : (ts : List Tally) → IsBeginning ts ts
 begins_whole ts = ([], sym (append-nil ts))
 
 -- the last tally of a beginning is not above that of the whole
-pub beginning_not_above : (front whole : List Tally) → IsBeginning front whole → Rises whole → NotAbove (last_of front) (last_of whole)
-beginning_not_above front whole begins rises = subst (λ (ts : List Tally). NotAbove (last_of front) (last_of ts)) (sym begins.1)
+pub beginning_not_above : (front whole : List Tally) → IsBeginning front whole → Rises whole → NotAbove (last_tally front) (last_tally whole)
+beginning_not_above front whole begins rises = subst (λ (ts : List Tally). NotAbove (last_tally front) (last_tally ts)) (sym begins.1)
     (longer_not_above opening_tally front begins.0 (subst Rises begins.1 rises))

@@ -25,13 +25,13 @@ abbrev pub spent_view : ReportView
 spent_view = record { opens = false; sends = false; from = 0; got = []; told = [] }
 
 -- 1 where it is so
-abbrev pub one : Bool → ℕ
-one b = if b then 1 else 0
+abbrev pub one_if : Bool → ℕ
+one_if b = if b then 1 else 0
 
 -- how many reports of the agent are in the list
 abbrev pub times : ℕ → List Report → ℕ
 times a [] = 0
-times a (r ∷ rs) = one (r.agent.0 == a) + times a rs
+times a (r ∷ rs) = one_if (r.agent.0 == a) + times a rs
 
 -- 1 where there is one
 abbrev pub there : Option Report → ℕ
@@ -40,12 +40,12 @@ there (Some r) = 1
 
 -- 1 where the pass may still send the agent's report or open its outbox
 abbrev pub may_tell : ℕ → ReportView → ℕ
-may_tell a v = one (v.sends && (v.from == a)) + one (v.opens && nat_le v.from a)
+may_tell a v = one_if (v.sends && (v.from == a)) + one_if (v.opens && nat_le v.from a)
 
 -- the same of all passes
-abbrev pub total : ℕ → List ReportView → ℕ
-total a [] = 0
-total a (v ∷ vs) = may_tell a v + total a vs
+abbrev pub report_total : ℕ → List ReportView → ℕ
+report_total a [] = 0
+report_total a (v ∷ vs) = may_tell a v + report_total a vs
 
 -- each report of the list is the one that its agent sent
 abbrev pub AreSent : (ℕ → Option Report) → List Report → Type 0
@@ -58,7 +58,7 @@ pub record OneEach (items : List Report) (views : List ReportView) : Type 0 wher
   pub sent : ℕ → Option Report
   pub got : List Report
   pub seat : ℕ
-  pub one : (a : ℕ) → total a views + there (sent a) ≤ 1
+  pub one_if : (a : ℕ) → report_total a views + there (sent a) ≤ 1
   pub each : (a : ℕ) → times a items + times a got ≡ there (sent a)
   pub queued : AreSent sent items
   pub received : AreSent sent got
@@ -67,17 +67,17 @@ pub record OneEach (items : List Report) (views : List ReportView) : Type 0 wher
   pub known : (pass : ℕ) (v : ReportView) → get_elem? views pass ≡ some v → AreSent sent v.told
 
 -- the first report of the agent
-abbrev pub first_of : ℕ → List Report → Option Report
-first_of a [] = None
-first_of a (r ∷ rs) = if r.agent.0 == a then Some r else first_of a rs
+abbrev pub first_report : ℕ → List Report → Option Report
+first_report a [] = None
+first_report a (r ∷ rs) = if r.agent.0 == a then Some r else first_report a rs
 
 -- where a report of the agent is told, it is this one
 abbrev pub IsAsTold : List Report → Report → Type 0
-IsAsTold told r = (t : Report) → first_of r.agent.0 told ≡ Some t → r ≡ t
+IsAsTold told r = (t : Report) → first_report r.agent.0 told ≡ Some t → r ≡ t
 
 -- each report that is told was received
 abbrev pub AreReceived : List Report → List Report → Type 0
-AreReceived told got = (a : ℕ) (t : Report) → first_of a told ≡ Some t → first_of a got ≡ Some t
+AreReceived told got = (a : ℕ) (t : Report) → first_report a told ≡ Some t → first_report a got ≡ Some t
 
 -- the report was received, as it was told
 pub record IsTaken (v : ReportView) (r : Report) (w : ReportView) : Type 0 where

@@ -2,7 +2,7 @@
 use Rattle.std.specs.Prelude.{◌≡◌, ◌≢◌, ℕ, zero, suc, List, [], ◌∷◌, Some, map, slice_get}
 use Rattle.atomic_table.specs.Seated.{TableId}
 use Rattle.chi_audit.specs.declared.tally.Tally.{Tally}
-use Rattle.chi_audit.specs.Tally.{last_of, NotAbove, Rises, IsBeginning}
+use Rattle.chi_audit.specs.Tally.{last_tally, NotAbove, Rises, IsBeginning}
 
 -- an agent, its cell, and the tallies stored there, the oldest first
 pub record WriterState : Type 0 where
@@ -15,21 +15,21 @@ pub record ReaderState : Type 0 where
   pub cell : TableId
   pub seen : List Tally
 
-abbrev pub agent_of : WriterState → ℕ
-agent_of w = w.agent
+abbrev pub writer_agent : WriterState → ℕ
+writer_agent w = w.agent
 
-abbrev pub cell_of : ReaderState → TableId
-cell_of r = r.cell
+abbrev pub reader_cell : ReaderState → TableId
+reader_cell r = r.cell
 
 -- a reader of the cell, which read nothing
 abbrev pub unread : TableId → ReaderState
 unread cell = record { cell = cell; seen = [] }
 
 -- what the readers know to have been stored in the n-th cell
-abbrev pub seen_of : List ReaderState → ℕ → List Tally
-seen_of [] n = []
-seen_of (r ∷ rs) zero = r.seen
-seen_of (r ∷ rs) (suc n) = seen_of rs n
+abbrev pub tallies_seen : List ReaderState → ℕ → List Tally
+tallies_seen [] n = []
+tallies_seen (r ∷ rs) zero = r.seen
+tallies_seen (r ∷ rs) (suc n) = tallies_seen rs n
 
 -- a writer of its agent's cell, which stored nothing
 pub record IsFresh (cells : List TableId) (w : WriterState) : Type 0 where
@@ -41,15 +41,15 @@ pub record IsReadBy (r r' : ReaderState) (tally : Tally) : Type 0 where
   pub same : r'.cell ≡ r.cell
   pub longer : IsBeginning r.seen r'.seen
   pub rising : Rises r'.seen
-  pub last : tally ≡ last_of r'.seen
-  pub later : NotAbove (last_of r.seen) tally
+  pub last : tally ≡ last_tally r'.seen
+  pub later : NotAbove (last_tally r.seen) tally
 
 -- the n-th reader read this tally: it is the opening one or the last stored by then, no number of it is below
 -- one read there before, and what the others know stays
 pub record IsRead (rs rs' : List ReaderState) (n : ℕ) (tally : Tally) : Type 0 where
-  pub last : tally ≡ last_of (seen_of rs' n)
-  pub longer : IsBeginning (seen_of rs n) (seen_of rs' n)
-  pub rising : Rises (seen_of rs' n)
-  pub later : NotAbove (last_of (seen_of rs n)) tally
+  pub last : tally ≡ last_tally (tallies_seen rs' n)
+  pub longer : IsBeginning (tallies_seen rs n) (tallies_seen rs' n)
+  pub rising : Rises (tallies_seen rs' n)
+  pub later : NotAbove (last_tally (tallies_seen rs n)) tally
   pub others : (m : ℕ) → m ≢ n → slice_get rs' m ≡ slice_get rs m
-  pub cells : map cell_of rs' ≡ map cell_of rs
+  pub cells : map reader_cell rs' ≡ map reader_cell rs

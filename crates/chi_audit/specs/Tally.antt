@@ -18,8 +18,8 @@ last_after t [] = t
 last_after t (u ∷ us) = last_after u us
 
 -- the last tally, or the opening one where none was stored
-abbrev pub last_of : List Tally → Tally
-last_of ts = last_after opening_tally ts
+abbrev pub last_tally : List Tally → Tally
+last_tally ts = last_after opening_tally ts
 
 -- from t on no number goes back
 abbrev pub RisesAfter : Tally → List Tally → Type 0

@@ -3,7 +3,7 @@
 ghost use Rattle.std.specs.Prelude.{◌≡◌, [], IfOk, true};
 ghost use Rattle.crossbeam_utils.specs.Seq.{cell_view};
 ghost use Rattle.chi_audit.specs.Cells.{writer_view, tally_of, watcher_view, IsSeen, IsTold};
-ghost use Rattle.chi_audit.specs.Tally.{last_of, NotAbove};
+ghost use Rattle.chi_audit.specs.Tally.{last_tally, NotAbove};
 
 use crate::rising::{CellPass, Reads, Stores, Watches, Words};
 use crate::tally::Tally;
@@ -13,11 +13,11 @@ use std::sync::Wait;
 
 /// The three numbers of a tally, stored and read whole. Contracts see which cell it is.
 #[derive(Drop)]
-pub(crate) struct Cell {
+pub(crate) struct TallyCell {
     words: Words,
 }
 
-impl Model for Cell {
+impl Model for TallyCell {
     ghost use Rattle.atomic_table.specs.Seated.{TableId};
 
     ghost Value = { TableId };
@@ -32,14 +32,14 @@ fn words_of(tally: Tally) -> [u64; 3]
     [tally.turns, tally.loads, tally.stores]
 }
 
-impl Cell {
+impl TallyCell {
     /// A cell with the opening tally, and the pass that stores.
-    pub(crate) fn open(alloc: Global) -> Result<(Cell, CellPass), AllocError>
+    pub(crate) fn open(alloc: Global) -> Result<(TallyCell, CellPass), AllocError>
         ensures cell { IfOk result (λ made. made.1.table_id ≡ made.0) }
         ensures view { IfOk result (λ made. cell_view made.1 ≡ writer_view []) }
     {
         let (words, pass) = Words::ruled(alloc, [0; 3])?;
-        Ok((Cell { words }, pass))
+        Ok((TallyCell { words }, pass))
     }
 
     /// A pass that reads, and knows what the lent one knows.
@@ -57,7 +57,7 @@ impl Cell {
     pub(crate) fn store<R: Wait>(&self, rt: &R, pass: &mut CellPass, tally: Tally)
         requires cell { pass.old.table_id ≡ self.now }
         requires writes { (cell_view pass.old).writes ≡ true }
-        requires later { NotAbove (last_of (cell_view pass.old).seen) tally }
+        requires later { NotAbove (last_tally (cell_view pass.old).seen) tally }
         ensures cell { pass.new.table_id ≡ pass.old.table_id }
         ensures told { IsTold (cell_view pass.old) tally (cell_view pass.new) }
     {

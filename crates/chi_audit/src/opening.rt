@@ -2,9 +2,9 @@
 
 ghost use Rattle.std.specs.Prelude.{◌≡◌, [], All, IfOk, length, map};
 ghost use Rattle.chi_audit.specs.Numbers.{numbers};
-ghost use Rattle.chi_audit.specs.Tallies.{agent_of, cell_of, unread, IsFresh};
+ghost use Rattle.chi_audit.specs.Tallies.{writer_agent, reader_cell, unread, IsFresh};
 
-use crate::cell::Cell;
+use crate::cell::TallyCell;
 use crate::cells::Tallies;
 use crate::tally::Tally;
 use crate::watcher::{Reader, Watcher};
@@ -18,9 +18,9 @@ use std::alloc::Global;
 pub fn tallies(alloc: Global, agents: u8) -> Result<(Tallies, Vec<Writer>, Watcher), NoMemory>
     ensures cells { IfOk result (λ made. length made.0 ≡ agents) }
     ensures writers { IfOk result (λ made. All (IsFresh made.0) made.1.items) }
-    ensures agents { IfOk result (λ made. map agent_of made.1.items ≡ numbers agents) }
+    ensures agents { IfOk result (λ made. map writer_agent made.1.items ≡ numbers agents) }
     ensures watcher { IfOk result (λ made. made.2 ≡ map unread made.0) }
-    ensures watched { IfOk result (λ made. map cell_of made.2 ≡ made.0) }
+    ensures watched { IfOk result (λ made. map reader_cell made.2 ≡ made.0) }
 {
     let mut cells = Vec::new(alloc);
     let mut writers = Vec::new(alloc);
@@ -35,12 +35,12 @@ pub fn tallies(alloc: Global, agents: u8) -> Result<(Tallies, Vec<Writer>, Watch
 }
 
 // A cell with the opening tally, with its writer and its reader.
-fn open_cell(alloc: Global, agent: Agent) -> Result<(Cell, Writer, Reader), NoMemory>
+fn open_cell(alloc: Global, agent: Agent) -> Result<(TallyCell, Writer, Reader), NoMemory>
     ensures writer { IfOk result
         (λ made. made.1 ≡ record { agent = agent.0; cell = made.0; stored = [] }) }
     ensures reader { IfOk result (λ made. made.2 ≡ unread made.0) }
 {
-    let (cell, mut pass) = Cell::open(alloc)?;
+    let (cell, mut pass) = TallyCell::open(alloc)?;
     let reader = Reader {
         pass: cell.watch(&mut pass),
     };

@@ -11,9 +11,9 @@ pub struct Rising;
 
 impl Protocol<[u64; 3], TallyView> for Rising {
     ghost use Rattle.std.specs.Prelude.{[]};
-    ghost use Rattle.chi_audit.specs.Cells.{writer_view, Kept};
+    ghost use Rattle.chi_audit.specs.Cells.{writer_view, CellKept};
 
-    ghost holds = { Kept };
+    ghost holds = { CellKept };
 
     ghost first = { writer_view [] };
 }
@@ -21,7 +21,7 @@ impl Protocol<[u64; 3], TallyView> for Rising {
 impl Rising {
     ghost use Rattle.std.specs.Prelude.{ℕ, List};
     ghost use Rattle.chi_audit.specs.declared.tally_view.TallyView.{TallyView};
-    ghost use Rattle.chi_audit.specs.Cells.{Kept, AreBeginnings};
+    ghost use Rattle.chi_audit.specs.Cells.{CellKept, AreBeginnings};
 
     /// Whatever the steps of any threads were: what any pass of a cell knows, and so whatever was read by whom,
     /// is a beginning of what the cell's agent stored, and the cell shows the last that it stored. Does
@@ -29,7 +29,7 @@ impl Rising {
     /// Source: `docs/FORMATS.md`, "Reports and tallies".
     pub fn beginnings()
         ensures { (words : List ℕ) (views : List TallyView)
-            → Kept words views → AreBeginnings words views }
+            → CellKept words views → AreBeginnings words views }
     {}
 }
 

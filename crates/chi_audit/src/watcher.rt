@@ -1,9 +1,9 @@
 //! Who reads the tallies of all agents.
 
 ghost use Rattle.std.specs.Prelude.{◌≡◌, ◌<◌, length, map};
-ghost use Rattle.chi_audit.specs.Tallies.{cell_of, IsRead, IsReadBy};
+ghost use Rattle.chi_audit.specs.Tallies.{reader_cell, IsRead, IsReadBy};
 
-use crate::cell::Cell;
+use crate::cell::TallyCell;
 use crate::cells::Tallies;
 use crate::rising::CellPass;
 use crate::tally::Tally;
@@ -28,7 +28,7 @@ impl Model for Reader {
 
 impl Reader {
     // Reads the cell.
-    fn read<R: Wait>(&mut self, rt: &R, cell: &Cell) -> Tally
+    fn read<R: Wait>(&mut self, rt: &R, cell: &TallyCell) -> Tally
         requires { self.old.cell ≡ cell.now }
         ensures { IsReadBy self.old self.new result }
     {
@@ -58,7 +58,7 @@ impl Watcher {
     /// store comes between its looks it waits until it has the cell for itself.
     /// Source: `docs/FORMATS.md`, "Reports and tallies".
     pub fn read<R: Wait>(&mut self, rt: &R, tallies: &Tallies, agent: Agent) -> Tally
-        requires cells { map cell_of self.old ≡ tallies.now }
+        requires cells { map reader_cell self.old ≡ tallies.now }
         requires agent { agent.0 < length tallies.now }
         ensures { IsRead self.old self.new agent.0 result }
     {

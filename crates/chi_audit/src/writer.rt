@@ -1,9 +1,9 @@
 //! Who stores the tallies of an agent.
 
 ghost use Rattle.std.specs.Prelude.{◌≡◌, [], ◌∷◌, ◌++◌};
-ghost use Rattle.chi_audit.specs.Tally.{last_of, NotAbove};
+ghost use Rattle.chi_audit.specs.Tally.{last_tally, NotAbove};
 
-use crate::cell::Cell;
+use crate::cell::TallyCell;
 use crate::rising::CellPass;
 use crate::tally::Tally;
 use chi_flit::Agent;
@@ -22,7 +22,7 @@ pub struct Writer {
 impl Model for Writer {
     ghost use Rattle.std.specs.Prelude.{◌≡◌, true};
     ghost use Rattle.crossbeam_utils.specs.Seq.{cell_view};
-    ghost use Rattle.chi_audit.specs.Tally.{last_of};
+    ghost use Rattle.chi_audit.specs.Tally.{last_tally};
     ghost use Rattle.chi_audit.specs.Tallies.{WriterState};
 
     ghost Value = { WriterState };
@@ -34,7 +34,7 @@ impl Model for Writer {
     } };
 
     ghost invariant = { λ w. ((cell_view w.pass).writes ≡ true)
-        × (last_of (cell_view w.pass).seen ≡ w.last) };
+        × (last_tally (cell_view w.pass).seen ≡ w.last) };
 }
 
 impl Writer {
@@ -47,15 +47,15 @@ impl Writer {
 
     /// The tally that was stored last, or the opening one.
     pub fn last(&self) -> Tally
-        ensures { result ≡ last_of self.now.stored }
+        ensures { result ≡ last_tally self.now.stored }
     {
         self.last
     }
 
     // Stores a tally in the writer's cell.
-    pub(crate) fn store<R: Wait>(&mut self, rt: &R, cell: &Cell, tally: Tally)
+    pub(crate) fn store<R: Wait>(&mut self, rt: &R, cell: &TallyCell, tally: Tally)
         requires cell { self.old.cell ≡ cell.now }
-        requires later { NotAbove (last_of self.old.stored) tally }
+        requires later { NotAbove (last_tally self.old.stored) tally }
         ensures { self.new ≡ record self.old { stored = self.old.stored ++ tally ∷ [] } }
     {
         cell.store(rt, &mut self.pass, tally);

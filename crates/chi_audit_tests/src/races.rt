@@ -1,7 +1,7 @@
 //! A tally that is read while another thread stores it.
 
 ghost use Rattle.std.specs.Prelude.{◌≡◌, ◌<◌, length, map};
-ghost use Rattle.chi_audit.specs.Tallies.{cell_of, IsFresh};
+ghost use Rattle.chi_audit.specs.Tallies.{reader_cell, IsFresh};
 
 use crate::tellers::{Teller, tally};
 use chi_audit::{Tallies, Tally, Watcher, Writer};
@@ -47,7 +47,7 @@ fn after(sight: Sight, last: Tally, next: Tally) -> Sight {
 
 /// Reads until it saw enough new tallies.
 fn reads<R: Wait>(rt: &R, tallies: &Tallies, mut watcher: Watcher, seen: &AtomicU64) -> Sight
-    requires cells { map cell_of watcher ≡ tallies.now }
+    requires cells { map reader_cell watcher ≡ tallies.now }
     requires some { 0 < length tallies.now }
 {
     let mut sight = Sight { new: 0, torn: 0 };
@@ -72,7 +72,7 @@ fn race<R: Threads + Wait + Abort + Sync>(
     watcher: Watcher,
 ) -> Sight
     requires fresh { IsFresh tallies.now writer }
-    requires cells { map cell_of watcher ≡ tallies.now }
+    requires cells { map reader_cell watcher ≡ tallies.now }
     requires some { 0 < length tallies.now }
 {
     let count = AtomicU64::new(0);
@@ -83,7 +83,7 @@ fn race<R: Threads + Wait + Abort + Sync>(
             requires { IsFresh tallies.now writer }
         { stores(rt, tallies, writer, seen) },
         move || -> Sight
-            requires cells { map cell_of watcher ≡ tallies.now }
+            requires cells { map reader_cell watcher ≡ tallies.now }
             requires some { 0 < length tallies.now }
         { reads(rt, tallies, watcher, seen) },
     );

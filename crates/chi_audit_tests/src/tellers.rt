@@ -1,7 +1,7 @@
 //! Tallies that are stored and read on one thread.
 
 ghost use Rattle.std.specs.Prelude.{◌≡◌, ◌<◌, All, Some, length, map, slice_get};
-ghost use Rattle.chi_audit.specs.Tallies.{cell_of, IsFresh};
+ghost use Rattle.chi_audit.specs.Tallies.{reader_cell, IsFresh};
 
 use chi_audit::{Tallies, Tally, Watcher, Writer};
 use chi_flit::{Agent, NoMemory};
@@ -61,7 +61,7 @@ struct Onlooker<'t> {
     tallies: &'t Tallies,
     watcher: Watcher,
     agents: u8,
-    ghost watched: { map cell_of watcher ≡ tallies.now },
+    ghost watched: { map reader_cell watcher ≡ tallies.now },
     ghost count: { length tallies.now ≡ agents },
 }
 

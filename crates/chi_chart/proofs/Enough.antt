@@ -15,11 +15,11 @@ use Rattle.chi_chart.specs.declared.frame.Layout.{Layout}
 use Rattle.chi_chart.specs.Charts.{IsChart, IsChartOf, IsLayout}
 use Rattle.chi_chart.specs.Picture.{svg_of}
 use Rattle.chi_chart.specs.Played.{IsRun}
-use Rattle.chi_chart.specs.Rows.{Row, bottom_of, top}
+use Rattle.chi_chart.specs.Rows.{ChartRow, bottom_of, top}
 use Rattle.chi_replay.specs.Checks.{commands_in}
 
 -- the rows of a run of the commands, drawn, are the chart
-chart_of_run : (header : Header) (config : Sizes) (checks : List CheckLine) (commands lent : List Command) (only : Option Line) (rows lent_rows : List Row) (bottom : ℕ) (layout : Layout) (bytes : List ℕ)
+chart_of_run : (header : Header) (config : Sizes) (checks : List CheckLine) (commands lent : List Command) (only : Option Line) (rows lent_rows : List ChartRow) (bottom : ℕ) (layout : Layout) (bytes : List ℕ)
     → config ≡ node_sizes header → commands ≡ commands_in checks → lent ≡ commands → IsRun config lent only rows bottom → lent_rows ≡ rows → IsLayout header layout → bytes ≡ svg_of layout bottom lent_rows
     → IsChart header checks only bytes
 chart_of_run header config checks commands lent only rows lent_rows bottom layout bytes sizes are same run same_rows laid drawn =
@@ -29,11 +29,11 @@ chart_of_run header config checks commands lent only rows lent_rows bottom layou
       allowed = runs.rows_are.allowed;
       layout = layout;
       sizes = laid;
-      same = drawn ∙ (ap (svg_of layout bottom) same_rows ∙ (ap (λ (y : ℕ). svg_of layout y rows) runs.ends ∙ ap (λ (all : List Row). svg_of layout (bottom_of top all) all) runs.rows_are.same));
+      same = drawn ∙ (ap (svg_of layout bottom) same_rows ∙ (ap (λ (y : ℕ). svg_of layout y rows) runs.ends ∙ ap (λ (all : List ChartRow). svg_of layout (bottom_of top all) all) runs.rows_are.same));
     }
 
 pub chart_if_drawn : {T : Type 0} (bytes_of : T → List ℕ) (result : Result T NoMemory) (header : Header) (config : Sizes) (checks : List CheckLine) (commands lent : List Command) (only : Option Line)
-    (rows lent_rows : List Row) (bottom : ℕ) (layout : Layout) → config ≡ node_sizes header → commands ≡ commands_in checks → lent ≡ commands → IsRun config lent only rows bottom → lent_rows ≡ rows → IsLayout header layout
+    (rows lent_rows : List ChartRow) (bottom : ℕ) (layout : Layout) → config ≡ node_sizes header → commands ≡ commands_in checks → lent ≡ commands → IsRun config lent only rows bottom → lent_rows ≡ rows → IsLayout header layout
     → IfOk result (λ text. bytes_of text ≡ svg_of layout bottom lent_rows) → IfOk result (λ text. IsChart header checks only (bytes_of text))
 chart_if_drawn bytes_of (Ok text) header config checks commands lent only rows lent_rows bottom layout sizes are same run same_rows laid drawn =
     chart_of_run header config checks commands lent only rows lent_rows bottom layout (bytes_of text) sizes are same run same_rows laid drawn

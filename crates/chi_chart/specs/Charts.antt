@@ -6,18 +6,18 @@ use Rattle.chi_flit.specs.declared.numbers.Line.{Line}
 use Rattle.chi_script.specs.Headers.{node_sizes}
 use Rattle.chi_script.specs.declared.headers.Header.{Header}
 use Rattle.chi_replay.specs.Texts.{Allowed, opening_ports}
-use Rattle.chi_replay.specs.Turns.{Answer, opening}
+use Rattle.chi_replay.specs.Turns.{Answer, machine_at_start}
 use Rattle.chi_script.specs.Checks.{CheckLine}
 use Rattle.chi_script.specs.CheckFiles.{check_file_of}
 use Rattle.chi_chart.specs.declared.frame.Layout.{Layout}
 use Rattle.chi_chart.specs.Picture.{svg_of}
-use Rattle.chi_chart.specs.Rows.{Row, bottom_of, rows_of, top}
+use Rattle.chi_chart.specs.Rows.{ChartRow, bottom_of, rows_of, top}
 use Rattle.chi_chart.specs.Steps.{steps_of}
 use Rattle.chi_replay.specs.Checks.{commands_in}
 
 -- the rows of the commands of a header and checks, where the tracker answers so
-abbrev pub rows_in : Header → List CheckLine → Option Line → List Answer → List Row
-rows_in header checks only tracked = rows_of only top (steps_of (opening (node_sizes header)) (commands_in checks) tracked)
+abbrev pub rows_in : Header → List CheckLine → Option Line → List Answer → List ChartRow
+rows_in header checks only tracked = rows_of only top (steps_of (machine_at_start (node_sizes header)) (commands_in checks) tracked)
 
 -- the layout of a node of the header's size
 pub record IsLayout (header : Header) (layout : Layout) : Type 0 where
@@ -28,7 +28,7 @@ pub record IsLayout (header : Header) (layout : Layout) : Type 0 where
 -- the bytes are the chart of the steps of the commands, under answers that the tracker may give
 pub record IsChart (header : Header) (checks : List CheckLine) (only : Option Line) (bytes : List ℕ) : Type 0 where
   pub answers : List Answer
-  pub allowed : Allowed (opening (node_sizes header)) (opening_ports (node_sizes header)) (commands_in checks) answers
+  pub allowed : Allowed (machine_at_start (node_sizes header)) (opening_ports (node_sizes header)) (commands_in checks) answers
   pub layout : Layout
   pub sizes : IsLayout header layout
   pub same : bytes ≡ svg_of layout (bottom_of top (rows_in header checks only answers)) (rows_in header checks only answers)

@@ -1,7 +1,7 @@
 -- Where the parts of a chart stand, in pixels from its left edge (docs/FORMATS.md, "Charts").
 use Rattle.std.specs.Prelude.{ℕ, ◌+◌, ◌-◌, ◌*◌, ◌/◌, ◌%◌}
 use Rattle.chi_chart.specs.declared.frame.Layout.{Layout}
-use Rattle.chi_chart.specs.declared.marks.Cell.{Cell}
+use Rattle.chi_chart.specs.declared.marks.ChannelCell.{ChannelCell}
 use Rattle.chi_chart.specs.Marks.{channel_place}
 
 -- the lifeline of an agent
@@ -16,7 +16,7 @@ words_x agent = agent_x agent + 84
 abbrev pub line_shift : Layout → ℕ → ℕ
 line_shift layout line = 12 * line / layout.lines
 
-abbrev pub lane_x : Layout → Cell → ℕ
+abbrev pub lane_x : Layout → ChannelCell → ℕ
 lane_x layout cell = agent_x cell.agent.0 + 10 + 12 * channel_place cell.channel + line_shift layout cell.line.0
 
 -- the home, which has a strip for each line, those of a slice side by side

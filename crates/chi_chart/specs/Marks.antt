@@ -14,9 +14,10 @@ use Rattle.chi_wires.specs.declared.cells.Cells.{Cells}
 use Rattle.chi_wires.specs.Cell.{cell_of, no_flits}
 use Rattle.chi_line.specs.declared.view.CopyView.{CopyView}
 use Rattle.chi_line.specs.declared.view.LineView.{LineView}
-use Rattle.chi_chart.specs.declared.marks.Cell.{Cell}
+use Rattle.chi_chart.specs.declared.marks.ChannelCell.{ChannelCell}
 use Rattle.chi_chart.specs.declared.marks.Mark.{Mark}
 use Rattle.chi_chart.specs.declared.marks.Mark.TheVariants.{Turned, Taken, Sent, Serves}
+use Rattle.chi_slice.specs.Verdict.{no_copy}
 
 -- the channels, those to a requester first
 abbrev pub all_channels : List Channel
@@ -31,11 +32,11 @@ channel_place channels.Req = 3
 channel_place channels.RspUp = 4
 channel_place channels.DatUp = 5
 
-abbrev pub is_same_cell : Cell → Cell → Bool
+abbrev pub is_same_cell : ChannelCell → ChannelCell → Bool
 is_same_cell a b = (a.line.0 == b.line.0) && ((a.agent.0 == b.agent.0) && (channel_place a.channel == channel_place b.channel))
 
 -- a cell that was full and is empty: its flit was taken; one that was empty and is full: its flit was sent
-abbrev pub cell_marks : Cell → Option Msg → Option Msg → List Mark
+abbrev pub cell_marks : ChannelCell → Option Msg → Option Msg → List Mark
 cell_marks cell (Some old) None = Taken cell ∷ []
 cell_marks cell None (Some new) = Sent cell new ∷ []
 cell_marks cell None None = []
@@ -59,9 +60,6 @@ state_place states.SD = 4
 -- a copy whose state is another than before
 abbrev pub state_marks : Agent → State → State → List Mark
 state_marks agent before after = if state_place before == state_place after then [] else (Turned agent after ∷ [])
-
-abbrev pub no_copy : CopyView
-no_copy = record { state = states.I; words = [] }
 
 -- what changed of an agent's part of the line
 abbrev pub agent_marks : Line → LineView → LineView → ℕ → List Mark

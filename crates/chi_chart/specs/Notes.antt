@@ -12,16 +12,16 @@ use Rattle.chi_chart.specs.Layout.{home_words_x, words_x}
 use Rattle.chi_chart.specs.Drawn.{escaped_text}
 
 -- the agent whose command it is
-abbrev pub agent_of : Command → Option Agent
-agent_of commands.Totals = None
-agent_of commands.Audit = None
-agent_of (commands.Show l) = None
-agent_of (commands.Flits agent l) = Some agent
-agent_of (commands.Arrive agent l) = Some agent
-agent_of (commands.See agent) = Some agent
-agent_of (commands.GiveBack agent ty) = Some agent
-agent_of (commands.Tend agent ty) = Some agent
-agent_of (commands.Act action) = Some action.agent
+abbrev pub agent_of_command : Command → Option Agent
+agent_of_command commands.Totals = None
+agent_of_command commands.Audit = None
+agent_of_command (commands.Show l) = None
+agent_of_command (commands.Flits agent l) = Some agent
+agent_of_command (commands.Arrive agent l) = Some agent
+agent_of_command (commands.See agent) = Some agent
+agent_of_command (commands.GiveBack agent ty) = Some agent
+agent_of_command (commands.Tend agent ty) = Some agent
+agent_of_command (commands.Act action) = Some action.agent
 
 -- beside an agent, or else beside the home
 abbrev pub beside : Layout → Option Agent → ℕ
@@ -30,7 +30,7 @@ beside layout (Some agent) = words_x agent.0
 
 -- a refusal is told at the agent that is refused
 abbrev pub refused_x : Layout → Command → ℕ
-refused_x layout command = beside layout (agent_of command)
+refused_x layout command = beside layout (agent_of_command command)
 
 -- an action's answer: at its agent what it loads and stores, and at the home what becomes of entries
 abbrev pub step_x : Layout → Agent → Step → Option ℕ
@@ -84,12 +84,12 @@ words_tag class x y front =
 unfoldable pub words_text : List ℕ → ℕ → ℕ → List ℕ → List ℕ → List ℕ
 words_text class x y front words = words_tag class x y front ++ (escaped_text words ++ codes "</text>\n")
 
-abbrev pub done_if : ℕ → List ℕ → Option ℕ → Option (List ℕ) → List ℕ
-done_if y front (Some x) (Some words) = words_text (codes "answer") x y front words
-done_if y front _ _ = []
+abbrev pub answer_words_if : ℕ → List ℕ → Option ℕ → Option (List ℕ) → List ℕ
+answer_words_if y front (Some x) (Some words) = words_text (codes "answer") x y front words
+answer_words_if y front _ _ = []
 
 -- a refusal whole, and another answer without its `ok`, where something stands behind it
 unfoldable pub note_text : Layout → ℕ → Command → List ℕ → List ℕ
 note_text layout y command answer =
     if begins_with answer (codes "refused") then words_text (codes "refused") (refused_x layout command) y [] answer
-    else done_if y (front_text command) (done_x layout command) (behind (ok_words command) answer)
+    else answer_words_if y (front_text command) (done_x layout command) (behind (ok_words command) answer)

@@ -9,26 +9,26 @@ use Rattle.chi_flit.specs.declared.numbers.Line.{Line}
 use Rattle.chi_homeline.specs.declared.serving.Serving.{Serving}
 use Rattle.chi_homeline.specs.declared.serving.Serving.TheVariants as servings
 use Rattle.chi_chart.specs.declared.frame.Layout.{Layout}
-use Rattle.chi_chart.specs.declared.marks.Cell.{Cell}
+use Rattle.chi_chart.specs.declared.marks.ChannelCell.{ChannelCell}
 use Rattle.chi_chart.specs.declared.marks.Mark.{Mark}
 use Rattle.chi_chart.specs.declared.marks.Mark.TheVariants.{Turned, Taken, Sent, Serves}
 use Rattle.chi_chart.specs.Drawn.{arrow_text, bar_text, caption_text, lifeline_text, sheet_text, slice_text, turned_text}
 use Rattle.chi_chart.specs.Layout.{agent_x, home_x, lane_x, serving_x, slice_x, state_x, strip_x, width, words_x}
 use Rattle.chi_chart.specs.Marks.{is_same_cell}
 use Rattle.chi_chart.specs.Notes.{note_text}
-use Rattle.chi_chart.specs.Rows.{Row, below_mark}
+use Rattle.chi_chart.specs.Rows.{ChartRow, below_mark}
 use Rattle.chi_chart.specs.Style.{style}
 
-abbrev pub is_taken : Cell → Mark → Bool
-is_taken cell (Taken other) = is_same_cell cell other
-is_taken cell (Turned agent state) = false
-is_taken cell (Sent other message) = false
-is_taken cell (Serves line serving) = false
+abbrev pub is_cell_taken : ChannelCell → Mark → Bool
+is_cell_taken cell (Taken other) = is_same_cell cell other
+is_cell_taken cell (Turned agent state) = false
+is_cell_taken cell (Sent other message) = false
+is_cell_taken cell (Serves line serving) = false
 
 -- the first of the rows that takes the flit of a cell
-abbrev pub taken_at : Cell → List Row → Option ℕ
+abbrev pub taken_at : ChannelCell → List ChartRow → Option ℕ
 taken_at cell [] = None
-taken_at cell (row ∷ rows) = if list_any (is_taken cell) row.marks then Some row.y else taken_at cell rows
+taken_at cell (row ∷ rows) = if list_any (is_cell_taken cell) row.marks then Some row.y else taken_at cell rows
 
 abbrev pub is_served : Line → Mark → Bool
 is_served line (Serves other serving) = line.0 == other.0
@@ -37,7 +37,7 @@ is_served line (Taken cell) = false
 is_served line (Sent cell message) = false
 
 -- the first of the rows in which the home comes to do something else at a line
-abbrev pub served_until : Line → List Row → Option ℕ
+abbrev pub served_until : Line → List ChartRow → Option ℕ
 served_until line [] = None
 served_until line (row ∷ rows) = if list_any (is_served line) row.marks then Some row.y else served_until line rows
 
@@ -60,7 +60,7 @@ is_down channels.RspUp = false
 is_down channels.DatUp = false
 
 -- a flit that is sent in a band of its row, and goes to the row that takes it
-abbrev pub sent_text : Layout → ℕ → List Row → ℕ → Cell → Msg → List ℕ
+abbrev pub sent_text : Layout → ℕ → List ChartRow → ℕ → ChannelCell → Msg → List ℕ
 sent_text layout bottom later y cell message =
     arrow_text (record {
       channel = cell.channel;
@@ -76,7 +76,7 @@ sent_text layout bottom later y cell message =
     })
 
 -- what the home does at a line, until it does something else
-abbrev pub serves_text : Layout → ℕ → List Row → ℕ → Line → Serving → List ℕ
+abbrev pub serves_text : Layout → ℕ → List ChartRow → ℕ → Line → Serving → List ℕ
 serves_text layout bottom later y line servings.Idle = []
 serves_text layout bottom later y line serving =
     bar_text (record {
@@ -89,29 +89,29 @@ serves_text layout bottom later y line serving =
     })
 
 -- a mark of a row that begins at top; y is the band of a flit that is sent
-abbrev pub mark_text : Layout → ℕ → ℕ → List Row → ℕ → Mark → List ℕ
+abbrev pub mark_text : Layout → ℕ → ℕ → List ChartRow → ℕ → Mark → List ℕ
 mark_text layout bottom top later y (Turned agent state) = turned_text (record { x = state_x agent.0; y = top + 14; state = state })
 mark_text layout bottom top later y (Taken cell) = []
 mark_text layout bottom top later y (Sent cell message) = sent_text layout bottom later y cell message
 mark_text layout bottom top later y (Serves line serving) = serves_text layout bottom later top line serving
 
-abbrev pub marks_text : Layout → ℕ → ℕ → List Row → ℕ → List Mark → List ℕ
+abbrev pub marks_text : Layout → ℕ → ℕ → List ChartRow → ℕ → List Mark → List ℕ
 marks_text layout bottom top later y [] = []
 marks_text layout bottom top later y (mark ∷ marks) = mark_text layout bottom top later y mark ++ marks_text layout bottom top later (below_mark y mark) marks
 
 -- a row: its command, what is told of the answer, and its marks
-abbrev pub row_text : Layout → ℕ → Row → List Row → List ℕ
+abbrev pub row_text : Layout → ℕ → ChartRow → List ChartRow → List ℕ
 row_text layout bottom row later =
     caption_text (record { rule = row.y; right = home_x layout; y = row.y + 14; command = record { 0 = row.command } })
     ++ (note_text layout (row.y + 14) row.command row.answer ++ marks_text layout bottom row.y later row.y row.marks)
 
 -- each row, before those that are below it
-abbrev pub rows_text : Layout → ℕ → List Row → List ℕ
+abbrev pub rows_text : Layout → ℕ → List ChartRow → List ℕ
 rows_text layout bottom [] = []
 rows_text layout bottom (row ∷ rows) = row_text layout bottom row rows ++ rows_text layout bottom rows
 
-abbrev pub slice_at : Layout → ℕ → ℕ → List ℕ
-slice_at layout bottom n = slice_text (record { slice = n; x = slice_x layout n; right = slice_x layout (n + 1); bottom = bottom })
+abbrev pub slice_heading : Layout → ℕ → ℕ → List ℕ
+slice_heading layout bottom n = slice_text (record { slice = n; x = slice_x layout n; right = slice_x layout (n + 1); bottom = bottom })
 
 -- the lifeline of an agent, or of the home
 abbrev pub lifeline_of : ℕ → Option Agent → ℕ → List ℕ
@@ -123,7 +123,7 @@ lifeline_at bottom n = lifeline_of bottom (Some (record { 0 = n })) (agent_x n)
 -- the frame: the slices of the home, its lifeline, and those of the agents
 abbrev pub frame_text : Layout → ℕ → List ℕ
 frame_text layout bottom =
-    flat_map (slice_at layout bottom) (range_with_len 0 layout.slices)
+    flat_map (slice_heading layout bottom) (range_with_len 0 layout.slices)
     ++ (lifeline_of bottom None (home_x layout) ++ flat_map (lifeline_at bottom) (range_with_len 0 layout.agents))
 
 -- the head: the size of the chart, its ground, and its style
@@ -131,5 +131,5 @@ abbrev pub head_text : Layout → ℕ → List ℕ
 head_text layout bottom = sheet_text (record { width = width layout; height = bottom + 40 }) ++ style
 
 -- the whole chart
-abbrev pub svg_of : Layout → ℕ → List Row → List ℕ
+abbrev pub svg_of : Layout → ℕ → List ChartRow → List ℕ
 svg_of layout bottom rows = head_text layout bottom ++ (frame_text layout bottom ++ (rows_text layout bottom rows ++ codes "</svg>\n"))

@@ -5,10 +5,10 @@ use Rattle.chi_script.specs.declared.commands.Command.{Command}
 use Rattle.chi_chart.specs.declared.marks.Mark.{Mark}
 use Rattle.chi_chart.specs.declared.marks.Mark.TheVariants.{Turned, Taken, Sent, Serves}
 use Rattle.chi_chart.specs.Marks.{marks_between}
-use Rattle.chi_chart.specs.Steps.{Step, line_of, seen_line}
+use Rattle.chi_chart.specs.Steps.{Step, line_of_command, seen_line}
 
 -- a command, its answer and what it changed, below so many pixels
-pub record Row : Type 0 where
+pub record ChartRow : Type 0 where
   pub y : ℕ
   pub command : Command
   pub answer : List ℕ
@@ -30,15 +30,15 @@ below_marks y [] = y
 below_marks y (mark ∷ marks) = below_marks (below_mark y mark) marks
 
 -- where the next row begins
-abbrev pub below : Row → ℕ
-below row = below_marks row.y row.marks + 20
+abbrev pub below_row : ChartRow → ℕ
+below_row row = below_marks row.y row.marks + 20
 
-abbrev pub row_of : ℕ → Step → Row
+abbrev pub row_of : ℕ → Step → ChartRow
 row_of y step = record {
   y = y;
   command = step.command;
   answer = step.answer;
-  marks = marks_between (line_of step.command) (seen_line step.before (line_of step.command)) (seen_line step.after (line_of step.command));
+  marks = marks_between (line_of_command step.command) (seen_line step.before (line_of_command step.command)) (seen_line step.after (line_of_command step.command));
 }
 
 -- a command that names another line than the one that is wanted isn't shown
@@ -48,22 +48,22 @@ is_line (Some only) None = true
 is_line (Some only) (Some line) = only.0 == line.0
 
 -- a row that is shown, and where the next one begins
-abbrev pub shown_rows : Bool → Row → List Row
+abbrev pub shown_rows : Bool → ChartRow → List ChartRow
 shown_rows true row = row ∷ []
 shown_rows false row = []
 
-abbrev pub next_y : Bool → Row → ℕ
-next_y true row = below row
+abbrev pub next_y : Bool → ChartRow → ℕ
+next_y true row = below_row row
 next_y false row = row.y
 
 -- the rows of the steps that are shown
-abbrev pub rows_of : Option Line → ℕ → List Step → List Row
+abbrev pub rows_of : Option Line → ℕ → List Step → List ChartRow
 rows_of only y [] = []
 rows_of only y (step ∷ steps) =
-    shown_rows (is_line only (line_of step.command)) (row_of y step)
-    ++ rows_of only (next_y (is_line only (line_of step.command)) (row_of y step)) steps
+    shown_rows (is_line only (line_of_command step.command)) (row_of y step)
+    ++ rows_of only (next_y (is_line only (line_of_command step.command)) (row_of y step)) steps
 
 -- where the last row ends
-abbrev pub bottom_of : ℕ → List Row → ℕ
+abbrev pub bottom_of : ℕ → List ChartRow → ℕ
 bottom_of y [] = y
-bottom_of y (row ∷ rows) = bottom_of (below row) rows
+bottom_of y (row ∷ rows) = bottom_of (below_row row) rows

@@ -7,7 +7,7 @@ use Rattle.chi_line.specs.declared.view.LineView.{LineView}
 use Rattle.chi_line.specs.View.{line_view}
 use Rattle.chi_script.specs.declared.commands.Command.{Command}
 use Rattle.chi_script.specs.declared.commands.Command.TheVariants as commands
-use Rattle.chi_node.specs.Home.{HomeState, last_of, line, view_refusal}
+use Rattle.chi_node.specs.Home.{HomeState, node_last, node_line, node_view_refusal}
 use Rattle.chi_replay.specs.Texts.{ending}
 use Rattle.chi_replay.specs.Turns.{Answer, Machine, turn}
 
@@ -31,16 +31,16 @@ steps_of m (command ∷ rest) answers =
     ∷ steps_of (ending (turn m command) answers).state rest (ending (turn m command) answers).left
 
 -- the line that a command names
-abbrev pub line_of : Command → Option Line
-line_of commands.Totals = None
-line_of commands.Audit = None
-line_of (commands.Show l) = Some l
-line_of (commands.Flits agent l) = Some l
-line_of (commands.Arrive agent l) = Some l
-line_of (commands.See agent) = None
-line_of (commands.GiveBack agent ty) = None
-line_of (commands.Tend agent ty) = None
-line_of (commands.Act action) = Some action.line
+abbrev pub line_of_command : Command → Option Line
+line_of_command commands.Totals = None
+line_of_command commands.Audit = None
+line_of_command (commands.Show l) = Some l
+line_of_command (commands.Flits agent l) = Some l
+line_of_command (commands.Arrive agent l) = Some l
+line_of_command (commands.See agent) = None
+line_of_command (commands.GiveBack agent ty) = None
+line_of_command (commands.Tend agent ty) = None
+line_of_command (commands.Act action) = Some action.line
 
 abbrev pub view_if : Option Refusal → LineView → Option LineView
 view_if None view = Some view
@@ -49,4 +49,4 @@ view_if (Some refusal) view = None
 -- a line as it is shown, where there is one of that number
 abbrev pub seen_line : HomeState → Option Line → Option LineView
 seen_line home None = None
-seen_line home (Some l) = view_if (view_refusal home l.0) (line_view (line home l.0) (last_of home l.0))
+seen_line home (Some l) = view_if (node_view_refusal home l.0) (line_view (node_line home l.0) (node_last home l.0))

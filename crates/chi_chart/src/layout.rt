@@ -4,7 +4,7 @@ ghost use Rattle.std.specs.Prelude.{◌≡◌, ◌≤◌};
 ghost use Rattle.chi_chart.specs.Layout.{agent_x, home_words_x, home_x, lane_x, line_shift, lines_each, right_x, serving_x, slice_x, state_x, strip_x, width, words_x};
 
 use crate::frame::Layout;
-use crate::marks::{Cell, channel_place};
+use crate::marks::{ChannelCell, channel_place};
 use chi_flit::{Agent, Line};
 
 /// The lifeline of an agent.
@@ -31,7 +31,7 @@ pub(crate) fn state_x(agent: Agent) -> u64
 
 impl Layout {
     /// Where the flit of a cell goes down.
-    pub(crate) fn lane_x(&self, cell: &Cell) -> u64
+    pub(crate) fn lane_x(&self, cell: &ChannelCell) -> u64
         ensures { result ≡ lane_x self.now cell.now }
     {
         let place = u64::from(channel_place(cell.channel));

@@ -13,7 +13,7 @@ use std::alloc::Allocator;
 /// Where one flit is in flight: there is one cell for each channel, agent and line.
 /// Source: `docs/PROTOCOL.md`, "Messages".
 #[derive(Clone, Copy, Debug, PartialEq, Eq)]
-pub(crate) struct Cell {
+pub(crate) struct ChannelCell {
     pub(crate) line: Line,
     pub(crate) agent: Agent,
     pub(crate) channel: Channel,
@@ -26,9 +26,9 @@ pub(crate) enum Mark {
     /// The agent's copy turned to this state.
     Turned(Agent, State),
     /// The flit of this cell was taken.
-    Taken(Cell),
+    Taken(ChannelCell),
     /// This message was sent, and is in this cell.
-    Sent(Cell, Msg),
+    Sent(ChannelCell, Msg),
     /// The home came to do this at the line.
     Serves(Line, Serving),
 }
@@ -57,9 +57,9 @@ pub(crate) fn channel_place(channel: Channel) -> u8
     }
 }
 
-impl Cell {
+impl ChannelCell {
     /// Whether it is the same cell.
-    pub(crate) fn is(&self, other: &Cell) -> bool
+    pub(crate) fn is(&self, other: &ChannelCell) -> bool
         ensures { result ≡ is_same_cell self.now other.now }
     {
         self.line.0 == other.line.0
@@ -234,7 +234,7 @@ fn add_channel<A: Allocator>(
     ensures { OnOk result
         (marks.new.items ≡ marks.old.items ++ channel_marks line agent before.now after.now channel) }
 {
-    let cell = Cell {
+    let cell = ChannelCell {
         line,
         agent,
         channel,
@@ -245,7 +245,7 @@ fn add_channel<A: Allocator>(
 /// Whether the flit of a cell was taken or sent.
 fn add_flit<A: Allocator>(
     marks: &mut Vec<Mark, A>,
-    cell: Cell,
+    cell: ChannelCell,
     before: Option<Msg>,
     after: Option<Msg>,
 ) -> Result<(), NoMemory>

@@ -2,7 +2,7 @@
 
 ghost use Rattle.std.specs.Prelude.{◌≡◌, ◌++◌, OnOk, Some, codes, string_bytes};
 ghost use Rattle.std.specs.Option.{option_map};
-ghost use Rattle.chi_chart.specs.Notes.{agent_of, behind, beside, done_if, done_x, front_text, note_text, ok_words, refused_x, step_front, step_ok, step_x, words_tag, words_text};
+ghost use Rattle.chi_chart.specs.Notes.{agent_of_command, behind, beside, answer_words_if, done_x, front_text, note_text, ok_words, refused_x, step_front, step_ok, step_x, words_tag, words_text};
 
 use crate::drawn::add_escaped;
 use crate::frame::Layout;
@@ -81,7 +81,7 @@ fn behind<'a>(front: &[u8], answer: &'a [u8]) -> Option<&'a [u8]>
 
 /// The agent whose command it is.
 fn agent_of(command: Command) -> Option<Agent>
-    ensures { result ≡ agent_of command }
+    ensures { result ≡ agent_of_command command }
 {
     match command {
         Command::Totals | Command::Audit | Command::Show { .. } => None,

@@ -2,14 +2,14 @@
 
 ghost use Rattle.std.specs.Prelude.{◌≡◌, ◌++◌, ◌<◌, IfOk, OnOk, length, map};
 ghost use Rattle.std.specs.List.{flat_map, list_any, range_with_len};
-ghost use Rattle.chi_chart.specs.Picture.{frame_text, head_text, is_down, is_served, is_taken, lifeline_at, lifeline_of, mark_text, marks_text, middle, or_bottom, row_text, rows_text, sent_text, served_until, serves_text, slice_at, svg_of, taken_at};
+ghost use Rattle.chi_chart.specs.Picture.{frame_text, head_text, is_down, is_served, is_cell_taken, lifeline_at, lifeline_of, mark_text, marks_text, middle, or_bottom, row_text, rows_text, sent_text, served_until, serves_text, slice_heading, svg_of, taken_at};
 ghost use Rattle.chi_chart.specs.Played.{row_seen};
 
 use crate::commands::Spelled;
 use crate::drawn::{Arrow, Bar, Caption, Lifeline, Sheet, SliceBox, StateMark};
 use crate::frame::Layout;
 use crate::layout::{agent_x, state_x, words_x};
-use crate::marks::{Cell, Mark};
+use crate::marks::{ChannelCell, Mark};
 use crate::notes::add_note;
 use crate::rows::{Row, below_mark};
 use crate::style::style;
@@ -19,8 +19,8 @@ use std::alloc::Allocator;
 use std::io::Write;
 
 /// Whether the flit of a cell is taken.
-fn is_taken(cell: &Cell, mark: &Mark) -> bool
-    ensures { result ≡ is_taken cell.now mark.now }
+fn is_taken(cell: &ChannelCell, mark: &Mark) -> bool
+    ensures { result ≡ is_cell_taken cell.now mark.now }
 {
     match mark {
         Mark::Taken(other) => cell.is(other),
@@ -29,8 +29,8 @@ fn is_taken(cell: &Cell, mark: &Mark) -> bool
 }
 
 /// Whether one of the marks takes the flit of a cell.
-fn take(cell: &Cell, marks: &[Mark]) -> bool
-    ensures { result ≡ list_any (is_taken cell.now) marks.now }
+fn take(cell: &ChannelCell, marks: &[Mark]) -> bool
+    ensures { result ≡ list_any (is_cell_taken cell.now) marks.now }
 {
     for mark in marks {
         if is_taken(cell, mark) {
@@ -41,7 +41,7 @@ fn take(cell: &Cell, marks: &[Mark]) -> bool
 }
 
 /// The first of the rows that takes the flit of a cell.
-fn taken_at<A: Allocator>(cell: &Cell, rows: &[Row<A>]) -> Option<u32>
+fn taken_at<A: Allocator>(cell: &ChannelCell, rows: &[Row<A>]) -> Option<u32>
     ensures { result ≡ taken_at cell.now (map row_seen rows.now) }
 {
     for row in rows {
@@ -117,7 +117,7 @@ impl<A: Allocator> Picture<A> {
         &mut self,
         later: &[Row<A>],
         y: u32,
-        cell: &Cell,
+        cell: &ChannelCell,
         message: Msg,
     ) -> Result<(), NoMemory>
         ensures text { OnOk result
@@ -266,7 +266,7 @@ impl<A: Allocator> Picture<A> {
         requires { slice < 255 }
         ensures text { OnOk result
             (self.new.text.items
-            ≡ self.old.text.items ++ slice_at self.old.layout self.old.bottom slice) }
+            ≡ self.old.text.items ++ slice_heading self.old.layout self.old.bottom slice) }
         ensures layout { self.new.layout ≡ self.old.layout }
         ensures bottom { self.new.bottom ≡ self.old.bottom }
     {
@@ -284,7 +284,7 @@ impl<A: Allocator> Picture<A> {
         ensures text { OnOk result
             (self.new.text.items
             ≡ self.old.text.items
-            ++ flat_map (slice_at self.old.layout self.old.bottom)
+            ++ flat_map (slice_heading self.old.layout self.old.bottom)
             (range_with_len 0 self.old.layout.slices)) }
         ensures layout { self.new.layout ≡ self.old.layout }
         ensures bottom { self.new.bottom ≡ self.old.bottom }

@@ -1,8 +1,8 @@
 //! The rows of a chart: its commands, played one after the other.
 
 ghost use Rattle.std.specs.Prelude.{◌≡◌, ◌+◌, ◌++◌, IfOk, OnOk, map};
-ghost use Rattle.chi_chart.specs.Steps.{line_of, seen_line};
-ghost use Rattle.chi_chart.specs.Rows.{below, below_mark, below_marks, is_line, next_y, shown_rows};
+ghost use Rattle.chi_chart.specs.Steps.{line_of_command, seen_line};
+ghost use Rattle.chi_chart.specs.Rows.{below_row, below_mark, below_marks, is_line, next_y, shown_rows};
 ghost use Rattle.chi_chart.specs.Played.{IsPlayed, IsRun, row_seen};
 
 use crate::marks::{Mark, marks_between};
@@ -64,7 +64,7 @@ fn below_marks(y: u32, marks: &[Mark]) -> Result<u32, NoMemory>
 
 /// The line that a command names.
 pub(crate) fn line_of(command: Command) -> Option<Line>
-    ensures { result ≡ line_of command }
+    ensures { result ≡ line_of_command command }
 {
     match command {
         Command::Show { line } | Command::Flits { line, .. } | Command::Arrive { line, .. } => {
@@ -123,8 +123,8 @@ fn play<A: Allocator, B: Allocator + Copy>(
 }
 
 /// Where the next row begins.
-fn below<A: Allocator>(row: &Row<A>) -> Result<u32, NoMemory>
-    ensures { IfOk result (λ low. low ≡ below (row_seen row.now)) }
+fn below_row<A: Allocator>(row: &Row<A>) -> Result<u32, NoMemory>
+    ensures { IfOk result (λ low. low ≡ below_row (row_seen row.now)) }
 {
     lower(below_marks(row.y, &row.marks)?, 20)
 }

@@ -10,7 +10,7 @@ use Rattle.chi_tracker.specs.Calls.{seen_of, HasSameCredits, HasOneLess}
 use Rattle.chi_tracker.proofs.Addition.{raised_else, raised_here}
 use Rattle.chi_tracker.proofs.BitLaws.{with_here, with_else}
 use Rattle.chi_credit.specs.declared.slot.SlotRecord.{SlotRecord}
-use Rattle.chi_credit.specs.Account.{riding_of, due_of, holders_of, FallsAt, GrowsAt, IsSame, IsWithinSeen, HasDue, HasEntries}
+use Rattle.chi_credit.specs.Account.{riding_of, due_of, holders_of, FallsAt, GrowsAt, IsSameSlot, IsWithinSeen, HasDue, HasEntries}
 
 -- one number of a row more
 raised_at : (ns : List ℕ) (t u : ℕ) → u ≡ t → slice_index (one_more ns t) u ≡ slice_index ns u + 1
@@ -59,7 +59,7 @@ spent_entries a b p q t e grows clear is keeps = record {
 }
 
 -- a credit of type t was given back for a Cancelled slot of the type
-pub returned_within : (a b : List SlotRecord) (p q : PortView) (t : ℕ) → IsSame (riding_of a) (riding_of b) → riding_of a t < seen_of p t → HasOneLess t p q → IsWithinSeen a p → IsWithinSeen b q
+pub returned_within : (a b : List SlotRecord) (p q : PortView) (t : ℕ) → IsSameSlot (riding_of a) (riding_of b) → riding_of a t < seen_of p t → HasOneLess t p q → IsWithinSeen a p → IsWithinSeen b q
 returned_within a b p q t riding free less keeps = record {
   within = λ u l. dite (ℕ_discrete u t)
       (λ e. let h : seen_of q u + 1 ≡ seen_of p u = subst (λ (k : ℕ). seen_of q k + 1 ≡ seen_of p k) (sym e) less.0 in
@@ -78,5 +78,5 @@ returned_due a b p q t e falls same keeps = record {
       (λ d. omega (arith, falls.others u d, raised_else p.returned t u d, keeps.due u l));
 }
 
-pub returned_entries : (a b : List SlotRecord) (p q : PortView) → IsSame (holders_of a) (holders_of b) → ((i : ℕ) → has i q ≡ has i p) → HasEntries a p → HasEntries b q
+pub returned_entries : (a b : List SlotRecord) (p q : PortView) → IsSameSlot (holders_of a) (holders_of b) → ((i : ℕ) → has i q ≡ has i p) → HasEntries a p → HasEntries b q
 returned_entries a b p q same hand keeps = record { entries = λ i. omega (arith, same.same i, hand i, keeps.entries i) }

@@ -20,19 +20,19 @@ abbrev pub all_idle : List SlotRecord
 all_idle = replicate 8 idle_slot
 
 -- slot s of an account
-abbrev pub slot_at : List SlotRecord → ℕ → SlotRecord
-slot_at slots s = slice_index_or slots s idle_slot
+abbrev pub slot_record_at : List SlotRecord → ℕ → SlotRecord
+slot_record_at slots s = slice_index_or slots s idle_slot
 
 -- the state and the number of the credit type of slot s
 abbrev pub state_at : List SlotRecord → ℕ → SlotState
-state_at slots s = (slot_at slots s).state
+state_at slots s = (slot_record_at slots s).state
 
 abbrev pub type_at : List SlotRecord → ℕ → ℕ
-type_at slots s = credit_number (slot_at slots s).credit
+type_at slots s = credit_number (slot_record_at slots s).credit
 
 -- the state of slot s becomes another one
 abbrev pub slots_with_state : List SlotRecord → ℕ → SlotState → List SlotRecord
-slots_with_state slots s state = slice_set slots s (in_state state (slot_at slots s))
+slots_with_state slots s state = slice_set slots s (in_state state (slot_record_at slots s))
 
 -- how many slots of type t are Riding
 abbrev pub riding_of : List SlotRecord → ℕ → ℕ
@@ -55,7 +55,7 @@ abbrev pub IsLowestIdle : List SlotRecord → ℕ → Type 0
 IsLowestIdle slots s = (s < 8) × (state_at slots s ≡ Idle) × ((i : ℕ) → i < s → state_at slots i ≢ Idle)
 
 -- counts: all the same
-pub record IsSame (f g : ℕ → ℕ) : Type 0 where
+pub record IsSameSlot (f g : ℕ → ℕ) : Type 0 where
   pub same : (j : ℕ) → g j ≡ f j
 
 -- one more at i, and all others the same

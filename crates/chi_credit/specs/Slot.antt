@@ -8,9 +8,9 @@ use Rattle.chi_credit.specs.declared.slot.SlotState.{SlotState}
 use Rattle.chi_credit.specs.declared.slot.SlotState.TheVariants.{Idle, Sent, Refused, Retried, Riding, Admitted, Closing, Cancelled}
 use Rattle.chi_credit.specs.declared.slot.SlotRecord.{SlotRecord}
 
-abbrev pub is_idle : SlotState → Bool
-is_idle Idle = true
-is_idle other = false
+abbrev pub is_idle_state : SlotState → Bool
+is_idle_state Idle = true
+is_idle_state other = false
 
 abbrev pub is_riding : SlotState → Bool
 is_riding Riding = true
@@ -44,17 +44,17 @@ can_be_answered Closing = true
 can_be_answered other = false
 
 -- tests of a slot, by credit type and by entry
-abbrev pub is_of : ℕ → SlotRecord → Bool
-is_of t slot = credit_number slot.credit == t
+abbrev pub is_of_credit : ℕ → SlotRecord → Bool
+is_of_credit t slot = credit_number slot.credit == t
 
 abbrev pub is_riding_of : ℕ → SlotRecord → Bool
-is_riding_of t slot = is_riding slot.state && is_of t slot
+is_riding_of t slot = is_riding slot.state && is_of_credit t slot
 
 abbrev pub is_cancelled_of : ℕ → SlotRecord → Bool
-is_cancelled_of t slot = is_cancelled slot.state && is_of t slot
+is_cancelled_of t slot = is_cancelled slot.state && is_of_credit t slot
 
 abbrev pub is_due_of : ℕ → SlotRecord → Bool
-is_due_of t slot = is_due slot.state && is_of t slot
+is_due_of t slot = is_due slot.state && is_of_credit t slot
 
 abbrev pub has_entry : ℕ → SlotRecord → Bool
 has_entry e slot = is_admitted_with e slot.state

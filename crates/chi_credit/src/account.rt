@@ -4,7 +4,7 @@ ghost use Rattle.std.specs.Prelude.{◌≡◌, ◌≢◌, ℕ, ◌<◌, ◌≤�
 ghost use Rattle.chi_flit.specs.Credit.{credit_number};
 ghost use Rattle.chi_tracker.specs.Calls.{seen_of};
 ghost use Rattle.chi_credit.specs.Slot.{after_answer, after_finish, can_be_answered, idle_slot, is_admitted, is_cancelled_of, opened_slot};
-ghost use Rattle.chi_credit.specs.Account.{all_idle, due_of, lowest_cancelled, slots_with_state, riding_of, slot_at, state_at, type_at, CountsMove, FallsAt, GrowsAt, IsLowestIdle, IsSame, StaysInStep, StaysWithinSeen};
+ghost use Rattle.chi_credit.specs.Account.{all_idle, due_of, lowest_cancelled, slots_with_state, riding_of, slot_record_at, state_at, type_at, CountsMove, FallsAt, GrowsAt, IsLowestIdle, IsSameSlot, StaysInStep, StaysWithinSeen};
 ghost use Rattle.chi_credit.specs.Payment.{HasSpent, IsGivenBack};
 
 use crate::slot::{IDLE_SLOT, SlotRecord, SlotState, is_cancelled, is_idle, is_riding};
@@ -59,7 +59,7 @@ impl Account {
     /// Source: `docs/PROTOCOL.md`, "Slots and accounts".
     pub fn slot(&self, slot: Slot) -> SlotRecord
         requires { slot.0 < 8 }
-        ensures { result ≡ slot_at self.now slot.0 }
+        ensures { result ≡ slot_record_at self.now slot.0 }
     {
         self.slots[usize::from(slot.0)]
     }
@@ -115,7 +115,7 @@ impl Account {
         requires slot { slot.0 < 8 }
         requires idle { state_at self.old slot.0 ≡ SlotState.Idle }
         ensures account { self.new ≡ slice_set self.old slot.0 (opened_slot line ty) }
-        ensures counts { CountsMove IsSame IsSame IsSame self.old self.new }
+        ensures counts { CountsMove IsSameSlot IsSameSlot IsSameSlot self.old self.new }
     {
         self.slots[usize::from(slot.0)] = SlotRecord {
             state: SlotState::Sent,
@@ -134,8 +134,8 @@ impl Account {
         requires slot { slot.0 < 8 }
         requires sent { state_at self.old slot.0 ≡ SlotState.Sent }
         ensures account { self.new ≡ slots_with_state self.old slot.0 (SlotState.Admitted entry) }
-        ensures unanswered { (slot_at self.old slot.0).answered ≡ false }
-        ensures counts { CountsMove IsSame IsSame (GrowsAt entry.0) self.old self.new }
+        ensures unanswered { (slot_record_at self.old slot.0).answered ≡ false }
+        ensures counts { CountsMove IsSameSlot IsSameSlot (GrowsAt entry.0) self.old self.new }
     {
         self.slots[usize::from(slot.0)].state = SlotState::Admitted(entry);
     }
@@ -150,7 +150,7 @@ impl Account {
         requires sent { state_at self.old slot.0 ≡ SlotState.Sent }
         ensures account { self.new ≡ slots_with_state self.old slot.0 SlotState.Refused }
         ensures few { due_of self.old (type_at self.old slot.0) < 8 }
-        ensures counts { CountsMove IsSame (GrowsAt (type_at self.old slot.0)) IsSame self.old self.new }
+        ensures counts { CountsMove IsSameSlot (GrowsAt (type_at self.old slot.0)) IsSameSlot self.old self.new }
     {
         self.slots[usize::from(slot.0)].state = SlotState::Refused;
     }
@@ -164,7 +164,7 @@ impl Account {
         requires slot { slot.0 < 8 }
         requires refused { state_at self.old slot.0 ≡ SlotState.Refused }
         ensures account { self.new ≡ slots_with_state self.old slot.0 SlotState.Retried }
-        ensures counts { CountsMove IsSame IsSame IsSame self.old self.new }
+        ensures counts { CountsMove IsSameSlot IsSameSlot IsSameSlot self.old self.new }
     {
         self.slots[usize::from(slot.0)].state = SlotState::Retried;
     }
@@ -180,7 +180,7 @@ impl Account {
         requires slot { slot.0 < 8 }
         requires retried { state_at self.old slot.0 ≡ SlotState.Retried }
         ensures account { self.new ≡ slots_with_state self.old slot.0 SlotState.Riding }
-        ensures counts { CountsMove (GrowsAt (type_at self.old slot.0)) IsSame IsSame self.old self.new }
+        ensures counts { CountsMove (GrowsAt (type_at self.old slot.0)) IsSameSlot IsSameSlot self.old self.new }
         ensures within { StaysWithinSeen (type_at self.old slot.0) self.old self.new }
     {
         self.ride(slot);
@@ -191,7 +191,7 @@ impl Account {
         requires slot { slot.0 < 8 }
         requires retried { state_at self.old slot.0 ≡ SlotState.Retried }
         ensures account { self.new ≡ slots_with_state self.old slot.0 SlotState.Riding }
-        ensures counts { CountsMove (GrowsAt (type_at self.old slot.0)) IsSame IsSame self.old self.new }
+        ensures counts { CountsMove (GrowsAt (type_at self.old slot.0)) IsSameSlot IsSameSlot self.old self.new }
     {
         self.slots[usize::from(slot.0)].state = SlotState::Riding;
     }
@@ -205,7 +205,7 @@ impl Account {
         requires slot { slot.0 < 8 }
         requires retried { state_at self.old slot.0 ≡ SlotState.Retried }
         ensures account { self.new ≡ slots_with_state self.old slot.0 SlotState.Cancelled }
-        ensures counts { CountsMove IsSame IsSame IsSame self.old self.new }
+        ensures counts { CountsMove IsSameSlot IsSameSlot IsSameSlot self.old self.new }
     {
         self.slots[usize::from(slot.0)].state = SlotState::Cancelled;
     }
@@ -218,8 +218,8 @@ impl Account {
     pub fn answered(&mut self, slot: Slot)
         requires slot { slot.0 < 8 }
         requires waits { can_be_answered (state_at self.old slot.0) ≡ true }
-        ensures account { self.new ≡ slice_set self.old slot.0 (after_answer (slot_at self.old slot.0)) }
-        ensures counts { CountsMove IsSame IsSame IsSame self.old self.new }
+        ensures account { self.new ≡ slice_set self.old slot.0 (after_answer (slot_record_at self.old slot.0)) }
+        ensures counts { CountsMove IsSameSlot IsSameSlot IsSameSlot self.old self.new }
     {
         let place = usize::from(slot.0);
         if matches!(self.slots[place].state, SlotState::Closing) {
@@ -238,8 +238,8 @@ impl Account {
         requires slot { slot.0 < 8 }
         requires admitted { is_admitted (state_at self.old slot.0) ≡ true }
         ensures entry { state_at self.old slot.0 ≡ SlotState.Admitted result }
-        ensures account { self.new ≡ slice_set self.old slot.0 (after_finish (slot_at self.old slot.0)) }
-        ensures counts { CountsMove IsSame IsSame (FallsAt result.0) self.old self.new }
+        ensures account { self.new ≡ slice_set self.old slot.0 (after_finish (slot_record_at self.old slot.0)) }
+        ensures counts { CountsMove IsSameSlot IsSameSlot (FallsAt result.0) self.old self.new }
     {
         let place = usize::from(slot.0);
         let SlotState::Admitted(entry) = self.slots[place].state else {
@@ -272,7 +272,7 @@ impl Account {
         requires table { port.old.table ≡ tracker.now.table }
         requires credit { let t = type_at self.old slot.0 in riding_of self.old t ≤ seen_of port.old.port t }
         ensures account { self.new ≡ slots_with_state self.old slot.0 (SlotState.Admitted result) }
-        ensures unanswered { (slot_at self.old slot.0).answered ≡ false }
+        ensures unanswered { (slot_record_at self.old slot.0).answered ≡ false }
         ensures spent { HasSpent (type_at self.old slot.0) result.0 port.old port.new }
         ensures counts { CountsMove (FallsAt (type_at self.old slot.0)) (FallsAt (type_at self.old slot.0)) (GrowsAt result.0) self.old self.new }
         ensures kept { StaysInStep self.old port.old.port self.new port.new.port }
@@ -287,7 +287,7 @@ impl Account {
         requires slot { slot.0 < 8 }
         requires riding { state_at self.old slot.0 ≡ SlotState.Riding }
         ensures account { self.new ≡ slots_with_state self.old slot.0 (SlotState.Admitted entry) }
-        ensures unanswered { (slot_at self.old slot.0).answered ≡ false }
+        ensures unanswered { (slot_record_at self.old slot.0).answered ≡ false }
         ensures counts { CountsMove (FallsAt (type_at self.old slot.0)) (FallsAt (type_at self.old slot.0)) (GrowsAt entry.0) self.old self.new }
     {
         self.slots[usize::from(slot.0)].state = SlotState::Admitted(entry);
@@ -315,7 +315,7 @@ impl Account {
         ensures cancelled { state_at self.old (lowest_cancelled self.old (credit_number ty))
             ≡ SlotState.Cancelled }
         ensures returned { IsGivenBack (credit_number ty) result port.old port.new }
-        ensures counts { CountsMove IsSame (FallsAt (credit_number ty)) IsSame self.old self.new }
+        ensures counts { CountsMove IsSameSlot (FallsAt (credit_number ty)) IsSameSlot self.old self.new }
         ensures kept { StaysInStep self.old port.old.port self.new port.new.port }
     {
         self.end_cancelled(ty);
@@ -330,7 +330,7 @@ impl Account {
             ≡ slice_set self.old (lowest_cancelled self.old (credit_number ty)) idle_slot }
         ensures cancelled { state_at self.old (lowest_cancelled self.old (credit_number ty))
             ≡ SlotState.Cancelled }
-        ensures counts { CountsMove IsSame (FallsAt (credit_number ty)) IsSame self.old self.new }
+        ensures counts { CountsMove IsSameSlot (FallsAt (credit_number ty)) IsSameSlot self.old self.new }
     {
         let Some(place) = lowest_cancelled(&self.slots, ty) else {
             unreachable!();

@@ -2,7 +2,7 @@
 
 ghost use Rattle.std.specs.Prelude.{◌≡◌};
 ghost use Rattle.chi_flit.specs.Credit.{credit_number};
-ghost use Rattle.chi_credit.specs.Slot.{is_cancelled_of, is_idle, is_riding_of};
+ghost use Rattle.chi_credit.specs.Slot.{is_cancelled_of, is_idle_state, is_riding_of};
 
 use chi_flit::{CreditType, Entry, Line};
 
@@ -49,7 +49,7 @@ pub(crate) const IDLE_SLOT: SlotRecord = SlotRecord {
 
 /// Whether the slot is free.
 pub(crate) fn is_idle(slot: &SlotRecord) -> bool
-    ensures { result ≡ is_idle slot.now.state }
+    ensures { result ≡ is_idle_state slot.now.state }
 {
     matches!(slot.state, SlotState::Idle)
 }

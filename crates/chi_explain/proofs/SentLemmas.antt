@@ -3,7 +3,8 @@ use Rattle.std.proofs.Common.{◌≡◌, ℕ, suc, ◌+◌, List, [], ◌∷◌,
 use Rattle.chi_wires.specs.declared.cells.Cells.{Cells}
 use Rattle.chi_wires.specs.Flits.{cells_at}
 use Rattle.chi_explain.specs.declared.sent.SentFlit.{SentFlit}
-use Rattle.chi_explain.specs.Sent.{agent_at, sent_below, sent_of_agent}
+use Rattle.chi_flit.specs.Numbers.{agent_at}
+use Rattle.chi_explain.specs.Sent.{sent_below, sent_of_agent}
 
 -- one list more in front
 front : (a b r s : List SentFlit) → r ≡ b ++ s → a ++ r ≡ (a ++ b) ++ s

@@ -19,8 +19,8 @@ use Rattle.chi_explain.specs.Opening.{IsOpenAt}
 use Rattle.chi_explain.specs.Sent.{sent_between}
 
 -- a step of an agent on line 0
-abbrev pub action_of : Agent → Step → Action
-action_of agent step = record { agent = agent; line = record { 0 = 0 }; step = step }
+abbrev pub line_action : Agent → Step → Action
+line_action agent step = record { agent = agent; line = record { 0 = 0 }; step = step }
 
 -- whether the snoop of an agent that is in flight was seen
 abbrev pub is_shown : List Bool → Agent → Bool
@@ -42,7 +42,7 @@ IsAct s action s' = (action_refusal s action ≡ None) × ((effect : Effect) × 
 -- An agent's step is done, and sends the flits that were seen next, but for snoops. Which snoops in flight were seen,
 -- and what is still to be seen, is given before it and after it.
 pub record IsDone (agent : Agent) (step : Step) (s : SliceState) (shown : List Bool) (flits : List SentFlit) (s' : SliceState) (shown' : List Bool) (flits' : List SentFlit) : Type 0 where
-  pub done : IsAct s (action_of agent step) s'
+  pub done : IsAct s (line_action agent step) s'
   pub seen : MayTake shown agent step
   pub taken : shown' ≡ shown_after shown agent step
   pub sent : flits ≡ sent_between (line s 0) (line s' 0) ++ flits'

@@ -1,6 +1,7 @@
 -- The flits that an action sends: those in flight after it that weren't before (docs/TRACES.md,
 -- "Explanations").
 use Rattle.std.specs.Prelude.{ℕ, zero, suc, List, [], ◌∷◌, ◌++◌, Option, Some, None}
+use Rattle.chi_flit.specs.Numbers.{agent_at}
 use Rattle.chi_flit.specs.declared.numbers.Agent.{Agent}
 use Rattle.chi_flit.specs.declared.message.Channel.TheVariants.{Req, RspDown, DatDown, RspUp, DatUp}
 use Rattle.chi_flit.specs.declared.message.Msg.{Msg}
@@ -9,9 +10,6 @@ use Rattle.chi_wires.specs.Cell.{cell_of}
 use Rattle.chi_wires.specs.Flits.{cells_at}
 use Rattle.chi_line.specs.LineState.{LineState}
 use Rattle.chi_explain.specs.declared.sent.SentFlit.{SentFlit}
-
-abbrev pub agent_at : ℕ → Agent
-agent_at n = record { 0 = n }
 
 -- the flit of an agent's channel on which nothing was in flight before
 abbrev pub new_flit : Agent → Option Msg → Option Msg → List SentFlit

@@ -1,7 +1,7 @@
 //! The actions that explain what was seen of a line.
 
 ghost use Rattle.std.specs.Prelude.{◌≡◌, ◌<◌, IfOk, IsTrue, OnOk, replicate, false};
-ghost use Rattle.chi_explain.specs.Explained.{Explained, Explains, IsAct, IsDone, IsExplained, IsShown, IsSnoopSeen, MayTake, action_of, is_shown, shown_after};
+ghost use Rattle.chi_explain.specs.Explained.{Explained, Explains, IsAct, IsDone, IsExplained, IsShown, IsSnoopSeen, MayTake, line_action, is_shown, shown_after};
 ghost use Rattle.chi_slice.specs.Slice.{line};
 
 use crate::openings::{LINE, opened};
@@ -182,7 +182,7 @@ fn act<'f, A: Allocator>(
 
 /// Does the step.
 fn do_step<A: Allocator>(slice: &mut Slice<A>, agent: Agent, step: Step) -> Result<(), Missed>
-    ensures { OnOk result (IsAct slice.old (action_of agent step) slice.new) }
+    ensures { OnOk result (IsAct slice.old (line_action agent step) slice.new) }
 {
     let action = Action {
         agent,

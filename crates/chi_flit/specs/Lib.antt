@@ -4,3 +4,4 @@ pub mod Credit
 pub mod Snoop
 pub mod Message
 pub mod Refusal
+pub mod Numbers

@@ -8,9 +8,9 @@ use Rattle.chi_flit.specs.declared.numbers.Line.{Line}
 use Rattle.chi_flit.specs.declared.numbers.WordNo.{WordNo}
 use Rattle.chi_journal.specs.declared.record.Record.{Record}
 use Rattle.chi_journal.specs.declared.record.Record.TheVariants.{Load, Store}
-use Rattle.chi_journal.specs.declared.totals.Totals.{Totals}
+use Rattle.chi_journal.specs.declared.totals.JournalTotals.{JournalTotals}
 use Rattle.chi_journal.specs.Record.{is_load, is_record_of, is_store, record_agent, record_line, record_word}
-use Rattle.chi_journal.specs.LastValues.{rows_after, value_at, words_of}
+use Rattle.chi_journal.specs.LastValues.{rows_after, value_at, words_in_row}
 use Rattle.chi_journal.specs.Totals.{totals_with, part_counted}
 use Rattle.chi_journal.specs.Journal.{AreLegalAfter, IsLegal, IsLegalAfter, last_value, last_words, loads_of, part_of, stores_of, words_after, words_after_all}
 use Rattle.chi_journal.specs.Tracked.{IsTracked}
@@ -68,15 +68,15 @@ are_apart n m test = grind arith
 
 -- the words of a line after a store
 stored_row : (rows : List (List ℕ)) (entries : List Record) (at word value : ℕ)
-    → ((line : ℕ) → line < length rows → words_of rows line ≡ last_words entries line) → at < length rows
+    → ((line : ℕ) → line < length rows → words_in_row rows line ≡ last_words entries line) → at < length rows
     → (line : ℕ) → line < length rows
-    → words_of (slice_set rows at (slice_set (words_of rows at) word value)) line ≡ (if at == line then slice_set (last_words entries line) word value else last_words entries line)
+    → words_in_row (slice_set rows at (slice_set (words_in_row rows at) word value)) line ≡ (if at == line then slice_set (last_words entries line) word value else last_words entries line)
 stored_row rows entries at word value is inside line below = go (at == line) refl
   where
     go : (b : Bool) → (at == line) ≡ b
-        → words_of (slice_set rows at (slice_set (words_of rows at) word value)) line ≡ (if b then slice_set (last_words entries line) word value else last_words entries line)
-    go true e = subst (λ k. words_of (slice_set rows at (slice_set (words_of rows at) word value)) k ≡ slice_set (last_words entries k) word value) (eqb-true at line e) (get_or-set_same rows at (slice_set (words_of rows at) word value) [] inside ∙ ap (λ words. slice_set words word value) (is at inside))
-    go false e = get_or-set_other rows at line (slice_set (words_of rows at) word value) [] (are_apart at line e) ∙ is line below
+        → words_in_row (slice_set rows at (slice_set (words_in_row rows at) word value)) line ≡ (if b then slice_set (last_words entries line) word value else last_words entries line)
+    go true e = subst (λ k. words_in_row (slice_set rows at (slice_set (words_in_row rows at) word value)) k ≡ slice_set (last_words entries k) word value) (eqb-true at line e) (get_or-set_same rows at (slice_set (words_in_row rows at) word value) [] inside ∙ ap (λ words. slice_set words word value) (is at inside))
+    go false e = get_or-set_other rows at line (slice_set (words_in_row rows at) word value) [] (are_apart at line e) ∙ is line below
 
 -- the count of an agent's part after one record more
 part_is : (parts : List ℕ) (entries : List Record) (entry : Record) (n : ℕ)
@@ -113,13 +113,13 @@ room_more : (part count n limit : ℕ) → part ≡ count → count ≤ n → n 
 room_more part count n limit is fits within not_full narrow = omega (arith, is, fits, less_than n limit within not_full, narrow)
 
 -- the facts of an append
-pub record Appends (entries : List Record) (limit capacity : ℕ) (rows : List (List ℕ)) (totals : Totals) (entry : Record) : Type 0 where
+pub record Appends (entries : List Record) (limit capacity : ℕ) (rows : List (List ℕ)) (totals : JournalTotals) (entry : Record) : Type 0 where
   pub was : IsTracked entries limit capacity rows totals
   pub not_full : (length entries == limit) ≡ false
   pub agent : (record_agent entry).0 < 8
   pub line : (record_line entry).0 < length rows
 
-pub tracked_after : (entries : List Record) (limit capacity : ℕ) (rows : List (List ℕ)) (totals : Totals) (entry : Record)
+pub tracked_after : (entries : List Record) (limit capacity : ℕ) (rows : List (List ℕ)) (totals : JournalTotals) (entry : Record)
     → Appends entries limit capacity rows totals entry
     → IsTracked (entries ++ entry ∷ []) limit capacity (rows_after rows entry) (totals_with totals entry (value_at rows (record_line entry).0 (record_word entry).0))
 tracked_after entries limit capacity rows totals (Load agent line word value) h = record {
@@ -131,7 +131,7 @@ tracked_after entries limit capacity rows totals (Load agent line word value) h 
   stores_is = h.was.stores_is ∙ sym (stores_with entries (Load agent line word value) ∙ omega arith);
   parts_is = λ n low. part_is totals.parts entries (Load agent line word value) n h.was.eight h.agent (h.was.parts_is n low) (h.was.parts_is agent.0 h.agent);
   eight = length-set totals.parts agent.0 _ ∙ h.was.eight;
-  legal_is = along (legal_load totals.legal (value == value_at rows line.0 word.0) (IsLegal entries) (value ≡ last_value entries line.0 word.0) h.was.legal_is (tested value (words_of rows line.0) (last_words entries line.0) word.0 (h.was.last_is line.0 h.line))) (legal_with entries (Load agent line word value));
+  legal_is = along (legal_load totals.legal (value == value_at rows line.0 word.0) (IsLegal entries) (value ≡ last_value entries line.0 word.0) h.was.legal_is (tested value (words_in_row rows line.0) (last_words entries line.0) word.0 (h.was.last_is line.0 h.line))) (legal_with entries (Load agent line word value));
 }
 tracked_after entries limit capacity rows totals (Store agent line word value) h = record {
   narrow = h.was.narrow;
@@ -146,12 +146,12 @@ tracked_after entries limit capacity rows totals (Store agent line word value) h
 }
 
 -- a record more of an agent fits
-pub part_room : (entries : List Record) (limit capacity : ℕ) (rows : List (List ℕ)) (totals : Totals) (n : ℕ)
+pub part_room : (entries : List Record) (limit capacity : ℕ) (rows : List (List ℕ)) (totals : JournalTotals) (n : ℕ)
     → IsTracked entries limit capacity rows totals → (length entries == limit) ≡ false → n < 8 → get_or totals.parts n 0 + 1 < 2 ^ 32
 part_room entries limit capacity rows totals n kept not_full low = room_more (get_or totals.parts n 0) (length (part_of entries n)) (length entries) limit (kept.parts_is n low) (part_fits entries n) kept.within not_full kept.narrow
 
 -- the same, of what was counted and pushed
-pub tracked_new : (entries new : List Record) (limit capacity grown : ℕ) (rows next : List (List ℕ)) (totals counts : Totals) (entry : Record) (line : Line) (word : WordNo) (last : ℕ)
+pub tracked_new : (entries new : List Record) (limit capacity grown : ℕ) (rows next : List (List ℕ)) (totals counts : JournalTotals) (entry : Record) (line : Line) (word : WordNo) (last : ℕ)
     → Appends entries limit capacity rows totals entry
     → new ≡ entries ++ entry ∷ [] → grown ≡ capacity → next ≡ rows_after rows entry → counts ≡ totals_with totals entry last
     → last ≡ value_at rows line.0 word.0 → line ≡ record_line entry → word ≡ record_word entry

@@ -5,14 +5,14 @@ use Rattle.chi_journal.specs.declared.record.Record.{Record}
 use Rattle.chi_journal.specs.declared.record.Record.TheVariants.{Load, Store}
 
 -- the words of a line
-abbrev pub words_of : List (List ℕ) → ℕ → List ℕ
-words_of rows line = get_or rows line []
+abbrev pub words_in_row : List (List ℕ) → ℕ → List ℕ
+words_in_row rows line = get_or rows line []
 
 -- the value of a word
 abbrev pub value_at : List (List ℕ) → ℕ → ℕ → ℕ
-value_at rows line word = get_or (words_of rows line) word 0
+value_at rows line word = get_or (words_in_row rows line) word 0
 
 -- a store changes its word
 abbrev pub rows_after : List (List ℕ) → Record → List (List ℕ)
 rows_after rows (Load agent line word value) = rows
-rows_after rows (Store agent line word value) = slice_set rows line.0 (slice_set (words_of rows line.0) word.0 value)
+rows_after rows (Store agent line word value) = slice_set rows line.0 (slice_set (words_in_row rows line.0) word.0 value)

@@ -7,7 +7,7 @@ ghost use Rattle.chi_journal.specs.Journal.{IsLegal, Log, append_refusal, log_wi
 
 use crate::last_values::LastValues;
 use crate::record::Record;
-use crate::totals::Totals;
+use crate::totals::JournalTotals;
 use chi_flit::{Agent, Data, Line, NoMemory, Refusal, WordNo};
 use std::alloc::Allocator;
 use std::marker::Model;
@@ -21,7 +21,7 @@ pub struct Journal<A: Allocator> {
     records: Vec<Record, A>,
     limit: u32,
     last: LastValues<A>,
-    totals: Totals,
+    totals: JournalTotals,
 }
 
 impl<A: Allocator> Model for Journal<A> {
@@ -50,7 +50,7 @@ impl<A: Allocator + Copy> Journal<A> {
             records,
             limit,
             last,
-            totals: Totals::new(),
+            totals: JournalTotals::new(),
         })
     }
 }

@@ -3,7 +3,7 @@
 ghost use Rattle.std.specs.Prelude.{◌≡◌, ◌<◌, length, replicate, IfOk};
 ghost use Rattle.chi_flit.specs.Message.{no_words};
 ghost use Rattle.chi_journal.specs.Record.{record_line, record_word};
-ghost use Rattle.chi_journal.specs.LastValues.{rows_after, value_at, words_of};
+ghost use Rattle.chi_journal.specs.LastValues.{rows_after, value_at, words_in_row};
 
 use crate::record::Record;
 use chi_flit::{Data, Line, NO_DATA, NoMemory, WordNo};
@@ -47,7 +47,7 @@ impl<A: Allocator> LastValues<A> {
     /// The words of a line.
     pub fn words(&self, line: Line) -> Data
         requires { line.0 < length self.now }
-        ensures { result ≡ words_of self.now line.0 }
+        ensures { result ≡ words_in_row self.now line.0 }
     {
         self.rows[usize::from(line.0)]
     }

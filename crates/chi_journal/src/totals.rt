@@ -9,19 +9,19 @@ use crate::record::Record;
 /// How many loads and stores there are, how many records of each agent, and whether each load had the
 /// value that was stored last.
 #[derive(Clone, Copy)]
-pub struct Totals {
+pub struct JournalTotals {
     pub loads: u32,
     pub stores: u32,
     pub parts: [u32; 8],
     pub legal: bool,
 }
 
-impl Totals {
+impl JournalTotals {
     /// The totals of no record.
-    pub fn new() -> Totals
+    pub fn new() -> JournalTotals
         ensures { result ≡ no_totals }
     {
-        Totals {
+        JournalTotals {
             loads: 0,
             stores: 0,
             parts: [0; 8],

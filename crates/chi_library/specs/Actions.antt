@@ -1,6 +1,7 @@
 -- Actions and effects in C's numbers (docs/LIBRARY.md, "Numbers"). A step's number is its place in the table of
 -- docs/PROTOCOL.md, "The actions".
 use Rattle.std.specs.Prelude.{ℕ, Option, Some, None, ◌==◌, if◌then◌else◌}
+use Rattle.chi_flit.specs.Numbers.{agent_at, line_at, slot_at, word_at}
 use Rattle.chi_flit.specs.declared.action.Action.{Action}
 use Rattle.chi_flit.specs.declared.action.Effect.{Effect}
 use Rattle.chi_flit.specs.declared.action.Effect.TheVariants.{Nothing, Value, Completed}
@@ -14,18 +15,6 @@ use Rattle.chi_flit.specs.declared.numbers.WordNo.{WordNo}
 use Rattle.chi_library.specs.declared.actions.ChiAction.{ChiAction}
 use Rattle.chi_library.specs.declared.actions.ChiEffect.{ChiEffect}
 use Rattle.chi_library.specs.Numbers.{kind_of}
-
-abbrev pub agent_at : ℕ → Agent
-agent_at n = record { 0 = n }
-
-abbrev pub line_at : ℕ → Line
-line_at n = record { 0 = n }
-
-abbrev pub slot_at : ℕ → Slot
-slot_at n = record { 0 = n }
-
-abbrev pub word_at : ℕ → WordNo
-word_at n = record { 0 = n }
 
 -- an Issue needs a kind
 abbrev pub issue_if : Option Kind → Slot → Option Step

@@ -16,8 +16,8 @@ use Rattle.chi_node.specs.declared.answers.Stepped.{Stepped}
 use Rattle.chi_node.specs.Calls.{is_own_step}
 use Rattle.chi_slice.specs.Audits.{IsAudited}
 use Rattle.chi_config.specs.Config.{Sizes}
-use Rattle.chi_node.specs.Home.{flits_refusal, last_of, line, view_refusal}
-use Rattle.chi_node.specs.System.{SystemState, opening_system, agent_refusal, arrive_refusal, give_back_refusal_in, step_refusal, tend_refusal_in, ArrivesIn, GivesBackIn, Glances, SeesIn, StepsIn, TendsIn}
+use Rattle.chi_node.specs.Home.{node_flits_refusal, node_last, node_line, node_view_refusal}
+use Rattle.chi_node.specs.System.{SystemState, opening_system, agent_refusal, arrive_refusal, give_back_refusal_in, system_step_refusal, tend_refusal_in, ArrivesIn, GivesBackIn, Glances, SeesIn, StepsIn, TendsIn}
 use Rattle.chi_tracker.specs.declared.released.Released.{Released}
 use Rattle.chi_tracker.specs.declared.totals.Counts.{Counts}
 use Rattle.chi_tracker.specs.declared.released.Released.TheVariants.{Granted, Freed}
@@ -59,11 +59,11 @@ abbrev pub arrival_told : Arrived → ChiArrival
 arrival_told (Admitted entry) = record { arrival = 1; entry = entry.0; credit = 0 }
 arrival_told (Retried ty) = record { arrival = 2; entry = 0; credit = credit_number ty }
 
-abbrev pub Arrives : Agent → Line → ChiArrival → SystemState → SystemState → Type 0
-Arrives agent l told y y' = (arrived : Arrived) × (told ≡ arrival_told arrived) × ArrivesIn y y' agent l arrived
+abbrev pub IsArrivalTold : Agent → Line → ChiArrival → SystemState → SystemState → Type 0
+IsArrivalTold agent l told y y' = (arrived : Arrived) × (told ≡ arrival_told arrived) × ArrivesIn y y' agent l arrived
 
 abbrev pub ArrivalCall : Agent → Line → ChiArrival → SystemState → SystemState → Type 0
-ArrivalCall agent l told y y' = Called y y' (arrive_refusal y agent.0 l.0) (Arrives agent l told y y') (told ≡ no_arrival)
+ArrivalCall agent l told y y' = Called y y' (arrive_refusal y agent.0 l.0) (IsArrivalTold agent l told y y') (told ≡ no_arrival)
 
 -- where a released entry went
 abbrev pub no_release : ChiRelease
@@ -96,11 +96,11 @@ IsOwn (Some action) = is_own_step action.step ≡ true
 -- a step
 abbrev pub node_step_refusal : Option Action → SystemState → Option Refusal
 node_step_refusal None y = Some OutOfRange
-node_step_refusal (Some action) y = step_refusal y action
+node_step_refusal (Some action) y = system_step_refusal y action
 
-abbrev pub Steps : Option Action → ChiEffect → ChiRelease → SystemState → SystemState → Type 0
-Steps None effect release y y' = ⊥
-Steps (Some action) effect release y y' =
+abbrev pub IsStepTold : Option Action → ChiEffect → ChiRelease → SystemState → SystemState → Type 0
+IsStepTold None effect release y y' = ⊥
+IsStepTold (Some action) effect release y y' =
     (stepped : Stepped) × (effect ≡ effect_told stepped.effect) × (release ≡ release_if stepped.released)
     × StepsIn y y' action stepped
 
@@ -111,48 +111,48 @@ pub record IsUntold (effect : ChiEffect) (release : ChiRelease) : Type 0 where
 
 abbrev pub StepCall : Option Action → ChiEffect → ChiRelease → SystemState → SystemState → Type 0
 StepCall own effect release y y' =
-    Called y y' (node_step_refusal own y) (Steps own effect release y y') (IsUntold effect release)
+    Called y y' (node_step_refusal own y) (IsStepTold own effect release y y') (IsUntold effect release)
 
 -- the calls of a requester that need no slice
-abbrev pub no_credits : ChiCredits
-no_credits = record { seen = 0 ∷ 0 ∷ 0 ∷ 0 ∷ [] }
+abbrev pub no_credits_told : ChiCredits
+no_credits_told = record { seen = 0 ∷ 0 ∷ 0 ∷ 0 ∷ [] }
 
 abbrev pub Looks : Agent → ChiCredits → SystemState → SystemState → Type 0
 Looks agent told y y' = SeesIn y y' agent told.seen
 
 abbrev pub LookCall : Agent → ChiCredits → SystemState → SystemState → Type 0
-LookCall agent told y y' = Called y y' (agent_refusal y agent.0) (Looks agent told y y') (told ≡ no_credits)
+LookCall agent told y y' = Called y y' (agent_refusal y agent.0) (Looks agent told y y') (told ≡ no_credits_told)
 
-abbrev pub GivesBack : Agent → Option CreditType → ChiRelease → SystemState → SystemState → Type 0
-GivesBack agent ty told y y' = (released : Released) × (told ≡ release_told released) × GivesBackIn y y' agent ty released
+abbrev pub IsGiveBackTold : Agent → Option CreditType → ChiRelease → SystemState → SystemState → Type 0
+IsGiveBackTold agent ty told y y' = (released : Released) × (told ≡ release_told released) × GivesBackIn y y' agent ty released
 
 abbrev pub ReturnCall : Agent → Option CreditType → ChiRelease → SystemState → SystemState → Type 0
 ReturnCall agent ty told y y' =
-    Called y y' (give_back_refusal_in y agent.0 ty) (GivesBack agent ty told y y') (told ≡ no_release)
+    Called y y' (give_back_refusal_in y agent.0 ty) (IsGiveBackTold agent ty told y y') (told ≡ no_release)
 
-abbrev pub Tends : Agent → Option CreditType → ChiRelease → SystemState → SystemState → Type 0
-Tends agent ty told y y' = (released : Option Released) × (told ≡ release_if released) × TendsIn y y' agent ty released
+abbrev pub IsTendTold : Agent → Option CreditType → ChiRelease → SystemState → SystemState → Type 0
+IsTendTold agent ty told y y' = (released : Option Released) × (told ≡ release_if released) × TendsIn y y' agent ty released
 
 abbrev pub TendCall : Agent → Option CreditType → ChiRelease → SystemState → SystemState → Type 0
-TendCall agent ty told y y' = Called y y' (tend_refusal_in y agent.0 ty) (Tends agent ty told y y') (told ≡ no_release)
+TendCall agent ty told y y' = Called y y' (tend_refusal_in y agent.0 ty) (IsTendTold agent ty told y y') (told ≡ no_release)
 
 -- a line, and the flits of an agent at one
 abbrev pub node_show_told : ℕ → SystemState → ChiLine
-node_show_told l y = told_unless (view_refusal y.home l) no_line_told (line_told (line_view (line y.home l) (last_of y.home l)))
+node_show_told l y = told_unless (node_view_refusal y.home l) no_line_told (line_told (line_view (node_line y.home l) (node_last y.home l)))
 
 abbrev pub node_flits_told : ℕ → ℕ → SystemState → ChiFlits
-node_flits_told n l y = told_unless (flits_refusal y.home n l) no_flits_told (flits_told (cells_of (line y.home l) n))
+node_flits_told n l y = told_unless (node_flits_refusal y.home n l) no_flits_told (flits_told (cells_of (node_line y.home l) n))
 
 -- the totals: counts that a glance may show, each under its own name
-abbrev pub no_totals : ChiTotals
-no_totals = record { free = replicate 4 0; hand = replicate 4 0; promised = replicate 4 0; owed = replicate 4 0 }
+abbrev pub no_totals_told : ChiTotals
+no_totals_told = record { free = replicate 4 0; hand = replicate 4 0; promised = replicate 4 0; owed = replicate 4 0 }
 
-abbrev pub totals_told : Counts → ChiTotals
-totals_told counts = record { free = counts.free; hand = counts.hand; promised = counts.promised; owed = counts.owed }
+abbrev pub counts_told : Counts → ChiTotals
+counts_told counts = record { free = counts.free; hand = counts.hand; promised = counts.promised; owed = counts.owed }
 
 abbrev pub IsTotalsOf : Option SystemState → ChiTotals → Type 0
-IsTotalsOf None told = told ≡ no_totals
-IsTotalsOf (Some y) told = (counts : Counts) × (told ≡ totals_told counts) × Glances y counts
+IsTotalsOf None told = told ≡ no_totals_told
+IsTotalsOf (Some y) told = (counts : Counts) × (told ≡ counts_told counts) × Glances y counts
 
 -- an audit
 abbrev pub no_audit : ChiAudit

@@ -39,13 +39,6 @@ state_number UC = 2
 state_number UD = 3
 state_number SD = 4
 
-abbrev pub credit_of : ℕ → Option CreditType
-credit_of n =
-    if n == 0 then Some T0 else (
-    if n == 1 then Some T1 else (
-    if n == 2 then Some T2 else (
-    if n == 3 then Some T3 else None)))
-
 abbrev pub profile_of : ℕ → Option Profile
 profile_of n =
     if n == 0 then Some Two else (

@@ -29,9 +29,9 @@ abbrev pub Opens : ℕ → Sizes → SliceState → Type 0
 Opens index config s = s ≡ opening_slice config index
 
 -- an action of C's: 10 where its numbers name none, else as the slice does it
-abbrev pub act_refusal : Option Action → SliceState → Option Refusal
-act_refusal None s = Some OutOfRange
-act_refusal (Some action) s = action_refusal s action
+abbrev pub decoded_refusal : Option Action → SliceState → Option Refusal
+decoded_refusal None s = Some OutOfRange
+decoded_refusal (Some action) s = action_refusal s action
 
 abbrev pub act_after : Option Action → SliceState → SliceState
 act_after None s = s

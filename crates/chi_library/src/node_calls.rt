@@ -1,15 +1,16 @@
 //! The calls on a node, for C.
 
 ghost use Rattle.std.specs.Prelude.{◌≡◌, IfOk, None, Some};
-ghost use Rattle.chi_library.specs.Actions.{agent_at, line_at, no_effect};
+ghost use Rattle.chi_flit.specs.Numbers.{agent_at, credit_of, line_at};
+ghost use Rattle.chi_library.specs.Actions.{no_effect};
 ghost use Rattle.chi_library.specs.Calls.{IsOpening, answer_number, output_of};
 ghost use Rattle.chi_library.specs.Flits.{no_flits_told};
 ghost use Rattle.chi_library.specs.Lines.{no_line_told};
-ghost use Rattle.chi_library.specs.Numbers.{credit_of, number_if};
-ghost use Rattle.chi_library.specs.NodeCalls.{ArrivalCall, CalledOn, ReturnCall, IsAuditOf, IsOwn, IsTotalsOf, IsUntold, LookCall, OpensNode, StepCall, TendCall, no_arrival, no_credits, no_release, node_flits_told, node_show_told, node_step_refusal, own_of};
+ghost use Rattle.chi_library.specs.Numbers.{number_if};
+ghost use Rattle.chi_library.specs.NodeCalls.{ArrivalCall, CalledOn, ReturnCall, IsAuditOf, IsOwn, IsTotalsOf, IsUntold, LookCall, OpensNode, StepCall, TendCall, no_arrival, no_credits_told, no_release, node_flits_told, node_show_told, node_step_refusal, own_of};
 ghost use Rattle.chi_library.specs.Sizes.{config_of};
 ghost use Rattle.chi_node.specs.Calls.{is_own_step};
-ghost use Rattle.chi_node.specs.Home.{flits_refusal, view_refusal};
+ghost use Rattle.chi_node.specs.Home.{node_flits_refusal, node_view_refusal};
 ghost use Rattle.chi_node.specs.System.{agent_refusal, arrive_refusal, give_back_refusal_in, tend_refusal_in};
 
 use crate::actions::{ChiAction, ChiEffect, action_at, tell_effect};
@@ -112,7 +113,7 @@ pub extern "C" fn chi_node_see(
 ) -> u8
     ensures answer { result ≡ answer_number node.old.value (λ y. agent_refusal y agent) }
     ensures call { CalledOn node.old.value node.new.value (LookCall (agent_at agent) credits.new) }
-    ensures closed { node.old.value ≡ None → credits.new ≡ no_credits }
+    ensures closed { node.old.value ≡ None → credits.new ≡ no_credits_told }
 {
     *credits = ChiCredits::NONE;
     match node.take(alloc) {
@@ -198,7 +199,7 @@ pub extern "C" fn chi_node_show(
     line: u8,
     shown: &mut ChiLine,
 ) -> u8
-    ensures answer { result ≡ answer_number node.old.value (λ y. view_refusal y.home line) }
+    ensures answer { result ≡ answer_number node.old.value (λ y. node_view_refusal y.home line) }
     ensures after { node.new.value ≡ node.old.value }
     ensures shown { shown.new ≡ output_of node.old.value no_line_told (node_show_told line) }
 {
@@ -226,7 +227,7 @@ pub extern "C" fn chi_node_flits(
     line: u8,
     flits: &mut ChiFlits,
 ) -> u8
-    ensures answer { result ≡ answer_number node.old.value (λ y. flits_refusal y.home agent line) }
+    ensures answer { result ≡ answer_number node.old.value (λ y. node_flits_refusal y.home agent line) }
     ensures after { node.new.value ≡ node.old.value }
     ensures flits { flits.new ≡ output_of node.old.value no_flits_told (node_flits_told agent line) }
 {
@@ -435,7 +436,7 @@ fn step(
 
 /// An agent looks at its promises.
 fn see(node: &mut System<Global>, agent: Agent, credits: &mut ChiCredits) -> u8
-    requires { credits.old ≡ no_credits }
+    requires { credits.old ≡ no_credits_told }
     ensures answer { result ≡ number_if (agent_refusal node.old agent.0) }
     ensures call { LookCall agent credits.new node.old node.new }
 {
@@ -491,7 +492,7 @@ fn tend(
 /// Shows a line.
 fn show(node: &System<Global>, line: Line, shown: &mut ChiLine) -> u8
     requires { shown.old ≡ no_line_told }
-    ensures answer { result ≡ number_if (view_refusal node.now.home line.0) }
+    ensures answer { result ≡ number_if (node_view_refusal node.now.home line.0) }
     ensures shown { shown.new ≡ node_show_told line.0 node.now }
 {
     match node.view(line) {
@@ -506,7 +507,7 @@ fn show(node: &System<Global>, line: Line, shown: &mut ChiLine) -> u8
 /// Shows what is in flight.
 fn show_flits(node: &System<Global>, agent: Agent, line: Line, flits: &mut ChiFlits) -> u8
     requires { flits.old ≡ no_flits_told }
-    ensures answer { result ≡ number_if (flits_refusal node.now.home agent.0 line.0) }
+    ensures answer { result ≡ number_if (node_flits_refusal node.now.home agent.0 line.0) }
     ensures flits { flits.new ≡ node_flits_told agent.0 line.0 node.now }
 {
     match node.flits(agent, line) {

@@ -1,7 +1,7 @@
 //! What the calls on a node tell, in C's words.
 
 ghost use Rattle.std.specs.Prelude.{◌≡◌};
-ghost use Rattle.chi_library.specs.NodeCalls.{arrival_told, release_if, release_told, totals_told};
+ghost use Rattle.chi_library.specs.NodeCalls.{arrival_told, release_if, release_told, counts_told};
 
 use chi_node::Arrived;
 use chi_tracker::{Counts, Released};
@@ -142,7 +142,7 @@ pub(crate) fn release_if(released: Option<Released>) -> ChiRelease
 
 /// The tracker's numbers.
 pub(crate) fn totals_told(counts: Counts) -> ChiTotals
-    ensures { result ≡ totals_told counts }
+    ensures { result ≡ counts_told counts }
 {
     let Counts {
         free,

@@ -1,7 +1,8 @@
 //! The numbers of C's enums.
 
 ghost use Rattle.std.specs.Prelude.{◌≡◌};
-ghost use Rattle.chi_library.specs.Numbers.{credit_of, flag_number, kind_number, kind_of, profile_of, state_number};
+ghost use Rattle.chi_flit.specs.Numbers.{credit_of};
+ghost use Rattle.chi_library.specs.Numbers.{flag_number, kind_number, kind_of, profile_of, state_number};
 
 use chi_flit::{CreditType, Kind, Profile, State};
 

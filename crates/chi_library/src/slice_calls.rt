@@ -8,7 +8,7 @@ ghost use Rattle.chi_library.specs.Lines.{no_line_told};
 ghost use Rattle.chi_library.specs.Numbers.{number_if};
 ghost use Rattle.chi_library.specs.Records.{no_record};
 ghost use Rattle.chi_library.specs.Sizes.{config_of};
-ghost use Rattle.chi_library.specs.SliceCalls.{Opens, act_after, act_refusal, act_told, entry_at, entry_refusal, entry_told, flits_shown, show_told, sizes_at};
+ghost use Rattle.chi_library.specs.SliceCalls.{Opens, act_after, decoded_refusal, act_told, entry_at, entry_refusal, entry_told, flits_shown, show_told, sizes_at};
 ghost use Rattle.chi_slice.specs.Slice.{flits_refusal, opening_slice, view_refusal};
 
 use crate::actions::{ChiAction, ChiEffect, action_at, tell_effect};
@@ -62,7 +62,7 @@ pub extern "C" fn chi_slice_act(
     action: &ChiAction,
     effect: &mut ChiEffect,
 ) -> u8
-    ensures answer { result ≡ answer_number slice.old.value (act_refusal (action_of action.now)) }
+    ensures answer { result ≡ answer_number slice.old.value (decoded_refusal (action_of action.now)) }
     ensures after { slice.new.value ≡ state_after slice.old.value (act_after (action_of action.now)) }
     ensures effect { effect.new ≡ output_of slice.old.value no_effect (act_told (action_of action.now)) }
 {
@@ -83,7 +83,7 @@ pub extern "C" fn chi_slice_act(
 /// Source: `docs/PROTOCOL.md`, "The actions"; `docs/LIBRARY.md`, "A slice".
 #[unsafe(no_mangle)]
 pub extern "C" fn chi_slice_refusal(alloc: Global, slice: &mut ChiSlice, action: &ChiAction) -> u8
-    ensures answer { result ≡ answer_number slice.old.value (act_refusal (action_of action.now)) }
+    ensures answer { result ≡ answer_number slice.old.value (decoded_refusal (action_of action.now)) }
     ensures after { slice.new.value ≡ slice.old.value }
 {
     match slice.take(alloc) {
@@ -220,7 +220,7 @@ fn boxed_slice(alloc: Global, config: &Config, index: u8) -> Result<Box<Slice<Gl
 /// Does an action, and says what it gives.
 fn act(slice: &mut Slice<Global>, action: &ChiAction, effect: &mut ChiEffect) -> u8
     requires { effect.old ≡ no_effect }
-    ensures answer { result ≡ number_if (act_refusal (action_of action.now) slice.old) }
+    ensures answer { result ≡ number_if (decoded_refusal (action_of action.now) slice.old) }
     ensures after { slice.new ≡ act_after (action_of action.now) slice.old }
     ensures effect { effect.new ≡ act_told (action_of action.now) slice.old }
 {
@@ -238,7 +238,7 @@ fn act(slice: &mut Slice<Global>, action: &ChiAction, effect: &mut ChiEffect) ->
 
 /// Why an action would be refused.
 fn refusal(slice: &Slice<Global>, action: &ChiAction) -> u8
-    ensures { result ≡ number_if (act_refusal (action_of action.now) slice.now) }
+    ensures { result ≡ number_if (decoded_refusal (action_of action.now) slice.now) }
 {
     match action_at(action) {
         Some(action) => number_if(slice.refusal(action, Terms::NONE)),

@@ -29,10 +29,10 @@ use Rattle.chi_homeline.specs.declared.serving.SnoopAnswer.TheVariants as answer
 use Rattle.chi_homeline.specs.Home.{Home, is_idle, served_kind, start_refusal, waiting_of}
 use Rattle.chi_line.specs.declared.act.Conditions.{Conditions}
 use Rattle.chi_line.specs.LineState.{LineState, rn_of, cells_of}
-use Rattle.chi_line.specs.Kept.{Kept, kind_of}
+use Rattle.chi_line.specs.Kept.{Kept, kind_if}
 use Rattle.chi_line.specs.Step.{after, after_step, admitted_line, answer_in, answered_by, completion_received, data_answer, data_written, dbid_received_line, is_ack, is_dbid, is_retry, line_uses, received_line, record_of, resent_line, response_answer, retried_line, snooped_line, started_line, step_record, where_some}
 use Rattle.chi_line.specs.Types.{pending_credit}
-use Rattle.chi_line.specs.Refused.{credit_refusal, full_if, line_refusal, no_flit_unless, step_refusal}
+use Rattle.chi_line.specs.Refused.{marked_credit_refusal, full_if, line_refusal, no_flit_unless, step_refusal}
 use Rattle.chi_line.proofs.Asks.{same}
 use Rattle.chi_line.proofs.Keeps.{kept_issued, kept_admitted, kept_received, kept_acknowledged}
 use Rattle.chi_line.proofs.Starts.{kept_started}
@@ -97,7 +97,7 @@ resend_allowed state (Some request) allowed = record { request = request; is = r
 pub may_resend : (c : Conditions) (s : LineState) (agent : Agent) → step_refusal c s agent steps.Resend ≡ None → IsRetried (rn_of s agent.0).pending
 may_resend c s agent allowed =
     let rn = rn_of s agent.0 in
-    resend_allowed rn.state rn.pending (neither (resend_refusal rn) (credit_refusal c.credits (pending_credit c.profile rn.pending)) allowed).0
+    resend_allowed rn.state rn.pending (neither (resend_refusal rn) (marked_credit_refusal c.credits (pending_credit c.profile rn.pending)) allowed).0
 
 pub cancel_allowed : (state : State) (pending : Option Pending) → cancel_refusal_in state pending ≡ None → IsRetried pending
 cancel_allowed state None allowed = absurd (cc (allowed))
@@ -194,7 +194,7 @@ kept_step c last s agent line steps.RecvAck low allowed free k =
 kept_step c last s agent line steps.RecvDbid low allowed free k =
     let there = dbid_there (cells_of s agent.0).rsp_down (flit_there (is_dbid (cells_of s agent.0).rsp_down) allowed) in
     kept_where_some last s (rn_of s agent.0).pending (λ (request : Pending). dbid_received_line s agent.0 request.kind) k
-    (λ request here. kept_dbid_received last s agent.0 request.kind low there (ap kind_of here) k)
+    (λ request here. kept_dbid_received last s agent.0 request.kind low there (ap kind_if here) k)
 kept_step c last s agent line steps.RecvWrData low allowed free k =
     kept_where_some last s (served_kind s.home.serving) (λ (kind : Kind). data_written s agent.0 kind (cells_of s agent.0).dat_up) k
     (λ kind here. kept_data_written last s agent.0 kind (cells_of s agent.0).dat_up low refl here k)

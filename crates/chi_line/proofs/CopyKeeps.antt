@@ -20,7 +20,7 @@ use Rattle.chi_homeline.specs.declared.serving.Serving.TheVariants.{Snooping, Aw
 use Rattle.chi_homeline.specs.Home.{acks_for}
 use Rattle.chi_line.specs.LineState.{LineState, rn_of, cells_of}
 use Rattle.chi_line.specs.Clean.{passes_dirty}
-use Rattle.chi_line.specs.Kept.{Lane, LaneKept, Kept, kind_of, lane, snoop_out, writes_for}
+use Rattle.chi_line.specs.Kept.{Lane, LaneKept, Kept, kind_if, lane, snoop_out, writes_for}
 use Rattle.chi_line.specs.Step.{snooped_line, comp_received_line, dbid_received_line}
 use Rattle.chi_line.proofs.Frame.{kept_by}
 use Rattle.chi_line.proofs.Facts.{AwaitsAck, awaits_ack}
@@ -116,7 +116,7 @@ dbid_written serving unique owner last n x here k = search (arith, k.one_write)
 
 -- the kind that is pending is the one that is served
 dbid_kind_is : (agent : Agent) (served kind : Kind) (slot : Slot) (unique : Bool) (owner : Option Agent) (last : List ℕ) (n : ℕ) (x : Lane)
-    → x.flits.rsp_down ≡ Some CompDBIDResp → kind_of x.rn.pending ≡ Some kind
+    → x.flits.rsp_down ≡ Some CompDBIDResp → kind_if x.rn.pending ≡ Some kind
     → LaneKept (AwaitingWriteData agent served slot) unique owner last n x → kind ≡ served
 dbid_kind_is agent served kind slot unique owner last n x here pending k = search (arith, k.dbid_kind)
 
@@ -139,7 +139,7 @@ dbid_awaited last s n low here awaits k =
     })
 
 pub kept_dbid_received : (last : List ℕ) (s : LineState) (n : ℕ) (kind : Kind) → n < 8
-    → (cells_of s n).rsp_down ≡ Some CompDBIDResp → kind_of (rn_of s n).pending ≡ Some kind → Kept last s → Kept last (dbid_received_line s n kind)
+    → (cells_of s n).rsp_down ≡ Some CompDBIDResp → kind_if (rn_of s n).pending ≡ Some kind → Kept last s → Kept last (dbid_received_line s n kind)
 kept_dbid_received last s n kind low here pending k =
     let awaits : AwaitsWrite s.home.serving n = awaits_write s.home.serving n (dbid_written s.home.serving s.home.filter.unique s.home.filter.owner last n (lane s n) here (k.lanes n low)) in
     subst (λ v. Kept last (dbid_received_line s n v))

@@ -34,7 +34,7 @@ use Rattle.chi_homeline.specs.Home.{Home, acks_for, answer_taken, asks, home_aft
 use Rattle.chi_line.specs.declared.act.Conditions.{Conditions}
 use Rattle.chi_line.specs.LineState.{LineState, rn_of, cells_of}
 use Rattle.chi_line.specs.Kept.{Kept, Lane, LaneKept, is_write_data, lane, served_kind, snoops_for, writes_for}
-use Rattle.chi_line.specs.Places.{is_at_home, phase_at, Seen, seen_of, sent_at, unasked_at, where_at, where_by, where_in}
+use Rattle.chi_line.specs.Places.{is_at_home, phase_at, Seen, agent_seen, sent_at, unasked_at, where_at, where_by, where_in}
 use Rattle.chi_line.specs.Refused.{step_refusal}
 use Rattle.chi_line.specs.Snooped.{answer_channel, completion_put}
 use Rattle.chi_line.specs.Step.{admitted_line, after_step, answer_in, answered_by, completion_received, data_written, dbid_received_line, is_ack, is_slot, pending_slot, received_line, resent_line, retried_line, flits_after_start, slot_served_for, snooped_line, started_line, waiting_slot, where_some}
@@ -88,8 +88,8 @@ pub stays_where : (s s' : LineState) (m : ℕ) (slot : Slot) → Stays s s' m �
 stays_where s s' m slot stays =
     ap (λ (x : Seen). where_in x slot) (same_shown _ _ _ _ _ _ _ _ _ _ stays.pending stays.request refl stays.waiting stays.served)
     ∙ ⊎_elim
-    (λ (same : (cells_of s' m).rsp_down ≡ (cells_of s m).rsp_down). ap (λ (r : Option RspDown). where_in (record (seen_of s m) { response = r }) slot) same)
-    (λ (served : pending_slot (rn_of s m).pending ≡ slot_served_for s.home.serving m). home_hides (seen_of s m) (cells_of s' m).rsp_down slot served)
+    (λ (same : (cells_of s' m).rsp_down ≡ (cells_of s m).rsp_down). ap (λ (r : Option RspDown). where_in (record (agent_seen s m) { response = r }) slot) same)
+    (λ (served : pending_slot (rn_of s m).pending ≡ slot_served_for s.home.serving m). home_hides (agent_seen s m) (cells_of s' m).rsp_down slot served)
     stays.response
 
 -- a line of whose parts nothing of the agent is written

@@ -24,7 +24,7 @@ use Rattle.chi_homeline.specs.declared.serving.Serving.{Serving as CodeServing}
 use Rattle.chi_homeline.specs.Home.{is_idle, waiting_of}
 use Rattle.chi_line.specs.declared.act.Conditions.{Conditions}
 use Rattle.chi_line.specs.LineState.{LineState, rn_of, cells_of}
-use Rattle.chi_line.specs.Refused.{full_if, no_flit_unless, retry_refusal, step_refusal, credit_refusal}
+use Rattle.chi_line.specs.Refused.{full_if, no_flit_unless, retry_refusal, step_refusal, marked_credit_refusal}
 use Rattle.chi_line.specs.Step.{answer_in, data_answer, is_ack, is_comp, is_dbid, is_retry, is_write_data, response_answer}
 use Rattle.chi_line.specs.Kept.{is_answer as answers_rsp, is_snoop_data}
 use Rattle.chi_line.specs.Words.{Agent, Line, Slot, State, I, SC, UC, UD, SD, Kind, CreditType, Step, Effect, Record, flit, Pending, Retried, Waiting}
@@ -107,7 +107,7 @@ idle_code v awaited is = search (arith, is)
 neither_of : (first second : Option Refusal) → first ≡ None → second ≡ None → option_or first second ≡ None
 neither_of first second a b = search (arith, a, b)
 
-credit_free : (credits : List Bool) (o : Option CreditType) → ((ty : CreditType) → slice_index_or credits (credit_number ty) false ≡ true) → credit_refusal credits o ≡ None
+credit_free : (credits : List Bool) (o : Option CreditType) → ((ty : CreditType) → slice_index_or credits (credit_number ty) false ≡ true) → marked_credit_refusal credits o ≡ None
 credit_free credits None all = refl
 credit_free credits (Some ty) all = ap (λ (b : Bool). if b then None else Some NoCredit) (all ty)
 

@@ -21,8 +21,8 @@ use Rattle.chi_homeline.specs.declared.serving.Waiting.{Waiting}
 use Rattle.chi_homeline.specs.Home.{served_kind, started_sends, waiting_of}
 use Rattle.chi_line.specs.declared.act.Conditions.{Conditions}
 use Rattle.chi_line.specs.LineState.{LineState, rn_of, cells_of}
-use Rattle.chi_line.specs.Kept.{IsServedRight, Kept, Lane, LaneKept, is_comp_unique, is_dbid, kind_of, lane, writes_for}
-use Rattle.chi_line.specs.Refused.{credit_refusal, full_if, retry_refusal, step_refusal}
+use Rattle.chi_line.specs.Kept.{IsServedRight, Kept, Lane, LaneKept, is_comp_unique, is_dbid, kind_if, lane, writes_for}
+use Rattle.chi_line.specs.Refused.{marked_credit_refusal, full_if, retry_refusal, step_refusal}
 use Rattle.chi_line.specs.Step.{acknowledged_line, after_step, answer_in, answered_by, comp_received_line, evict_received_line, resent_line, started_effect, started_line, step_effect, step_record, where_some}
 use Rattle.chi_line.specs.StepOf.{Changes}
 use Rattle.chi_line.specs.Traffic.{Balances, answer_flit, answered_flits, flit_taken, flits_sent, started_flits}
@@ -52,7 +52,7 @@ dbid_back : (last : List ℕ) (s : LineState) (n : Agent) (p : Pending) → n.0 
 dbid_back last s n p low k is here =
     let lane_kept = k.lanes n.0 low in
     let there : is_dbid (cells_of s n.0).rsp_down ≡ true = ap is_dbid here in
-    back_served s.home.serving n.0 p.kind (dbid_writes s.home.serving s.home.filter.unique s.home.filter.owner last n.0 (lane s n.0) there lane_kept) k.in_range (sym (ap kind_of is) ∙ lane_kept.dbid_kind there)
+    back_served s.home.serving n.0 p.kind (dbid_writes s.home.serving s.home.filter.unique s.home.filter.owner last n.0 (lane s n.0) there lane_kept) k.in_range (sym (ap kind_if is) ∙ lane_kept.dbid_kind there)
 
 -- what is shown of a line, shown of an equal one
 carry : (before after : LineState → Type 0) (v w : LineState) → v ≡ w → (before w → after w) → before v → after v
@@ -93,7 +93,7 @@ line_step c last s n line steps.RecvRetry low may k moves =
 line_step c last s n line steps.Resend low may k moves =
     let t = step_after c last s n line steps.Resend low may k in
     let r : IsRetried (rn_of s n.0).pending = may_resend c s n may in
-    let free = (neither (resend_refusal (rn_of s n.0)) (credit_refusal c.credits (pending_credit c.profile (rn_of s n.0).pending)) may).0 in
+    let free = (neither (resend_refusal (rn_of s n.0)) (marked_credit_refusal c.credits (pending_credit c.profile (rn_of s n.0).pending)) may).0 in
     carry (λ v. Balances [] (flits_sent c.profile s n steps.Resend) s v) (λ v. LineStep c.profile line n steps.Resend (standing_of s) Nothing None (standing_of v)) _ _
     (ap (λ (o : Option Pending). where_some s o (resent_line s n.0)) r.is)
     (λ m. row_resend c.profile line s n r.request low k.requesters r.is r.phase (subst (λ (o : Option Pending). resend_refusal_in (rn_of s n.0).state o ≡ None) r.is free) m) moves
@@ -134,7 +134,7 @@ line_step c last s n line steps.RecvAck low may k moves =
 line_step c last s n line steps.RecvDbid low may k moves =
     let t = step_after c last s n line steps.RecvDbid low may k in
     carry (λ v. Balances (flit_taken s n steps.RecvDbid) (flits_sent c.profile s n steps.RecvDbid) s v) (λ v. LineStep c.profile line n steps.RecvDbid (standing_of s) Nothing None (standing_of v)) _ _ t.3.2
-    (λ m. row_dbid c.profile line s n t.0 low k.requesters t.2 t.1 ((k.lanes n.0 low).kind_fits t.0.kind (ap kind_of t.1)) (dbid_back last s n t.0 low k t.1 t.2) m) moves
+    (λ m. row_dbid c.profile line s n t.0 low k.requesters t.2 t.1 ((k.lanes n.0 low).kind_fits t.0.kind (ap kind_if t.1)) (dbid_back last s n t.0 low k t.1 t.2) m) moves
 line_step c last s n line steps.RecvWrData low may k moves =
     let t = step_after c last s n line steps.RecvWrData low may k in
     let by_effect : LineStep c.profile line n steps.RecvWrData (standing_of s) (Completed t.0) None (standing_of (after_step c.profile s n steps.RecvWrData)) =

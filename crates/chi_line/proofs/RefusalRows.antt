@@ -28,12 +28,12 @@ use Rattle.chi_homeline.specs.declared.serving.Serving.TheVariants as code
 use Rattle.chi_homeline.specs.Home.{is_idle as is_idle_home, waiting_of}
 use Rattle.chi_line.specs.declared.act.Conditions.{Conditions}
 use Rattle.chi_line.specs.LineState.{LineState, cells_of, rn_of}
-use Rattle.chi_line.specs.Refused.{credit_refusal, full_if, no_flit_unless, retry_refusal, step_refusal}
+use Rattle.chi_line.specs.Refused.{marked_credit_refusal, full_if, no_flit_unless, retry_refusal, step_refusal}
 use Rattle.chi_line.specs.Step.{answer_in, data_answer, is_ack, is_comp, is_dbid, is_retry, is_slot, is_write_data, line_uses, pending_slot, response_answer, slot_served_for, waiting_slot}
 use Rattle.chi_line.specs.Types.{pending_credit}
 use Rattle.chi_line.specs.Words.{Agent, Slot, State, Step, Snoop, CreditType, Flit, Pending, Waiting, Msg, Req, Snp, RspDown, DatDown, RspUp, DatUp}
 use Rattle.chi_line.specs.Meaning.{serving_of, standing_of}
-use Rattle.chi_line.specs.RefusalRows.{Room, has_pending_slot, has_waiting_slot, is_comp_ack, is_comp_data, is_completion, is_data_request, is_droppable, is_first_attempt, is_flit_of, is_idle, is_outdated, is_request, is_retried, is_retry_ack, is_served_slot, is_snoop, is_snoop_answer, is_written_data, refusal_row, refused_if, uses_slot}
+use Rattle.chi_line.specs.RefusalRows.{Room, has_pending_slot, has_waiting_slot, is_comp_ack, is_comp_data, is_completion, is_data_request, is_droppable, is_first_attempt, is_flit_of, is_line_idle, is_outdated, is_request, is_retried, is_retry_ack, is_served_slot, is_snoop, is_snoop_answer, is_written_data, refusal_row, refused_if, uses_slot}
 
 abbrev pub room_of : Conditions → Room
 room_of c = record { journal_full = c.journal_full; slot_used = c.slot_used }
@@ -214,12 +214,12 @@ cancel_row : (p : Option Pending) (state : State) → cancel_refusal_in state p 
 cancel_row p state = search arith
 
 -- a credit of each type refuses nothing
-credit_row : (refusal : Option Refusal) (credits : List Bool) (ty : Option CreditType) → ((t : CreditType) → slice_index_or credits (credit_number t) false ≡ true) → option_or refusal (credit_refusal credits ty) ≡ refusal
+credit_row : (refusal : Option Refusal) (credits : List Bool) (ty : Option CreditType) → ((t : CreditType) → slice_index_or credits (credit_number t) false ≡ true) → option_or refusal (marked_credit_refusal credits ty) ≡ refusal
 credit_row (Some refusal) credits ty all = refl
 credit_row None credits None all = refl
 credit_row None credits (Some ty) all = ap (λ (b : Bool). if b then None else Some refusals.NoCredit) (all ty)
 
-idle_row : (v : Serving) (awaited : List Bool) → is_idle (serving_of v awaited) ≡ is_idle_home v
+idle_row : (v : Serving) (awaited : List Bool) → is_line_idle (serving_of v awaited) ≡ is_idle_home v
 idle_row code.Idle awaited = refl
 idle_row (code.Snooping agent kind slot) awaited = refl
 idle_row (code.AwaitingCompAck agent slot) awaited = refl
@@ -240,7 +240,7 @@ refusals_are c s n steps.Retry all = retry_row (cells_of s n.0).req _ _ (any_in 
 refusals_are c s n steps.RecvRetry all = no_flit_is (is_retry (cells_of s n.0).rsp_down) _ (any_in is_retry_ack channels.RspDown n s.flits retry_on ∙ retry_is (cells_of s n.0).rsp_down)
 refusals_are c s n steps.Resend all = credit_row (resend_refusal_in (rn_of s n.0).state (rn_of s n.0).pending) c.credits (pending_credit c.profile (rn_of s n.0).pending) all ∙ resend_row (rn_of s n.0).pending (rn_of s n.0).state
 refusals_are c s n steps.Cancel all = cancel_row (rn_of s n.0).pending (rn_of s n.0).state
-refusals_are c s n steps.Start all = start_row (waiting_of s.home n.0) (is_idle_home s.home.serving) (is_idle (serving_of s.home.serving s.home.awaited)) (idle_row s.home.serving s.home.awaited)
+refusals_are c s n steps.Start all = start_row (waiting_of s.home n.0) (is_idle_home s.home.serving) (is_line_idle (serving_of s.home.serving s.home.awaited)) (idle_row s.home.serving s.home.awaited)
 refusals_are c s n steps.RecvSnp all = no_flit_is (is_some (cells_of s n.0).snp) _ (any_in is_snoop channels.Snp n s.flits snoop_on ∙ snoop_is (cells_of s n.0).snp)
 refusals_are c s n steps.RecvSnpResp all = no_flit_is (is_some (answer_in (cells_of s n.0))) _ (answer_in_flight n s.flits)
 refusals_are c s n steps.RecvData all = no_flit_is (is_some (cells_of s n.0).dat_down) _ (any_in is_comp_data channels.DatDown n s.flits data_on ∙ data_is (cells_of s n.0).dat_down)

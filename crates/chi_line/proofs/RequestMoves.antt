@@ -40,7 +40,7 @@ use Rattle.chi_line.specs.Moves.{completed_to, if_moved, moved_slot, moved_to, r
 use Rattle.chi_line.proofs.MoveLaw.{Moved, always_moves, completed_from, flit_at, issued_kind, moved_from}
 use Rattle.chi_line.specs.Types.{is_of_type}
 use Rattle.chi_line.specs.Step.{issued_slot, acknowledged_line, admitted_line, after_step, answer_in, answered_by, cancelled_line, completed_effect, completed_slot, completion_received, data_written, dbid_received_line, dropped_line, is_ack, is_comp, is_dbid, is_retry, is_slot, is_write_data, issued_line, line_uses, pending_slot, received_line, resent_line, retried_line, retry_received_line, flits_after_start, slot_served_for, snooped_line, started_effect, started_line, stored_line, waiting_effect, waiting_slot, where_some, written_line}
-use Rattle.chi_line.specs.Places.{is_at_home, Seen, seen_of, where_in}
+use Rattle.chi_line.specs.Places.{is_at_home, Seen, agent_seen, where_in}
 use Rattle.chi_line.specs.Refused.{retry_refusal, step_refusal}
 use Rattle.chi_line.proofs.After.{IsRetried, IssueAllowed, cancel_allowed, dbid_there, flit_there, issue_allowed, names_used_slot, may_resend, retry_there}
 use Rattle.chi_line.proofs.Elsewhere.{SameCells, Stays, answer_up, answered_stays, sent_request, started_waits, stays_elsewhere, stays_where, write_awaited, same_shown}
@@ -53,20 +53,20 @@ use Rattle.chi_line.proofs.Trails.{Trail, completed_trail, not_served, place_pen
 use Rattle.chi_line.proofs.Typed.{issued_types, stays_asked, step_types}
 use Rattle.chi_line.proofs.Wheres.{is_free, acked_for, waits_not, written_for}
 
-copy_seen : (s : LineState) (n : ℕ) (r : Rn) → n < length s.requesters → seen_of (record s { requesters = set s.requesters n r }) n ≡ record (seen_of s n) { pending = r.pending }
-copy_seen s n r low = ap (λ (x : Rn). record (seen_of s n) { pending = x.pending }) (get_or-set_same s.requesters n r no_line low)
+copy_seen : (s : LineState) (n : ℕ) (r : Rn) → n < length s.requesters → agent_seen (record s { requesters = set s.requesters n r }) n ≡ record (agent_seen s n) { pending = r.pending }
+copy_seen s n r low = ap (λ (x : Rn). record (agent_seen s n) { pending = x.pending }) (get_or-set_same s.requesters n r no_line low)
 
-flits_seen : (s : LineState) (n : ℕ) (c : Cells) → n < length s.flits → seen_of (record s { flits = set s.flits n c }) n ≡ record (seen_of s n) { request = c.req; response = c.rsp_down }
-flits_seen s n c low = ap (λ (x : Cells). record (seen_of s n) { request = x.req; response = x.rsp_down }) (get_or-set_same s.flits n c no_flits low)
+flits_seen : (s : LineState) (n : ℕ) (c : Cells) → n < length s.flits → agent_seen (record s { flits = set s.flits n c }) n ≡ record (agent_seen s n) { request = c.req; response = c.rsp_down }
+flits_seen s n c low = ap (λ (x : Cells). record (agent_seen s n) { request = x.req; response = x.rsp_down }) (get_or-set_same s.flits n c no_flits low)
 
 both_seen : (s : LineState) (n : ℕ) (r : Rn) (c : Cells) → n < length s.requesters → n < length s.flits
-    → seen_of (record s { requesters = set s.requesters n r; flits = set s.flits n c }) n ≡ record (seen_of s n) { pending = r.pending; request = c.req; response = c.rsp_down }
+    → agent_seen (record s { requesters = set s.requesters n r; flits = set s.flits n c }) n ≡ record (agent_seen s n) { pending = r.pending; request = c.req; response = c.rsp_down }
 both_seen s n r c low flits =
-    ap (λ (x : Rn). record (seen_of (record s { flits = set s.flits n c }) n) { pending = x.pending }) (get_or-set_same s.requesters n r no_line low)
-    ∙ ap (λ (x : Cells). record (seen_of s n) { pending = r.pending; request = x.req; response = x.rsp_down }) (get_or-set_same s.flits n c no_flits flits)
+    ap (λ (x : Rn). record (agent_seen (record s { flits = set s.flits n c }) n) { pending = x.pending }) (get_or-set_same s.requesters n r no_line low)
+    ∙ ap (λ (x : Cells). record (agent_seen s n) { pending = r.pending; request = x.req; response = x.rsp_down }) (get_or-set_same s.flits n c no_flits flits)
 
 home_seen : (s : LineState) (n : ℕ) (home : Home) (c : Cells) (w : Option Waiting) (v : Option Slot) → n < length s.flits → waiting_of home n ≡ w → slot_served_for home.serving n ≡ v
-    → seen_of (record s { home = home; flits = set s.flits n c }) n ≡ record (seen_of s n) { request = c.req; response = c.rsp_down; waiting = w; served = v }
+    → agent_seen (record s { home = home; flits = set s.flits n c }) n ≡ record (agent_seen s n) { request = c.req; response = c.rsp_down; waiting = w; served = v }
 home_seen s n home c w v low waits serves =
     same_shown _ _ _ _ _ _ _ _ _ _ refl (ap (λ (x : Cells). x.req) (get_or-set_same s.flits n c no_flits low)) (ap (λ (x : Cells). x.rsp_down) (get_or-set_same s.flits n c no_flits low)) waits serves
 
@@ -95,34 +95,34 @@ none_is o h = search arith
 -- a pending request that neither waits nor is served isn't at the home
 away_at : (last : List ℕ) (s : LineState) (n : ℕ) (requested responded retried : Bool) → Here last s n → Trail s.home.serving n (lane s n) requested false false responded retried
     → is_comp_unique (cells_of s n).rsp_down ≡ false → is_dbid (cells_of s n).rsp_down ≡ false
-    → (slot : Slot) → is_slot (pending_slot (rn_of s n).pending) slot ≡ true → is_at_home (seen_of s n) slot ≡ false
+    → (slot : Slot) → is_slot (pending_slot (rn_of s n).pending) slot ≡ true → is_at_home (agent_seen s n) slot ≡ false
 away_at last s n requested responded retried h t unique dbid slot is =
     or_from _ _
     (ap (λ (w : Option Waiting). is_slot (waiting_slot w) slot) (none_is (waiting_of s.home n) t.waiting))
     (not_served s.home.serving s.home.filter.unique s.home.filter.owner last n (lane s n) slot is t.unsnooped t.completion unique dbid h.lane_kept)
 
 -- one that is served is
-served_at : (s : LineState) (n : ℕ) → slot_served_for s.home.serving n ≡ pending_slot (rn_of s n).pending → (slot : Slot) → is_slot (pending_slot (rn_of s n).pending) slot ≡ true → is_at_home (seen_of s n) slot ≡ true
+served_at : (s : LineState) (n : ℕ) → slot_served_for s.home.serving n ≡ pending_slot (rn_of s n).pending → (slot : Slot) → is_slot (pending_slot (rn_of s n).pending) slot ≡ true → is_at_home (agent_seen s n) slot ≡ true
 served_at s n served slot is = or_right (is_slot (waiting_slot (waiting_of s.home n)) slot) (is_slot (slot_served_for s.home.serving n) slot) (ap (λ (o : Option Slot). is_slot o slot) served ∙ is)
 
 -- what a step shows of its own agent
 abbrev Shows : LineState → LineState → ℕ → Option Slot → Option Where → Option Where → Type 0
-Shows s s' n moved from to = SeenMoved (seen_of s n) (seen_of s' n) moved from to
+Shows s s' n moved from to = SeenMoved (agent_seen s n) (agent_seen s' n) moved from to
 
 shows_by : (x y x' : Seen) (moved : Option Slot) (from to : Option Where) → SeenMoved x y moved from to → x' ≡ y → SeenMoved x x' moved from to
 shows_by x y x' moved from to m same = subst (λ (z : Seen). SeenMoved x z moved from to) (sym same) m
 
 -- a step that moves no request
-shows_same : (s s' : LineState) (n : ℕ) → seen_of s' n ≡ seen_of s n → Shows s s' n None None None
-shows_same s s' n same = none_moved (seen_of s n) (seen_of s' n) (λ slot. ap (λ (x : Seen). where_in x slot) same) (λ profile ty slot t. subst (λ (x : Seen). Asked profile ty x slot) (sym same) t)
+shows_same : (s s' : LineState) (n : ℕ) → agent_seen s' n ≡ agent_seen s n → Shows s s' n None None None
+shows_same s s' n same = none_moved (agent_seen s n) (agent_seen s' n) (λ slot. ap (λ (x : Seen). where_in x slot) same) (λ profile ty slot t. subst (λ (x : Seen). Asked profile ty x slot) (sym same) t)
 
 -- Issue
 issue_shows : (last : List ℕ) (s : LineState) (n : ℕ) (kind : Kind) (own : Slot) → Here last s n → (rn_of s n).pending ≡ None → line_uses s n own ≡ false
     → Shows s (issued_line s n kind own) n (Some own) None (Some places.Sent)
 issue_shows last s n kind own h none free =
     shows_by _ _ _ _ _ _
-    (issue_seen (seen_of s n) kind own none
-    (λ slot is. subst (λ (x : Slot). is_at_home (seen_of s n) x ≡ false) (same_slot own slot is) (or_parts (is_slot (pending_slot (rn_of s n).pending) own) (is_at_home (seen_of s n) own) free).1))
+    (issue_seen (agent_seen s n) kind own none
+    (λ slot is. subst (λ (x : Slot). is_at_home (agent_seen s n) x ≡ false) (same_slot own slot is) (or_parts (is_slot (pending_slot (rn_of s n).pending) own) (is_at_home (agent_seen s n) own) free).1))
     (both_seen s n _ _ h.requesters h.flits)
 
 -- Admit
@@ -132,7 +132,7 @@ admit_shows last s n None h here is = absurd (cc (is))
 admit_shows last s n (Some request) h here is =
     let t : Trail s.home.serving n (lane s n) true false false false false = requested_trail _ _ _ last n (lane s n) (ap is_some here) h.lane_kept in
     shows_by _ _ _ _ _ _
-    (admit_seen (seen_of s n) request here (h.lane_kept.request_slot request here) t.phase (none_is (waiting_of s.home n) t.waiting))
+    (admit_seen (agent_seen s n) request here (h.lane_kept.request_slot request here) t.phase (none_is (waiting_of s.home n) t.waiting))
     (home_seen s n (home_after_admit s.home n (record { kind = request.kind; slot = request.slot })) _ _ _ h.flits (get_or-set_same s.home.waiting n _ None h.waiting) refl)
 
 -- Retry
@@ -143,7 +143,7 @@ retry_shows profile last s n (Some request) h here may =
     let t : Trail s.home.serving n (lane s n) true false false false false = requested_trail _ _ _ last n (lane s n) (ap is_some here) h.lane_kept in
     let none : (cells_of s n).rsp_down ≡ None = none_is (cells_of s n).rsp_down t.response in
     shows_by _ _ _ _ _ _
-    (retry_seen (seen_of s n) request (credit_type_of profile request.kind) here (grind (arith, may)) (h.lane_kept.request_slot request here) t.phase
+    (retry_seen (agent_seen s n) request (credit_type_of profile request.kind) here (grind (arith, may)) (h.lane_kept.request_slot request here) t.phase
     (away_at last s n true false false h t (ap is_comp_unique none) (ap is_dbid none)))
     (flits_seen s n _ h.flits)
 
@@ -153,7 +153,7 @@ retried_shows : (last : List ℕ) (s : LineState) (n : ℕ) (ty : CreditType) �
 retried_shows last s n ty h here =
     let t : Trail s.home.serving n (lane s n) false false false true false = responded_trail _ _ _ last n (lane s n) (ap is_some here) h.lane_kept in
     shows_by _ _ _ _ _ _
-    (retried_seen (seen_of s n) ty (none_is (cells_of s n).req t.request) here t.phase (away_at last s n false true false h t (ap is_comp_unique here) (ap is_dbid here)))
+    (retried_seen (agent_seen s n) ty (none_is (cells_of s n).req t.request) here t.phase (away_at last s n false true false h t (ap is_comp_unique here) (ap is_dbid here)))
     (both_seen s n _ _ h.requesters h.flits)
 
 -- Resend
@@ -165,7 +165,7 @@ resend_shows : (last : List ℕ) (s : LineState) (n : ℕ) (there : Option Pendi
 resend_shows last s n None h here may = absurd (cc (may.is))
 resend_shows last s n (Some request) h here may =
     shows_by _ _ _ _ _ _
-    (resent_seen (seen_of s n) request here (ap is_retried here ∙ is_retried_by (Some request) may))
+    (resent_seen (agent_seen s n) request here (ap is_retried here ∙ is_retried_by (Some request) may))
     (both_seen s n _ _ h.requesters h.flits)
 
 -- Cancel
@@ -176,7 +176,7 @@ cancel_shows last s n h may =
     let t : Trail s.home.serving n (lane s n) false false false false true = retried_trail _ _ _ last n (lane s n) retried h.lane_kept in
     let none : (cells_of s n).rsp_down ≡ None = none_is (cells_of s n).rsp_down t.response in
     shows_by _ _ _ _ _ _
-    (cancelled_seen (seen_of s n) retried (away_at last s n false false true h t (ap is_comp_unique none) (ap is_dbid none)))
+    (cancelled_seen (agent_seen s n) retried (away_at last s n false false true h t (ap is_comp_unique none) (ap is_dbid none)))
     (copy_seen s n _ h.requesters)
 
 -- RecvData
@@ -187,7 +187,7 @@ data_shows last s n (Some message) h here is =
     let sent : is_some (cells_of s n).dat_down ≡ true = ap is_some here in
     let t : Trail s.home.serving n (lane s n) false false true false false = completed_trail _ _ _ last n (lane s n) sent h.lane_kept in
     shows_by _ _ _ _ _ _
-    (answered_seen (seen_of s n) (cells_of s n).rsp_down (none_is (cells_of s n).req t.request) t.phase
+    (answered_seen (agent_seen s n) (cells_of s n).rsp_down (none_is (cells_of s n).req t.request) t.phase
     (served_at s n (acked_for s.home.serving n (search (arith, sent, h.lane_kept.one_ack)) ∙ sym (h.lane_kept.read_slot sent))))
     (both_seen s n _ _ h.requesters h.flits)
 
@@ -198,13 +198,13 @@ comp_shows last s n (Some CompUC) h here is =
     let t : Trail s.home.serving n (lane s n) false false false true false = responded_trail _ _ _ last n (lane s n) (ap is_some here) h.lane_kept in
     let unique : is_comp_unique (cells_of s n).rsp_down ≡ true = ap is_comp_unique here in
     shows_by _ _ _ _ _ _
-    (answered_seen (seen_of s n) None (none_is (cells_of s n).req t.request) t.phase
+    (answered_seen (agent_seen s n) None (none_is (cells_of s n).req t.request) t.phase
     (served_at s n (acked_for s.home.serving n (search (arith, unique, h.lane_kept.one_ack)) ∙ sym (h.lane_kept.comp_slot unique))))
     (both_seen s n _ _ h.requesters h.flits)
 comp_shows last s n (Some CompI) h here is =
     let t : Trail s.home.serving n (lane s n) false false false true false = responded_trail _ _ _ last n (lane s n) (ap is_some here) h.lane_kept in
     shows_by _ _ _ _ _ _
-    (closed_seen (seen_of s n) (none_is (cells_of s n).req t.request) here t.phase (away_at last s n false true false h t (ap is_comp_unique here) (ap is_dbid here)))
+    (closed_seen (agent_seen s n) (none_is (cells_of s n).req t.request) here t.phase (away_at last s n false true false h t (ap is_comp_unique here) (ap is_dbid here)))
     (both_seen s n _ _ h.requesters h.flits)
 comp_shows last s n there h here is = absurd (cc (is))
 
@@ -216,17 +216,17 @@ dbid_shows last s n (Some request) h here is =
     let t : Trail s.home.serving n (lane s n) false false false true false = responded_trail _ _ _ last n (lane s n) (ap is_some here) h.lane_kept in
     let asked : is_dbid (cells_of s n).rsp_down ≡ true = ap is_dbid here in
     shows_by _ _ _ _ _ _
-    (answered_seen (seen_of s n) None (none_is (cells_of s n).req t.request) t.phase
+    (answered_seen (agent_seen s n) None (none_is (cells_of s n).req t.request) t.phase
     (served_at s n (written_for s.home.serving n (search (arith, asked, h.lane_kept.one_write)) ∙ sym (h.lane_kept.dbid_slot asked))))
     (both_seen s n _ _ h.requesters h.flits)
 
 -- RecvAck and RecvWrData: the request that ends is served, and its slot is neither pending nor waiting
-ended_shows : (last : List ℕ) (s s' : LineState) (n : ℕ) → Here last s n → seen_of s' n ≡ record (seen_of s n) { served = None }
+ended_shows : (last : List ℕ) (s s' : LineState) (n : ℕ) → Here last s n → agent_seen s' n ≡ record (agent_seen s n) { served = None }
     → slot_served_for s.home.serving n ≡ served_slot s.home.serving → pending_slot (rn_of s n).pending ≢ served_slot s.home.serving
     → Shows s s' n (completed_slot (completed_effect (served_slot s.home.serving))) (Some places.Answered) None
 ended_shows last s s' n h after served apart =
     subst (λ (o : Option Slot). Shows s s' n o (Some places.Answered) None) (served ∙ sym (completed_is (served_slot s.home.serving)))
-    (shows_by _ _ _ _ _ _ (ended_seen (seen_of s n) unpending (λ slot is. waits_not (waiting_of s.home n) (pending_slot (rn_of s n).pending) slot h.lane_kept.waiting_slot (unpending slot is))) after)
+    (shows_by _ _ _ _ _ _ (ended_seen (agent_seen s n) unpending (λ slot is. waits_not (waiting_of s.home n) (pending_slot (rn_of s n).pending) slot h.lane_kept.waiting_slot (unpending slot is))) after)
   where
     completed_is : (o : Option Slot) → completed_slot (completed_effect o) ≡ o
     completed_is None = refl
@@ -281,7 +281,7 @@ answer_shows : (last : List ℕ) (s : LineState) (agent : Agent) (there : Option
 answer_shows last s agent None low k = shows_same s s agent.0 refl
 answer_shows last s agent (Some answer) low k =
     let stays : Stays s (answered_by s agent answer) agent.0 = answered_stays last s agent answer agent.0 low k in
-    none_moved (seen_of s agent.0) (seen_of (answered_by s agent answer) agent.0) (λ slot. stays_where s (answered_by s agent answer) agent.0 slot stays)
+    none_moved (agent_seen s agent.0) (agent_seen (answered_by s agent answer) agent.0) (λ slot. stays_where s (answered_by s agent answer) agent.0 slot stays)
     (λ profile ty slot t. stays_asked profile ty s (answered_by s agent answer) agent.0 slot stays t)
 
 -- Start: what the home sends to the agent leaves its request's cell
@@ -299,7 +299,7 @@ taken_shows : (last : List ℕ) (s s' : LineState) (n : ℕ) (request : Waiting)
 taken_shows last s s' n request h here idle up =
     let t : Trail s.home.serving n (lane s n) false true false false false = waiting_trail _ _ _ last n (lane s n) (ap is_some here) h.lane_kept in
     shows_by _ _ _ _ _ _
-    (started_seen (seen_of s n) request (cells_of s' n).rsp_down here (none_is (cells_of s n).req t.request) (ap (λ (v : Serving). slot_served_for v n) idle) (h.lane_kept.waiting_slot request here) t.phase)
+    (started_seen (agent_seen s n) request (cells_of s' n).rsp_down here (none_is (cells_of s n).req t.request) (ap (λ (v : Serving). slot_served_for v n) idle) (h.lane_kept.waiting_slot request here) t.phase)
     (same_shown _ _ _ _ _ _ _ _ _ _ (ap (λ (l : List Rn). (get_or l n no_line).pending) up.copies) up.request refl up.waiting up.served)
 
 -- an Evict
@@ -308,7 +308,7 @@ evicted_shows : (last : List ℕ) (s : LineState) (n : ℕ) (request : Waiting) 
 evicted_shows last s n request home h here idle stays gone =
     let t : Trail s.home.serving n (lane s n) false true false false false = waiting_trail _ _ _ last n (lane s n) (ap is_some here) h.lane_kept in
     shows_by _ _ _ _ _ _
-    (evicted_seen (seen_of s n) request here (none_is (cells_of s n).req t.request) (ap (λ (v : Serving). slot_served_for v n) idle) (h.lane_kept.waiting_slot request here) t.phase)
+    (evicted_seen (agent_seen s n) request here (none_is (cells_of s n).req t.request) (ap (λ (v : Serving). slot_served_for v n) idle) (h.lane_kept.waiting_slot request here) t.phase)
     (home_seen s n home _ _ _ h.flits gone (ap (λ (v : Serving). slot_served_for v n) stays))
 
 -- the line once a request is started as one of the kind

@@ -18,7 +18,7 @@ use Rattle.chi_line.specs.declared.seen.Where.TheVariants as places
 use Rattle.chi_line.specs.LineState.{LineState, rn_of, cells_of}
 use Rattle.chi_line.specs.Kept.{Kept, Lane, LaneKept, is_comp_unique, is_retried, is_retried_phase, lane, snoops_for}
 use Rattle.chi_line.specs.Step.{is_dbid, is_slot, pending_slot, slot_served_for, waiting_slot}
-use Rattle.chi_line.specs.Places.{is_at_home, phase_at, response_at, Seen, seen_of, sent_at, unasked_at, where_at, where_by}
+use Rattle.chi_line.specs.Places.{is_at_home, phase_at, response_at, Seen, agent_seen, sent_at, unasked_at, where_at, where_by}
 use Rattle.chi_line.specs.Table.{HasNothing, IsAt, IsAtHome, IsFound, IsInFlight, IsPending}
 use Rattle.chi_line.proofs.EqualSlots.{same_slot}
 use Rattle.chi_line.proofs.Wheres.{Free, is_free, shows_unused}
@@ -101,7 +101,7 @@ LaneOf last s n = LaneKept s.home.serving s.home.filter.unique s.home.filter.own
 record Responded (s : LineState) (n : ℕ) (slot : Slot) : Type 0 where
   sent : is_retried (rn_of s n).pending ≡ false
   request : (cells_of s n).req ≡ None
-  away : is_at_home (seen_of s n) slot ≡ false
+  away : is_at_home (agent_seen s n) slot ≡ false
 
 responded : (last : List ℕ) (s : LineState) (n : ℕ) (slot : Slot) → IsPending s n slot → is_some (cells_of s n).rsp_down ≡ true → is_comp_unique (cells_of s n).rsp_down ≡ false → is_dbid (cells_of s n).rsp_down ≡ false → LaneOf last s n → Responded s n slot
 responded last s n slot own there no_unique no_dbid k =
@@ -118,8 +118,8 @@ shows_responded : (last : List ℕ) (s : LineState) (n : ℕ) (slot : Slot) (res
     → where_at s n slot ≡ response_at (Some response)
 shows_responded last s n slot response there no_unique no_dbid own k =
     let r : Responded s n slot = responded last s n slot own (ap (λ (o : Option RspDown). is_some o) there) (ap (λ (o : Option RspDown). is_comp_unique o) there ∙ no_unique) (ap (λ (o : Option RspDown). is_dbid o) there ∙ no_dbid) k in
-    shows_sent (rn_of s n).pending (seen_of s n) slot own r.sent
-    ∙ (ap (λ (q : Option Request). sent_at q (is_at_home (seen_of s n) slot) (cells_of s n).rsp_down) r.request
+    shows_sent (rn_of s n).pending (agent_seen s n) slot own r.sent
+    ∙ (ap (λ (q : Option Request). sent_at q (is_at_home (agent_seen s n) slot) (cells_of s n).rsp_down) r.request
     ∙ (ap (λ (b : Bool). sent_at None b (cells_of s n).rsp_down) r.away
     ∙ ap (λ (o : Option RspDown). response_at o) there))
 
@@ -128,8 +128,8 @@ shows_in_flight : (last : List ℕ) (s : LineState) (n : ℕ) (slot : Slot) (all
 shows_in_flight last s n slot allow_retry there k =
     let own : IsPending s n slot = k.request_slot there.0 there.1 ∙ ap (λ (x : Slot). Some x) there.2 in
     let trail : Trail s.home.serving n (lane s n) true false false false false = requested_trail s.home.serving s.home.filter.unique s.home.filter.owner last n (lane s n) (ap (λ (o : Option Request). is_some o) there.1) k in
-    shows_sent (rn_of s n).pending (seen_of s n) slot own trail.phase
-    ∙ (ap (λ (q : Option Request). sent_at q (is_at_home (seen_of s n) slot) (cells_of s n).rsp_down) there.1
+    shows_sent (rn_of s n).pending (agent_seen s n) slot own trail.phase
+    ∙ (ap (λ (q : Option Request). sent_at q (is_at_home (agent_seen s n) slot) (cells_of s n).rsp_down) there.1
     ∙ ap (λ (b : Bool). if b then Some places.Sent else Some places.Riding) there.3)
 
 -- a pending request that is at the home isn't in flight, nor retried
@@ -172,26 +172,26 @@ housed last s n slot here own k = ⊎_elim
     (λ served. served_housed s.home.serving s.home.filter.unique s.home.filter.owner last n (lane s n) slot own served k)
     here
 
-is_home : (s : LineState) (n : ℕ) (slot : Slot) → IsAtHome s n slot → is_at_home (seen_of s n) slot ≡ true
+is_home : (s : LineState) (n : ℕ) (slot : Slot) → IsAtHome s n slot → is_at_home (agent_seen s n) slot ≡ true
 is_home s n slot here = at_home (waiting_slot (waiting_of s.home n)) (slot_served_for s.home.serving n) slot here
 
 shows_admitted : (last : List ℕ) (s : LineState) (n : ℕ) (slot : Slot) → IsAtHome s n slot → IsPending s n slot → LaneOf last s n → where_at s n slot ≡ Some places.Admitted
 shows_admitted last s n slot here own k =
     let h : Housed n (lane s n) = housed last s n slot here own k in
-    shows_sent (rn_of s n).pending (seen_of s n) slot own h.sent
-    ∙ (ap (λ (q : Option Request). sent_at q (is_at_home (seen_of s n) slot) (cells_of s n).rsp_down) (no_request (cells_of s n).req h.request)
+    shows_sent (rn_of s n).pending (agent_seen s n) slot own h.sent
+    ∙ (ap (λ (q : Option Request). sent_at q (is_at_home (agent_seen s n) slot) (cells_of s n).rsp_down) (no_request (cells_of s n).req h.request)
     ∙ ap (λ (b : Bool). sent_at None b (cells_of s n).rsp_down) (is_home s n slot here))
 
 shows_answered : (s : LineState) (n : ℕ) (slot : Slot) → IsAtHome s n slot → pending_slot (rn_of s n).pending ≢ Some slot → where_at s n slot ≡ Some places.Answered
 shows_answered s n slot here other =
-    shows_unasked (rn_of s n).pending (seen_of s n) slot other
+    shows_unasked (rn_of s n).pending (agent_seen s n) slot other
     ∙ ap (λ (b : Bool). if b then Some places.Answered else None) (is_home s n slot here)
 
 -- each row says where the slot shows
 row_shows : (last : List ℕ) (s : LineState) (n : ℕ) (slot : Slot) (at : Where) → LaneOf last s n → IsAt s n slot at → where_at s n slot ≡ Some at
 row_shows last s n slot places.Sent k row = shows_in_flight last s n slot true row k
 row_shows last s n slot places.Refused k row = shows_responded last s n slot (RetryAck row.1.0) row.1.1 refl refl row.0 k
-row_shows last s n slot places.Retried k row = shows_retried (rn_of s n).pending (seen_of s n) slot row.0 row.1
+row_shows last s n slot places.Retried k row = shows_retried (rn_of s n).pending (agent_seen s n) slot row.0 row.1
 row_shows last s n slot places.Riding k row = shows_in_flight last s n slot false row k
 row_shows last s n slot places.Admitted k row = shows_admitted last s n slot row.0 row.1 k
 row_shows last s n slot places.Answered k row = shows_answered s n slot row.0 row.1
@@ -202,10 +202,10 @@ abbrev Holds : LineState → ℕ → Slot → Option Where → Type 0
 Holds s n slot None = Unit {0}
 Holds s n slot (Some at) = IsAt s n slot at
 
-holds_unasked : (s : LineState) (n : ℕ) (slot : Slot) → pending_slot (rn_of s n).pending ≢ Some slot → Holds s n slot (unasked_at (seen_of s n) slot)
-holds_unasked s n slot other = go (is_at_home (seen_of s n) slot) refl
+holds_unasked : (s : LineState) (n : ℕ) (slot : Slot) → pending_slot (rn_of s n).pending ≢ Some slot → Holds s n slot (unasked_at (agent_seen s n) slot)
+holds_unasked s n slot other = go (is_at_home (agent_seen s n) slot) refl
   where
-    go : (b : Bool) → is_at_home (seen_of s n) slot ≡ b → Holds s n slot (if b then Some places.Answered else None)
+    go : (b : Bool) → is_at_home (agent_seen s n) slot ≡ b → Holds s n slot (if b then Some places.Answered else None)
     go true here = (home_of (waiting_slot (waiting_of s.home n)) (slot_served_for s.home.serving n) slot here, other)
     go false away = tt
 
@@ -217,7 +217,7 @@ holds_response last s n slot (Some CompI) there own k = (own, k.evict_kind there
 holds_response last s n slot (Some CompDBIDResp) there own k = tt
 
 holds_sent : (last : List ℕ) (s : LineState) (n : ℕ) (slot : Slot) (request : Option Request) → (cells_of s n).req ≡ request → IsPending s n slot → LaneOf last s n
-    → Holds s n slot (sent_at request (is_at_home (seen_of s n) slot) (cells_of s n).rsp_down)
+    → Holds s n slot (sent_at request (is_at_home (agent_seen s n) slot) (cells_of s n).rsp_down)
 holds_sent last s n slot (Some request) there own k = go request.allow_retry refl
   where
     same : request.slot ≡ slot
@@ -226,13 +226,13 @@ holds_sent last s n slot (Some request) there own k = go request.allow_retry ref
     go : (b : Bool) → request.allow_retry ≡ b → Holds s n slot (if b then Some places.Sent else Some places.Riding)
     go true is = (request, there, same, is)
     go false is = (request, there, same, is)
-holds_sent last s n slot None there own k = go (is_at_home (seen_of s n) slot) refl
+holds_sent last s n slot None there own k = go (is_at_home (agent_seen s n) slot) refl
   where
-    go : (b : Bool) → is_at_home (seen_of s n) slot ≡ b → Holds s n slot (sent_at None b (cells_of s n).rsp_down)
+    go : (b : Bool) → is_at_home (agent_seen s n) slot ≡ b → Holds s n slot (sent_at None b (cells_of s n).rsp_down)
     go true here = (home_of (waiting_slot (waiting_of s.home n)) (slot_served_for s.home.serving n) slot here, own)
     go false away = holds_response last s n slot (cells_of s n).rsp_down refl own k
 
-holds_phase : (last : List ℕ) (s : LineState) (n : ℕ) (slot : Slot) (phase : Phase) → is_retried (rn_of s n).pending ≡ is_retried_phase phase → IsPending s n slot → LaneOf last s n → Holds s n slot (phase_at phase (seen_of s n) slot)
+holds_phase : (last : List ℕ) (s : LineState) (n : ℕ) (slot : Slot) (phase : Phase) → is_retried (rn_of s n).pending ≡ is_retried_phase phase → IsPending s n slot → LaneOf last s n → Holds s n slot (phase_at phase (agent_seen s n) slot)
 holds_phase last s n slot Sent is own k = holds_sent last s n slot (cells_of s n).req refl own k
 holds_phase last s n slot Retried is own k = (own, is)
 
@@ -247,21 +247,21 @@ holds last s n slot k = go (rn_of s n).pending refl
         let same : (request.slot.0 == slot.0) ≡ true = is_its (Some request.slot) slot (sym (ap pending_slot pending) ∙ own) in
         cc (same, away)
 
-    by_slot : (request : Pending) → (rn_of s n).pending ≡ Some request → (b : Bool) → (request.slot.0 == slot.0) ≡ b → Holds s n slot (if b then phase_at request.phase (seen_of s n) slot else unasked_at (seen_of s n) slot)
+    by_slot : (request : Pending) → (rn_of s n).pending ≡ Some request → (b : Bool) → (request.slot.0 == slot.0) ≡ b → Holds s n slot (if b then phase_at request.phase (agent_seen s n) slot else unasked_at (agent_seen s n) slot)
     by_slot request pending true same = holds_phase last s n slot request.phase (ap is_retried pending) (ap pending_slot pending ∙ has_slot (Some request.slot) slot same) k
     by_slot request pending false away = holds_unasked s n slot (other_own request pending away)
 
-    go : (pending : Option Pending) → (rn_of s n).pending ≡ pending → Holds s n slot (where_by pending (seen_of s n) slot)
+    go : (pending : Option Pending) → (rn_of s n).pending ≡ pending → Holds s n slot (where_by pending (agent_seen s n) slot)
     go None none = holds_unasked s n slot (none_own none)
     go (Some request) pending = by_slot request pending (request.slot.0 == slot.0) refl
 
 -- where nothing shows there is nothing, and the other way round
 shows_nothing : (s : LineState) (n : ℕ) (slot : Slot) → HasNothing s n slot → where_at s n slot ≡ None
 shows_nothing s n slot nothing =
-    shows_unasked (rn_of s n).pending (seen_of s n) slot nothing.0
-    ∙ ap (λ (b : Bool). if b then Some places.Answered else None) (away (is_at_home (seen_of s n) slot) refl)
+    shows_unasked (rn_of s n).pending (agent_seen s n) slot nothing.0
+    ∙ ap (λ (b : Bool). if b then Some places.Answered else None) (away (is_at_home (agent_seen s n) slot) refl)
   where
-    away : (b : Bool) → is_at_home (seen_of s n) slot ≡ b → b ≡ false
+    away : (b : Bool) → is_at_home (agent_seen s n) slot ≡ b → b ≡ false
     away true here = absurd (nothing.1 (home_of (waiting_slot (waiting_of s.home n)) (slot_served_for s.home.serving n) slot here))
     away false gone = refl
 

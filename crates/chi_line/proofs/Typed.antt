@@ -30,7 +30,7 @@ use Rattle.chi_homeline.specs.Home.{Home, answer_taken, asks, home_after_complet
 use Rattle.chi_line.specs.LineState.{LineState, rn_of, cells_of}
 use Rattle.chi_line.specs.Step.{admitted_line, after_step, answer_in, answered_by, completion_received, data_written, dbid_received_line, is_slot, issued_line, received_line, resent_line, retried_line, slot_served_for, snooped_line, started_line, waiting_slot, where_some}
 use Rattle.chi_line.specs.Types.{has_type, is_of_type, pending_kind_of, requested_kind_of, served_kind_of, waiting_kind_of}
-use Rattle.chi_line.specs.Places.{seen_of}
+use Rattle.chi_line.specs.Places.{agent_seen}
 use Rattle.chi_line.proofs.Elsewhere.{Stays}
 use Rattle.chi_line.proofs.SeenMoves.{Asked, other_kind}
 use Rattle.chi_line.proofs.Wheres.{Free}
@@ -40,7 +40,7 @@ abbrev Has : Profile → CreditType → Option Kind → Type 0
 Has profile ty kind = has_type profile ty kind ≡ true
 
 -- the kinds that a line keeps of an agent's slot, and that which is served
-pub typed : (profile : Profile) (ty : CreditType) (s : LineState) (n : ℕ) (slot : Slot) → is_of_type profile ty s n slot ≡ true → Asked profile ty (seen_of s n) slot × Has profile ty (served_kind_of s.home.serving n slot)
+pub typed : (profile : Profile) (ty : CreditType) (s : LineState) (n : ℕ) (slot : Slot) → is_of_type profile ty s n slot ≡ true → Asked profile ty (agent_seen s n) slot × Has profile ty (served_kind_of s.home.serving n slot)
 typed profile ty s n slot h =
     let first = and_parts (has_type profile ty (pending_kind_of (rn_of s n).pending slot)) _ h in
     let second = and_parts (has_type profile ty (requested_kind_of (cells_of s n).req slot)) _ first.1 in
@@ -50,11 +50,11 @@ typed profile ty s n slot h =
 all_of : (a b c d : Bool) → a ≡ true → b ≡ true → c ≡ true → d ≡ true → (a && (b && (c && d))) ≡ true
 all_of a b c d w x y z = rw (w, x, y, z) refl
 
-pub of_type : (profile : Profile) (ty : CreditType) (s : LineState) (n : ℕ) (slot : Slot) → Asked profile ty (seen_of s n) slot → Has profile ty (served_kind_of s.home.serving n slot) → is_of_type profile ty s n slot ≡ true
+pub of_type : (profile : Profile) (ty : CreditType) (s : LineState) (n : ℕ) (slot : Slot) → Asked profile ty (agent_seen s n) slot → Has profile ty (served_kind_of s.home.serving n slot) → is_of_type profile ty s n slot ≡ true
 of_type profile ty s n slot t served = all_of _ _ _ _ t.pending t.request t.waiting served
 
 -- parts that stay
-pub stays_asked : (profile : Profile) (ty : CreditType) (s s' : LineState) (n : ℕ) (slot : Slot) → Stays s s' n → Asked profile ty (seen_of s n) slot → Asked profile ty (seen_of s' n) slot
+pub stays_asked : (profile : Profile) (ty : CreditType) (s s' : LineState) (n : ℕ) (slot : Slot) → Stays s s' n → Asked profile ty (agent_seen s n) slot → Asked profile ty (agent_seen s' n) slot
 stays_asked profile ty s s' n slot stays t = record {
   pending = ap (λ (p : Option Pending). has_type profile ty (pending_kind_of p slot)) stays.pending ∙ t.pending;
   request = ap (λ (q : Option Request). has_type profile ty (requested_kind_of q slot)) stays.request ∙ t.request;
@@ -141,7 +141,7 @@ served_step profile ty s agent other n slot waits t = t
 
 -- a slot whose requests have the type after a step has it wherever a kind is kept
 pub step_types : (profile : Profile) (s : LineState) (agent : Agent) (step : Step) (n : ℕ) (slot : Slot) (ty : CreditType)
-    → (Asked profile ty (seen_of s n) slot → Asked profile ty (seen_of (after_step profile s agent step) n) slot)
+    → (Asked profile ty (agent_seen s n) slot → Asked profile ty (agent_seen (after_step profile s agent step) n) slot)
     → is_of_type profile ty s n slot ≡ true → is_of_type profile ty (after_step profile s agent step) n slot ≡ true
 step_types profile s agent step n slot ty asked is =
     let t = typed profile ty s n slot is in

@@ -17,7 +17,7 @@ use Rattle.chi_line.specs.declared.seen.Where.TheVariants as places
 use Rattle.chi_line.specs.LineState.{LineState, rn_of, cells_of}
 use Rattle.chi_line.specs.Kept.{Kept, Lane, LaneKept, is_comp_unique, lane, snoops_for, writes_for}
 use Rattle.chi_line.specs.Step.{is_dbid, is_slot, line_uses, pending_slot, slot_served_for, waiting_slot}
-use Rattle.chi_line.specs.Places.{is_at_home, phase_at, response_at, Seen, seen_of, sent_at, unasked_at, where_at, where_by}
+use Rattle.chi_line.specs.Places.{is_at_home, phase_at, response_at, Seen, agent_seen, sent_at, unasked_at, where_at, where_by}
 
 -- none of the agent's requests at the line has the slot
 pub record Free (s : LineState) (n : ℕ) (slot : Slot) : Type 0 where
@@ -75,14 +75,14 @@ in_flight false none = cc (none)
 -- so it shows somewhere
 sent_shows : (s : LineState) (last : List ℕ) (n : ℕ) (request : Pending) (slot : Slot) → n < 8 → Kept last s
     → (rn_of s n).pending ≡ Some request → request.phase ≡ Sent → (request.slot.0 == slot.0) ≡ true
-    → sent_at (cells_of s n).req (is_at_home (seen_of s n) slot) (cells_of s n).rsp_down ≡ None → ⊥
+    → sent_at (cells_of s n).req (is_at_home (agent_seen s n) slot) (cells_of s n).rsp_down ≡ None → ⊥
 sent_shows s last n request slot low k pending sent same nowhere =
-    go (cells_of s n).req (is_at_home (seen_of s n) slot) refl refl nowhere
+    go (cells_of s n).req (is_at_home (agent_seen s n) slot) refl refl nowhere
   where
     lanes : LaneKept s.home.serving s.home.filter.unique s.home.filter.owner last n (lane s n)
     lanes = k.lanes n low
 
-    go : (q : Option Request) (b : Bool) → (cells_of s n).req ≡ q → is_at_home (seen_of s n) slot ≡ b → sent_at q b (cells_of s n).rsp_down ≡ None → ⊥
+    go : (q : Option Request) (b : Bool) → (cells_of s n).req ≡ q → is_at_home (agent_seen s n) slot ≡ b → sent_at q b (cells_of s n).rsp_down ≡ None → ⊥
     go (Some q) b hq hb none = in_flight q.allow_retry none
     go None true hq hb none = cc (none)
     go None false hq hb none =
@@ -102,27 +102,27 @@ pub shows_unused : (s : LineState) (last : List ℕ) (n : ℕ) (slot : Slot) →
 shows_unused s last n slot low k none = go (rn_of s n).pending refl none
   where
     home : Bool
-    home = is_at_home (seen_of s n) slot
+    home = is_at_home (agent_seen s n) slot
 
     at : (request : Pending) (phase : Phase) (b : Bool) → (rn_of s n).pending ≡ Some request → request.phase ≡ phase → (request.slot.0 == slot.0) ≡ b
-        → (if b then phase_at phase (seen_of s n) slot else unasked_at (seen_of s n) slot) ≡ None → b || home ≡ false
+        → (if b then phase_at phase (agent_seen s n) slot else unasked_at (agent_seen s n) slot) ≡ None → b || home ≡ false
     at request Retried true pending phase same none = absurd (cc (none))
     at request Sent true pending phase same none = absurd (sent_shows s last n request slot low k pending phase same none)
-    at request phase false pending is same none = unasked_none (seen_of s n) slot none
+    at request phase false pending is same none = unasked_none (agent_seen s n) slot none
 
-    go : (p : Option Pending) → (rn_of s n).pending ≡ p → where_by p (seen_of s n) slot ≡ None → is_slot (pending_slot p) slot || home ≡ false
-    go None pending none = unasked_none (seen_of s n) slot none
+    go : (p : Option Pending) → (rn_of s n).pending ≡ p → where_by p (agent_seen s n) slot ≡ None → is_slot (pending_slot p) slot || home ≡ false
+    go None pending none = unasked_none (agent_seen s n) slot none
     go (Some request) pending none = at request request.phase (request.slot.0 == slot.0) pending refl refl none
 
 -- a slot that isn't in use at the line doesn't show
 pub unused_shows : (s : LineState) (n : ℕ) (slot : Slot) → line_uses s n slot ≡ false → where_at s n slot ≡ None
 unused_shows s n slot free = go (rn_of s n).pending free
   where
-    at : (b : Bool) (phase : Phase) → b || is_at_home (seen_of s n) slot ≡ false → (if b then phase_at phase (seen_of s n) slot else unasked_at (seen_of s n) slot) ≡ None
+    at : (b : Bool) (phase : Phase) → b || is_at_home (agent_seen s n) slot ≡ false → (if b then phase_at phase (agent_seen s n) slot else unasked_at (agent_seen s n) slot) ≡ None
     at true phase free = absurd (cc (free))
     at false phase free = ap (λ (b : Bool). if b then Some Answered else None) free
 
-    go : (p : Option Pending) → is_slot (pending_slot p) slot || is_at_home (seen_of s n) slot ≡ false → where_by p (seen_of s n) slot ≡ None
+    go : (p : Option Pending) → is_slot (pending_slot p) slot || is_at_home (agent_seen s n) slot ≡ false → where_by p (agent_seen s n) slot ≡ None
     go None free = ap (λ (b : Bool). if b then Some Answered else None) free
     go (Some request) free = at (request.slot.0 == slot.0) request.phase free
 

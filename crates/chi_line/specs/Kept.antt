@@ -42,9 +42,9 @@ bit false = 0
 bit true = 1
 
 -- of a pending request
-abbrev pub kind_of : Option Pending → Option Kind
-kind_of None = None
-kind_of (Some request) = Some request.kind
+abbrev pub kind_if : Option Pending → Option Kind
+kind_if None = None
+kind_if (Some request) = Some request.kind
 
 -- of kinds
 abbrev pub is_read : Kind → Bool
@@ -151,24 +151,24 @@ pub record LaneKept (serving : Serving) (unique : Bool) (owner : Option Agent) (
   pub holder_named : is_valid x.rn.state ≡ true → x.named ≡ true
   pub holder_last : is_valid x.rn.state ≡ true → x.rn.words ≡ last
   pub unique_flagged : is_unique x.rn.state ≡ true → unique ≡ true
-  pub kind_fits : (k : Kind) → kind_of x.rn.pending ≡ Some k → allows k x.rn.state ≡ true
+  pub kind_fits : (k : Kind) → kind_if x.rn.pending ≡ Some k → allows k x.rn.state ≡ true
   -- a pending request is in one place, or retried, and what is there is that request
   pub one_place : bit (is_some x.flits.req) + bit (is_some x.waiting) + bit (snoops_for serving n)
       + bit (is_some x.flits.dat_down) + bit (is_some x.flits.rsp_down) + bit (is_retried x.rn.pending)
       ≡ bit (is_some x.rn.pending)
-  pub request_kind : (q : Request) → x.flits.req ≡ Some q → kind_of x.rn.pending ≡ Some q.kind
+  pub request_kind : (q : Request) → x.flits.req ≡ Some q → kind_if x.rn.pending ≡ Some q.kind
   pub request_slot : (q : Request) → x.flits.req ≡ Some q → pending_slot x.rn.pending ≡ Some q.slot
-  pub waiting_kind : (q : Waiting) → x.waiting ≡ Some q → kind_of x.rn.pending ≡ Some q.kind
+  pub waiting_kind : (q : Waiting) → x.waiting ≡ Some q → kind_if x.rn.pending ≡ Some q.kind
   pub waiting_slot : (q : Waiting) → x.waiting ≡ Some q → pending_slot x.rn.pending ≡ Some q.slot
-  pub snooped_kind : snoops_for serving n ≡ true → kind_of x.rn.pending ≡ served_kind serving
+  pub snooped_kind : snoops_for serving n ≡ true → kind_if x.rn.pending ≡ served_kind serving
   pub snooped_slot : snoops_for serving n ≡ true → pending_slot x.rn.pending ≡ served_slot serving
   pub snooped_alone : snoops_for serving n ≡ true → x.awaited ≡ false
-  pub dbid_kind : is_dbid x.flits.rsp_down ≡ true → kind_of x.rn.pending ≡ served_kind serving
+  pub dbid_kind : is_dbid x.flits.rsp_down ≡ true → kind_if x.rn.pending ≡ served_kind serving
   pub dbid_slot : is_dbid x.flits.rsp_down ≡ true → pending_slot x.rn.pending ≡ served_slot serving
-  pub comp_kind : is_comp_unique x.flits.rsp_down ≡ true → kind_of x.rn.pending ≡ Some CleanUnique
+  pub comp_kind : is_comp_unique x.flits.rsp_down ≡ true → kind_if x.rn.pending ≡ Some CleanUnique
   pub comp_slot : is_comp_unique x.flits.rsp_down ≡ true → pending_slot x.rn.pending ≡ served_slot serving
-  pub evict_kind : x.flits.rsp_down ≡ Some CompI → kind_of x.rn.pending ≡ Some Evict
-  pub read_kind : (k : Kind) → is_some x.flits.dat_down ≡ true → kind_of x.rn.pending ≡ Some k → is_read k ≡ true
+  pub evict_kind : x.flits.rsp_down ≡ Some CompI → kind_if x.rn.pending ≡ Some Evict
+  pub read_kind : (k : Kind) → is_some x.flits.dat_down ≡ true → kind_if x.rn.pending ≡ Some k → is_read k ≡ true
   pub read_slot : is_some x.flits.dat_down ≡ true → pending_slot x.rn.pending ≡ served_slot serving
   pub read_finds_none : is_some x.flits.dat_down ≡ true → x.rn.state ≡ I
   -- while a CompAck or write data is awaited, one of what asks for it and itself is on its way

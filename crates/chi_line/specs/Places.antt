@@ -24,8 +24,8 @@ pub record Seen : Type 0 where
   pub served : Option Slot
 
 -- what it shows of the agent n
-abbrev pub seen_of : LineState → ℕ → Seen
-seen_of s n = record {
+abbrev pub agent_seen : LineState → ℕ → Seen
+agent_seen s n = record {
   pending = (rn_of s n).pending;
   request = (cells_of s n).req;
   response = (cells_of s n).rsp_down;
@@ -67,4 +67,4 @@ where_in x slot = where_by x.pending x slot
 
 -- where the request of an agent's slot is at a line: None where the line shows nothing of it
 abbrev pub where_at : LineState → ℕ → Slot → Option Where
-where_at s n slot = where_in (seen_of s n) slot
+where_at s n slot = where_in (agent_seen s n) slot

@@ -89,9 +89,9 @@ abbrev pub is_outdated : Option Pending → State → Bool
 is_outdated None state = false
 is_outdated (Some p) state = is_copy_back p.kind && not (is_needed p.kind state)
 
-abbrev pub is_idle : Serving → Bool
-is_idle Idle = true
-is_idle other = false
+abbrev pub is_line_idle : Serving → Bool
+is_line_idle Idle = true
+is_line_idle other = false
 
 -- refused where the condition holds, and if not, as the rest of the row says
 abbrev pub refused_if : Bool → Refusal → Option Refusal → Option Refusal
@@ -124,7 +124,7 @@ refusal_row room s n steps.Cancel =
     (refused_if (not (is_outdated (s.pending n) (s.copies n).state)) refusals.WrongState None)
 refusal_row room s n steps.Start =
     refused_if (not (is_some (s.waiting n))) refusals.NotWaiting
-    (refused_if (not (is_idle s.serving)) refusals.LineBusy None)
+    (refused_if (not (is_line_idle s.serving)) refusals.LineBusy None)
 refusal_row room s n steps.RecvSnp = refused_if (is_missing is_snoop n s) refusals.NoFlit None
 refusal_row room s n steps.RecvSnpResp = refused_if (is_missing is_snoop_answer n s) refusals.NoFlit None
 refusal_row room s n steps.RecvData = refused_if (is_missing is_comp_data n s) refusals.NoFlit None

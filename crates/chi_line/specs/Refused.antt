@@ -33,12 +33,12 @@ retry_refusal None = Some refusals.NoFlit
 retry_refusal (Some request) = if request.allow_retry then None else Some refusals.MustAccept
 
 -- Resend: the copy's refusal, then 12 where there is no credit of the request's type
-abbrev pub credit_refusal : List Bool → Option CreditType → Option Refusal
-credit_refusal credits None = None
-credit_refusal credits (Some ty) = if slice_index_or credits (credit_number ty) false then None else Some refusals.NoCredit
+abbrev pub marked_credit_refusal : List Bool → Option CreditType → Option Refusal
+marked_credit_refusal credits None = None
+marked_credit_refusal credits (Some ty) = if slice_index_or credits (credit_number ty) false then None else Some refusals.NoCredit
 
 abbrev pub resend_step_refusal : Conditions → Rn → Option Refusal
-resend_step_refusal c rn = option_or (resend_refusal rn) (credit_refusal c.credits (pending_credit c.profile rn.pending))
+resend_step_refusal c rn = option_or (resend_refusal rn) (marked_credit_refusal c.credits (pending_credit c.profile rn.pending))
 
 -- whether the flit that a step takes is among its agent's
 abbrev pub has_flit : Cells → Step → Bool

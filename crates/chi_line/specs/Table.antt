@@ -12,7 +12,7 @@ use Rattle.chi_line.specs.declared.seen.Where.{Where}
 use Rattle.chi_line.specs.declared.seen.Where.TheVariants.{Sent, Refused, Retried, Riding, Admitted, Answered, Closing}
 use Rattle.chi_line.specs.LineState.{LineState, rn_of, cells_of}
 use Rattle.chi_line.specs.Step.{pending_slot, slot_served_for, waiting_slot}
-use Rattle.chi_line.specs.Kept.{is_retried, kind_of}
+use Rattle.chi_line.specs.Kept.{is_retried, kind_if}
 
 -- the agent's request of the slot is in flight, with AllowRetry or without
 abbrev pub IsInFlight : Bool → LineState → ℕ → Slot → Type 0
@@ -42,7 +42,7 @@ IsAt s n slot Retried = IsPending s n slot × (is_retried (rn_of s n).pending �
 IsAt s n slot Riding = IsInFlight false s n slot
 IsAt s n slot Admitted = IsAtHome s n slot × IsPending s n slot
 IsAt s n slot Answered = IsAtHome s n slot × (pending_slot (rn_of s n).pending ≢ Some slot)
-IsAt s n slot Closing = IsPending s n slot × (kind_of (rn_of s n).pending ≡ Some Evict) × HasCompI s n
+IsAt s n slot Closing = IsPending s n slot × (kind_if (rn_of s n).pending ≡ Some Evict) × HasCompI s n
 
 -- nothing of the slot: no pending request, none at the home and none in flight has it
 abbrev pub HasNothing : LineState → ℕ → Slot → Type 0

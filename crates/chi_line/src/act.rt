@@ -8,7 +8,7 @@ ghost use Rattle.chi_line.specs.Refused.{line_refusal};
 ghost use Rattle.chi_line.specs.Step.{after, effect_of, is_step_in_range};
 ghost use Rattle.chi_line.specs.Traffic.{KeepsFlits};
 
-use crate::line::Line;
+use crate::line::CoherentLine;
 use crate::upshots::Upshot;
 use chi_flit::{Action, Profile, Refusal, Step};
 
@@ -25,7 +25,7 @@ pub struct Conditions {
     pub profile: Profile,
 }
 
-impl Line {
+impl CoherentLine {
     /// Does an action on the line. Answers its effect, and which request of the agent it moved, and where
     /// to: all as the line before the action has it.
     ///

@@ -18,13 +18,13 @@ ghost use Rattle.chi_line.specs.Upshots.{upshot_of_end, upshot_with_move};
 ghost use Rattle.chi_line.specs.declared.seen.Where.TheVariants.{Answered};
 
 use crate::flits::has_flit;
-use crate::line::Line;
+use crate::line::CoherentLine;
 use crate::seen::Where;
 use crate::slots::pending_slot;
 use crate::upshots::Upshot;
 use chi_flit::{Agent, Channel, DatUp, Refusal, RspDown, Step};
 
-impl Line {
+impl CoherentLine {
     /// RecvData: the agent's copy is that of the data, nothing is pending, and its CompAck is in flight.
     ///
     /// Refused 7 (NoFlit) where no data is in flight; nothing changes then.

@@ -10,12 +10,12 @@ ghost use Rattle.chi_line.specs.Refused.{full_if};
 ghost use Rattle.chi_line.specs.Step.{cancelled_line, dropped_line, pending_slot, stored_line};
 ghost use Rattle.chi_line.specs.Upshots.{upshot_with_move, upshot_without_move};
 
-use crate::line::Line;
+use crate::line::CoherentLine;
 use crate::slots::pending_slot;
 use crate::upshots::Upshot;
 use chi_flit::{Agent, Effect, Refusal, WordNo};
 
-impl Line {
+impl CoherentLine {
     /// Load: the value of a word of the agent's copy. The journal takes a record of it.
     ///
     /// Refused 2 (WrongState) where there is no copy, then 1 (JournalFull) where the journal is `full`.

@@ -8,11 +8,11 @@ ghost use Rattle.chi_line.specs.Refused.{completed_at, no_flit_unless};
 ghost use Rattle.chi_line.specs.Step.{completed_effect, evicted_if, slot_unless, waiting_effect};
 
 use crate::flits::has_flit;
-use crate::line::Line;
+use crate::line::CoherentLine;
 use chi_flit::{Agent, Kind, Slot, Step};
 use chi_homeline::{HomeLine, Serving, Waiting};
 
-impl Line {
+impl CoherentLine {
     /// The slot of the request that a step of the agent would complete; `None` where the step would be
     /// refused, or completes nothing.
     ///

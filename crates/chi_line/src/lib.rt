@@ -19,7 +19,7 @@ mod view;
 
 pub use act::Conditions;
 pub use flits::has_flit;
-pub use line::Line;
+pub use line::CoherentLine;
 pub use seen::Where;
 pub use slots::pending_slot;
 pub use types::{TypedSlot, pending_credit};

@@ -17,13 +17,13 @@ use std::marker::Model;
 /// Contracts see it as a `LineState`.
 /// Source: `docs/PROTOCOL.md`, "One line".
 #[derive(Drop)]
-pub struct Line {
+pub struct CoherentLine {
     pub(crate) requesters: [RnLine; 8],
     pub(crate) home: HomeLine,
     pub(crate) flits: Wires,
 }
 
-impl Model for Line {
+impl Model for CoherentLine {
     ghost use Rattle.chi_line.specs.LineState.{LineState};
 
     ghost Value = { LineState };
@@ -31,14 +31,14 @@ impl Model for Line {
     ghost view = { λ line. record { requesters = line.requesters; home = line.home; flits = line.flits } };
 }
 
-impl Line {
+impl CoherentLine {
     /// A line whose memory is 0, with no copies, and nothing pending, waiting, served or in flight.
     /// Source: `docs/PROTOCOL.md`, "One line".
-    pub fn new() -> Line
+    pub fn new() -> CoherentLine
         ensures opening { result ≡ opening_line }
         ensures none { in_flight result.flits ≡ [] }
     {
-        Line {
+        CoherentLine {
             requesters: [RnLine::new(); 8],
             home: HomeLine::new(),
             flits: Wires::new(),

@@ -9,11 +9,11 @@ ghost use Rattle.chi_line.specs.Refused.{full_if, line_refusal, no_flit_unless, 
 
 use crate::act::Conditions;
 use crate::flits::has_flit;
-use crate::line::Line;
+use crate::line::CoherentLine;
 use chi_flit::{Action, Kind, Refusal, Request, Step, credit_type};
 use chi_rnline::{Pending, RnLine};
 
-impl Line {
+impl CoherentLine {
     /// Why `act` would refuse the action, its numbers being in their ranges; `None` where it wouldn't.
     ///
     /// Conditions: the agent's number is below 8.

@@ -21,7 +21,7 @@ ghost use Rattle.chi_line.specs.declared.seen.Where.TheVariants.{Admitted, Refus
 
 use crate::act::Conditions;
 use crate::flits::has_flit;
-use crate::line::Line;
+use crate::line::CoherentLine;
 use crate::refusals::has_credit;
 use crate::seen::Where;
 use crate::slots::pending_slot;
@@ -33,7 +33,7 @@ use chi_flit::{
 use chi_homeline::{Begun, CompletionForm, HomeLine, Waiting};
 use chi_wires::Wires;
 
-impl Line {
+impl CoherentLine {
     /// Issue: the agent's request is pending, and in flight with AllowRetry.
     ///
     /// Refused 3 (Pending) where the slot is `used` or a request is pending, then 2 (WrongState) where the

@@ -20,13 +20,13 @@ ghost use Rattle.chi_line.specs.Traffic.{Balances, answer_flit, answered_flits, 
 ghost use Rattle.chi_line.specs.Upshots.{upshot_without_move};
 
 use crate::flits::answer_in;
-use crate::line::Line;
+use crate::line::CoherentLine;
 use crate::upshots::Upshot;
 use chi_flit::{Agent, Channel, Effect, Refusal};
 use chi_homeline::Completion;
 use chi_wires::Wires;
 
-impl Line {
+impl CoherentLine {
     /// RecvSnp: the agent takes its snoop, and the answer of its copy is in flight.
     ///
     /// Refused 7 (NoFlit) where no snoop is in flight; nothing changes then.

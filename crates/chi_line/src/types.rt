@@ -3,7 +3,7 @@
 ghost use Rattle.std.specs.Prelude.{◌≡◌, ◌<◌};
 ghost use Rattle.chi_line.specs.Types.{has_type, is_of_type, pending_credit, pending_kind_of, requested_kind_of, served_kind_of, waiting_kind_of};
 
-use crate::line::Line;
+use crate::line::CoherentLine;
 use chi_flit::{Agent, CreditType, Kind, Profile, Request, Slot, credit_type};
 use chi_homeline::{Serving, Waiting};
 use chi_rnline::Pending;
@@ -17,7 +17,7 @@ pub struct TypedSlot {
     pub credit: CreditType,
 }
 
-impl Line {
+impl CoherentLine {
     /// Whether the slot has its credit type wherever the line still keeps the kind of its request.
     ///
     /// Conditions: the agent's number is below 8.

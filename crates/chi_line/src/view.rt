@@ -3,7 +3,7 @@
 ghost use Rattle.std.specs.Prelude.{◌≡◌, map};
 ghost use Rattle.chi_line.specs.View.{copy_shown, pending_shown, line_view};
 
-use crate::line::Line;
+use crate::line::CoherentLine;
 use chi_flit::{Agent, Data, NO_DATA, State};
 use chi_homeline::{Serving, Waiting};
 use chi_rnline::{Pending, RnLine};
@@ -54,7 +54,7 @@ impl CopyView {
     };
 }
 
-impl Line {
+impl CoherentLine {
     /// The line as plain data; last are the values last stored to its words.
     /// Source: `docs/PROTOCOL.md`, "One line" and "The journal and last values".
     pub fn view(&self, last: Data) -> LineView

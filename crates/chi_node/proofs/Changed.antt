@@ -8,7 +8,7 @@ use Rattle.std.specs.List.{refill}
 use Rattle.std.specs.Prelude.{IfOk}
 use Rattle.arrayvec.proofs.ArrayVecLemmas.{items-with_items}
 use Rattle.atomic_table.specs.Seated.{TableId}
-use Rattle.chi_tracker.specs.Calls.{Home}
+use Rattle.chi_tracker.specs.Calls.{TrackerState}
 use Rattle.chi_flit.specs.Refusal.{refusal_of}
 use Rattle.chi_flit.specs.declared.action.Action.{Action}
 use Rattle.chi_flit.specs.declared.numbers.Agent.{Agent}
@@ -24,8 +24,8 @@ use Rattle.chi_node.specs.Calls.{arrival_action, arrival_refusal, call_refusal, 
 use Rattle.chi_node.specs.AfterStep.{Finishes}
 use Rattle.chi_node.specs.Parts.{HasTypes}
 use Rattle.chi_node.specs.Requester.{RequesterState, no_requester, IsRunning}
-use Rattle.chi_node.specs.Home.{HomeState, slices_after, index_of, line, slice_of, with_slice}
-use Rattle.chi_node.specs.System.{ArrivesIn, IsOf, IsSystem, StepsIn, SystemState, arrive_refusal, requester_of, step_refusal}
+use Rattle.chi_node.specs.Home.{HomeState, slices_after, index_of, node_line, slice_of, with_slice}
+use Rattle.chi_node.specs.System.{ArrivesIn, IsOf, IsSystem, StepsIn, SystemState, arrive_refusal, requester_of, system_step_refusal}
 use Rattle.chi_node.proofs.Homes.{is_low, sizes_at, slice_read}
 use Rattle.chi_node.proofs.Systems.{has_requester, have_types, visited}
 
@@ -65,7 +65,7 @@ pub record CanCall (table : TableId) (n : ℕ) (s : SliceState) (r : RequesterSt
   pub types : HasTypes s.config r.port.shape
   pub agrees : Agree s r
 
-pub can_call : (tracker : Home) (y y' : SystemState) (n l : ℕ) (s s' : SliceState) (r r' : RequesterState) → IsOf tracker y → Called y y' n l s s' r r' → CanCall tracker.table n s r
+pub can_call : (tracker : TrackerState) (y y' : SystemState) (n l : ℕ) (s s' : SliceState) (r r' : RequesterState) → IsOf tracker y → Called y y' n l s s' r r' → CanCall tracker.table n s r
 can_call tracker y y' n l s s' r r' own call =
     let k : IsSystem y = own.system in
     let low = has_requester y n k call.near in
@@ -77,7 +77,7 @@ can_call tracker y y' n l s s' r r' own call =
     })
 
 -- the node keeps what it keeps
-pub still_system : (tracker : Home) (y y' : SystemState) (n l : ℕ) (s s' : SliceState) (r r' : RequesterState) → IsOf tracker y → Called y y' n l s s' r r' → IsSameSlice s s' → IsSameRequester r r' → KeepsAgreement s s' r r' → (IsRunning r → IsRunning r') → IsOf tracker y'
+pub still_system : (tracker : TrackerState) (y y' : SystemState) (n l : ℕ) (s s' : SliceState) (r r' : RequesterState) → IsOf tracker y → Called y y' n l s s' r r' → IsSameSlice s s' → IsSameRequester r r' → KeepsAgreement s s' r r' → (IsRunning r → IsRunning r') → IsOf tracker y'
 still_system tracker y y' n l s s' r r' own call slice requester agreement running =
     subst (IsOf tracker) call.left (visited tracker y n l s' r' own call.near (subst (λ (x : SliceState). IsSameSlice x s') (sym call.slice) slice)
     (subst (λ (q : RequesterState). IsSameRequester q r') (sym call.requester) requester) (subst₂ (λ (x : SliceState) (q : RequesterState). KeepsAgreement x s' q r') (sym call.slice) (sym call.requester) agreement)
@@ -115,17 +115,17 @@ arrival_answered y y' agent l s s' r r' result k call said =
     answered result y y' n l.0 s s' r r' (λ x q. arrival_refusal x q.number l.0) (arrive_refusal y n l.0) (λ x q arrived. ArrivesOn x s' l q r' arrived) (λ z arrived. ArrivesIn y z agent l arrived) call said
     (ap (λ (m : ℕ). arrival_refusal (slice_of y.home l.0) m l.0) (k.numbers n call.near)) (λ arrived (done : ArrivesOn (slice_of y.home l.0) s' l (requester_of y n) r' arrived). record {
       home = ap (λ (x : SliceState). with_slice y.home l.0 x) done.slice ∙ ap (λ (m : ℕ). slices_after y.home (arrival_action m l arrived)) (k.numbers n call.near);
-      requester = subst₂ (λ (m : ℕ) (q : RequesterState). ArrivesAt (cells_of (line y.home l.0) m).req arrived (requester_of y n) q) (k.numbers n call.near) there done.requester;
+      requester = subst₂ (λ (m : ℕ) (q : RequesterState). ArrivesAt (cells_of (node_line y.home l.0) m).req arrived (requester_of y n) q) (k.numbers n call.near) there done.requester;
       others = ap (λ (q : RequesterState). set y.requesters n q) there;
     })
 
 pub step_answered : (y y' : SystemState) (action : Action) (s s' : SliceState) (r r' : RequesterState) (result : Result Stepped Refusal) → IsSystem y → Called y y' action.agent.0 action.line.0 s s' r r'
-    → Said result (λ x q. call_refusal x q action) (λ x q stepped. StepsTo x s' action q r' stepped) s' r' s r → Answered result (step_refusal y action) (λ z stepped. StepsIn y z action stepped) y y'
+    → Said result (λ x q. call_refusal x q action) (λ x q stepped. StepsTo x s' action q r' stepped) s' r' s r → Answered result (system_step_refusal y action) (λ z stepped. StepsIn y z action stepped) y y'
 step_answered y y' action s s' r r' result k call said =
     let n = action.agent.0 in
     let l = action.line.0 in
     let there = left_there y n r' k call.near in
-    answered result y y' n l s s' r r' (λ x q. call_refusal x q action) (step_refusal y action) (λ x q stepped. StepsTo x s' action q r' stepped) (λ z stepped. StepsIn y z action stepped) call said
+    answered result y y' n l s s' r r' (λ x q. call_refusal x q action) (system_step_refusal y action) (λ x q stepped. StepsTo x s' action q r' stepped) (λ z stepped. StepsIn y z action stepped) call said
     refl (λ stepped (done : StepsTo (slice_of y.home l) s' action (requester_of y n) r' stepped). record {
       home = ap (λ (x : SliceState). with_slice y.home l x) done.slice;
       effect = done.effect;

@@ -11,7 +11,7 @@ use Rattle.chi_credit.specs.declared.slot.SlotState.{SlotState}
 use Rattle.chi_credit.specs.declared.slot.SlotState.TheVariants.{Cancelled, Idle}
 use Rattle.chi_credit.specs.declared.slot.SlotRecord.{SlotRecord}
 use Rattle.chi_credit.specs.Slot.{idle_slot}
-use Rattle.chi_credit.specs.Account.{slot_at, state_at}
+use Rattle.chi_credit.specs.Account.{slot_record_at, state_at}
 use Rattle.chi_node.specs.Agree.{Agree, MatchesRecord, where_of_state}
 use Rattle.chi_node.specs.Requester.{RequesterState, with_port}
 use Rattle.chi_node.proofs.Records.{record_nowhere}
@@ -41,10 +41,10 @@ is_slot slots k is = ⊎_elim (λ low. low) (λ past. absurd (no_idle (ap (λ (x
     no_idle : {z : SlotState} → z ≡ Idle → z ≡ Cancelled → ⊥
     no_idle idle cancelled = cc (idle, cancelled)
 
-freed_slots : (s : SliceState) (n : ℕ) (slots : List SlotRecord) (k : ℕ) → state_at slots k ≡ Cancelled → ((slot : Slot) → slot.0 < 8 → MatchesRecord s n slot (slot_at slots slot.0)) → (slot : Slot) → slot.0 < 8 → MatchesRecord s n slot (slot_at (set slots k idle_slot) slot.0)
+freed_slots : (s : SliceState) (n : ℕ) (slots : List SlotRecord) (k : ℕ) → state_at slots k ≡ Cancelled → ((slot : Slot) → slot.0 < 8 → MatchesRecord s n slot (slot_record_at slots slot.0)) → (slot : Slot) → slot.0 < 8 → MatchesRecord s n slot (slot_record_at (set slots k idle_slot) slot.0)
 freed_slots s n slots k is matching slot low = ⊎_elim
     (λ (own : slot.0 ≡ k). subst (MatchesRecord s n slot) (sym (get_or-set_at slots k slot.0 idle_slot idle_slot own (is_slot slots k is)))
-    (idle_matches s n slot (slot_at slots slot.0) (ap (λ (i : ℕ). state_at slots i) own ∙ is) (matching slot low)))
+    (idle_matches s n slot (slot_record_at slots slot.0) (ap (λ (i : ℕ). state_at slots i) own ∙ is) (matching slot low)))
     (λ apart. subst (MatchesRecord s n slot) (sym (get_or-set_other slots k slot.0 idle_slot idle_slot apart)) (matching slot low))
     (cases_eq slot.0 k)
 

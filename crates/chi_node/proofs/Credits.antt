@@ -4,7 +4,7 @@ use Rattle.std.proofs.Math.ListN.{set, length-set}
 use Rattle.std.proofs.lemmas.Bool.{cases_eq}
 use Rattle.std.proofs.lemmas.Grind.{get_or-set_at}
 use Rattle.std.specs.List.{refill}
-use Rattle.chi_tracker.specs.Calls.{Home}
+use Rattle.chi_tracker.specs.Calls.{TrackerState}
 use Rattle.chi_flit.specs.declared.refusal.Refusal.{Refusal}
 use Rattle.chi_tracker.specs.declared.released.Released.{Released}
 use Rattle.chi_slice.specs.Slice.{SliceState}
@@ -56,7 +56,7 @@ tended t r r' (Ok released) tried = tends_alike t released r r' tried.ok
 tended t r r' (Err refusal) tried = stays_alike r r' tried.err
 
 -- the node's slices stay, and one requester is as alike
-pub still_alike : (tracker : Home) (y : SystemState) (n : ℕ) (lent back : List RequesterState) (r : RequesterState) → IsOf tracker y → n < y.home.config.agents → lent ≡ y.requesters → back ≡ set lent n r → IsAlike (get_or lent n no_requester) r
+pub still_alike : (tracker : TrackerState) (y : SystemState) (n : ℕ) (lent back : List RequesterState) (r : RequesterState) → IsOf tracker y → n < y.home.config.agents → lent ≡ y.requesters → back ≡ set lent n r → IsAlike (get_or lent n no_requester) r
     → IsOf tracker (record { home = y.home; requesters = refill (length y.requesters) y.requesters back })
 still_alike tracker y n lent back r own near value changed lent_alike =
     let k : IsSystem y = own.system in

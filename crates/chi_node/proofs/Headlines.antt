@@ -27,7 +27,7 @@ use Rattle.chi_node.specs.declared.answers.Arrived.TheVariants.{Admitted, Retrie
 use Rattle.chi_node.specs.Arrives.{Arrives}
 use Rattle.chi_node.specs.Calls.{ArrivesAt}
 use Rattle.chi_node.specs.Headline.{Headline, IsAdmitted, IsInPlace}
-use Rattle.chi_node.specs.Home.{HomeState, IsHome, index_of, last_of, line, slice_of}
+use Rattle.chi_node.specs.Home.{HomeState, IsHome, index_of, node_last, node_line, slice_of}
 use Rattle.chi_node.specs.Requester.{IsRunning, RequesterState}
 use Rattle.chi_node.specs.System.{IsSystem, SystemState, requester_of}
 use Rattle.chi_node.proofs.Homes.{index_at, is_low, sizes_at}
@@ -51,7 +51,7 @@ line_there h l k low =
 both_there : (h : HomeState) (n l : ℕ) → IsHome h → n < h.config.agents → l < h.config.lines → are_in_range (slice_of h l) n l ≡ true
 both_there h n l k near low = both_true _ _ (subst (λ (z : Sizes). nat_lt n z.agents ≡ true) (sym (sizes_at h l k)) (is_below n h.config.agents near)) (line_there h l k low)
 
-coherent_line : (y : SystemState) (l : ℕ) → IsSystem y → All IsCoherentSlice y.home.slices → l < y.home.config.lines → Coherent (last_of y.home l) (standing_of (line y.home l))
+coherent_line : (y : SystemState) (l : ℕ) → IsSystem y → All IsCoherentSlice y.home.slices → l < y.home.config.lines → Coherent (node_last y.home l) (standing_of (node_line y.home l))
 coherent_line y l k all low =
     let slice : IsCoherentSlice (slice_of y.home l) = all (index_of y.home l) (opening_slice y.home.config 0) (is_low y.home l k.home) in
     slice.lines l (line_there y.home l k.home low)
@@ -72,9 +72,9 @@ resent_entry s true arrived r r' is a = absurd (cc (is))
 resent_entry s false (Admitted e) r r' is a = (e, refl)
 resent_entry s false (Retried ty) r r' is a = absurd a
 
-admitted : (y : SystemState) (agent : Agent) (l : Line) (request : Request) → IsSystem y → agent.0 < y.home.config.agents → l.0 < y.home.config.lines → (cells_of (line y.home l.0) agent.0).req ≡ Some request → request.allow_retry ≡ false → IsAdmitted y agent l
+admitted : (y : SystemState) (agent : Agent) (l : Line) (request : Request) → IsSystem y → agent.0 < y.home.config.agents → l.0 < y.home.config.lines → (cells_of (node_line y.home l.0) agent.0).req ≡ Some request → request.allow_retry ≡ false → IsAdmitted y agent l
 admitted y agent l request k near low there resent = record {
-  allowed = ap (λ (b : Bool). option_or (if b then None else Some OutOfRange) (no_flit_unless (is_some (cells_of (line y.home l.0) agent.0).req))) (both_there y.home agent.0 l.0 k.home near low)
+  allowed = ap (λ (b : Bool). option_or (if b then None else Some OutOfRange) (no_flit_unless (is_some (cells_of (node_line y.home l.0) agent.0).req))) (both_there y.home agent.0 l.0 k.home near low)
       ∙ ap (λ (o : Option Request). no_flit_unless (is_some o)) there;
   entry = λ y' arrived done. resent_entry request.slot.0 request.allow_retry arrived (requester_of y agent.0) (requester_of y' agent.0) resent
       (subst (λ (o : Option Request). ArrivesAt o arrived (requester_of y agent.0) (requester_of y' agent.0)) there done.requester);

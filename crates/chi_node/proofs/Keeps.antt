@@ -22,7 +22,7 @@ use Rattle.chi_credit.specs.Slot.{is_due_of}
 use Rattle.chi_credit.specs.declared.slot.SlotRecord.{SlotRecord}
 use Rattle.chi_credit.specs.declared.slot.SlotState.{SlotState}
 use Rattle.chi_credit.specs.declared.slot.SlotState.TheVariants.{Admitted}
-use Rattle.chi_credit.specs.Account.{riding_of, due_of, holders_of, FallsAt, GrowsAt, IsSame, HasDue, HasEntries, IsWithinSeen}
+use Rattle.chi_credit.specs.Account.{riding_of, due_of, holders_of, FallsAt, GrowsAt, IsSameSlot, HasDue, HasEntries, IsWithinSeen}
 use Rattle.chi_node.specs.Requester.{RequesterState, RequesterKept}
 
 -- sums of terms that only grow
@@ -41,7 +41,7 @@ pub saw_within : (slots : List SlotRecord) (p q : PortView) → IsWithinSeen slo
 saw_within slots p q keeps shaped is more = record { within = λ t l. omega (arith, keeps.within t l, saw_more p q t l shaped (ap (λ (x : PortView). x.shape) is) more) }
 
 -- as many seen credits and Riding slots
-pub still_within : (a b : List SlotRecord) (p q : PortView) → IsSame (riding_of a) (riding_of b) → q.shape ≡ p.shape → q.seen ≡ p.seen → IsWithinSeen a p → IsWithinSeen b q
+pub still_within : (a b : List SlotRecord) (p q : PortView) → IsSameSlot (riding_of a) (riding_of b) → q.shape ≡ p.shape → q.seen ≡ p.seen → IsWithinSeen a p → IsWithinSeen b q
 still_within a b p q same shape seen keeps = record {
   within = λ t l.
       let same_seen : seen_of q t ≡ seen_of p t = ap (λ (z : Shape). set_count q.seen (low z t) (size z t)) shape ∙ ap (λ (z : List ℕ). set_count z (low p.shape t) (size p.shape t)) seen in
@@ -49,7 +49,7 @@ still_within a b p q same shape seen keeps = record {
 }
 
 -- as many credits due
-pub still_due : (a b : List SlotRecord) (p q : PortView) → IsSame (due_of a) (due_of b) → q.retries ≡ p.retries → q.spent ≡ p.spent → q.returned ≡ p.returned → HasDue a p → HasDue b q
+pub still_due : (a b : List SlotRecord) (p q : PortView) → IsSameSlot (due_of a) (due_of b) → q.retries ≡ p.retries → q.spent ≡ p.spent → q.returned ≡ p.returned → HasDue a p → HasDue b q
 still_due a b p q same retries spent returned keeps = record {
   due = λ t l.
       let m : slice_index q.retries t ≡ slice_index p.retries t = ap (λ (z : List ℕ). slice_index z t) retries in
@@ -124,7 +124,7 @@ few_due entries r q slots s x ty kept is grows retries spent returned =
     omega (arith, kept.due.due t (credit_below ty), grows.more, count_by-le-length (is_due_of t) slots)
 
 -- the same hand, for the same entries
-pub still_entries : (a b : List SlotRecord) (p q : PortView) → IsSame (holders_of a) (holders_of b) → q.hand ≡ p.hand → HasEntries a p → HasEntries b q
+pub still_entries : (a b : List SlotRecord) (p q : PortView) → IsSameSlot (holders_of a) (holders_of b) → q.hand ≡ p.hand → HasEntries a p → HasEntries b q
 still_entries a b p q same hand keeps = record { entries = λ e. let h : has e q ≡ has e p = ap (λ (z : ℕ). bit_at z e) hand in omega (arith, same.same e, keeps.entries e) }
 
 -- as many slots

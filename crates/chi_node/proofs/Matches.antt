@@ -14,7 +14,7 @@ use Rattle.chi_slice.proofs.Below.{AllBelow, all_below}
 use Rattle.chi_slice.proofs.Rows.{InLimits, in_limits}
 use Rattle.chi_slice.proofs.SlotTypes.{unused_type}
 use Rattle.chi_credit.specs.declared.slot.SlotRecord.{SlotRecord}
-use Rattle.chi_credit.specs.Account.{slot_at}
+use Rattle.chi_credit.specs.Account.{slot_record_at}
 use Rattle.chi_node.specs.Requester.{RequesterState}
 use Rattle.chi_node.specs.Agree.{MatchesRecord, is_said_in, said_place, where_of_record, where_of_state}
 
@@ -91,10 +91,10 @@ unplaced_said s n slot x (Some at) true seen is shows =
 
 -- each slot, by its number
 abbrev pub MatchesAt : SliceState → RequesterState → ℕ → Type 0
-MatchesAt s r k = MatchesRecord s r.number (record { 0 = k }) (slot_at r.slots k)
+MatchesAt s r k = MatchesRecord s r.number (record { 0 = k }) (slot_record_at r.slots k)
 
 -- all eight
-pub all_match : (s : SliceState) (r : RequesterState) (n : ℕ) (found : Bool) → n ≡ 8 → IsTrue found ↔ AllBelow (MatchesAt s r) n → IsTrue found ↔ ((slot : Slot) → slot.0 < 8 → MatchesRecord s r.number slot (slot_at r.slots slot.0))
+pub all_match : (s : SliceState) (r : RequesterState) (n : ℕ) (found : Bool) → n ≡ 8 → IsTrue found ↔ AllBelow (MatchesAt s r) n → IsTrue found ↔ ((slot : Slot) → slot.0 < 8 → MatchesRecord s r.number slot (slot_record_at r.slots slot.0))
 all_match s r n found eight so_far =
     let all = all_below (MatchesAt s r) n found eight so_far in
     (λ t slot low. all.0 t slot.0 low, λ each. all.1 (λ k low. each (record { 0 = k }) low))

@@ -13,7 +13,7 @@ use Rattle.chi_slice.proofs.Follows.{opening_unused}
 use Rattle.chi_line.proofs.Wheres.{unused_shows}
 use Rattle.chi_credit.specs.declared.slot.SlotRecord.{SlotRecord}
 use Rattle.chi_credit.specs.Slot.{idle_slot}
-use Rattle.chi_credit.specs.Account.{all_idle, slot_at}
+use Rattle.chi_credit.specs.Account.{all_idle, slot_record_at}
 use Rattle.chi_node.specs.Agree.{Agree, where_of_record}
 use Rattle.chi_node.specs.Parts.{AgreeAtOpening}
 use Rattle.chi_node.specs.Requester.{opening_requester}
@@ -30,7 +30,7 @@ opening_shows : (config : Sizes) (index n l : ℕ) (slot : Slot) → are_in_limi
 opening_shows config index n l slot limits inside low here =
     ap (λ (z : LineState). where_at z n slot) (opening_at config index l limits inside here) ∙ unused_shows opening_line n slot (opening_unused n slot low)
 
-opening_nowhere : (k l : ℕ) → k < 8 → where_of_record (slot_at all_idle k) l ≡ None
+opening_nowhere : (k l : ℕ) → k < 8 → where_of_record (slot_record_at all_idle k) l ≡ None
 opening_nowhere k l low = ap (λ (x : SlotRecord). where_of_record x l) (get_or-replicate 8 k idle_slot idle_slot low) ∙ record_nowhere idle_slot l refl
 
 opening_agrees : (config : Sizes) (table : TableId) (shape : Shape) (index number : ℕ) → are_in_limits config ≡ true → index < config.slices → number < config.agents → Agree (opening_slice config index) (opening_requester table shape number)

@@ -25,7 +25,7 @@ alone : (first : Option Refusal) → first ≡ option_or first None
 alone None = refl
 alone (Some refusal) = refl
 
-by_credit : (r : RequesterState) (first : Option Refusal) (wanted : Option CreditType) → option_or first (lines.credit_refusal (spare_credits r) wanted) ≡ option_or (option_or first (lines.credit_refusal (replicate 4 true) wanted)) (credit_refusal r wanted)
+by_credit : (r : RequesterState) (first : Option Refusal) (wanted : Option CreditType) → option_or first (lines.marked_credit_refusal (spare_credits r) wanted) ≡ option_or (option_or first (lines.marked_credit_refusal (replicate 4 true) wanted)) (credit_refusal r wanted)
 by_credit r (Some refusal) wanted = refl
 by_credit r None None = refl
 by_credit r None (Some T0) = refl

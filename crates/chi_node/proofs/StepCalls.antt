@@ -27,7 +27,7 @@ use Rattle.chi_config.specs.Config.{Sizes, are_entries, are_in_limits, is_betwee
 use Rattle.chi_slice.specs.Index.{SlotsInRange}
 use Rattle.chi_line.specs.LineState.{cells_of, rn_of}
 use Rattle.chi_line.specs.Refused.{full_if, line_refusal}
-use Rattle.chi_line.specs.Refused.{credit_refusal as line_credit_refusal}
+use Rattle.chi_line.specs.Refused.{marked_credit_refusal as line_credit_refusal}
 use Rattle.chi_slice.specs.Slice.{SliceKept, SliceState, slice_after, conditions_under, is_in_range, is_slot_used, line, moved_by, action_refusal, refused_under}
 use Rattle.chi_slice.proofs.Refusing.{allowed_alone}
 use Rattle.chi_line.specs.Step.{effect_of, is_comp, pending_slot}
@@ -39,8 +39,8 @@ use Rattle.chi_slice.proofs.Rows.{InRange, at_most, both, in_range}
 use Rattle.chi_slice.proofs.SliceMoves.{slice_moves}
 use Rattle.chi_credit.specs.declared.slot.SlotState.{SlotState}
 use Rattle.chi_credit.specs.declared.slot.SlotState.TheVariants as states
-use Rattle.chi_credit.specs.Slot.{in_state, is_idle}
-use Rattle.chi_credit.specs.Account.{riding_of, slot_at, state_at, type_at}
+use Rattle.chi_credit.specs.Slot.{in_state, is_idle_state}
+use Rattle.chi_credit.specs.Account.{riding_of, slot_record_at, state_at, type_at}
 use Rattle.chi_node.specs.Requester.{RequesterKept, RequesterState}
 use Rattle.chi_node.specs.Agree.{Agree, MatchesRecord, KeepsAgreement}
 use Rattle.chi_node.specs.Calls.{BothKept, CountsStep, is_own_step, place_at}
@@ -66,7 +66,7 @@ ready_by s agent l step r own kept numbers may agrees requester =
       eight = requester.eight;
       counts = requester.slices;
       index = index_low s kept;
-      matching = λ slot low. subst (λ (n : ℕ). MatchesRecord s n slot (slot_at r.slots slot.0)) (sym own) (agrees.slots slot low);
+      matching = λ slot low. subst (λ (n : ℕ). MatchesRecord s n slot (slot_record_at r.slots slot.0)) (sym own) (agrees.slots slot low);
     }
 
 -- a step that isn't refused on the terms of its requester, which agrees with the slice
@@ -114,7 +114,7 @@ by_line s r action can =
     sym (ap (λ (b : Bool). if b then line_refusal (conditions_under (terms_of r action.step) s action) (line s action.line.0) action else Some OutOfRange) (inside s r action can)) ∙ can.may
 
 -- an Issue's slot is Idle
-idle_of : (low used : Bool) (state : SlotState) → low ≡ true → (low && not (is_idle state) || used) ≡ false → state ≡ states.Idle
+idle_of : (low used : Bool) (state : SlotState) → low ≡ true → (low && not (is_idle_state state) || used) ≡ false → state ≡ states.Idle
 idle_of true used states.Idle is free = refl
 idle_of true used other is free = absurd (cc (free))
 idle_of false used state is free = absurd (cc (is))
@@ -136,10 +136,10 @@ free_credit r profile (Some request) slot ty is typed free =
     subst (λ (t : ℕ). riding_of r.slots t < seen_of r.port t) (same_number (credit_number (credit_type_of profile request.kind)) (credit_number ty) kind) (spare r (credit_type_of profile request.kind) free)
 
 has_credit : (s : SliceState) (r : RequesterState) (agent : Agent) (l : Line) (slot : Slot) → CanStep s r (action_of agent l steps.Resend) → pending_slot (rn_of (line s l.0) agent.0).pending ≡ Some slot
-    → is_of_type s.config.profile (slot_at r.slots slot.0).credit (line s l.0) agent.0 slot ≡ true → riding_of r.slots (type_at r.slots slot.0) < seen_of r.port (type_at r.slots slot.0)
+    → is_of_type s.config.profile (slot_record_at r.slots slot.0).credit (line s l.0) agent.0 slot ≡ true → riding_of r.slots (type_at r.slots slot.0) < seen_of r.port (type_at r.slots slot.0)
 has_credit s r agent l slot can is typed =
     let rn = rn_of (line s l.0) agent.0 in
-    free_credit r s.config.profile rn.pending slot (slot_at r.slots slot.0).credit is (both (has_type s.config.profile (slot_at r.slots slot.0).credit (pending_kind_of rn.pending slot)) _ typed).0
+    free_credit r s.config.profile rn.pending slot (slot_record_at r.slots slot.0).credit is (both (has_type s.config.profile (slot_record_at r.slots slot.0).credit (pending_kind_of rn.pending slot)) _ typed).0
     (neither (resend_refusal rn) (line_credit_refusal (spare_credits r) (pending_credit s.config.profile rn.pending)) (by_line s r (action_of agent l steps.Resend) can)).1
 
 counted : (s : SliceState) (r : RequesterState) (agent : Agent) (l : Line) (step : Step) (first : Option Refusal) → CanStep s r (action_of agent l step) → option_or first (full_if (is_full s.journal)) ≡ None → (s.index < 8) × (slice_index r.counts s.index < 65536)
@@ -171,15 +171,15 @@ fine s agent l steps.Retry r can = absurd (cc (can.mine))
 fine s agent l steps.RecvRetry r can =
     let ready = ready_of s agent l steps.RecvRetry r can in
     fine_step s agent l steps.RecvRetry r ready (change_fine s agent l steps.RecvRetry r places.Refused (λ k. state_at r.slots k ≡ states.Refused) (in_state states.Retried) ready refl refl refl
-    (λ slot its. (tells_of (slot_at r.slots slot.0) places.Refused its.tells, restated (slot_at r.slots slot.0) states.Retried (Some places.Retried) refl)))
+    (λ slot its. (tells_of (slot_record_at r.slots slot.0) places.Refused its.tells, restated (slot_record_at r.slots slot.0) states.Retried (Some places.Retried) refl)))
 fine s agent l steps.Resend r can =
     let ready = ready_of s agent l steps.Resend r can in
     fine_step s agent l steps.Resend r ready (change_fine s agent l steps.Resend r places.Retried (CanResend r) (in_state states.Riding) ready refl refl refl
-    (λ slot its. ((tells_of (slot_at r.slots slot.0) places.Retried its.tells, has_credit s r agent l slot can its.is its.typed), restated (slot_at r.slots slot.0) states.Riding (Some places.Riding) refl)))
+    (λ slot its. ((tells_of (slot_record_at r.slots slot.0) places.Retried its.tells, has_credit s r agent l slot can its.is its.typed), restated (slot_record_at r.slots slot.0) states.Riding (Some places.Riding) refl)))
 fine s agent l steps.Cancel r can =
     let ready = ready_of s agent l steps.Cancel r can in
     fine_step s agent l steps.Cancel r ready (change_fine s agent l steps.Cancel r places.Retried (λ k. state_at r.slots k ≡ states.Retried) (in_state states.Cancelled) ready refl refl refl
-    (λ slot its. (tells_of (slot_at r.slots slot.0) places.Retried its.tells, restated (slot_at r.slots slot.0) states.Cancelled None refl)))
+    (λ slot its. (tells_of (slot_record_at r.slots slot.0) places.Retried its.tells, restated (slot_record_at r.slots slot.0) states.Cancelled None refl)))
 fine s agent l steps.Start r can = fine_start s agent l r (effect_of (line s l.0) (action_of agent l steps.Start)) (ready_of s agent l steps.Start r can) refl
 fine s agent l steps.RecvData r can =
     let ready = ready_of s agent l steps.RecvData r can in

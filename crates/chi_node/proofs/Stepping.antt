@@ -33,7 +33,7 @@ use Rattle.chi_credit.specs.declared.slot.SlotState.{SlotState}
 use Rattle.chi_credit.specs.declared.slot.SlotState.TheVariants as states
 use Rattle.chi_credit.specs.declared.slot.SlotRecord.{SlotRecord}
 use Rattle.chi_credit.specs.Slot.{after_answer, after_finish, can_be_answered, in_state, is_admitted, opened_slot}
-use Rattle.chi_credit.specs.Account.{slots_with_state, slot_at, state_at}
+use Rattle.chi_credit.specs.Account.{slots_with_state, slot_record_at, state_at}
 use Rattle.chi_node.specs.Requester.{RequesterState, with_both}
 use Rattle.chi_node.specs.Agree.{MatchesRecord, where_of_state}
 use Rattle.chi_node.specs.AfterStep.{CanFinish, CanFollow, Completes, Finishes, SlotMeets, account_after, changed_at, counts_after, requester_after}
@@ -52,7 +52,7 @@ pub record Ready (s : SliceState) (agent : Agent) (l : Line) (step : Step) (r : 
   pub eight : length r.slots ≡ 8
   pub counts : length r.counts ≡ 8
   pub index : s.index < 8
-  pub matching : (slot : Slot) → slot.0 < 8 → MatchesRecord s agent.0 slot (slot_at r.slots slot.0)
+  pub matching : (slot : Slot) → slot.0 < 8 → MatchesRecord s agent.0 slot (slot_record_at r.slots slot.0)
 
 pub some_slot : (o : Option Slot) → is_some o ≡ true → (slot : Slot) × (o ≡ Some slot)
 some_slot None there = absurd (cc (there))
@@ -65,9 +65,9 @@ is_itself o slot is = ap (λ (x : Option Slot). is_slot x slot) is ∙ itself sl
 pub record Own (s : SliceState) (agent : Agent) (l : Line) (step : Step) (r : RequesterState) (from : Where) (slot : Slot) : Type 0 where
   pub is : moved_slot (line s l.0) agent step ≡ Some slot
   pub low : slot.0 < 8
-  pub at_line : (slot_at r.slots slot.0).line.0 ≡ l.0
-  pub tells : where_of_state (slot_at r.slots slot.0).state (slot_at r.slots slot.0).answered ≡ Some from
-  pub typed : is_of_type s.config.profile (slot_at r.slots slot.0).credit (line s l.0) agent.0 slot ≡ true
+  pub at_line : (slot_record_at r.slots slot.0).line.0 ≡ l.0
+  pub tells : where_of_state (slot_record_at r.slots slot.0).state (slot_record_at r.slots slot.0).answered ≡ Some from
+  pub typed : is_of_type s.config.profile (slot_record_at r.slots slot.0).credit (line s l.0) agent.0 slot ≡ true
 
 slot_low : (s : SliceState) (n l : ℕ) (slot : Slot) (at : Where) → SlotsInRange s → n < 8 → is_line_in_range s l ≡ true → where_at (line s l) n slot ≡ Some at → slot.0 < 8
 slot_low s n l slot at numbers low here shows = dite (dec_le 8 slot.0)
@@ -80,14 +80,14 @@ own_at s agent l step r from slot ready is is_from =
     let shows : where_at (line s l.0) agent.0 slot ≡ Some from = ready.moves.found slot (is_itself (moved_slot (line s l.0) agent step) slot is) ∙ is_from in
     let low : slot.0 < 8 = slot_low s agent.0 l.0 slot from ready.numbers ready.low ready.here shows in
     let own = (ready.matching slot low).lines l.0 ready.here in
-    let tells : ((slot_at r.slots slot.0).line.0 ≡ l.0) × (where_of_state (slot_at r.slots slot.0).state (slot_at r.slots slot.0).answered ≡ Some from) = record_is (slot_at r.slots slot.0) l.0 from (sym own.place ∙ shows) in
+    let tells : ((slot_record_at r.slots slot.0).line.0 ≡ l.0) × (where_of_state (slot_record_at r.slots slot.0).state (slot_record_at r.slots slot.0).answered ≡ Some from) = record_is (slot_record_at r.slots slot.0) l.0 from (sym own.place ∙ shows) in
     record { is = is; low = low; at_line = tells.0; tells = tells.1; typed = own.type from shows }
 
 -- its record becomes another one, and all slots follow
 pub slot_moves : (s : SliceState) (agent : Agent) (l : Line) (step : Step) (r : RequesterState) (from : Where) (slot : Slot) (y : SlotRecord) → Ready s agent l step r → Own s agent l step r from slot → issued_slot step ≡ None
-    → Becomes (slot_at r.slots slot.0) y (moved_to (line s l.0) agent step) → AllFollow s agent l step r.slots (slice_set r.slots slot.0 y)
+    → Becomes (slot_record_at r.slots slot.0) y (moved_to (line s l.0) agent step) → AllFollow s agent l step r.slots (slice_set r.slots slot.0 y)
 slot_moves s agent l step r from slot y ready own unissued b =
-    let x : SlotRecord = slot_at r.slots slot.0 in
+    let x : SlotRecord = slot_record_at r.slots slot.0 in
     one_moves s agent l step r.slots slot y ready.eight ready.here ready.moves own.is ready.matching
     (moves_to s agent l step slot x y ready.moves (is_itself (moved_slot (line s l.0) agent step) slot own.is) (only_there l.0 x own.at_line) (only_after x y l.0 (moved_to (line s l.0) agent step) own.at_line b) (says_here x y l.0 (moved_to (line s l.0) agent step) own.at_line b)
     (λ at is. subst (λ ty. is_of_type s.config.profile ty (left_line s agent l step) agent.0 slot ≡ true) (sym (b.credit at is)) (ready.moves.types slot x.credit (ap (λ (o : Option Slot). is_slot o slot) unissued) own.typed)))
@@ -134,15 +134,15 @@ issue_fine s agent l kind slot r ready low idle =
     let new : SlotRecord = opened_slot l (credit_type_of s.config.profile kind) in (
       (low, idle),
       one_moves s agent l (steps.Issue kind slot) r.slots slot new ready.eight ready.here ready.moves refl ready.matching
-          (moves_to s agent l (steps.Issue kind slot) slot (slot_at r.slots slot.0) new ready.moves (is_itself (Some slot) slot refl)
-          (only_nowhere l.0 (slot_at r.slots slot.0) (ap (λ (z : SlotState). where_of_state z (slot_at r.slots slot.0).answered) idle)) (only_there l.0 new refl) (record_here new l.0 (Some places.Sent) refl refl)
+          (moves_to s agent l (steps.Issue kind slot) slot (slot_record_at r.slots slot.0) new ready.moves (is_itself (Some slot) slot refl)
+          (only_nowhere l.0 (slot_record_at r.slots slot.0) (ap (λ (z : SlotState). where_of_state z (slot_record_at r.slots slot.0).answered) idle)) (only_there l.0 new refl) (record_here new l.0 (Some places.Sent) refl refl)
           (λ at is. ready.moves.issued_type kind slot refl (is_itself (Some slot) slot refl))),
     )
 
 -- a step that changes the record of the slot that it moves, whose state is as its place says
 pub change_fine : (s : SliceState) (agent : Agent) (l : Line) (step : Step) (r : RequesterState) (from : Where) (condition : ℕ → Type 0) (change : SlotRecord → SlotRecord) → Ready s agent l step r
     → always_moves step ≡ true → moved_from (line s l.0) agent step ≡ Some from → issued_slot step ≡ None
-    → ((slot : Slot) → Own s agent l step r from slot → condition slot.0 × Becomes (slot_at r.slots slot.0) (change (slot_at r.slots slot.0)) (moved_to (line s l.0) agent step))
+    → ((slot : Slot) → Own s agent l step r from slot → condition slot.0 × Becomes (slot_record_at r.slots slot.0) (change (slot_record_at r.slots slot.0)) (moved_to (line s l.0) agent step))
     → SlotMeets (moved_slot (line s l.0) agent step) condition × AllFollow s agent l step r.slots (changed_at (moved_slot (line s l.0) agent step) change r.slots)
 change_fine s agent l step r from condition change ready moving is_from unissued meets =
     let found = some_slot (moved_slot (line s l.0) agent step) (ready.moves.there moving) in
@@ -159,20 +159,20 @@ admitted_answers other h = absurd (cc (h))
 pub answer_fine : (s : SliceState) (agent : Agent) (l : Line) (step : Step) (r : RequesterState) → Ready s agent l step r → always_moves step ≡ true → moved_from (line s l.0) agent step ≡ Some places.Admitted → moved_to (line s l.0) agent step ≡ Some places.Answered → issued_slot step ≡ None
     → SlotMeets (moved_slot (line s l.0) agent step) (λ k. can_be_answered (state_at r.slots k) ≡ true) × AllFollow s agent l step r.slots (changed_at (moved_slot (line s l.0) agent step) after_answer r.slots)
 answer_fine s agent l step r ready moving is_from to unissued = change_fine s agent l step r places.Admitted (λ k. can_be_answered (state_at r.slots k) ≡ true) after_answer ready moving is_from unissued
-    (λ slot own. let state = tells_of (slot_at r.slots slot.0) places.Admitted own.tells in
-    (admitted_answers (state_at r.slots slot.0) state.0, subst (Becomes (slot_at r.slots slot.0) (after_answer (slot_at r.slots slot.0))) (sym to) (answered (slot_at r.slots slot.0) state.0)))
+    (λ slot own. let state = tells_of (slot_record_at r.slots slot.0) places.Admitted own.tells in
+    (admitted_answers (state_at r.slots slot.0) state.0, subst (Becomes (slot_record_at r.slots slot.0) (after_answer (slot_record_at r.slots slot.0))) (sym to) (answered (slot_record_at r.slots slot.0) state.0)))
 
 -- Comp_UC answers, and Comp_I ends a request that is closing
 pub comp_fine : (s : SliceState) (agent : Agent) (l : Line) (r : RequesterState) (there : Option RspDown) → Ready s agent l steps.RecvComp r → (cells_of (line s l.0) agent.0).rsp_down ≡ there → is_comp there ≡ true → SlotsFine s agent l steps.RecvComp r
 comp_fine s agent l r (Some CompUC) ready rsp h = answer_fine s agent l steps.RecvComp r ready refl (ap completed_from rsp) (ap completed_to rsp) refl
 comp_fine s agent l r (Some CompI) ready rsp h = change_fine s agent l steps.RecvComp r places.Closing (λ k. can_be_answered (state_at r.slots k) ≡ true) after_answer ready refl (ap completed_from rsp) refl
-    (λ slot own. let state = tells_of (slot_at r.slots slot.0) places.Closing own.tells in
-    (ap can_be_answered state, subst (Becomes (slot_at r.slots slot.0) (after_answer (slot_at r.slots slot.0))) (sym (ap completed_to rsp)) (closed (slot_at r.slots slot.0) state)))
+    (λ slot own. let state = tells_of (slot_record_at r.slots slot.0) places.Closing own.tells in
+    (ap can_be_answered state, subst (Becomes (slot_record_at r.slots slot.0) (after_answer (slot_record_at r.slots slot.0))) (sym (ap completed_to rsp)) (closed (slot_record_at r.slots slot.0) state)))
 comp_fine s agent l r other ready rsp h = absurd (cc (h))
 
 -- a request that the home completes
 completes : (s : SliceState) (agent : Agent) (l : Line) (step : Step) (r : RequesterState) (from : Where) (slot : Slot) → Ready s agent l step r → Own s agent l step r from slot → issued_slot step ≡ None → record_of (line s l.0) (action_of agent l step) ≡ None
-    → is_admitted (state_at r.slots slot.0) ≡ true → Becomes (slot_at r.slots slot.0) (after_finish (slot_at r.slots slot.0)) (moved_to (line s l.0) agent step) → Fine s agent l step r (Completed slot)
+    → is_admitted (state_at r.slots slot.0) ≡ true → Becomes (slot_record_at r.slots slot.0) (after_finish (slot_record_at r.slots slot.0)) (moved_to (line s l.0) agent step) → Fine s agent l step r (Completed slot)
 completes s agent l step r from slot ready own unissued unrecorded admitted b = record {
   can = (own.low, admitted);
   after = λ released r' done. by_release released r' done.0 done.1;
@@ -182,7 +182,7 @@ completes s agent l step r from slot ready own unissued unrecorded admitted b = 
     by_release None r' none some = absurd none
     by_release (Some z) r' none some = subst (OwnFollows s agent l step r) (sym some.after) (record {
       number = refl;
-      slots = slot_moves s agent l step r from slot (after_finish (slot_at r.slots slot.0)) ready own unissued b;
+      slots = slot_moves s agent l step r from slot (after_finish (slot_record_at r.slots slot.0)) ready own unissued b;
       counts = counts_stay s (record_of (line s l.0) (action_of agent l step)) r.counts unrecorded;
     })
 
@@ -194,8 +194,8 @@ pub fine_end : (s : SliceState) (agent : Agent) (l : Line) (step : Step) (r : Re
     → moved_from (line s l.0) agent step ≡ Some places.Answered → moved_to (line s l.0) agent step ≡ None → issued_slot step ≡ None → record_of (line s l.0) (action_of agent l step) ≡ None → Fine s agent l step r effect
 fine_end s agent l step r (Completed slot) ready moving is from to unissued unrecorded =
     let own : Own s agent l step r places.Answered slot = own_at s agent l step r places.Answered slot ready is from in
-    let state = tells_of (slot_at r.slots slot.0) places.Answered own.tells in
-    completes s agent l step r places.Answered slot ready own unissued unrecorded state.0 (subst (Becomes (slot_at r.slots slot.0) (after_finish (slot_at r.slots slot.0))) (sym to) (ended (slot_at r.slots slot.0) state.1))
+    let state = tells_of (slot_record_at r.slots slot.0) places.Answered own.tells in
+    completes s agent l step r places.Answered slot ready own unissued unrecorded state.0 (subst (Becomes (slot_record_at r.slots slot.0) (after_finish (slot_record_at r.slots slot.0))) (sym to) (ended (slot_record_at r.slots slot.0) state.1))
 fine_end s agent l step r other ready moving is from to unissued unrecorded = absurd (no_slot (moved_slot (line s l.0) agent step) is (ready.moves.there moving))
 
 -- a start completes an Evict
@@ -204,15 +204,15 @@ fine_start s agent l r Nothing ready is = fine_step s agent l steps.Start r read
 fine_start s agent l r (Value word) ready is = fine_load s agent l steps.Start r word ready (tt, no_slot_moves s agent l steps.Start r ready is)
 fine_start s agent l r (Completed slot) ready is =
     let own : Own s agent l steps.Start r places.Admitted slot = own_at s agent l steps.Start r places.Admitted slot ready is (ap (λ (o : Option Slot). if_moved o places.Admitted) is) in
-    let state = tells_of (slot_at r.slots slot.0) places.Admitted own.tells in
+    let state = tells_of (slot_record_at r.slots slot.0) places.Admitted own.tells in
     completes s agent l steps.Start r places.Admitted slot ready own refl refl state.0
-    (subst (Becomes (slot_at r.slots slot.0) (after_finish (slot_at r.slots slot.0))) (sym (ap (λ (o : Option Slot). if_moved o places.Closing) is)) (closes (slot_at r.slots slot.0) state.1))
+    (subst (Becomes (slot_record_at r.slots slot.0) (after_finish (slot_record_at r.slots slot.0))) (sym (ap (λ (o : Option Slot). if_moved o places.Closing) is)) (closes (slot_record_at r.slots slot.0) state.1))
 
 -- a request that arrives at the home
 pub arrival_follows : (s : SliceState) (agent : Agent) (l : Line) (step : Step) (r : RequesterState) (from : Where) (slot : Slot) (state : SlotState) (port : PortView) (history : List Act) → Ready s agent l step r → Own s agent l step r from slot → issued_slot step ≡ None → record_of (line s l.0) (action_of agent l step) ≡ None
-    → where_of_state state (slot_at r.slots slot.0).answered ≡ moved_to (line s l.0) agent step → OwnFollows s agent l step r (with_both port history (slots_with_state r.slots slot.0 state) r)
+    → where_of_state state (slot_record_at r.slots slot.0).answered ≡ moved_to (line s l.0) agent step → OwnFollows s agent l step r (with_both port history (slots_with_state r.slots slot.0 state) r)
 arrival_follows s agent l step r from slot state port history ready own unissued unrecorded to = record {
   number = refl;
-  slots = slot_moves s agent l step r from slot (in_state state (slot_at r.slots slot.0)) ready own unissued (restated (slot_at r.slots slot.0) state (moved_to (line s l.0) agent step) to);
+  slots = slot_moves s agent l step r from slot (in_state state (slot_record_at r.slots slot.0)) ready own unissued (restated (slot_record_at r.slots slot.0) state (moved_to (line s l.0) agent step) to);
   counts = counts_stay s (record_of (line s l.0) (action_of agent l step)) r.counts unrecorded;
 }

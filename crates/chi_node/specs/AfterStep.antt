@@ -16,14 +16,14 @@ use Rattle.chi_tracker.specs.Conduct.{ReleaseActs}
 use Rattle.chi_credit.specs.declared.slot.SlotState.TheVariants.{Admitted, Idle, Refused, Retried, Riding, Cancelled}
 use Rattle.chi_credit.specs.declared.slot.SlotRecord.{SlotRecord}
 use Rattle.chi_credit.specs.Slot.{after_answer, after_finish, can_be_answered, in_state, is_admitted, opened_slot}
-use Rattle.chi_credit.specs.Account.{riding_of, slot_at, state_at, type_at}
+use Rattle.chi_credit.specs.Account.{riding_of, slot_record_at, state_at, type_at}
 use Rattle.chi_node.specs.declared.steps.StepPlace.{StepPlace}
 use Rattle.chi_node.specs.Requester.{Acted, RequesterState, with_both}
 
 -- the record of a slot changes, if there is one
 abbrev pub changed_at : Option Slot → (SlotRecord → SlotRecord) → List SlotRecord → List SlotRecord
 changed_at None change slots = slots
-changed_at (Some slot) change slots = slice_set slots slot.0 (change (slot_at slots slot.0))
+changed_at (Some slot) change slots = slice_set slots slot.0 (change (slot_record_at slots slot.0))
 
 -- the slots of an account after a step at a place
 abbrev pub account_after : StepPlace → Step → List SlotRecord → List SlotRecord
@@ -73,7 +73,7 @@ pub record Completes (s : ℕ) (released : Released) (old new : RequesterState) 
   pub ended : (e : Entry) × (state_at old.slots s ≡ Admitted e) × EndedAsItsType old.port e.0 released new.port
   pub held : (e : Entry) → state_at old.slots s ≡ Admitted e → has e.0 old.port ≡ 1
   pub credits : HasSameCredits old.port new.port
-  pub after : new ≡ with_both new.port new.history (slice_set old.slots s (after_finish (slot_at old.slots s))) old
+  pub after : new ≡ with_both new.port new.history (slice_set old.slots s (after_finish (slot_record_at old.slots s))) old
   pub acted : (e : Entry) × (state_at old.slots s ≡ Admitted e) × (t : ℕ) × (t < 4) × IsOf old.port.shape t e.0
       × Acted (ReleaseActs old.port.shape.agents t e.0 released) old new
 

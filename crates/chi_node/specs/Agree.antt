@@ -15,7 +15,7 @@ use Rattle.chi_line.specs.Types.{is_of_type}
 use Rattle.chi_credit.specs.declared.slot.SlotState.{SlotState}
 use Rattle.chi_credit.specs.declared.slot.SlotState.TheVariants.{Admitted, Closing, Refused, Retried, Riding, Sent}
 use Rattle.chi_credit.specs.declared.slot.SlotRecord.{SlotRecord}
-use Rattle.chi_credit.specs.Account.{slot_at}
+use Rattle.chi_credit.specs.Account.{slot_record_at}
 use Rattle.chi_node.specs.Requester.{RequesterState}
 
 -- where the request of a slot is, by the slot's state and whether it is marked as answered
@@ -51,7 +51,7 @@ is_said_in s x = is_some (where_of_state x.state x.answered) && is_line_in_range
 
 -- the count for the slice is the length of the requester's part of the journal
 pub record Agree (s : SliceState) (r : RequesterState) : Type 0 where
-  pub slots : (slot : Slot) → slot.0 < 8 → MatchesRecord s r.number slot (slot_at r.slots slot.0)
+  pub slots : (slot : Slot) → slot.0 < 8 → MatchesRecord s r.number slot (slot_record_at r.slots slot.0)
   pub count : slice_index r.counts s.index ≡ length (part_of s.journal.entries r.number)
 
 -- each requester agrees with each slice

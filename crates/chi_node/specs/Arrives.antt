@@ -8,7 +8,7 @@ use Rattle.chi_tracker.specs.declared.step.Step.TheVariants.{Spend}
 use Rattle.chi_tracker.specs.Conduct.{FoundFree, FoundTaken, One, OweActs, Steps, Then}
 use Rattle.chi_tracker.specs.Views.{PortView, has}
 use Rattle.chi_credit.specs.declared.slot.SlotState.TheVariants as states
-use Rattle.chi_credit.specs.Account.{slots_with_state, slot_at, state_at, type_at}
+use Rattle.chi_credit.specs.Account.{slots_with_state, slot_record_at, state_at, type_at}
 use Rattle.chi_node.specs.declared.answers.Arrived.{Arrived}
 use Rattle.chi_node.specs.declared.answers.Arrived.TheVariants.{Admitted, Retried}
 use Rattle.chi_node.specs.Requester.{Acted, RequesterState, with_both}
@@ -25,7 +25,7 @@ RetryActs p t = Then (FoundTaken t (low p.shape t) (size p.shape t)) (OweActs t)
 -- where each entry of its type was found claimed; a resent one is admitted with the entry of a credit
 abbrev pub ArrivesFirst : ℕ → Arrived → RequesterState → RequesterState → Type 0
 ArrivesFirst s (Admitted e) old new =
-    ((slot_at old.slots s).answered ≡ false) × IsOf old.port.shape (type_at old.slots s) e.0 × (has e.0 old.port ≡ 0)
+    ((slot_record_at old.slots s).answered ≡ false) × IsOf old.port.shape (type_at old.slots s) e.0 × (has e.0 old.port ≡ 0)
     × (new ≡ with_both (into_hand e.0 (port_after_scan (type_at old.slots s) (e.0 - low old.port.shape (type_at old.slots s)) old.port))
     new.history (slots_with_state old.slots s (states.Admitted e)) old)
     × Acted (AdmissionActs old.port (type_at old.slots s) e.0) old new
@@ -37,7 +37,7 @@ ArrivesFirst s (Retried ty) old new =
 
 abbrev pub ArrivesResent : ℕ → Arrived → RequesterState → RequesterState → Type 0
 ArrivesResent s (Admitted e) old new =
-    ((slot_at old.slots s).answered ≡ false) × IsLowestSeen old.port (type_at old.slots s) e.0 × (has e.0 old.port ≡ 0)
+    ((slot_record_at old.slots s).answered ≡ false) × IsLowestSeen old.port (type_at old.slots s) e.0 × (has e.0 old.port ≡ 0)
     × (new ≡ with_both (spends (type_at old.slots s) e.0 old.port) new.history (slots_with_state old.slots s (states.Admitted e)) old)
     × Acted (One (Spend (type_at old.slots s) e.0)) old new
 ArrivesResent s (Retried ty) old new = ⊥

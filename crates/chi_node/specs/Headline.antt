@@ -14,7 +14,7 @@ use Rattle.chi_tracker.specs.Laws.{HasSeat, Places}
 use Rattle.chi_tracker.specs.Rule.{TrackerRule}
 use Rattle.chi_node.specs.declared.answers.Arrived.{Arrived}
 use Rattle.chi_node.specs.declared.answers.Arrived.TheVariants.{Admitted}
-use Rattle.chi_node.specs.Home.{last_of, line}
+use Rattle.chi_node.specs.Home.{node_last, node_line}
 use Rattle.chi_node.specs.Requester.{RequesterState}
 use Rattle.chi_node.specs.System.{ArrivesIn, SystemState, arrive_refusal}
 
@@ -34,11 +34,11 @@ pub record IsAdmitted (y : SystemState) (agent : Agent) (l : Line) : Type 0 wher
 pub record Headline (y : SystemState) : Type 0 where
   -- each line has at most one unique holder and then no other, its filter names every holder, and each valid
   -- copy has the value last written
-  pub lines : (l : ℕ) → l < y.home.config.lines → Coherent (last_of y.home l) (standing_of (line y.home l))
+  pub lines : (l : ℕ) → l < y.home.config.lines → Coherent (node_last y.home l) (standing_of (node_line y.home l))
   -- each load in a journal had the value that was written last before it
   pub loads : All (λ s. IsLegal s.journal.entries) y.home.slices
   -- each entry is in one place
   pub entries : All IsInPlace y.requesters
   -- a request that was resent with a credit is admitted
   pub resent : (agent : Agent) (l : Line) (request : Request) → agent.0 < y.home.config.agents → l.0 < y.home.config.lines
-      → (cells_of (line y.home l.0) agent.0).req ≡ Some request → request.allow_retry ≡ false → IsAdmitted y agent l
+      → (cells_of (node_line y.home l.0) agent.0).req ≡ Some request → request.allow_retry ≡ false → IsAdmitted y agent l

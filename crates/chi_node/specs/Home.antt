@@ -27,11 +27,11 @@ abbrev pub slice_of : HomeState → ℕ → SliceState
 slice_of h l = slice_at h (index_of h l)
 
 -- a line as the tables of its slice show it, and the values last stored to its words
-abbrev pub line : HomeState → ℕ → LineState
-line h l = slice.line (slice_of h l) l
+abbrev pub node_line : HomeState → ℕ → LineState
+node_line h l = slice.line (slice_of h l) l
 
-abbrev pub last_of : HomeState → ℕ → List ℕ
-last_of h l = slice.last_of (slice_of h l) l
+abbrev pub node_last : HomeState → ℕ → List ℕ
+node_last h l = slice.last_of (slice_of h l) l
 
 -- what an action that is done leaves: its slice does it, and the others stay
 abbrev pub with_slice : HomeState → ℕ → SliceState → HomeState
@@ -41,11 +41,11 @@ abbrev pub slices_after : HomeState → Action → HomeState
 slices_after h action = with_slice h action.line.0 (slice.slice_after (slice_of h action.line.0) action)
 
 -- why a line, and an agent's flits at it, can't be looked at
-abbrev pub view_refusal : HomeState → ℕ → Option Refusal
-view_refusal h l = slice.view_refusal (slice_of h l) l
+abbrev pub node_view_refusal : HomeState → ℕ → Option Refusal
+node_view_refusal h l = slice.view_refusal (slice_of h l) l
 
-abbrev pub flits_refusal : HomeState → ℕ → ℕ → Option Refusal
-flits_refusal h n l = slice.flits_refusal (slice_of h l) n l
+abbrev pub node_flits_refusal : HomeState → ℕ → ℕ → Option Refusal
+node_flits_refusal h n l = slice.flits_refusal (slice_of h l) n l
 
 -- the sizes are in the limits, and there are as many slices as they say, at least one, each of a node of
 -- these sizes and with its place as its index

@@ -3,7 +3,7 @@
 use Rattle.std.specs.Prelude.{◌≡◌, ◌⊎◌, ℕ, ◌%◌, List, All, false, true, nat_lt, Option, Some, length, map}
 use Rattle.chi_flit.specs.declared.refusal.Refusal.{Refusal}
 use Rattle.chi_flit.specs.declared.refusal.Refusal.TheVariants.{NotOpen, OutOfRange}
-use Rattle.chi_tracker.specs.Calls.{Home, Owner}
+use Rattle.chi_tracker.specs.Calls.{TrackerState, Owner}
 use Rattle.chi_config.specs.Config.{Sizes}
 use Rattle.chi_slice.specs.Slice.{SliceState}
 use Rattle.chi_node.specs.Requester.{RequesterState, owner}
@@ -11,7 +11,7 @@ use Rattle.chi_node.specs.Requester.{RequesterState, owner}
 -- the size of a node, and its tracker; what its slices hold is behind the locks
 pub record NodeState : Type 0 where
   pub config : Sizes
-  pub tracker : Home
+  pub tracker : TrackerState
 
 -- the slice of line l in a node of these sizes
 pub record IsSliceOf (sizes : Sizes) (l : ℕ) (s : SliceState) : Type 0 where

@@ -100,8 +100,8 @@ abbrev pub HasSpare : RequesterState → ℕ → Type 0
 HasSpare r t = riding_of r.slots t < seen_of r.port t
 
 -- whether the tracker has entries of type t
-abbrev pub has_type : RequesterState → ℕ → Bool
-has_type r t = nat_lt 0 (size r.port.shape t)
+abbrev pub has_entries_of : RequesterState → ℕ → Bool
+has_entries_of r t = nat_lt 0 (size r.port.shape t)
 
 -- whether a slot of type t is Cancelled, and a seen credit of the type is beyond those for Riding slots
 abbrev pub can_give_back : RequesterState → ℕ → Bool
@@ -109,8 +109,8 @@ can_give_back r t = nat_lt (lowest_cancelled r.slots t) 8 && nat_lt (riding_of r
 
 -- why a credit of type t can't be given back
 abbrev pub give_back_refusal : RequesterState → ℕ → Option Refusal
-give_back_refusal r t = if has_type r t then (if can_give_back r t then None else Some NoCredit) else Some OutOfRange
+give_back_refusal r t = if has_entries_of r t then (if can_give_back r t then None else Some NoCredit) else Some OutOfRange
 
 -- why type t can't be tended
 abbrev pub tend_refusal : RequesterState → ℕ → Option Refusal
-tend_refusal r t = if has_type r t then None else Some OutOfRange
+tend_refusal r t = if has_entries_of r t then None else Some OutOfRange

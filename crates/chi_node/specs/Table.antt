@@ -9,7 +9,7 @@ use Rattle.chi_line.specs.Table.{IsAt, IsFound}
 use Rattle.chi_line.specs.Types.{is_of_type}
 use Rattle.chi_slice.specs.Slice.{SliceState, is_line_in_range, line}
 use Rattle.chi_credit.specs.declared.slot.SlotRecord.{SlotRecord}
-use Rattle.chi_credit.specs.Account.{slot_at}
+use Rattle.chi_credit.specs.Account.{slot_record_at}
 use Rattle.chi_node.specs.Agree.{where_of_record}
 use Rattle.chi_node.specs.Requester.{RequesterState}
 
@@ -25,5 +25,5 @@ pub record MatchesByTable (s : SliceState) (n : ℕ) (slot : Slot) (x : SlotReco
 
 -- so of each slot, and the count for the slice is the length of the requester's part of the journal
 pub record AgreeByTable (s : SliceState) (r : RequesterState) : Type 0 where
-  pub slots : (slot : Slot) → slot.0 < 8 → MatchesByTable s r.number slot (slot_at r.slots slot.0)
+  pub slots : (slot : Slot) → slot.0 < 8 → MatchesByTable s r.number slot (slot_record_at r.slots slot.0)
   pub count : slice_index r.counts s.index ≡ length (part_of s.journal.entries r.number)

@@ -2,7 +2,7 @@
 
 ghost use Rattle.std.specs.Prelude.{◌≡◌, ◌<◌, ◌↔◌, ℕ, All, IsTrue, Some, length, slice_index};
 ghost use Rattle.chi_journal.specs.Journal.{part_of};
-ghost use Rattle.chi_credit.specs.Account.{slot_at};
+ghost use Rattle.chi_credit.specs.Account.{slot_record_at};
 ghost use Rattle.chi_slice.specs.Slice.{SliceKept};
 ghost use Rattle.chi_node.specs.Requester.{RequesterKept};
 ghost use Rattle.chi_node.specs.Agree.{is_said_in, said_place, where_of_state, Agree, AllAgree, MatchesRecord};
@@ -73,7 +73,7 @@ fn has_count<A: Allocator>(slice: &Slice<A>, requester: &Requester) -> bool
 fn matches_account<A: Allocator>(slice: &Slice<A>, requester: &Requester) -> bool
     ensures { IsTrue result
         ↔ ((slot : Slot) → slot.0 < 8
-        → MatchesRecord slice.now requester.now.number slot (slot_at requester.now.slots slot.0)) }
+        → MatchesRecord slice.now requester.now.number slot (slot_record_at requester.now.slots slot.0)) }
 {
     let agent = requester.number();
     let mut found = true;

@@ -7,7 +7,7 @@ ghost use Rattle.chi_tracker.specs.Views.{has};
 ghost use Rattle.chi_tracker.specs.Steps.{spends};
 ghost use Rattle.chi_tracker.specs.Calls.{into_hand, owed_one, port_after_scan, Ended, HasSameCredits, IsLowestSeen};
 ghost use Rattle.chi_credit.specs.Slot.{after_finish, is_admitted};
-ghost use Rattle.chi_credit.specs.Account.{slots_with_state, slot_at, state_at, type_at};
+ghost use Rattle.chi_credit.specs.Account.{slots_with_state, slot_record_at, state_at, type_at};
 ghost use Rattle.chi_tracker.specs.declared.step.Step.TheVariants.{Spend};
 ghost use Rattle.chi_tracker.specs.Conduct.{One, ReleaseActs};
 ghost use Rattle.chi_node.specs.Arrives.{AdmissionActs, Arrives, CanArrive, RetryActs};
@@ -34,7 +34,7 @@ impl Requester {
         requires slot { slot.0 < 8 }
         requires sent { state_at self.old.slots slot.0 ≡ SlotState.Sent }
         requires entries { 0 < size self.old.port.shape (type_at self.old.slots slot.0) }
-        ensures unanswered { IfSome result (λ _. (slot_at self.old.slots slot.0).answered ≡ false) }
+        ensures unanswered { IfSome result (λ _. (slot_record_at self.old.slots slot.0).answered ≡ false) }
         ensures claimed { IfSome result
             (λ e. IsOf self.old.port.shape (type_at self.old.slots slot.0) e.0
             × (has e.0 self.old.port ≡ 0)) }
@@ -73,7 +73,7 @@ impl Requester {
         requires table { self.old.table ≡ tracker.now.table }
         requires slot { slot.0 < 8 }
         requires riding { state_at self.old.slots slot.0 ≡ SlotState.Riding }
-        ensures unanswered { (slot_at self.old.slots slot.0).answered ≡ false }
+        ensures unanswered { (slot_record_at self.old.slots slot.0).answered ≡ false }
         ensures lowest { IsLowestSeen self.old.port (type_at self.old.slots slot.0) result.0 }
         ensures held { has result.0 self.old.port ≡ 0 }
         ensures after { self.new
@@ -125,7 +125,7 @@ impl Requester {
             × Acted (ReleaseActs self.old.port.shape.agents t e.0 result)
             self.old self.new }
         ensures after { self.new ≡ with_both self.new.port self.new.history
-            (slice_set self.old.slots slot.0 (after_finish (slot_at self.old.slots slot.0))) self.old }
+            (slice_set self.old.slots slot.0 (after_finish (slot_record_at self.old.slots slot.0))) self.old }
     {
         let entry = self.account.finished(slot);
         self.port.release(tracker, entry)

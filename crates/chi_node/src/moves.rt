@@ -3,7 +3,7 @@
 ghost use Rattle.std.specs.Prelude.{◌≡◌, ◌<◌, true, slice_index, slice_set};
 ghost use Rattle.chi_tracker.specs.Calls.{seen_of};
 ghost use Rattle.chi_credit.specs.Slot.{after_answer, can_be_answered, opened_slot};
-ghost use Rattle.chi_credit.specs.Account.{slots_with_state, riding_of, slot_at, state_at, type_at};
+ghost use Rattle.chi_credit.specs.Account.{slots_with_state, riding_of, slot_record_at, state_at, type_at};
 ghost use Rattle.chi_node.specs.Requester.{with_count, with_slots};
 
 use crate::requester::Requester;
@@ -71,7 +71,7 @@ impl Requester {
         requires waits { can_be_answered (state_at self.old.slots slot.0) ≡ true }
         ensures { self.new
             ≡ with_slots
-            (slice_set self.old.slots slot.0 (after_answer (slot_at self.old.slots slot.0))) self.old }
+            (slice_set self.old.slots slot.0 (after_answer (slot_record_at self.old.slots slot.0))) self.old }
     {
         self.account.answered(slot);
     }

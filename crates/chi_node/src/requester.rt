@@ -6,11 +6,11 @@ ghost use Rattle.chi_flit.specs.Refusal.{refusal_of};
 ghost use Rattle.chi_tracker.specs.Shape.{low};
 ghost use Rattle.chi_tracker.specs.Views.{new_port};
 ghost use Rattle.chi_tracker.specs.Calls.{seen_of};
-ghost use Rattle.chi_credit.specs.Account.{slot_at, state_at, IsLowestIdle};
+ghost use Rattle.chi_credit.specs.Account.{slot_record_at, state_at, IsLowestIdle};
 ghost use Rattle.chi_slice.specs.Slice.{SliceState};
 ghost use Rattle.chi_node.specs.Agree.{Agree};
 ghost use Rattle.chi_node.specs.Credits.{GivesBack, Sees, Tends};
-ghost use Rattle.chi_node.specs.Requester.{can_give_back, give_back_refusal, has_type, no_requester, opening_requester, tend_refusal, HasSpare, RequesterKept};
+ghost use Rattle.chi_node.specs.Requester.{can_give_back, give_back_refusal, has_entries_of, no_requester, opening_requester, tend_refusal, HasSpare, RequesterKept};
 
 use chi_credit::{Account, SlotRecord, SlotState};
 use chi_flit::{Agent, CreditType, Refusal, Slot};
@@ -92,7 +92,7 @@ impl Requester {
     /// Source: `docs/PROTOCOL.md`, "Slots and accounts".
     pub fn slot(&self, slot: Slot) -> SlotRecord
         requires { slot.0 < 8 }
-        ensures { result ≡ slot_at self.now.slots slot.0 }
+        ensures { result ≡ slot_record_at self.now.slots slot.0 }
     {
         self.account.slot(slot)
     }
@@ -136,7 +136,7 @@ impl Requester {
 
     /// Whether the tracker has entries of the type.
     fn has_type(&self, ty: CreditType) -> bool
-        ensures { result ≡ has_type self.now (credit_number ty) }
+        ensures { result ≡ has_entries_of self.now (credit_number ty) }
     {
         0 < self.entries[usize::from(ty.number())]
     }

@@ -12,10 +12,10 @@ ghost use Rattle.chi_node.specs.Calls.{is_own_step};
 ghost use Rattle.chi_node.specs.Requester.{RequesterState, no_requester};
 ghost use Rattle.chi_slice.specs.Audits.{IsAudited};
 ghost use Rattle.chi_node.specs.Headline.{Headline};
-ghost use Rattle.chi_node.specs.Home.{flits_refusal, index_of, last_of, line as line_of_home, slice_of, view_refusal};
+ghost use Rattle.chi_node.specs.Home.{node_flits_refusal, index_of, node_last, node_line, slice_of, node_view_refusal};
 ghost use Rattle.chi_node.specs.Credits.{GiveBackTry, Sees, TendTry, typed_refusal};
 ghost use Rattle.chi_node.specs.Agree.{AllAgree};
-ghost use Rattle.chi_node.specs.System.{agent_refusal, arrive_refusal, give_back_refusal_in, opening_system, step_refusal, tend_refusal_in, ArrivesIn, GivesBackIn, Glances, IsSystem, SeesIn, StepsIn, TendsIn};
+ghost use Rattle.chi_node.specs.System.{agent_refusal, arrive_refusal, give_back_refusal_in, opening_system, system_step_refusal, tend_refusal_in, ArrivesIn, GivesBackIn, Glances, IsSystem, SeesIn, StepsIn, TendsIn};
 
 use crate::agree::all_agree;
 use crate::answers::{Arrived, Stepped};
@@ -107,7 +107,7 @@ impl<A: Allocator> System<A> {
     /// Source: `docs/PROTOCOL.md`, "The actions" and "A requester and its calls".
     pub fn step(&mut self, action: Action) -> Result<Stepped, Refusal>
         requires { is_own_step action.step ≡ true }
-        ensures refusal { refusal_of result ≡ step_refusal self.old action }
+        ensures refusal { refusal_of result ≡ system_step_refusal self.old action }
         ensures ok { IfOk result (λ stepped. StepsIn self.old self.new action stepped) }
         ensures err { OnErr result (self.new ≡ self.old) }
         ensures kept { IsSystem self.old }
@@ -243,8 +243,8 @@ impl<A: Allocator> System<A> {
     /// Source: `docs/PROTOCOL.md`, "One line".
     pub fn view(&self, line: Line) -> Result<LineView, Refusal>
         ensures shown { IfOk result (λ view. view
-            ≡ line_view (line_of_home self.now.home line.0) (last_of self.now.home line.0)) }
-        ensures refusal { refusal_of result ≡ view_refusal self.now.home line.0 }
+            ≡ line_view (node_line self.now.home line.0) (node_last self.now.home line.0)) }
+        ensures refusal { refusal_of result ≡ node_view_refusal self.now.home line.0 }
     {
         self.slice_of(line).view(line)
     }
@@ -254,8 +254,8 @@ impl<A: Allocator> System<A> {
     /// Refused 10 (OutOfRange) exactly where the agent or the line is outside the node.
     /// Source: `docs/PROTOCOL.md`, "Messages".
     pub fn flits(&self, agent: Agent, line: Line) -> Result<Cells, Refusal>
-        ensures cells { IfOk result (λ cells. cells ≡ cells_of (line_of_home self.now.home line.0) agent.0) }
-        ensures refusal { refusal_of result ≡ flits_refusal self.now.home agent.0 line.0 }
+        ensures cells { IfOk result (λ cells. cells ≡ cells_of (node_line self.now.home line.0) agent.0) }
+        ensures refusal { refusal_of result ≡ node_flits_refusal self.now.home agent.0 line.0 }
         ensures agent { OnOk result (agent.0 < self.now.home.config.agents) }
     {
         self.slice_of(line).flits(agent, line)

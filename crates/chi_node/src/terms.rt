@@ -1,7 +1,7 @@
 //! What a requester adds to the conditions of its steps.
 
 ghost use Rattle.std.specs.Prelude.{◌≡◌};
-ghost use Rattle.chi_credit.specs.Slot.{is_idle};
+ghost use Rattle.chi_credit.specs.Slot.{is_idle_state};
 ghost use Rattle.chi_node.specs.Terms.{is_taken, spare_credits, terms_of};
 
 use crate::requester::Requester;
@@ -68,7 +68,7 @@ impl Requester {
 
 /// Whether a slot in this state is free.
 fn is_idle(state: SlotState) -> bool
-    ensures { result ≡ is_idle state }
+    ensures { result ≡ is_idle_state state }
 {
     matches!(state, SlotState::Idle)
 }

@@ -15,11 +15,11 @@ use Rattle.chi_verdict.specs.declared.reports.Outcome.{Outcome}
 use Rattle.chi_verdict.specs.declared.reports.Outcome.TheVariants as outcomes
 
 abbrev pub stop_status : Stop → ℕ
-stop_status (Arguments fault) = words.status_of fault
+stop_status (Arguments fault) = words.argument_fault_status fault
 stop_status (Run fault) = script.status_of fault
 
 abbrev pub stop_text : Stop → List ℕ
-stop_text (Arguments fault) = words.fault_text fault
+stop_text (Arguments fault) = words.argument_fault_text fault
 stop_text (Run fault) = script.fault_text fault
 
 abbrev pub end_status : End → ℕ

@@ -18,7 +18,7 @@ use Rattle.chi_node.specs.System.{GivesBackIn, IsSystem, SeesIn, SystemState, Te
 use Rattle.chi_reply.specs.Replies.{credits_text, reply_text}
 use Rattle.chi_reply.specs.declared.replies.Reply.TheVariants as replies
 use Rattle.chi_replay.specs.Ports.{GivesBack, Sees, Tends, seen_counts}
-use Rattle.chi_replay.specs.Turns.{Machine, Saw, Tended, Went, credits_of, give_back, less_one, slots_of, tend, turn_after_tend, turn, type_refusal, with_credits, with_slots}
+use Rattle.chi_replay.specs.Turns.{Machine, Saw, Tended, Went, credits_of, give_back, less_one, slots_of, tend, turn_after_tend, turn, type_refusal, with_credits, with_account}
 use Rattle.chi_replay.specs.Texts.{Plays}
 use Rattle.chi_replay.specs.NodeReplies.{give_back_reply, tend_reply}
 use Rattle.chi_replay.specs.Session.{PlaysOn, machine_of, ports_of}
@@ -68,7 +68,7 @@ returned y y' agent ty released k h gave =
     let slots : (requester_of y' agent.0).slots ≡ freed = ap (λ (x : RequesterState). x.slots) gave.requester.others ∙ ap (λ (x : List SlotRecord). set x (lowest_cancelled x t) idle_slot) (sym (slots_at y agent)) in
     let credits : seen_counts (requester_of y' agent.0).port ≡ less_one (credits_of m agent) ty =
     counts_less r.port (requester_of y' agent.0).port ty e (few_there y agent.0 k low) gave.requester.returned.1 same.1 same.2 ∙ ap (λ (x : List ℕ). less_one x ty) (sym (credits_at y agent)) in
-    let state : machine_of y' ≡ with_credits (with_slots m agent freed) agent (less_one (credits_of m agent) ty) =
+    let state : machine_of y' ≡ with_credits (with_account m agent freed) agent (less_one (credits_of m agent) ty) =
     machine_after y y' agent freed (less_one (credits_of m agent) ty) gave.others slots credits
     ∙ ap (λ (z : HomeState). record { home = z; accounts = set m.accounts agent.0 freed; seen = set m.seen agent.0 (less_one (credits_of m agent) ty) }) gave.home in
     allowed_plays y y' _ _ (reply_text (replies.Paid released)) (h ∙ sym (give_back_same y agent ty k)) (

@@ -7,7 +7,7 @@ use Rattle.chi_tracker.specs.Views.{PortView}
 use Rattle.chi_node.specs.System.{SystemState, opening_system}
 use Rattle.chi_replay.specs.Session.{machine_of, ports_of}
 use Rattle.chi_replay.proofs.Openings.{opening_machine, opening_views}
-use Rattle.chi_replay.specs.Turns.{Answer, Machine, opening, turn}
+use Rattle.chi_replay.specs.Turns.{Answer, Machine, machine_at_start, turn}
 use Rattle.chi_replay.specs.Texts.{Allowed, IsText, Ending, Says, opening_ports, text}
 use Rattle.chi_replay.proofs.Playing.{made_plays}
 use Rattle.chi_replay.proofs.Audited.{audits_tell}
@@ -16,14 +16,14 @@ abbrev pub LeadsOn : Sizes → List Command → List ℕ → Machine → List Po
 LeadsOn config all written m ports rest = (answers : List Answer) → Allowed m ports rest answers → IsText config all (written ++ text m rest answers)
 
 -- before the first command
-leads_from : (config : Sizes) (all : List Command) → LeadsOn config all [] (opening config) (opening_ports config) all
-leads_from config all = λ answers allowed. record { answers = answers; allowed = allowed; same = refl; audits = audits_tell (opening config) (opening_ports config) all answers allowed }
+leads_from : (config : Sizes) (all : List Command) → LeadsOn config all [] (machine_at_start config) (opening_ports config) all
+leads_from config all = λ answers allowed. record { answers = answers; allowed = allowed; same = refl; audits = audits_tell (machine_at_start config) (opening_ports config) all answers allowed }
 
 pub leads_first : (config : Sizes) (all : List Command) (z : TableId) (y : SystemState) (written : List ℕ) → y ≡ opening_system config z → written ≡ [] → LeadsOn config all written (machine_of y) (ports_of y) all
 leads_first config all z y written is none =
     subst (λ (l : List ℕ). LeadsOn config all l (machine_of y) (ports_of y) all) (sym none)
     (subst (λ (m : Machine). LeadsOn config all [] m (ports_of y) all) (sym (opening_machine config z y is))
-    (subst (λ (ports : List PortView). LeadsOn config all [] (opening config) ports all) (sym (opening_views config z y is)) (leads_from config all)))
+    (subst (λ (ports : List PortView). LeadsOn config all [] (machine_at_start config) ports all) (sym (opening_views config z y is)) (leads_from config all)))
 
 joined_line : (written said rest : List ℕ) → written ++ (said ++ (10 ∷ rest)) ≡ (written ++ (said ++ (10 ∷ []))) ++ rest
 joined_line written said rest = ap (λ (l : List ℕ). written ++ l) (sym (append_assoc said (10 ∷ []) rest)) ∙ sym (append_assoc written (said ++ (10 ∷ [])) rest)

@@ -18,46 +18,46 @@ use Rattle.chi_node.specs.Requester.{RequesterState, opening_requester}
 use Rattle.chi_node.specs.Home.{opening_home}
 use Rattle.chi_node.specs.System.{SystemState, opening_system}
 use Rattle.chi_replay.specs.Ports.{seen_counts}
-use Rattle.chi_replay.specs.Turns.{no_credits, opening}
+use Rattle.chi_replay.specs.Turns.{no_seen_credits, machine_at_start}
 use Rattle.chi_replay.specs.Texts.{opening_ports}
 use Rattle.chi_replay.specs.Session.{machine_of, ports_of}
 
 -- nothing is seen
-none_in : (j : ℕ) → slice_index no_credits j ≡ 0
+none_in : (j : ℕ) → slice_index no_seen_credits j ≡ 0
 none_in zero = refl
 none_in (suc zero) = refl
 none_in (suc (suc zero)) = refl
 none_in (suc (suc (suc zero))) = refl
 none_in (suc (suc (suc (suc j)))) = refl
 
-none_at : (e : ℕ) → set_at no_credits e ≡ 0
+none_at : (e : ℕ) → set_at no_seen_credits e ≡ 0
 none_at e = ap (λ w. bit_at w (e % 64)) (none_in (e / 64)) ∙ bit_at-zero (e % 64)
 
-none_from : (start n : ℕ) → set_count no_credits start n ≡ 0
+none_from : (start n : ℕ) → set_count no_seen_credits start n ≡ 0
 none_from start zero = refl
 none_from start (suc n) = omega (arith, none_from start n, none_at (start + n))
 
-no_counts : (s : Shape) (n : ℕ) → seen_counts (new_port s n) ≡ no_credits
+no_counts : (s : Shape) (n : ℕ) → seen_counts (new_port s n) ≡ no_seen_credits
 no_counts s n =
-    ap (λ m. m ∷ set_count no_credits (low s 1) (size s 1) ∷ set_count no_credits (low s 2) (size s 2) ∷ set_count no_credits (low s 3) (size s 3) ∷ []) (none_from (low s 0) (size s 0))
-    ∙ (ap (λ m. 0 ∷ m ∷ set_count no_credits (low s 2) (size s 2) ∷ set_count no_credits (low s 3) (size s 3) ∷ []) (none_from (low s 1) (size s 1))
-    ∙ (ap (λ m. 0 ∷ 0 ∷ m ∷ set_count no_credits (low s 3) (size s 3) ∷ []) (none_from (low s 2) (size s 2)) ∙ ap (λ m. 0 ∷ 0 ∷ 0 ∷ m ∷ []) (none_from (low s 3) (size s 3))))
+    ap (λ m. m ∷ set_count no_seen_credits (low s 1) (size s 1) ∷ set_count no_seen_credits (low s 2) (size s 2) ∷ set_count no_seen_credits (low s 3) (size s 3) ∷ []) (none_from (low s 0) (size s 0))
+    ∙ (ap (λ m. 0 ∷ m ∷ set_count no_seen_credits (low s 2) (size s 2) ∷ set_count no_seen_credits (low s 3) (size s 3) ∷ []) (none_from (low s 1) (size s 1))
+    ∙ (ap (λ m. 0 ∷ 0 ∷ m ∷ set_count no_seen_credits (low s 3) (size s 3) ∷ []) (none_from (low s 2) (size s 2)) ∙ ap (λ m. 0 ∷ 0 ∷ 0 ∷ m ∷ []) (none_from (low s 3) (size s 3))))
 
 -- of n requesters from a start
 idle_accounts : (z : TableId) (s : Shape) (start n : ℕ) → map (λ (r : RequesterState). r.slots) (map (opening_requester z s) (range_with_len start n)) ≡ replicate n all_idle
 idle_accounts z s start zero = refl
 idle_accounts z s start (suc n) = ap (λ (l : List (List SlotRecord)). all_idle ∷ l) (idle_accounts z s (start + 1) n)
 
-no_credits_seen : (z : TableId) (s : Shape) (start n : ℕ) → map (λ (r : RequesterState). seen_counts r.port) (map (opening_requester z s) (range_with_len start n)) ≡ replicate n no_credits
+no_credits_seen : (z : TableId) (s : Shape) (start n : ℕ) → map (λ (r : RequesterState). seen_counts r.port) (map (opening_requester z s) (range_with_len start n)) ≡ replicate n no_seen_credits
 no_credits_seen z s start zero = refl
-no_credits_seen z s start (suc n) = ap (λ (c : List ℕ). c ∷ map (λ (r : RequesterState). seen_counts r.port) (map (opening_requester z s) (range_with_len (start + 1) n))) (no_counts s start) ∙ ap (λ (l : List (List ℕ)). no_credits ∷ l) (no_credits_seen z s (start + 1) n)
+no_credits_seen z s start (suc n) = ap (λ (c : List ℕ). c ∷ map (λ (r : RequesterState). seen_counts r.port) (map (opening_requester z s) (range_with_len (start + 1) n))) (no_counts s start) ∙ ap (λ (l : List (List ℕ)). no_seen_credits ∷ l) (no_credits_seen z s (start + 1) n)
 
 new_views : (z : TableId) (s : Shape) (start n : ℕ) → map (λ (r : RequesterState). r.port) (map (opening_requester z s) (range_with_len start n)) ≡ new_ports s start n
 new_views z s start zero = refl
 new_views z s start (suc n) = ap (λ (l : List PortView). new_port s start ∷ l) (new_views z s (start + 1) n)
 
 -- the table's state, and the ports
-pub opening_machine : (config : Sizes) (z : TableId) (y : SystemState) → y ≡ opening_system config z → machine_of y ≡ opening config
+pub opening_machine : (config : Sizes) (z : TableId) (y : SystemState) → y ≡ opening_system config z → machine_of y ≡ machine_at_start config
 opening_machine config z y is =
     ap machine_of is
     ∙ (ap (λ (a : List (List SlotRecord)). record { home = opening_home config; accounts = a; seen = map (λ (r : RequesterState). seen_counts r.port) (opening_requesters z (shape_of config.entries config.agents) config.agents) }) (idle_accounts z (shape_of config.entries config.agents) 0 config.agents)

@@ -18,11 +18,11 @@ use Rattle.chi_line.specs.LineState.{cells_of}
 use Rattle.chi_line.specs.Step.{effect_of}
 use Rattle.chi_line.specs.View.{line_view as shown_line}
 use Rattle.chi_node.specs.Calls.{arrival_refusal, is_own_step}
-use Rattle.chi_node.specs.Home.{flits_refusal, last_of, line, slice_of, view_refusal}
+use Rattle.chi_node.specs.Home.{node_flits_refusal, node_last, node_line, slice_of, node_view_refusal}
 use Rattle.chi_reply.specs.declared.replies.Reply.TheVariants as replies
 use Rattle.chi_script.specs.declared.commands.Command.{Command}
 use Rattle.chi_script.specs.declared.commands.Command.TheVariants as commands
-use Rattle.chi_replay.specs.Turns.{Answer, Asks, Claimed, Ends, GiveBack, Glanced, Judged, Machine, Owed, Saw, Spent, Tended, Turn, Went, act, act_refusal, acting, agent_refusal, arrive, arriving, turn_of_attempt, cancelled_refusal, turn_after_claim, turn_after_release, completing, credits_of, turn_after_action, give_back, given_back, turn_after_glance, turn_after_verdict, or_refused, turn_after_owe, turn_after_see, slots_of, turn_after_spend, tend, turn_after_tend, turn, type_refusal}
+use Rattle.chi_replay.specs.Turns.{Answer, Asks, Claimed, Ends, GiveBack, Glanced, Judged, Machine, Owed, Saw, Spent, Tended, Turn, Went, act_turn, act_refusal, acting, machine_agent_refusal, arrive, arriving, turn_of_attempt, cancelled_refusal, turn_after_claim, turn_after_release, completing, credits_of, turn_after_action, give_back, credit_given_back, turn_after_glance, turn_after_verdict, or_refused, turn_after_owe, turn_after_see, slots_of, turn_after_spend, tend, turn_after_tend, turn, type_refusal}
 use Rattle.chi_replay.specs.Texts.{ending}
 use Rattle.chi_replay.proofs.PlainReplies.{IsPlain, audit, credits, flits, reply, shown, totals}
 
@@ -56,8 +56,8 @@ when_done effects.Nothing m action = reply replies.Done
 when_done (effects.Value word) m action = reply (replies.Value word)
 when_done (effects.Completed slot) m action = at_completion (state_at (slots_of m action.agent) slot.0) m action slot
 
-of_act : (m : Machine) (action : Action) → SaysPlain (act m action)
-of_act m action = refused_or (act_refusal m action) m _ (when_done (effect_of (line m.home action.line.0) action) m action)
+of_act : (m : Machine) (action : Action) → SaysPlain (act_turn m action)
+of_act m action = refused_or (act_refusal m action) m _ (when_done (effect_of (node_line m.home action.line.0) action) m action)
 
 when_owed : (m : Machine) (ty : CreditType) (answer : Answer) → SaysPlain (turn_after_owe m ty answer)
 when_owed m ty Owed = reply (replies.Retry ty)
@@ -81,19 +81,19 @@ of_arrival m agent l None = empty
 of_arrival m agent l (Some request) = of_attempt request.allow_retry m agent l request.slot.0 _
 
 of_arrive : (m : Machine) (agent : Agent) (l : Line) → SaysPlain (arrive m agent l)
-of_arrive m agent l = refused_or (arrival_refusal (slice_of m.home l.0) agent.0 l.0) m _ (of_arrival m agent l (cells_of (line m.home l.0) agent.0).req)
+of_arrive m agent l = refused_or (arrival_refusal (slice_of m.home l.0) agent.0 l.0) m _ (of_arrival m agent l (cells_of (node_line m.home l.0) agent.0).req)
 
 when_seen : (m : Machine) (agent : Agent) (answer : Answer) → SaysPlain (turn_after_see m agent answer)
 when_seen m agent (Saw counts) = credits (record { counts = counts; profile = m.home.config.profile })
 when_seen m agent other = empty
 
-when_given : (m : Machine) (agent : Agent) (ty : CreditType) (answer : Answer) → SaysPlain (given_back m agent ty answer)
+when_given : (m : Machine) (agent : Agent) (ty : CreditType) (answer : Answer) → SaysPlain (credit_given_back m agent ty answer)
 when_given m agent ty (Went released) = reply (replies.Paid released)
 when_given m agent ty other = empty
 
 of_give_back : (m : Machine) (agent : Agent) (credit : Option CreditType) → SaysPlain (give_back m agent credit)
 of_give_back m agent None = reply (replies.Refused OutOfRange)
-of_give_back m agent (Some ty) = refused_or (option_or (type_refusal m agent ty) (cancelled_refusal (slots_of m agent) (credits_of m agent) ty)) m (Asks (GiveBack agent ty) (given_back m agent ty)) (when_given m agent ty)
+of_give_back m agent (Some ty) = refused_or (option_or (type_refusal m agent ty) (cancelled_refusal (slots_of m agent) (credits_of m agent) ty)) m (Asks (GiveBack agent ty) (credit_given_back m agent ty)) (when_given m agent ty)
 
 when_tended : (m : Machine) (answer : Answer) → SaysPlain (turn_after_tend m answer)
 when_tended m (Tended None) = reply replies.Idle
@@ -119,10 +119,10 @@ of_acting false m action = of_arrive m action.agent action.line
 pub turn_plain : (m : Machine) (command : Command) → SaysPlain (turn m command)
 turn_plain m commands.Totals = when_glanced m
 turn_plain m commands.Audit = when_judged m
-turn_plain m (commands.Show l) = refused_or (view_refusal m.home l.0) m _ (shown m.home.config.agents (shown_line (line m.home l.0) (last_of m.home l.0)))
-turn_plain m (commands.Flits agent l) = refused_or (flits_refusal m.home agent.0 l.0) m _ (flits (cells_of (line m.home l.0) agent.0))
+turn_plain m (commands.Show l) = refused_or (node_view_refusal m.home l.0) m _ (shown m.home.config.agents (shown_line (node_line m.home l.0) (node_last m.home l.0)))
+turn_plain m (commands.Flits agent l) = refused_or (node_flits_refusal m.home agent.0 l.0) m _ (flits (cells_of (node_line m.home l.0) agent.0))
 turn_plain m (commands.Arrive agent l) = of_arrive m agent l
-turn_plain m (commands.See agent) = refused_or (agent_refusal m agent) m _ (when_seen m agent)
+turn_plain m (commands.See agent) = refused_or (machine_agent_refusal m agent) m _ (when_seen m agent)
 turn_plain m (commands.GiveBack agent ty) = of_give_back m agent ty
 turn_plain m (commands.Tend agent ty) = of_tend m agent ty
 turn_plain m (commands.Act action) = of_acting (is_own_step action.step) m action

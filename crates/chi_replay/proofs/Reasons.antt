@@ -18,36 +18,36 @@ use Rattle.chi_slice.proofs.Rows.{both}
 use Rattle.chi_credit.specs.Account.{lowest_cancelled, riding_of}
 use Rattle.chi_credit.specs.declared.slot.SlotRecord.{SlotRecord}
 use Rattle.chi_node.specs.Parts.{is_of_profile}
-use Rattle.chi_node.specs.Requester.{RequesterState, has_type, no_requester}
+use Rattle.chi_node.specs.Requester.{RequesterState, has_entries_of, no_requester}
 use Rattle.chi_node.specs.Requester as requester
 use Rattle.chi_node.specs.Calls.{is_slot_taken, wanted_credit, refused_with}
 use Rattle.chi_node.specs.Calls as calls
 use Rattle.chi_node.proofs.Openings.{all_types, few_entries}
 use Rattle.chi_node.specs.Home.{slice_of}
-use Rattle.chi_node.specs.System.{IsSystem, SystemState, arrive_refusal, requester_of, step_refusal}
+use Rattle.chi_node.specs.System.{IsSystem, SystemState, arrive_refusal, requester_of, system_step_refusal}
 use Rattle.chi_node.specs.System as system
 use Rattle.chi_node.proofs.Homes.{sizes_at}
 use Rattle.chi_replay.specs.Ports.{seen_counts}
-use Rattle.chi_replay.specs.Turns.{act_refusal, cancelled_refusal, credit_refusal, credits_of, has_spare, slots_of, type_refusal}
+use Rattle.chi_replay.specs.Turns.{act_refusal, cancelled_refusal, machine_credit_refusal, credits_of, has_spare_credit, slots_of, type_refusal}
 use Rattle.chi_replay.specs.Session.{machine_of}
 use Rattle.chi_replay.proofs.Machines.{credits_at, slots_at}
 use Rattle.chi_replay.proofs.Seen.{count_at}
 
 -- a credit to spare, by the numbers of the port
-spare_same : (r : RequesterState) (ty : CreditType) → has_spare r.slots (seen_counts r.port) ty ≡ nat_lt (riding_of r.slots (credit_number ty)) (seen_of r.port (credit_number ty))
+spare_same : (r : RequesterState) (ty : CreditType) → has_spare_credit r.slots (seen_counts r.port) ty ≡ nat_lt (riding_of r.slots (credit_number ty)) (seen_of r.port (credit_number ty))
 spare_same r ty = ap (λ n. nat_lt (riding_of r.slots (credit_number ty)) n) (count_at r.port ty)
 
-credit_same : (r : RequesterState) (wanted : Option CreditType) → credit_refusal r.slots (seen_counts r.port) wanted ≡ calls.credit_refusal r wanted
+credit_same : (r : RequesterState) (wanted : Option CreditType) → machine_credit_refusal r.slots (seen_counts r.port) wanted ≡ calls.credit_refusal r wanted
 credit_same r None = refl
 credit_same r (Some ty) = ap (λ (b : Bool). if b then None else Some NoCredit) (spare_same r ty)
 
 -- an action
-pub act_same : (y : SystemState) (action : Action) → act_refusal (machine_of y) action ≡ step_refusal y action
+pub act_same : (y : SystemState) (action : Action) → act_refusal (machine_of y) action ≡ system_step_refusal y action
 act_same y action =
     let s : SliceState = slice_of y.home action.line.0 in
     let r : RequesterState = requester_of y action.agent.0 in
-    ap (λ (x : List SlotRecord). option_or (refused_with (is_slot_taken x action.step) s action) (credit_refusal x (credits_of (machine_of y) action.agent) (wanted_credit s action))) (slots_at y action.agent)
-    ∙ (ap (λ (x : List ℕ). option_or (refused_with (is_slot_taken r.slots action.step) s action) (credit_refusal r.slots x (wanted_credit s action))) (credits_at y action.agent)
+    ap (λ (x : List SlotRecord). option_or (refused_with (is_slot_taken x action.step) s action) (machine_credit_refusal x (credits_of (machine_of y) action.agent) (wanted_credit s action))) (slots_at y action.agent)
+    ∙ (ap (λ (x : List ℕ). option_or (refused_with (is_slot_taken r.slots action.step) s action) (machine_credit_refusal r.slots x (wanted_credit s action))) (credits_at y action.agent)
     ∙ ap (λ (o : Option Refusal). option_or (refused_with (is_slot_taken r.slots action.step) s action) o) (credit_same r (wanted_credit s action)))
 
 -- what isn't refused first
@@ -72,7 +72,7 @@ arrives_low y agent l k h =
     let s : SliceState = slice_of y.home l.0 in
     low_agent y agent.0 l.0 k (both (nat_lt agent.0 s.config.agents) (is_line_in_range s l.0) (unless_none (are_in_range s agent.0 l.0) (first_none _ _ h))).0
 
-pub steps_low : (y : SystemState) (action : Action) → IsSystem y → None ≡ step_refusal y action → action.agent.0 < y.home.config.agents
+pub steps_low : (y : SystemState) (action : Action) → IsSystem y → None ≡ system_step_refusal y action → action.agent.0 < y.home.config.agents
 steps_low y action k h =
     let s : SliceState = slice_of y.home action.line.0 in
     low_agent y action.agent.0 action.line.0 k (both (nat_lt action.agent.0 s.config.agents) _ (in_range_first (is_in_range s action) _ (first_none _ _ h))).0
@@ -88,7 +88,7 @@ pub few_there : (y : SystemState) (n : ℕ) → IsSystem y → n < y.home.config
 few_there y n k at = rw (k.shapes n no_requester (omega (arith, at, k.count))) (few_entries y.home.config k.home.limits)
 
 -- a type of the profile has entries
-typed_same : (y : SystemState) (agent : Agent) (ty : CreditType) → IsSystem y → agent.0 < y.home.config.agents → is_of_profile y.home.config.profile (credit_number ty) ≡ has_type (requester_of y agent.0) (credit_number ty)
+typed_same : (y : SystemState) (agent : Agent) (ty : CreditType) → IsSystem y → agent.0 < y.home.config.agents → is_of_profile y.home.config.profile (credit_number ty) ≡ has_entries_of (requester_of y agent.0) (credit_number ty)
 typed_same y agent ty k at = sym (all_types y.home.config (requester_of y agent.0).port.shape k.home.limits (k.shapes agent.0 no_requester (omega (arith, at, k.count))) (credit_number ty) (credit_below ty))
 
 -- a tend

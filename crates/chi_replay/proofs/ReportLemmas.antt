@@ -2,7 +2,7 @@
 use Rattle.std.proofs.Common.{◌≡◌, ℕ, List, [], ◌∷◌, ◌++◌, length, refl, ap, arith}
 use Rattle.std.specs.List.{filter, flat_map}
 use Rattle.chi_script.specs.Checks.{CheckLine}
-use Rattle.chi_replay.specs.Reports.{CheckedAnswer, difference, differing, differs, checked_answers, report_text, verdict_line, wanted_in}
+use Rattle.chi_replay.specs.Reports.{CheckedAnswer, difference, differing, differs, checked_answers, report_text, check_summary, wanted_in}
 
 abbrev checked : CheckLine → List ℕ → CheckedAnswer
 checked check answer = record { check = check; answer = answer }
@@ -16,4 +16,4 @@ pub same_differing : (checks : List CheckLine) (answers more : List (List ℕ)) 
 same_differing checks answers more e = ap (filter differs) (more_lines checks answers more e)
 
 pub same_report : (checks : List CheckLine) (answers more : List (List ℕ)) → length answers ≡ length checks → report_text checks (answers ++ more) ≡ report_text checks answers
-same_report checks answers more e = ap (λ (os : List CheckedAnswer). flat_map difference os ++ verdict_line (length (wanted_in checks)) (length os)) (same_differing checks answers more e)
+same_report checks answers more e = ap (λ (os : List CheckedAnswer). flat_map difference os ++ check_summary (length (wanted_in checks)) (length os)) (same_differing checks answers more e)

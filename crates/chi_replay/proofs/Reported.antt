@@ -8,12 +8,12 @@ use Rattle.chi_script.specs.declared.faults.Fault.{Fault}
 use Rattle.chi_script.specs.declared.headers.Header.{Header}
 use Rattle.chi_script.specs.Files.{lines_of}
 use Rattle.chi_replay.specs.Texts.{IsText, text}
-use Rattle.chi_replay.specs.Turns.{opening}
+use Rattle.chi_replay.specs.Turns.{machine_at_start}
 use Rattle.chi_script.specs.declared.checks.Check.{Check}
 use Rattle.chi_script.specs.Checks.{CheckLine, line_of_check}
 use Rattle.chi_script.specs.CheckFiles.{check_file_of}
 use Rattle.chi_script.proofs.CheckFileLemmas.{front_enough}
-use Rattle.chi_replay.specs.Checks.{IsReport, IsReportOf, answers_in, commands_in}
+use Rattle.chi_replay.specs.Checks.{IsReport, IsCheckReport, answers_in, commands_in}
 use Rattle.chi_replay.specs.Reports.{differing, report_text}
 use Rattle.chi_replay.proofs.AnswerLines.{are_lines, one_each}
 use Rattle.chi_replay.proofs.ReportLemmas.{same_differing, same_report}
@@ -23,10 +23,10 @@ same_commands [] = refl
 same_commands (check ∷ checks) = ap (λ (cs : List Command). check.command ∷ cs) (same_commands checks)
 
 lines_are : (header : Header) (checks : List CheckLine) (bytes : List ℕ) (is : IsText (node_sizes header) (commands_in checks) bytes) → lines_of bytes ≡ answers_in header checks is.answers ++ [] ∷ []
-lines_are header checks bytes is = ap lines_of is.same ∙ are_lines (opening (node_sizes header)) (commands_in checks) is.answers
+lines_are header checks bytes is = ap lines_of is.same ∙ are_lines (machine_at_start (node_sizes header)) (commands_in checks) is.answers
 
 as_many : (header : Header) (checks : List CheckLine) (bytes : List ℕ) (is : IsText (node_sizes header) (commands_in checks) bytes) → length (answers_in header checks is.answers) ≡ length checks
-as_many header checks bytes is = one_each (opening (node_sizes header)) (commands_in checks) is.answers ∙ length-map checks (λ (check : CheckLine). check.command)
+as_many header checks bytes is = one_each (machine_at_start (node_sizes header)) (commands_in checks) is.answers ∙ length-map checks (λ (check : CheckLine). check.command)
 
 -- the text of a run of these commands
 pub of_run : (header : Header) (config : Sizes) (checks : List CheckLine) (commands lent : List Command) (bytes : List ℕ) → config ≡ node_sizes header → commands ≡ commands_in checks → lent ≡ commands → IsText config lent bytes → IsText (node_sizes header) (commands_in checks) bytes
@@ -69,7 +69,7 @@ lent_reported hold_of bytes_of (Err lack) header lent checks bytes text same is 
 
 -- the report on what was read is that on the input's file
 pub report_of_known : {T : Type 0} (left : Option (List ℕ)) (bytes : List ℕ) (hold_of : T → Bool) (bytes_of : T → List ℕ) (result : Result T Fault) → IfSome left (λ file. bytes ≡ take 1048577 file)
-    → IfOk result (λ report. IsReportOf bytes (hold_of report) (bytes_of report)) → IfOk result (λ report. IfSome left (λ file. IsReportOf file (hold_of report) (bytes_of report)))
+    → IfOk result (λ report. IsCheckReport bytes (hold_of report) (bytes_of report)) → IfOk result (λ report. IfSome left (λ file. IsCheckReport file (hold_of report) (bytes_of report)))
 report_of_known None bytes hold_of bytes_of (Ok report) front ok = tt
 report_of_known (Some file) bytes hold_of bytes_of (Ok report) front ok = record { header = ok.header; checks = ok.checks; good = sym (front_enough file) ∙ (sym (ap check_file_of front) ∙ ok.good); report = ok.report }
 report_of_known left bytes hold_of bytes_of (Err fault) front ok = ok

@@ -27,7 +27,7 @@ use Rattle.chi_credit.specs.declared.slot.SlotRecord.{SlotRecord}
 use Rattle.chi_credit.specs.declared.slot.SlotState.{SlotState}
 use Rattle.chi_credit.specs.declared.slot.SlotState.TheVariants as states
 use Rattle.chi_credit.specs.Slot.{after_finish}
-use Rattle.chi_credit.specs.Account.{slots_with_state, slot_at, state_at}
+use Rattle.chi_credit.specs.Account.{slots_with_state, slot_record_at, state_at}
 use Rattle.chi_node.specs.declared.answers.Arrived.{Arrived}
 use Rattle.chi_node.specs.declared.answers.Arrived.TheVariants.{Admitted, Retried}
 use Rattle.chi_node.specs.declared.answers.Stepped.{Stepped}
@@ -37,12 +37,12 @@ use Rattle.chi_node.specs.AfterStep.{Completes, Finishes, account_after, request
 use Rattle.chi_node.specs.Calls.{ArrivesAt, arrival_action, is_own_step, place_at}
 use Rattle.chi_script.specs.declared.commands.Command.TheVariants as commands
 use Rattle.chi_slice.specs.Audits.{IsAudited, loads_in}
-use Rattle.chi_node.specs.Home.{HomeState, slices_after, line, slice_of}
-use Rattle.chi_node.specs.System.{ArrivesIn, IsSystem, OthersStay, StepsIn, SystemState, arrive_refusal, requester_of, step_refusal}
+use Rattle.chi_node.specs.Home.{HomeState, slices_after, node_line, slice_of}
+use Rattle.chi_node.specs.System.{ArrivesIn, IsSystem, OthersStay, StepsIn, SystemState, arrive_refusal, requester_of, system_step_refusal}
 use Rattle.chi_reply.specs.Replies.{audit_text, reply_text, totals_text}
 use Rattle.chi_reply.specs.declared.replies.Reply.TheVariants as replies
 use Rattle.chi_replay.specs.Ports.{Claims, Owes, Releases, Spends, seen_counts}
-use Rattle.chi_replay.specs.Turns.{Claimed, Ends, Glanced, Judged, Machine, Owed, Spent, Turn, Went, act, act_refusal, acting, machine_after_admission, arrive, arriving, turn_of_attempt, by_type, completing, credits_of, turn_after_action, less_one, or_refused, slots_after, slots_of, with_action, with_arrival, with_credits, with_end, turn}
+use Rattle.chi_replay.specs.Turns.{Claimed, Ends, Glanced, Judged, Machine, Owed, Spent, Turn, Went, act_turn, act_refusal, acting, machine_after_admission, arrive, arriving, turn_of_attempt, by_type, completing, credits_of, turn_after_action, less_one, or_refused, slots_after, slots_of, with_action, with_arrival, with_credits, with_end, turn}
 use Rattle.chi_replay.specs.NodeReplies.{arrival_reply, done_reply, step_reply, totals_told}
 use Rattle.chi_replay.specs.Session.{PlaysOn, SaysOn, machine_of, ports_of}
 use Rattle.chi_replay.proofs.Machines.{at_port, at_port_again, credits_at, machine_after, machine_seen_same, ports_after, ports_same, slots_at}
@@ -90,10 +90,10 @@ arrived_state y y' agent l s arrived state home others slots seen =
 
 -- a first attempt that is admitted, one that is retried, and a resent request
 first_admitted : (y y' : SystemState) (agent : Agent) (l : Line) (s : ℕ) (e : Entry) → IsSystem y → agent.0 < y.home.config.agents → y'.home ≡ slices_after y.home (arrival_action agent.0 l (Admitted e)) → OthersStay y y' agent
-    → Arrives true s (Admitted e) (requester_of y agent.0) (requester_of y' agent.0) → PlaysOn (turn_of_attempt true (machine_of y) agent l s (slot_at (requester_of y agent.0).slots s).credit) y y' (reply_text (replies.Admitted e))
+    → Arrives true s (Admitted e) (requester_of y agent.0) (requester_of y' agent.0) → PlaysOn (turn_of_attempt true (machine_of y) agent l s (slot_record_at (requester_of y agent.0).slots s).credit) y y' (reply_text (replies.Admitted e))
 first_admitted y y' agent l s e k low home others h =
     let r : RequesterState = requester_of y agent.0 in
-    let ty : CreditType = (slot_at r.slots s).credit in (
+    let ty : CreditType = (slot_record_at r.slots s).credit in (
       Claimed (Some e) ∷ [],
       (
         ports_of y',
@@ -103,10 +103,10 @@ first_admitted y y' agent l s e k low home others h =
     )
 
 first_retried : (y y' : SystemState) (agent : Agent) (l : Line) (s : ℕ) (told : CreditType) → IsSystem y → agent.0 < y.home.config.agents → y'.home ≡ slices_after y.home (arrival_action agent.0 l (Retried told)) → OthersStay y y' agent
-    → Arrives true s (Retried told) (requester_of y agent.0) (requester_of y' agent.0) → PlaysOn (turn_of_attempt true (machine_of y) agent l s (slot_at (requester_of y agent.0).slots s).credit) y y' (reply_text (replies.Retry told))
+    → Arrives true s (Retried told) (requester_of y agent.0) (requester_of y' agent.0) → PlaysOn (turn_of_attempt true (machine_of y) agent l s (slot_record_at (requester_of y agent.0).slots s).credit) y y' (reply_text (replies.Retry told))
 first_retried y y' agent l s told k low home others h =
     let r : RequesterState = requester_of y agent.0 in
-    let ty : CreditType = (slot_at r.slots s).credit in
+    let ty : CreditType = (slot_record_at r.slots s).credit in
     let t : ℕ = credit_number ty in
     let mid : PortView = port_after_scan t (size r.port.shape t) r.port in
     let after : (requester_of y' agent.0).port ≡ owed_one t mid = ap (λ (x : RequesterState). x.port) h.2 in (
@@ -123,10 +123,10 @@ first_retried y y' agent l s told k low home others h =
     )
 
 resent_admitted : (y y' : SystemState) (agent : Agent) (l : Line) (s : ℕ) (e : Entry) → IsSystem y → agent.0 < y.home.config.agents → y'.home ≡ slices_after y.home (arrival_action agent.0 l (Admitted e)) → OthersStay y y' agent
-    → Arrives false s (Admitted e) (requester_of y agent.0) (requester_of y' agent.0) → PlaysOn (turn_of_attempt false (machine_of y) agent l s (slot_at (requester_of y agent.0).slots s).credit) y y' (reply_text (replies.Admitted e))
+    → Arrives false s (Admitted e) (requester_of y agent.0) (requester_of y' agent.0) → PlaysOn (turn_of_attempt false (machine_of y) agent l s (slot_record_at (requester_of y agent.0).slots s).credit) y y' (reply_text (replies.Admitted e))
 resent_admitted y y' agent l s e k low home others h =
     let r : RequesterState = requester_of y agent.0 in
-    let ty : CreditType = (slot_at r.slots s).credit in
+    let ty : CreditType = (slot_record_at r.slots s).credit in
     let m : Machine = machine_of y in
     let after = ap (λ (x : RequesterState). x.port) h.3 in
     let credits : seen_counts (requester_of y' agent.0).port ≡ less_one (credits_of m agent) ty =
@@ -143,7 +143,7 @@ resent_admitted y y' agent l s e k low home others h =
     )
 
 attempt_plays : (y y' : SystemState) (agent : Agent) (l : Line) (s : ℕ) (first : Bool) (arrived : Arrived) → IsSystem y → agent.0 < y.home.config.agents → y'.home ≡ slices_after y.home (arrival_action agent.0 l arrived) → OthersStay y y' agent
-    → Arrives first s arrived (requester_of y agent.0) (requester_of y' agent.0) → PlaysOn (turn_of_attempt first (machine_of y) agent l s (slot_at (requester_of y agent.0).slots s).credit) y y' (reply_text (arrival_reply (Ok arrived)))
+    → Arrives first s arrived (requester_of y agent.0) (requester_of y' agent.0) → PlaysOn (turn_of_attempt first (machine_of y) agent l s (slot_record_at (requester_of y agent.0).slots s).credit) y y' (reply_text (arrival_reply (Ok arrived)))
 attempt_plays y y' agent l s true (Admitted e) k low home others h = first_admitted y y' agent l s e k low home others h
 attempt_plays y y' agent l s true (Retried told) k low home others h = first_retried y y' agent l s told k low home others h
 attempt_plays y y' agent l s false (Admitted e) k low home others h = resent_admitted y y' agent l s e k low home others h
@@ -153,7 +153,7 @@ arriving_plays : (y y' : SystemState) (agent : Agent) (l : Line) (o : Option Req
     → ArrivesAt o arrived (requester_of y agent.0) (requester_of y' agent.0) → PlaysOn (arriving (machine_of y) agent l o) y y' (reply_text (arrival_reply (Ok arrived)))
 arriving_plays y y' agent l None arrived k low home others h = absurd h
 arriving_plays y y' agent l (Some request) arrived k low home others h =
-    subst (λ (x : List SlotRecord). PlaysOn (turn_of_attempt request.allow_retry (machine_of y) agent l request.slot.0 (slot_at x request.slot.0).credit) y y' (reply_text (arrival_reply (Ok arrived)))) (sym (slots_at y agent))
+    subst (λ (x : List SlotRecord). PlaysOn (turn_of_attempt request.allow_retry (machine_of y) agent l request.slot.0 (slot_record_at x request.slot.0).credit) y y' (reply_text (arrival_reply (Ok arrived)))) (sym (slots_at y agent))
     (attempt_plays y y' agent l request.slot.0 request.allow_retry arrived k low home others h)
 
 -- an arrival
@@ -162,7 +162,7 @@ pub arrive_plays : (y y' : SystemState) (agent : Agent) (l : Line) (result : Res
 arrive_plays y y' agent l (Err refusal) k h ok err = refused_plays y y' (arrive_refusal y agent.0 l.0) refusal _ h err
 arrive_plays y y' agent l (Ok arrived) k h ok err =
     allowed_plays y y' (arrive_refusal y agent.0 l.0) _ (reply_text (arrival_reply (Ok arrived))) h
-    (arriving_plays y y' agent l (cells_of (line y.home l.0) agent.0).req arrived k (arrives_low y agent l k h) ok.home ok.others ok.requester)
+    (arriving_plays y y' agent l (cells_of (node_line y.home l.0) agent.0).req arrived k (arrives_low y agent l k h) ok.home ok.others ok.requester)
 
 -- the table's state after a step that completes nothing
 stepped_state : (y y' : SystemState) (action : Action) → y'.home ≡ slices_after y.home action → OthersStay y y' action.agent → requester_of y' action.agent.0 ≡ requester_after (place_at (slice_of y.home action.line.0) action) action.step (requester_of y action.agent.0)
@@ -185,9 +185,9 @@ completing_plays y y' action slot released k low home others c =
     let m : Machine = machine_of y in
     let r : RequesterState = requester_of y action.agent.0 in
     let e : Entry = c.ended.0 in
-    let ended : List SlotRecord = set (slots_of m action.agent) slot.0 (after_finish (slot_at (slots_of m action.agent) slot.0)) in
+    let ended : List SlotRecord = set (slots_of m action.agent) slot.0 (after_finish (slot_record_at (slots_of m action.agent) slot.0)) in
     let slots : (requester_of y' action.agent.0).slots ≡ ended =
-    ap (λ (x : RequesterState). x.slots) c.after ∙ ap (λ (x : List SlotRecord). set x slot.0 (after_finish (slot_at x slot.0))) (sym (slots_at y action.agent)) in
+    ap (λ (x : RequesterState). x.slots) c.after ∙ ap (λ (x : List SlotRecord). set x slot.0 (after_finish (slot_record_at x slot.0))) (sym (slots_at y action.agent)) in
     let state : machine_of y' ≡ with_end m action slot =
     machine_seen_same y y' action.agent ended others slots (same_counts r.port (requester_of y' action.agent.0).port c.credits.1 c.credits.2)
     ∙ ap (λ (h : HomeState). record { home = h; accounts = set m.accounts action.agent.0 ended; seen = m.seen }) home in
@@ -210,8 +210,8 @@ done_plays y y' action (Completed slot) (Some released) k low home others h =
     (completing_plays y y' action slot released k low home others h.1)
 
 -- a step
-step_plays : (y y' : SystemState) (action : Action) (result : Result Stepped Refusal) → IsSystem y → refusal_of result ≡ step_refusal y action → IfOk result (λ stepped. StepsIn y y' action stepped) → OnErr result (y' ≡ y)
-    → PlaysOn (act (machine_of y) action) y y' (reply_text (step_reply result))
+step_plays : (y y' : SystemState) (action : Action) (result : Result Stepped Refusal) → IsSystem y → refusal_of result ≡ system_step_refusal y action → IfOk result (λ stepped. StepsIn y y' action stepped) → OnErr result (y' ≡ y)
+    → PlaysOn (act_turn (machine_of y) action) y y' (reply_text (step_reply result))
 step_plays y y' action (Err refusal) k h ok err = refused_plays y y' (act_refusal (machine_of y) action) refusal _ (h ∙ sym (act_same y action)) err
 step_plays y y' action (Ok stepped) k h ok err =
     allowed_plays y y' (act_refusal (machine_of y) action) _ (reply_text (step_reply (Ok stepped))) (h ∙ sym (act_same y action))
@@ -219,7 +219,7 @@ step_plays y y' action (Ok stepped) k h ok err =
     (done_plays y y' action stepped.effect stepped.released k (steps_low y action k h) ok.home ok.others ok.requester))
 
 -- an action that is none of an arrival's
-pub own_plays : (y y' : SystemState) (action : Action) (result : Result Stepped Refusal) → is_own_step action.step ≡ true → IsSystem y → refusal_of result ≡ step_refusal y action → IfOk result (λ stepped. StepsIn y y' action stepped) → OnErr result (y' ≡ y)
+pub own_plays : (y y' : SystemState) (action : Action) (result : Result Stepped Refusal) → is_own_step action.step ≡ true → IsSystem y → refusal_of result ≡ system_step_refusal y action → IfOk result (λ stepped. StepsIn y y' action stepped) → OnErr result (y' ≡ y)
     → PlaysOn (acting (is_own_step action.step) (machine_of y) action) y y' (reply_text (step_reply result))
 own_plays y y' action result own k h ok err = subst (λ (b : Bool). PlaysOn (acting b (machine_of y) action) y y' (reply_text (step_reply result))) (sym own) (step_plays y y' action result k h ok err)
 

@@ -6,7 +6,7 @@ use Rattle.chi_script.specs.Headers.{node_sizes}
 use Rattle.chi_script.specs.declared.commands.Command.{Command}
 use Rattle.chi_script.specs.declared.headers.Header.{Header}
 use Rattle.chi_replay.specs.Texts.{IsText}
-use Rattle.chi_replay.specs.Turns.{Answer, opening}
+use Rattle.chi_replay.specs.Turns.{Answer, machine_at_start}
 use Rattle.chi_script.specs.Checks.{CheckLine}
 use Rattle.chi_script.specs.CheckFiles.{check_file_of}
 use Rattle.chi_replay.specs.Answers.{answers_of}
@@ -17,7 +17,7 @@ commands_in checks = map (λ check. check.command) checks
 
 -- the answers of the commands on a new node of the header's size, where the tracker answers so
 abbrev pub answers_in : Header → List CheckLine → List Answer → List (List ℕ)
-answers_in header checks tracked = answers_of (opening (node_sizes header)) (commands_in checks) tracked
+answers_in header checks tracked = answers_of (machine_at_start (node_sizes header)) (commands_in checks) tracked
 
 -- the commands were replayed under answers that the tracker may give; the bytes are the report on their
 -- answers, and all hold exactly where none of them differs from the one that is wanted
@@ -28,7 +28,7 @@ pub record IsReport (header : Header) (checks : List CheckLine) (hold : Bool) (b
   pub verdict : IsTrue hold ↔ (differing checks (answers_in header checks replayed.answers) ≡ [])
 
 -- the report on a good file
-pub record IsReportOf (file : List ℕ) (hold : Bool) (bytes : List ℕ) : Type 0 where
+pub record IsCheckReport (file : List ℕ) (hold : Bool) (bytes : List ℕ) : Type 0 where
   pub header : Header
   pub checks : List CheckLine
   pub good : check_file_of file ≡ Ok (header, checks)
@@ -36,8 +36,8 @@ pub record IsReportOf (file : List ℕ) (hold : Bool) (bytes : List ℕ) : Type 
 
 -- of the file that the input has, where its bytes are known: one such report was written, no more
 abbrev pub WritesReport : Option (List ℕ) → Option (List ℕ) → Option (List ℕ) → Bool → Type 0
-WritesReport input old new hold = IfSome input (λ file. (bytes : List ℕ) × IsReportOf file hold bytes × Appends old new bytes)
+WritesReport input old new hold = IfSome input (λ file. (bytes : List ℕ) × IsCheckReport file hold bytes × Appends old new bytes)
 
 -- of that file: a beginning of one such report was written
 abbrev pub WritesReportFront : Option (List ℕ) → Option (List ℕ) → Option (List ℕ) → Type 0
-WritesReportFront input old new = IfSome input (λ file. (hold : Bool) × (bytes : List ℕ) × IsReportOf file hold bytes × AppendsFront old new bytes)
+WritesReportFront input old new = IfSome input (λ file. (hold : Bool) × (bytes : List ℕ) × IsCheckReport file hold bytes × AppendsFront old new bytes)

@@ -49,11 +49,11 @@ abbrev pub differing_text : List CheckLine → List (List ℕ) → List ℕ
 differing_text checks answers = flat_map difference (differing checks answers)
 
 -- the last line: how many answers are wanted, and how many of them differ
-abbrev pub verdict_line : ℕ → ℕ → List ℕ
-verdict_line wanted found =
+abbrev pub check_summary : ℕ → ℕ → List ℕ
+check_summary wanted found =
     if found == 0 then codes "checked " ++ (decimal wanted ++ (codes " answers" ++ (10 ∷ [])))
     else decimal found ++ (codes " of " ++ (decimal wanted ++ (codes " answers differ" ++ (10 ∷ []))))
 
 -- the whole text
 abbrev pub report_text : List CheckLine → List (List ℕ) → List ℕ
-report_text checks answers = differing_text checks answers ++ verdict_line (length (wanted_in checks)) (length (differing checks answers))
+report_text checks answers = differing_text checks answers ++ check_summary (length (wanted_in checks)) (length (differing checks answers))

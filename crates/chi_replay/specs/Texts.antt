@@ -13,7 +13,7 @@ use Rattle.chi_tracker.specs.Views.{PortView, new_ports}
 use Rattle.chi_tracker.specs.Calls.{shape_of}
 use Rattle.chi_slice.specs.Audits.{loads_in, stores_in}
 use Rattle.chi_replay.specs.Ports.{Claims, GivesBack, Owes, Releases, Sees, Spends, Tends}
-use Rattle.chi_replay.specs.Turns.{Answer, Call, Claim, Claimed, GiveBack, Glance, Glanced, Judge, Judged, Owe, Owed, Release, See, Saw, Spend, Spent, Tend, Tended, Went, Turn, Asks, Ends, Machine, opening, turn}
+use Rattle.chi_replay.specs.Turns.{Answer, Call, Claim, Claimed, GiveBack, Glance, Glanced, Judge, Judged, Owe, Owed, Release, See, Saw, Spend, Spent, Tend, Tended, Went, Turn, Asks, Ends, Machine, machine_at_start, turn}
 
 -- the line that a turn says, the state that it leaves, and the answers that it leaves over
 pub record Ending : Type 0 where
@@ -101,9 +101,9 @@ AuditsTell m (command ∷ rest) answers = Tells command m.home.slices (ending (t
 -- what the slices are
 pub record IsText (config : Sizes) (all : List Command) (bytes : List ℕ) : Type 0 where
   pub answers : List Answer
-  pub allowed : Allowed (opening config) (opening_ports config) all answers
-  pub same : bytes ≡ text (opening config) all answers
-  pub audits : AuditsTell (opening config) all answers
+  pub allowed : Allowed (machine_at_start config) (opening_ports config) all answers
+  pub same : bytes ≡ text (machine_at_start config) all answers
+  pub audits : AuditsTell (machine_at_start config) all answers
 
 -- and of the commands that the lines behind a header are
 pub record IsTextOfLines (config : Sizes) (lines bytes : List ℕ) : Type 0 where

@@ -29,14 +29,14 @@ use Rattle.chi_credit.specs.declared.slot.SlotState.{SlotState}
 use Rattle.chi_credit.specs.declared.slot.SlotState.TheVariants as states
 use Rattle.chi_credit.specs.declared.slot.SlotRecord.{SlotRecord}
 use Rattle.chi_credit.specs.Slot.{after_finish, idle_slot}
-use Rattle.chi_credit.specs.Account.{all_idle, lowest_cancelled, slots_with_state, riding_of, slot_at, state_at}
+use Rattle.chi_credit.specs.Account.{all_idle, lowest_cancelled, slots_with_state, riding_of, slot_record_at, state_at}
 use Rattle.chi_node.specs.declared.answers.Arrived.{Arrived}
 use Rattle.chi_node.specs.declared.answers.Arrived.TheVariants as arrivals
 use Rattle.chi_node.specs.AfterStep.{account_after}
 use Rattle.chi_node.specs.Parts.{is_of_profile}
 use Rattle.chi_node.specs.Calls.{arrival_action, arrival_refusal, is_own_step, is_slot_taken, place_at, wanted_credit, refused_with}
 use Rattle.chi_slice.specs.Audits.{loads_in, stores_in}
-use Rattle.chi_node.specs.Home.{HomeState, slices_after, flits_refusal, last_of, line, opening_home, slice_of, view_refusal}
+use Rattle.chi_node.specs.Home.{HomeState, slices_after, node_flits_refusal, node_last, node_line, opening_home, slice_of, node_view_refusal}
 use Rattle.chi_reply.specs.Replies.{audit_text, credits_text, flits_text, reply_text, shown_text, totals_text}
 use Rattle.chi_reply.specs.declared.replies.Reply.{Reply}
 use Rattle.chi_reply.specs.declared.replies.Reply.TheVariants as replies
@@ -49,22 +49,22 @@ pub record Machine : Type 0 where
   pub accounts : List (List SlotRecord)
   pub seen : List (List ℕ)
 
-abbrev pub no_credits : List ℕ
-no_credits = 0 ∷ 0 ∷ 0 ∷ 0 ∷ []
+abbrev pub no_seen_credits : List ℕ
+no_seen_credits = 0 ∷ 0 ∷ 0 ∷ 0 ∷ []
 
 -- a new node
-abbrev pub opening : Sizes → Machine
-opening config = record { home = opening_home config; accounts = replicate config.agents all_idle; seen = replicate config.agents no_credits }
+abbrev pub machine_at_start : Sizes → Machine
+machine_at_start config = record { home = opening_home config; accounts = replicate config.agents all_idle; seen = replicate config.agents no_seen_credits }
 
 abbrev pub slots_of : Machine → Agent → List SlotRecord
 slots_of m agent = slice_index_or m.accounts agent.0 all_idle
 
 abbrev pub credits_of : Machine → Agent → List ℕ
-credits_of m agent = slice_index_or m.seen agent.0 no_credits
+credits_of m agent = slice_index_or m.seen agent.0 no_seen_credits
 
 -- an agent's table of slots, or its seen credits, become others, and all else stays
-abbrev pub with_slots : Machine → Agent → List SlotRecord → Machine
-with_slots m agent slots = record m { accounts = slice_set m.accounts agent.0 slots }
+abbrev pub with_account : Machine → Agent → List SlotRecord → Machine
+with_account m agent slots = record m { accounts = slice_set m.accounts agent.0 slots }
 
 abbrev pub with_credits : Machine → Agent → List ℕ → Machine
 with_credits m agent credits = record m { seen = slice_set m.seen agent.0 credits }
@@ -118,18 +118,18 @@ abbrev pub never : Machine → Turn
 never m = Ends [] m
 
 -- whether a seen credit of the type is beyond those for the Riding slots; 12 where one is wanted and none is
-abbrev pub has_spare : List SlotRecord → List ℕ → CreditType → Bool
-has_spare slots credits ty = nat_lt (riding_of slots (credit_number ty)) (slice_index credits (credit_number ty))
+abbrev pub has_spare_credit : List SlotRecord → List ℕ → CreditType → Bool
+has_spare_credit slots credits ty = nat_lt (riding_of slots (credit_number ty)) (slice_index credits (credit_number ty))
 
-abbrev pub credit_refusal : List SlotRecord → List ℕ → Option CreditType → Option Refusal
-credit_refusal slots credits None = None
-credit_refusal slots credits (Some ty) = if has_spare slots credits ty then None else Some NoCredit
+abbrev pub machine_credit_refusal : List SlotRecord → List ℕ → Option CreditType → Option Refusal
+machine_credit_refusal slots credits None = None
+machine_credit_refusal slots credits (Some ty) = if has_spare_credit slots credits ty then None else Some NoCredit
 
 -- why an action isn't done: its own numbers, with 3 also where an Issue's slot isn't Idle, and then 12
 abbrev pub act_refusal : Machine → Action → Option Refusal
 act_refusal m action = option_or
     (refused_with (is_slot_taken (slots_of m action.agent) action.step) (slice_of m.home action.line.0) action)
-    (credit_refusal (slots_of m action.agent) (credits_of m action.agent) (wanted_credit (slice_of m.home action.line.0) action))
+    (machine_credit_refusal (slots_of m action.agent) (credits_of m action.agent) (wanted_credit (slice_of m.home action.line.0) action))
 
 -- an agent's slots after its action, as its requester follows it
 abbrev pub slots_after : Machine → Action → List SlotRecord
@@ -137,14 +137,14 @@ slots_after m action = account_after (place_at (slice_of m.home action.line.0) a
 
 -- the state after an action that completes no request, and after one that completes the request of a slot
 abbrev pub with_action : Machine → Action → Machine
-with_action m action = with_slots (record m { home = slices_after m.home action }) action.agent (slots_after m action)
+with_action m action = with_account (record m { home = slices_after m.home action }) action.agent (slots_after m action)
 
 -- an agent's slots after the request of a slot is complete
 abbrev pub slots_finished : Machine → Agent → Slot → List SlotRecord
-slots_finished m agent slot = slice_set (slots_of m agent) slot.0 (after_finish (slot_at (slots_of m agent) slot.0))
+slots_finished m agent slot = slice_set (slots_of m agent) slot.0 (after_finish (slot_record_at (slots_of m agent) slot.0))
 
 abbrev pub with_end : Machine → Action → Slot → Machine
-with_end m action slot = with_slots (record m { home = slices_after m.home action }) action.agent (slots_finished m action.agent slot)
+with_end m action slot = with_account (record m { home = slices_after m.home action }) action.agent (slots_finished m action.agent slot)
 
 abbrev pub turn_after_release : Machine → Slot → Answer → Turn
 turn_after_release m slot (Went released) = says (replies.Completed slot released) m
@@ -161,13 +161,13 @@ turn_after_action effects.Nothing m action = says replies.Done (with_action m ac
 turn_after_action (effects.Value word) m action = says (replies.Value word) (with_action m action)
 turn_after_action (effects.Completed slot) m action = completing (state_at (slots_of m action.agent) slot.0) m action slot
 
-abbrev pub act : Machine → Action → Turn
-act m action = or_refused (act_refusal m action) m (turn_after_action (effect_of (line m.home action.line.0) action) m action)
+abbrev pub act_turn : Machine → Action → Turn
+act_turn m action = or_refused (act_refusal m action) m (turn_after_action (effect_of (node_line m.home action.line.0) action) m action)
 
 -- the state after the request of a slot arrived
 abbrev pub with_arrival : Machine → Agent → Line → ℕ → Arrived → SlotState → Machine
 with_arrival m agent l s arrived state =
-    with_slots (record m { home = slices_after m.home (arrival_action agent.0 l arrived) }) agent (slots_with_state (slots_of m agent) s state)
+    with_account (record m { home = slices_after m.home (arrival_action agent.0 l arrived) }) agent (slots_with_state (slots_of m agent) s state)
 
 -- the request of slot s arrived: it is let in with an entry, or retried
 abbrev pub machine_after_admission : Machine → Agent → Line → ℕ → Entry → Machine
@@ -200,18 +200,18 @@ turn_of_attempt false m agent l s ty = Asks (Spend agent ty) (turn_after_spend m
 
 abbrev pub arriving : Machine → Agent → Line → Option Request → Turn
 arriving m agent l None = never m
-arriving m agent l (Some request) = turn_of_attempt request.allow_retry m agent l request.slot.0 (slot_at (slots_of m agent) request.slot.0).credit
+arriving m agent l (Some request) = turn_of_attempt request.allow_retry m agent l request.slot.0 (slot_record_at (slots_of m agent) request.slot.0).credit
 
 abbrev pub arrive : Machine → Agent → Line → Turn
-arrive m agent l = or_refused (arrival_refusal (slice_of m.home l.0) agent.0 l.0) m (arriving m agent l (cells_of (line m.home l.0) agent.0).req)
+arrive m agent l = or_refused (arrival_refusal (slice_of m.home l.0) agent.0 l.0) m (arriving m agent l (cells_of (node_line m.home l.0) agent.0).req)
 
 -- 10: there is no such agent
-abbrev pub agent_refusal : Machine → Agent → Option Refusal
-agent_refusal m agent = if nat_lt agent.0 m.home.config.agents then None else Some OutOfRange
+abbrev pub machine_agent_refusal : Machine → Agent → Option Refusal
+machine_agent_refusal m agent = if nat_lt agent.0 m.home.config.agents then None else Some OutOfRange
 
 -- 10: there is no such agent, or no such type
 abbrev pub type_refusal : Machine → Agent → CreditType → Option Refusal
-type_refusal m agent ty = option_or (agent_refusal m agent) (if is_of_profile m.home.config.profile (credit_number ty) then None else Some OutOfRange)
+type_refusal m agent ty = option_or (machine_agent_refusal m agent) (if is_of_profile m.home.config.profile (credit_number ty) then None else Some OutOfRange)
 
 abbrev pub turn_after_see : Machine → Agent → Answer → Turn
 turn_after_see m agent (Saw counts) = Ends (credits_text (record { counts = counts; profile = m.home.config.profile })) (with_credits m agent counts)
@@ -219,7 +219,7 @@ turn_after_see m agent other = never m
 
 -- 12: no slot of the type is Cancelled, or no seen credit of the type is to spare
 abbrev pub cancelled_refusal : List SlotRecord → List ℕ → CreditType → Option Refusal
-cancelled_refusal slots credits ty = if nat_lt (lowest_cancelled slots (credit_number ty)) 8 && has_spare slots credits ty then None else Some NoCredit
+cancelled_refusal slots credits ty = if nat_lt (lowest_cancelled slots (credit_number ty)) 8 && has_spare_credit slots credits ty then None else Some NoCredit
 
 -- an agent's slots where its lowest Cancelled one of the type is Idle
 abbrev pub slots_idle : Machine → Agent → CreditType → List SlotRecord
@@ -227,18 +227,18 @@ slots_idle m agent ty = slice_set (slots_of m agent) (lowest_cancelled (slots_of
 
 -- the state after that slot's credit is given back
 abbrev pub with_return : Machine → Agent → CreditType → Machine
-with_return m agent ty = with_credits (with_slots m agent (slots_idle m agent ty)) agent (less_one (credits_of m agent) ty)
+with_return m agent ty = with_credits (with_account m agent (slots_idle m agent ty)) agent (less_one (credits_of m agent) ty)
 
-abbrev pub given_back : Machine → Agent → CreditType → Answer → Turn
-given_back m agent ty (Went released) = says (replies.Paid released) (with_return m agent ty)
-given_back m agent ty other = never m
+abbrev pub credit_given_back : Machine → Agent → CreditType → Answer → Turn
+credit_given_back m agent ty (Went released) = says (replies.Paid released) (with_return m agent ty)
+credit_given_back m agent ty other = never m
 
 abbrev pub return_refusal : Machine → Agent → CreditType → Option Refusal
 return_refusal m agent ty = option_or (type_refusal m agent ty) (cancelled_refusal (slots_of m agent) (credits_of m agent) ty)
 
 abbrev pub give_back : Machine → Agent → Option CreditType → Turn
 give_back m agent None = says (replies.Refused OutOfRange) m
-give_back m agent (Some ty) = or_refused (return_refusal m agent ty) m (Asks (GiveBack agent ty) (given_back m agent ty))
+give_back m agent (Some ty) = or_refused (return_refusal m agent ty) m (Asks (GiveBack agent ty) (credit_given_back m agent ty))
 
 abbrev pub turn_after_tend : Machine → Answer → Turn
 turn_after_tend m (Tended None) = says replies.Idle m
@@ -270,17 +270,17 @@ turn_after_verdict m other = never m
 
 -- an action; Admit and Retry are what an arrival does
 abbrev pub acting : Bool → Machine → Action → Turn
-acting true m action = act m action
+acting true m action = act_turn m action
 acting false m action = arrive m action.agent action.line
 
 -- the table of the commands
 abbrev pub turn : Machine → Command → Turn
 turn m commands.Totals = Asks Glance (turn_after_glance m)
 turn m commands.Audit = Asks (Judge m.home.slices) (turn_after_verdict m)
-turn m (commands.Show l) = or_refused (view_refusal m.home l.0) m (Ends (shown_text m.home.config.agents (line_view (line m.home l.0) (last_of m.home l.0))) m)
-turn m (commands.Flits agent l) = or_refused (flits_refusal m.home agent.0 l.0) m (Ends (flits_text (cells_of (line m.home l.0) agent.0)) m)
+turn m (commands.Show l) = or_refused (node_view_refusal m.home l.0) m (Ends (shown_text m.home.config.agents (line_view (node_line m.home l.0) (node_last m.home l.0))) m)
+turn m (commands.Flits agent l) = or_refused (node_flits_refusal m.home agent.0 l.0) m (Ends (flits_text (cells_of (node_line m.home l.0) agent.0)) m)
 turn m (commands.Arrive agent l) = arrive m agent l
-turn m (commands.See agent) = or_refused (agent_refusal m agent) m (Asks (See agent) (turn_after_see m agent))
+turn m (commands.See agent) = or_refused (machine_agent_refusal m agent) m (Asks (See agent) (turn_after_see m agent))
 turn m (commands.GiveBack agent ty) = give_back m agent ty
 turn m (commands.Tend agent ty) = tend m agent ty
 turn m (commands.Act action) = acting (is_own_step action.step) m action

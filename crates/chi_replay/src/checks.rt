@@ -6,7 +6,7 @@ ghost use Rattle.chi_script.specs.Faults.{Fails};
 ghost use Rattle.chi_replay.specs.Replays.{AtWrite, KeepsAtFault, NoText, NoTextAt, RefusesFault};
 ghost use Rattle.chi_script.specs.Checks.{line_of_check};
 ghost use Rattle.chi_script.specs.CheckFiles.{check_file_of};
-ghost use Rattle.chi_replay.specs.Checks.{IsReport, IsReportOf, WritesReportFront, WritesReport, commands_in};
+ghost use Rattle.chi_replay.specs.Checks.{IsReport, IsCheckReport, WritesReportFront, WritesReport, commands_in};
 
 use crate::replays::config_of;
 use crate::reports::{CheckReport, compare};
@@ -42,7 +42,7 @@ fn report_on<A: Allocator + Copy>(
 
 /// The report on a file, whose bytes these are; else its first fault, or want of memory.
 fn report_of<A: Allocator + Copy>(alloc: A, bytes: &[u8]) -> Result<CheckReport<A>, Fault>
-    ensures ok { IfOk result (λ report. IsReportOf bytes.now report.hold report.text.items) }
+    ensures ok { IfOk result (λ report. IsCheckReport bytes.now report.hold report.text.items) }
     ensures err { IfErr result (λ fault. Fails fault (check_file_of bytes.now)) }
 {
     let script = read_checks(alloc, bytes)?;
@@ -59,7 +59,7 @@ fn report_of_input<A: Allocator + Copy, I: Input>(
 ) -> Result<CheckReport<A>, Fault>
     requires { I.failures input.old + 1 < 2 ^ 64 }
     ensures ok { IfOk result
-        (λ report. IfSome (I.left input.old) (λ file. IsReportOf file report.hold report.text.items)) }
+        (λ report. IfSome (I.left input.old) (λ file. IsCheckReport file report.hold report.text.items)) }
     ensures err { IfErr result
         (NoText check_file_of (I.left input.old) (I.failures input.old) (I.failures input.new)) }
 {

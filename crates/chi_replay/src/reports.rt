@@ -3,7 +3,7 @@
 ghost use Rattle.std.specs.Prelude.{◌≡◌, ◌↔◌, ◌<◌, ◌+◌, ◌^◌, [], ◌∷◌, ◌++◌, IfOk, IsTrue, OnOk, length, map};
 ghost use Rattle.chi_script.specs.Files.{lines_of};
 ghost use Rattle.chi_script.specs.Checks.{line_of_check};
-ghost use Rattle.chi_replay.specs.Reports.{difference_line, differing, differing_text, report_text, verdict_line, wanted_in};
+ghost use Rattle.chi_replay.specs.Reports.{difference_line, differing, differing_text, report_text, check_summary, wanted_in};
 
 use chi_flit::NoMemory;
 use chi_script::{Check, first_line};
@@ -106,7 +106,7 @@ impl<A: Allocator> Comparison<A> {
     /// What came of all checks.
     fn report(self) -> Result<CheckReport<A>, NoMemory>
         ensures text { IfOk result
-            (λ report. report.text.items ≡ self.text.items ++ verdict_line self.wanted self.differing) }
+            (λ report. report.text.items ≡ self.text.items ++ check_summary self.wanted self.differing) }
         ensures hold { IfOk result (λ report. IsTrue report.hold ↔ (self.differing ≡ 0)) }
     {
         let Comparison {
@@ -144,7 +144,7 @@ fn write_verdict<A: Allocator>(
     wanted: usize,
     differing: usize,
 ) -> Result<(), NoMemory>
-    ensures { OnOk result (text.new.items ≡ text.old.items ++ verdict_line wanted differing) }
+    ensures { OnOk result (text.new.items ≡ text.old.items ++ check_summary wanted differing) }
 {
     if differing == 0 {
         writeln!(text, "checked {wanted} answers").map_err(|_| NoMemory)

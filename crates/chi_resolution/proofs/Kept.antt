@@ -31,15 +31,15 @@ use Rattle.chi_resolution.specs.declared.nodes.Ends.{Ends}
 use Rattle.chi_resolution.specs.declared.reasons.IdReason.{IdReason}
 use Rattle.chi_resolution.specs.declared.reasons.IdReason.TheVariants as reasons
 use Rattle.chi_resolution.specs.declared.resolution.Options.{Options}
-use Rattle.chi_resolution.specs.Changes.{Open, access_of, answered, beat_by, beat_of, begun_or_freed, booking_of, completed, completed_by, completed_with, credit_change, early_of, change_by, change_of, first_beat, flit_change, freed, given_back, granted, later_beat, may_grant, named, new_id, opened, replied, request_by, requested, responded, retried, right_type, sent_again, snooped, with_credit}
+use Rattle.chi_resolution.specs.Changes.{Open, access_of, answered, beat_by, beat_of, begun_or_freed, booking_of, completed, request_completion, completed_with, credit_change, early_of, change_by, change_of, first_beat, flit_change, freed, given_back, granted, later_beat, may_grant, named, new_id, opened, replied, request_by, requested, responded, retried, right_type, sent_again, snooped, with_credit}
 use Rattle.chi_resolution.specs.Ledger.{IsBalanced, held_of, wanted_of}
 use Rattle.chi_resolution.specs.Beats.{data_of, filled, is_whole}
 use Rattle.chi_resolution.specs.Ids.{id_of}
-use Rattle.chi_resolution.specs.Messages.{answer_of, completion_of, message_of}
+use Rattle.chi_resolution.specs.Messages.{answer_form, completion_response, message_of}
 use Rattle.chi_resolution.specs.Nodes.{ends_of}
-use Rattle.chi_resolution.specs.Reasons.{address_of, allow_of, buffer_of, dbid_of, pcrd_of, resp_of, txn_of, value_in, words_in}
+use Rattle.chi_resolution.specs.Reasons.{needed_address, needed_allow_retry, buffer_of, needed_dbid, needed_pcrd, needed_resp, needed_txn, value_in, words_in}
 use Rattle.chi_resolution.specs.declared.resolution.Allowed.{Allowed}
-use Rattle.chi_resolution.specs.Resolution.{Outcome, Progress, after, ended, nothing, resolution_of, resolved_from, allowed_of, taken}
+use Rattle.chi_resolution.specs.Resolution.{Outcome, Progress, open_after, ended, nothing, resolution_of, resolved_from, allowed_of, taken}
 use Rattle.chi_resolution.proofs.Balance.{IsKept, booked_all_balanced, booked_balanced, each, each_of, held_balanced, if_not, if_so, more_granted, more_resent, more_returned, more_retried}
 
 -- what a flit of a line books, if anything
@@ -64,7 +64,7 @@ credit_kept early ends pcrd id flit retried table all =
 again_kept : (early : Bool) (table : Open) (ends : Ends) (seen : Seen) (id : OpenId) (flit : Observed) → TableKept early table → IfOk (sent_again table ends seen id flit) (FlitKept early)
 unfolding sent_again
 again_kept early table ends seen id flit all =
-    each (pcrd_of seen) _ (FlitKept early) (λ pcrd.
+    each (needed_pcrd seen) _ (FlitKept early) (λ pcrd.
     each (ok_or (id_of (keys.Retried ends.requester id.line) table.ids) (reasons.NotOpen (keys.Retried ends.requester id.line))) _ (FlitKept early) (λ retried.
     each (right_type pcrd retried.id.waits_for) _ (FlitKept early) (λ type.
     credit_kept early ends type id flit retried table all)))
@@ -76,24 +76,24 @@ request_by_kept early false table ends seen kind id flit all = again_kept early 
 request_kept : (early : Bool) (table : Open) (ends : Ends) (seen : Seen) (kind : Kind) → TableKept early table → IfOk (requested table ends seen kind) (FlitKept early)
 unfolding requested
 request_kept early table ends seen kind all =
-    each (address_of seen) _ (FlitKept early) (λ address.
-    each (txn_of seen) _ (FlitKept early) (λ txn.
-    each (allow_of seen) _ (FlitKept early) (λ allow.
+    each (needed_address seen) _ (FlitKept early) (λ address.
+    each (needed_txn seen) _ (FlitKept early) (λ txn.
+    each (needed_allow_retry seen) _ (FlitKept early) (λ allow.
     each (new_id table (keys.Request ends.requester txn)) _ (FlitKept early) (λ key.
     request_by_kept early allow table ends seen kind _ _ all))))
 
 snoop_kept : (early : Bool) (table : Open) (ends : Ends) (seen : Seen) (snoop : Snoop) → IfOk (snooped table ends seen snoop) (FlitKept early)
 unfolding snooped
 snoop_kept early table ends seen snoop =
-    each (address_of seen) _ (FlitKept early) (λ address.
-    each (txn_of seen) _ (FlitKept early) (λ txn.
+    each (needed_address seen) _ (FlitKept early) (λ address.
+    each (needed_txn seen) _ (FlitKept early) (λ txn.
     each (new_id table (keys.Snoop ends.requester txn)) _ (FlitKept early) (λ key. tt)))
 
 retry_kept : (early : Bool) (options : Options) (table : Open) (ends : Ends) (seen : Seen) → TableKept early table → IfOk (retried options table ends seen) (FlitKept early)
 unfolding retried
 retry_kept early options table ends seen all =
-    each (txn_of seen) _ (FlitKept early) (λ txn.
-    each (pcrd_of seen) _ (FlitKept early) (λ pcrd.
+    each (needed_txn seen) _ (FlitKept early) (λ txn.
+    each (needed_pcrd seen) _ (FlitKept early) (λ pcrd.
     each (freed table (keys.Request ends.requester txn) seen) _ (FlitKept early) (λ found.
     each (ok_or found.id.may_retry (reasons.NotRetryable ends.requester txn)) _ (FlitKept early) (λ kind.
     each (right_type pcrd (wanted_of options.types kind)) _ (FlitKept early) (λ type.
@@ -103,14 +103,14 @@ retry_kept early options table ends seen all =
 respond_kept : (early : Bool) (table : Open) (ends : Ends) (seen : Seen) (response : RspDown) → IfOk (responded table ends seen response) (FlitKept early)
 unfolding responded
 respond_kept early table ends seen response =
-    each (txn_of seen) _ (FlitKept early) (λ txn.
-    each (dbid_of seen) _ (FlitKept early) (λ dbid.
+    each (needed_txn seen) _ (FlitKept early) (λ txn.
+    each (needed_dbid seen) _ (FlitKept early) (λ dbid.
     each (freed table (keys.Request ends.requester txn) seen) _ (FlitKept early) (λ found.
     each (new_id table (keys.Buffer ends.requester dbid)) _ (FlitKept early) (λ key. tt))))
 
-complete_by_kept : (early : Bool) (table : Open) (ends : Ends) (seen : Seen) (response : RspDown) → IfOk (completed_by table ends seen response) (FlitKept early)
+complete_by_kept : (early : Bool) (table : Open) (ends : Ends) (seen : Seen) (response : RspDown) → IfOk (request_completion table ends seen response) (FlitKept early)
 complete_by_kept early table ends seen response =
-    each (txn_of seen) _ (FlitKept early) (λ txn.
+    each (needed_txn seen) _ (FlitKept early) (λ txn.
     each (freed table (keys.Request ends.requester txn) seen) _ (FlitKept early) (λ found. tt))
 
 complete_with_kept : (early : Bool) (table : Open) (ends : Ends) (seen : Seen) (resp : Resp) (response : Option RspDown) → IfOk (completed_with table ends seen resp response) (FlitKept early)
@@ -122,7 +122,7 @@ complete_with_kept early table ends seen resp (Some (downs.RetryAck type)) = com
 
 complete_kept : (early : Bool) (table : Open) (ends : Ends) (seen : Seen) → IfOk (completed table ends seen) (FlitKept early)
 unfolding completed
-complete_kept early table ends seen = each (resp_of seen) _ (FlitKept early) (λ resp. complete_with_kept early table ends seen resp (completion_of resp))
+complete_kept early table ends seen = each (needed_resp seen) _ (FlitKept early) (λ resp. complete_with_kept early table ends seen resp (completion_response resp))
 
 reply_kept : (early : Bool) (table : Open) (ends : Ends) (seen : Seen) (key : OpenKey) (response : RspUp) → IfOk (replied table ends seen key response) (FlitKept early)
 unfolding replied
@@ -131,9 +131,9 @@ reply_kept early table ends seen key response = each (freed table key seen) _ (F
 answer_kept : (early : Bool) (table : Open) (ends : Ends) (seen : Seen) → IfOk (answered table ends seen) (FlitKept early)
 unfolding answered
 answer_kept early table ends seen =
-    each (resp_of seen) _ (FlitKept early) (λ resp.
-    each (txn_of seen) _ (FlitKept early) (λ txn.
-    each (ok_or (answer_of resp) (reasons.Form resp)) _ (FlitKept early) (λ response.
+    each (needed_resp seen) _ (FlitKept early) (λ resp.
+    each (needed_txn seen) _ (FlitKept early) (λ txn.
+    each (ok_or (answer_form resp) (reasons.Form resp)) _ (FlitKept early) (λ response.
     reply_kept early table ends seen (keys.Snoop ends.requester txn) response)))
 
 begun_kept : (early whole : Bool) (table : Open) (found : Found) (begun : Unfinished) (flit : LineFlit) → FlitKept early flit → FlitKept early (begun_or_freed whole table found begun flit)
@@ -143,7 +143,7 @@ begun_kept early false table found begun flit is = is
 first_kept : (early : Bool) (table : Open) (ends : Ends) (seen : Seen) (found : Found) (words : List (Option ℕ)) → IfOk (first_beat table ends seen found words) (FlitKept early)
 unfolding first_beat
 first_kept early table ends seen found words =
-    each (resp_of seen) _ (FlitKept early) (λ resp.
+    each (needed_resp seen) _ (FlitKept early) (λ resp.
     each (ok_or (message_of seen.opcode resp (filled words)) (reasons.Form resp)) _ (FlitKept early) (λ message.
     each (opened table ends seen found.id.line seen.opcode) _ (FlitKept early) (λ opens.
     begun_kept early (is_whole words) table found _ _ tt)))
@@ -162,7 +162,7 @@ beat_kept early table ends seen key =
 access_kept : (early : Bool) (ends : Ends) (seen : Seen) → IfOk (access_of ends seen) (FlitKept early)
 unfolding access_of
 access_kept early ends seen =
-    each (address_of seen) _ (FlitKept early) (λ address.
+    each (needed_address seen) _ (FlitKept early) (λ address.
     each (value_in seen.payload) _ (FlitKept early) (λ value. tt))
 
 may_grant_less : (account : Account) (n : ℕ) → may_grant account n ≡ true → n ≡ 0 → account.granted < account.retried
@@ -175,14 +175,14 @@ none_early false n e = refl
 grant_kept : (options : Options) (table : Open) (ends : Ends) (seen : Seen) → TableKept options.early_grants table → IfOk (granted options table ends seen) (IsKept options.early_grants)
 unfolding granted
 grant_kept options table ends seen all =
-    each (pcrd_of seen) _ (IsKept options.early_grants) (λ pcrd. if_so _ _ _ (IsKept options.early_grants) (λ may.
+    each (needed_pcrd seen) _ (IsKept options.early_grants) (λ pcrd. if_so _ _ _ (IsKept options.early_grants) (λ may.
     more_granted options.early_grants _ (held_balanced options.early_grants ends.requester pcrd table.accounts all)
     (λ late. may_grant_less (held_of ends.requester pcrd table.accounts).account (early_of options table ends.requester pcrd) may (none_early options.early_grants _ late))))
 
 return_kept : (early : Bool) (table : Open) (ends : Ends) (seen : Seen) → TableKept early table → IfOk (given_back table ends seen) (IsKept early)
 unfolding given_back
 return_kept early table ends seen all =
-    each (pcrd_of seen) _ (IsKept early) (λ pcrd. if_not _ _ _ (IsKept early) (λ some. more_returned early _ (held_balanced early ends.requester pcrd table.accounts all) some))
+    each (needed_pcrd seen) _ (IsKept early) (λ pcrd. if_not _ _ _ (IsKept early) (λ some. more_returned early _ (held_balanced early ends.requester pcrd table.accounts all) some))
 
 as_flit : (early : Bool) (flit : Result LineFlit IdReason) → IfOk flit (FlitKept early) → IfOk (flit_change flit) (ChangeKept early)
 as_flit early (Ok flit) is = is
@@ -202,8 +202,8 @@ by_opcode opcodes.CompDBIDResp options table ends seen all = as_flit options.ear
 by_opcode opcodes.PCrdGrant options table ends seen all = as_credit options.early_grants _ (grant_kept options table ends seen all)
 by_opcode opcodes.SnpResp options table ends seen all = as_flit options.early_grants _ (answer_kept options.early_grants table ends seen)
 by_opcode opcodes.CompAck options table ends seen all = each (buffer_of seen) _ (ChangeKept options.early_grants) (λ dbid. as_flit options.early_grants _ (reply_kept options.early_grants table ends seen _ ups.CompAck))
-by_opcode opcodes.CompData options table ends seen all = each (txn_of seen) _ (ChangeKept options.early_grants) (λ txn. beat_kept options.early_grants table ends seen _)
-by_opcode opcodes.SnpRespData options table ends seen all = each (txn_of seen) _ (ChangeKept options.early_grants) (λ txn. beat_kept options.early_grants table ends seen _)
+by_opcode opcodes.CompData options table ends seen all = each (needed_txn seen) _ (ChangeKept options.early_grants) (λ txn. beat_kept options.early_grants table ends seen _)
+by_opcode opcodes.SnpRespData options table ends seen all = each (needed_txn seen) _ (ChangeKept options.early_grants) (λ txn. beat_kept options.early_grants table ends seen _)
 by_opcode opcodes.CopyBackWrData options table ends seen all = each (buffer_of seen) _ (ChangeKept options.early_grants) (λ dbid. beat_kept options.early_grants table ends seen _)
 by_opcode opcodes.Load options table ends seen all = as_flit options.early_grants _ (access_kept options.early_grants ends seen)
 by_opcode opcodes.Store options table ends seen all = as_flit options.early_grants _ (access_kept options.early_grants ends seen)
@@ -212,7 +212,7 @@ change_kept : (options : Options) (table : Open) (ends : Ends) (seen : Seen) →
 unfolding change_of
 change_kept options table ends seen all = by_opcode seen.opcode options table ends seen all
 
-after_kept : (early : Bool) (at : ℕ) (change : Change) (table : Open) → ChangeKept early change → TableKept early table → TableKept early (after at change table)
+after_kept : (early : Bool) (at : ℕ) (change : Change) (table : Open) → ChangeKept early change → TableKept early table → TableKept early (open_after at change table)
 after_kept early at (Flit flit) table is all = booked_all_balanced early flit.books table.accounts is all
 after_kept early at (Credit booking) table is all = booked_balanced early booking table.accounts is all
 after_kept early at (Beat further) table is all = all

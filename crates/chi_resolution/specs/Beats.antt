@@ -11,8 +11,8 @@ use Rattle.chi_resolution.specs.declared.reasons.IdReason.TheVariants.{WordAgain
 use Rattle.chi_resolution.specs.Ids.{is_same_key}
 use Rattle.chi_resolution.specs.Reasons.{◌>>=◌}
 
-abbrev pub is_of : OpenKey → Unfinished → Bool
-is_of key begun = is_same_key begun.key key
+abbrev pub is_of_key : OpenKey → Unfinished → Bool
+is_of_key key begun = is_same_key begun.key key
 
 abbrev pub begun_at : ℕ → Option Unfinished → Option Begun
 begun_at place None = None
@@ -24,7 +24,7 @@ begun_in unfinished (Some place) = begun_at place (slice_get unfinished place)
 
 -- the unfinished data that frees an id, and its place
 abbrev pub data_of : OpenKey → List Unfinished → Option Begun
-data_of key unfinished = begun_in unfinished (position (is_of key) unfinished)
+data_of key unfinished = begun_in unfinished (position (is_of_key key) unfinished)
 
 -- whether no word lacks
 abbrev pub is_whole : List (Option ℕ) → Bool
@@ -46,23 +46,23 @@ filled words =
     ∷ word_or_zero words 7
     ∷ []
 
-abbrev pub one_of : OpenKey → WordNo → Option ℕ → Option ℕ → Result (Option ℕ) IdReason
-one_of key number None new = Ok new
-one_of key number (Some value) None = Ok (Some value)
-one_of key number (Some value) (Some again) = Err (WordAgain key number)
+abbrev pub merged_one : OpenKey → WordNo → Option ℕ → Option ℕ → Result (Option ℕ) IdReason
+merged_one key number None new = Ok new
+merged_one key number (Some value) None = Ok (Some value)
+merged_one key number (Some value) (Some again) = Err (WordAgain key number)
 
-abbrev pub word_at : OpenKey → ℕ → List (Option ℕ) → List (Option ℕ) → Result (Option ℕ) IdReason
-word_at key n words more = one_of key (record { 0 = n }) (slice_index_or words n None) (slice_index_or more n None)
+abbrev pub merged_word : OpenKey → ℕ → List (Option ℕ) → List (Option ℕ) → Result (Option ℕ) IdReason
+merged_word key n words more = merged_one key (record { 0 = n }) (slice_index_or words n None) (slice_index_or more n None)
 
 -- the eight words that the beats so far have, and a further one
 unfoldable pub joined : OpenKey → List (Option ℕ) → List (Option ℕ) → Result (List (Option ℕ)) IdReason
 joined key words more = do
-  w0 ← word_at key 0 words more
-  w1 ← word_at key 1 words more
-  w2 ← word_at key 2 words more
-  w3 ← word_at key 3 words more
-  w4 ← word_at key 4 words more
-  w5 ← word_at key 5 words more
-  w6 ← word_at key 6 words more
-  w7 ← word_at key 7 words more
+  w0 ← merged_word key 0 words more
+  w1 ← merged_word key 1 words more
+  w2 ← merged_word key 2 words more
+  w3 ← merged_word key 3 words more
+  w4 ← merged_word key 4 words more
+  w5 ← merged_word key 5 words more
+  w6 ← merged_word key 6 words more
+  w7 ← merged_word key 7 words more
   Ok (w0 ∷ w1 ∷ w2 ∷ w3 ∷ w4 ∷ w5 ∷ w6 ∷ w7 ∷ [])

@@ -43,10 +43,10 @@ use Rattle.chi_resolution.specs.declared.reasons.IdReason.TheVariants as reasons
 use Rattle.chi_resolution.specs.declared.resolution.Options.{Options}
 use Rattle.chi_resolution.specs.Beats.{data_of, filled, is_whole, joined}
 use Rattle.chi_resolution.specs.Ids.{id_of, plain_id}
-use Rattle.chi_resolution.specs.Ledger.{attempts, credit_of, held_of, unused_of, wanted_of}
+use Rattle.chi_resolution.specs.Ledger.{attempts, booked_type, held_of, unused_of, wanted_of}
 use Rattle.chi_resolution.specs.Lines.{line_of}
-use Rattle.chi_resolution.specs.Messages.{answer_of, completion_of, is_same_resp, message_of}
-use Rattle.chi_resolution.specs.Reasons.{◌>>=◌, address_of, allow_of, buffer_of, dbid_of, pcrd_of, resp_of, txn_of, value_in, words_in}
+use Rattle.chi_resolution.specs.Messages.{answer_form, completion_response, is_same_resp, message_of}
+use Rattle.chi_resolution.specs.Reasons.{◌>>=◌, needed_address, needed_allow_retry, buffer_of, needed_dbid, needed_pcrd, needed_resp, needed_txn, value_in, words_in}
 
 -- what is open, and the flits that are resolved
 pub record Open : Type 0 where
@@ -117,7 +117,7 @@ booking_of table node pcrd event = record { held = held_of node pcrd table.accou
 
 unfoldable pub sent_again : Open → Ends → Seen → OpenId → Observed → Result LineFlit IdReason
 sent_again table ends seen id flit = do
-  pcrd ← pcrd_of seen
+  pcrd ← needed_pcrd seen
   retried ← ok_or (id_of (keys.Retried ends.requester id.line) table.ids) (reasons.NotOpen (keys.Retried ends.requester id.line))
   type ← right_type pcrd retried.id.waits_for
   with_credit ends type id flit retried (booking_of table ends.requester type events.Resent)
@@ -129,9 +129,9 @@ request_by false table ends seen kind id flit = sent_again table ends seen id fl
 -- a request opens its id
 unfoldable pub requested : Open → Ends → Seen → Kind → Result LineFlit IdReason
 requested table ends seen kind = do
-  address ← address_of seen
-  txn ← txn_of seen
-  allow ← allow_of seen
+  address ← needed_address seen
+  txn ← needed_txn seen
+  allow ← needed_allow_retry seen
   key ← new_id table (keys.Request ends.requester txn)
   request_by allow table ends seen kind (plain_id key (line_of address))
       (sent ends (messages.Req (record { kind = kind; slot = record { 0 = 0 }; allow_retry = allow })))
@@ -139,21 +139,21 @@ requested table ends seen kind = do
 -- a snoop opens its id
 unfoldable pub snooped : Open → Ends → Seen → Snoop → Result LineFlit IdReason
 snooped table ends seen snoop = do
-  address ← address_of seen
-  txn ← txn_of seen
+  address ← needed_address seen
+  txn ← needed_txn seen
   key ← new_id table (keys.Snoop ends.requester txn)
   Ok (record (plain_flit (line_of address) (sent ends (messages.Snp snoop))) { opens = Some (plain_id key (line_of address)) })
 
 -- a RetryAck frees a first attempt, which then waits for a credit
 unfoldable pub retried : Options → Open → Ends → Seen → Result LineFlit IdReason
 retried options table ends seen = do
-  txn ← txn_of seen
-  pcrd ← pcrd_of seen
+  txn ← needed_txn seen
+  pcrd ← needed_pcrd seen
   found ← freed table (keys.Request ends.requester txn) seen
   kind ← ok_or found.id.may_retry (reasons.NotRetryable ends.requester txn)
   type ← right_type pcrd (wanted_of options.types kind)
   key ← new_id table (keys.Retried ends.requester found.id.line)
-  Ok (record (plain_flit found.id.line (sent ends (messages.RspDown (downs.RetryAck (credit_of options.types kind))))) {
+  Ok (record (plain_flit found.id.line (sent ends (messages.RspDown (downs.RetryAck (booked_type options.types kind))))) {
     frees = Some found.place;
     opens = Some (record (plain_id key found.id.line) { waits_for = Some type });
     books = Some (booking_of table ends.requester type events.Retried);
@@ -162,8 +162,8 @@ retried options table ends seen = do
 -- Comp_UC and CompDBIDResp free a request and open a DBID
 unfoldable pub responded : Open → Ends → Seen → RspDown → Result LineFlit IdReason
 responded table ends seen response = do
-  txn ← txn_of seen
-  dbid ← dbid_of seen
+  txn ← needed_txn seen
+  dbid ← needed_dbid seen
   found ← freed table (keys.Request ends.requester txn) seen
   key ← new_id table (keys.Buffer ends.requester dbid)
   Ok (record (plain_flit found.id.line (sent ends (messages.RspDown response))) {
@@ -172,19 +172,19 @@ responded table ends seen response = do
   })
 
 -- Comp_I frees a request
-abbrev pub completed_by : Open → Ends → Seen → RspDown → Result LineFlit IdReason
-completed_by table ends seen response = do
-  txn ← txn_of seen
+abbrev pub request_completion : Open → Ends → Seen → RspDown → Result LineFlit IdReason
+request_completion table ends seen response = do
+  txn ← needed_txn seen
   found ← freed table (keys.Request ends.requester txn) seen
   Ok (record (plain_flit found.id.line (sent ends (messages.RspDown response))) { frees = Some found.place })
 
 abbrev pub completed_with : Open → Ends → Seen → Resp → Option RspDown → Result LineFlit IdReason
 completed_with table ends seen resp None = Err (reasons.Form resp)
 completed_with table ends seen resp (Some downs.CompUC) = responded table ends seen downs.CompUC
-completed_with table ends seen resp (Some other) = completed_by table ends seen other
+completed_with table ends seen resp (Some other) = request_completion table ends seen other
 
 unfoldable pub completed : Open → Ends → Seen → Result LineFlit IdReason
-completed table ends seen = resp_of seen >>= λ resp. completed_with table ends seen resp (completion_of resp)
+completed table ends seen = needed_resp seen >>= λ resp. completed_with table ends seen resp (completion_response resp)
 
 -- CompAck frees a DBID, SnpResp a snoop
 unfoldable pub replied : Open → Ends → Seen → OpenKey → RspUp → Result LineFlit IdReason
@@ -194,15 +194,15 @@ replied table ends seen key response = do
 
 unfoldable pub answered : Open → Ends → Seen → Result LineFlit IdReason
 answered table ends seen = do
-  resp ← resp_of seen
-  txn ← txn_of seen
-  response ← ok_or (answer_of resp) (reasons.Form resp)
+  resp ← needed_resp seen
+  txn ← needed_txn seen
+  response ← ok_or (answer_form resp) (reasons.Form resp)
   replied table ends seen (keys.Snoop ends.requester txn) response
 
 -- CompData opens a DBID, at its first beat
 abbrev pub opened : Open → Ends → Seen → CacheLine → Opcode → Result (Option OpenId) IdReason
 opened table ends seen line opcodes.CompData = do
-  dbid ← dbid_of seen
+  dbid ← needed_dbid seen
   key ← new_id table (keys.Buffer ends.requester dbid)
   Ok (Some (plain_id key line))
 opened table ends seen line other = Ok None
@@ -214,7 +214,7 @@ begun_or_freed false table found begun flit = record flit { begins = Some begun 
 
 unfoldable pub first_beat : Open → Ends → Seen → Found → List (Option ℕ) → Result LineFlit IdReason
 first_beat table ends seen found words = do
-  resp ← resp_of seen
+  resp ← needed_resp seen
   message ← ok_or (message_of seen.opcode resp (filled words)) (reasons.Form resp)
   opens ← opened table ends seen found.id.line seen.opcode
   Ok (begun_or_freed (is_whole words) table found
@@ -268,14 +268,14 @@ early_of options table node pcrd = if options.early_grants then attempts options
 abbrev pub may_grant : Account → ℕ → Bool
 may_grant account early = nat_lt account.granted (account.retried + early)
 
-abbrev pub granted_to : NodeId → PcrdType → ℕ → Booking → Result Booking IdReason
-granted_to node pcrd early booking =
+abbrev pub granted_booking : NodeId → PcrdType → ℕ → Booking → Result Booking IdReason
+granted_booking node pcrd early booking =
     if may_grant booking.held.account early then Ok booking else Err (reasons.NothingRetried node pcrd)
 
 unfoldable pub granted : Options → Open → Ends → Seen → Result Booking IdReason
 granted options table ends seen = do
-  pcrd ← pcrd_of seen
-  granted_to ends.requester pcrd (early_of options table ends.requester pcrd) (booking_of table ends.requester pcrd events.Granted)
+  pcrd ← needed_pcrd seen
+  granted_booking ends.requester pcrd (early_of options table ends.requester pcrd) (booking_of table ends.requester pcrd events.Granted)
 
 -- G - S - B > 0
 abbrev pub returned_by : NodeId → PcrdType → Booking → Result Booking IdReason
@@ -283,7 +283,7 @@ returned_by node pcrd booking = if unused_of booking.held.account == 0 then Err 
 
 unfoldable pub given_back : Open → Ends → Seen → Result Booking IdReason
 given_back table ends seen = do
-  pcrd ← pcrd_of seen
+  pcrd ← needed_pcrd seen
   returned_by ends.requester pcrd (booking_of table ends.requester pcrd events.Returned)
 
 -- what a processor did: the word that the address is in
@@ -293,7 +293,7 @@ access_with other ends address value = observed.Store ends.agent (record { 0 = a
 
 unfoldable pub access_of : Ends → Seen → Result LineFlit IdReason
 access_of ends seen = do
-  address ← address_of seen
+  address ← needed_address seen
   value ← value_in seen.payload
   Ok (plain_flit (line_of address) (access_with seen.opcode ends address value))
 
@@ -314,8 +314,8 @@ change_by opcodes.CompDBIDResp options table ends seen = flit_change (responded 
 change_by opcodes.PCrdGrant options table ends seen = credit_change (granted options table ends seen)
 change_by opcodes.SnpResp options table ends seen = flit_change (answered table ends seen)
 change_by opcodes.CompAck options table ends seen = buffer_of seen >>= λ dbid. flit_change (replied table ends seen (keys.Buffer ends.requester dbid) ups.CompAck)
-change_by opcodes.CompData options table ends seen = txn_of seen >>= λ txn. beat_of table ends seen (keys.Request ends.requester txn)
-change_by opcodes.SnpRespData options table ends seen = txn_of seen >>= λ txn. beat_of table ends seen (keys.Snoop ends.requester txn)
+change_by opcodes.CompData options table ends seen = needed_txn seen >>= λ txn. beat_of table ends seen (keys.Request ends.requester txn)
+change_by opcodes.SnpRespData options table ends seen = needed_txn seen >>= λ txn. beat_of table ends seen (keys.Snoop ends.requester txn)
 change_by opcodes.CopyBackWrData options table ends seen = buffer_of seen >>= λ dbid. beat_of table ends seen (keys.Buffer ends.requester dbid)
 change_by opcodes.Load options table ends seen = flit_change (access_of ends seen)
 change_by opcodes.Store options table ends seen = flit_change (access_of ends seen)

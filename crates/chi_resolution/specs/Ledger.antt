@@ -20,15 +20,15 @@ use Rattle.chi_resolution.specs.declared.ledger.Types.{Types}
 use Rattle.chi_resolution.specs.declared.ledger.Types.TheVariants.{Two, Four, Any}
 
 -- the type of credit that a request of a kind waits for in the protocol
-abbrev pub credit_of : Types → Kind → CreditType
-credit_of Two kind = credit_type_of profiles.Two kind
-credit_of Four kind = credit_type_of profiles.Four kind
-credit_of Any kind = credit_type_of profiles.Two kind
+abbrev pub booked_type : Types → Kind → CreditType
+booked_type Two kind = credit_type_of profiles.Two kind
+booked_type Four kind = credit_type_of profiles.Four kind
+booked_type Any kind = credit_type_of profiles.Two kind
 
 -- the type that its RetryAck has to name, if that isn't open
 abbrev pub wanted_of : Types → Kind → Option PcrdType
-wanted_of Two kind = Some (record { 0 = credit_number (credit_of Two kind) })
-wanted_of Four kind = Some (record { 0 = credit_number (credit_of Four kind) })
+wanted_of Two kind = Some (record { 0 = credit_number (booked_type Two kind) })
+wanted_of Four kind = Some (record { 0 = credit_number (booked_type Four kind) })
 wanted_of Any kind = None
 
 abbrev pub is_wanted : PcrdType → Option PcrdType → Bool

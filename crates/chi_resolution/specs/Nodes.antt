@@ -48,12 +48,12 @@ is_home None node = false
 is_home (Some home) node = is_node node home
 
 -- at most eight
-abbrev pub agent_at : ℕ → NodeId → Result Agent IdReason
-agent_at number node = if nat_lt number 8 then Ok (record { 0 = number }) else Err (NinthRequester node)
+abbrev pub numbered_requester : ℕ → NodeId → Result Agent IdReason
+numbered_requester number node = if nat_lt number 8 then Ok (record { 0 = number }) else Err (NinthRequester node)
 
 -- a requester's number is its place; a new one has the next
 abbrev pub agent_of : Option NodeId → List NodeId → NodeId → Result Agent IdReason
-agent_of home requesters node = if is_home home node then Err (BothSides node) else agent_at (unwrap_or (position (is_node node) requesters) (length requesters)) node
+agent_of home requesters node = if is_home home node then Err (BothSides node) else numbered_requester (unwrap_or (position (is_node node) requesters) (length requesters)) node
 
 -- one home
 abbrev pub same_home : Option NodeId → NodeId → Result (Option NodeId) IdReason

@@ -19,27 +19,27 @@ abbrev pub ◌>>=◌ : {A B : Type 0} → Result A IdReason → (A → Result B 
 (Err reason) >>= next = Err reason
 
 -- the fields that an opcode needs; a flit of a trace that was read has them
-abbrev pub txn_of : Seen → Result TxnId IdReason
-txn_of seen = ok_or seen.txn (Lacks columns.Txn)
+abbrev pub needed_txn : Seen → Result TxnId IdReason
+needed_txn seen = ok_or seen.txn (Lacks columns.Txn)
 
-abbrev pub dbid_of : Seen → Result DbId IdReason
-dbid_of seen = ok_or seen.dbid (Lacks columns.Dbid)
+abbrev pub needed_dbid : Seen → Result DbId IdReason
+needed_dbid seen = ok_or seen.dbid (Lacks columns.Dbid)
 
-abbrev pub address_of : Seen → Result Address IdReason
-address_of seen = ok_or seen.address (Lacks columns.Address)
+abbrev pub needed_address : Seen → Result Address IdReason
+needed_address seen = ok_or seen.address (Lacks columns.Address)
 
-abbrev pub resp_of : Seen → Result Resp IdReason
-resp_of seen = ok_or seen.resp (Lacks columns.Resp)
+abbrev pub needed_resp : Seen → Result Resp IdReason
+needed_resp seen = ok_or seen.resp (Lacks columns.Resp)
 
-abbrev pub pcrd_of : Seen → Result PcrdType IdReason
-pcrd_of seen = ok_or seen.pcrd (Lacks columns.Pcrd)
+abbrev pub needed_pcrd : Seen → Result PcrdType IdReason
+needed_pcrd seen = ok_or seen.pcrd (Lacks columns.Pcrd)
 
-abbrev pub allow_of : Seen → Result Bool IdReason
-allow_of seen = ok_or seen.allow_retry (Lacks columns.AllowRetry)
+abbrev pub needed_allow_retry : Seen → Result Bool IdReason
+needed_allow_retry seen = ok_or seen.allow_retry (Lacks columns.AllowRetry)
 
 -- the DBID by which CompAck and CopyBackWrData name what the home keeps is their TxnID
 abbrev pub buffer_of : Seen → Result DbId IdReason
-buffer_of seen = txn_of seen >>= λ txn. Ok (record { 0 = txn.0 })
+buffer_of seen = needed_txn seen >>= λ txn. Ok (record { 0 = txn.0 })
 
 abbrev pub words_in : Payload → Result (List (Option ℕ)) IdReason
 words_in Nothing = Err (Lacks columns.Data)

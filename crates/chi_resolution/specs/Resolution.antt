@@ -72,10 +72,10 @@ after_beat further table = record {
   flits = refilled further.joined.place further.flit table.flits;
 }
 
-abbrev pub after : ℕ → Change → Open → Open
-after at (Flit flit) table = after_flit at flit table
-after at (Credit booking) table = record table { accounts = booked booking table.accounts }
-after at (Beat further) table = after_beat further table
+abbrev pub open_after : ℕ → Change → Open → Open
+open_after at (Flit flit) table = after_flit at flit table
+open_after at (Credit booking) table = record table { accounts = booked booking table.accounts }
+open_after at (Beat further) table = after_beat further table
 
 -- the nodes of the next flit, and what it does
 unfoldable pub allowed_of : Options → Progress → Seen → Result Allowed IdReason
@@ -89,7 +89,7 @@ abbrev pub taken : ℕ → Allowed → Progress → Progress
 taken at allowed progress = record {
   home = with_home allowed.ends progress.home;
   requesters = with_requester allowed.ends progress.requesters;
-  table = after at allowed.change progress.table;
+  table = open_after at allowed.change progress.table;
 }
 
 -- all flits that are allowed, and the first that isn't

@@ -1,7 +1,7 @@
 //! Data in more than one beat.
 
 ghost use Rattle.std.specs.Prelude.{◌≡◌, position, slice_get};
-ghost use Rattle.chi_resolution.specs.Beats.{begun_at, data_of, filled, is_of, is_whole, joined, one_of};
+ghost use Rattle.chi_resolution.specs.Beats.{begun_at, data_of, filled, is_of_key, is_whole, joined, merged_one};
 
 use crate::ids::{OpenKey, is_same_key};
 use crate::reasons::IdReason;
@@ -35,14 +35,14 @@ pub(crate) struct Begun {
 
 /// Whether it is the data that frees the id.
 fn is_of(begun: &Unfinished, key: OpenKey) -> bool
-    ensures { result ≡ is_of key begun.now }
+    ensures { result ≡ is_of_key key begun.now }
 {
     is_same_key(begun.key, key)
 }
 
 /// The place of the unfinished data that frees an id.
 fn place_of(unfinished: &[Unfinished], key: OpenKey) -> Option<usize>
-    ensures { result ≡ position (is_of key) unfinished.now }
+    ensures { result ≡ position (is_of_key key) unfinished.now }
 {
     unfinished.iter().position(|begun| is_of(begun, key))
 }
@@ -117,7 +117,7 @@ fn one_of(
     word: Option<u64>,
     new: Option<u64>,
 ) -> Result<Option<u64>, IdReason>
-    ensures { result ≡ one_of key number word new }
+    ensures { result ≡ merged_one key number word new }
 {
     match (word, new) {
         (Some(_), Some(_)) => Err(IdReason::WordAgain(key, number)),

@@ -1,7 +1,7 @@
 //! What each flit does to what is open.
 
 ghost use Rattle.std.specs.Prelude.{◌≡◌};
-ghost use Rattle.chi_resolution.specs.Reasons.{address_of, allow_of, buffer_of, dbid_of, pcrd_of, resp_of, txn_of, value_in, words_in};
+ghost use Rattle.chi_resolution.specs.Reasons.{needed_address, needed_allow_retry, buffer_of, needed_dbid, needed_pcrd, needed_resp, needed_txn, value_in, words_in};
 ghost use Rattle.chi_resolution.specs.Changes.{access_of, access_with, answered, attempted, beat_of, booking_of, change_of, completed, credit_change, early_of, first_beat, flit_change, freed, given_back, granted, is_form, is_same_dbid, later_beat, may_grant, named, new_id, opened, plain_flit, replied, requested, responded, retried, right_type, sent, sent_again, snooped, table_of};
 
 use crate::beats::{Begun, Unfinished, Words, filled, find_data, is_whole, joined};
@@ -87,37 +87,37 @@ fn sent(ends: &Ends, message: Msg) -> Observed
 }
 
 fn txn_of(seen: &Seen) -> Result<TxnId, IdReason>
-    ensures { result ≡ txn_of seen.now }
+    ensures { result ≡ needed_txn seen.now }
 {
     seen.txn.ok_or(IdReason::Lacks(Column::Txn))
 }
 
 fn dbid_of(seen: &Seen) -> Result<DbId, IdReason>
-    ensures { result ≡ dbid_of seen.now }
+    ensures { result ≡ needed_dbid seen.now }
 {
     seen.dbid.ok_or(IdReason::Lacks(Column::Dbid))
 }
 
 fn address_of(seen: &Seen) -> Result<Address, IdReason>
-    ensures { result ≡ address_of seen.now }
+    ensures { result ≡ needed_address seen.now }
 {
     seen.address.ok_or(IdReason::Lacks(Column::Address))
 }
 
 fn resp_of(seen: &Seen) -> Result<Resp, IdReason>
-    ensures { result ≡ resp_of seen.now }
+    ensures { result ≡ needed_resp seen.now }
 {
     seen.resp.ok_or(IdReason::Lacks(Column::Resp))
 }
 
 fn pcrd_of(seen: &Seen) -> Result<PcrdType, IdReason>
-    ensures { result ≡ pcrd_of seen.now }
+    ensures { result ≡ needed_pcrd seen.now }
 {
     seen.pcrd.ok_or(IdReason::Lacks(Column::Pcrd))
 }
 
 fn allow_of(seen: &Seen) -> Result<bool, IdReason>
-    ensures { result ≡ allow_of seen.now }
+    ensures { result ≡ needed_allow_retry seen.now }
 {
     seen.allow_retry.ok_or(IdReason::Lacks(Column::AllowRetry))
 }

@@ -1,7 +1,7 @@
 //! The ledger of the protocol credits: of each node and type what was retried, granted, resent and returned.
 
 ghost use Rattle.std.specs.Prelude.{◌≡◌, position, IfSome};
-ghost use Rattle.chi_resolution.specs.Ledger.{account_at, attempts, credit_of, fits, held_of, is_account, is_attempt, opened_account, owed_of, unused_of, wanted_of, with_event};
+ghost use Rattle.chi_resolution.specs.Ledger.{account_at, attempts, booked_type, fits, held_of, is_account, is_attempt, opened_account, owed_of, unused_of, wanted_of, with_event};
 
 use crate::ids::{OpenId, OpenKey};
 use chi_flit::{CreditType, Kind, Profile, credit_type};
@@ -61,7 +61,7 @@ pub(crate) struct Booking {
 impl Types {
     /// The type of credit that a request of this kind waits for in the protocol.
     pub(crate) fn credit(self, kind: Kind) -> CreditType
-        ensures { result ≡ credit_of self kind }
+        ensures { result ≡ booked_type self kind }
     {
         match self {
             Types::Two | Types::Any => credit_type(Profile::Two, kind),

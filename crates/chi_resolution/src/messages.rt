@@ -1,14 +1,14 @@
 //! The messages of the protocol that flits are.
 
 ghost use Rattle.std.specs.Prelude.{◌≡◌};
-ghost use Rattle.chi_resolution.specs.Messages.{answer_of, completion_of, is_same_resp, message_of, read_data_of, snoop_data_of, state_of};
+ghost use Rattle.chi_resolution.specs.Messages.{answer_form, completion_response, is_same_resp, message_of, read_data_of, snoop_data_of, state_of};
 
 use chi_flit::{CompData, DatUp, Data, Msg, RspDown, RspUp, State};
 use chi_trace::{Opcode, Resp};
 
 /// A Comp of this form.
 pub(crate) fn completion(resp: Resp) -> Option<RspDown>
-    ensures { result ≡ completion_of resp }
+    ensures { result ≡ completion_response resp }
 {
     match resp {
         Resp::UC => Some(RspDown::CompUC),
@@ -26,7 +26,7 @@ pub(crate) fn completion(resp: Resp) -> Option<RspDown>
 
 /// A SnpResp of this form.
 pub(crate) fn answer(resp: Resp) -> Option<RspUp>
-    ensures { result ≡ answer_of resp }
+    ensures { result ≡ answer_form resp }
 {
     match resp {
         Resp::I => Some(RspUp::SnpRespI),

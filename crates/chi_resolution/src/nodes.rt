@@ -1,7 +1,7 @@
 //! The nodes of a trace: its home, and its requesters in the order of their first flits.
 
 ghost use Rattle.std.specs.Prelude.{◌≡◌, [], position, OnOk};
-ghost use Rattle.chi_resolution.specs.Nodes.{agent_at, agent_of, ends_of, home_in, home_of, is_node, same_home, sides_of, way_of, with_home, with_requester};
+ghost use Rattle.chi_resolution.specs.Nodes.{numbered_requester, agent_of, ends_of, home_in, home_of, is_node, same_home, sides_of, way_of, with_home, with_requester};
 
 use crate::reasons::IdReason;
 use chi_flit::Agent;
@@ -109,7 +109,7 @@ fn place_of(requesters: &[NodeId], node: NodeId) -> Option<usize>
 
 /// The agent of this number, which the node is.
 fn agent_at(number: usize, node: NodeId) -> Result<Agent, IdReason>
-    ensures { result ≡ agent_at number node }
+    ensures { result ≡ numbered_requester number node }
 {
     if number < 8 {
         Ok(Agent(number as u8))

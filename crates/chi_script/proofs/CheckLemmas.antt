@@ -3,7 +3,7 @@ use Rattle.std.proofs.Common.{◌≡◌, ℕ, ◌==◌, Bool, true, false, List,
 use Rattle.std.proofs.lemmas.Bool.Decides.{nat_tests}
 use Rattle.chi_script.specs.declared.commands.Command.{Command}
 use Rattle.chi_script.specs.declared.headers.Header.{Header}
-use Rattle.chi_script.specs.Commands.{command_of, step_of}
+use Rattle.chi_script.specs.Commands.{command_of, verb_step}
 use Rattle.chi_script.specs.Spelling.{IsHeaderLine, IsLine}
 use Rattle.chi_script.specs.Words.{◌>>=◌, small_of, words_of}
 use Rattle.chi_script.proofs.CommandLemmas.{line_again, line_read}
@@ -46,7 +46,7 @@ nothing_two None p = refl
 nothing_two (Some x) p = nothing p
 
 hash_bare : (w : List ℕ) (words : List (List ℕ)) → command_of ((35 ∷ w) ∷ words) ≡ None
-unfolding step_of
+unfolding verb_step
 hash_bare w [] = refl
 hash_bare w (a ∷ []) = nothing (small_of a)
 hash_bare w (a ∷ b ∷ []) = nothing_two (small_of a) (small_of b)

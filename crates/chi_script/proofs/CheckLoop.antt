@@ -8,7 +8,7 @@ use Rattle.chi_script.specs.Files.{◌>>=◌, lines_of}
 use Rattle.chi_script.proofs.FaultLemmas.{failed}
 use Rattle.chi_script.proofs.LineLemmas.{parts_of}
 use Rattle.chi_script.specs.Checks.{CheckLine}
-use Rattle.chi_script.specs.CheckFiles.{checks_at, checks_of, with_line}
+use Rattle.chi_script.specs.CheckFiles.{checks_at, checks_of, with_check_line}
 
 -- what was read before, and what is still read
 abbrev pub with_front : List CheckLine → Result (List CheckLine) Fault → Result (List CheckLine) Fault
@@ -37,7 +37,7 @@ goes_with (Ok here) front now n rest line after read e is =
 goes_with (Err fault) front now n rest line after read e is = absurd (no_fault fault now is)
 
 -- the line was read: its check is behind the others, and the rest goes on
-pub goes_on : (front now : List CheckLine) (n : ℕ) (rest line after : List ℕ) (total : Result (List CheckLine) Fault) → lines_of rest ≡ line ∷ lines_of after → with_line front n line ≡ Ok now
+pub goes_on : (front now : List CheckLine) (n : ℕ) (rest line after : List ℕ) (total : Result (List CheckLine) Fault) → lines_of rest ≡ line ∷ lines_of after → with_check_line front n line ≡ Ok now
     → with_front front (checks_of n (lines_of rest)) ≡ total → with_front now (checks_of (n + 1) (lines_of after)) ≡ total
 goes_on front now n rest line after total e is so_far = sym (goes_with (checks_at n line) front now n rest line after refl e is) ∙ so_far
 
@@ -55,7 +55,7 @@ unfronted TooLarge front read is = unfronted_is TooLarge front read is
 unfronted Read front read is = absurd is
 unfronted Write front read is = absurd is
 
-pub stops : (fault : Fault) (front : List CheckLine) (n : ℕ) (rest line after : List ℕ) (total : Result (List CheckLine) Fault) → lines_of rest ≡ line ∷ lines_of after → Fails fault (with_line front n line)
+pub stops : (fault : Fault) (front : List CheckLine) (n : ℕ) (rest line after : List ℕ) (total : Result (List CheckLine) Fault) → lines_of rest ≡ line ∷ lines_of after → Fails fault (with_check_line front n line)
     → with_front front (checks_of n (lines_of rest)) ≡ total → Fails fault total
 stops fault front n rest line after total e is so_far =
     let one : with_front front (checks_of n (lines_of rest)) ≡ ((checks_at n line >>= λ here. checks_of (n + 1) (lines_of after) >>= λ later. Ok (here ++ later)) >>= λ checks. Ok (front ++ checks)) = rw (one_line n rest line after e) refl in

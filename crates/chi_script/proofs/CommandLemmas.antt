@@ -13,7 +13,8 @@ use Rattle.chi_flit.specs.declared.action.Step.TheVariants.{Load, Store, Drop, I
 use Rattle.chi_script.specs.declared.commands.Command.{Command}
 use Rattle.chi_script.specs.declared.commands.Command.TheVariants.{Totals, Audit, Show, Flits, Arrive, See, GiveBack, Tend, Act}
 use Rattle.chi_script.specs.Words.{◌>>=◌, is_text, words_of, number_of, small_of, has_no_space}
-use Rattle.chi_script.specs.Commands.{agent_at, line_at, slot_at, word_at, act_at, credit_of, kind_of, step_of, step_with_one, step_with_two, command_bare, command_one, command_two, command_of}
+use Rattle.chi_flit.specs.Numbers.{agent_at, credit_of, line_at, slot_at, word_at}
+use Rattle.chi_script.specs.Commands.{act_at, kind_named, verb_step, step_with_one, step_with_two, command_bare, command_one, command_two, command_of}
 use Rattle.chi_script.specs.Spelling.{IsSmall, IsNumber, IsKind, IsCredit, WithOne, WithTwo, WithCredit, SpellsStep, Spells, IsLine}
 use Rattle.chi_script.proofs.SpaceLemmas.{joined_again, decimal_no_space}
 use Rattle.chi_script.proofs.NumberLemmas.{number_read, number_again, small_read, small_again, bound}
@@ -31,8 +32,8 @@ pick P false entry later here there x e = there x e
 none_left : {A : Type 0} (P : A → Type 0) (x : A) → None ≡ Some x → P x
 none_left P x e = cc
 
-kind_read : (word : List ℕ) (kind : Kind) → kind_of word ≡ Some kind → IsKind kind word
-unfolding kind_of
+kind_read : (word : List ℕ) (kind : Kind) → kind_named word ≡ Some kind → IsKind kind word
+unfolding kind_named
 kind_read word kind e =
     let P : Kind → Type 0 = λ k. IsKind k word in
     pick P (is_text word (kind_text ReadNotSharedDirty)) ReadNotSharedDirty _ (text_is word _) (
@@ -62,8 +63,8 @@ pick_read : {A : Type 0} (P : A → Type 0) (b : Bool) (entry : Option A) (later
 pick_read P true entry later here there x e = here refl x e
 pick_read P false entry later here there x e = there x e
 
-step_read : (verb a b : List ℕ) (n l : ℕ) (step : Step) → IsSmall n a → IsSmall l b → step_of verb ≡ Some step → SpellsStep step n l (verb ∷ a ∷ b ∷ [])
-unfolding step_of
+step_read : (verb a b : List ℕ) (n l : ℕ) (step : Step) → IsSmall n a → IsSmall l b → verb_step verb ≡ Some step → SpellsStep step n l (verb ∷ a ∷ b ∷ [])
+unfolding verb_step
 step_read verb a b n l step is_n is_l e =
     let P : Step → Type 0 = λ x. SpellsStep x n l (verb ∷ a ∷ b ∷ []) in
     let with : (text : List ℕ) → is_text verb text ≡ true → WithTwo text n l (verb ∷ a ∷ b ∷ []) = λ text is. (a, b, is_n, is_l, ap (λ v. v ∷ a ∷ b ∷ []) (text_is verb text is)) in
@@ -90,7 +91,7 @@ two_read verb a b n l command is_n is_l e =
     pick P (is_text verb (codes "giveback")) (GiveBack (agent_at n) (credit_of l)) _ (with_credit (codes "giveback")) (
     pick P (is_text verb (codes "tend")) (Tend (agent_at n) (credit_of l)) _ (with_credit (codes "tend")) (
     λ x read.
-    let step = bound (step_of verb) (λ s. Some (act_at n l s)) x read in
+    let step = bound (verb_step verb) (λ s. Some (act_at n l s)) x read in
     let same : act_at n l step.0 ≡ x = cc in
     subst P same (step_read verb a b n l step.0 is_n is_l step.1))))) command e
 
@@ -115,7 +116,7 @@ words_read verb a b c d n l step is_n is_l e =
     subst P same (a, b, c, d, is_n, is_l, small_read c word.0 word.1, number_read d value.0 value.1, ap (λ v. v ∷ a ∷ b ∷ c ∷ d ∷ []) (text_is verb _ is))) (
     pick_read P (is_text verb (codes "issue")) _ None
     (λ is x read.
-    let kind = bound (kind_of c) (λ k. small_of d >>= λ slot. Some (Issue k (slot_at slot))) x read in
+    let kind = bound (kind_named c) (λ k. small_of d >>= λ slot. Some (Issue k (slot_at slot))) x read in
     let slot = bound (small_of d) (λ s. Some (Issue kind.0 (slot_at s))) x kind.2 in
     let same : Issue kind.0 (slot_at slot.0) ≡ x = cc in
     subst P same (a, b, c, d, is_n, is_l, kind_read c kind.0 kind.1, small_read d slot.0 slot.1, ap (λ v. v ∷ a ∷ b ∷ c ∷ d ∷ []) (text_is verb _ is)))
@@ -157,8 +158,8 @@ two_again verb n l words is = rw (is.4, small_again n is.0 is.2, small_again l i
 credit_two_again : (verb : List ℕ) (n : ℕ) (credit : Option CreditType) (words : List (List ℕ)) → WithCredit verb n credit words → (l : ℕ) × (credit_of l ≡ credit) × (command_of words ≡ command_two verb n l)
 credit_two_again verb n credit words is = let ty = credit_again credit is.1 is.3 in (ty.0, ty.2, rw (is.4, small_again n is.0 is.2, ty.1) refl)
 
-kind_again : (kind : Kind) (word : List ℕ) → IsKind kind word → kind_of word ≡ Some kind
-unfolding kind_of
+kind_again : (kind : Kind) (word : List ℕ) → IsKind kind word → kind_named word ≡ Some kind
+unfolding kind_named
 kind_again ReadNotSharedDirty word is = rw is refl
 kind_again ReadShared word is = rw is refl
 kind_again ReadUnique word is = rw is refl
@@ -169,7 +170,7 @@ kind_again WriteCleanFull word is = rw is refl
 kind_again WriteEvictFull word is = rw is refl
 
 step_again : (step : Step) (n l : ℕ) (words : List (List ℕ)) → SpellsStep step n l words → command_of words ≡ Some (act_at n l step)
-unfolding step_of
+unfolding verb_step
 step_again (Load w) n l words is = rw (is.6, small_again n is.0 is.3, small_again l is.1 is.4, small_again w.0 is.2 is.5) refl
 step_again (Store w v) n l words is = rw (is.8, small_again n is.0 is.4, small_again l is.1 is.5, small_again w.0 is.2 is.6, number_again v is.3 is.7) refl
 step_again Drop n l words is = two_again (codes "drop") n l words is

@@ -4,7 +4,7 @@ use Rattle.std.proofs.lemmas.Bool.Decides.{nat_tests}
 use Rattle.chi_flit.specs.declared.credit.CreditType.{CreditType}
 use Rattle.chi_flit.specs.declared.credit.CreditType.TheVariants.{T0, T1, T2, T3}
 use Rattle.chi_script.specs.Words.{small_of}
-use Rattle.chi_script.specs.Commands.{credit_of}
+use Rattle.chi_flit.specs.Numbers.{credit_of}
 use Rattle.chi_script.specs.Spelling.{IsNumber, IsSmall, IsCredit}
 use Rattle.chi_script.proofs.NumberLemmas.{small_again}
 

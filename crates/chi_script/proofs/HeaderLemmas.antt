@@ -10,7 +10,7 @@ use Rattle.chi_script.specs.declared.headers.Header.{Header}
 use Rattle.chi_script.specs.declared.headers.CreditTypes.{CreditTypes}
 use Rattle.chi_script.specs.Words.{◌>>=◌, is_text, words_of, number_of, has_no_space}
 use Rattle.chi_config.specs.Config.{are_entries}
-use Rattle.chi_script.specs.Headers.{types_of, sizes_of, header_in_limits, header_of, is_in_limits, IsInLimits}
+use Rattle.chi_script.specs.Headers.{types_of, header_sizes, header_in_limits, header_of, is_in_limits, IsInLimits}
 use Rattle.chi_script.specs.Spelling.{type_words, header_words, IsHeaderLine}
 use Rattle.chi_script.proofs.LimitLemmas.{each_few, entries_fit, limits_of, none_left}
 use Rattle.chi_script.proofs.NumberLemmas.{number_read, number_again, bound}
@@ -49,7 +49,7 @@ types_read (t0 ∷ t1 ∷ t2 ∷ t3 ∷ k ∷ more ∷ rest) types e = cc
 abbrev sizes_words : Header → List (List ℕ)
 sizes_words header = decimal header.agents ∷ decimal header.lines ∷ decimal header.slices ∷ type_words header.profile header.entries header.journal
 
-sizes_read : (words : List (List ℕ)) (header : Header) → sizes_of words ≡ Some header → words ≡ sizes_words header
+sizes_read : (words : List (List ℕ)) (header : Header) → header_sizes words ≡ Some header → words ≡ sizes_words header
 sizes_read [] header e = cc
 sizes_read (a ∷ []) header e = cc
 sizes_read (a ∷ l ∷ []) header e = cc
@@ -70,8 +70,8 @@ let_through false found x e = cc
 pub header_read : (words : List (List ℕ)) (header : Header) → header_of words ≡ Some header → (is_in_limits header ≡ true) × (words ≡ header_words header)
 header_read [] header e = cc
 header_read (verb ∷ numbers) header e =
-    let node = let_through (is_text verb (codes "node")) (sizes_of numbers >>= header_in_limits) header e in
-    let sizes = bound (sizes_of numbers) header_in_limits header node.1 in
+    let node = let_through (is_text verb (codes "node")) (header_sizes numbers >>= header_in_limits) header e in
+    let sizes = bound (header_sizes numbers) header_in_limits header node.1 in
     let through = let_through (is_in_limits sizes.0) (Some sizes.0) header sizes.2 in
     let passed = through.1 in
     let is : sizes.0 ≡ header = cc in
@@ -134,7 +134,7 @@ header_again : (header : Header) → is_in_limits header ≡ true → header_of 
 header_again header e =
     let few : AreFew header = are_few header e in
     let types = types_again header.profile header.entries header.journal (entries_fit header e) few.entries few.journal in
-    let sizes : sizes_of (sizes_words header) ≡ Some header = rw (few_again header.agents few.agents, few_again header.lines few.lines, few_again header.slices few.slices, types) refl in
+    let sizes : header_sizes (sizes_words header) ≡ Some header = rw (few_again header.agents few.agents, few_again header.lines few.lines, few_again header.slices few.slices, types) refl in
     let through : header_in_limits header ≡ Some header = rw e refl in
     ap (λ (found : Option Header). found >>= header_in_limits) sizes ∙ through
 

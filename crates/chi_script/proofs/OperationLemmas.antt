@@ -9,7 +9,7 @@ use Rattle.chi_flit.specs.declared.operation.Task.{Task}
 use Rattle.chi_flit.specs.declared.operation.Task.TheVariants.{Load, Share, Store, WriteBack, WriteClean, WriteEvict, Evict, Drop}
 use Rattle.chi_script.specs.declared.headers.Header.{Header}
 use Rattle.chi_script.specs.Headers.{is_in_limits, IsInLimits}
-use Rattle.chi_script.specs.Commands.{word_at}
+use Rattle.chi_flit.specs.Numbers.{word_at}
 use Rattle.chi_script.specs.Words.{◌>>=◌, is_text, words_of, number_of, has_no_space}
 use Rattle.chi_script.proofs.LimitLemmas.{limits_of}
 use Rattle.chi_script.proofs.NumberLemmas.{number_read, number_again, bound}

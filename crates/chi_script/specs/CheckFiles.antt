@@ -16,8 +16,8 @@ abbrev pub checks_at : ℕ → List ℕ → Result (List CheckLine) Fault
 checks_at n line = if is_comment line then Ok [] else (check_at n line >>= λ check. Ok (check ∷ []))
 
 -- the checks so far, and that of line n behind them
-abbrev pub with_line : List CheckLine → ℕ → List ℕ → Result (List CheckLine) Fault
-with_line before n line = checks_at n line >>= λ here. Ok (before ++ here)
+abbrev pub with_check_line : List CheckLine → ℕ → List ℕ → Result (List CheckLine) Fault
+with_check_line before n line = checks_at n line >>= λ here. Ok (before ++ here)
 
 -- the checks of the lines from line n on
 unfoldable pub checks_of : ℕ → List (List ℕ) → Result (List CheckLine) Fault

@@ -1,6 +1,7 @@
 -- The commands of a replay file: a table for each count of words, a line for each command
 -- (docs/FORMATS.md, "Replay files").
 use Rattle.std.specs.Prelude.{ℕ, ◌==◌, List, [], ◌∷◌, Option, Some, None, if◌then◌else◌, codes}
+use Rattle.chi_flit.specs.Numbers.{agent_at, line_at, slot_at, word_at, credit_of}
 use Rattle.chi_flit.specs.Kind.{kind_text}
 use Rattle.chi_flit.specs.declared.numbers.Agent.{Agent}
 use Rattle.chi_flit.specs.declared.numbers.Line.{Line}
@@ -16,32 +17,12 @@ use Rattle.chi_script.specs.declared.commands.Command.{Command}
 use Rattle.chi_script.specs.declared.commands.Command.TheVariants.{Totals, Audit, Show, Flits, Arrive, See, GiveBack, Tend, Act}
 use Rattle.chi_script.specs.Words.{◌>>=◌, is_text, number_of, small_of, words_of}
 
-abbrev pub agent_at : ℕ → Agent
-agent_at n = record { 0 = n }
-
-abbrev pub line_at : ℕ → Line
-line_at n = record { 0 = n }
-
-abbrev pub slot_at : ℕ → Slot
-slot_at n = record { 0 = n }
-
-abbrev pub word_at : ℕ → WordNo
-word_at n = record { 0 = n }
-
--- the type of a number; above 3 there is none
-abbrev pub credit_of : ℕ → Option CreditType
-credit_of n =
-    if n == 0 then Some T0 else (
-    if n == 1 then Some T1 else (
-    if n == 2 then Some T2 else (
-    if n == 3 then Some T3 else None)))
-
 -- one step of an agent on a line
 abbrev pub act_at : ℕ → ℕ → Step → Command
 act_at n l step = Act (record { agent = agent_at n; line = line_at l; step = step })
 
-unfoldable pub kind_of : List ℕ → Option Kind
-kind_of word =
+unfoldable pub kind_named : List ℕ → Option Kind
+kind_named word =
     if is_text word (kind_text ReadNotSharedDirty) then Some ReadNotSharedDirty else (
     if is_text word (kind_text ReadShared) then Some ReadShared else (
     if is_text word (kind_text ReadUnique) then Some ReadUnique else (
@@ -52,8 +33,8 @@ kind_of word =
     if is_text word (kind_text WriteEvictFull) then Some WriteEvictFull else None)))))))
 
 -- the step of VERB N L
-unfoldable pub step_of : List ℕ → Option Step
-step_of verb =
+unfoldable pub verb_step : List ℕ → Option Step
+verb_step verb =
     if is_text verb (codes "drop") then Some Drop else (
     if is_text verb (codes "start") then Some Start else (
     if is_text verb (codes "snp") then Some RecvSnp else (
@@ -76,7 +57,7 @@ step_with_one verb third =
 abbrev pub step_with_two : List ℕ → List ℕ → List ℕ → Option Step
 step_with_two verb third fourth =
     if is_text verb (codes "store") then (small_of third >>= λ w. number_of fourth >>= λ v. Some (Store (word_at w) v)) else (
-    if is_text verb (codes "issue") then (kind_of third >>= λ kind. small_of fourth >>= λ slot. Some (Issue kind (slot_at slot))) else None)
+    if is_text verb (codes "issue") then (kind_named third >>= λ kind. small_of fourth >>= λ slot. Some (Issue kind (slot_at slot))) else None)
 
 -- VERB
 abbrev pub command_bare : List ℕ → Option Command
@@ -97,7 +78,7 @@ command_two verb n l =
     if is_text verb (codes "flits") then Some (Flits (agent_at n) (line_at l)) else (
     if is_text verb (codes "giveback") then Some (GiveBack (agent_at n) (credit_of l)) else (
     if is_text verb (codes "tend") then Some (Tend (agent_at n) (credit_of l)) else
-    (step_of verb >>= λ step. Some (act_at n l step)))))
+    (verb_step verb >>= λ step. Some (act_at n l step)))))
 
 -- VERB N L and what makes it this step
 abbrev pub command_step : List ℕ → List ℕ → Step → Option Command

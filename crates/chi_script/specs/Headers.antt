@@ -36,14 +36,14 @@ types_of (t0 ∷ t1 ∷ t2 ∷ t3 ∷ k ∷ []) = do
 types_of _ = None
 
 -- the sizes that so many numbers write: A L S, and the credit types
-abbrev pub sizes_of : List (List ℕ) → Option Header
-sizes_of (a ∷ l ∷ s ∷ rest) = do
+abbrev pub header_sizes : List (List ℕ) → Option Header
+header_sizes (a ∷ l ∷ s ∷ rest) = do
   agents ← number_of a
   lines ← number_of l
   slices ← number_of s
   types ← types_of rest
   Some (record { agents = agents; lines = lines; slices = slices; entries = types.entries; journal = types.journal; profile = types.profile })
-sizes_of _ = None
+header_sizes _ = None
 
 -- a header within the limits
 abbrev pub header_in_limits : Header → Option Header
@@ -52,7 +52,7 @@ header_in_limits header = if is_in_limits header then Some header else None
 -- node and the sizes
 abbrev pub header_of : List (List ℕ) → Option Header
 header_of [] = None
-header_of (verb ∷ numbers) = if is_text verb (codes "node") then (sizes_of numbers >>= header_in_limits) else None
+header_of (verb ∷ numbers) = if is_text verb (codes "node") then (header_sizes numbers >>= header_in_limits) else None
 
 -- the header that a line is
 abbrev pub line_header : List ℕ → Option Header

@@ -4,7 +4,7 @@ use Rattle.std.specs.Prelude.{ℕ, nat_lt, List, [], ◌∷◌, Option, Some, No
 use Rattle.chi_flit.specs.declared.operation.Task.{Task}
 use Rattle.chi_flit.specs.declared.operation.Task.TheVariants.{Load, Share, Store, WriteBack, WriteClean, WriteEvict, Evict, Drop}
 use Rattle.chi_script.specs.declared.headers.Header.{Header}
-use Rattle.chi_script.specs.Commands.{agent_at, line_at, word_at}
+use Rattle.chi_flit.specs.Numbers.{agent_at, line_at, word_at}
 use Rattle.chi_script.specs.Words.{◌>>=◌, is_text, number_of, words_of}
 use Rattle.chi_script.specs.declared.operations.AgentOperation.{AgentOperation}
 

@@ -5,7 +5,7 @@ ghost use Rattle.chi_script.specs.Faults.{Gives};
 ghost use Rattle.chi_script.specs.Files.{lines_of};
 ghost use Rattle.chi_script.specs.Headers.{is_in_limits};
 ghost use Rattle.chi_script.specs.Checks.{line_of_check};
-ghost use Rattle.chi_script.specs.CheckFiles.{check_file_of, checks_of, check_script_of, with_line};
+ghost use Rattle.chi_script.specs.CheckFiles.{check_file_of, checks_of, check_script_of, with_check_line};
 
 use crate::checks::{Check, check_in, is_comment};
 use crate::faults::Fault;
@@ -101,7 +101,7 @@ fn add_check<'a, A: Allocator>(
     number: usize,
 ) -> Result<(), Fault>
     ensures { Gives (λ _. map line_of_check checks.new.items) result
-        (with_line (map line_of_check checks.old.items) number line.now) }
+        (with_check_line (map line_of_check checks.old.items) number line.now) }
 {
     if is_comment(line) {
         return Ok(());

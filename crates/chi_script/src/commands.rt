@@ -2,7 +2,8 @@
 
 ghost use Rattle.std.specs.Prelude.{◌≡◌, ◌∷◌};
 ghost use Rattle.chi_script.specs.Words.{words_of};
-ghost use Rattle.chi_script.specs.Commands.{command_of, command_bare, command_one, command_two, command_step, act_at, credit_of, step_of, step_with_one, step_with_two, kind_of};
+ghost use Rattle.chi_flit.specs.Numbers.{credit_of};
+ghost use Rattle.chi_script.specs.Commands.{command_of, command_bare, command_one, command_two, command_step, act_at, verb_step, step_with_one, step_with_two, kind_named};
 
 use crate::numbers::{number, small};
 use crate::usual_lines::usual_command;
@@ -202,7 +203,7 @@ pub(crate) fn act(first: u8, second: u8, step: Step) -> Command
 /// The step of `VERB N L`.
 #[tactic(auto, unfolding(crate::specs::Commands::step_of))]
 fn step_of(verb: &[u8]) -> Option<Step>
-    ensures { result ≡ step_of verb.now }
+    ensures { result ≡ verb_step verb.now }
 {
     if is(verb, "drop") {
         Some(Step::Drop)
@@ -260,7 +261,7 @@ fn step_with_two(verb: &[u8], third: &[u8], fourth: &[u8]) -> Option<Step>
 /// The kind of request that the word names.
 #[tactic(auto, unfolding(crate::specs::Commands::kind_of))]
 fn read_kind(word: &[u8]) -> Option<Kind>
-    ensures { result ≡ kind_of word.now }
+    ensures { result ≡ kind_named word.now }
 {
     if is(word, "ReadNotSharedDirty") {
         Some(Kind::ReadNotSharedDirty)

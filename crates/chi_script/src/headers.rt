@@ -4,7 +4,7 @@ ghost use Rattle.std.specs.Prelude.{◌≡◌, IfSome, true};
 ghost use Rattle.std.specs.Option.{option_map};
 ghost use Rattle.chi_script.specs.Words.{texts_of};
 ghost use Rattle.chi_config.specs.Config.{are_entries, is_slice_count};
-ghost use Rattle.chi_script.specs.Headers.{header_of, sizes_of, types_of, is_from, is_in_limits, header_in_limits, header_of_sizes};
+ghost use Rattle.chi_script.specs.Headers.{header_of, header_sizes, types_of, is_from, is_in_limits, header_in_limits, header_of_sizes};
 
 use crate::numbers::number;
 use crate::words::is;
@@ -65,7 +65,7 @@ pub fn read_header(words: &[&[u8]]) -> Option<Header>
 
 /// The sizes that the words write, in the order of a header.
 fn read_sizes(words: &[&[u8]]) -> Option<Sizes>
-    ensures { option_map header_of_sizes result ≡ sizes_of (texts_of words.now) }
+    ensures { option_map header_of_sizes result ≡ header_sizes (texts_of words.now) }
 {
     let [agents, lines, slices, rest @ ..] = words else {
         return None;

@@ -33,20 +33,20 @@ use Rattle.chi_line.proofs.Steps.{step_after}
 use Rattle.chi_slice.specs.Protocol.{SliceStep}
 use Rattle.chi_slice.specs.declared.terms.Terms.{Terms}
 use Rattle.chi_slice.specs.Recorded.{CanAppend, done_record, record_by}
-use Rattle.chi_slice.specs.Slice.{IsBalanced, IsStep, OtherLinesStay, SliceKept, SliceState, slice_after, completes, conditions_under, entry_of, is_in_range, is_slot_used, last_of, line, line_at, range_refusal, log_after, action_refusal, refused_under, row_count, row_of_line, uses}
+use Rattle.chi_slice.specs.Slice.{KeepsSliceFlits, IsStep, OtherLinesStay, SliceKept, SliceState, slice_after, completes, conditions_under, entry_of, is_in_range, is_slot_used, last_of, line, line_in_row, range_refusal, log_after, action_refusal, refused_under, row_count, row_of_line, uses}
 use Rattle.chi_slice.proofs.Refusing.{allowed_alone, conditions_of}
 use Rattle.chi_slice.proofs.Rows.{InRange, in_range, rows_apart}
 use Rattle.chi_slice.proofs.Slices.{FitsLine, kept_with_entry, line_at-with_line, line_at-with_other}
 
 -- a slot that is in use nowhere in the slice isn't in use at the line in a row
-pub unused_at : (s : SliceState) (n : ℕ) (slot : Slot) (row : ℕ) → uses s n slot ≡ false → row < length s.lines → line_uses (line_at s row) n slot ≡ false
-unused_at s n slot row free low = go (line_uses (line_at s row) n slot) refl
+pub unused_at : (s : SliceState) (n : ℕ) (slot : Slot) (row : ℕ) → uses s n slot ≡ false → row < length s.lines → line_uses (line_in_row s row) n slot ≡ false
+unused_at s n slot row free low = go (line_uses (line_in_row s row) n slot) refl
   where
-    go : (b : Bool) → line_uses (line_at s row) n slot ≡ b → line_uses (line_at s row) n slot ≡ false
+    go : (b : Bool) → line_uses (line_in_row s row) n slot ≡ b → line_uses (line_in_row s row) n slot ≡ false
     go true used = absurd (cc (list_any_at (λ l. line_uses l n slot) s.lines row opening_line low used, free))
     go false unused = unused
 
-pub free_at : (s : SliceState) (row n : ℕ) (step : Step) → SliceKept s → row < row_count s.config s.index → is_slot_used s n step ≡ false → names_used_slot (line_at s row) n step ≡ false
+pub free_at : (s : SliceState) (row n : ℕ) (step : Step) → SliceKept s → row < row_count s.config s.index → is_slot_used s n step ≡ false → names_used_slot (line_in_row s row) n step ≡ false
 free_at s row n (steps.Issue kind slot) k low free = unused_at s n slot row free (subst (λ (m : ℕ). row < m) (sym k.rows) low)
 free_at s row n other k low free = refl
 
@@ -126,15 +126,15 @@ pub acted_step : (s : SliceState) (action : Action) → SliceKept s → Allowed 
 acted_step s action k may =
     let inside : InRange s action = in_range s action k may.inside in
     let old : LineState = line s action.line.0 in
-    subst (λ (l : LineState). StepOf s.config.profile old action.agent action.line action.step (effect_of old action) (entry_of s action) l) (sym (line_at-with_line s (row_of_line s action.line.0) (after s.config.profile old action) inside.row k))
+    subst (λ (l : LineState). StepOf s.config.profile old action.agent action.line action.step (effect_of old action) (entry_of s action) l) (sym (line_in_row-with_line s (row_of_line s action.line.0) (after s.config.profile old action) inside.row k))
     (step_after (conditions_of s action) (last_of s action.line.0) old action.agent action.line action.step inside.agent may.by_line (k.lines action.line.0 inside.line))
 
 -- and by its row of the protocol
-pub acted_protocol : (s : SliceState) (action : Action) → SliceKept s → Allowed s action → IsBalanced s action (slice_after s action) → SliceStep s action (effect_of (line s action.line.0) action) (slice_after s action)
+pub acted_protocol : (s : SliceState) (action : Action) → SliceKept s → Allowed s action → KeepsSliceFlits s action (slice_after s action) → SliceStep s action (effect_of (line s action.line.0) action) (slice_after s action)
 acted_protocol s action k may flits =
     let inside : InRange s action = in_range s action k may.inside in
     let old : LineState = line s action.line.0 in
-    let is : line (slice_after s action) action.line.0 ≡ after s.config.profile old action = line_at-with_line s (row_of_line s action.line.0) (after s.config.profile old action) inside.row k in (
+    let is : line (slice_after s action) action.line.0 ≡ after s.config.profile old action = line_in_row-with_line s (row_of_line s action.line.0) (after s.config.profile old action) inside.row k in (
       entry_of s action,
       refl,
       subst (λ (l : LineState). LineStep s.config.profile action.line action.agent action.step (standing_of old) (effect_of old action) (entry_of s action) (standing_of l)) (sym is)
@@ -146,7 +146,7 @@ acted_protocol s action k may flits =
 pub acted_others : (s : SliceState) (action : Action) → SliceKept s → Allowed s action → OtherLinesStay s (slice_after s action) action.line.0
 acted_others s action k may = λ other there apart.
     let inside : InRange s action = in_range s action k may.inside in
-    line_at-with_other s (row_of_line s action.line.0) (row_of_line s other) (after s.config.profile (line s action.line.0) action) (rows_apart s action.line.0 other k inside.line there apart)
+    line_in_row-with_other s (row_of_line s action.line.0) (row_of_line s other) (after s.config.profile (line s action.line.0) action) (rows_apart s action.line.0 other k inside.line there apart)
 
 -- an action whose numbers aren't refused is in range
 pub inside_of : (s : SliceState) (action : Action) → None ≡ range_refusal s action → is_in_range s action ≡ true
@@ -187,7 +187,7 @@ ready {s} {row} {conditions} {at} now terms action k same inside row_is conditio
     (λ inside row_is conditions_is.
     let here : is_in_range s action ≡ true = inside_of s action inside in
     let low : row < length s.lines = omega (arith, (in_range s action k here).row, k.rows, row_is) in
-    record { kept = k; inside = here; row_is = row_is; conditions_is = conditions_is; line_is = get_or_read _ _ _ low read opening_line ∙ ap (line_at s) row_is })
+    record { kept = k; inside = here; row_is = row_is; conditions_is = conditions_is; line_is = get_or_read _ _ _ low read opening_line ∙ ap (line_in_row s) row_is })
     inside row_is conditions_is
 
 -- the line keeps what a line keeps
@@ -237,11 +237,11 @@ changed {s} {terms} {action} {row} {conditions} {at} {at'} {effect} journal' r c
     ∙ ap (λ (log : Log). record s { lines = set s.lines (row_of_line s action.line.0) (after s.config.profile (line s action.line.0) action); journal = log }) (noted ∙ ap (log_after s.journal) (entry_here effect r call.effect_is)))
 
 -- no flit is lost or made
-pub balanced : {s : SliceState} {terms : Terms} {action : Action} {row : ℕ} {conditions : Conditions} {at at' : LineState} {effect : Effect} → Ready s terms action row conditions at → Call conditions action at at' effect → IsBalanced s action (slice_after s action)
+pub balanced : {s : SliceState} {terms : Terms} {action : Action} {row : ℕ} {conditions : Conditions} {at at' : LineState} {effect : Effect} → Ready s terms action row conditions at → Call conditions action at at' effect → KeepsSliceFlits s action (slice_after s action)
 balanced {s} {terms} {action} {row} {conditions} {at} {at'} r call =
     let left : LineState = after s.config.profile (line s action.line.0) action in
     let there : at' ≡ line (slice_after s action) action.line.0 =
-    line_left call.after_is r ∙ sym (line_at-with_line s (row_of_line s action.line.0) left (in_range s action r.kept r.inside).row r.kept) in
+    line_left call.after_is r ∙ sym (line_in_row-with_line s (row_of_line s action.line.0) left (in_range s action r.kept r.inside).row r.kept) in
     subst (λ (x : Conditions). KeepsFlits x.profile (line s action.line.0) action (line (slice_after s action) action.line.0)) r.conditions_is
     (subst (λ (l : LineState). KeepsFlits conditions.profile l action (line (slice_after s action) action.line.0)) r.line_is
     (subst (KeepsFlits conditions.profile at action) there call.flits))

@@ -13,7 +13,7 @@ use Rattle.chi_slice.specs.declared.places.Place.{Place}
 use Rattle.chi_slice.specs.declared.terms.Terms.{Terms}
 use Rattle.chi_slice.specs.Index.{Indexed, moved_in}
 use Rattle.chi_slice.specs.Recorded.{record_by}
-use Rattle.chi_slice.specs.Slice.{IsBalanced, IsStep, OtherLinesStay, SliceKept, SliceState, slice_after, line, moved_by, log_after, refused_under}
+use Rattle.chi_slice.specs.Slice.{KeepsSliceFlits, IsStep, OtherLinesStay, SliceKept, SliceState, slice_after, line, moved_by, log_after, refused_under}
 use Rattle.chi_slice.specs.Protocol.{SliceStep}
 use Rattle.chi_slice.proofs.Acts.{Allowed, Call, Ready, acted_others, acted_protocol, acted_step, allowed_here, balanced, changed, kept_acted, refused_here}
 use Rattle.chi_slice.proofs.Follows.{followed_by, index_after, indexed_acted}
@@ -24,7 +24,7 @@ pub record Ended (old : SliceState) (terms : Terms) (action : Action) (effect : 
   pub indexed : Indexed new places
   pub refusal : None ≡ refused_under terms old action
   pub step : IsStep old action effect new
-  pub flits : IsBalanced old action new
+  pub flits : KeepsSliceFlits old action new
   pub protocol : SliceStep old action effect new
   pub others : OtherLinesStay old new action.line.0
   pub effect_is : effect ≡ effect_of (line old action.line.0) action
@@ -55,7 +55,7 @@ end_of {s} {terms} {action} {row} {conditions} {at} {at'} {effect} {slot} {to} p
       indexed = subst (λ (v : SliceState). Indexed v places') (sym new) (subst (Indexed (slice_after s action)) (sym places_are) (indexed_acted s places action r.kept i may));
       refusal = call.refusal ∙ refused_here r;
       step = subst (λ (e : Effect). IsStep s action e (record s { lines = set s.lines row at'; journal = journal' })) (sym effect_is) (subst (λ (v : SliceState). IsStep s action (effect_of (line s action.line.0) action) v) (sym new) (acted_step s action r.kept may));
-      flits = subst (λ (v : SliceState). IsBalanced s action v) (sym new) (balanced r call);
+      flits = subst (λ (v : SliceState). KeepsSliceFlits s action v) (sym new) (balanced r call);
       protocol = subst (λ (e : Effect). SliceStep s action e (record s { lines = set s.lines row at'; journal = journal' })) (sym effect_is) (subst (λ (v : SliceState). SliceStep s action (effect_of (line s action.line.0) action) v) (sym new) (acted_protocol s action r.kept may (balanced r call)));
       others = subst (λ (v : SliceState). OtherLinesStay s v action.line.0) (sym new) (acted_others s action r.kept may);
       effect_is = effect_is;

@@ -2,7 +2,7 @@
 use Rattle.std.proofs.Common.{◌≡◌, ℕ, ◌<◌, Bool, true, false, Some, None, length, get_or, refl, ◌∙◌, ap, subst, if◌then◌else◌, arith}
 use Rattle.std.proofs.lemmas.List.{get_or_read}
 use Rattle.chi_line.specs.LineState.{LineState, opening_line}
-use Rattle.chi_slice.specs.Slice.{SliceKept, SliceState, is_line_in_range, line, line_at, row_of_line}
+use Rattle.chi_slice.specs.Slice.{SliceKept, SliceState, is_line_in_range, line, line_in_row, row_of_line}
 use Rattle.chi_slice.proofs.Rows.{row_in_slice}
 
 -- the row of a line that is in the slice
@@ -20,7 +20,7 @@ is_row s l row h = go (is_line_in_range s l) refl h
 pub line_read : {at : LineState} (s : SliceState) (l row : ℕ) → SliceKept s → IsRow s l row → at ≡ get_or s.lines row at → at ≡ line s l
 line_read {at} s l row k r read =
     let low : row < length s.lines = omega (arith, row_in_slice s l k r.here, k.rows, r.row_is) in
-    get_or_read _ _ _ low read opening_line ∙ ap (line_at s) r.row_is
+    get_or_read _ _ _ low read opening_line ∙ ap (line_in_row s) r.row_is
 
 -- in the slice as it is now
 pub line_now : {at : LineState} (now s : SliceState) (l row : ℕ) → SliceKept s → s ≡ now → IsRow now l row → at ≡ get_or s.lines row at → at ≡ line now l

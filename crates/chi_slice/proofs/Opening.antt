@@ -6,7 +6,7 @@ use Rattle.chi_line.specs.LineState.{LineState, opening_line}
 use Rattle.chi_line.specs.Meaning.{standing_of}
 use Rattle.chi_line.proofs.OpeningLine.{opening_is}
 use Rattle.chi_slice.specs.Protocol.{IsOpening}
-use Rattle.chi_slice.specs.Slice.{opening_slice, row_count, slice_of}
+use Rattle.chi_slice.specs.Slice.{opening_slice, row_count, slice_with}
 use Rattle.chi_slice.proofs.Slices.{opening_at}
 
 opens : (config : Sizes) (index : ℕ) → are_in_limits config ≡ true → index < config.slices → IsOpening (opening_slice config index)
@@ -16,7 +16,7 @@ opens config index limits inside = record {
 }
 
 pub opens_with : (config : Sizes) (index : ℕ) (lines : List LineState) (journal : Log) → are_in_limits config ≡ true → index < config.slices
-    → lines ≡ replicate (row_count config index) opening_line → journal ≡ opening_log config.lines config.journal → IsOpening (slice_of config index lines journal)
+    → lines ≡ replicate (row_count config index) opening_line → journal ≡ opening_log config.lines config.journal → IsOpening (slice_with config index lines journal)
 opens_with config index lines journal limits inside ls j =
-    subst (λ (xs : List LineState). IsOpening (slice_of config index xs journal)) (sym ls)
+    subst (λ (xs : List LineState). IsOpening (slice_with config index xs journal)) (sym ls)
     (subst (λ (log : Log). IsOpening (record (opening_slice config index) { journal = log })) (sym j) (opens config index limits inside))

@@ -14,7 +14,7 @@ use Rattle.chi_journal.specs.Journal.{is_full}
 use Rattle.chi_rnline.specs.Rn.{resend_refusal}
 use Rattle.chi_line.specs.declared.act.Conditions.{Conditions}
 use Rattle.chi_line.specs.LineState.{LineState, rn_of}
-use Rattle.chi_line.specs.Refused.{credit_refusal, line_refusal, step_refusal}
+use Rattle.chi_line.specs.Refused.{marked_credit_refusal, line_refusal, step_refusal}
 use Rattle.chi_line.specs.Types.{pending_credit}
 use Rattle.chi_slice.specs.declared.terms.Terms.{Terms}
 use Rattle.chi_slice.specs.Slice.{SliceState, conditions_under, no_terms, is_in_range, is_slot_used, line, action_refusal, refused_under}
@@ -27,7 +27,7 @@ abbrev conditions : Bool → List Bool → Bool → Profile → Conditions
 conditions used credits full profile = record { slot_used = used; journal_full = full; credits = credits; profile = profile }
 
 -- with a credit of each type none is lacking
-all_credits : (ty : Option CreditType) → credit_refusal (replicate 4 true) ty ≡ None
+all_credits : (ty : Option CreditType) → marked_credit_refusal (replicate 4 true) ty ≡ None
 all_credits None = refl
 all_credits (Some types.T0) = refl
 all_credits (Some types.T1) = refl
@@ -41,7 +41,7 @@ issue_alone true false other may = may
 issue_alone false true other may = absurd (cc (may))
 issue_alone false false other may = may
 
-resend_alone : (first : Option Refusal) (credits : List Bool) (ty : Option CreditType) → option_or first (credit_refusal credits ty) ≡ None → option_or first (credit_refusal (replicate 4 true) ty) ≡ None
+resend_alone : (first : Option Refusal) (credits : List Bool) (ty : Option CreditType) → option_or first (marked_credit_refusal credits ty) ≡ None → option_or first (marked_credit_refusal (replicate 4 true) ty) ≡ None
 resend_alone None credits ty may = all_credits ty
 resend_alone (Some refusal) credits ty may = may
 

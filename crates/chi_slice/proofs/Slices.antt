@@ -12,13 +12,13 @@ use Rattle.chi_journal.specs.declared.record.Record.TheVariants.{Load, Store}
 use Rattle.chi_journal.specs.Record.{record_line}
 use Rattle.chi_journal.specs.Journal.{IsLegal, IsLegalAfter, Log, last_words, opening_log, words_after}
 use Rattle.chi_journal.proofs.Append.{last_words_with, legal_with}
-use Rattle.chi_slice.specs.Slice.{SliceKept, SliceState, is_line_in_range, last_of, line, line_at, opening_slice, log_after, row_count, row_of_line, slice_of, with_line}
+use Rattle.chi_slice.specs.Slice.{SliceKept, SliceState, is_line_in_range, last_of, line, line_in_row, opening_slice, log_after, row_count, row_of_line, slice_with, with_line}
 use Rattle.chi_line.proofs.After.{last_with}
 use Rattle.chi_line.proofs.Opening.{opening_kept}
 use Rattle.chi_slice.proofs.Rows.{row_in_range, rows_apart}
 
 -- each line of an opening slice is in the opening state
-pub opening_row : (config : Sizes) (index row : ℕ) → row < row_count config index → line_at (opening_slice config index) row ≡ opening_line
+pub opening_row : (config : Sizes) (index row : ℕ) → row < row_count config index → line_in_row (opening_slice config index) row ≡ opening_line
 opening_row config index row low = get_or-replicate (row_count config index) row opening_line opening_line low
 
 pub opening_at : (config : Sizes) (index l : ℕ) → are_in_limits config ≡ true → index < config.slices → is_line_in_range (opening_slice config index) l ≡ true → line (opening_slice config index) l ≡ opening_line
@@ -37,18 +37,18 @@ opening_of config index limits inside = record {
 
 -- the opening state of a slice
 pub opening_slice_kept : (config : Sizes) (index : ℕ) (lines : List LineState) (journal : Log) → are_in_limits config ≡ true → index < config.slices
-    → lines ≡ replicate (row_count config index) opening_line → journal ≡ opening_log config.lines config.journal → SliceKept (slice_of config index lines journal)
+    → lines ≡ replicate (row_count config index) opening_line → journal ≡ opening_log config.lines config.journal → SliceKept (slice_with config index lines journal)
 opening_slice_kept config index lines journal limits inside ls j =
-    subst (λ (xs : List LineState). SliceKept (slice_of config index xs journal)) (sym ls)
+    subst (λ (xs : List LineState). SliceKept (slice_with config index xs journal)) (sym ls)
     (subst (λ (log : Log). SliceKept (record (opening_slice config index) { journal = log })) (sym j) (opening_of config index limits inside))
 
 -- the line that was put into a row
-pub line_at-with_line : (s : SliceState) (row : ℕ) (new : LineState) → row < row_count s.config s.index → SliceKept s → line_at (with_line s row new) row ≡ new
-line_at-with_line s row new low k = get_or-set_same s.lines row new opening_line (subst (λ (n : ℕ). row < n) (sym k.rows) low)
+pub line_in_row-with_line : (s : SliceState) (row : ℕ) (new : LineState) → row < row_count s.config s.index → SliceKept s → line_in_row (with_line s row new) row ≡ new
+line_in_row-with_line s row new low k = get_or-set_same s.lines row new opening_line (subst (λ (n : ℕ). row < n) (sym k.rows) low)
 
 -- the other lines
-pub line_at-with_other : (s : SliceState) (row other : ℕ) (new : LineState) → other ≢ row → line_at (with_line s row new) other ≡ line_at s other
-line_at-with_other s row other new apart = get_or-set_other s.lines row other new opening_line apart
+pub line_in_row-with_other : (s : SliceState) (row other : ℕ) (new : LineState) → other ≢ row → line_in_row (with_line s row new) other ≡ line_in_row s other
+line_in_row-with_other s row other new apart = get_or-set_other s.lines row other new opening_line apart
 
 -- what holds of the line that was put, and of the others as they were, holds of all lines
 pub all_with : (s : SliceState) (l : ℕ) (new : LineState) (P : ℕ → LineState → Type 0) → SliceKept s → is_line_in_range s l ≡ true → P l new → ((other : ℕ) → is_line_in_range s other ≡ true → other ≢ l → P other (line s other))
@@ -56,10 +56,10 @@ pub all_with : (s : SliceState) (l : ℕ) (new : LineState) (P : ℕ → LineSta
 all_with s l new P k here put stay other there = go (other == l) refl
   where
     go : (b : Bool) → (other == l) ≡ b → P other (line (with_line s (row_of_line s l) new) other)
-    go true same = subst (λ (m : ℕ). P m (line (with_line s (row_of_line s l) new) m)) (sym (eqb-true other l same)) (subst (P l) (sym (line_at-with_line s (row_of_line s l) new (row_in_range s l k.config k.index here) k)) put)
+    go true same = subst (λ (m : ℕ). P m (line (with_line s (row_of_line s l) new) m)) (sym (eqb-true other l same)) (subst (P l) (sym (line_in_row-with_line s (row_of_line s l) new (row_in_range s l k.config k.index here) k)) put)
     go false other_line =
         let apart : other ≢ l = eqb-false other l other_line in
-        subst (P other) (sym (line_at-with_other s (row_of_line s l) (row_of_line s other) new (rows_apart s l other k here there apart))) (stay other there apart)
+        subst (P other) (sym (line_in_row-with_other s (row_of_line s l) (row_of_line s other) new (rows_apart s l other k here there apart))) (stay other there apart)
 
 -- a record of another line leaves the values last stored to a line
 words_elsewhere : (l : ℕ) (words : List ℕ) (entry : Record) → ((record_line entry).0 == l) ≡ false → words_after l words entry ≡ words

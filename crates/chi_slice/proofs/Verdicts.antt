@@ -12,7 +12,7 @@ use Rattle.chi_line.specs.Clean.{CoherentParts, IsCleanAgent}
 use Rattle.chi_line.specs.LineState.{LineState, cells_of, rn_of}
 use Rattle.chi_line.specs.declared.view.LineView.{LineView}
 use Rattle.chi_filter.specs.Filter.{is_named}
-use Rattle.chi_slice.specs.Verdict.{IsBacked, IsCoherentView, IsPassed, MayStandBeside, copy_of, flits_of, state_in}
+use Rattle.chi_slice.specs.Verdict.{IsBacked, IsCoherentView, IsPassed, MayStandBeside, copy_of, view_flits, state_in}
 use Rattle.chi_slice.proofs.Below.{AllBelow, next_below}
 
 -- what belongs to each agent of a line
@@ -27,7 +27,7 @@ agents_in view = record {
   state = λ n. (copy_of view n).state;
   named = λ n. get_or view.named n false;
   words = λ n. (copy_of view n).words;
-  sent = λ n. (flits_of view n).dat_up;
+  sent = λ n. (view_flits view n).dat_up;
 }
 
 abbrev pub agents_of : LineState → Agents

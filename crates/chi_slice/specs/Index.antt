@@ -14,7 +14,7 @@ use Rattle.chi_line.specs.LineState.{LineState}
 use Rattle.chi_line.specs.Step.{line_uses}
 use Rattle.chi_journal.specs.Journal.{Log}
 use Rattle.chi_config.specs.Config.{Sizes}
-use Rattle.chi_slice.specs.Slice.{SliceKept, SliceState, is_line_in_range, line, slice_of}
+use Rattle.chi_slice.specs.Slice.{SliceKept, SliceState, is_line_in_range, line, slice_with}
 use Rattle.chi_line.specs.Types.{is_of_type}
 use Rattle.chi_line.specs.Places.{where_at}
 
@@ -82,8 +82,8 @@ pub record Indexed (s : SliceState) (places : List (Option Place)) : Type 0 wher
   pub in_range : (n : ℕ) (slot : Slot) → n < 8 → slot.0 < 8 → IsInside s (place_of places n slot)
 
 -- what a slice of these parts keeps, with its index
-abbrev pub IsKept : Sizes → ℕ → List LineState → Log → List (Option Place) → Type 0
-IsKept config index lines journal places = SliceKept (slice_of config index lines journal) × Indexed (slice_of config index lines journal) places
+abbrev pub IsSliceIndexed : Sizes → ℕ → List LineState → Log → List (Option Place) → Type 0
+IsSliceIndexed config index lines journal places = SliceKept (slice_with config index lines journal) × Indexed (slice_with config index lines journal) places
 
 -- an index where a slot, if there is one, has another place on a line, or none
 abbrev pub moved_in : List (Option Place) → ℕ → Line → Option Slot → Option Where → List (Option Place)

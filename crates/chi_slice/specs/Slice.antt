@@ -31,8 +31,8 @@ pub record SliceState : Type 0 where
   pub journal : Log
 
 -- the slice of these parts
-abbrev pub slice_of : Sizes → ℕ → List LineState → Log → SliceState
-slice_of config index lines journal = record { config = config; index = index; lines = lines; journal = journal }
+abbrev pub slice_with : Sizes → ℕ → List LineState → Log → SliceState
+slice_with config index lines journal = record { config = config; index = index; lines = lines; journal = journal }
 
 -- how many of the node's lines are in a slice
 abbrev pub row_count : Sizes → ℕ → ℕ
@@ -40,11 +40,11 @@ row_count config index = (config.lines - 1 - index) / config.slices + 1
 
 -- a slice in the opening state
 abbrev pub opening_slice : Sizes → ℕ → SliceState
-opening_slice config index = slice_of config index (replicate (row_count config index) opening_line) (opening_log config.lines config.journal)
+opening_slice config index = slice_with config index (replicate (row_count config index) opening_line) (opening_log config.lines config.journal)
 
 -- the line in a row
-abbrev pub line_at : SliceState → ℕ → LineState
-line_at s row = slice_index_or s.lines row opening_line
+abbrev pub line_in_row : SliceState → ℕ → LineState
+line_in_row s row = slice_index_or s.lines row opening_line
 
 -- the row of a line
 abbrev pub row_of_line : SliceState → ℕ → ℕ
@@ -52,7 +52,7 @@ row_of_line s l = l / s.config.slices
 
 -- the line l
 abbrev pub line : SliceState → ℕ → LineState
-line s l = line_at s (row_of_line s l)
+line s l = line_in_row s (row_of_line s l)
 
 -- whether an agent's slot is in use at any line of the slice
 abbrev pub uses : SliceState → ℕ → Slot → Bool
@@ -145,8 +145,8 @@ IsStep old action effect new =
 
 -- of the representation: no flit of its line is lost or made by an action: those in flight then, with the one that it takes, are those
 -- before, with those that it sends
-abbrev pub IsBalanced : SliceState → Action → SliceState → Type 0
-IsBalanced old action new = KeepsFlits old.config.profile (line old action.line.0) action (line new action.line.0)
+abbrev pub KeepsSliceFlits : SliceState → Action → SliceState → Type 0
+KeepsSliceFlits old action new = KeepsFlits old.config.profile (line old action.line.0) action (line new action.line.0)
 
 -- all lines of a slice but one are as before
 abbrev pub OtherLinesStay : SliceState → SliceState → ℕ → Type 0

@@ -21,8 +21,8 @@ no_copy = record { state = I; words = [] }
 abbrev pub copy_of : LineView → ℕ → CopyView
 copy_of view n = slice_index_or view.copies n no_copy
 
-abbrev pub flits_of : LineView → ℕ → Cells
-flits_of view n = slice_index_or view.flits n no_flits
+abbrev pub view_flits : LineView → ℕ → Cells
+view_flits view n = slice_index_or view.flits n no_flits
 
 -- beside a unique copy another agent has none, and two agents aren't both SD
 pub record MayStandBeside (state other : State) : Type 0 where
@@ -58,7 +58,7 @@ pub record IsAgentCoherent (view : LineView) (n : ℕ) : Type 0 where
 
 -- no copy is UD or SD, and no _PD form is in flight
 abbrev pub IsQuiet : LineView → Type 0
-IsQuiet view = (n : ℕ) → n < 8 → IsCleanAgent (copy_of view n).state (flits_of view n).dat_up
+IsQuiet view = (n : ℕ) → n < 8 → IsCleanAgent (copy_of view n).state (view_flits view n).dat_up
 
 pub record IsCoherentView (view : LineView) : Type 0 where
   pub agents : (n : ℕ) → n < 8 → IsAgentCoherent view n

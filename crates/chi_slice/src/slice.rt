@@ -16,7 +16,7 @@ ghost use Rattle.chi_config.specs.Config.{are_in_limits};
 ghost use Rattle.chi_slice.specs.Index.{HasType, IsInside, IsShown, SlotsInRange, is_slot_of, typed_at};
 ghost use Rattle.chi_slice.specs.Protocol.{IsEnabled, IsOpening, SliceStep, refused};
 ghost use Rattle.chi_slice.specs.Run.{IsRun};
-ghost use Rattle.chi_slice.specs.Slice.{CanAct, IsBalanced, IsRow, IsStep, OtherLinesStay, SliceKept, slice_after, action_in, are_in_range, completes, conditions_under, entry_of, flits_refusal, is_in_range, is_line_in_range, is_slot_used, last_of, line as line_of_slice, moved_by, no_terms, opening_slice, range_refusal, log_after, action_refusal, refused_under, row_count, row_of_line, run_after, run_done, uses, view_refusal};
+ghost use Rattle.chi_slice.specs.Slice.{CanAct, KeepsSliceFlits, IsRow, IsStep, OtherLinesStay, SliceKept, slice_after, action_in, are_in_range, completes, conditions_under, entry_of, flits_refusal, is_in_range, is_line_in_range, is_slot_used, last_of, line as line_of_slice, moved_by, no_terms, opening_slice, range_refusal, log_after, action_refusal, refused_under, row_count, row_of_line, run_after, run_done, uses, view_refusal};
 ghost use Rattle.chi_slice.specs.Table.{IsByTable};
 
 use crate::agent_line::{AgentLine, AgentRow};
@@ -39,20 +39,20 @@ use std::marker::Model;
 pub struct Slice<A: Allocator> {
     config: Config,
     index: u8,
-    lines: Vec<chi_line::Line, A>,
+    lines: Vec<chi_line::CoherentLine, A>,
     journal: Journal<A>,
     places: Places,
 }
 
 impl<A: Allocator> Model for Slice<A> {
-    ghost use Rattle.chi_slice.specs.Slice.{SliceState, slice_of};
-    ghost use Rattle.chi_slice.specs.Index.{IsKept};
+    ghost use Rattle.chi_slice.specs.Slice.{SliceState, slice_with};
+    ghost use Rattle.chi_slice.specs.Index.{IsSliceIndexed};
 
     ghost Value = { SliceState };
 
-    ghost view = { λ s. slice_of s.config s.index s.lines.items s.journal };
+    ghost view = { λ s. slice_with s.config s.index s.lines.items s.journal };
 
-    ghost invariant = { λ s. IsKept s.config s.index s.lines.items s.journal s.places };
+    ghost invariant = { λ s. IsSliceIndexed s.config s.index s.lines.items s.journal s.places };
 }
 
 /// Where an action is done: the row of its line, and what it needs to know of the slice beside the line.
@@ -63,12 +63,15 @@ struct Site {
 }
 
 /// So many lines in the opening state.
-fn opening_lines<A: Allocator>(alloc: A, rows: u8) -> Result<Vec<chi_line::Line, A>, NoMemory>
+fn opening_lines<A: Allocator>(
+    alloc: A,
+    rows: u8,
+) -> Result<Vec<chi_line::CoherentLine, A>, NoMemory>
     ensures { IfOk result (λ lines. lines.items ≡ replicate rows opening_line) }
 {
     let mut lines = Vec::with_capacity(alloc, usize::from(rows))?;
     for _ in 0..rows {
-        lines.push(chi_line::Line::new())?;
+        lines.push(chi_line::CoherentLine::new())?;
     }
     Ok(lines)
 }
@@ -197,7 +200,7 @@ impl<A: Allocator> Slice<A> {
         ensures step { IfOk result (λ effect. IsStep self.old action effect self.new) }
         ensures journal { OnOk result
             (self.new.journal ≡ log_after self.old.journal (entry_of self.old action)) }
-        ensures flits { OnOk result (IsBalanced self.old action self.new) }
+        ensures flits { OnOk result (KeepsSliceFlits self.old action self.new) }
         ensures others { OnOk result (OtherLinesStay self.old self.new action.line.0) }
         ensures effect { IfOk result
             (λ effect. effect ≡ effect_of (line_of_slice self.old action.line.0) action) }
@@ -223,7 +226,7 @@ impl<A: Allocator> Slice<A> {
         ensures protocol { IfOk result (λ done. SliceStep self.old action done.effect self.new) }
         ensures journal { OnOk result
             (self.new.journal ≡ log_after self.old.journal (entry_of self.old action)) }
-        ensures flits { OnOk result (IsBalanced self.old action self.new) }
+        ensures flits { OnOk result (KeepsSliceFlits self.old action self.new) }
         ensures others { OnOk result (OtherLinesStay self.old self.new action.line.0) }
         ensures effect { IfOk result
             (λ done. done.effect ≡ effect_of (line_of_slice self.old action.line.0) action) }
@@ -293,7 +296,7 @@ impl<A: Allocator> Slice<A> {
             (λ done. SliceStep self.old (action_in at step) done.effect self.new) }
         ensures journal { OnOk result
             (self.new.journal ≡ log_after self.old.journal (entry_of self.old (action_in at step))) }
-        ensures flits { OnOk result (IsBalanced self.old (action_in at step) self.new) }
+        ensures flits { OnOk result (KeepsSliceFlits self.old (action_in at step) self.new) }
         ensures others { OnOk result (OtherLinesStay self.old self.new at.line.0) }
         ensures effect { IfOk result (λ done. done.effect
             ≡ effect_of (line_of_slice self.old at.line.0) (action_in at step)) }
@@ -364,7 +367,7 @@ impl<A: Allocator> Slice<A> {
     }
 
     /// The line, where it is in this slice.
-    pub(crate) fn line(&self, line: Line) -> Option<&chi_line::Line>
+    pub(crate) fn line(&self, line: Line) -> Option<&chi_line::CoherentLine>
         ensures inside { is_some result ≡ is_line_in_range self.now line.0 }
         ensures line { IfSome result (λ at. at.now ≡ line_of_slice self.now line.0) }
         ensures kept { SliceKept self.now }
@@ -376,7 +379,7 @@ impl<A: Allocator> Slice<A> {
 
     /// The line, where it is in this slice and the agent in the node; refused 10 (OutOfRange) exactly where
     /// not.
-    fn line_for(&self, agent: Agent, line: Line) -> Result<&chi_line::Line, Refusal>
+    fn line_for(&self, agent: Agent, line: Line) -> Result<&chi_line::CoherentLine, Refusal>
         ensures line { IfOk result (λ at. at.now ≡ line_of_slice self.now line.0) }
         ensures agent { OnOk result (agent.0 < 8) }
         ensures refusal { refusal_of result ≡ flits_refusal self.now agent.0 line.0 }

@@ -5,7 +5,7 @@ ghost use Rattle.chi_line.specs.Clean.{CoherentParts, IsCleanAgent, passes_dirty
 ghost use Rattle.chi_slice.specs.Verdict.{IsBacked, IsCoherentView, IsPassed, IsVerdictOnShown, MayOthersStand, MayStandBeside, MayStandTogether, state_in};
 
 use chi_flit::{Agent, DatUp, Data, State};
-use chi_line::LineView;
+use chi_line::CoherentLineView;
 
 /// Whether the plain data of a line is coherent: a unique copy stands alone, each holder is named and has
 /// the values that were stored last, memory has them where nothing is dirty, and one copy at most is SD.
@@ -34,7 +34,7 @@ fn is_coherent(view: &LineView) -> bool
 }
 
 /// Whether a line is coherent, where it lies; last are the values last stored to its words.
-pub fn is_line_coherent(line: &chi_line::Line, last: Data) -> bool
+pub fn is_line_coherent(line: &chi_line::CoherentLine, last: Data) -> bool
     ensures { IsTrue result ↔ CoherentParts last line.now }
 {
     let home = line.home();

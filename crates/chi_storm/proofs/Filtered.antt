@@ -4,7 +4,7 @@ use Rattle.std.proofs.lemmas.List.{length-map, take-append-drop}
 use Rattle.std.proofs.lemmas.List.Elements.{filter-append}
 use Rattle.std.proofs.lemmas.List.Filters.{length-filter_more}
 use Rattle.chi_script.specs.declared.operations.AgentOperation.{AgentOperation}
-use Rattle.chi_storm.specs.Scripts.{deeds_of, script_of}
+use Rattle.chi_storm.specs.Scripts.{deeds_of, agent_script}
 
 -- one more is the agent's, or not
 next_count : (agent n : ℕ) (deeds : List AgentOperation) (d : AgentOperation) (own : Bool) → n < length deeds → ((get_or deeds n d).agent.0 == agent) ≡ own
@@ -21,7 +21,7 @@ at_most agent n deeds =
 
 -- so there is room for one more
 pub has_room : (agent n : ℕ) (deeds : List AgentOperation) (d : AgentOperation) → n < length deeds → ((get_or deeds n d).agent.0 == agent) ≡ true
-    → length (script_of agent (take n deeds)) < length (deeds_of agent deeds)
+    → length (agent_script agent (take n deeds)) < length (deeds_of agent deeds)
 has_room agent n deeds d low test =
     let more = next_count agent n deeds d true low test in
     omega (arith, more, at_most agent (n + 1) deeds, length-map (deeds_of agent (take n deeds)) (λ (o : AgentOperation). o.operation))

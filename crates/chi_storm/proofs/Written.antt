@@ -8,16 +8,16 @@ use Rattle.chi_script.specs.declared.operations.AgentOperation.{AgentOperation}
 use Rattle.atomic_table.specs.Seated.{TableId}
 use Rattle.chi_audit.specs.Numbers.{numbers}
 use Rattle.chi_audit.specs.Tallies.{IsFresh, WriterState}
-use Rattle.chi_storm.specs.Scripts.{script_of, scripts_below}
+use Rattle.chi_storm.specs.Scripts.{agent_script, scripts_below}
 
-pub next_scripts : {S : Type 0} (op : S → List Operation) (deeds : List AgentOperation) (n : ℕ) (xs ys : List S) (x : S) → map op xs ≡ scripts_below n deeds → ys ≡ xs ++ x ∷ [] → op x ≡ script_of n deeds
-    → map op ys ≡ scripts_below n deeds ++ script_of n deeds ∷ []
+pub next_scripts : {S : Type 0} (op : S → List Operation) (deeds : List AgentOperation) (n : ℕ) (xs ys : List S) (x : S) → map op xs ≡ scripts_below n deeds → ys ≡ xs ++ x ∷ [] → op x ≡ agent_script n deeds
+    → map op ys ≡ scripts_below n deeds ++ agent_script n deeds ∷ []
 next_scripts op deeds n xs ys x so_far push is = ap (map op) push ∙ (map-append op xs (x ∷ []) ∙ (ap (λ (os : List (List Operation)). os ++ op x ∷ []) so_far ∙ ap (λ (o : List Operation). scripts_below n deeds ++ o ∷ []) is))
 
-pub one_below : (n : ℕ) (deeds : List AgentOperation) → scripts_below n deeds ++ script_of n deeds ∷ [] ≡ scripts_below (n + 1) deeds
+pub one_below : (n : ℕ) (deeds : List AgentOperation) → scripts_below n deeds ++ agent_script n deeds ∷ [] ≡ scripts_below (n + 1) deeds
 one_below n deeds =
     let more : suc n ≡ n + 1 = omega arith in
-    sym (map-append (λ (agent : ℕ). script_of agent deeds) (numbers n) (n ∷ [])) ∙ ap (λ (m : ℕ). scripts_below m deeds) more
+    sym (map-append (λ (agent : ℕ). agent_script agent deeds) (numbers n) (n ∷ [])) ∙ ap (λ (m : ℕ). scripts_below m deeds) more
 
 pub next_fresh : {S : Type 0} (writer : S → WriterState) (cells : List TableId) (xs ys : List S) (x : S) → All (λ s. IsFresh cells (writer s)) xs → ys ≡ xs ++ x ∷ [] → IsFresh cells (writer x)
     → All (λ s. IsFresh cells (writer s)) ys

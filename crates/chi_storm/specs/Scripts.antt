@@ -10,9 +10,9 @@ abbrev pub deeds_of : ℕ → List AgentOperation → List AgentOperation
 deeds_of agent deeds = filter (λ (deed : AgentOperation). deed.agent.0 == agent) deeds
 
 -- what is to be done in them
-abbrev pub script_of : ℕ → List AgentOperation → List Operation
-script_of agent deeds = map (λ (deed : AgentOperation). deed.operation) (deeds_of agent deeds)
+abbrev pub agent_script : ℕ → List AgentOperation → List Operation
+agent_script agent deeds = map (λ (deed : AgentOperation). deed.operation) (deeds_of agent deeds)
 
 -- those of the agents below n, in rising order
 abbrev pub scripts_below : ℕ → List AgentOperation → List (List Operation)
-scripts_below n deeds = map (λ agent. script_of agent deeds) (numbers n)
+scripts_below n deeds = map (λ agent. agent_script agent deeds) (numbers n)

@@ -59,8 +59,8 @@ abbrev pub WritesOutcome : Option (List ℕ) → ℕ → ℕ → Option (List �
 WritesOutcome input seed turns old new all = IfSome input (λ file. IsWritten file seed turns all old new)
 
 -- of that file: a beginning of them was written
-abbrev pub WritesFront : Option (List ℕ) → ℕ → ℕ → Option (List ℕ) → Option (List ℕ) → Type 0
-WritesFront input seed turns old new = IfSome input (λ file. (o : Outcome) × IsStormOf file seed turns o × AppendsFront old new (outcome_text o))
+abbrev pub WritesStormFront : Option (List ℕ) → ℕ → ℕ → Option (List ℕ) → Option (List ℕ) → Type 0
+WritesStormFront input seed turns old new = IfSome input (λ file. (o : Outcome) × IsStormOf file seed turns o × AppendsFront old new (outcome_text o))
 
 -- why an outcome wasn't written: the output failed, and counted it, and a beginning was written; or memory ran
 -- out, and nothing was

@@ -1,9 +1,9 @@
 //! The script of each agent, out of the operations of a file.
 
 ghost use Rattle.std.specs.Prelude.{◌≡◌, ◌==◌, All, IfOk, length, map, vec_capacity, vec_len};
-ghost use Rattle.chi_audit.specs.Tallies.{agent_of, IsFresh};
+ghost use Rattle.chi_audit.specs.Tallies.{writer_agent, IsFresh};
 ghost use Rattle.chi_agent.specs.Script.{operations_of, writer_of, AreFresh};
-ghost use Rattle.chi_storm.specs.Scripts.{deeds_of, script_of, scripts_below};
+ghost use Rattle.chi_storm.specs.Scripts.{deeds_of, agent_script, scripts_below};
 
 use chi_agent::Script;
 use chi_audit::{Tallies, Writer};
@@ -34,12 +34,12 @@ fn count_of(deeds: &[AgentOperation], agent: u8) -> usize
 /// The script of the agent: its operations, in the order of the file. The list has room for no more.
 /// Refused where memory runs out.
 /// Source: `docs/FORMATS.md`, "Storm files".
-pub fn script_of<A: Allocator>(
+pub fn agent_script<A: Allocator>(
     alloc: A,
     deeds: &[AgentOperation],
     agent: u8,
 ) -> Result<Vec<Operation, A>, AllocError>
-    ensures script { IfOk result (λ script. script.items ≡ script_of agent deeds.now) }
+    ensures script { IfOk result (λ script. script.items ≡ agent_script agent deeds.now) }
     ensures room { IfOk result (λ script. vec_capacity script ≡ length script.items) }
 {
     let mut script = Vec::with_capacity(alloc, count_of(deeds, agent))?;
@@ -62,7 +62,7 @@ pub(crate) fn scripts_of(
 ) -> Result<Vec<Script<Global>>, NoMemory>
     requires fresh { All (IsFresh tallies.now) writers.items }
     requires count { length writers.items ≡ agents }
-    ensures writers { IfOk result (λ scripts. map writer_of scripts.items ≡ map agent_of writers.items) }
+    ensures writers { IfOk result (λ scripts. map writer_of scripts.items ≡ map writer_agent writers.items) }
     ensures scripts { IfOk result
         (λ scripts. operations_of scripts.items ≡ scripts_below agents deeds.now) }
     ensures fresh { IfOk result (λ scripts. AreFresh tallies.now scripts.items) }

@@ -7,7 +7,7 @@ ghost use Rattle.chi_script.specs.declared.faults.Fault.{Fault};
 ghost use Rattle.chi_script.specs.Storms.{storm_of};
 ghost use Rattle.chi_replay.specs.Replays.{AtWrite, KeepsAtFault, NoText, NoTextAt, RefusesFault};
 ghost use Rattle.chi_storm.specs.Outcomes.{outcome_text};
-ghost use Rattle.chi_storm.specs.Storms.{ComesOf, IsStormOf, NotTold, WritesFront, WritesOutcome};
+ghost use Rattle.chi_storm.specs.Storms.{ComesOf, IsStormOf, NotTold, WritesStormFront, WritesOutcome};
 
 use crate::outcome::Outcome;
 use crate::scripts::scripts_of;
@@ -127,7 +127,7 @@ pub fn storm<R: Threads + Wait + Clock + Sync, I: Input, O: Output>(
         (WritesOutcome (I.left input.old) seed turns (O.written output.old) (O.written output.new)) }
     ensures write { AtWrite result (O.failures output.new ≡ O.failures output.old + 1) }
     ensures front { AtWrite result
-        (WritesFront (I.left input.old) seed turns (O.written output.old) (O.written output.new)) }
+        (WritesStormFront (I.left input.old) seed turns (O.written output.old) (O.written output.new)) }
     ensures err { NoTextAt result storm_of (I.left input.old) (I.failures input.old) (I.failures input.new) }
     ensures kept { IfErr result
         (λ fault. fault ≢ Fault.Write → Keeps (O.written output.old) (O.written output.new)) }

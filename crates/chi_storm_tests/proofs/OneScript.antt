@@ -2,7 +2,7 @@
 use Rattle.std.proofs.Common.{◌≡◌, ◌<◌, List, [], ◌∷◌, ◌++◌, All, get_or, length, map, ◌∙◌, ap, subst, sym, arith, rules}
 use Rattle.std.proofs.lemmas.List.Elements.{All-nil, All-push}
 use Rattle.atomic_table.specs.Seated.{TableId}
-use Rattle.chi_audit.specs.Tallies.{IsFresh, WriterState, agent_of}
+use Rattle.chi_audit.specs.Tallies.{IsFresh, WriterState, writer_agent}
 use Rattle.chi_audit.specs.Numbers.{numbers}
 use Rattle.chi_agent.specs.Script.{writer_of, AreFresh, ScriptState}
 
@@ -12,8 +12,8 @@ is_fresh cells ws w s ss fresh some first own is =
     let one : IsFresh cells s.writer = subst (IsFresh cells) (sym (own ∙ first)) (fresh 0 w some) in
     subst (All P) (sym is) (All-push P [] s (All-nil P) one)
 
-pub is_first : (ws : List WriterState) (w : WriterState) (s : ScriptState) (ss : List ScriptState) → map agent_of ws ≡ numbers 1 → 0 < length ws → w ≡ get_or ws 0 w → s.writer ≡ w → ss ≡ [] ++ s ∷ [] → map writer_of ss ≡ numbers 1
+pub is_first : (ws : List WriterState) (w : WriterState) (s : ScriptState) (ss : List ScriptState) → map writer_agent ws ≡ numbers 1 → 0 < length ws → w ≡ get_or ws 0 w → s.writer ≡ w → ss ≡ [] ++ s ∷ [] → map writer_of ss ≡ numbers 1
 is_first [] w s ss numbered some first own is = absurd (omega (arith, some))
 is_first (x ∷ xs) w s ss numbered some first own is =
-    let number : agent_of x ≡ 0 = search (rules, numbered) in
-    ap (map writer_of) is ∙ ap (λ z. z ∷ []) (ap agent_of (own ∙ first) ∙ number)
+    let number : writer_agent x ≡ 0 = search (rules, numbered) in
+    ap (map writer_of) is ∙ ap (λ z. z ∷ []) (ap writer_agent (own ∙ first) ∙ number)

@@ -4,7 +4,7 @@ ghost use Rattle.std.specs.Prelude.{◌≡◌, map, vec_len};
 ghost use Rattle.chi_config.specs.Config.{two_types};
 ghost use Rattle.chi_node.specs.Node.{AreOwn};
 ghost use Rattle.chi_audit.specs.Numbers.{numbers};
-ghost use Rattle.chi_agent.specs.Ended.{number_of};
+ghost use Rattle.chi_agent.specs.Ended.{requester_number};
 ghost use Rattle.chi_agent.specs.Script.{writer_of, AreFresh};
 
 use crate::comparison::same;
@@ -47,7 +47,7 @@ fn node_of(rt: &impl Abort, alloc: Global) -> (Node<Global>, ArrayVec<Requester,
     ensures config { result.0.config ≡ two_types 1 1 1 1 1 4 }
     ensures agents { result.0.tracker.shape.agents ≡ 1 }
     ensures own { AreOwn result.0 result.1.items }
-    ensures numbers { map number_of result.1.items ≡ numbers 1 }
+    ensures numbers { map requester_number result.1.items ≡ numbers 1 }
 {
     Node::new(alloc, &sizes(rt)).expect(rt, "memory for a node")
 }

@@ -11,7 +11,7 @@ use Rattle.chi_trace.specs.declared.fields.Payload.{Payload}
 use Rattle.chi_trace.specs.declared.fields.Payload.TheVariants as payloads
 use Rattle.chi_trace.specs.declared.uses.Form.{Form}
 use Rattle.chi_trace.specs.declared.uses.Form.TheVariants as forms
-use Rattle.chi_trace.specs.Fields.{first_of, line_words_of, listed_of, only_of, parts_of, payload_of, vector_of, word_of}
+use Rattle.chi_trace.specs.Fields.{first_part, line_words_of, listed_of, only_of, comma_parts, payload_of, vector_of, word_in}
 use Rattle.chi_trace.specs.Numbers.{hex_of}
 use Rattle.chi_trace.specs.Spelling.{AreListed, AreNumbers, AreWords, IsHex, IsPayload, IsVector, IsWord, sixteens}
 use Rattle.chi_trace.proofs.FieldLemmas.{is_same, text_is}
@@ -25,7 +25,7 @@ x_case part w false at e =
     let same : Some one.0 ≡ w = let last = one.2 in cc in
     subst (λ (o : Option ℕ). IsWord o part) same (hex_read 0xffff_ffff_ffff_ffff one.0 part one.1)
 
-word_read : (part : List ℕ) (w : Option ℕ) → word_of part ≡ Some w → IsWord w part
+word_read : (part : List ℕ) (w : Option ℕ) → word_in part ≡ Some w → IsWord w part
 word_read part w e = x_case part w (is_text part (codes "x")) refl e
 
 -- an x is no number
@@ -36,8 +36,8 @@ hex_no_x : (most n : ℕ) (part : List ℕ) (b : Bool) → is_text part (codes "
 hex_no_x most n part false at is = refl
 hex_no_x most n part true at is = absurd (no_x most n (subst (λ (w : List ℕ). IsHex most n w) (text_is part (codes "x") at) is))
 
-word_again : (w : Option ℕ) (part : List ℕ) → IsWord w part → word_of part ≡ Some w
-word_again None part is = ap word_of is
+word_again : (w : Option ℕ) (part : List ℕ) → IsWord w part → word_in part ≡ Some w
+word_again None part is = ap word_in is
 word_again (Some n) part is =
     let plain : is_text part (codes "x") ≡ false = hex_no_x 0xffff_ffff_ffff_ffff n part (is_text part (codes "x")) refl is in
     rw (plain, hex_again 0xffff_ffff_ffff_ffff n part is) refl
@@ -45,7 +45,7 @@ word_again (Some n) part is =
 -- so many words more behind these
 abbrev chain : ℕ → List (Option ℕ) → List (List ℕ) → Option (List (Option ℕ))
 chain zero front parts = only_of parts >>= λ w. Some (front ++ w ∷ [])
-chain (suc k) front parts = first_of parts >>= λ found. chain k (front ++ found.0 ∷ []) found.1
+chain (suc k) front parts = first_part parts >>= λ found. chain k (front ++ found.0 ∷ []) found.1
 
 listed_is : (parts : List (List ℕ)) → listed_of parts ≡ chain 7 [] parts
 unfolding listed_of
@@ -57,11 +57,11 @@ record IsFirst (parts : List (List ℕ)) (w : Option ℕ) (rest : List (List ℕ
   is : parts ≡ part ∷ rest
   word : IsWord w part
 
-first_read : (parts : List (List ℕ)) (found : Option ℕ × List (List ℕ)) → first_of parts ≡ Some found → IsFirst parts found.0 found.1
+first_read : (parts : List (List ℕ)) (found : Option ℕ × List (List ℕ)) → first_part parts ≡ Some found → IsFirst parts found.0 found.1
 first_read [] found e = cc
 first_read (part ∷ []) found e = cc
 first_read (part ∷ next ∷ rest) found e =
-    let one = bound (word_of part) (λ w. Some (w, next ∷ rest)) found e in
+    let one = bound (word_in part) (λ w. Some (w, next ∷ rest)) found e in
     let same : ◌≡◌ {A = Option ℕ × List (List ℕ)} (one.0, next ∷ rest) found = let last = one.2 in cc in
     subst (λ (f : Option ℕ × List (List ℕ)). IsFirst (part ∷ next ∷ rest) f.0 f.1) same (record { part = part; is = refl; word = word_read part one.0 one.1 })
 
@@ -84,7 +84,7 @@ chain_read zero front parts words e =
     let read = only_read parts one.0 one.1 in
     record { later = one.0 ∷ []; all = sym same; spelled = subst (λ (ps : List (List ℕ)). AreWords (one.0 ∷ []) ps) (sym read.is) (read.word, tt); count = refl }
 chain_read (suc k) front parts words e =
-    let one = bound (first_of parts) (λ found. chain k (front ++ found.0 ∷ []) found.1) words e in
+    let one = bound (first_part parts) (λ found. chain k (front ++ found.0 ∷ []) found.1) words e in
     let read = first_read parts one.0 one.1 in
     let rest = chain_read k (front ++ one.0.0 ∷ []) one.0.1 words one.2 in
     record {
@@ -151,13 +151,13 @@ both true b e = (refl, e)
 both false b e = cc
 
 line_case : (word : List ℕ) (words : List (Option ℕ)) (b : Bool) → (length word == 128 && is_none (position (λ x. x == 44) word)) ≡ b
-    → cond b (vector_of word) (listed_of (parts_of word)) ≡ Some words → AreListed words word ⊎ IsVector words word
+    → cond b (vector_of word) (listed_of (comma_parts word)) ≡ Some words → AreListed words word ⊎ IsVector words word
 line_case word words true at e =
     let test = both (length word == 128) (is_none (position (λ x. x == 44) word)) at in
     let read = numbers_read [] (sixteens word) words (sym (vector_is word) ∙ e) in
     inr (record { size = is_128 (length word) test.0; no_comma = none_there (position (λ x. x == 44) word) test.1; numbers = subst (λ (ws : List (Option ℕ)). AreNumbers ws (sixteens word)) (sym read.all) read.spelled })
 line_case word words false at e =
-    let read = chain_read 7 [] (parts_of word) words (sym (listed_is (parts_of word)) ∙ e) in
+    let read = chain_read 7 [] (comma_parts word) words (sym (listed_is (comma_parts word)) ∙ e) in
     inl (subst (λ (ws : List (Option ℕ)). AreListed ws word) (sym read.all) (read.spelled, read.count))
 
 line_read : (word : List ℕ) (words : List (Option ℕ)) → line_words_of word ≡ Some words → AreListed words word ⊎ IsVector words word
@@ -178,7 +178,7 @@ no_vector words word true true is at =
 line_again : (words : List (Option ℕ)) (word : List ℕ) → AreListed words word ⊎ IsVector words word → line_words_of word ≡ Some words
 line_again words word (inl is) =
     let list : (length word == 128 && is_none (position (λ x. x == 44) word)) ≡ false = no_vector words word (length word == 128) (is_none (position (λ x. x == 44) word)) is refl in
-    rw list (listed_is (parts_of word) ∙ chain_again 7 [] words (parts_of word) is.0 is.1)
+    rw list (listed_is (comma_parts word) ∙ chain_again 7 [] words (comma_parts word) is.0 is.1)
 line_again words word (inr is) =
     let size = is.size in
     let none = is.no_comma in

@@ -6,8 +6,8 @@ use Rattle.chi_script.proofs.LineLemmas.{parts_of}
 use Rattle.chi_trace.specs.declared.faults.Fault.{Fault}
 use Rattle.chi_trace.specs.declared.faults.Fault.TheVariants.{NoMemory, TooLarge, MissingNewline, FewWords, BadWord}
 use Rattle.chi_trace.specs.declared.flits.Seen.{Seen}
-use Rattle.chi_trace.specs.Faults.{Fails}
-use Rattle.chi_trace.specs.Files.{◌>>=◌, flits_at, flits_of, with_line}
+use Rattle.chi_trace.specs.Faults.{TraceFails}
+use Rattle.chi_trace.specs.Files.{◌>>=◌, flits_at, trace_flits, with_trace_line}
 use Rattle.chi_trace.proofs.FaultLemmas.{failed}
 
 -- what was read before, and what is still read
@@ -16,8 +16,8 @@ with_front front read = read >>= λ flits. Ok (front ++ flits)
 
 -- one line that a line end closes, and what follows it
 one_line : (n : ℕ) (rest line after : List ℕ) → lines_of rest ≡ line ∷ lines_of after
-    → flits_of n (lines_of rest) ≡ (flits_at n line >>= λ here. flits_of (n + 1) (lines_of after) >>= λ later. Ok (here ++ later))
-unfolding flits_of
+    → trace_flits n (lines_of rest) ≡ (flits_at n line >>= λ here. trace_flits (n + 1) (lines_of after) >>= λ later. Ok (here ++ later))
+unfolding trace_flits
 one_line n rest line after e = let more = parts_of (λ b. b == 10) after in rw (e, more.2) refl
 
 regroup_later : (front here : List Seen) (read : Result (List Seen) Fault) → with_front front (read >>= λ later. Ok (here ++ later)) ≡ with_front (front ++ here) read
@@ -31,14 +31,14 @@ no_fault : (fault : Fault) (now : List Seen) → Err fault ≡ Ok now → ⊥
 no_fault fault now e = cc
 
 goes_with : (here : Result (List Seen) Fault) (front now : List Seen) (n : ℕ) (rest line after : List ℕ) → flits_at n line ≡ here → lines_of rest ≡ line ∷ lines_of after → with_front front here ≡ Ok now
-    → with_front front (flits_of n (lines_of rest)) ≡ with_front now (flits_of (n + 1) (lines_of after))
+    → with_front front (trace_flits n (lines_of rest)) ≡ with_front now (trace_flits (n + 1) (lines_of after))
 goes_with (Ok here) front now n rest line after read e is =
-    rw (one_line n rest line after e, read) (regroup_later front here (flits_of (n + 1) (lines_of after)) ∙ ap (λ (cs : List Seen). with_front cs (flits_of (n + 1) (lines_of after))) (known front now here is))
+    rw (one_line n rest line after e, read) (regroup_later front here (trace_flits (n + 1) (lines_of after)) ∙ ap (λ (cs : List Seen). with_front cs (trace_flits (n + 1) (lines_of after))) (known front now here is))
 goes_with (Err fault) front now n rest line after read e is = absurd (no_fault fault now is)
 
 -- the line was read: its flit is behind the others, and the rest goes on
-pub goes_on : (front now : List Seen) (n : ℕ) (rest line after : List ℕ) (total : Result (List Seen) Fault) → lines_of rest ≡ line ∷ lines_of after → with_line front n line ≡ Ok now
-    → with_front front (flits_of n (lines_of rest)) ≡ total → with_front now (flits_of (n + 1) (lines_of after)) ≡ total
+pub goes_on : (front now : List Seen) (n : ℕ) (rest line after : List ℕ) (total : Result (List Seen) Fault) → lines_of rest ≡ line ∷ lines_of after → with_trace_line front n line ≡ Ok now
+    → with_front front (trace_flits n (lines_of rest)) ≡ total → with_front now (trace_flits (n + 1) (lines_of after)) ≡ total
 goes_on front now n rest line after total e is so_far = sym (goes_with (flits_at n line) front now n rest line after refl e is) ∙ so_far
 
 -- a fault isn't of what was read before
@@ -46,27 +46,27 @@ unfronted_is : (fault : Fault) (front : List Seen) (read : Result (List Seen) Fa
 unfronted_is fault front (Ok here) e = cc
 unfronted_is fault front (Err other) e = e
 
-unfronted : (fault : Fault) (front : List Seen) (read : Result (List Seen) Fault) → Fails fault (with_front front read) → Fails fault read
+unfronted : (fault : Fault) (front : List Seen) (read : Result (List Seen) Fault) → TraceFails fault (with_front front read) → TraceFails fault read
 unfronted NoMemory front read is = tt
 unfronted TooLarge front read is = unfronted_is TooLarge front read is
 unfronted (MissingNewline line) front read is = unfronted_is (MissingNewline line) front read is
 unfronted (FewWords line) front read is = unfronted_is (FewWords line) front read is
 unfronted (BadWord line column) front read is = unfronted_is (BadWord line column) front read is
 
-pub stops : (fault : Fault) (front : List Seen) (n : ℕ) (rest line after : List ℕ) (total : Result (List Seen) Fault) → lines_of rest ≡ line ∷ lines_of after → Fails fault (with_line front n line)
-    → with_front front (flits_of n (lines_of rest)) ≡ total → Fails fault total
+pub stops : (fault : Fault) (front : List Seen) (n : ℕ) (rest line after : List ℕ) (total : Result (List Seen) Fault) → lines_of rest ≡ line ∷ lines_of after → TraceFails fault (with_trace_line front n line)
+    → with_front front (trace_flits n (lines_of rest)) ≡ total → TraceFails fault total
 stops fault front n rest line after total e is so_far =
-    let one : with_front front (flits_of n (lines_of rest)) ≡ ((flits_at n line >>= λ here. flits_of (n + 1) (lines_of after) >>= λ later. Ok (here ++ later)) >>= λ flits. Ok (front ++ flits)) = rw (one_line n rest line after e) refl in
+    let one : with_front front (trace_flits n (lines_of rest)) ≡ ((flits_at n line >>= λ here. trace_flits (n + 1) (lines_of after) >>= λ later. Ok (here ++ later)) >>= λ flits. Ok (front ++ flits)) = rw (one_line n rest line after e) refl in
     rw (sym so_far ∙ one) (failed fault _ _ (failed fault _ _ (unfronted fault front (flits_at n line) is)))
 
-pub is_done : (front : List Seen) (n : ℕ) (rest : List ℕ) (total : Result (List Seen) Fault) → lines_of rest ≡ rest ∷ [] → (length rest == 0) ≡ true → with_front front (flits_of n (lines_of rest)) ≡ total → total ≡ Ok front
-unfolding flits_of
+pub is_done : (front : List Seen) (n : ℕ) (rest : List ℕ) (total : Result (List Seen) Fault) → lines_of rest ≡ rest ∷ [] → (length rest == 0) ≡ true → with_front front (trace_flits n (lines_of rest)) ≡ total → total ≡ Ok front
+unfolding trace_flits
 is_done front n rest total e empty so_far =
-    let one : with_front front (flits_of n (lines_of rest)) ≡ Ok front = rw (e, empty) (ap Ok (append-nil front)) in
+    let one : with_front front (trace_flits n (lines_of rest)) ≡ Ok front = rw (e, empty) (ap Ok (append-nil front)) in
     sym so_far ∙ one
 
-pub is_open : (front : List Seen) (n : ℕ) (rest : List ℕ) (total : Result (List Seen) Fault) → lines_of rest ≡ rest ∷ [] → (length rest == 0) ≡ false → with_front front (flits_of n (lines_of rest)) ≡ total → total ≡ Err (MissingNewline n)
-unfolding flits_of
+pub is_open : (front : List Seen) (n : ℕ) (rest : List ℕ) (total : Result (List Seen) Fault) → lines_of rest ≡ rest ∷ [] → (length rest == 0) ≡ false → with_front front (trace_flits n (lines_of rest)) ≡ total → total ≡ Err (MissingNewline n)
+unfolding trace_flits
 is_open front n rest total e some so_far =
-    let one : with_front front (flits_of n (lines_of rest)) ≡ Err (MissingNewline n) = rw (e, some) refl in
+    let one : with_front front (trace_flits n (lines_of rest)) ≡ Err (MissingNewline n) = rw (e, some) refl in
     sym so_far ∙ one

@@ -3,7 +3,7 @@ use Rattle.std.proofs.Common.{◌≡◌, ℕ, ◌+◌, ◌*◌, ◌≤◌, nat_l
 use Rattle.std.proofs.lemmas.Bool.Decides.{nat_tests}
 use Rattle.chi_script.specs.Words.{◌>>=◌}
 use Rattle.chi_script.proofs.NumberLemmas.{bound}
-use Rattle.chi_trace.specs.Numbers.{digit_of, digits_from, hex_of, with_digit}
+use Rattle.chi_trace.specs.Numbers.{digit_of, digits_from, hex_of, with_hex_digit}
 use Rattle.chi_trace.specs.Spelling.{Continue, IsHex}
 
 -- a digit more that still fits
@@ -17,7 +17,7 @@ digits_read : (most m : ℕ) (ds : List ℕ) (n : ℕ) → m ≤ most → digits
 unfolding digits_from
 digits_read most m [] n le e = let same : m ≡ n = cc in (sym same, omega (arith, same, le))
 digits_read most m (d ∷ ds) n le e =
-    let step = bound (with_digit most m d) (λ k. digits_from most k ds) n e in
+    let step = bound (with_hex_digit most m d) (λ k. digits_from most k ds) n e in
     let digit = bound (digit_of d) (λ v. cond (nat_le (m * 16 + v) most) (Some (m * 16 + v)) None) step.0 step.1 in
     let one = fits most (m * 16 + digit.0) step.0 digit.2 in
     let rest = digits_read most step.0 ds n (omega (arith, one.0, one.1)) step.2 in

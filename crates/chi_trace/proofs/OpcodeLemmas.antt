@@ -14,19 +14,19 @@ use Rattle.chi_trace.specs.declared.opcodes.Opcode.{Opcode}
 use Rattle.chi_trace.specs.declared.opcodes.Opcode.TheVariants as opcodes
 use Rattle.chi_trace.specs.Columns.{Row}
 use Rattle.chi_trace.specs.Flits.{◌>>=◌, opcode_of}
-use Rattle.chi_trace.specs.Opcodes.{channel_in, channel_of, channel_text, cpu_opcode, data_opcode, opcode_in, opcode_text, request_opcode, response_opcode, snoop_opcode}
+use Rattle.chi_trace.specs.Opcodes.{channel_in, opcode_channel, channel_word, cpu_opcode, data_opcode, opcode_in, opcode_text, request_opcode, response_opcode, snoop_opcode}
 use Rattle.chi_trace.proofs.FieldLemmas.{none_left, pick, text_is}
 
-channel_read : (word : List ℕ) (channel : Channel) → channel_in word ≡ Some channel → word ≡ channel_text channel
+channel_read : (word : List ℕ) (channel : Channel) → channel_in word ≡ Some channel → word ≡ channel_word channel
 channel_read word channel e =
-    let P : Channel → Type 0 = λ c. word ≡ channel_text c in
+    let P : Channel → Type 0 = λ c. word ≡ channel_word c in
     pick P (is_text word (codes "REQ")) channels.Req _ (text_is word _) (
     pick P (is_text word (codes "SNP")) channels.Snp _ (text_is word _) (
     pick P (is_text word (codes "RSP")) channels.Rsp _ (text_is word _) (
     pick P (is_text word (codes "DAT")) channels.Dat _ (text_is word _) (
     pick P (is_text word (codes "CPU")) channels.Cpu None (text_is word _) (none_left P))))) channel e
 
-channel_named : (channel : Channel) → channel_in (channel_text channel) ≡ Some channel
+channel_named : (channel : Channel) → channel_in (channel_word channel) ≡ Some channel
 channel_named channels.Req = refl
 channel_named channels.Snp = refl
 channel_named channels.Rsp = refl
@@ -35,7 +35,7 @@ channel_named channels.Cpu = refl
 
 -- what the opcode of a channel is named
 abbrev IsNamed : Channel → List ℕ → Opcode → Type 0
-IsNamed channel word opcode = (channel ≡ channel_of opcode) × (word ≡ opcode_text opcode)
+IsNamed channel word opcode = (channel ≡ opcode_channel opcode) × (word ≡ opcode_text opcode)
 
 request_opcode_read : (word : List ℕ) (opcode : Opcode) → request_opcode word ≡ Some opcode → IsNamed channels.Req word opcode
 unfolding request_opcode
@@ -93,7 +93,7 @@ opcode_in_read channels.Rsp word opcode e = response_opcode_read word opcode e
 opcode_in_read channels.Dat word opcode e = data_opcode_read word opcode e
 opcode_in_read channels.Cpu word opcode e = cpu_opcode_read word opcode e
 
-opcode_named : (opcode : Opcode) → opcode_in (channel_of opcode) (opcode_text opcode) ≡ Some opcode
+opcode_named : (opcode : Opcode) → opcode_in (opcode_channel opcode) (opcode_text opcode) ≡ Some opcode
 unfolding request_opcode snoop_opcode response_opcode data_opcode cpu_opcode
 opcode_named (opcodes.Request ReadNotSharedDirty) = refl
 opcode_named (opcodes.Request ReadShared) = refl
@@ -130,14 +130,14 @@ taken (Some y) column x e = let same : y ≡ x = cc in ap Some same
 
 -- the words of a row that name its opcode
 pub record IsOpcode (row : Row) (opcode : Opcode) : Type 0 where
-  pub channel : row.channel ≡ channel_text (channel_of opcode)
+  pub channel : row.channel ≡ channel_word (opcode_channel opcode)
   pub word : row.opcode ≡ opcode_text opcode
 
 pub opcode_read : (row : Row) (opcode : Opcode) → opcode_of row ≡ Ok opcode → IsOpcode row opcode
 opcode_read row opcode e =
     let one = bound (ok_or (channel_in row.channel) columns.Channel) (λ channel. ok_or (opcode_in channel row.opcode) columns.Opcode) opcode e in
     let named = opcode_in_read one.0 row.opcode opcode (taken (opcode_in one.0 row.opcode) columns.Opcode opcode one.2) in
-    record { channel = channel_read row.channel one.0 (taken (channel_in row.channel) columns.Channel one.0 one.1) ∙ ap channel_text named.0; word = named.1 }
+    record { channel = channel_read row.channel one.0 (taken (channel_in row.channel) columns.Channel one.0 one.1) ∙ ap channel_word named.0; word = named.1 }
 
-pub opcode_again : (row : Row) (opcode : Opcode) → row.channel ≡ channel_text (channel_of opcode) → row.opcode ≡ opcode_text opcode → opcode_of row ≡ Ok opcode
-opcode_again row opcode channel word = rw (channel, channel_named (channel_of opcode), word, opcode_named opcode) refl
+pub opcode_again : (row : Row) (opcode : Opcode) → row.channel ≡ channel_word (opcode_channel opcode) → row.opcode ≡ opcode_text opcode → opcode_of row ≡ Ok opcode
+opcode_again row opcode channel word = rw (channel, channel_named (opcode_channel opcode), word, opcode_named opcode) refl

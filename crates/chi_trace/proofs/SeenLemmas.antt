@@ -10,7 +10,7 @@ use Rattle.chi_trace.specs.declared.flits.Seen.{Seen}
 use Rattle.chi_trace.specs.declared.opcodes.Opcode.{Opcode}
 use Rattle.chi_trace.specs.Columns.{Row}
 use Rattle.chi_trace.specs.Fields.{address_of, allow_of, dbid_of, is_dash, node_of, payload_of, pcrd_of, resp_of, resp_text, txn_of}
-use Rattle.chi_trace.specs.Flits.{◌>>=◌, opcode_of, seen_of}
+use Rattle.chi_trace.specs.Flits.{◌>>=◌, opcode_of, seen_in}
 use Rattle.chi_trace.specs.Spelling.{Holds, IsAddress, IsAllow, IsDbid, IsFlit, IsNode, IsPcrd, IsResp, IsTxn}
 use Rattle.chi_trace.specs.Uses.{address_use, allow_use, dbid_use, form_of, pcrd_use, resp_use, target_use, txn_use, used_in}
 use Rattle.chi_trace.proofs.DataLemmas.{payload_again, payload_read}
@@ -22,8 +22,8 @@ tail_of : ℕ → Row → Opcode → NodeId → Option NodeId → Option TxnId �
 tail_of n row opcode source target txn address =
     used_in (resp_use opcode) row.resp (resp_of row.resp) columns.Resp >>= λ resp. used_in (dbid_use opcode resp) row.dbid (dbid_of row.dbid) columns.Dbid >>= λ dbid. used_in (allow_use opcode) row.allow_retry (allow_of row.allow_retry) columns.AllowRetry >>= λ allow. used_in (pcrd_use opcode allow) row.pcrd (pcrd_of row.pcrd) columns.Pcrd >>= λ pcrd. ok_or (payload_of (form_of opcode) row.payload) columns.Data >>= λ payload. Ok (record { line = n; opcode = opcode; source = source; target = target; txn = txn; address = address; resp = resp; dbid = dbid; allow_retry = allow; pcrd = pcrd; payload = payload })
 
-seen_is : (n : ℕ) (row : Row) → seen_of n row ≡ (opcode_of row >>= λ opcode. ok_or (node_of row.source) columns.Source >>= λ source. used_in (target_use opcode) row.target (node_of row.target) columns.Target >>= λ target. used_in (txn_use opcode) row.txn (txn_of row.txn) columns.Txn >>= λ txn. used_in (address_use opcode) row.address (address_of row.address) columns.Address >>= λ address. tail_of n row opcode source target txn address)
-unfolding seen_of tail_of
+seen_is : (n : ℕ) (row : Row) → seen_in n row ≡ (opcode_of row >>= λ opcode. ok_or (node_of row.source) columns.Source >>= λ source. used_in (target_use opcode) row.target (node_of row.target) columns.Target >>= λ target. used_in (txn_use opcode) row.txn (txn_of row.txn) columns.Txn >>= λ txn. used_in (address_use opcode) row.address (address_of row.address) columns.Address >>= λ address. tail_of n row opcode source target txn address)
+unfolding seen_in tail_of
 seen_is n row = refl
 
 tail_read : (n : ℕ) (row : Row) (opcode : Opcode) (source : NodeId) (target : Option NodeId) (txn : Option TxnId) (address : Option Address) (seen : Seen) → IsOpcode row opcode → IsNode source row.source → Holds IsNode (target_use opcode) target row.target
@@ -51,7 +51,7 @@ tail_read n row opcode source target txn address seen named is_source is_target 
       payload = payload_read (form_of opcode) row.payload b4.0 (taken (payload_of (form_of opcode) row.payload) columns.Data b4.0 b4.1);
     })
 
-pub flit_read : (n : ℕ) (row : Row) (seen : Seen) → seen_of n row ≡ Ok seen → IsFlit n seen row
+pub flit_read : (n : ℕ) (row : Row) (seen : Seen) → seen_in n row ≡ Ok seen → IsFlit n seen row
 flit_read n row seen e =
     let f : (opcode_of row >>= λ opcode. ok_or (node_of row.source) columns.Source >>= λ source. used_in (target_use opcode) row.target (node_of row.target) columns.Target >>= λ target. used_in (txn_use opcode) row.txn (txn_of row.txn) columns.Txn >>= λ txn. used_in (address_use opcode) row.address (address_of row.address) columns.Address >>= λ address. tail_of n row opcode source target txn address) ≡ Ok seen = sym (seen_is n row) ∙ e in
     let b0 = bound (opcode_of row) (λ opcode. ok_or (node_of row.source) columns.Source >>= λ source. used_in (target_use opcode) row.target (node_of row.target) columns.Target >>= λ target. used_in (txn_use opcode) row.txn (txn_of row.txn) columns.Txn >>= λ txn. used_in (address_use opcode) row.address (address_of row.address) columns.Address >>= λ address. tail_of n row opcode source target txn address) seen f in
@@ -66,8 +66,8 @@ flit_read n row seen e =
     (used_read IsAddress (address_use b0.0) row.address (address_of row.address) b4.0 columns.Address (λ x at. address_read row.address x at) b4.1)
     b4.2
 
-pub flit_again : (n : ℕ) (seen : Seen) (row : Row) → IsFlit n seen row → seen_of n row ≡ Ok seen
-unfolding seen_of
+pub flit_again : (n : ℕ) (seen : Seen) (row : Row) → IsFlit n seen row → seen_in n row ≡ Ok seen
+unfolding seen_in
 flit_again n seen row is =
     let opcode = opcode_again row seen.opcode is.channel is.opcode in
     let source = node_again seen.source row.source is.source in

@@ -5,8 +5,8 @@ use Rattle.std.proofs.lemmas.Bool.Decides.{nat_tests}
 use Rattle.std.proofs.lemmas.List.{take_rest}
 use Rattle.std.proofs.lemmas.List.Splits.{slice_split-cons_yes}
 use Rattle.chi_script.proofs.LineLemmas.{cut_at, uncut}
-use Rattle.chi_trace.specs.Columns.{first_of}
-use Rattle.chi_trace.specs.Words.{has_bytes, is_blank, words_of}
+use Rattle.chi_trace.specs.Columns.{first_word_of}
+use Rattle.chi_trace.specs.Words.{has_bytes, is_blank, blank_words}
 
 -- what was found, or not, of a test on two numbers
 found : (n m i : ℕ) → Some i ≡ cond (nat_lt n m) (Some n) None → (n < m) × (i ≡ n)
@@ -16,8 +16,8 @@ not_found : (n m : ℕ) → None ≡ cond (nat_lt n m) (Some n) None → m ≤ n
 not_found n m e = grind (arith, nat_tests)
 
 -- a blank more in front changes nothing
-behind_blank : (b : ℕ) (bs : List ℕ) → is_blank b ≡ true → words_of (b ∷ bs) ≡ words_of bs
-unfolding words_of
+behind_blank : (b : ℕ) (bs : List ℕ) → is_blank b ≡ true → blank_words (b ∷ bs) ≡ blank_words bs
+unfolding blank_words
 behind_blank b bs is = ap (filter has_bytes) (slice_split-cons_yes is_blank b bs is)
 
 abbrev pub begins : List ℕ → Bool
@@ -36,7 +36,7 @@ blanks_no b bs is = ap (λ (v : Bool). cond (not (not v)) (1 + blanks bs) 0) is
 
 -- the same words, and no blank in front
 pub record IsText (xs text : List ℕ) : Type 0 where
-  pub same : words_of text ≡ words_of xs
+  pub same : blank_words text ≡ blank_words xs
   pub first : begins text ≡ true
 
 text_case : (b : ℕ) (bs : List ℕ) (blank : Bool) → is_blank b ≡ blank → blanks (b ∷ bs) < length (b ∷ bs)
@@ -52,12 +52,12 @@ text_of : (xs : List ℕ) → blanks xs < length xs → IsText xs (drop (blanks 
 text_of [] low = absurd (omega (arith, low))
 text_of (b ∷ bs) low = text_case b bs (is_blank b) refl low (text_of bs)
 
-all_case : (b : ℕ) (bs : List ℕ) (blank : Bool) → is_blank b ≡ blank → length (b ∷ bs) ≤ blanks (b ∷ bs) → (length bs ≤ blanks bs → words_of bs ≡ []) → words_of (b ∷ bs) ≡ []
+all_case : (b : ℕ) (bs : List ℕ) (blank : Bool) → is_blank b ≡ blank → length (b ∷ bs) ≤ blanks (b ∷ bs) → (length bs ≤ blanks bs → blank_words bs ≡ []) → blank_words (b ∷ bs) ≡ []
 all_case b bs true is le go = behind_blank b bs is ∙ go (omega (arith, blanks_yes b bs is, le))
 all_case b bs false is le go = absurd (omega (arith, blanks_no b bs is, le))
 
-all_blank : (xs : List ℕ) → length xs ≤ blanks xs → words_of xs ≡ []
-unfolding words_of
+all_blank : (xs : List ℕ) → length xs ≤ blanks xs → blank_words xs ≡ []
+unfolding blank_words
 all_blank [] le = refl
 all_blank (b ∷ bs) le = all_case b bs (is_blank b) refl le (all_blank bs)
 
@@ -76,15 +76,15 @@ has_all (b ∷ bs) first = refl
 abbrev behind : List ℕ → ℕ → List ℕ
 behind text i = take (length text - (i + 1)) (drop (i + 1) text)
 
-first_cut : (text : List ℕ) (i : ℕ) → begins text ≡ true → Some i ≡ position is_blank text → first_of (words_of text) ≡ Some (take i text, words_of (behind text i))
-unfolding words_of
+first_cut : (text : List ℕ) (i : ℕ) → begins text ≡ true → Some i ≡ position is_blank text → first_word_of (blank_words text) ≡ Some (take i text, blank_words (behind text i))
+unfolding blank_words
 first_cut text i first e =
     let cut = cut_at is_blank text 0 i e in
     let some = has_first text i first e in
     rw (cut.0, some) refl
 
-first_whole : (text : List ℕ) → begins text ≡ true → None ≡ position is_blank text → first_of (words_of text) ≡ Some (text, words_of [])
-unfolding words_of
+first_whole : (text : List ℕ) → begins text ≡ true → None ≡ position is_blank text → first_word_of (blank_words text) ≡ Some (text, blank_words [])
+unfolding blank_words
 first_whole text first e =
     let some = has_all text first in
     rw (uncut is_blank text e, some) refl
@@ -98,17 +98,17 @@ line_text line i e =
     let at = found (position_or_len (λ b. not (is_blank b)) line) (length line) i e in
     rw (take_rest line i, at.1) (text_of line at.0)
 
-pub no_word : (line : List ℕ) → None ≡ position (λ b. not (is_blank b)) line → None ≡ first_of (words_of line)
-no_word line e = sym (ap first_of (all_blank line (not_found (position_or_len (λ b. not (is_blank b)) line) (length line) e)))
+pub no_word : (line : List ℕ) → None ≡ position (λ b. not (is_blank b)) line → None ≡ first_word_of (blank_words line)
+no_word line e = sym (ap first_word_of (all_blank line (not_found (position_or_len (λ b. not (is_blank b)) line) (length line) e)))
 
 pub first_of_more : (line : List ℕ) (i j : ℕ) → Some i ≡ position (λ b. not (is_blank b)) line → Some j ≡ position is_blank (from line i)
-    → Some (take j (from line i), words_of (behind (from line i) j)) ≡ first_of (words_of line)
+    → Some (take j (from line i), blank_words (behind (from line i) j)) ≡ first_word_of (blank_words line)
 first_of_more line i j e f =
     let text = line_text line i e in
-    sym (ap first_of (sym text.same) ∙ first_cut (from line i) j text.first f)
+    sym (ap first_word_of (sym text.same) ∙ first_cut (from line i) j text.first f)
 
 pub first_of_one : (line : List ℕ) (i : ℕ) → Some i ≡ position (λ b. not (is_blank b)) line → None ≡ position is_blank (from line i)
-    → Some (from line i, words_of []) ≡ first_of (words_of line)
+    → Some (from line i, blank_words []) ≡ first_word_of (blank_words line)
 first_of_one line i e f =
     let text = line_text line i e in
-    sym (ap first_of (sym text.same) ∙ first_whole (from line i) text.first f)
+    sym (ap first_word_of (sym text.same) ∙ first_whole (from line i) text.first f)

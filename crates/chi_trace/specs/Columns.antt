@@ -18,23 +18,23 @@ pub record Row : Type 0 where
   pub payload : List ℕ
 
 -- the first of some words, and those behind it
-abbrev pub first_of : List (List ℕ) → Option (List ℕ × List (List ℕ))
-first_of [] = None
-first_of (word ∷ words) = Some (word, words)
+abbrev pub first_word_of : List (List ℕ) → Option (List ℕ × List (List ℕ))
+first_word_of [] = None
+first_word_of (word ∷ words) = Some (word, words)
 
 -- the columns of a first word and those behind it
 abbrev pub row_behind : List ℕ → List (List ℕ) → Option Row
 row_behind channel words = do
-  source ← first_of words
-  target ← first_of source.1
-  txn ← first_of target.1
-  opcode ← first_of txn.1
-  address ← first_of opcode.1
-  resp ← first_of address.1
-  dbid ← first_of resp.1
-  allow_retry ← first_of dbid.1
-  pcrd ← first_of allow_retry.1
-  payload ← first_of pcrd.1
+  source ← first_word_of words
+  target ← first_word_of source.1
+  txn ← first_word_of target.1
+  opcode ← first_word_of txn.1
+  address ← first_word_of opcode.1
+  resp ← first_word_of address.1
+  dbid ← first_word_of resp.1
+  allow_retry ← first_word_of dbid.1
+  pcrd ← first_word_of allow_retry.1
+  payload ← first_word_of pcrd.1
   Some (record {
     channel = channel;
     source = source.0;

@@ -4,14 +4,14 @@ use Rattle.chi_trace.specs.declared.faults.Fault.{Fault}
 use Rattle.chi_trace.specs.declared.faults.Fault.TheVariants.{NoMemory, TooLarge, MissingNewline, FewWords, BadWord}
 
 -- a fault that reading answers is the one that the grammar names, but for want of memory
-abbrev pub Fails : {Y : Type 0} → Fault → Result Y Fault → Type 0
-Fails NoMemory read = Unit {0}
-Fails TooLarge read = read ≡ Err TooLarge
-Fails (MissingNewline line) read = read ≡ Err (MissingNewline line)
-Fails (FewWords line) read = read ≡ Err (FewWords line)
-Fails (BadWord line column) read = read ≡ Err (BadWord line column)
+abbrev pub TraceFails : {Y : Type 0} → Fault → Result Y Fault → Type 0
+TraceFails NoMemory read = Unit {0}
+TraceFails TooLarge read = read ≡ Err TooLarge
+TraceFails (MissingNewline line) read = read ≡ Err (MissingNewline line)
+TraceFails (FewWords line) read = read ≡ Err (FewWords line)
+TraceFails (BadWord line column) read = read ≡ Err (BadWord line column)
 
 -- what a function returned, seen by view, is what the grammar reads, unless memory ran out
-abbrev pub Gives : {X Y : Type 0} → (X → Y) → Result X Fault → Result Y Fault → Type 0
-Gives view (Ok x) read = read ≡ Ok (view x)
-Gives view (Err fault) read = Fails fault read
+abbrev pub TraceGives : {X Y : Type 0} → (X → Y) → Result X Fault → Result Y Fault → Type 0
+TraceGives view (Ok x) read = read ≡ Ok (view x)
+TraceGives view (Err fault) read = TraceFails fault read

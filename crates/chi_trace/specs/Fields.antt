@@ -66,33 +66,33 @@ resp_of word =
     if is_text word (resp_text SDPD) then Some SDPD else None)))))))))
 
 -- a word of the line, or none where it is in another beat
-abbrev pub word_of : List ℕ → Option (Option ℕ)
-word_of part = if is_text part (codes "x") then Some None else (hex_of 0xffff_ffff_ffff_ffff part >>= λ n. Some (Some n))
+abbrev pub word_in : List ℕ → Option (Option ℕ)
+word_in part = if is_text part (codes "x") then Some None else (hex_of 0xffff_ffff_ffff_ffff part >>= λ n. Some (Some n))
 
 -- a comma stands between two words of a list
-abbrev pub parts_of : List ℕ → List (List ℕ)
-parts_of list = slice_split (λ b. b == 44) list
+abbrev pub comma_parts : List ℕ → List (List ℕ)
+comma_parts list = slice_split (λ b. b == 44) list
 
-abbrev pub first_of : List (List ℕ) → Option (Option ℕ × List (List ℕ))
-first_of [] = None
-first_of (part ∷ []) = None
-first_of (part ∷ next ∷ rest) = word_of part >>= λ w. Some (w, next ∷ rest)
+abbrev pub first_part : List (List ℕ) → Option (Option ℕ × List (List ℕ))
+first_part [] = None
+first_part (part ∷ []) = None
+first_part (part ∷ next ∷ rest) = word_in part >>= λ w. Some (w, next ∷ rest)
 
 abbrev pub only_of : List (List ℕ) → Option (Option ℕ)
 only_of [] = None
-only_of (part ∷ []) = word_of part
+only_of (part ∷ []) = word_in part
 only_of (part ∷ next ∷ rest) = None
 
 -- eight words
 unfoldable pub listed_of : List (List ℕ) → Option (List (Option ℕ))
 listed_of parts = do
-  w0 ← first_of parts
-  w1 ← first_of w0.1
-  w2 ← first_of w1.1
-  w3 ← first_of w2.1
-  w4 ← first_of w3.1
-  w5 ← first_of w4.1
-  w6 ← first_of w5.1
+  w0 ← first_part parts
+  w1 ← first_part w0.1
+  w2 ← first_part w1.1
+  w3 ← first_part w2.1
+  w4 ← first_part w3.1
+  w5 ← first_part w4.1
+  w6 ← first_part w5.1
   w7 ← only_of w6.1
   Some (w0.0 ∷ w1.0 ∷ w2.0 ∷ w3.0 ∷ w4.0 ∷ w5.0 ∷ w6.0 ∷ w7 ∷ [])
 
@@ -111,7 +111,7 @@ vector_of digits = do
 
 -- a list, or one number of 128 digits
 abbrev pub line_words_of : List ℕ → Option (List (Option ℕ))
-line_words_of word = if length word == 128 && is_none (position (λ b. b == 44) word) then vector_of word else listed_of (parts_of word)
+line_words_of word = if length word == 128 && is_none (position (λ b. b == 44) word) then vector_of word else listed_of (comma_parts word)
 
 abbrev pub payload_of : Form → List ℕ → Option Payload
 payload_of forms.Nothing word = Some payloads.Nothing

@@ -6,7 +6,7 @@ use Rattle.chi_trace.specs.declared.faults.Fault.{Fault}
 use Rattle.chi_trace.specs.declared.faults.Fault.TheVariants.{MissingNewline, TooLarge}
 use Rattle.chi_trace.specs.declared.flits.Seen.{Seen}
 use Rattle.chi_trace.specs.Flits.{flit_at}
-use Rattle.chi_trace.specs.Words.{words_of}
+use Rattle.chi_trace.specs.Words.{blank_words}
 
 infixl 10 ◌>>=◌
 abbrev pub ◌>>=◌ : {A B : Type 0} → Result A Fault → (A → Result B Fault) → Result B Fault
@@ -20,21 +20,21 @@ one_of (Some seen) = seen ∷ []
 
 -- the flits of line n: one, or none
 abbrev pub flits_at : ℕ → List ℕ → Result (List Seen) Fault
-flits_at n line = flit_at n (words_of line) >>= λ seen. Ok (one_of seen)
+flits_at n line = flit_at n (blank_words line) >>= λ seen. Ok (one_of seen)
 
 -- the flits so far, and that of line n behind them
-abbrev pub with_line : List Seen → ℕ → List ℕ → Result (List Seen) Fault
-with_line before n line = flits_at n line >>= λ here. Ok (before ++ here)
+abbrev pub with_trace_line : List Seen → ℕ → List ℕ → Result (List Seen) Fault
+with_trace_line before n line = flits_at n line >>= λ here. Ok (before ++ here)
 
 -- the flits of the lines from line n on
-unfoldable pub flits_of : ℕ → List (List ℕ) → Result (List Seen) Fault
-flits_of n [] = Ok []
-flits_of n (last ∷ []) = if length last == 0 then Ok [] else Err (MissingNewline n)
-flits_of n (line ∷ next ∷ rest) = do
+unfoldable pub trace_flits : ℕ → List (List ℕ) → Result (List Seen) Fault
+trace_flits n [] = Ok []
+trace_flits n (last ∷ []) = if length last == 0 then Ok [] else Err (MissingNewline n)
+trace_flits n (line ∷ next ∷ rest) = do
   here ← flits_at n line
-  later ← flits_of (n + 1) (next ∷ rest)
+  later ← trace_flits (n + 1) (next ∷ rest)
   Ok (here ++ later)
 
 -- the flits of a file, or its first fault
 unfoldable pub trace_of : List ℕ → Result (List Seen) Fault
-trace_of file = if nat_lt 67108864 (length file) then Err TooLarge else flits_of 1 (lines_of file)
+trace_of file = if nat_lt 67108864 (length file) then Err TooLarge else trace_flits 1 (lines_of file)

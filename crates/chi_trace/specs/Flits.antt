@@ -6,7 +6,7 @@ use Rattle.chi_trace.specs.declared.faults.Fault.{Fault}
 use Rattle.chi_trace.specs.declared.faults.Fault.TheVariants.{BadWord, FewWords}
 use Rattle.chi_trace.specs.declared.flits.Seen.{Seen}
 use Rattle.chi_trace.specs.declared.opcodes.Opcode.{Opcode}
-use Rattle.chi_trace.specs.Columns.{Row, first_of, row_behind}
+use Rattle.chi_trace.specs.Columns.{Row, first_word_of, row_behind}
 use Rattle.chi_trace.specs.Fields.{address_of, allow_of, dbid_of, node_of, payload_of, pcrd_of, resp_of, txn_of}
 use Rattle.chi_trace.specs.Opcodes.{channel_in, opcode_in}
 use Rattle.chi_trace.specs.Uses.{address_use, allow_use, dbid_use, form_of, pcrd_use, resp_use, target_use, txn_use, used_in}
@@ -20,8 +20,8 @@ abbrev pub opcode_of : Row → Result Opcode Column
 opcode_of row = ok_or (channel_in row.channel) columns.Channel >>= λ channel. ok_or (opcode_in channel row.opcode) columns.Opcode
 
 -- the flit of line n with these columns, or the first column that is wrong
-unfoldable pub seen_of : ℕ → Row → Result Seen Column
-seen_of n row = do
+unfoldable pub seen_in : ℕ → Row → Result Seen Column
+seen_in n row = do
   opcode ← opcode_of row
   source ← ok_or (node_of row.source) columns.Source
   target ← used_in (target_use opcode) row.target (node_of row.target) columns.Target
@@ -47,9 +47,9 @@ seen_of n row = do
   })
 
 -- a line whose first word begins with #
-abbrev pub is_comment : List ℕ → Bool
-is_comment [] = false
-is_comment (b ∷ bs) = b == 35
+abbrev pub is_comment_word : List ℕ → Bool
+is_comment_word [] = false
+is_comment_word (b ∷ bs) = b == 35
 
 -- which column of line n is wrong
 abbrev pub told_at : ℕ → Result Seen Column → Result (Option Seen) Fault
@@ -59,13 +59,13 @@ told_at n (Err column) = Err (BadWord n column)
 -- the flit of line n with these columns, if there are so many
 abbrev pub flit_of_row : ℕ → Option Row → Result (Option Seen) Fault
 flit_of_row n None = Err (FewWords n)
-flit_of_row n (Some row) = told_at n (seen_of n row)
+flit_of_row n (Some row) = told_at n (seen_in n row)
 
 -- the same of a first word and those behind it; none where it is a comment or there is no word
 abbrev pub flit_from : ℕ → Option (List ℕ × List (List ℕ)) → Result (Option Seen) Fault
 flit_from n None = Ok None
-flit_from n (Some found) = if is_comment found.0 then Ok None else flit_of_row n (row_behind found.0 found.1)
+flit_from n (Some found) = if is_comment_word found.0 then Ok None else flit_of_row n (row_behind found.0 found.1)
 
 -- the flit of line n with these words
 abbrev pub flit_at : ℕ → List (List ℕ) → Result (Option Seen) Fault
-flit_at n words = flit_from n (first_of words)
+flit_at n words = flit_from n (first_word_of words)

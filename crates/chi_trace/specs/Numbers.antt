@@ -10,13 +10,13 @@ digit_of d =
     if nat_le 65 d && nat_le d 70 then Some (d - 65 + 10) else None))
 
 -- one more digit at the end of a number, which stays within the most that there may be
-abbrev pub with_digit : ℕ → ℕ → ℕ → Option ℕ
-with_digit most n d = digit_of d >>= λ v. if nat_le (n * 16 + v) most then Some (n * 16 + v) else None
+abbrev pub with_hex_digit : ℕ → ℕ → ℕ → Option ℕ
+with_hex_digit most n d = digit_of d >>= λ v. if nat_le (n * 16 + v) most then Some (n * 16 + v) else None
 
 -- digits that follow a number
 unfoldable pub digits_from : ℕ → ℕ → List ℕ → Option ℕ
 digits_from most n [] = Some n
-digits_from most n (d ∷ ds) = with_digit most n d >>= λ m. digits_from most m ds
+digits_from most n (d ∷ ds) = with_hex_digit most n d >>= λ m. digits_from most m ds
 
 abbrev pub hex_of : ℕ → List ℕ → Option ℕ
 hex_of most [] = None

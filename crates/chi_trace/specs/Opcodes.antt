@@ -12,12 +12,12 @@ use Rattle.chi_trace.specs.declared.opcodes.Channel.TheVariants as channels
 use Rattle.chi_trace.specs.declared.opcodes.Opcode.{Opcode}
 use Rattle.chi_trace.specs.declared.opcodes.Opcode.TheVariants as opcodes
 
-abbrev pub channel_text : Channel → List ℕ
-channel_text channels.Req = codes "REQ"
-channel_text channels.Snp = codes "SNP"
-channel_text channels.Rsp = codes "RSP"
-channel_text channels.Dat = codes "DAT"
-channel_text channels.Cpu = codes "CPU"
+abbrev pub channel_word : Channel → List ℕ
+channel_word channels.Req = codes "REQ"
+channel_word channels.Snp = codes "SNP"
+channel_word channels.Rsp = codes "RSP"
+channel_word channels.Dat = codes "DAT"
+channel_word channels.Cpu = codes "CPU"
 
 -- the channel that a word names
 abbrev pub channel_in : List ℕ → Option Channel
@@ -28,21 +28,21 @@ channel_in word =
     if is_text word (codes "DAT") then Some channels.Dat else (
     if is_text word (codes "CPU") then Some channels.Cpu else None))))
 
-abbrev pub channel_of : Opcode → Channel
-channel_of (opcodes.Request kind) = channels.Req
-channel_of opcodes.PCrdReturn = channels.Req
-channel_of (opcodes.Snoop snoop) = channels.Snp
-channel_of opcodes.RetryAck = channels.Rsp
-channel_of opcodes.Comp = channels.Rsp
-channel_of opcodes.CompDBIDResp = channels.Rsp
-channel_of opcodes.PCrdGrant = channels.Rsp
-channel_of opcodes.SnpResp = channels.Rsp
-channel_of opcodes.CompAck = channels.Rsp
-channel_of opcodes.CompData = channels.Dat
-channel_of opcodes.SnpRespData = channels.Dat
-channel_of opcodes.CopyBackWrData = channels.Dat
-channel_of opcodes.Load = channels.Cpu
-channel_of opcodes.Store = channels.Cpu
+abbrev pub opcode_channel : Opcode → Channel
+opcode_channel (opcodes.Request kind) = channels.Req
+opcode_channel opcodes.PCrdReturn = channels.Req
+opcode_channel (opcodes.Snoop snoop) = channels.Snp
+opcode_channel opcodes.RetryAck = channels.Rsp
+opcode_channel opcodes.Comp = channels.Rsp
+opcode_channel opcodes.CompDBIDResp = channels.Rsp
+opcode_channel opcodes.PCrdGrant = channels.Rsp
+opcode_channel opcodes.SnpResp = channels.Rsp
+opcode_channel opcodes.CompAck = channels.Rsp
+opcode_channel opcodes.CompData = channels.Dat
+opcode_channel opcodes.SnpRespData = channels.Dat
+opcode_channel opcodes.CopyBackWrData = channels.Dat
+opcode_channel opcodes.Load = channels.Cpu
+opcode_channel opcodes.Store = channels.Cpu
 
 abbrev pub opcode_text : Opcode → List ℕ
 opcode_text (opcodes.Request kind) = kind_text kind

@@ -16,12 +16,12 @@ use Rattle.chi_trace.specs.declared.uses.Form.TheVariants as forms
 use Rattle.chi_trace.specs.declared.uses.Use.{Use}
 use Rattle.chi_trace.specs.declared.uses.Use.TheVariants.{Needed, Allowed, Unused}
 use Rattle.chi_trace.specs.Columns.{Row}
-use Rattle.chi_trace.specs.Fields.{parts_of, resp_text}
-use Rattle.chi_trace.specs.Flits.{is_comment}
+use Rattle.chi_trace.specs.Fields.{comma_parts, resp_text}
+use Rattle.chi_trace.specs.Flits.{is_comment_word}
 use Rattle.chi_trace.specs.Numbers.{digit_of}
-use Rattle.chi_trace.specs.Opcodes.{channel_of, channel_text, opcode_text}
+use Rattle.chi_trace.specs.Opcodes.{opcode_channel, channel_word, opcode_text}
 use Rattle.chi_trace.specs.Uses.{address_use, allow_use, dbid_use, form_of, pcrd_use, resp_use, target_use, txn_use}
-use Rattle.chi_trace.specs.Words.{words_of}
+use Rattle.chi_trace.specs.Words.{blank_words}
 
 -- digits that continue a number, in hexadecimal
 abbrev pub Continue : ℕ → ℕ → List ℕ → Type 0
@@ -75,7 +75,7 @@ AreWords ws texts = ⊥
 
 -- the words of a list
 abbrev pub AreListed : List (Option ℕ) → List ℕ → Type 0
-AreListed words list = AreWords words (parts_of list) × (length words ≡ 8)
+AreListed words list = AreWords words (comma_parts list) × (length words ≡ 8)
 
 -- sixteen digits each, the last first
 abbrev pub sixteens : List ℕ → List (List ℕ)
@@ -103,7 +103,7 @@ IsPayload form payload word = ⊥
 -- the columns of line n, which is this flit; the columns that a flit hasn't may hold anything
 pub record IsFlit (n : ℕ) (seen : Seen) (row : Row) : Type 0 where
   pub line : seen.line ≡ n
-  pub channel : row.channel ≡ channel_text (channel_of seen.opcode)
+  pub channel : row.channel ≡ channel_word (opcode_channel seen.opcode)
   pub opcode : row.opcode ≡ opcode_text seen.opcode
   pub source : IsNode seen.source row.source
   pub target : Holds IsNode (target_use seen.opcode) seen.target row.target
@@ -125,19 +125,19 @@ row_words row more =
 pub record IsFlitLine (n : ℕ) (seen : Seen) (line : List ℕ) : Type 0 where
   pub row : Row
   pub more : List (List ℕ)
-  pub words : words_of line ≡ row_words row more
+  pub words : blank_words line ≡ row_words row more
   pub flit : IsFlit n seen row
 
 -- a line without words, or one whose first word begins with #
-abbrev pub IsComment : List (List ℕ) → Type 0
-IsComment [] = Unit {0}
-IsComment (first ∷ rest) = is_comment first ≡ true
+abbrev pub IsCommentLine : List (List ℕ) → Type 0
+IsCommentLine [] = Unit {0}
+IsCommentLine (first ∷ rest) = is_comment_word first ≡ true
 
 -- the lines from line n on are comments and these flits, in their order
 abbrev pub AreFlits : ℕ → List Seen → List (List ℕ) → Type 0
 AreFlits n flits [] = flits ≡ []
 AreFlits n flits (line ∷ lines) =
-    (IsComment (words_of line) × AreFlits (n + 1) flits lines)
+    (IsCommentLine (blank_words line) × AreFlits (n + 1) flits lines)
     ⊎ ((seen : Seen) × (later : List Seen) × (flits ≡ seen ∷ later) × IsFlitLine n seen line × AreFlits (n + 1) later lines)
 
 -- a file that is a trace of these flits: lines with a line end behind each, and no more bytes than a trace may

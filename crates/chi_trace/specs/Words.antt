@@ -11,5 +11,5 @@ has_bytes [] = false
 has_bytes (b ∷ bs) = true
 
 -- one blank or more stand between two words
-unfoldable pub words_of : List ℕ → List (List ℕ)
-words_of line = filter has_bytes (slice_split is_blank line)
+unfoldable pub blank_words : List ℕ → List (List ℕ)
+blank_words line = filter has_bytes (slice_split is_blank line)

@@ -3,7 +3,7 @@
 ghost use Rattle.std.specs.Prelude.{◌≡◌};
 ghost use Rattle.std.specs.Option.{option_map};
 ghost use Rattle.chi_trace.specs.Columns.{row_behind, row_of_columns};
-ghost use Rattle.chi_trace.specs.Words.{words_of};
+ghost use Rattle.chi_trace.specs.Words.{blank_words};
 
 use crate::words::first_word;
 
@@ -43,7 +43,7 @@ pub(crate) struct Columns<'a> {
 /// The columns of a line that has this first word and the rest behind it; words behind the eleventh are
 /// passed over. `None` where there are fewer.
 pub(crate) fn columns_behind<'a>(channel: &'a [u8], rest: &'a [u8]) -> Option<Columns<'a>>
-    ensures { option_map row_of_columns result ≡ row_behind channel.now (words_of rest.now) }
+    ensures { option_map row_of_columns result ≡ row_behind channel.now (blank_words rest.now) }
 {
     let (source, rest) = first_word(rest)?;
     let (target, rest) = first_word(rest)?;

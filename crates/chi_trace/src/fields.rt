@@ -3,7 +3,7 @@
 ghost use Rattle.std.specs.Prelude.{◌≡◌, ◌==◌, length, Some};
 ghost use Rattle.std.specs.List.{position};
 ghost use Rattle.std.specs.Option.{option_map};
-ghost use Rattle.chi_trace.specs.Fields.{address_of, allow_of, dbid_of, first_of, is_dash, line_words_of, listed_of, node_of, only_of, parts_of, payload_of, pcrd_of, resp_of, resp_text, txn_of, vector_of, word_of};
+ghost use Rattle.chi_trace.specs.Fields.{address_of, allow_of, dbid_of, first_part, is_dash, line_words_of, listed_of, node_of, only_of, comma_parts, payload_of, pcrd_of, resp_of, resp_text, txn_of, vector_of, word_in};
 
 use crate::numbers::hex;
 use crate::uses::Form;
@@ -185,7 +185,7 @@ pub(crate) fn read_resp(word: &[u8]) -> Option<Resp>
 
 /// The word of 64 bits that a part of a list names: a number, or `x` where it isn't in this beat.
 fn word(part: &[u8]) -> Option<Option<u64>>
-    ensures { result ≡ word_of part.now }
+    ensures { result ≡ word_in part.now }
 {
     if is(part, "x") {
         Some(None)
@@ -197,7 +197,7 @@ fn word(part: &[u8]) -> Option<Option<u64>>
 
 /// The word that the first part of a list names, and the parts behind its comma. `None` where there is no comma.
 fn first_word(list: &[u8]) -> Option<(Option<u64>, &[u8])>
-    ensures { option_map (λ found. (found.0, parts_of found.1.now)) result ≡ first_of (parts_of list.now) }
+    ensures { option_map (λ found. (found.0, comma_parts found.1.now)) result ≡ first_part (comma_parts list.now) }
 {
     let end = comma(list)?;
     let first = word(&list[..end])?;
@@ -206,7 +206,7 @@ fn first_word(list: &[u8]) -> Option<(Option<u64>, &[u8])>
 
 /// The word that a list of one part names.
 fn only_word(list: &[u8]) -> Option<Option<u64>>
-    ensures { result ≡ only_of (parts_of list.now) }
+    ensures { result ≡ only_of (comma_parts list.now) }
 {
     match comma(list) {
         Some(_) => None,
@@ -224,7 +224,7 @@ fn comma(list: &[u8]) -> Option<usize>
 /// The words 0 to 7, with commas between them.
 #[tactic(auto, unfolding(crate::specs::Fields::listed_of))]
 fn listed(list: &[u8]) -> Option<[Option<u64>; 8]>
-    ensures { result ≡ listed_of (parts_of list.now) }
+    ensures { result ≡ listed_of (comma_parts list.now) }
 {
     let (w0, list) = first_word(list)?;
     let (w1, list) = first_word(list)?;

@@ -2,8 +2,8 @@
 
 ghost use Rattle.std.specs.Prelude.{◌≡◌, ◌≤◌, ◌+◌, length};
 ghost use Rattle.chi_script.specs.Files.{lines_of};
-ghost use Rattle.chi_trace.specs.Faults.{Gives};
-ghost use Rattle.chi_trace.specs.Files.{flits_of, trace_of, with_line};
+ghost use Rattle.chi_trace.specs.Faults.{TraceGives};
+ghost use Rattle.chi_trace.specs.Files.{trace_flits, trace_of, with_trace_line};
 
 use crate::faults::Fault;
 use crate::flits::{Seen, flit_in};
@@ -23,7 +23,7 @@ pub const MOST_BYTES: usize = 67_108_864;
 /// Source: `docs/TRACES.md`, "Traces".
 #[tactic(auto, unfolding(crate::specs::Files::trace_of))]
 pub fn read_trace<A: Allocator + Copy>(alloc: A, bytes: &[u8]) -> Result<Vec<Seen, A>, Fault>
-    ensures { Gives (λ flits. flits.items) result (trace_of bytes.now) }
+    ensures { TraceGives (λ flits. flits.items) result (trace_of bytes.now) }
 {
     if bytes.len() > MOST_BYTES {
         return Err(Fault::TooLarge);
@@ -34,7 +34,7 @@ pub fn read_trace<A: Allocator + Copy>(alloc: A, bytes: &[u8]) -> Result<Vec<See
 /// The flits of all lines.
 fn flits_from<A: Allocator + Copy>(alloc: A, bytes: &[u8]) -> Result<Vec<Seen, A>, Fault>
     requires { length bytes.now ≤ 67108864 }
-    ensures { Gives (λ flits. flits.items) result (flits_of 1 (lines_of bytes.now)) }
+    ensures { TraceGives (λ flits. flits.items) result (trace_flits 1 (lines_of bytes.now)) }
 {
     let mut flits = Vec::new(alloc);
     let mut rest = bytes;
@@ -53,7 +53,7 @@ fn flits_from<A: Allocator + Copy>(alloc: A, bytes: &[u8]) -> Result<Vec<Seen, A
 
 /// Puts the flit that a line is behind the others; nothing where it is none.
 fn add_flit<A: Allocator>(flits: &mut Vec<Seen, A>, line: &[u8], number: usize) -> Result<(), Fault>
-    ensures { Gives (λ _. flits.new.items) result (with_line flits.old.items number line.now) }
+    ensures { TraceGives (λ _. flits.new.items) result (with_trace_line flits.old.items number line.now) }
 {
     if let Some(seen) = flit_in(line, number)? {
         flits.push(seen)?;

@@ -3,9 +3,9 @@
 ghost use Rattle.std.specs.Prelude.{◌≡◌};
 ghost use Rattle.std.specs.Option.{option_map};
 ghost use Rattle.chi_trace.specs.Columns.{row_of_columns};
-ghost use Rattle.chi_trace.specs.Faults.{Gives};
-ghost use Rattle.chi_trace.specs.Flits.{flit_at, is_comment, opcode_of, seen_of};
-ghost use Rattle.chi_trace.specs.Words.{words_of};
+ghost use Rattle.chi_trace.specs.Faults.{TraceGives};
+ghost use Rattle.chi_trace.specs.Flits.{flit_at, is_comment_word, opcode_of, seen_in};
+ghost use Rattle.chi_trace.specs.Words.{blank_words};
 
 use crate::columns::{Column, Columns, columns_behind};
 use crate::faults::Fault;
@@ -52,7 +52,7 @@ impl Columns<'_> {
     /// opcode, and then the others in their order.
     #[tactic(auto, unfolding(crate::specs::Flits::seen_of))]
     fn seen(&self, line: usize) -> Result<Seen, Column>
-        ensures { result ≡ seen_of line (row_of_columns self.now) }
+        ensures { result ≡ seen_in line (row_of_columns self.now) }
     {
         let opcode = self.opcode()?;
         let source = read_node(self.source).ok_or(Column::Source)?;
@@ -112,7 +112,7 @@ impl Columns<'_> {
 
 /// Whether a line whose first word this is is a comment.
 fn is_comment(first: &[u8]) -> bool
-    ensures { result ≡ is_comment first.now }
+    ensures { result ≡ is_comment_word first.now }
 {
     match first {
         [] => false,
@@ -123,7 +123,7 @@ fn is_comment(first: &[u8]) -> bool
 /// The flit that a line is, which is given without its line end and has this number; `None` where it is a
 /// comment or has no words.
 pub(crate) fn flit_in(line: &[u8], number: usize) -> Result<Option<Seen>, Fault>
-    ensures { Gives (λ seen. seen) result (flit_at number (words_of line.now)) }
+    ensures { TraceGives (λ seen. seen) result (flit_at number (blank_words line.now)) }
 {
     let Some((first, rest)) = first_word(line) else {
         return Ok(None);

@@ -5,7 +5,7 @@ ghost use Rattle.chi_trace.specs.Files.{trace_of};
 ghost use Rattle.chi_trace.specs.Flits.{flit_at};
 ghost use Rattle.chi_trace.specs.Numbers.{hex_of};
 ghost use Rattle.chi_trace.specs.Spelling.{IsFlitLine, IsHex, IsTrace};
-ghost use Rattle.chi_trace.specs.Words.{words_of};
+ghost use Rattle.chi_trace.specs.Words.{blank_words};
 ghost use Rattle.chi_trace.specs.declared.flits.Seen.{Seen};
 
 /// A word is read as a number exactly where it is that number in hexadecimal, within the most that there may be.
@@ -19,9 +19,9 @@ pub fn numbers_are_hexadecimal()
 /// Source: `docs/TRACES.md`, "Traces".
 pub fn lines_are_flits()
     ensures read { (n : ℕ) (line : List ℕ) (seen : Seen)
-        → flit_at n (words_of line) ≡ Ok (Some seen) → IsFlitLine n seen line }
+        → flit_at n (blank_words line) ≡ Ok (Some seen) → IsFlitLine n seen line }
     ensures again { (n : ℕ) (line : List ℕ) (seen : Seen)
-        → IsFlitLine n seen line → flit_at n (words_of line) ≡ Ok (Some seen) }
+        → IsFlitLine n seen line → flit_at n (blank_words line) ≡ Ok (Some seen) }
 {}
 
 /// A file is read as flits exactly where it is lines, each with a line end behind it, that are comments and

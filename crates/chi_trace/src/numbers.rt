@@ -1,7 +1,7 @@
 //! Numbers as a trace writes them: in hexadecimal.
 
 ghost use Rattle.std.specs.Prelude.{◌≡◌, ◌≤◌, ◌<◌, IfSome};
-ghost use Rattle.chi_trace.specs.Numbers.{digit_of, digits_from, hex_of, with_digit};
+ghost use Rattle.chi_trace.specs.Numbers.{digit_of, digits_from, hex_of, with_hex_digit};
 
 /// The number that the word writes in hexadecimal, with leading zeros or without, at most `most`. `None` for
 /// every other word.
@@ -32,7 +32,7 @@ fn digits(word: &[u8], most: u64) -> Option<u64>
 /// The number with one more digit at its end.
 fn with_digit(number: u64, digit: u8, most: u64) -> Option<u64>
     requires { number ≤ most }
-    ensures read { result ≡ with_digit most number digit }
+    ensures read { result ≡ with_hex_digit most number digit }
     ensures fits { IfSome result (λ number. number ≤ most) }
 {
     let more = u128::from(number) * 16 + u128::from(digit_value(digit)?);

@@ -1,7 +1,7 @@
 //! The opcodes of a trace, by channel.
 
 ghost use Rattle.std.specs.Prelude.{◌≡◌, Some};
-ghost use Rattle.chi_trace.specs.Opcodes.{channel_in, channel_of, cpu_opcode, data_opcode, opcode_in, opcode_text, request_opcode, response_opcode, snoop_opcode};
+ghost use Rattle.chi_trace.specs.Opcodes.{channel_in, opcode_channel, cpu_opcode, data_opcode, opcode_in, opcode_text, request_opcode, response_opcode, snoop_opcode};
 
 use chi_flit::{Kind, Snoop};
 use chi_script::is;
@@ -174,7 +174,7 @@ impl Opcode {
     /// The channel that a line of this opcode names.
     /// Source: `docs/TRACES.md`, "Traces".
     pub fn channel(self) -> Channel
-        ensures { result ≡ channel_of self }
+        ensures { result ≡ opcode_channel self }
     {
         match self {
             Opcode::Request(_) | Opcode::PCrdReturn => Channel::Req,

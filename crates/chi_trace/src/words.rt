@@ -3,8 +3,8 @@
 ghost use Rattle.std.specs.Prelude.{◌≡◌, not};
 ghost use Rattle.std.specs.List.{position};
 ghost use Rattle.std.specs.Option.{option_map};
-ghost use Rattle.chi_trace.specs.Columns.{first_of};
-ghost use Rattle.chi_trace.specs.Words.{is_blank, words_of};
+ghost use Rattle.chi_trace.specs.Columns.{first_word_of};
+ghost use Rattle.chi_trace.specs.Words.{is_blank, blank_words};
 
 /// Whether the byte parts words: a space, a tab, or the carriage return before a line end.
 /// Source: `docs/TRACES.md`, "Traces".
@@ -18,7 +18,7 @@ fn is_blank(byte: u8) -> bool
 /// The first word of a line, and what stands behind the blank after it. `None` where the line has no word.
 /// Source: `docs/TRACES.md`, "Traces".
 pub(crate) fn first_word(line: &[u8]) -> Option<(&[u8], &[u8])>
-    ensures { option_map (λ found. (found.0.now, words_of found.1.now)) result ≡ first_of (words_of line.now) }
+    ensures { option_map (λ found. (found.0.now, blank_words found.1.now)) result ≡ first_word_of (blank_words line.now) }
 {
     let start = word_start(line)?;
     let text = &line[start..];

@@ -16,7 +16,7 @@ use Rattle.chi_tracker.specs.Rule.{IsSound, Fits, TrackerRule}
 use Rattle.chi_tracker.proofs.Places.{clear_place}
 use Rattle.chi_tracker.specs.declared.step.Step.{Step}
 use Rattle.chi_tracker.specs.declared.step.Step.TheVariants.{Claim, Free, Note, Owe, Look, Settle, Promise, See, Spend, Return}
-use Rattle.chi_tracker.specs.Steps.{one, first_clear, word_of, written, effect, May}
+use Rattle.chi_tracker.specs.Steps.{one, first_clear, word_of_step, written, effect, May}
 use Rattle.chi_tracker.proofs.Addition.{weigh-term, raised_here, raised_else}
 use Rattle.chi_tracker.proofs.BitLaws.{with_here, with_else, but_here, but_else}
 use Rattle.chi_tracker.proofs.Entries.{in_range}
@@ -43,7 +43,7 @@ module _ (key : Shape) (id : ℕ) (x : PortView) where
   -- a step keeps the rule, and tells what it shows
   abbrev pub Keeps : Step → Type 0
   Keeps k = (ws : List ℕ) (homes : Homes) (vs : List SeatView) → Rule ws homes vs → get_elem? vs id ≡ some (one x) → IsSound key x
-      → Rule (set ws (word_of k x.who) (written k (slice_index ws (word_of k x.who)))) homes (set vs id (one (effect k (slice_index ws (word_of k x.who)) x))) × Learns k (slice_index ws (word_of k x.who)) x
+      → Rule (set ws (word_of_step k x.who) (written k (slice_index ws (word_of_step k x.who)))) homes (set vs id (one (effect k (slice_index ws (word_of_step k x.who)) x))) × Learns k (slice_index ws (word_of_step k x.who)) x
 
   pub claim_keeps : (t e : ℕ) → May (Claim t e) x → Keeps (Claim t e)
   claim_keeps t e may ws homes vs rule at sound =

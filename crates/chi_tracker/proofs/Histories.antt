@@ -15,8 +15,8 @@ use Rattle.chi_tracker.specs.Sums.{total, with_bit, without_bit}
 use Rattle.chi_tracker.specs.Shape.{low, IsOf, IsShape}
 use Rattle.chi_tracker.specs.Views.{PortView, Duty, has, new_port, new_ports}
 use Rattle.chi_tracker.specs.Rule.{weigh, AllSound, AllSeatsSound, TrackerRule}
-use Rattle.chi_tracker.specs.Steps.{one, no_shape, hand_without, word_of, written, effect, May}
-use Rattle.chi_tracker.specs.History.{port_at, after, Legal, state_of}
+use Rattle.chi_tracker.specs.Steps.{one, no_shape, hand_without, word_of_step, written, effect, May}
+use Rattle.chi_tracker.specs.History.{port_at, outcome_of, Legal, table_state}
 use Rattle.chi_tracker.proofs.Moves.{sound_of}
 use Rattle.chi_tracker.proofs.Start.{opens, opened, regroup}
 use Rattle.chi_tracker.proofs.BitLaws.{with_else, dropped_here, dropped_else}
@@ -84,18 +84,18 @@ same_shape (See i) r p = refl
 same_shape (Spend t e) r p = refl
 same_shape (Return t e) r p = refl
 
-pub ports-length : (s : Shape) (acts : List Act) → length (after s acts).ports ≡ s.agents
+pub ports-length : (s : Shape) (acts : List Act) → length (outcome_of s acts).ports ≡ s.agents
 ports-length s [] = new-length s 0 s.agents
-ports-length s (a ∷ acts) = length-set (after s acts).ports a.who (effect a.step a.found (port_at (after s acts).ports a.who)) ∙ ports-length s acts
+ports-length s (a ∷ acts) = length-set (outcome_of s acts).ports a.who (effect a.step a.found (port_at (outcome_of s acts).ports a.who)) ∙ ports-length s acts
 
-pub ports-who : (s : Shape) (acts : List Act) (n : ℕ) → n < s.agents → (port_at (after s acts).ports n).who ≡ n
+pub ports-who : (s : Shape) (acts : List Act) (n : ℕ) → n < s.agents → (port_at (outcome_of s acts).ports n).who ≡ n
 ports-who s [] n l = omega (arith, new-who s 0 s.agents n l)
 ports-who s (a ∷ acts) n l =
-    let ps : List PortView = (after s acts).ports in let y : PortView = effect a.step a.found (port_at ps a.who) in dite (ℕ_discrete n a.who)
+    let ps : List PortView = (outcome_of s acts).ports in let y : PortView = effect a.step a.found (port_at ps a.who) in dite (ℕ_discrete n a.who)
     (λ q. ap (λ i. (port_at (set ps a.who y) i).who) q ∙ ap (λ p. p.who) (get_or-set_same ps a.who y nobody (omega (arith, ports-length s acts))) ∙ same_who a.step a.found (port_at ps a.who) ∙ ap (λ i. (port_at ps i).who) (sym q) ∙ ports-who s acts n l)
     (λ d. ap (λ p. p.who) (get_or-set_other ps a.who n y nobody d) ∙ ports-who s acts n l)
 
-first_rule : (s : Shape) → IsShape s → TrackerRule s (state_of (after s []))
+first_rule : (s : Shape) → IsShape s → TrackerRule s (table_state (outcome_of s []))
 first_rule s shaped =
     let r = opens s shaped in let ps : List PortView = new_ports s 0 s.agents in record {
       words = r.words;
@@ -104,29 +104,29 @@ first_rule s shaped =
       fits = regroup s _ _ _ (opened s) (map one ps) (λ f. omega (arith, weigh-seats f ps)) (sound-seats s ps r.fits.sound.0) r.fits;
     }
 
-step_rule : (s : Shape) (ws : List ℕ) (ps : List PortView) (n : ℕ) (k : Step) (r : ℕ) → TrackerRule s (state_of (record { words = ws; ports = ps })) → n < length ps → (port_at ps n).who ≡ n → May k (port_at ps n) → r ≡ slice_index ws (word_of k n)
-    → TrackerRule s (state_of (record { words = set ws (word_of k n) (written k r); ports = set ps n (effect k r (port_at ps n)) })) × Learns k r (port_at ps n)
+step_rule : (s : Shape) (ws : List ℕ) (ps : List PortView) (n : ℕ) (k : Step) (r : ℕ) → TrackerRule s (table_state (record { words = ws; ports = ps })) → n < length ps → (port_at ps n).who ≡ n → May k (port_at ps n) → r ≡ slice_index ws (word_of_step k n)
+    → TrackerRule s (table_state (record { words = set ws (word_of_step k n) (written k r); ports = set ps n (effect k r (port_at ps n)) })) × Learns k r (port_at ps n)
 step_rule s ws ps n k r rule l who may found =
     let x : PortView = port_at ps n in let at = seats-at ps n l in
-    let P : ℕ → ℕ → List SeatView → Type 0 = λ (u v : ℕ) (vs : List SeatView). TrackerRule s (record { words = set ws (word_of k u) (written k v); homes = []; views = vs }) in
+    let P : ℕ → ℕ → List SeatView → Type 0 = λ (u v : ℕ) (vs : List SeatView). TrackerRule s (record { words = set ws (word_of_step k u) (written k v); homes = []; views = vs }) in
     let h = keeps s n x k may ws [] (map one ps) rule at (sound_of s _ _ _ (map one ps) n x rule.fits at) in
-    let here : slice_index ws (word_of k x.who) ≡ r = ap (λ u. slice_index ws (word_of k u)) who ∙ sym found in (
+    let here : slice_index ws (word_of_step k x.who) ≡ r = ap (λ u. slice_index ws (word_of_step k u)) who ∙ sym found in (
       subst (λ (vs : List SeatView). P n r vs) (sym (seats-set ps n (effect k r x))) (subst (λ (u : ℕ). P u r (set (map one ps) n (one (effect k r x)))) who (subst (λ (v : ℕ). P x.who v (set (map one ps) n (one (effect k v x)))) here h.0)),
       subst (λ (v : ℕ). Learns k v x) here h.1,
     )
 
-pub rule_after : (s : Shape) (acts : List Act) → Legal s acts → TrackerRule s (state_of (after s acts))
+pub rule_after : (s : Shape) (acts : List Act) → Legal s acts → TrackerRule s (table_state (outcome_of s acts))
 rule_after s [] legal = first_rule s legal
 rule_after s (a ∷ acts) legal =
-    (step_rule s (after s acts).words (after s acts).ports a.who a.step a.found (rule_after s acts legal.0) (omega (arith, ports-length s acts, legal.1)) (ports-who s acts a.who legal.1) legal.2 legal.3).0
+    (step_rule s (outcome_of s acts).words (outcome_of s acts).ports a.who a.step a.found (rule_after s acts legal.0) (omega (arith, ports-length s acts, legal.1)) (ports-who s acts a.who legal.1) legal.2 legal.3).0
 
-pub learnt : (s : Shape) (a : Act) (acts : List Act) → Legal s (a ∷ acts) → Learns a.step a.found (port_at (after s acts).ports a.who)
+pub learnt : (s : Shape) (a : Act) (acts : List Act) → Legal s (a ∷ acts) → Learns a.step a.found (port_at (outcome_of s acts).ports a.who)
 learnt s a acts legal =
-    (step_rule s (after s acts).words (after s acts).ports a.who a.step a.found (rule_after s acts legal.0) (omega (arith, ports-length s acts, legal.1)) (ports-who s acts a.who legal.1) legal.2 legal.3).1
+    (step_rule s (outcome_of s acts).words (outcome_of s acts).ports a.who a.step a.found (rule_after s acts legal.0) (omega (arith, ports-length s acts, legal.1)) (ports-who s acts a.who legal.1) legal.2 legal.3).1
 
-pub shape_here : (s : Shape) (acts : List Act) (n : ℕ) → Legal s acts → n < s.agents → (port_at (after s acts).ports n).shape ≡ s
+pub shape_here : (s : Shape) (acts : List Act) (n : ℕ) → Legal s acts → n < s.agents → (port_at (outcome_of s acts).ports n).shape ≡ s
 shape_here s acts n legal l =
-    let ps : List PortView = (after s acts).ports in let r = rule_after s acts legal in
+    let ps : List PortView = (outcome_of s acts).ports in let r = rule_after s acts legal in
     (sound_of s _ _ _ _ n (port_at ps n) r.fits (seats-at ps n (omega (arith, ports-length s acts)))).shape_is
 
 -- what is in a set once an entry was taken out was there before
@@ -163,10 +163,10 @@ hand_after (Return t i) r p e may h = dite (ℕ_discrete e i)
     (λ d. inl (sym (with_else p.hand i e d) ∙ h))
 
 -- what is in hand is one of the tracker's entries
-pub hand_inside : (s : Shape) (acts : List Act) (n e : ℕ) → Legal s acts → n < s.agents → has e (port_at (after s acts).ports n) ≡ 1 → e < low s 4
+pub hand_inside : (s : Shape) (acts : List Act) (n e : ℕ) → Legal s acts → n < s.agents → has e (port_at (outcome_of s acts).ports n) ≡ 1 → e < low s 4
 hand_inside s [] n e legal l h = absurd (let z : has e (port_at (new_ports s 0 s.agents) n) ≡ 0 = ap (has e) (new-at s 0 s.agents n l) ∙ bit_at-zero e in omega arith)
 hand_inside s (a ∷ acts) n e legal l h =
-    let ps : List PortView = (after s acts).ports in let x : PortView = port_at ps a.who in let y : PortView = effect a.step a.found x in dite (ℕ_discrete n a.who)
+    let ps : List PortView = (outcome_of s acts).ports in let x : PortView = port_at ps a.who in let y : PortView = effect a.step a.found x in dite (ℕ_discrete n a.who)
     (λ q. let here : has e y ≡ 1 = ap (has e) (sym (get_or-set_same ps a.who y nobody (omega (arith, ports-length s acts, legal.1)))) ∙ ap (λ i. has e (port_at (set ps a.who y) i)) (sym q) ∙ h in
     ⊎_elim (λ before. hand_inside s acts a.who e legal.0 legal.1 before)
     (λ of. let is : IsOf s of.0 e = subst (λ (z : Shape). IsOf z of.0 e) (shape_here s acts a.who legal.0 legal.1) of.2 in omega (arith, is.1, low_up s of.0 4 of.1))

@@ -14,7 +14,7 @@ use Rattle.chi_tracker.specs.Views.{PortView, has}
 use Rattle.chi_tracker.specs.Steps.{Shown, shown, solo, port_of, spends, returns_credit}
 use Rattle.chi_tracker.specs.Acts.{Act}
 use Rattle.chi_tracker.specs.History.{IsAfter}
-use Rattle.chi_tracker.specs.Calls.{Owner, owner_of, owner_in, into_hand, port_after_scan, IsHeld, IsKept, owed_one, set_count, seen_of, IsLowestSeen, Ended, HasOneLess}
+use Rattle.chi_tracker.specs.Calls.{Owner, owner_of, owner_in, into_hand, port_after_scan, IsHeld, IsPortKept, owed_one, set_count, seen_of, IsLowestSeen, Ended, HasOneLess}
 use Rattle.chi_tracker.proofs.Addition.{raised_here, raised_else}
 use Rattle.chi_tracker.proofs.BitLaws.{with_here, taken_here, taken_else}
 use Rattle.chi_tracker.proofs.Histories.{hand_inside}
@@ -22,8 +22,8 @@ use Rattle.chi_tracker.proofs.Entries.{credit_below, in_range, count_moved, coun
 use Rattle.chi_tracker.proofs.Sweeps.{ended_same, ended_duty, ended_note}
 use Rattle.chi_tracker.specs.declared.released.Released.{Released}
 
-pub held_of : (o : Option (Seat ℕ SeatView)) (seat : Seat ℕ SeatView) (n : ℕ) (s : Shape) (seen due : List ℕ) → o ≡ Some seat → IsKept o n s seen due → IsHeld (shown seat.me) n s seen due
-held_of o seat n s seen due e kept = subst (λ (z : Option (Seat ℕ SeatView)). IsKept z n s seen due) e kept
+pub held_of : (o : Option (Seat ℕ SeatView)) (seat : Seat ℕ SeatView) (n : ℕ) (s : Shape) (seen due : List ℕ) → o ≡ Some seat → IsPortKept o n s seen due → IsHeld (shown seat.me) n s seen due
+held_of o seat n s seen due e kept = subst (λ (z : Option (Seat ℕ SeatView)). IsPortKept z n s seen due) e kept
 
 -- the view that callers see
 pub owner_is : (o : Option (Seat ℕ SeatView)) (seat : Seat ℕ SeatView) (w : Owner) → o ≡ Some seat → owner_of o ≡ w → w ≡ owner_in seat

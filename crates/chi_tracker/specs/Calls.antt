@@ -17,7 +17,7 @@ use Rattle.chi_tracker.specs.Steps.{Shown, shown, solo, port_of, no_shape, retur
 use Rattle.chi_tracker.specs.History.{port_in}
 
 -- a tracker: which table its words are, its entries by type and its requesters
-pub record Home : Type 0 where
+pub record TrackerState : Type 0 where
   pub table : TableId
   pub shape : Shape
 
@@ -63,9 +63,9 @@ pub record IsHeld (me : Shown) (number : ℕ) (shape : Shape) (seen due : List �
   pub no_note : (port_of me).noted ≡ None
   pub inside : (e : ℕ) → has e (port_of me) ≡ 1 → e < low (port_of me).shape 4
 
-abbrev pub IsKept : Option (Seat ℕ SeatView) → ℕ → Shape → List ℕ → List ℕ → Type 0
-IsKept None number shape seen due = (shape ≡ no_shape) × (seen ≡ 0 ∷ 0 ∷ 0 ∷ 0 ∷ []) × (due ≡ 0 ∷ 0 ∷ 0 ∷ 0 ∷ [])
-IsKept (Some seat) number shape seen due = IsHeld (shown seat.me) number shape seen due
+abbrev pub IsPortKept : Option (Seat ℕ SeatView) → ℕ → Shape → List ℕ → List ℕ → Type 0
+IsPortKept None number shape seen due = (shape ≡ no_shape) × (seen ≡ 0 ∷ 0 ∷ 0 ∷ 0 ∷ []) × (due ≡ 0 ∷ 0 ∷ 0 ∷ 0 ∷ [])
+IsPortKept (Some seat) number shape seen due = IsHeld (shown seat.me) number shape seen due
 
 -- the first n entries of type t, as a set
 abbrev pub first_entries : Shape → ℕ → ℕ → ℕ
@@ -107,7 +107,7 @@ abbrev pub new_owners : TableId → Shape → List Owner
 new_owners table s = owners table (new_ports s 0 s.agents)
 
 -- a port of this tracker, with its shape
-abbrev pub IsOwnerAt : Home → Owner → Type 0
+abbrev pub IsOwnerAt : TrackerState → Owner → Type 0
 IsOwnerAt home p = (p.table ≡ home.table) × (p.port.shape ≡ home.shape)
 
 abbrev pub shape_of : List ℕ → ℕ → Shape

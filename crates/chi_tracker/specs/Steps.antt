@@ -134,17 +134,17 @@ abbrev pub returns_credit : ℕ → ℕ → PortView → PortView
 returns_credit t e p = record p { hand = with_bit p.hand e; seen = take_out p.seen e; returned = one_more p.returned t }
 
 -- the word that a step of requester n is done on
-abbrev pub word_of : Step → ℕ → ℕ
-word_of (Claim t e) n = e / 64
-word_of (Free e) n = e / 64
-word_of (Note t) n = owed_word n
-word_of (Owe k) n = owed_word n
-word_of (Look t m) n = owed_word m
-word_of (Settle e m k) n = owed_word m
-word_of (Promise e m) n = promise_word m (e / 64)
-word_of (See i) n = promise_word n i
-word_of (Spend t e) n = promise_word n (e / 64)
-word_of (Return t e) n = promise_word n (e / 64)
+abbrev pub word_of_step : Step → ℕ → ℕ
+word_of_step (Claim t e) n = e / 64
+word_of_step (Free e) n = e / 64
+word_of_step (Note t) n = owed_word n
+word_of_step (Owe k) n = owed_word n
+word_of_step (Look t m) n = owed_word m
+word_of_step (Settle e m k) n = owed_word m
+word_of_step (Promise e m) n = promise_word m (e / 64)
+word_of_step (See i) n = promise_word n i
+word_of_step (Spend t e) n = promise_word n (e / 64)
+word_of_step (Return t e) n = promise_word n (e / 64)
 
 -- a step's operation: what becomes of the word r
 abbrev pub written : Step → ℕ → ℕ

@@ -54,13 +54,13 @@ pub(crate) struct Seated {
 }
 
 impl Model for Port {
-    ghost use Rattle.chi_tracker.specs.Calls.{Owner, owner_of, IsKept};
+    ghost use Rattle.chi_tracker.specs.Calls.{Owner, owner_of, IsPortKept};
 
     ghost Value = { Owner };
 
     ghost view = { λ p. owner_of p.chair };
 
-    ghost invariant = { λ p. IsKept p.chair p.number p.shape p.seen p.due };
+    ghost invariant = { λ p. IsPortKept p.chair p.number p.shape p.seen p.due };
 }
 
 impl Default for Port {

@@ -5,7 +5,7 @@ ghost use Rattle.std.specs.Prelude.{◌≡◌, ℕ, ◌+◌, ◌*◌, ◌%◌, �
 ghost use Rattle.std.specs.Int.{bit_at};
 ghost use Rattle.chi_tracker.specs.Words.{word_count};
 ghost use Rattle.chi_tracker.specs.Views.{has, paid_of};
-ghost use Rattle.chi_tracker.specs.Steps.{first_clear, word_of, written, May};
+ghost use Rattle.chi_tracker.specs.Steps.{first_clear, word_of_step, written, May};
 ghost use Rattle.chi_tracker.specs.History.{act, port_in, GoesOn};
 ghost use Rattle.chi_tracker.specs.Calls.{IsSeat};
 ghost use Rattle.chi_tracker.specs.Conduct.{HasStepped};
@@ -23,7 +23,7 @@ fn load_word<T: Pick>(board: &Board, chair: &mut Chair, step: Step, word: usize)
     requires picked { T.step ≡ step }
     requires seat { IsSeat board.now.table_id chair.old }
     requires may { May step (port_in chair.old.me) }
-    requires word { (word ≡ word_of step (port_in chair.old.me).who) × (word < word_count) }
+    requires word { (word ≡ word_of_step step (port_in chair.old.me).who) × (word < word_count) }
     requires written { (r : ℕ) → r ≡ written step r }
     ensures is { HasStepped step chair.old result chair.new }
     ensures goes { let p = port_in chair.old.me in
@@ -38,7 +38,7 @@ fn set_bits<T: Pick>(board: &Board, chair: &mut Chair, step: Step, word: usize, 
     requires picked { T.step ≡ step }
     requires seat { IsSeat board.now.table_id chair.old }
     requires may { May step (port_in chair.old.me) }
-    requires word { (word ≡ word_of step (port_in chair.old.me).who) × (word < word_count) }
+    requires word { (word ≡ word_of_step step (port_in chair.old.me).who) × (word < word_count) }
     requires written { (r : ℕ) → bit_or r mask ≡ written step r }
     ensures is { HasStepped step chair.old result chair.new }
     ensures goes { let p = port_in chair.old.me in
@@ -53,7 +53,7 @@ fn clear_bits<T: Pick>(board: &Board, chair: &mut Chair, step: Step, word: usize
     requires picked { T.step ≡ step }
     requires seat { IsSeat board.now.table_id chair.old }
     requires may { May step (port_in chair.old.me) }
-    requires word { (word ≡ word_of step (port_in chair.old.me).who) × (word < word_count) }
+    requires word { (word ≡ word_of_step step (port_in chair.old.me).who) × (word < word_count) }
     requires written { (r : ℕ) → bit_and r mask ≡ written step r }
     ensures is { HasStepped step chair.old result chair.new }
     ensures goes { let p = port_in chair.old.me in

@@ -35,10 +35,10 @@ pub struct Tracker<A: Allocator> {
 impl<A: Allocator> Model for Tracker<A> {
     ghost use Rattle.std.specs.Prelude.{◌≡◌};
     ghost use Rattle.chi_tracker.specs.Words.{word_count};
-    ghost use Rattle.chi_tracker.specs.Calls.{Home};
+    ghost use Rattle.chi_tracker.specs.Calls.{TrackerState};
     ghost use Rattle.chi_tracker.specs.Shape.{IsShape};
 
-    ghost Value = { Home };
+    ghost Value = { TrackerState };
 
     ghost view = { λ t. record { table = t.table.shared.table_id; shape = t.shape } };
 

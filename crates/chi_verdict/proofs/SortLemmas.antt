@@ -7,7 +7,7 @@ use Rattle.std.proofs.lemmas.List.Elements.{All-weaker, filter_agree}
 use Rattle.std.proofs.lemmas.List.Sorted.{All-permutation, IsPermutation-sym}
 use Rattle.chi_config.specs.Config.{Sizes}
 use Rattle.chi_resolution.specs.declared.lines.Resolved.{Resolved}
-use Rattle.chi_verdict.specs.Lines.{AreExplained, AreLinesExplained, is_of, items_of}
+use Rattle.chi_verdict.specs.Lines.{AreExplained, AreLinesExplained, is_on_line, items_of}
 
 abbrev pub line_number : Resolved → ℕ
 line_number item = item.line.0
@@ -23,7 +23,7 @@ less false false = refl
 tie : (a b : ℕ) → (not (nat_lt a b) && not (nat_lt b a)) ≡ (b == a)
 tie a b = grind arith
 
-ties_are : (one other : Resolved) → ties by_line one other ≡ is_of one.line other
+ties_are : (one other : Resolved) → ties by_line one other ≡ is_on_line one.line other
 ties_are one other =
     let first : is_lt (nat_cmp one.line.0 other.line.0) ≡ nat_lt one.line.0 other.line.0 = less (nat_lt one.line.0 other.line.0) (one.line.0 == other.line.0) in
     let second : is_lt (nat_cmp other.line.0 one.line.0) ≡ nat_lt other.line.0 one.line.0 = less (nat_lt other.line.0 one.line.0) (other.line.0 == one.line.0) in
@@ -31,7 +31,7 @@ ties_are one other =
 
 same_items : (items sorted : List Resolved) → IsStableByKey line_number nat_cmp items sorted → (one : Resolved) → items_of one.line sorted ≡ items_of one.line items
 same_items items sorted stable one =
-    sym (filter_agree (ties by_line one) (is_of one.line) (ties_are one) sorted) ∙ stable one ∙ filter_agree (ties by_line one) (is_of one.line) (ties_are one) items
+    sym (filter_agree (ties by_line one) (is_on_line one.line) (ties_are one) sorted) ∙ stable one ∙ filter_agree (ties by_line one) (is_on_line one.line) (ties_are one) items
 
 -- what is explained in one order is in the other
 pub unsorted : (config : Sizes) (items sorted : List Resolved) → IsPermutation items sorted → IsStableByKey line_number nat_cmp items sorted → AreLinesExplained config sorted → AreLinesExplained config items

@@ -13,7 +13,7 @@ use Rattle.chi_resolution.specs.declared.reasons.IdFault.{IdFault}
 use Rattle.chi_resolution.specs.declared.resolution.Options.{Options}
 use Rattle.chi_verdict.specs.declared.reports.Outcome.{Outcome}
 use Rattle.chi_verdict.specs.declared.reports.Outcome.TheVariants.{Explained, Faulty, Malformed}
-use Rattle.chi_verdict.specs.Verdicts.{AreFlitsExplained, IfExplained, IsTraceExplained, node_of}
+use Rattle.chi_verdict.specs.Verdicts.{AreFlitsExplained, IfExplained, IsTraceExplained, verdict_sizes}
 use Rattle.chi_verdict.specs.Lines.{AreLinesExplained}
 
 said : {P Q : Type 0} (outcome : Outcome) → (P → Q) → IfExplained outcome P → IfExplained outcome Q
@@ -45,7 +45,7 @@ on_ok (Ok x) ok is = is
 on_ok (Err e) ok is = absurd (cc ok)
 
 -- what was judged is the trace's resolution
-pub flits_explained : {X E : Type 0} (options : Options) (seen : List Seen) (judged : Result X E) (config : Sizes) (fault : Option IdFault) (flits : List Resolved) → config ≡ node_of options.types
+pub flits_explained : {X E : Type 0} (options : Options) (seen : List Seen) (judged : Result X E) (config : Sizes) (fault : Option IdFault) (flits : List Resolved) → config ≡ verdict_sizes options.types
     → fault ≡ (resolution_of options seen).fault → flits ≡ (resolution_of options seen).progress.table.flits → OnOk judged (fault ≡ None) → OnOk judged (AreLinesExplained config flits) → IsOk judged → AreFlitsExplained options seen
 flits_explained options seen judged config fault flits size same_fault same none all ok = record {
   allowed = sym same_fault ∙ on_ok judged ok none;

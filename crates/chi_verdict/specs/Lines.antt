@@ -11,12 +11,12 @@ use Rattle.chi_resolution.specs.declared.lines.Observed.TheVariants.{Flit}
 use Rattle.chi_resolution.specs.declared.lines.Resolved.{Resolved}
 
 -- whether an item of a trace is of this cache line
-abbrev pub is_of : CacheLine → Resolved → Bool
-is_of line item = item.line.0 == line.0
+abbrev pub is_on_line : CacheLine → Resolved → Bool
+is_on_line line item = item.line.0 == line.0
 
 -- the items of this cache line, in their order
 abbrev pub items_of : CacheLine → List Resolved → List Resolved
-items_of line items = filter (is_of line) items
+items_of line items = filter (is_on_line line) items
 
 -- what items say
 abbrev pub said_by : List Resolved → List Observed

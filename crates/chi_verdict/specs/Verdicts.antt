@@ -13,15 +13,15 @@ use Rattle.chi_verdict.specs.declared.reports.Outcome.TheVariants.{Explained, Fa
 use Rattle.chi_verdict.specs.Lines.{AreLinesExplained}
 
 -- a node of one line with eight agents, and as many records as a journal may have
-abbrev pub node_of : Types → Sizes
-node_of Two = two_types 8 1 1 1 1 65536
-node_of Any = two_types 8 1 1 1 1 65536
-node_of Four = four_types 8 1 1 (1 ∷ 1 ∷ 1 ∷ 1 ∷ []) 65536
+abbrev pub verdict_sizes : Types → Sizes
+verdict_sizes Two = two_types 8 1 1 1 1 65536
+verdict_sizes Any = two_types 8 1 1 1 1 65536
+verdict_sizes Four = four_types 8 1 1 (1 ∷ 1 ∷ 1 ∷ 1 ∷ []) 65536
 
 -- the ids and the ledger allow all the flits, and those of each line are explained
 pub record AreFlitsExplained (options : Options) (seen : List Seen) : Type 0 where
   pub allowed : (resolution_of options seen).fault ≡ None
-  pub explained : AreLinesExplained (node_of options.types) (resolution_of options seen).progress.table.flits
+  pub explained : AreLinesExplained (verdict_sizes options.types) (resolution_of options seen).progress.table.flits
 
 -- a file is a trace, whose flits are explained
 pub record IsTraceExplained (options : Options) (file : List ℕ) : Type 0 where

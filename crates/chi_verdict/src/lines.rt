@@ -2,7 +2,7 @@
 
 ghost use Rattle.std.specs.Prelude.{◌≡◌, ◌≤◌, ◌+◌, [], true, IfOk, OnOk, length, map, take};
 ghost use Rattle.std.specs.List.{All};
-ghost use Rattle.chi_verdict.specs.Lines.{AreExplained, AreLinesExplained, is_of, said_by};
+ghost use Rattle.chi_verdict.specs.Lines.{AreExplained, AreLinesExplained, is_on_line, said_by};
 ghost use Rattle.chi_resolution.specs.declared.lines.Observed.TheVariants.{Flit};
 
 use chi_explain::{Deed, SentFlit, Unexplained};
@@ -63,7 +63,7 @@ fn gather<A: Allocator>(
 ) -> Result<usize, Obstacle>
     requires { flits.old.items ≡ [] }
     ensures bound { IfOk result (λ count. count ≤ length items.now) }
-    ensures line { IfOk result (λ count. All (λ item. is_of line item ≡ true) (take count items.now)) }
+    ensures line { IfOk result (λ count. All (λ item. is_on_line line item ≡ true) (take count items.now)) }
     ensures flits { IfOk result
         (λ count. map Flit flits.new.items ≡ said_by (take count items.now)) }
 {
@@ -115,7 +115,7 @@ fn explain_front<A: Allocator + Copy>(
 ) -> Result<Front, Obstacle>
     ensures bound { IfOk result (λ front. front.count ≤ length items.now) }
     ensures line { IfOk result
-        (λ front. All (λ item. is_of front.line item ≡ true) (take front.count items.now)) }
+        (λ front. All (λ item. is_on_line front.line item ≡ true) (take front.count items.now)) }
     ensures explained { IfOk result
         (λ front. AreExplained config.now (take front.count items.now)) }
 {

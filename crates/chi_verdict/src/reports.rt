@@ -2,7 +2,7 @@
 
 ghost use Rattle.std.specs.Prelude.{◌≡◌, IfOk, IsOk, None, OnOk, Some};
 ghost use Rattle.chi_verdict.specs.Lines.{AreLinesExplained};
-ghost use Rattle.chi_verdict.specs.Verdicts.{AreFlitsExplained, IfExplained, IsTraceExplained, node_of};
+ghost use Rattle.chi_verdict.specs.Verdicts.{AreFlitsExplained, IfExplained, IsTraceExplained, verdict_sizes};
 ghost use Rattle.chi_verdict.specs.declared.reports.Outcome.TheVariants as Outcome;
 
 use crate::check_files::Told;
@@ -60,7 +60,7 @@ fn profile_of(types: Types) -> Profile {
 
 /// A node of one line, with eight agents.
 fn config_of(types: Types) -> Option<Config>
-    ensures { result ≡ Some (node_of types) }
+    ensures { result ≡ Some (verdict_sizes types) }
 {
     match types {
         Types::Two | Types::Any => Config::new(8, 1, 1, 1, 1, 65_536),

@@ -3,7 +3,7 @@ use Rattle.std.proofs.Common.{rules, ◌≡◌, ◌∙◌, ap}
 use Rattle.chi_agent.specs.declared.seats.Seat.{Seat}
 use Rattle.chi_audit.specs.Boxes.{OutboxState}
 use Rattle.chi_agent.specs.Script.{operations_of, writer_of}
-use Rattle.chi_agent.specs.Ended.{number_of, outbox_of}
+use Rattle.chi_agent.specs.Ended.{requester_number, outbox_of}
 use Rattle.chi_agent.specs.Runs.{begun, start_of}
 use Rattle.chi_agent.specs.Runs as runs
 use Rattle.chi_agent.proofs.Returns.{starts, own_first, own_rest, fresh_first, fresh_rest}
@@ -36,7 +36,7 @@ loop-preserved g c =
           (first_begins config plan.seed plan.turns seat.requester rs rs' seat.script ss ss' e.requester e.script) c.push_reserved.ensures.items (begun_so c.in-Ok.handle.promise config plan seat ok.config ok.plan ok.seat);
       own = own_rest c.args.node.now seat.requester rs rs' i.own e.requester;
       fresh = fresh_rest c.args.tallies.now seat.script ss ss' i.fresh e.script;
-      writers = rests writer_of number_of seat.script ss ss' seat.requester rs rs' i.writers e.script e.requester;
+      writers = rests writer_of requester_number seat.script ss ss' seat.requester rs rs' i.writers e.script e.requester;
       outboxes = begins.own_rest (outbox_of c.args.inbox.now.channel) seat.outbox c.loop.outboxes.items c.first_seat.new.outboxes.items seat.requester rs rs' i.outboxes e.outbox e.requester;
       channels = one_more (λ h. h.promise.seat.value.outbox.channel ≡ c.args.inbox.now.channel) c.loop.handles.items c.push_reserved.new.self.items c.in-Ok.handle i.channels c.push_reserved.ensures.items (ap (λ (z : Seat). z.outbox.channel) ok.seat ∙ ap (λ (z : OutboxState). z.channel) e.channel);
       made = search rules;

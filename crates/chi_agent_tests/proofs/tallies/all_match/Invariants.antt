@@ -1,7 +1,7 @@
 -- The watcher stays that of the cells.
 use Rattle.std.proofs.Common.{◌≡◌, map}
-use Rattle.chi_audit.specs.Tallies.{cell_of}
+use Rattle.chi_audit.specs.Tallies.{reader_cell}
 use Rattle.chi_agent_tests.proofs.tallies.all_match.Given as goal
 
 abbrev pub invariant-loop-agent : goal.invariant-loop-agent
-invariant-loop-agent g l = map cell_of l.watcher ≡ l.fn.tallies
+invariant-loop-agent g l = map reader_cell l.watcher ≡ l.fn.tallies

@@ -1,5 +1,5 @@
 use Rattle.std.proofs.Common.{rules, ◌∙◌, ap, map}
-use Rattle.chi_audit.specs.Tallies.{cell_of}
+use Rattle.chi_audit.specs.Tallies.{reader_cell}
 use Rattle.chi_audit.proofs.Fresh.{cells_unread, opened_more}
 use Rattle.chi_audit.proofs.opening.tallies.Goals as goal
 
@@ -9,4 +9,4 @@ loop-agent-preserved c =
     (search rules) (search rules) (search rules) c.loop-agent.invariant.0 c.loop-agent.invariant.1 c.loop-agent.invariant.2 c.loop-agent.invariant.3
 
 pub returns-clause-watched : goal.returns-clause-watched
-returns-clause-watched c = ap (map cell_of) c.loop-agent.invariant.3 ∙ cells_unread _
+returns-clause-watched c = ap (map reader_cell) c.loop-agent.invariant.3 ∙ cells_unread _

@@ -1,7 +1,7 @@
 -- One agent more has its script and its writer.
 use Rattle.std.proofs.Common.{◌≡◌, ◌<◌, ◌∙◌, length, ap, arith, rules}
 use Rattle.chi_audit.specs.Tallies.{IsFresh}
-use Rattle.chi_storm.specs.Scripts.{script_of}
+use Rattle.chi_storm.specs.Scripts.{agent_script}
 use Rattle.chi_agent.specs.Script.{ScriptState}
 use Rattle.chi_agent.proofs.Numbers.{moves}
 use Rattle.chi_storm.proofs.Written.{first_new, left_new, next_fresh, next_scripts, one_below}

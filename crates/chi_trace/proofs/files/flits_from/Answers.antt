@@ -2,23 +2,23 @@
 use Rattle.std.proofs.Common.{sym, arith}
 use Rattle.std.proofs.lemmas.Result.{err_from_is_err_and}
 use Rattle.chi_script.specs.Files.{lines_of}
-use Rattle.chi_trace.specs.Files.{flits_of}
+use Rattle.chi_trace.specs.Files.{trace_flits}
 use Rattle.chi_trace.proofs.FlitLoop.{goes_on, is_done, is_open, stops}
 use Rattle.chi_trace.proofs.files.flits_from.Goals as goal
 
 pub returns-in_err-add_flit : goal.returns-in_err-add_flit
 returns-in_err-add_flit g c =
     let p = err_from_is_err_and c.from_residual.result c.from_residual.ensures.1 in
-    rw (p.1, p.2) (stops c.in_err-add_flit.field-0.0 c.loop-line.flits.items c.loop-line.number c.loop-line.rest.now c.in-Some.line.now c.in-Some.after.now (flits_of 1 (lines_of c.args.bytes.now)) c.in-Some.ensures.some c.in_err-add_flit.ensures c.loop-line.invariant.so_far)
+    rw (p.1, p.2) (stops c.in_err-add_flit.field-0.0 c.loop-line.flits.items c.loop-line.number c.loop-line.rest.now c.in-Some.line.now c.in-Some.after.now (trace_flits 1 (lines_of c.args.bytes.now)) c.in-Some.ensures.some c.in_err-add_flit.ensures c.loop-line.invariant.so_far)
 
 pub loop-line-preserved : goal.loop-line-preserved
 loop-line-preserved g c = record {
-  so_far = goes_on c.loop-line.flits.items c.add_flit.new.flits.items c.loop-line.number c.loop-line.rest.now c.in-Some.line.now c.in-Some.after.now (flits_of 1 (lines_of c.args.bytes.now)) c.in-Some.ensures.some c.in_ok-add_flit.ensures c.loop-line.invariant.so_far;
+  so_far = goes_on c.loop-line.flits.items c.add_flit.new.flits.items c.loop-line.number c.loop-line.rest.now c.in-Some.line.now c.in-Some.after.now (trace_flits 1 (lines_of c.args.bytes.now)) c.in-Some.ensures.some c.in_ok-add_flit.ensures c.loop-line.invariant.so_far;
   count = omega (arith, c.in-Some.ensures.shorter, c.loop-line.invariant.count);
 }
 
 pub returns-then-is_empty : goal.returns-then-is_empty
-returns-then-is_empty g c = is_done c.loop-line.flits.items c.loop-line.number c.loop-line.rest.now (flits_of 1 (lines_of c.args.bytes.now)) c.in_default.ensures.none (sym c.if-is_empty.ensures) c.loop-line.invariant.so_far
+returns-then-is_empty g c = is_done c.loop-line.flits.items c.loop-line.number c.loop-line.rest.now (trace_flits 1 (lines_of c.args.bytes.now)) c.in_default.ensures.none (sym c.if-is_empty.ensures) c.loop-line.invariant.so_far
 
 pub returns-else-is_empty : goal.returns-else-is_empty
-returns-else-is_empty g c = is_open c.loop-line.flits.items c.loop-line.number c.loop-line.rest.now (flits_of 1 (lines_of c.args.bytes.now)) c.in_default.ensures.none (sym c.if-is_empty.ensures) c.loop-line.invariant.so_far
+returns-else-is_empty g c = is_open c.loop-line.flits.items c.loop-line.number c.loop-line.rest.now (trace_flits 1 (lines_of c.args.bytes.now)) c.in_default.ensures.none (sym c.if-is_empty.ensures) c.loop-line.invariant.so_far

@@ -1,6 +1,6 @@
 -- The action is done on its line; the index and the journal follow.
 use Rattle.std.proofs.Common.{◌≡◌, ◌∙◌, Some, ap, rules, slice_set}
-use Rattle.chi_slice.specs.Slice.{SliceState, action_in, refused_under, slice_of}
+use Rattle.chi_slice.specs.Slice.{SliceState, action_in, refused_under, slice_with}
 use Rattle.chi_slice.proofs.Acts.{line_kept, not_out, ready, refused_now, room_for}
 use Rattle.chi_slice.proofs.Ends.{Ended, ended}
 use Rattle.chi_slice.proofs.slice.Slice.act_in.Given as given
@@ -23,7 +23,7 @@ returns-in_err-upshot-clause-refusal g c =
     search (rules, by_line)
 
 end : (g : given.Over) (c : goal.After-note g)
-    → Ended c.args.self.now c.args.terms (action_in c.args.at c.args.step) c.in_ok-upshot.upshot.effect c.in_ok-upshot.upshot.slot (slice_of c.self.inside.config c.self.inside.index (slice_set c.self.inside.lines.items c.from.result c.act.new.self) c.note.new.journal) c.follow.new.self
+    → Ended c.args.self.now c.args.terms (action_in c.args.at c.args.step) c.in_ok-upshot.upshot.effect c.in_ok-upshot.upshot.slot (slice_with c.self.inside.config c.self.inside.index (slice_set c.self.inside.lines.items c.from.result c.act.new.self) c.note.new.journal) c.follow.new.self
 end g c =
     ended c.args.self.now c.args.terms (action_in c.args.at c.args.step) c.self.inside.places c.follow.new.self c.note.new.journal c.self.view_is c.self.invariant.1
     (ready c.args.self.now c.args.terms (action_in c.args.at c.args.step) c.self.invariant.0 c.self.view_is (not_out c.args.self.now (action_in c.args.at c.args.step) c.requires.inside) (c.from.ensures ∙ c.requires.row) c.conditions-conditions.ensures c.index_mut-line.ensures.value)

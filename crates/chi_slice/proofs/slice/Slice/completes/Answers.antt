@@ -2,7 +2,7 @@
 use Rattle.std.proofs.Common.{◌≡◌, ◌∙◌, ℕ, ap, get_or, rules, sym}
 use Rattle.chi_line.specs.LineState.{LineState, cells_of}
 use Rattle.chi_line.specs.Refused.{completed_at}
-use Rattle.chi_slice.specs.Slice.{SliceState, slice_of}
+use Rattle.chi_slice.specs.Slice.{SliceState, slice_with}
 use Rattle.chi_slice.proofs.Acts.{completes_at}
 use Rattle.chi_slice.proofs.LineReads.{line_now}
 use Rattle.chi_slice.proofs.Rows.{in_range}
@@ -10,7 +10,7 @@ use Rattle.chi_slice.proofs.slice.Slice.completes.Goals as goal
 
 pub returns-in-Some : goal.returns-in-Some
 returns-in-Some g c =
-    let s : SliceState = slice_of c.self.inside.config c.self.inside.index c.self.inside.lines.items c.self.inside.journal in
+    let s : SliceState = slice_with c.self.inside.config c.self.inside.index c.self.inside.lines.items c.self.inside.journal in
     let told : c.completed_slot.result ≡ completed_at c.index.result.now.home (cells_of c.index.result.now c.args.action.agent.0) c.args.action.agent c.args.action.step = search (rules, c.completed_slot.ensures) in
     told
     ∙ (ap (λ (l : LineState). completed_at l.home (cells_of l c.args.action.agent.0) c.args.action.agent c.args.action.step)

@@ -1,6 +1,6 @@
 use Rattle.std.proofs.Common.{rules}
 use Rattle.chi_audit.proofs.Stored.{watches}
-use Rattle.chi_audit.proofs.cell.Cell.watch.Goals as goal
+use Rattle.chi_audit.proofs.cell.TallyCell.watch.Goals as goal
 
 pub split_pass-requires : goal.split_pass-requires
 split_pass-requires c = (search rules, (search rules, (search rules, watches _ _)))

@@ -11,7 +11,7 @@ use Rattle.chi_line.specs.Snooped.{answer_channel}
 use Rattle.chi_line.specs.Step.{answer_in}
 use Rattle.chi_line.specs.Traffic.{completion_flits, flit_on}
 use Rattle.chi_line.proofs.Answering.{answer_balances, completion_finds_empty}
-use Rattle.chi_line.proofs.line.Line.receive_answer.Goals as goal
+use Rattle.chi_line.proofs.line.CoherentLine.receive_answer.Goals as goal
 
 pub put_completion-requires-clause-empty : goal.put_completion-requires-clause-empty
 put_completion-requires-clause-empty c = λ some is.
