@@ -43,5 +43,5 @@ pub mod Law
 pub mod OneFlit
 pub mod Enabled
 pub mod RefusalRows
-pub mod CoherentLine
+pub mod LineCoherence
 pub mod OpeningLine

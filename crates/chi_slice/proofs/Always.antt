@@ -1,6 +1,6 @@
 -- Every slice is coherent.
 use Rattle.chi_line.proofs.Coherence.{coherent}
-use Rattle.chi_line.proofs.CoherentLine.{coherent_is}
+use Rattle.chi_line.proofs.LineCoherence.{coherent_is}
 use Rattle.chi_slice.specs.Coherence.{IsCoherentSlice}
 use Rattle.chi_slice.specs.Slice.{SliceKept, SliceState, last_of, line}
 

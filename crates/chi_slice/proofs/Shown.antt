@@ -5,7 +5,7 @@ use Rattle.std.proofs.lemmas.List.{get_or-map}
 use Rattle.chi_rnline.specs.Rn.{no_line}
 use Rattle.chi_line.specs.LineState.{LineState, rn_of}
 use Rattle.chi_line.specs.View.{copy_shown, line_view}
-use Rattle.chi_line.proofs.CoherentLine.{coherent_is}
+use Rattle.chi_line.proofs.LineCoherence.{coherent_is}
 use Rattle.chi_line.specs.declared.view.CopyView.{CopyView}
 use Rattle.chi_line.specs.declared.view.LineView.{LineView}
 use Rattle.chi_slice.specs.Verdict.{IsCoherentView, IsVerdictOnShown, copy_of, no_copy}

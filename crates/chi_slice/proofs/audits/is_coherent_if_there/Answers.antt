@@ -2,7 +2,7 @@
 use Rattle.std.proofs.Common.{rules, ◌≡◌, ◌↔◌, true, sym}
 use Rattle.std.specs.Prelude.{IsTrue}
 use Rattle.chi_line.specs.Clean.{CoherentParts}
-use Rattle.chi_line.proofs.CoherentLine.{coherent_is}
+use Rattle.chi_line.proofs.LineCoherence.{coherent_is}
 use Rattle.chi_slice.specs.Slice.{is_line_in_range, last_of, line}
 use Rattle.chi_slice.proofs.audits.is_coherent_if_there.Goals as goal
 
