@@ -65,11 +65,11 @@ fits_set sent got seat views by w others mine j u e =
 keeps : (items : List Report) (views : List ReportView) (sent : ℕ → Option Report) (got : List Report) (seat : ℕ)
     → ((a : ℕ) → report_total a views + there (sent a) ≤ 1) → ((a : ℕ) → times a items + times a got ≡ there (sent a)) → AreSent sent items → AreSent sent got
     → ((j : ℕ) (u : ReportView) → get_elem? views j ≡ some u → Fits sent got seat j u) → OneEach items views
-keeps items views sent got seat one_if each queued received fits = record {
+keeps items views sent got seat one each queued received fits = record {
   sent = sent;
   got = got;
   seat = seat;
-  one_if = one_if;
+  one = one;
   each = each;
   queued = queued;
   received = received;

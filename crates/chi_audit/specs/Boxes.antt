@@ -58,7 +58,7 @@ pub record OneEach (items : List Report) (views : List ReportView) : Type 0 wher
   pub sent : ℕ → Option Report
   pub got : List Report
   pub seat : ℕ
-  pub one_if : (a : ℕ) → report_total a views + there (sent a) ≤ 1
+  pub one : (a : ℕ) → report_total a views + there (sent a) ≤ 1
   pub each : (a : ℕ) → times a items + times a got ≡ there (sent a)
   pub queued : AreSent sent items
   pub received : AreSent sent got

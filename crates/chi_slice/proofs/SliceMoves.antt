@@ -8,7 +8,7 @@ use Rattle.chi_line.proofs.RequestMoves.{moves}
 use Rattle.chi_slice.specs.Slice.{OtherLinesStay, SliceKept, SliceState, slice_after, last_of, line, action_refusal, row_of_line}
 use Rattle.chi_slice.proofs.Acts.{Allowed, allowed, names_unused}
 use Rattle.chi_slice.proofs.Rows.{InRange, in_range, rows_apart}
-use Rattle.chi_slice.proofs.Slices.{line_at-with_line, line_at-with_other}
+use Rattle.chi_slice.proofs.Slices.{line_in_row-with_line, line_in_row-with_other}
 use Rattle.chi_slice.proofs.Refusing.{conditions_of}
 
 -- what an action that isn't refused does to the requests that a slice shows: at its line what its step does,
@@ -31,6 +31,6 @@ slice_moves s action k may =
     let new : LineState = after s.config.profile (line s action.line.0) action in
     record {
       moved = moved_at s action k by;
-      here = line_at-with_line s (row_of_line s action.line.0) new inside.row k;
-      elsewhere = λ other there apart. line_at-with_other s (row_of_line s action.line.0) (row_of_line s other) new (rows_apart s action.line.0 other k inside.line there apart);
+      here = line_in_row-with_line s (row_of_line s action.line.0) new inside.row k;
+      elsewhere = λ other there apart. line_in_row-with_other s (row_of_line s action.line.0) (row_of_line s other) new (rows_apart s action.line.0 other k inside.line there apart);
     }

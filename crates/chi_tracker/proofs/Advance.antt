@@ -14,7 +14,7 @@ use Rattle.chi_tracker.specs.Sums.{total}
 use Rattle.chi_tracker.specs.Views.{PortView}
 use Rattle.chi_tracker.specs.Rule.{weigh, of_port}
 use Rattle.chi_tracker.specs.Steps.{Shown, shown, solo, port_of, word_of_step, written, effect, May}
-use Rattle.chi_tracker.specs.History.{port_at, outcome_of, Legal, IsPortOf, ArePortsOf, IsSeatOf, AreSeatsOf, Reached, IsAfter, Did, act, port_in, GoesOn, TakesEffect}
+use Rattle.chi_tracker.specs.History.{port_at, history_outcome, Legal, IsPortOf, ArePortsOf, IsSeatOf, AreSeatsOf, Reached, IsAfter, Did, act, port_in, GoesOn, TakesEffect}
 use Rattle.chi_tracker.specs.Conduct.{HasStepped}
 use Rattle.chi_tracker.proofs.Addition.{total-set}
 use Rattle.chi_tracker.proofs.Moves.{of_mine, of_other}
@@ -31,14 +31,14 @@ done_other n a acts d = ap (λ b. cond b ((a.step, a.found) ∷ done_by n acts) 
 -- other ports and seats, when port n did one act more
 module _ (s : Shape) (acts : List Act) (a : Act) where
   abbrev y : PortView
-  y = effect a.step a.found (port_at (outcome_of s acts).ports a.who)
+  y = effect a.step a.found (port_at (history_outcome s acts).ports a.who)
 
   ports-others : (later : List Act) (ps : List PortView) → ArePortsOf s acts later ps → total (of_port a.who (λ _. 1)) ps ≡ 0 → ArePortsOf s (a ∷ acts) (a ∷ later) ps
   ports-others later [] h z = tt
   ports-others later (p ∷ ps) h z = dite (ℕ_discrete p.who a.who)
       (λ q. absurd (omega (arith, of_mine a.who (λ _. 1) p q)))
       (λ d. (
-        record { who = h.0.who; is = get_or-set_other (outcome_of s acts).ports a.who p.who y nobody d ∙ h.0.is; idle = done_other p.who a later (λ q. d (sym q)) ∙ h.0.idle },
+        record { who = h.0.who; is = get_or-set_other (history_outcome s acts).ports a.who p.who y nobody d ∙ h.0.is; idle = done_other p.who a later (λ q. d (sym q)) ∙ h.0.idle },
         ports-others later ps h.1 (omega (arith, of_other a.who (λ _. 1) p d)),
       ))
 
@@ -80,7 +80,7 @@ module _ (s : Shape) (slots id : ℕ) (m : Me ℕ SeatView) (k : Step) where
   pub allowed : shown m ≡ solo x → May k x → Allows (Reached s) slots id m (word_of_step k n) (written k) (TakesEffect k m)
   allowed alone may st reached len at l =
       let acts : List Act = reached.acts in let i : ℕ = word_of_step k n in let r : ℕ = slice_index st.words i in let b : Act = act n k r in
-      let ps : List PortView = (outcome_of s acts).ports in
+      let ps : List PortView = (history_outcome s acts).ports in
       let y : PortView = effect k r x in
       let w : SeatView = record { ports = y ∷ []; history = b ∷ acts } in
       let mine : m.0.ports ≡ x ∷ [] = ap (λ (z : Shown). z.0) alone in
@@ -124,8 +124,8 @@ module _ (s : Shape) (slots id : ℕ) (m : Me ℕ SeatView) (k : Step) where
         ),
       )
     where
-      before : (z : Shape) → z ≡ s → (xs : List Act) → reached.acts ≡ xs → port_at (outcome_of s reached.acts).ports n ≡ x → port_at (outcome_of z xs).ports n ≡ x
-      before z e xs f h = ap (λ (q : Shape). port_at (outcome_of q xs).ports n) e ∙ ap (λ (q : List Act). port_at (outcome_of s q).ports n) (sym f) ∙ h
+      before : (z : Shape) → z ≡ s → (xs : List Act) → reached.acts ≡ xs → port_at (history_outcome s reached.acts).ports n ≡ x → port_at (history_outcome z xs).ports n ≡ x
+      before z e xs f h = ap (λ (q : Shape). port_at (history_outcome q xs).ports n) e ∙ ap (λ (q : List Act). port_at (history_outcome s q).ports n) (sym f) ∙ h
 
       port-there : (ps : List PortView) (i : ℕ) → i < length ps → get_elem? ps i ≡ some (port_at ps i)
       port-there [] i l = absurd (omega arith)
@@ -147,13 +147,13 @@ module _ (p : PortView) (k : Step) (r : ℕ) (old new : List Act) (goes : GoesOn
 
   pub goes_after : IsAfter new (effect k r p)
   goes_after =
-      let q : PortView = effect k r p in let s : Shape = p.shape in let xs : List Act = goes.between ++ old in let ps : List PortView = (outcome_of s xs).ports in
+      let q : PortView = effect k r p in let s : Shape = p.shape in let xs : List Act = goes.between ++ old in let ps : List PortView = (history_outcome s xs).ports in
       let who = same_who k r p in let shape = same_shape k r p in
       let is : port_at (set ps p.who (effect k r (port_at ps p.who))) p.who ≡ q = get_or-set_same ps p.who (effect k r (port_at ps p.who)) nobody (omega (arith, ports-length s xs, goes.legal.1)) ∙ ap (effect k r) goes.before in
       let all : Legal s new = subst (Legal s) (sym goes.is) goes.legal in record {
         legal = subst (λ (z : Shape). Legal z new) (sym shape) all;
         who = subst (λ (z : Shape). q.who < z.agents) (sym shape) (omega (arith, who, goes.legal.1));
-        is = subst (λ (z : Shape). port_at (outcome_of z new).ports q.who ≡ q) (sym shape) (ap (λ (ys : List Act). port_at (outcome_of s ys).ports q.who) goes.is ∙ ap (port_at (set ps p.who (effect k r (port_at ps p.who)))) who ∙ is);
+        is = subst (λ (z : Shape). port_at (history_outcome z new).ports q.who ≡ q) (sym shape) (ap (λ (ys : List Act). port_at (history_outcome s ys).ports q.who) goes.is ∙ ap (port_at (set ps p.who (effect k r (port_at ps p.who)))) who ∙ is);
       }
 
   pub goes_learns : Learns k r p
@@ -165,5 +165,5 @@ stepped k old r new table told = record {
   table = table;
   view = told.0;
   acts = ((k, r) ∷ [], goes_did (port_in old.me) k r old.me.0.history new.me.0.history told.1, refl);
-  outcome_of = subst (IsAfter new.me.0.history) (sym (ap port_of told.0)) (goes_after (port_in old.me) k r old.me.0.history new.me.0.history told.1);
+  after = subst (IsAfter new.me.0.history) (sym (ap port_of told.0)) (goes_after (port_in old.me) k r old.me.0.history new.me.0.history told.1);
 }

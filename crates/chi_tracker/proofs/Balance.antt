@@ -19,7 +19,7 @@ use Rattle.chi_tracker.specs.Views.{PortView}
 use Rattle.chi_tracker.specs.Rule.{weigh, duty_is, TrackerRule}
 use Rattle.chi_tracker.specs.Steps.{Shown, shown, solo}
 use Rattle.chi_tracker.specs.Acts.{Act}
-use Rattle.chi_tracker.specs.History.{port_at, longer, outcome_of, Legal, ArePortsOf}
+use Rattle.chi_tracker.specs.History.{port_at, longer, history_outcome, Legal, ArePortsOf}
 use Rattle.chi_tracker.specs.Laws.{Ledger, duties}
 use Rattle.chi_tracker.specs.Calls.{Owner}
 use Rattle.chi_tracker.specs.Totals.{views_of, longest, sum_of, AreDue, AreCredits, credits_at, no_credits, closed_state, IsClosed, IsCount, IsBalanced}
@@ -153,10 +153,10 @@ one_seat key st id v rule at many =
     }
 
 -- the numbers read from the words at the end
-pub closes : (key s : Shape) (ws : List ℕ) (gathered ports : List PortView) (known history : List Act) (dues : List ℕ) (counts : Counts) (credits : List Credits) → key ≡ s → gathered ≡ ports → known ≡ history → TrackerRule key (closed_state ws gathered) → Legal key known × (ws ≡ (outcome_of key known).words) × ArePortsOf key known [] gathered
+pub closes : (key s : Shape) (ws : List ℕ) (gathered ports : List PortView) (known history : List Act) (dues : List ℕ) (counts : Counts) (credits : List Credits) → key ≡ s → gathered ≡ ports → known ≡ history → TrackerRule key (closed_state ws gathered) → Legal key known × (ws ≡ (history_outcome key known).words) × ArePortsOf key known [] gathered
     → ((n t : ℕ) → duties n t ports ≡ 0) → AreDue dues ports → IsCount s ws counts → AreCredits s ws dues s.agents credits → IsClosed s ports history counts credits
 closes key s ws gathered ports known history dues counts credits key_is all known_is rule by idle due counted handed =
-    let B : Shape → List PortView → List Act → Type 0 = λ (k : Shape) (ps : List PortView) (h : List Act). Legal k h × (ws ≡ (outcome_of k h).words) × ArePortsOf k h [] ps in
+    let B : Shape → List PortView → List Act → Type 0 = λ (k : Shape) (ps : List PortView) (h : List Act). Legal k h × (ws ≡ (history_outcome k h).words) × ArePortsOf k h [] ps in
     let made : B s ports history = subst (λ (k : Shape). B k ports history) key_is (subst (λ (ps : List PortView). B key ps history) all (subst (λ (h : List Act). B key gathered h) known_is by)) in
     let kept : TrackerRule s (closed_state ws ports) = subst (λ k. TrackerRule k (closed_state ws ports)) key_is (subst (λ ps. TrackerRule key (closed_state ws ps)) all rule) in record {
       words = ws;

@@ -16,7 +16,7 @@ use Rattle.chi_tracker.specs.Shape.{low, IsOf, IsShape}
 use Rattle.chi_tracker.specs.Views.{PortView, Duty, has, new_port, new_ports}
 use Rattle.chi_tracker.specs.Rule.{weigh, AllSound, AllSeatsSound, TrackerRule}
 use Rattle.chi_tracker.specs.Steps.{one, no_shape, hand_without, word_of_step, written, effect, May}
-use Rattle.chi_tracker.specs.History.{port_at, outcome_of, Legal, table_state}
+use Rattle.chi_tracker.specs.History.{port_at, history_outcome, Legal, table_state}
 use Rattle.chi_tracker.proofs.Moves.{sound_of}
 use Rattle.chi_tracker.proofs.Start.{opens, opened, regroup}
 use Rattle.chi_tracker.proofs.BitLaws.{with_else, dropped_here, dropped_else}
@@ -84,18 +84,18 @@ same_shape (See i) r p = refl
 same_shape (Spend t e) r p = refl
 same_shape (Return t e) r p = refl
 
-pub ports-length : (s : Shape) (acts : List Act) → length (outcome_of s acts).ports ≡ s.agents
+pub ports-length : (s : Shape) (acts : List Act) → length (history_outcome s acts).ports ≡ s.agents
 ports-length s [] = new-length s 0 s.agents
-ports-length s (a ∷ acts) = length-set (outcome_of s acts).ports a.who (effect a.step a.found (port_at (outcome_of s acts).ports a.who)) ∙ ports-length s acts
+ports-length s (a ∷ acts) = length-set (history_outcome s acts).ports a.who (effect a.step a.found (port_at (history_outcome s acts).ports a.who)) ∙ ports-length s acts
 
-pub ports-who : (s : Shape) (acts : List Act) (n : ℕ) → n < s.agents → (port_at (outcome_of s acts).ports n).who ≡ n
+pub ports-who : (s : Shape) (acts : List Act) (n : ℕ) → n < s.agents → (port_at (history_outcome s acts).ports n).who ≡ n
 ports-who s [] n l = omega (arith, new-who s 0 s.agents n l)
 ports-who s (a ∷ acts) n l =
-    let ps : List PortView = (outcome_of s acts).ports in let y : PortView = effect a.step a.found (port_at ps a.who) in dite (ℕ_discrete n a.who)
+    let ps : List PortView = (history_outcome s acts).ports in let y : PortView = effect a.step a.found (port_at ps a.who) in dite (ℕ_discrete n a.who)
     (λ q. ap (λ i. (port_at (set ps a.who y) i).who) q ∙ ap (λ p. p.who) (get_or-set_same ps a.who y nobody (omega (arith, ports-length s acts))) ∙ same_who a.step a.found (port_at ps a.who) ∙ ap (λ i. (port_at ps i).who) (sym q) ∙ ports-who s acts n l)
     (λ d. ap (λ p. p.who) (get_or-set_other ps a.who n y nobody d) ∙ ports-who s acts n l)
 
-first_rule : (s : Shape) → IsShape s → TrackerRule s (table_state (outcome_of s []))
+first_rule : (s : Shape) → IsShape s → TrackerRule s (table_state (history_outcome s []))
 first_rule s shaped =
     let r = opens s shaped in let ps : List PortView = new_ports s 0 s.agents in record {
       words = r.words;
@@ -115,18 +115,18 @@ step_rule s ws ps n k r rule l who may found =
       subst (λ (v : ℕ). Learns k v x) here h.1,
     )
 
-pub rule_after : (s : Shape) (acts : List Act) → Legal s acts → TrackerRule s (table_state (outcome_of s acts))
+pub rule_after : (s : Shape) (acts : List Act) → Legal s acts → TrackerRule s (table_state (history_outcome s acts))
 rule_after s [] legal = first_rule s legal
 rule_after s (a ∷ acts) legal =
-    (step_rule s (outcome_of s acts).words (outcome_of s acts).ports a.who a.step a.found (rule_after s acts legal.0) (omega (arith, ports-length s acts, legal.1)) (ports-who s acts a.who legal.1) legal.2 legal.3).0
+    (step_rule s (history_outcome s acts).words (history_outcome s acts).ports a.who a.step a.found (rule_after s acts legal.0) (omega (arith, ports-length s acts, legal.1)) (ports-who s acts a.who legal.1) legal.2 legal.3).0
 
-pub learnt : (s : Shape) (a : Act) (acts : List Act) → Legal s (a ∷ acts) → Learns a.step a.found (port_at (outcome_of s acts).ports a.who)
+pub learnt : (s : Shape) (a : Act) (acts : List Act) → Legal s (a ∷ acts) → Learns a.step a.found (port_at (history_outcome s acts).ports a.who)
 learnt s a acts legal =
-    (step_rule s (outcome_of s acts).words (outcome_of s acts).ports a.who a.step a.found (rule_after s acts legal.0) (omega (arith, ports-length s acts, legal.1)) (ports-who s acts a.who legal.1) legal.2 legal.3).1
+    (step_rule s (history_outcome s acts).words (history_outcome s acts).ports a.who a.step a.found (rule_after s acts legal.0) (omega (arith, ports-length s acts, legal.1)) (ports-who s acts a.who legal.1) legal.2 legal.3).1
 
-pub shape_here : (s : Shape) (acts : List Act) (n : ℕ) → Legal s acts → n < s.agents → (port_at (outcome_of s acts).ports n).shape ≡ s
+pub shape_here : (s : Shape) (acts : List Act) (n : ℕ) → Legal s acts → n < s.agents → (port_at (history_outcome s acts).ports n).shape ≡ s
 shape_here s acts n legal l =
-    let ps : List PortView = (outcome_of s acts).ports in let r = rule_after s acts legal in
+    let ps : List PortView = (history_outcome s acts).ports in let r = rule_after s acts legal in
     (sound_of s _ _ _ _ n (port_at ps n) r.fits (seats-at ps n (omega (arith, ports-length s acts)))).shape_is
 
 -- what is in a set once an entry was taken out was there before
@@ -163,10 +163,10 @@ hand_after (Return t i) r p e may h = dite (ℕ_discrete e i)
     (λ d. inl (sym (with_else p.hand i e d) ∙ h))
 
 -- what is in hand is one of the tracker's entries
-pub hand_inside : (s : Shape) (acts : List Act) (n e : ℕ) → Legal s acts → n < s.agents → has e (port_at (outcome_of s acts).ports n) ≡ 1 → e < low s 4
+pub hand_inside : (s : Shape) (acts : List Act) (n e : ℕ) → Legal s acts → n < s.agents → has e (port_at (history_outcome s acts).ports n) ≡ 1 → e < low s 4
 hand_inside s [] n e legal l h = absurd (let z : has e (port_at (new_ports s 0 s.agents) n) ≡ 0 = ap (has e) (new-at s 0 s.agents n l) ∙ bit_at-zero e in omega arith)
 hand_inside s (a ∷ acts) n e legal l h =
-    let ps : List PortView = (outcome_of s acts).ports in let x : PortView = port_at ps a.who in let y : PortView = effect a.step a.found x in dite (ℕ_discrete n a.who)
+    let ps : List PortView = (history_outcome s acts).ports in let x : PortView = port_at ps a.who in let y : PortView = effect a.step a.found x in dite (ℕ_discrete n a.who)
     (λ q. let here : has e y ≡ 1 = ap (has e) (sym (get_or-set_same ps a.who y nobody (omega (arith, ports-length s acts, legal.1)))) ∙ ap (λ i. has e (port_at (set ps a.who y) i)) (sym q) ∙ h in
     ⊎_elim (λ before. hand_inside s acts a.who e legal.0 legal.1 before)
     (λ of. let is : IsOf s of.0 e = subst (λ (z : Shape). IsOf z of.0 e) (shape_here s acts a.who legal.0 legal.1) of.2 in omega (arith, is.1, low_up s of.0 4 of.1))

@@ -14,7 +14,7 @@ use Rattle.chi_tracker.specs.Shape.{IsShape}
 use Rattle.chi_tracker.specs.Views.{PortView, new_port, new_ports}
 use Rattle.chi_tracker.specs.Rule.{AllSound, AllSeatsSound, IsSound, TrackerRule, all_new}
 use Rattle.chi_tracker.specs.Steps.{first_port}
-use Rattle.chi_tracker.specs.History.{port_at, outcome_of, Legal, ArePortsOf, IsSeatOf, AreSeatsOf, Reached, no_ports, view_at, longer, GoesOnFrom, HistoriesAgree}
+use Rattle.chi_tracker.specs.History.{port_at, history_outcome, Legal, ArePortsOf, IsSeatOf, AreSeatsOf, Reached, no_ports, view_at, longer, GoesOnFrom, HistoriesAgree}
 use Rattle.chi_tracker.specs.Calls.{rest_ports}
 use Rattle.chi_tracker.proofs.Addition.{total-set, total-append}
 use Rattle.chi_tracker.proofs.Moves.{sound_of}
@@ -189,7 +189,7 @@ enters key slots st r len l =
 sound-ports : (s : Shape) (acts later : List Act) (ps : List PortView) → Legal s acts → ArePortsOf s acts later ps → AllSound s ps
 sound-ports s acts later [] legal h = tt
 sound-ports s acts later (p ∷ ps) legal h =
-    let qs : List PortView = (outcome_of s acts).ports in
+    let qs : List PortView = (history_outcome s acts).ports in
     let there = sound_of s _ _ _ _ p.who (port_at qs p.who) (rule_after s acts legal).fits (seats-at qs p.who (omega (arith, ports-length s acts, h.0.who))) in
     (subst (IsSound s) h.0.is there, sound-ports s acts later ps legal h.1)
 
@@ -199,7 +199,7 @@ sound-seats s acts (v ∷ vs) legal h = (sound-ports s acts h.0.later v.ports le
 
 pub reached_rule : (key : Shape) (st : State ℕ SeatView) → Reached key st → TrackerRule key st
 reached_rule key st r =
-    let a = rule_after key r.acts r.legal in let ps : List PortView = (outcome_of key r.acts).ports in
+    let a = rule_after key r.acts r.legal in let ps : List PortView = (history_outcome key r.acts).ports in
     subst (λ (ws : List ℕ). TrackerRule key (record { words = ws; homes = st.homes; views = st.views })) (sym r.words) (record {
       words = a.words;
       agents = a.agents;

@@ -30,16 +30,16 @@ does a w = record {
 }
 
 -- what acts, of which the last stands first, make of the words and ports at the start
-abbrev pub outcome_of : Shape → List Act → Whole
-outcome_of s [] = record { words = replicate word_count 0; ports = new_ports s 0 s.agents }
-outcome_of s (a ∷ acts) = does a (outcome_of s acts)
+abbrev pub history_outcome : Shape → List Act → Whole
+history_outcome s [] = record { words = replicate word_count 0; ports = new_ports s 0 s.agents }
+history_outcome s (a ∷ acts) = does a (history_outcome s acts)
 
 -- each act is one that its port could do then, and found the word as the earlier acts left it
 abbrev pub Legal : Shape → List Act → Type 0
 Legal s [] = IsShape s
 Legal s (a ∷ acts) =
-    Legal s acts × (a.who < s.agents) × May a.step (port_at (outcome_of s acts).ports a.who)
-    × (a.found ≡ slice_index (outcome_of s acts).words (word_of_step a.step a.who))
+    Legal s acts × (a.who < s.agents) × May a.step (port_at (history_outcome s acts).ports a.who)
+    × (a.found ≡ slice_index (history_outcome s acts).words (word_of_step a.step a.who))
 
 -- the whole, as a table in which each port has a seat
 abbrev pub table_state : Whole → State ℕ SeatView
@@ -48,7 +48,7 @@ table_state w = record { words = w.words; homes = []; views = map one w.ports }
 -- p is a port of the history, as the acts left it, and has done nothing later
 pub record IsPortOf (s : Shape) (acts later : List Act) (p : PortView) : Type 0 where
   pub who : p.who < s.agents
-  pub is : port_at (outcome_of s acts).ports p.who ≡ p
+  pub is : port_at (history_outcome s acts).ports p.who ≡ p
   pub idle : done_by p.who later ≡ []
 
 abbrev pub ArePortsOf : Shape → List Act → List Act → List PortView → Type 0
@@ -70,15 +70,15 @@ AreSeatsOf s acts (v ∷ vs) = IsSeatOf s acts v × AreSeatsOf s acts vs
 pub record Reached (s : Shape) (st : State ℕ SeatView) : Type 0 where
   pub acts : List Act
   pub legal : Legal s acts
-  pub words : st.words ≡ (outcome_of s acts).words
+  pub words : st.words ≡ (history_outcome s acts).words
   pub seats : AreSeatsOf s acts st.views
-  pub ports : (f : PortView → ℕ) → weigh f st.views ≡ total f (outcome_of s acts).ports
+  pub ports : (f : PortView → ℕ) → weigh f st.views ≡ total f (history_outcome s acts).ports
 
 -- p is a port as a legal history leaves it
 pub record IsAfter (history : List Act) (p : PortView) : Type 0 where
   pub legal : Legal p.shape history
   pub who : p.who < p.shape.agents
-  pub is : port_at (outcome_of p.shape history).ports p.who ≡ p
+  pub is : port_at (history_outcome p.shape history).ports p.who ≡ p
 
 -- from the history `old` to `new` requester n did these steps, the last of them first, and others did theirs
 abbrev pub Did : ℕ → List (Step × ℕ) → List Act → List Act → Type 0
@@ -119,7 +119,7 @@ pub record GoesOn (p : PortView) (a : Act) (old new : List Act) : Type 0 where
   pub between : List Act
   pub is : new ≡ a ∷ (between ++ old)
   pub idle : done_by p.who between ≡ []
-  pub before : port_at (outcome_of p.shape (between ++ old)).ports p.who ≡ p
+  pub before : port_at (history_outcome p.shape (between ++ old)).ports p.who ≡ p
   pub legal : Legal p.shape (a ∷ (between ++ old))
 
 -- the port of a seat

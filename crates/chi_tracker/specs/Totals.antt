@@ -12,7 +12,7 @@ use Rattle.chi_tracker.specs.Words.{word_count, c_of, p_of, o_of}
 use Rattle.chi_tracker.specs.Views.{PortView}
 use Rattle.chi_tracker.specs.Rule.{of_port, TrackerRule}
 use Rattle.chi_tracker.specs.Acts.{Act}
-use Rattle.chi_tracker.specs.History.{outcome_of, Legal, ArePortsOf, longer}
+use Rattle.chi_tracker.specs.History.{history_outcome, Legal, ArePortsOf, longer}
 use Rattle.chi_tracker.specs.Laws.{duties}
 use Rattle.chi_tracker.specs.Calls.{Owner}
 
@@ -93,7 +93,7 @@ longest (o ∷ os) = longer o.history (longest os)
 pub record IsClosed (s : Shape) (ports : List PortView) (history : List Act) (counts : Counts) (credits : List Credits) : Type 0 where
   pub words : List ℕ
   pub legal : Legal s history
-  pub made : words ≡ (outcome_of s history).words
+  pub made : words ≡ (history_outcome s history).words
   pub left : ArePortsOf s history [] ports
   pub rule : TrackerRule s (closed_state words ports)
   pub no_duty : (n t : ℕ) → duties n t ports ≡ 0

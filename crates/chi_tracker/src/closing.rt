@@ -5,7 +5,7 @@ ghost use Rattle.std.specs.Slots.{slots_items, slots_len, IsFull};
 ghost use Rattle.chi_tracker.specs.Shape.{low};
 ghost use Rattle.chi_tracker.specs.Words.{word_count};
 ghost use Rattle.chi_tracker.specs.Rule.{TrackerRule};
-ghost use Rattle.chi_tracker.specs.History.{outcome_of, Legal, ArePortsOf};
+ghost use Rattle.chi_tracker.specs.History.{history_outcome, Legal, ArePortsOf};
 ghost use Rattle.chi_tracker.specs.Laws.{duties};
 ghost use Rattle.chi_tracker.specs.Totals.{views_of, longest, closed_state, AreDue, AreCredits};
 
@@ -101,7 +101,7 @@ pub(crate) fn last_words<A: Allocator>(
     requires all { length chair.me.0.ports ≡ table.shared.key.agents }
     ensures rule { TrackerRule table.shared.key (closed_state result chair.me.0.ports) }
     ensures history { Legal table.shared.key chair.me.0.history
-        × (result ≡ (outcome_of table.shared.key chair.me.0.history).words)
+        × (result ≡ (history_outcome table.shared.key chair.me.0.history).words)
         × ArePortsOf table.shared.key chair.me.0.history [] chair.me.0.ports }
 {
     let closed = table.close_with(chair);

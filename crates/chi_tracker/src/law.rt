@@ -26,7 +26,7 @@ impl Law {
     ghost use Rattle.std.specs.Prelude.{List};
     ghost use Rattle.chi_tracker.specs.Acts.{Act};
     ghost use Rattle.chi_tracker.specs.Rule.{TrackerRule};
-    ghost use Rattle.chi_tracker.specs.History.{Reached, Legal, outcome_of, table_state, IsAfter, ViewsAre, HistoriesAgree};
+    ghost use Rattle.chi_tracker.specs.History.{Reached, Legal, history_outcome, table_state, IsAfter, ViewsAre, HistoriesAgree};
     ghost use Rattle.chi_tracker.specs.Laws.{Places, Ledgers, AllKnow, IsOfRunning};
     ghost use Rattle.chi_tracker.specs.Views.{PortView};
 
@@ -35,7 +35,7 @@ impl Law {
     /// Source: `docs/PROTOCOL.md`, "The rule between steps".
     pub fn history()
         ensures made { (key : Shape) (acts : List Act) → Legal key acts
-            → TrackerRule key (table_state (outcome_of key acts)) }
+            → TrackerRule key (table_state (history_outcome key acts)) }
         ensures kept { (key : Shape) (st : State ℕ SeatView) → Reached key st → TrackerRule key st }
     {}
 

@@ -3,7 +3,7 @@ use Rattle.chi_tracker.specs.Rule.{TrackerRule}
 use Rattle.chi_tracker.specs.Totals.{closed_state}
 use Rattle.chi_tracker.proofs.Seats.{reached_rule}
 use Rattle.chi_tracker.proofs.Whole.{all_known}
-use Rattle.chi_tracker.specs.History.{outcome_of, Legal, ArePortsOf}
+use Rattle.chi_tracker.specs.History.{history_outcome, Legal, ArePortsOf}
 use Rattle.chi_tracker.proofs.Balance.{one_seat}
 use Rattle.chi_tracker.proofs.closing.last_words.Goals as goal
 
@@ -16,5 +16,5 @@ returns-clause-rule g c =
 pub returns-clause-history : goal.returns-clause-history
 returns-clause-history g c =
     let last = c.close_with-closed.ensures.values.2 in let key = c.args.table.shared.key in let chair = c.args.chair in
-    subst (λ ws. Legal key chair.me.0.history × (ws ≡ (outcome_of key chair.me.0.history).words) × ArePortsOf key chair.me.0.history [] chair.me.0.ports) (search (rules, last.2, c.read-words.ensures))
+    subst (λ ws. Legal key chair.me.0.history × (ws ≡ (history_outcome key chair.me.0.history).words) × ArePortsOf key chair.me.0.history [] chair.me.0.ports) (search (rules, last.2, c.read-words.ensures))
     (all_known key last.0 chair.id chair.me.0 last.1.0 last.1.1 c.requires.all)
