@@ -1,6 +1,6 @@
 -- How many agents a node may have.
 use Rattle.std.proofs.Common.{◌≡◌, ◌<◌, ◌≤◌, true, arith}
-use Rattle.chi_config.specs.Config.{Sizes, are_in_limits}
+use Rattle.chi_slice.specs.Words.{are_in_limits, Sizes}
 use Rattle.chi_slice.proofs.Rows.{InLimits, in_limits}
 
 pub some_agent : (config : Sizes) → are_in_limits config ≡ true → 0 < config.agents

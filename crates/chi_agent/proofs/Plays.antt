@@ -3,7 +3,7 @@ use Rattle.std.proofs.Common.{◌≡◌, ℕ, suc, ◌+◌, ◌<◌, ◌%◌, �
 use Rattle.rand_chacha.specs.ChaCha.{ChaCha}
 use Rattle.chi_agent.specs.Draws.{word_after}
 use Rattle.chi_agent.specs.Turns.{count_after}
-use Rattle.chi_config.specs.Config.{Sizes}
+use Rattle.chi_slice.specs.Words.{Sizes}
 use Rattle.chi_agent.specs.declared.player.Player.{Player}
 use Rattle.chi_agent.specs.Lives.{Played, Turned, random_word}
 

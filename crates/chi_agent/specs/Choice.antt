@@ -19,13 +19,8 @@ use Rattle.chi_flit.specs.declared.state.State.TheVariants.{I, SC, UC, UD, SD}
 use Rattle.chi_flit.specs.Credit.{credit_number}
 use Rattle.chi_flit.specs.Kind.{is_needed}
 use Rattle.chi_flit.specs.State.{is_valid}
-use Rattle.chi_rnline.specs.declared.pending.Pending.{Pending}
-use Rattle.chi_rnline.specs.declared.pending.Phase.{Phase}
-use Rattle.chi_rnline.specs.declared.pending.Phase.TheVariants.{Sent, Retried}
-use Rattle.chi_rnline.specs.Rn.{Rn, is_clean_copy, resend_refusal}
-use Rattle.chi_line.specs.LineState.{rn_of}
-use Rattle.chi_line.specs.Types.{pending_credit}
-use Rattle.chi_config.specs.Config.{Sizes}
+use Rattle.chi_slice.specs.Words.{is_clean_copy, pending_credit, resend_refusal, rn_of, Pending, Phase, Rn, Sizes}
+use Rattle.chi_slice.specs.Phases.{Sent, Retried}
 use Rattle.chi_slice.specs.Slice.{SliceState, are_in_range, line, action_refusal}
 use Rattle.chi_tracker.specs.Calls.{seen_of}
 use Rattle.chi_credit.specs.declared.slot.SlotRecord.{SlotRecord}

@@ -2,7 +2,7 @@
 use Rattle.std.specs.Prelude.{◌≡◌, ℕ, Bool, List, [], ◌∷◌, Option, ⊤}
 use Rattle.std.specs.declared.alloc.Global.{Global}
 use Rattle.chi_flit.specs.declared.operation.Operation.{Operation}
-use Rattle.chi_config.specs.Config.{Sizes}
+use Rattle.chi_slice.specs.Words.{Sizes}
 use Rattle.chi_node.specs.Requester.{RequesterState}
 use Rattle.chi_audit.specs.declared.reports.Report.{Report}
 use Rattle.chi_audit.specs.Gathered.{AreToldKept}

@@ -2,7 +2,7 @@
 
 ghost use Rattle.std.specs.Prelude.{◌≡◌, ◌%◌, Bool, IfSome, is_some, length, map, slice_get};
 ghost use Rattle.std.specs.List.{filter};
-ghost use Rattle.chi_line.specs.Step.{answer_in, data_answer};
+ghost use Rattle.chi_slice.specs.Words.{answer_in, data_answer};
 ghost use Rattle.chi_agent.specs.Choice.{call_of, deliveries, delivery, is_enabled, IsCall, IsOwnCall};
 ghost use Rattle.chi_agent.specs.declared.deliveries.Delivery.{Delivery as Kind};
 ghost use Rattle.chi_agent.specs.declared.deliveries.Delivery.TheVariants as variants;
@@ -11,7 +11,7 @@ use crate::choice::{Call, Choice};
 use crate::sight::Sight;
 use arrayvec::ArrayVec;
 use chi_flit::{DatUp, RspDown, RspUp, Step};
-use chi_wires::Cells;
+use chi_slice::Cells;
 use std::alloc::Allocator;
 
 /// A delivery at a line: of a flit to the agent, or of one of the agent's to the home, or a start of the

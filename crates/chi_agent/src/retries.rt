@@ -5,9 +5,8 @@ ghost use Rattle.chi_agent.specs.Choice.{has_credit, is_pending_retried, retry, 
 
 use crate::choice::{Call, Choice};
 use chi_flit::{CreditType, Profile, Step};
-use chi_line::pending_credit;
 use chi_node::Requester;
-use chi_rnline::{Pending, Phase, RnLine};
+use chi_slice::{Pending, Phase, RnLine, pending_credit};
 
 /// Whether the request is in phase Retried.
 fn is_retried(pending: Option<Pending>) -> bool

@@ -1,7 +1,7 @@
 //! The line that a turn looks at.
 
 ghost use Rattle.std.specs.Prelude.{◌≡◌, ◌<◌, IfNone, IfSome, false, length, true};
-ghost use Rattle.chi_line.specs.LineState.{cells_of, rn_of};
+ghost use Rattle.chi_slice.specs.Words.{cells_of, rn_of};
 ghost use Rattle.chi_slice.specs.Slice.{are_in_range, line as line_of_slice};
 
 use chi_flit::{Agent, Line};

@@ -7,7 +7,7 @@ use crate::choice::Choice;
 use crate::operations::{OperationPlace, Operations, Unfinished};
 use chi_flit::{Kind, Line, Slot, State, Step, Task, WordNo};
 use chi_node::Requester;
-use chi_rnline::RnLine;
+use chi_slice::RnLine;
 use std::alloc::Allocator;
 
 /// The free slot of the lowest number.

@@ -1,7 +1,7 @@
 //! What the tests share: nodes, and the scripts of agents with the writers of their tallies.
 
 ghost use Rattle.std.specs.Prelude.{◌≡◌, ◌≤◌, All, length, map, vec_len};
-ghost use Rattle.chi_config.specs.Config.{two_types};
+ghost use Rattle.chi_slice.specs.Words.{two_types};
 ghost use Rattle.chi_node.specs.Node.{AreOwn};
 ghost use Rattle.chi_audit.specs.Numbers.{numbers};
 ghost use Rattle.chi_audit.specs.Tallies.{writer_agent, reader_cell, IsFresh};

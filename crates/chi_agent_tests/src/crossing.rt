@@ -1,7 +1,7 @@
 //! A snoop that crosses a write-back, done call by call under locks.
 
 ghost use Rattle.std.specs.Prelude.{◌≡◌};
-ghost use Rattle.chi_config.specs.Config.{two_types};
+ghost use Rattle.chi_slice.specs.Words.{two_types};
 
 use crate::guests::{Guest, guests_of};
 use crate::sights::Sights;
@@ -10,9 +10,8 @@ use chi_flit::Step::{
     self, Issue, Load, RecvAck, RecvData, RecvDbid, RecvSnp, RecvSnpResp, RecvWrData, Start, Store,
 };
 use chi_flit::{Effect, Entry, Line, Slot, State, WordNo};
-use chi_homeline::Serving;
 use chi_node::{Arrived, Node, Stepped};
-use chi_slice::{Config, LineView};
+use chi_slice::{Config, LineView, Serving};
 use chi_tracker::Released;
 use std::process::Abort;
 use std::sync::Wait;

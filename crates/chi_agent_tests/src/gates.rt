@@ -1,7 +1,7 @@
 //! Agents that are held at a gate.
 
 ghost use Rattle.std.specs.Prelude.{◌≡◌};
-ghost use Rattle.chi_config.specs.Config.{two_types};
+ghost use Rattle.chi_slice.specs.Words.{two_types};
 
 use crate::bench::{node_of, on, opened};
 use chi_agent::{Gate, run_agents};

@@ -1,7 +1,7 @@
 //! Scripts that are played turn by turn, by one agent on a line of its own.
 
 ghost use Rattle.std.specs.Prelude.{◌≡◌, [], ◌∷◌};
-ghost use Rattle.chi_config.specs.Config.{two_types};
+ghost use Rattle.chi_slice.specs.Words.{two_types};
 
 use chi_agent::{Operations, Player};
 use chi_credit::SlotState;

@@ -1,9 +1,8 @@
 //! What the lines of a node show while nobody has a lock: it changes by what is done between two looks alone.
 
 use chi_flit::Line;
-use chi_journal::Record;
 use chi_node::Node;
-use chi_slice::{LineView, Slice};
+use chi_slice::{LineView, Record, Slice};
 use std::alloc::Global;
 use std::process::Abort;
 use std::sync::Wait;

@@ -1,7 +1,7 @@
 //! A tally that is read while its agent is held at a gate.
 
 ghost use Rattle.std.specs.Prelude.{◌≡◌, ◌<◌, length, map, vec_len};
-ghost use Rattle.chi_config.specs.Config.{two_types};
+ghost use Rattle.chi_slice.specs.Words.{two_types};
 ghost use Rattle.chi_node.specs.Node.{AreOwn};
 ghost use Rattle.chi_audit.specs.Tallies.{reader_cell};
 ghost use Rattle.chi_audit.specs.Numbers.{numbers};

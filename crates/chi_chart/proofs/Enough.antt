@@ -6,7 +6,7 @@ use Rattle.chi_script.specs.declared.commands.Command.{Command}
 use Rattle.chi_script.specs.declared.faults.Fault.{Fault}
 use Rattle.chi_script.specs.declared.headers.Header.{Header}
 use Rattle.chi_script.specs.Headers.{node_sizes}
-use Rattle.chi_config.specs.Config.{Sizes}
+use Rattle.chi_slice.specs.Words.{Sizes}
 use Rattle.chi_script.specs.declared.checks.Check.{Check}
 use Rattle.chi_script.specs.Checks.{CheckLine, line_of_check}
 use Rattle.chi_script.specs.CheckFiles.{check_file_of}

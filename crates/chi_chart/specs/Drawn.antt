@@ -7,7 +7,7 @@ use Rattle.chi_flit.specs.declared.message.Channel.{Channel}
 use Rattle.chi_flit.specs.declared.message.Channel.TheVariants as channels
 use Rattle.chi_flit.specs.Message.{channel_text, message_text}
 use Rattle.chi_flit.specs.State.{state_text}
-use Rattle.chi_homeline.specs.declared.serving.Serving.{Serving}
+use Rattle.chi_slice.specs.Words.{Serving}
 use Rattle.chi_reply.specs.Replies.{serving_text}
 use Rattle.chi_chart.specs.declared.drawn.Sheet.{Sheet}
 use Rattle.chi_chart.specs.declared.drawn.SliceBox.{SliceBox}

@@ -8,12 +8,8 @@ use Rattle.chi_flit.specs.declared.message.Channel.TheVariants as channels
 use Rattle.chi_flit.specs.declared.message.Msg.{Msg}
 use Rattle.chi_flit.specs.declared.state.State.{State}
 use Rattle.chi_flit.specs.declared.state.State.TheVariants as states
-use Rattle.chi_homeline.specs.declared.serving.Serving.{Serving}
-use Rattle.chi_homeline.specs.declared.serving.Serving.TheVariants as servings
-use Rattle.chi_wires.specs.declared.cells.Cells.{Cells}
-use Rattle.chi_wires.specs.Cell.{cell_of, no_flits}
-use Rattle.chi_line.specs.declared.view.CopyView.{CopyView}
-use Rattle.chi_line.specs.declared.view.LineView.{LineView}
+use Rattle.chi_slice.specs.Words.{cell_of, no_flits, Cells, CopyView, LineView, Serving}
+use Rattle.chi_slice.specs.Servings as servings
 use Rattle.chi_chart.specs.declared.marks.ChannelCell.{ChannelCell}
 use Rattle.chi_chart.specs.declared.marks.Mark.{Mark}
 use Rattle.chi_chart.specs.declared.marks.Mark.TheVariants.{Turned, Taken, Sent, Serves}

@@ -6,8 +6,8 @@ use Rattle.chi_flit.specs.declared.message.Channel.TheVariants as channels
 use Rattle.chi_flit.specs.declared.message.Msg.{Msg}
 use Rattle.chi_flit.specs.declared.numbers.Agent.{Agent}
 use Rattle.chi_flit.specs.declared.numbers.Line.{Line}
-use Rattle.chi_homeline.specs.declared.serving.Serving.{Serving}
-use Rattle.chi_homeline.specs.declared.serving.Serving.TheVariants as servings
+use Rattle.chi_slice.specs.Words.{Serving}
+use Rattle.chi_slice.specs.Servings as servings
 use Rattle.chi_chart.specs.declared.frame.Layout.{Layout}
 use Rattle.chi_chart.specs.declared.marks.ChannelCell.{ChannelCell}
 use Rattle.chi_chart.specs.declared.marks.Mark.{Mark}

@@ -7,7 +7,7 @@ use Rattle.chi_node.specs.System.{SystemState}
 use Rattle.chi_replay.specs.Session.{machine_of, ports_of}
 use Rattle.chi_replay.specs.Texts.{Allowed, Plays, opening_ports}
 use Rattle.chi_replay.specs.Turns.{Answer, machine_at_start, turn}
-use Rattle.chi_config.specs.Config.{Sizes}
+use Rattle.chi_slice.specs.Words.{Sizes}
 use Rattle.chi_chart.specs.declared.rows.Row as code
 use Rattle.chi_chart.specs.Rows.{ChartRow, bottom_of, row_of, rows_of, top}
 use Rattle.chi_chart.specs.Steps.{Step, steps_of}

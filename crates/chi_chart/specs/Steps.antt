@@ -3,8 +3,7 @@
 use Rattle.std.specs.Prelude.{◌≡◌, ℕ, List, [], ◌∷◌, ◌++◌, Option, Some, None}
 use Rattle.chi_flit.specs.declared.numbers.Line.{Line}
 use Rattle.chi_flit.specs.declared.refusal.Refusal.{Refusal}
-use Rattle.chi_line.specs.declared.view.LineView.{LineView}
-use Rattle.chi_line.specs.View.{line_view}
+use Rattle.chi_slice.specs.Words.{line_view, LineView}
 use Rattle.chi_script.specs.declared.commands.Command.{Command}
 use Rattle.chi_script.specs.declared.commands.Command.TheVariants as commands
 use Rattle.chi_node.specs.Home.{HomeState, node_last, node_line, node_view_refusal}

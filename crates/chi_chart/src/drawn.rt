@@ -6,7 +6,7 @@ ghost use Rattle.chi_chart.specs.Drawn.{arrow_text, bar_text, caption_text, end_
 
 use crate::commands::Spelled;
 use chi_flit::{Agent, Channel, Msg, NoMemory, State};
-use chi_homeline::Serving;
+use chi_slice::Serving;
 use std::alloc::Allocator;
 use std::fmt;
 

@@ -5,9 +5,7 @@ ghost use Rattle.std.specs.List.{flat_map};
 ghost use Rattle.chi_chart.specs.Marks.{agent_marks, cell_marks, channel_marks, channel_place, flit_marks, is_same_cell, marks_between, serving_marks, serving_place, state_marks, state_place, view_marks};
 
 use chi_flit::{Agent, Channel, Line, Msg, NoMemory, State};
-use chi_homeline::Serving;
-use chi_line::LineView;
-use chi_wires::Cells;
+use chi_slice::{Cells, LineView, Serving};
 use std::alloc::Allocator;
 
 /// Where one flit is in flight: there is one cell for each channel, agent and line.

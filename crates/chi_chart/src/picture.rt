@@ -14,7 +14,7 @@ use crate::notes::add_note;
 use crate::rows::{Row, below_mark};
 use crate::style::style;
 use chi_flit::{Agent, Channel, Line, Msg, NoMemory};
-use chi_homeline::Serving;
+use chi_slice::Serving;
 use std::alloc::Allocator;
 use std::io::Write;
 

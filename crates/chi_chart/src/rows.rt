@@ -6,12 +6,11 @@ ghost use Rattle.chi_chart.specs.Rows.{below_row, below_mark, below_marks, is_li
 ghost use Rattle.chi_chart.specs.Played.{IsPlayed, IsRun, row_seen};
 
 use crate::marks::{Mark, marks_between};
-use chi_config::Config;
 use chi_flit::{Line, NoMemory};
-use chi_line::LineView;
 use chi_node::System;
 use chi_replay::answer;
 use chi_script::Command;
+use chi_slice::{Config, LineView};
 use std::alloc::Allocator;
 
 /// A command, the line that a replay prints for it, and what it changed.

@@ -1,7 +1,6 @@
 -- What an action sends, channel by channel and agent by agent.
 use Rattle.std.proofs.Common.{◌≡◌, ℕ, suc, ◌+◌, List, [], ◌∷◌, ◌++◌, refl, sym, ap, ◌∙◌, append_assoc, add-one}
-use Rattle.chi_wires.specs.declared.cells.Cells.{Cells}
-use Rattle.chi_wires.specs.Flits.{cells_at}
+use Rattle.chi_slice.specs.Words.{cells_at, Cells}
 use Rattle.chi_explain.specs.declared.sent.SentFlit.{SentFlit}
 use Rattle.chi_flit.specs.Numbers.{agent_at}
 use Rattle.chi_explain.specs.Sent.{sent_below, sent_of_agent}

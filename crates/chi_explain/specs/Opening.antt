@@ -1,13 +1,10 @@
 -- A line that nobody has a copy of, at which nothing is under way (docs/TRACES.md, "Explanations").
 use Rattle.std.specs.Prelude.{◌≡◌, ◌&&◌, ℕ, Bool, List, true, false, not, Option, Some, None, is_none}
 use Rattle.std.specs.List.{All}
-use Rattle.chi_config.specs.Config.{Sizes}
+use Rattle.chi_slice.specs.Words.{line_view, Cells, LineView, Sizes}
 use Rattle.chi_flit.specs.declared.state.State.TheVariants.{I}
-use Rattle.chi_homeline.specs.declared.serving.Serving.TheVariants.{Idle}
-use Rattle.chi_line.specs.declared.view.LineView.{LineView}
-use Rattle.chi_line.specs.View.{line_view}
+use Rattle.chi_slice.specs.Servings.{Idle}
 use Rattle.chi_slice.specs.Slice.{SliceState, last_of, line}
-use Rattle.chi_wires.specs.declared.cells.Cells.{Cells}
 
 -- the home names nobody, and nothing is pending, waits or is served
 pub record IsQuiet (view : LineView) : Type 0 where

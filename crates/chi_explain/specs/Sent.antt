@@ -5,10 +5,7 @@ use Rattle.chi_flit.specs.Numbers.{agent_at}
 use Rattle.chi_flit.specs.declared.numbers.Agent.{Agent}
 use Rattle.chi_flit.specs.declared.message.Channel.TheVariants.{Req, RspDown, DatDown, RspUp, DatUp}
 use Rattle.chi_flit.specs.declared.message.Msg.{Msg}
-use Rattle.chi_wires.specs.declared.cells.Cells.{Cells}
-use Rattle.chi_wires.specs.Cell.{cell_of}
-use Rattle.chi_wires.specs.Flits.{cells_at}
-use Rattle.chi_line.specs.LineState.{LineState}
+use Rattle.chi_slice.specs.Words.{cell_of, cells_at, Cells, LineState}
 use Rattle.chi_explain.specs.declared.sent.SentFlit.{SentFlit}
 
 -- the flit of an agent's channel on which nothing was in flight before

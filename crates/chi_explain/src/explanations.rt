@@ -7,8 +7,7 @@ ghost use Rattle.chi_slice.specs.Slice.{line};
 use crate::openings::{LINE, opened};
 use crate::sent::{SentFlit, behind, behind_all};
 use chi_flit::{Action, Agent, Data, Msg, NoMemory, Refusal, Snoop, Step};
-use chi_slice::{Config, Slice};
-use chi_wires::Cells;
+use chi_slice::{Cells, Config, Slice};
 use std::alloc::Allocator;
 
 /// An item of an explanation.

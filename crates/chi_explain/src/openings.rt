@@ -3,15 +3,11 @@
 ghost use Rattle.std.specs.Prelude.{◌≡◌, ◌↔◌, IfOk, IsTrue, is_none, not, true};
 ghost use Rattle.std.specs.List.{All};
 ghost use Rattle.chi_flit.specs.declared.state.State.TheVariants.{I};
-ghost use Rattle.chi_homeline.specs.declared.serving.Serving.TheVariants.{Idle};
+ghost use Rattle.chi_slice.specs.Servings.{Idle};
 ghost use Rattle.chi_explain.specs.Opening.{IsOpen, IsOpenAt, IsOpenedIf, IsQuiet, are_empty};
 
 use chi_flit::{Action, Agent, Data, Kind, Line, NoMemory, Slot, State, Step, WordNo};
-use chi_homeline::{Serving, Waiting};
-use chi_line::{CopyView, LineView};
-use chi_rnline::Pending;
-use chi_slice::{Config, Slice};
-use chi_wires::Cells;
+use chi_slice::{Cells, Config, CopyView, LineView, Pending, Serving, Slice, Waiting};
 use std::alloc::Allocator;
 
 /// The line of a slice that has one.

@@ -1,12 +1,12 @@
 //! The flits that an action sends, beside those that were seen.
 
 ghost use Rattle.std.specs.Prelude.{◌≡◌, ◌∷◌, ◌++◌, IfSome, IsTrue};
-ghost use Rattle.chi_wires.specs.Cell.{cell_of};
+ghost use Rattle.chi_slice.specs.Words.{cell_of};
 ghost use Rattle.chi_explain.specs.Sent.{new_flit, sent_below, sent_of_agent};
 
 use crate::same::is_same_message;
 use chi_flit::{Agent, Channel, Msg};
-use chi_wires::{Cells, cells_of};
+use chi_slice::{Cells, cells_of};
 
 /// A message that a requester sent to the home, or the home to it.
 /// Source: `docs/TRACES.md`, "Explanations".

@@ -16,8 +16,7 @@ use Rattle.chi_flit.specs.declared.state.State.{State}
 use Rattle.chi_flit.specs.declared.state.State.TheVariants.{I, SC, UC, UD, SD}
 use Rattle.chi_flit.specs.Credit.{credit_number}
 use Rattle.chi_flit.specs.Message.{no_words}
-use Rattle.chi_wires.specs.declared.cells.Cells.{Cells}
-use Rattle.chi_wires.specs.Cell.{cell_of}
+use Rattle.chi_slice.specs.Words.{cell_of, Cells}
 use Rattle.chi_library.specs.declared.flits.ChiFlit.{ChiFlit}
 use Rattle.chi_library.specs.declared.flits.ChiFlits.{ChiFlits}
 use Rattle.chi_library.specs.Numbers.{flag_number, kind_number}

@@ -2,14 +2,9 @@
 use Rattle.std.specs.Prelude.{ℕ, Option, Some, None, map, replicate}
 use Rattle.chi_flit.specs.declared.numbers.Agent.{Agent}
 use Rattle.chi_flit.specs.Message.{no_words}
-use Rattle.chi_homeline.specs.declared.serving.Serving.{Serving}
-use Rattle.chi_homeline.specs.declared.serving.Serving.TheVariants.{Idle, Snooping, AwaitingCompAck, AwaitingWriteData}
-use Rattle.chi_homeline.specs.declared.serving.Waiting.{Waiting}
-use Rattle.chi_line.specs.declared.view.CopyView.{CopyView}
-use Rattle.chi_line.specs.declared.view.LineView.{LineView}
-use Rattle.chi_rnline.specs.declared.pending.Pending.{Pending}
-use Rattle.chi_rnline.specs.declared.pending.Phase.{Phase}
-use Rattle.chi_rnline.specs.declared.pending.Phase.TheVariants.{Sent, Retried}
+use Rattle.chi_slice.specs.Words.{CopyView, LineView, Pending, Phase, Serving, Waiting}
+use Rattle.chi_slice.specs.Servings.{Idle, Snooping, AwaitingCompAck, AwaitingWriteData}
+use Rattle.chi_slice.specs.Phases.{Sent, Retried}
 use Rattle.chi_library.specs.declared.lines.ChiCopy.{ChiCopy}
 use Rattle.chi_library.specs.declared.lines.ChiLine.{ChiLine}
 use Rattle.chi_library.specs.declared.lines.ChiRequest.{ChiRequest}

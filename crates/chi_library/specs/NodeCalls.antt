@@ -8,14 +8,12 @@ use Rattle.chi_flit.specs.declared.numbers.Line.{Line}
 use Rattle.chi_flit.specs.declared.refusal.Refusal.{Refusal}
 use Rattle.chi_flit.specs.declared.refusal.Refusal.TheVariants.{OutOfRange}
 use Rattle.chi_flit.specs.Credit.{credit_number}
-use Rattle.chi_line.specs.LineState.{cells_of}
-use Rattle.chi_line.specs.View.{line_view}
+use Rattle.chi_slice.specs.Words.{cells_of, line_view, Sizes}
 use Rattle.chi_node.specs.declared.answers.Arrived.{Arrived}
 use Rattle.chi_node.specs.declared.answers.Arrived.TheVariants.{Admitted, Retried}
 use Rattle.chi_node.specs.declared.answers.Stepped.{Stepped}
 use Rattle.chi_node.specs.Calls.{is_own_step}
 use Rattle.chi_slice.specs.Audits.{IsAudited}
-use Rattle.chi_config.specs.Config.{Sizes}
 use Rattle.chi_node.specs.Home.{node_flits_refusal, node_last, node_line, node_view_refusal}
 use Rattle.chi_node.specs.System.{SystemState, opening_system, agent_refusal, arrive_refusal, give_back_refusal_in, system_step_refusal, tend_refusal_in, ArrivesIn, GivesBackIn, Glances, SeesIn, StepsIn, TendsIn}
 use Rattle.chi_tracker.specs.declared.released.Released.{Released}

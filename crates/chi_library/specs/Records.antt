@@ -1,6 +1,6 @@
 -- Records of the journal in C's numbers (docs/PROTOCOL.md, "The journal and last values").
-use Rattle.chi_journal.specs.declared.record.Record.{Record}
-use Rattle.chi_journal.specs.declared.record.Record.TheVariants.{Load, Store}
+use Rattle.chi_slice.specs.Words.{Record}
+use Rattle.chi_slice.specs.Records.{Load, Store}
 use Rattle.chi_library.specs.declared.records.ChiRecord.{ChiRecord}
 
 abbrev pub no_record : ChiRecord

@@ -1,7 +1,7 @@
 -- The sizes of a node in C's numbers (docs/PROTOCOL.md, "Limits"; docs/LIBRARY.md, "Numbers").
 use Rattle.std.specs.Prelude.{Option, Some, None}
 use Rattle.chi_flit.specs.declared.credit.Profile.{Profile}
-use Rattle.chi_config.specs.Config.{Sizes, config_if, sizes_of}
+use Rattle.chi_slice.specs.Words.{config_if, sizes_of, Sizes}
 use Rattle.chi_library.specs.declared.sizes.ChiConfig.{ChiConfig}
 use Rattle.chi_library.specs.Numbers.{profile_of}
 

@@ -3,11 +3,7 @@ use Rattle.std.specs.Prelude.{◌≡◌, ℕ, Option, Some, None, nat_lt, slice_
 use Rattle.chi_flit.specs.declared.action.Action.{Action}
 use Rattle.chi_flit.specs.declared.refusal.Refusal.{Refusal}
 use Rattle.chi_flit.specs.declared.refusal.Refusal.TheVariants.{OutOfRange}
-use Rattle.chi_journal.specs.declared.record.Record.{Record}
-use Rattle.chi_line.specs.LineState.{cells_of}
-use Rattle.chi_line.specs.Step.{effect_of}
-use Rattle.chi_line.specs.View.{line_view}
-use Rattle.chi_config.specs.Config.{Sizes}
+use Rattle.chi_slice.specs.Words.{cells_of, effect_of, line_view, Record, Sizes}
 use Rattle.chi_slice.specs.Slice.{SliceState, flits_refusal, last_of, line, opening_slice, action_refusal, slice_after_try, view_refusal}
 use Rattle.chi_library.specs.declared.actions.ChiEffect.{ChiEffect}
 use Rattle.chi_library.specs.declared.flits.ChiFlits.{ChiFlits}

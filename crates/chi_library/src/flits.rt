@@ -5,7 +5,7 @@ ghost use Rattle.chi_library.specs.Flits.{dat_down_message, dat_up_told, data_to
 
 use crate::numbers::{flag_number, kind_number};
 use chi_flit::{Channel, DatUp, Data, Msg, NO_DATA, Request, RspDown, RspUp, Snoop, State};
-use chi_wires::Cells;
+use chi_slice::Cells;
 
 /// A message in flight: `ChiFlit` of `chihome.h`. `kind`, `slot` and `allow_retry` are a request's, `credit`
 /// a RetryAck's, and `words` those of a message with data; elsewhere they are 0.

@@ -6,9 +6,7 @@ ghost use Rattle.chi_library.specs.Lines.{copy_told, line_told, owner_number, pe
 
 use crate::numbers::{flag_number, kind_number, state_number};
 use chi_flit::{Agent, NO_DATA};
-use chi_homeline::{Serving, Waiting};
-use chi_line::{CopyView, LineView};
-use chi_rnline::{Pending, Phase};
+use chi_slice::{CopyView, LineView, Pending, Phase, Serving, Waiting};
 
 /// A requester's copy of a line: `ChiCopy` of `chihome.h`. The words mean nothing in state I.
 /// Source: `docs/PROTOCOL.md`, "One line".

@@ -3,7 +3,7 @@
 ghost use Rattle.std.specs.Prelude.{◌≡◌};
 ghost use Rattle.chi_library.specs.Records.{record_told};
 
-use chi_journal::Record;
+use chi_slice::Record;
 
 /// One load or store that was answered: `ChiRecord` of `chihome.h`.
 /// Source: `docs/PROTOCOL.md`, "The journal and last values".

@@ -17,15 +17,10 @@ use Rattle.chi_flit.specs.Credit.{credit_number, credit_type_of}
 use Rattle.chi_tracker.specs.Shape.{size}
 use Rattle.chi_tracker.specs.Acts.{Act}
 use Rattle.chi_tracker.specs.Views.{PortView}
-use Rattle.chi_line.specs.declared.seen.Where.{Where}
-use Rattle.chi_line.specs.declared.seen.Where.TheVariants as places
-use Rattle.chi_line.specs.LineState.{cells_of}
-use Rattle.chi_line.specs.Moves.{requested_slot}
-use Rattle.chi_line.specs.Step.{is_step_in_range}
-use Rattle.chi_line.proofs.MoveLaw.{flit_at}
-use Rattle.chi_line.specs.Refused.{no_flit_unless, retry_refusal}
+use Rattle.chi_slice.specs.Words.{cells_of, has_type, is_of_type, is_step_in_range, no_flit_unless, pending_kind_of, requested_kind_of, requested_slot, retry_refusal, Where}
+use Rattle.chi_slice.specs.Wheres as places
+use Rattle.chi_slice.proofs.Passed.{flit_at}
 use Rattle.chi_slice.specs.Slice.{SliceState, slice_after, is_in_range, is_line_in_range, line, action_refusal}
-use Rattle.chi_line.specs.Types.{has_type, is_of_type, pending_kind_of, requested_kind_of}
 use Rattle.chi_slice.proofs.Rows.{both}
 use Rattle.chi_credit.specs.declared.slot.SlotState.TheVariants as states
 use Rattle.chi_credit.specs.Account.{slots_with_state, slot_record_at, type_at}

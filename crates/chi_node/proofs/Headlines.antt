@@ -8,11 +8,7 @@ use Rattle.chi_flit.specs.declared.numbers.Agent.{Agent}
 use Rattle.chi_flit.specs.declared.numbers.Entry.{Entry}
 use Rattle.chi_flit.specs.declared.numbers.Line.{Line}
 use Rattle.chi_flit.specs.declared.refusal.Refusal.TheVariants.{OutOfRange}
-use Rattle.chi_config.specs.Config.{Sizes}
-use Rattle.chi_line.specs.Coherence.{Coherent}
-use Rattle.chi_line.specs.LineState.{cells_of}
-use Rattle.chi_line.specs.Meaning.{standing_of}
-use Rattle.chi_line.specs.Refused.{no_flit_unless}
+use Rattle.chi_slice.specs.Words.{cells_of, no_flit_unless, standing_of, Coherent, Sizes}
 use Rattle.chi_slice.specs.Coherence.{IsCoherentSlice}
 use Rattle.chi_slice.specs.Slice.{are_in_range, is_line_in_range, opening_slice}
 use Rattle.chi_tracker.specs.declared.shape.Shape.{Shape}

@@ -4,12 +4,9 @@ use Rattle.std.proofs.lemmas.Bool.{and_from, and_parts}
 use Rattle.std.specs.Prelude.{IsTrue}
 use Rattle.chi_flit.specs.declared.numbers.Slot.{Slot}
 use Rattle.chi_slice.specs.declared.places.Place.{Place}
-use Rattle.chi_line.specs.declared.seen.Where.{Where}
+use Rattle.chi_slice.specs.Words.{is_of_type, is_slice_count, where_at, Where}
 use Rattle.chi_slice.specs.Index.{HasType, IsInside, IsShown, at_line, place_of_where}
-use Rattle.chi_line.specs.Places.{where_at}
-use Rattle.chi_config.specs.Config.{is_slice_count}
 use Rattle.chi_slice.specs.Slice.{SliceKept, SliceState, is_line_in_range, last_of, line}
-use Rattle.chi_line.specs.Types.{is_of_type}
 use Rattle.chi_slice.proofs.Below.{AllBelow, all_below}
 use Rattle.chi_slice.proofs.Rows.{InLimits, in_limits}
 use Rattle.chi_slice.proofs.SlotTypes.{unused_type}

@@ -5,7 +5,7 @@ use Rattle.std.proofs.lemmas.List.FromFn.{get_or-map-range_with_len, length-map-
 use Rattle.chi_tracker.specs.declared.shape.Shape.{Shape}
 use Rattle.chi_tracker.specs.Shape.{size}
 use Rattle.chi_tracker.specs.Calls.{shape_of}
-use Rattle.chi_config.specs.Config.{Sizes, are_in_limits}
+use Rattle.chi_slice.specs.Words.{are_in_limits, Sizes}
 use Rattle.chi_slice.specs.Slice.{SliceState, opening_slice}
 use Rattle.chi_slice.proofs.Rows.{InLimits, in_limits}
 use Rattle.chi_node.specs.Parts.{HasTypes, is_of_profile, opening_requesters, opening_slices}

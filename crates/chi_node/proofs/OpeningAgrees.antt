@@ -4,13 +4,11 @@ use Rattle.std.proofs.lemmas.List.{get_or-replicate}
 use Rattle.atomic_table.specs.Seated.{TableId}
 use Rattle.chi_flit.specs.declared.numbers.Slot.{Slot}
 use Rattle.chi_tracker.specs.declared.shape.Shape.{Shape}
-use Rattle.chi_config.specs.Config.{Sizes, are_in_limits}
-use Rattle.chi_line.specs.LineState.{LineState, opening_line}
-use Rattle.chi_line.specs.Places.{where_at}
+use Rattle.chi_slice.specs.Words.{are_in_limits, opening_line, where_at, LineState, Sizes}
 use Rattle.chi_slice.specs.Slice.{is_line_in_range, line, opening_slice, row_count, row_of_line}
 use Rattle.chi_slice.proofs.Rows.{InLimits, in_limits, row_in_range}
 use Rattle.chi_slice.proofs.Follows.{opening_unused}
-use Rattle.chi_line.proofs.Wheres.{unused_shows}
+use Rattle.chi_slice.proofs.Passed.{unused_shows}
 use Rattle.chi_credit.specs.declared.slot.SlotRecord.{SlotRecord}
 use Rattle.chi_credit.specs.Slot.{idle_slot}
 use Rattle.chi_credit.specs.Account.{all_idle, slot_record_at}

@@ -9,7 +9,7 @@ use Rattle.chi_tracker.specs.declared.shape.Shape.{Shape}
 use Rattle.chi_tracker.specs.Shape.{low, size, IsShape}
 use Rattle.chi_tracker.specs.Views.{new_port, new_ports}
 use Rattle.chi_tracker.specs.Calls.{Owner, owners, shape_of}
-use Rattle.chi_config.specs.Config.{Sizes, are_entries, are_in_limits, is_between, is_slice_count}
+use Rattle.chi_slice.specs.Words.{are_entries, are_in_limits, is_between, is_slice_count, Sizes}
 use Rattle.chi_node.specs.Parts.{is_of_profile}
 use Rattle.chi_slice.proofs.Rows.{InLimits, both, in_limits}
 

@@ -1,8 +1,8 @@
 -- What the record of a slot says of lines, before a change and after it.
 use Rattle.std.proofs.Common.{◌≡◌, ◌≢◌, ℕ, Bool, true, false, Option, Some, None, refl, sym, ◌∙◌, ap, subst, if◌then◌else◌}
 use Rattle.std.specs.Prelude.{⊤}
-use Rattle.chi_line.specs.declared.seen.Where.{Where}
-use Rattle.chi_line.specs.declared.seen.Where.TheVariants as places
+use Rattle.chi_slice.specs.Words.{Where}
+use Rattle.chi_slice.specs.Wheres as places
 use Rattle.chi_credit.specs.declared.slot.SlotState.{SlotState}
 use Rattle.chi_credit.specs.declared.slot.SlotState.TheVariants.{Admitted, Cancelled, Closing, Idle, Refused, Retried, Riding, Sent}
 use Rattle.chi_credit.specs.declared.slot.SlotRecord.{SlotRecord}

@@ -10,12 +10,7 @@ use Rattle.chi_flit.specs.declared.credit.CreditType.TheVariants.{T0}
 use Rattle.chi_flit.specs.declared.credit.Profile.{Profile}
 use Rattle.chi_flit.specs.declared.refusal.Refusal.{Refusal}
 use Rattle.chi_flit.specs.declared.refusal.Refusal.TheVariants.{OutOfRange}
-use Rattle.chi_rnline.specs.Rn.{resend_refusal}
-use Rattle.chi_line.specs.LineState.{LineState, rn_of}
-use Rattle.chi_line.specs.Refused.{line_refusal, step_refusal}
-use Rattle.chi_line.specs.Refused as lines
-use Rattle.chi_line.specs.Types.{pending_credit}
-use Rattle.chi_journal.specs.Journal.{is_full}
+use Rattle.chi_slice.specs.Words.{marked_credit_refusal, is_full, line_refusal, pending_credit, resend_refusal, rn_of, step_refusal, LineState}
 use Rattle.chi_slice.specs.Slice.{SliceState, conditions_under, is_in_range, is_slot_used, line, refused_under}
 use Rattle.chi_node.specs.Requester.{RequesterState}
 use Rattle.chi_node.specs.Terms.{spare_credits, terms_of}
@@ -25,7 +20,7 @@ alone : (first : Option Refusal) → first ≡ option_or first None
 alone None = refl
 alone (Some refusal) = refl
 
-by_credit : (r : RequesterState) (first : Option Refusal) (wanted : Option CreditType) → option_or first (lines.marked_credit_refusal (spare_credits r) wanted) ≡ option_or (option_or first (lines.marked_credit_refusal (replicate 4 true) wanted)) (credit_refusal r wanted)
+by_credit : (r : RequesterState) (first : Option Refusal) (wanted : Option CreditType) → option_or first (marked_credit_refusal (spare_credits r) wanted) ≡ option_or (option_or first (marked_credit_refusal (replicate 4 true) wanted)) (credit_refusal r wanted)
 by_credit r (Some refusal) wanted = refl
 by_credit r None None = refl
 by_credit r None (Some T0) = refl

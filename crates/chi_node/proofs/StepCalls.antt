@@ -19,22 +19,14 @@ use Rattle.chi_flit.specs.declared.refusal.Refusal.TheVariants.{OutOfRange}
 use Rattle.chi_flit.specs.Credit.{credit_number, credit_type_of}
 use Rattle.chi_tracker.specs.Calls.{seen_of}
 use Rattle.chi_tracker.specs.declared.released.Released.{Released}
-use Rattle.chi_journal.specs.Journal.{is_full, part_of}
-use Rattle.chi_journal.proofs.Append.{part_fits}
-use Rattle.chi_rnline.specs.declared.pending.Pending.{Pending}
-use Rattle.chi_rnline.specs.Rn.{load_refusal, resend_refusal, store_refusal}
-use Rattle.chi_config.specs.Config.{Sizes, are_entries, are_in_limits, is_between, is_slice_count}
+use Rattle.chi_slice.specs.Words.{are_entries, are_in_limits, cells_of, effect_of, full_if, has_type, is_between, is_comp, is_full, is_of_type, is_slice_count, line_refusal, load_refusal, marked_credit_refusal as line_credit_refusal, part_of, pending_credit, pending_kind_of}
+use Rattle.chi_slice.specs.Words.{pending_slot, resend_refusal, rn_of, store_refusal, Pending, Sizes}
+use Rattle.chi_slice.proofs.Passed.{flit_there, issue_allowed, neither, part_fits}
 use Rattle.chi_slice.specs.Index.{SlotsInRange}
-use Rattle.chi_line.specs.LineState.{cells_of, rn_of}
-use Rattle.chi_line.specs.Refused.{full_if, line_refusal}
-use Rattle.chi_line.specs.Refused.{marked_credit_refusal as line_credit_refusal}
 use Rattle.chi_slice.specs.Slice.{SliceKept, SliceState, slice_after, conditions_under, is_in_range, is_slot_used, line, moved_by, action_refusal, refused_under}
 use Rattle.chi_slice.proofs.Refusing.{allowed_alone}
-use Rattle.chi_line.specs.Step.{effect_of, is_comp, pending_slot}
-use Rattle.chi_line.specs.Types.{has_type, is_of_type, pending_credit, pending_kind_of}
-use Rattle.chi_line.specs.declared.seen.Where.TheVariants as places
+use Rattle.chi_slice.specs.Wheres as places
 use Rattle.chi_slice.proofs.Acts.{Allowed, allowed, kept_acted}
-use Rattle.chi_line.proofs.After.{flit_there, issue_allowed, neither}
 use Rattle.chi_slice.proofs.Rows.{InRange, at_most, both, in_range}
 use Rattle.chi_slice.proofs.SliceMoves.{slice_moves}
 use Rattle.chi_credit.specs.declared.slot.SlotState.{SlotState}

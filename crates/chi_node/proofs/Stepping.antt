@@ -17,18 +17,11 @@ use Rattle.chi_flit.specs.Credit.{credit_type_of}
 use Rattle.chi_tracker.specs.declared.released.Released.{Released}
 use Rattle.chi_tracker.specs.Acts.{Act}
 use Rattle.chi_tracker.specs.Views.{PortView}
-use Rattle.chi_journal.specs.declared.record.Record.{Record}
-use Rattle.chi_line.specs.declared.seen.Where.{Where}
-use Rattle.chi_line.specs.declared.seen.Where.TheVariants as places
-use Rattle.chi_line.specs.LineState.{cells_of}
+use Rattle.chi_slice.specs.Words.{cells_of, completed_slot, completed_to, if_moved, is_comp, is_of_type, is_slot, issued_slot, moved_slot, moved_to, record_of, where_at, Record, Where}
+use Rattle.chi_slice.specs.Wheres as places
 use Rattle.chi_slice.specs.Index.{SlotsInRange}
-use Rattle.chi_line.specs.Step.{issued_slot, completed_slot, is_comp, is_slot, record_of}
-use Rattle.chi_line.specs.Moves.{completed_to, if_moved, moved_slot, moved_to}
-use Rattle.chi_line.proofs.MoveLaw.{Moved, always_moves, completed_from, moved_from}
-use Rattle.chi_line.specs.Places.{where_at}
+use Rattle.chi_slice.proofs.Passed.{Moved, always_moves, completed_from, moved_from, unused_shows}
 use Rattle.chi_slice.specs.Slice.{SliceKept, SliceState, is_line_in_range, line}
-use Rattle.chi_line.specs.Types.{is_of_type}
-use Rattle.chi_line.proofs.Wheres.{unused_shows}
 use Rattle.chi_credit.specs.declared.slot.SlotState.{SlotState}
 use Rattle.chi_credit.specs.declared.slot.SlotState.TheVariants as states
 use Rattle.chi_credit.specs.declared.slot.SlotRecord.{SlotRecord}

@@ -12,7 +12,7 @@ use Rattle.chi_tracker.specs.Shape.{size}
 use Rattle.chi_tracker.specs.Steps.{no_shape}
 use Rattle.chi_tracker.specs.Views.{new_port, new_ports}
 use Rattle.chi_tracker.specs.Calls.{TrackerState, shape_of}
-use Rattle.chi_config.specs.Config.{Sizes, are_in_limits}
+use Rattle.chi_slice.specs.Words.{are_in_limits, Sizes}
 use Rattle.chi_slice.specs.Slice.{SliceState, opening_slice}
 use Rattle.chi_slice.proofs.Rows.{InLimits, in_limits}
 use Rattle.chi_node.specs.Agree.{Agree, AllAgree, KeepsAgreement}

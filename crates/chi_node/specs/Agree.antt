@@ -3,15 +3,11 @@
 use Rattle.std.specs.Prelude.{◌≡◌, ◌≢◌, ℕ, ◌<◌, Bool, true, List, All, Option, Some, None, is_some, length, slice_index, ◌==◌, ◌&&◌, if◌then◌else◌}
 use Rattle.chi_flit.specs.declared.credit.Profile.{Profile}
 use Rattle.chi_flit.specs.declared.numbers.Slot.{Slot}
-use Rattle.chi_journal.specs.Journal.{part_of}
+use Rattle.chi_slice.specs.Words.{is_of_type, part_of, where_at, LineState, Where}
 use Rattle.chi_slice.specs.declared.places.Place.{Place}
 use Rattle.chi_slice.specs.Index.{place_of_where}
-use Rattle.chi_line.specs.declared.seen.Where.{Where}
-use Rattle.chi_line.specs.declared.seen.Where.TheVariants as places
+use Rattle.chi_slice.specs.Wheres as places
 use Rattle.chi_slice.specs.Slice.{SliceState, is_line_in_range, line}
-use Rattle.chi_line.specs.LineState.{LineState}
-use Rattle.chi_line.specs.Places.{where_at}
-use Rattle.chi_line.specs.Types.{is_of_type}
 use Rattle.chi_credit.specs.declared.slot.SlotState.{SlotState}
 use Rattle.chi_credit.specs.declared.slot.SlotState.TheVariants.{Admitted, Closing, Refused, Retried, Riding, Sent}
 use Rattle.chi_credit.specs.declared.slot.SlotRecord.{SlotRecord}

@@ -15,16 +15,10 @@ use Rattle.chi_flit.specs.declared.refusal.Refusal.{Refusal}
 use Rattle.chi_flit.specs.declared.refusal.Refusal.TheVariants.{NoCredit, NotOpen}
 use Rattle.chi_flit.specs.Credit.{credit_number}
 use Rattle.chi_tracker.specs.Calls.{seen_of}
-use Rattle.chi_rnline.specs.declared.pending.Pending.{Pending}
-use Rattle.chi_line.specs.LineState.{cells_of, rn_of}
-use Rattle.chi_line.specs.Refused.{no_flit_unless}
+use Rattle.chi_slice.specs.Words.{cells_of, effect_of, no_flit_unless, part_of, pending_credit, record_of, rn_of, IsLegal, Pending, Record}
 use Rattle.chi_slice.specs.Slice.{IsStep, SliceKept, SliceState, slice_after, are_in_range, flits_refusal, line, moved_by, refused_under}
 use Rattle.chi_slice.specs.declared.terms.Terms.{Terms}
 use Rattle.chi_slice.specs.Index.{SlotsInRange}
-use Rattle.chi_line.specs.Types.{pending_credit}
-use Rattle.chi_journal.specs.declared.record.Record.{Record}
-use Rattle.chi_journal.specs.Journal.{IsLegal, part_of}
-use Rattle.chi_line.specs.Step.{effect_of, record_of}
 use Rattle.chi_credit.specs.declared.slot.SlotRecord.{SlotRecord}
 use Rattle.chi_credit.specs.Account.{riding_of}
 use Rattle.chi_node.specs.declared.answers.Arrived.{Arrived}

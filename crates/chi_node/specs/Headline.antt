@@ -5,10 +5,7 @@ use Rattle.chi_flit.specs.declared.message.Request.{Request}
 use Rattle.chi_flit.specs.declared.numbers.Agent.{Agent}
 use Rattle.chi_flit.specs.declared.numbers.Entry.{Entry}
 use Rattle.chi_flit.specs.declared.numbers.Line.{Line}
-use Rattle.chi_journal.specs.Journal.{IsLegal}
-use Rattle.chi_line.specs.Coherence.{Coherent}
-use Rattle.chi_line.specs.LineState.{cells_of}
-use Rattle.chi_line.specs.Meaning.{standing_of}
+use Rattle.chi_slice.specs.Words.{cells_of, standing_of, Coherent, IsLegal}
 use Rattle.chi_tracker.specs.declared.view.SeatView.{SeatView}
 use Rattle.chi_tracker.specs.Laws.{HasSeat, Places}
 use Rattle.chi_tracker.specs.Rule.{TrackerRule}

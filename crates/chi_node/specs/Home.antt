@@ -3,8 +3,7 @@ use Rattle.std.specs.Prelude.{◌≡◌, ℕ, ◌%◌, ◌<◌, ◌≤◌, List,
 use Rattle.std.specs.List.{slice_index_or}
 use Rattle.chi_flit.specs.declared.action.Action.{Action}
 use Rattle.chi_flit.specs.declared.refusal.Refusal.{Refusal}
-use Rattle.chi_config.specs.Config.{Sizes, are_in_limits}
-use Rattle.chi_line.specs.LineState.{LineState}
+use Rattle.chi_slice.specs.Words.{are_in_limits, LineState, Sizes}
 use Rattle.chi_slice.specs.Slice.{SliceState, opening_slice}
 use Rattle.chi_slice.specs.Slice as slice
 use Rattle.chi_node.specs.Parts.{opening_slices}

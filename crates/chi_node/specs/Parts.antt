@@ -7,7 +7,7 @@ use Rattle.chi_flit.specs.declared.credit.Profile.TheVariants.{Two, Four}
 use Rattle.chi_tracker.specs.declared.shape.Shape.{Shape}
 use Rattle.chi_tracker.specs.Shape.{size}
 use Rattle.chi_tracker.specs.Calls.{TrackerState}
-use Rattle.chi_config.specs.Config.{Sizes}
+use Rattle.chi_slice.specs.Words.{Sizes}
 use Rattle.chi_slice.specs.Slice.{SliceState, opening_slice}
 use Rattle.chi_node.specs.Requester.{RequesterState, opening_requester}
 use Rattle.chi_node.specs.Agree.{Agree}

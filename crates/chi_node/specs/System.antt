@@ -14,9 +14,7 @@ use Rattle.chi_tracker.specs.declared.released.Released.{Released}
 use Rattle.chi_tracker.specs.declared.totals.Counts.{Counts}
 use Rattle.chi_tracker.specs.Calls.{TrackerState, shape_of}
 use Rattle.chi_tracker.specs.Totals.{IsGlance}
-use Rattle.chi_line.specs.LineState.{cells_of}
-use Rattle.chi_line.specs.Step.{effect_of}
-use Rattle.chi_config.specs.Config.{Sizes}
+use Rattle.chi_slice.specs.Words.{cells_of, effect_of, Sizes}
 use Rattle.chi_node.specs.declared.answers.Arrived.{Arrived}
 use Rattle.chi_node.specs.declared.answers.Stepped.{Stepped}
 use Rattle.chi_node.specs.Agree.{AllAgree}

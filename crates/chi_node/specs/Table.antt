@@ -2,11 +2,7 @@
 use Rattle.std.specs.Prelude.{◌≡◌, ◌↔◌, ℕ, ◌<◌, true, Option, length, slice_index}
 use Rattle.chi_flit.specs.declared.credit.Profile.{Profile}
 use Rattle.chi_flit.specs.declared.numbers.Slot.{Slot}
-use Rattle.chi_journal.specs.Journal.{part_of}
-use Rattle.chi_line.specs.declared.seen.Where.{Where}
-use Rattle.chi_line.specs.LineState.{LineState}
-use Rattle.chi_line.specs.Table.{IsAt, IsFound}
-use Rattle.chi_line.specs.Types.{is_of_type}
+use Rattle.chi_slice.specs.Words.{is_of_type, part_of, IsAt, IsFound, LineState, Where}
 use Rattle.chi_slice.specs.Slice.{SliceState, is_line_in_range, line}
 use Rattle.chi_credit.specs.declared.slot.SlotRecord.{SlotRecord}
 use Rattle.chi_credit.specs.Account.{slot_record_at}

@@ -1,7 +1,7 @@
 //! Whether a requester agrees with a slice.
 
 ghost use Rattle.std.specs.Prelude.{◌≡◌, ◌<◌, ◌↔◌, ℕ, All, IsTrue, Some, length, slice_index};
-ghost use Rattle.chi_journal.specs.Journal.{part_of};
+ghost use Rattle.chi_slice.specs.Words.{part_of};
 ghost use Rattle.chi_credit.specs.Account.{slot_record_at};
 ghost use Rattle.chi_slice.specs.Slice.{SliceKept};
 ghost use Rattle.chi_node.specs.Requester.{RequesterKept};

@@ -2,7 +2,7 @@
 
 ghost use Rattle.std.specs.Prelude.{◌≡◌, true, IfOk};
 ghost use Rattle.chi_tracker.specs.Calls.{shape_of};
-ghost use Rattle.chi_config.specs.Config.{are_in_limits};
+ghost use Rattle.chi_slice.specs.Words.{are_in_limits};
 ghost use Rattle.chi_node.specs.Parts.{AgreeAtOpening, HasOwnTypes, opening_slices, requesters_of};
 
 use crate::requester::Requester;

@@ -1,7 +1,7 @@
 //! A read under locks, from its issue to the end of the node.
 
 ghost use Rattle.std.specs.Prelude.{◌≡◌, true};
-ghost use Rattle.chi_config.specs.Config.{two_types};
+ghost use Rattle.chi_slice.specs.Words.{two_types};
 ghost use Rattle.chi_node.specs.Calls.{is_own_step};
 ghost use Rattle.chi_node.specs.Node.{IsOwn};
 

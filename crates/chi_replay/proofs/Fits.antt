@@ -5,7 +5,7 @@ use Rattle.chi_flit.specs.declared.credit.Profile.TheVariants.{Two, Four}
 use Rattle.chi_script.specs.declared.headers.Header.{Header}
 use Rattle.chi_script.specs.Headers.{is_in_limits, node_sizes}
 use Rattle.chi_script.proofs.LimitLemmas.{entries_fit, none_left}
-use Rattle.chi_config.specs.Config.{Sizes, are_entries, config_if}
+use Rattle.chi_slice.specs.Words.{are_entries, config_if, Sizes}
 use Rattle.chi_replay.specs.Replays.{read_sizes, sizes_for}
 
 -- entries of two types are those two alone

@@ -2,7 +2,7 @@
 use Rattle.std.proofs.Common.{◌≡◌, ℕ, List, [], ◌∷◌, ◌++◌, refl, sym, ◌∙◌, ap, subst, append_assoc, append-nil}
 use Rattle.atomic_table.specs.Seated.{TableId}
 use Rattle.chi_script.specs.declared.commands.Command.{Command}
-use Rattle.chi_config.specs.Config.{Sizes}
+use Rattle.chi_slice.specs.Words.{Sizes}
 use Rattle.chi_tracker.specs.Views.{PortView}
 use Rattle.chi_node.specs.System.{SystemState, opening_system}
 use Rattle.chi_replay.specs.Session.{machine_of, ports_of}

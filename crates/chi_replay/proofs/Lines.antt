@@ -6,7 +6,7 @@ use Rattle.chi_script.specs.Faults.{Fails}
 use Rattle.chi_script.specs.Files.{commands_of, file_of, lines_of, with_header}
 use Rattle.chi_script.specs.Headers.{node_sizes}
 use Rattle.chi_script.proofs.FileLemmas.{bad_commands, good_commands}
-use Rattle.chi_config.specs.Config.{Sizes}
+use Rattle.chi_slice.specs.Words.{Sizes}
 use Rattle.chi_replay.specs.Texts.{IsTextOfLines}
 use Rattle.chi_replay.specs.Replays.{IsTextOf}
 

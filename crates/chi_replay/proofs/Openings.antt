@@ -12,7 +12,7 @@ use Rattle.chi_tracker.specs.Views.{PortView, new_port, new_ports}
 use Rattle.chi_tracker.specs.Calls.{set_count, shape_of}
 use Rattle.chi_credit.specs.declared.slot.SlotRecord.{SlotRecord}
 use Rattle.chi_credit.specs.Account.{all_idle}
-use Rattle.chi_config.specs.Config.{Sizes}
+use Rattle.chi_slice.specs.Words.{Sizes}
 use Rattle.chi_node.specs.Parts.{opening_requesters}
 use Rattle.chi_node.specs.Requester.{RequesterState, opening_requester}
 use Rattle.chi_node.specs.Home.{opening_home}

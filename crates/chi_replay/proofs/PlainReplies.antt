@@ -28,12 +28,10 @@ use Rattle.chi_flit.specs.Message.{attempt_text, comp_data_text, data_up_text, m
 use Rattle.chi_flit.specs.Refusal.{refusal_number, refusal_text}
 use Rattle.chi_flit.specs.Snoop.{snoop_text}
 use Rattle.chi_flit.specs.State.{state_text}
-use Rattle.chi_homeline.specs.declared.serving.Serving.{Serving}
-use Rattle.chi_homeline.specs.declared.serving.Serving.TheVariants as servings
-use Rattle.chi_line.specs.declared.view.LineView.{LineView}
+use Rattle.chi_slice.specs.Words.{Cells, LineView, Serving}
+use Rattle.chi_slice.specs.Servings as servings
 use Rattle.chi_tracker.specs.declared.released.Released.{Released}
 use Rattle.chi_tracker.specs.declared.released.Released.TheVariants.{Granted, Freed}
-use Rattle.chi_wires.specs.declared.cells.Cells.{Cells}
 use Rattle.chi_slice.specs.declared.audits.Audit.{Audit}
 use Rattle.chi_reply.specs.declared.credits.SeenCredits.{SeenCredits}
 use Rattle.chi_reply.specs.declared.replies.Reply.{Reply}

@@ -12,7 +12,7 @@ use Rattle.chi_flit.specs.Credit.{credit_number}
 use Rattle.chi_tracker.specs.Calls.{seen_of}
 use Rattle.chi_tracker.specs.Shape.{low}
 use Rattle.chi_tracker.proofs.Entries.{credit_below}
-use Rattle.chi_config.specs.Config.{Sizes}
+use Rattle.chi_slice.specs.Words.{Sizes}
 use Rattle.chi_slice.specs.Slice.{SliceState, are_in_range, is_in_range, is_line_in_range}
 use Rattle.chi_slice.proofs.Rows.{both}
 use Rattle.chi_credit.specs.Account.{lowest_cancelled, riding_of}

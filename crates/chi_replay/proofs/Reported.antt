@@ -3,7 +3,7 @@ use Rattle.std.proofs.Common.{◌≡◌, ◌↔◌, ℕ, ◌+◌, ◌<◌, Bool,
 use Rattle.std.proofs.lemmas.List.{length-map}
 use Rattle.chi_script.specs.Headers.{node_sizes}
 use Rattle.chi_script.specs.declared.commands.Command.{Command}
-use Rattle.chi_config.specs.Config.{Sizes}
+use Rattle.chi_slice.specs.Words.{Sizes}
 use Rattle.chi_script.specs.declared.faults.Fault.{Fault}
 use Rattle.chi_script.specs.declared.headers.Header.{Header}
 use Rattle.chi_script.specs.Files.{lines_of}

@@ -21,7 +21,7 @@ use Rattle.chi_tracker.specs.declared.totals.Counts.{Counts}
 use Rattle.chi_tracker.specs.Views.{PortView}
 use Rattle.chi_tracker.specs.Shape.{low, size}
 use Rattle.chi_tracker.specs.Calls.{owed_one, port_after_scan}
-use Rattle.chi_line.specs.LineState.{cells_of}
+use Rattle.chi_slice.specs.Words.{cells_of}
 use Rattle.chi_slice.specs.Slice.{SliceState}
 use Rattle.chi_credit.specs.declared.slot.SlotRecord.{SlotRecord}
 use Rattle.chi_credit.specs.declared.slot.SlotState.{SlotState}

@@ -7,7 +7,7 @@ use Rattle.chi_script.specs.declared.commands.Command.{Command}
 use Rattle.chi_script.specs.declared.commands.Command.TheVariants as commands
 use Rattle.chi_script.specs.Files.{commands_of, lines_of}
 use Rattle.chi_slice.specs.Coherence.{IsCoherentSlice}
-use Rattle.chi_config.specs.Config.{Sizes}
+use Rattle.chi_slice.specs.Words.{Sizes}
 use Rattle.chi_slice.specs.Slice.{SliceState}
 use Rattle.chi_tracker.specs.Views.{PortView, new_ports}
 use Rattle.chi_tracker.specs.Calls.{shape_of}

@@ -20,11 +20,8 @@ use Rattle.chi_flit.specs.Credit.{credit_number}
 use Rattle.chi_script.specs.declared.commands.Command.{Command}
 use Rattle.chi_script.specs.declared.commands.Command.TheVariants as commands
 use Rattle.chi_tracker.specs.declared.released.Released.{Released}
-use Rattle.chi_config.specs.Config.{Sizes}
+use Rattle.chi_slice.specs.Words.{cells_of, effect_of, line_view, Sizes}
 use Rattle.chi_slice.specs.Slice.{SliceState}
-use Rattle.chi_line.specs.LineState.{cells_of}
-use Rattle.chi_line.specs.Step.{effect_of}
-use Rattle.chi_line.specs.View.{line_view}
 use Rattle.chi_credit.specs.declared.slot.SlotState.{SlotState}
 use Rattle.chi_credit.specs.declared.slot.SlotState.TheVariants as states
 use Rattle.chi_credit.specs.declared.slot.SlotRecord.{SlotRecord}

@@ -3,7 +3,7 @@
 ghost use Rattle.std.specs.Prelude.{◌≡◌, ◌≢◌, ◌+◌, ◌^◌, ◌<◌, IfOk, IfErr, IfSome, OnOk, string_bytes, true};
 ghost use Rattle.std.specs.Io.KnownBytes.{Keeps};
 ghost use Rattle.chi_script.specs.Headers.{is_in_limits, node_sizes};
-ghost use Rattle.chi_config.specs.Config.{config_if};
+ghost use Rattle.chi_slice.specs.Words.{config_if};
 ghost use Rattle.chi_script.specs.Faults.{Fails};
 ghost use Rattle.chi_script.specs.Files.{commands_of, file_of, lines_of};
 ghost use Rattle.chi_replay.specs.Texts.{IsTextOfLines};

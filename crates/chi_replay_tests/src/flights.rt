@@ -3,7 +3,7 @@
 use crate::prints::prints;
 use chi_flit::{CompData, DatUp, Kind, NO_DATA, Request, RspDown, RspUp, Slot, Snoop};
 use chi_reply::InFlight;
-use chi_wires::Cells;
+use chi_slice::Cells;
 
 const REQUEST: Request = Request {
     kind: Kind::ReadNotSharedDirty,

@@ -2,10 +2,8 @@
 
 use crate::prints::prints;
 use chi_flit::{Agent, Kind, NO_DATA, Slot, State};
-use chi_homeline::{Serving, Waiting};
-use chi_line::{CopyView, LineView};
 use chi_reply::Shown;
-use chi_wires::Cells;
+use chi_slice::{Cells, CopyView, LineView, Serving, Waiting};
 
 const NOBODY: [bool; 8] = [false; 8];
 

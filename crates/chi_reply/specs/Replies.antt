@@ -13,13 +13,8 @@ use Rattle.chi_flit.specs.Credit.{credit_text}
 use Rattle.chi_flit.specs.Message.{message_text}
 use Rattle.chi_flit.specs.Refusal.{refusal_number, refusal_text}
 use Rattle.chi_flit.specs.State.{state_text}
-use Rattle.chi_filter.specs.Filter.{is_in}
-use Rattle.chi_homeline.specs.declared.serving.Serving.{Serving}
-use Rattle.chi_homeline.specs.declared.serving.Serving.TheVariants as servings
-use Rattle.chi_wires.specs.declared.cells.Cells.{Cells}
-use Rattle.chi_wires.specs.Cell.{cell_of}
-use Rattle.chi_line.specs.declared.view.CopyView.{CopyView}
-use Rattle.chi_line.specs.declared.view.LineView.{LineView}
+use Rattle.chi_slice.specs.Words.{cell_of, is_in, Cells, CopyView, LineView, Serving}
+use Rattle.chi_slice.specs.Servings as servings
 use Rattle.chi_tracker.specs.declared.released.Released.{Released}
 use Rattle.chi_tracker.specs.declared.released.Released.TheVariants.{Granted, Freed}
 use Rattle.chi_reply.specs.declared.replies.Reply.{Reply}

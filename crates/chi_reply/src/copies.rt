@@ -3,7 +3,7 @@
 ghost use Rattle.std.specs.Prelude.{◌≡◌, Some, take};
 ghost use Rattle.chi_reply.specs.Replies.{copy_text, joined_texts};
 
-use chi_line::CopyView;
+use chi_slice::CopyView;
 use std::fmt;
 
 /// The states of copies, joined by commas.

@@ -6,7 +6,7 @@ ghost use Rattle.chi_reply.specs.Replies.{flits_text, has_none, messages_in, spa
 
 use crate::prints::Printable;
 use chi_flit::{Channel, Msg};
-use chi_wires::Cells;
+use chi_slice::Cells;
 use std::alloc::{AllocError, Allocator};
 use std::fmt;
 

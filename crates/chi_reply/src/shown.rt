@@ -7,8 +7,7 @@ use crate::agents::{Agents, members};
 use crate::copies::{States, first_copies};
 use crate::numbers::Words;
 use crate::prints::Printable;
-use chi_homeline::{Serving, Waiting};
-use chi_line::LineView;
+use chi_slice::{LineView, Serving, Waiting};
 use std::alloc::{AllocError, Allocator};
 use std::fmt;
 

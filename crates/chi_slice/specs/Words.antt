@@ -15,8 +15,8 @@ pub use Rattle.chi_line.specs.Coherence.{Coherent}
 pub use Rattle.chi_line.specs.Meaning.{standing_of}
 pub use Rattle.chi_line.specs.Moves.{completed_to, if_moved, moved_slot, moved_to, requested_slot}
 pub use Rattle.chi_line.specs.Places.{where_at}
-pub use Rattle.chi_line.specs.Refused.{full_if, has_flit, line_refusal, no_flit_unless, retry_refusal, step_refusal}
-pub use Rattle.chi_line.specs.Step.{after_step, answer_in, completed_slot, data_answer, effect_of, is_comp, is_slot, issued_slot, pending_slot, record_of}
+pub use Rattle.chi_line.specs.Refused.{full_if, has_flit, line_refusal, marked_credit_refusal, no_flit_unless, retry_refusal, step_refusal}
+pub use Rattle.chi_line.specs.Step.{after_step, answer_in, completed_slot, data_answer, effect_of, is_comp, is_slot, is_step_in_range, issued_slot, pending_slot, record_of}
 pub use Rattle.chi_line.specs.Table.{IsAt, IsFound}
 pub use Rattle.chi_line.specs.Types.{has_type, is_of_type, pending_credit, pending_kind_of, requested_kind_of}
 pub use Rattle.chi_line.specs.View.{line_view}

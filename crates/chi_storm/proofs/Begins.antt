@@ -1,7 +1,7 @@
 -- The agents of a storm begin with the file's scripts.
 use Rattle.std.proofs.Common.{◌≡◌, ℕ, List, Bool, ◌∙◌, ap, subst, sym}
 use Rattle.chi_flit.specs.declared.operation.Operation.{Operation}
-use Rattle.chi_config.specs.Config.{Sizes}
+use Rattle.chi_slice.specs.Words.{Sizes}
 use Rattle.chi_node.specs.Requester.{RequesterState}
 use Rattle.chi_node.specs.Parts.{opening_requesters}
 use Rattle.chi_node.specs.Node.{NodeState}

@@ -2,7 +2,7 @@
 use Rattle.std.proofs.Common.{◌≡◌, ◌↔◌, List, Bool, true, ◌&&◌, All}
 use Rattle.std.specs.Prelude.{IsTrue}
 use Rattle.std.proofs.lemmas.Bool.{and_from, and_parts}
-use Rattle.chi_config.specs.Config.{Sizes}
+use Rattle.chi_slice.specs.Words.{Sizes}
 use Rattle.chi_slice.specs.Coherence.{IsCoherentSlice}
 use Rattle.chi_slice.specs.Slice.{SliceState}
 use Rattle.chi_node.specs.Requester.{RequesterState}

@@ -6,7 +6,7 @@ use Rattle.chi_devices.specs.Devices.{AppendsFront}
 use Rattle.chi_script.specs.declared.headers.Header.{Header}
 use Rattle.chi_script.specs.declared.faults.Fault.{Fault}
 use Rattle.chi_script.specs.declared.faults.Fault.TheVariants.{NoMemory, Write}
-use Rattle.chi_config.specs.Config.{Sizes}
+use Rattle.chi_slice.specs.Words.{Sizes}
 use Rattle.chi_node.specs.Requester.{RequesterState}
 use Rattle.chi_node.specs.Parts.{opening_requesters}
 use Rattle.chi_tracker.specs.Calls.{shape_of}

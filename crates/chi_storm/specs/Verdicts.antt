@@ -1,7 +1,7 @@
 -- The verdict on a storm, and what is counted (docs/FORMATS.md, "The output of a storm").
 use Rattle.std.specs.Prelude.{◌≡◌, ◌↔◌, ℕ, ◌+◌, List, [], ◌∷◌, All, Bool, IsTrue, true, false, Option, Some, None, length, ⊤}
 use Rattle.std.specs.List.{count_by}
-use Rattle.chi_config.specs.Config.{Sizes}
+use Rattle.chi_slice.specs.Words.{Sizes}
 use Rattle.chi_tracker.specs.declared.totals.Counts.{Counts}
 use Rattle.chi_tracker.specs.declared.totals.Credits.{Credits}
 use Rattle.chi_tracker.specs.Totals.{IsClosed, longest, views_of}

@@ -1,7 +1,7 @@
 //! The verdict on a storm: what it is made of, and storms in which a slice is exchanged behind its lock.
 
 ghost use Rattle.std.specs.Prelude.{◌≡◌, map, vec_len};
-ghost use Rattle.chi_config.specs.Config.{two_types};
+ghost use Rattle.chi_slice.specs.Words.{two_types};
 ghost use Rattle.chi_node.specs.Node.{AreOwn};
 ghost use Rattle.chi_audit.specs.Numbers.{numbers};
 ghost use Rattle.chi_agent.specs.Ended.{requester_number};

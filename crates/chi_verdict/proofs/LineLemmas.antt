@@ -3,7 +3,7 @@ use Rattle.std.proofs.Common.{◌≡◌, ◌<◌, ◌≤◌, ◌+◌, ℕ, true,
 use Rattle.std.proofs.lemmas.List.{append-nil, drop-take, length-drop, map-append, map_more, take-append-drop, take-take}
 use Rattle.std.specs.List.{All}
 use Rattle.std.proofs.lemmas.List.Elements.{All-append, All-head, All-more, All-tail, All-weaker, filter-append}
-use Rattle.chi_config.specs.Config.{Sizes}
+use Rattle.chi_slice.specs.Words.{Sizes}
 use Rattle.chi_resolution.specs.declared.lines.CacheLine.{CacheLine}
 use Rattle.chi_explain.specs.declared.sent.SentFlit.{SentFlit}
 use Rattle.chi_resolution.specs.declared.lines.Observed.{Observed}

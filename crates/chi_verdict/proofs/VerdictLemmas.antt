@@ -2,7 +2,7 @@
 use Rattle.std.proofs.Common.{◌≡◌, ◌∙◌, ℕ, Bool, true, false, List, length, nat_lt, take, Option, Some, None, Result, Ok, Err, IfOk, IfSome, IsOk, OnOk, refl, subst, sym, arith, if◌then◌else◌}
 use Rattle.std.proofs.lemmas.Bool.{ltb-false}
 use Rattle.std.proofs.lemmas.List.{length-take, take_all}
-use Rattle.chi_config.specs.Config.{Sizes}
+use Rattle.chi_slice.specs.Words.{Sizes}
 use Rattle.chi_trace.specs.Files.{trace_of}
 use Rattle.chi_trace.specs.declared.faults.Fault.{Fault}
 use Rattle.chi_trace.specs.declared.faults.Fault.TheVariants.{TooLarge}

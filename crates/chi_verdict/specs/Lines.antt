@@ -1,7 +1,7 @@
 -- What it is for the lines of a trace to be explained (docs/TRACES.md, "What is printed").
 use Rattle.std.specs.Prelude.{◌≡◌, ◌==◌, ℕ, Bool, List, map}
 use Rattle.std.specs.List.{All, filter}
-use Rattle.chi_config.specs.Config.{Sizes}
+use Rattle.chi_slice.specs.Words.{Sizes}
 use Rattle.chi_explain.specs.declared.explanations.Deed.{Deed}
 use Rattle.chi_explain.specs.declared.sent.SentFlit.{SentFlit}
 use Rattle.chi_explain.specs.Explained.{IsExplained}

@@ -1,7 +1,7 @@
 -- What it is for a trace to be explained (docs/TRACES.md, "What is printed").
 use Rattle.std.specs.Prelude.{◌≡◌, ℕ, List, [], ◌∷◌, Option, None, Ok}
 use Rattle.std.specs.Io.KnownBytes.{Appends, Keeps}
-use Rattle.chi_config.specs.Config.{Sizes, four_types, two_types}
+use Rattle.chi_slice.specs.Words.{four_types, two_types, Sizes}
 use Rattle.chi_trace.specs.Files.{trace_of}
 use Rattle.chi_trace.specs.declared.flits.Seen.{Seen}
 use Rattle.chi_resolution.specs.Resolution.{resolution_of}

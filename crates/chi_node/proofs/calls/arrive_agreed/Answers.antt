@@ -2,7 +2,7 @@
 use Rattle.std.proofs.Common.{◌≡◌, ℕ, ◌∙◌, ap, rules}
 use Rattle.chi_flit.specs.declared.action.Step.{Step}
 use Rattle.chi_flit.specs.declared.numbers.Line.{Line}
-use Rattle.chi_line.specs.Step.{is_step_in_range}
+use Rattle.chi_slice.specs.Words.{is_step_in_range}
 use Rattle.chi_slice.specs.Slice.{slice_after}
 use Rattle.chi_node.specs.Calls.{arrival_action}
 use Rattle.chi_node.proofs.Histories.{arrival_running, arrival_same}

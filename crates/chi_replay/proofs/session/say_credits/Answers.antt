@@ -1,7 +1,7 @@
 -- A look at the promises plays its turn, and the line has the seen credits.
 use Rattle.std.proofs.Common.{◌≡◌, None, Some, [], ◌∷◌, ◌++◌, ap, ◌∙◌, length, arith, rules, string_bytes}
 use Rattle.chi_flit.specs.declared.credit.Profile.{Profile}
-use Rattle.chi_config.specs.Config.{Sizes}
+use Rattle.chi_slice.specs.Words.{Sizes}
 use Rattle.chi_reply.specs.Replies.{credits_text}
 use Rattle.chi_node.specs.System.{SeesIn, agent_refusal}
 use Rattle.chi_replay.proofs.Credited.{see_plays}

@@ -1,8 +1,6 @@
 -- Where the line is in range, the answer has all its parts.
 use Rattle.std.proofs.Common.{◌≡◌, None, Some, [], ◌∷◌, ◌++◌, ap, refl, ◌∙◌, rules, string_bytes}
-use Rattle.chi_line.specs.declared.view.LineView.{LineView}
-use Rattle.chi_line.specs.View.{line_view}
-use Rattle.chi_config.specs.Config.{Sizes}
+use Rattle.chi_slice.specs.Words.{line_view, LineView, Sizes}
 use Rattle.chi_reply.specs.Replies.{shown_text}
 use Rattle.chi_node.specs.Home.{node_last, node_line, node_view_refusal}
 use Rattle.chi_replay.proofs.Turned.{refused_on, shown_on}

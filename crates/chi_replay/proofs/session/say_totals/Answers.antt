@@ -1,7 +1,7 @@
 -- The tracker is glanced at, and the line has what it showed.
 use Rattle.std.proofs.Common.{◌≡◌, [], ◌∷◌, ◌++◌, ap, ◌∙◌, arith, string_bytes, rules}
 use Rattle.chi_flit.specs.declared.credit.Profile.{Profile}
-use Rattle.chi_config.specs.Config.{Sizes}
+use Rattle.chi_slice.specs.Words.{Sizes}
 use Rattle.chi_tracker.specs.declared.totals.Counts.{Counts}
 use Rattle.chi_reply.specs.Replies.{totals_text}
 use Rattle.chi_replay.proofs.Turned.{AreFours, glance_says}

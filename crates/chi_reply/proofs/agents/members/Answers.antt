@@ -1,5 +1,5 @@
 use Rattle.std.proofs.Common.{arith, true, false, ap, sym, ◌∙◌, ◌≡◌, ◌++◌, [], ◌∷◌}
-use Rattle.chi_filter.specs.Filter.{is_in}
+use Rattle.chi_slice.specs.Words.{is_in}
 use Rattle.chi_reply.proofs.Members.{with_member, without_member}
 use Rattle.chi_reply.proofs.agents.members.Goals as goal
 use Rattle.chi_reply.proofs.agents.members.Goals.{then-marks-from, else-marks-from}

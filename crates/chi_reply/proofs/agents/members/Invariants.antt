@@ -1,7 +1,7 @@
 use Rattle.std.proofs.Common.{◌≡◌, ◌≤◌, length}
 use Rattle.std.specs.List.{filter, range_with_len}
 use Rattle.arrayvec.specs.ArrayVec.{array_vec_len}
-use Rattle.chi_filter.specs.Filter.{is_in}
+use Rattle.chi_slice.specs.Words.{is_in}
 use Rattle.chi_reply.proofs.agents.members.Given as goal
 
 -- the members among the agents so far, of which there are no more than agents

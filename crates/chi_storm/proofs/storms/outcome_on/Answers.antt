@@ -1,6 +1,6 @@
 -- What came of the node's agents.
 use Rattle.std.proofs.Common.{ℕ, sym, ◌∙◌, ap, subst}
-use Rattle.chi_config.specs.Config.{Sizes}
+use Rattle.chi_slice.specs.Words.{Sizes}
 use Rattle.chi_agent.specs.Runs.{KeepsTold}
 use Rattle.chi_agent.proofs.Numbers.{are_numbered}
 use Rattle.chi_storm.specs.Scripts.{scripts_below}

@@ -2,7 +2,7 @@
 use Rattle.std.proofs.Common.{◌≡◌, ◌↔◌, ◌≤◌, ◌∙◌, All, List, Bool, ap, length, subst, sym, arith, rules}
 use Rattle.std.specs.Prelude.{IsTrue}
 use Rattle.chi_node.specs.Requester.{RequesterState}
-use Rattle.chi_config.specs.Config.{Sizes}
+use Rattle.chi_slice.specs.Words.{Sizes}
 use Rattle.chi_slice.proofs.Rows.{InLimits, in_limits}
 use Rattle.chi_storm.specs.Verdicts.{AgreeFrom, IsGoodSo}
 use Rattle.chi_storm.proofs.Judged.{judged}

@@ -1,7 +1,7 @@
 use Rattle.std.proofs.Common.{rules}
 use Rattle.std.proofs.Output.{has_written_append, has_written_of_eq}
 use Rattle.chi_flit.specs.declared.message.Channel.TheVariants as channels
-use Rattle.chi_wires.specs.Cell.{cell_of}
+use Rattle.chi_slice.specs.Words.{cell_of}
 use Rattle.chi_reply.proofs.Messages.{spaced_more}
 use Rattle.chi_reply.proofs.flights.InFlightDisplay.fmt.Goals as goal
 

@@ -3,7 +3,7 @@ use Rattle.std.specs.Prelude.{option_to_list}
 use Rattle.std.specs.List.{flat_map}
 use Rattle.std.specs.Fmt.{HasWritten, IsPlainFormatter}
 use Rattle.chi_flit.specs.Message.{message_text}
-use Rattle.chi_wires.specs.Cell.{cell_of}
+use Rattle.chi_slice.specs.Words.{cell_of}
 use Rattle.chi_reply.specs.Replies.{spaced_texts}
 use Rattle.chi_reply.proofs.flights.InFlightDisplay.fmt.Given as goal
 
