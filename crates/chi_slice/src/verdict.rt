@@ -5,7 +5,7 @@ ghost use Rattle.chi_line.specs.Clean.{CoherentParts, IsCleanAgent, passes_dirty
 ghost use Rattle.chi_slice.specs.Verdict.{IsBacked, IsCoherentView, IsPassed, IsVerdictOnShown, MayOthersStand, MayStandBeside, MayStandTogether, state_in};
 
 use chi_flit::{Agent, DatUp, Data, State};
-use chi_line::CoherentLineView;
+use chi_line::LineView;
 
 /// Whether the plain data of a line is coherent: a unique copy stands alone, each holder is named and has
 /// the values that were stored last, memory has them where nothing is dirty, and one copy at most is SD.
