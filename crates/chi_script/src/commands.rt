@@ -201,7 +201,7 @@ pub(crate) fn act(first: u8, second: u8, step: Step) -> Command
 }
 
 /// The step of `VERB N L`.
-#[tactic(auto, unfolding(crate::specs::Commands::step_of))]
+#[tactic(auto, unfolding(crate::specs::Commands::verb_step))]
 fn step_of(verb: &[u8]) -> Option<Step>
     ensures { result ≡ verb_step verb.now }
 {
@@ -259,7 +259,7 @@ fn step_with_two(verb: &[u8], third: &[u8], fourth: &[u8]) -> Option<Step>
 }
 
 /// The kind of request that the word names.
-#[tactic(auto, unfolding(crate::specs::Commands::kind_of))]
+#[tactic(auto, unfolding(crate::specs::Commands::kind_named))]
 fn read_kind(word: &[u8]) -> Option<Kind>
     ensures { result ≡ kind_named word.now }
 {

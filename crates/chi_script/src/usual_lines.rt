@@ -11,7 +11,7 @@ use chi_flit::{Agent, Line, Step};
 
 /// The command that a line is, where its first letters are those of a verb that most files are full of.
 /// `None` where it is another line, which may be a command all the same.
-#[tactic(auto, unfolding(crate::specs::Commands::step_of))]
+#[tactic(auto, unfolding(crate::specs::Commands::verb_step))]
 pub(crate) fn usual_command(line: &[u8]) -> Option<Command>
     ensures { IfSome result (λ command. command_of (words_of line.now) ≡ Some command) }
 {

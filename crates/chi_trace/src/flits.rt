@@ -50,7 +50,7 @@ impl Columns<'_> {
 
     /// The flit that the columns of this line are, or the first column that is wrong: the channel, the
     /// opcode, and then the others in their order.
-    #[tactic(auto, unfolding(crate::specs::Flits::seen_of))]
+    #[tactic(auto, unfolding(crate::specs::Flits::seen_in))]
     fn seen(&self, line: usize) -> Result<Seen, Column>
         ensures { result ≡ seen_in line (row_of_columns self.now) }
     {
