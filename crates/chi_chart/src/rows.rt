@@ -138,7 +138,7 @@ impl<A: Allocator> Rows<A> {
             (row.y ≡ self.old.bottom → self.new.bottom ≡ next_y shown (row_seen row)) }
     {
         if shown {
-            self.bottom = below(&row)?;
+            self.bottom = below_row(&row)?;
             self.rows.push(row)?;
         }
         Ok(())

@@ -9,6 +9,6 @@ mod storms;
 mod verdict;
 
 pub use outcome::Outcome;
-pub use scripts::script_of;
+pub use scripts::agent_script;
 pub use storms::storm;
 pub use verdict::{outcome_of, verdict_of};

@@ -70,7 +70,7 @@ pub(crate) fn scripts_of(
 {
     let mut scripts = Vec::with_capacity(alloc, usize::from(agents))?;
     for agent in 0..agents {
-        let script = script_of(alloc, deeds, agent)?;
+        let script = agent_script(alloc, deeds, agent)?;
         let writer = writers.remove(0);
         scripts.push_reserved(Script::new(writer.agent(), script, writer));
     }
