@@ -1,7 +1,7 @@
 -- There is room for each of the agent's operations.
 use Rattle.std.proofs.Common.{◌<◌, ◌∙◌, length, sym, ap, arith}
 use Rattle.chi_storm.proofs.Filtered.{has_room}
-use Rattle.chi_storm.proofs.scripts.script_of.Goals as goal
+use Rattle.chi_storm.proofs.scripts.agent_script.Goals as goal
 
 pub push_reserved-requires : goal.push_reserved-requires
 push_reserved-requires g c =
