@@ -1,4 +1,4 @@
-/* How fast chi_slice_act is: about COUNT actions of the mix of crates/chi_slice_speed over LINES lines (64, 8 or one),
+/* How fast chi_slice_act is: about COUNT actions of the mix of crates/chi_speed over LINES lines (64, 8 or one),
  * on a new slice. Each effect is read. Prints what `act LINES COUNT` of that crate prints: nanoseconds, actions, and the
  * sum of what the effects told. */
 #define _POSIX_C_SOURCE 200809L /* clock_gettime */

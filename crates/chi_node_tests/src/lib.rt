@@ -1,11 +1,16 @@
-//! Tests of requesters and of nodes through the public calls of `chi_node` alone, by `docs/PROTOCOL.md`, "A
-//! requester and its calls" and "Agreement": a requester on a slice, a node on one thread, a node behind locks.
+//! Tests of requesters and of nodes through their public calls alone, by `docs/PROTOCOL.md`, "A requester and its
+//! calls" and "Agreement": a tracker and an account, a requester on a slice, a node on one thread, a node behind
+//! locks.
 #![tactic(auto)]
 
+#[cfg(test)]
+mod accounts;
 #[cfg(test)]
 mod agreement;
 #[cfg(test)]
 mod bench;
+#[cfg(test)]
+mod comparison;
 #[cfg(test)]
 mod credits;
 #[cfg(test)]
@@ -16,6 +21,8 @@ mod ends;
 mod locks;
 #[cfg(test)]
 mod opening;
+#[cfg(test)]
+mod ports;
 #[cfg(test)]
 mod reads;
 #[cfg(test)]
