@@ -53,7 +53,7 @@ fn node_of(rt: &impl Abort, alloc: Global) -> (Node<Global>, ArrayVec<Requester,
 }
 
 /// A load of the one line, by the writer's agent.
-fn script_of(rt: &impl Abort, alloc: Global, writer: Writer) -> Script<Global>
+fn script_for(rt: &impl Abort, alloc: Global, writer: Writer) -> Script<Global>
     ensures { result.writer ≡ writer }
 {
     let (line, task) = (Line(0), Task::Load(WordNo(0)));
@@ -72,7 +72,7 @@ fn opened(rt: &impl Abort, alloc: Global) -> (Tallies, Vec<Script<Global>>)
 {
     let made = chi_audit::tallies(alloc, 1);
     let (tallies, mut writers, _watcher) = made.expect(rt, "memory for tallies");
-    let script = script_of(rt, alloc, writers.remove(0));
+    let script = script_for(rt, alloc, writers.remove(0));
     let mut scripts = Vec::new(alloc);
     scripts.push(script).expect(rt, "memory for scripts");
     (tallies, scripts)
