@@ -1,7 +1,7 @@
 //! The mix, one action at a time and each effect read, as `tests/c/speed.c` does it through the library for C.
 
 use crate::mix::mix;
-use crate::opened;
+use crate::slices::opened;
 use chi_slice::{Action, Effect, Slice};
 use std::alloc::Global;
 use std::io;

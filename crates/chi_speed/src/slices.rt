@@ -16,7 +16,7 @@ const RUNS: u32 = 7;
 const ACTIONS: usize = 960_000;
 
 /// The slice of a node of eight requesters and so many lines.
-fn opened(alloc: Global, lines: u8) -> io::Result<Slice<Global>> {
+pub fn opened(alloc: Global, lines: u8) -> io::Result<Slice<Global>> {
     let Some(config) = Config::new(8, lines, 1, 32, 32, 65_536) else {
         return Err(io::Error::from(io::ErrorKind::InvalidInput));
     };
