@@ -8,7 +8,7 @@ ghost use Rattle.chi_agent.specs.Choice.{drawn_line, IsInWindow, IsOwnChoice};
 ghost use Rattle.chi_agent.specs.Turns.{after_issue, after_refusal, player_after_step, player_after_answer, count_after, player_without, AreIdle, HasEnded, IsFinished, TurnsTo};
 
 use crate::calls::perform;
-use crate::choice::{Choice, choose, drawn_line};
+use crate::choice::{Choice, choose, line_of};
 use crate::operations::{OperationPlace, Operations};
 use chi_credit::SlotState;
 use chi_flit::{Kind, Line, Refusal, Slot, Step};
