@@ -7,8 +7,9 @@ use Rattle.chi_flit.specs.declared.numbers.Agent.{Agent}
 use Rattle.chi_flit.specs.declared.numbers.Slot.{Slot}
 use Rattle.chi_flit.specs.declared.state.State.{State}
 use Rattle.chi_flit.specs.declared.kind.Kind.{Kind}
+use Rattle.chi_flit.specs.declared.kind.Kind.TheVariants.{ReadNotSharedDirty, ReadShared, ReadUnique, CleanUnique, Evict, WriteBackFull}
+use Rattle.chi_flit.specs.declared.kind.Kind.TheVariants.{WriteCleanFull, WriteEvictFull}
 use Rattle.chi_flit.specs.declared.snoop.Snoop.{Snoop}
-use Rattle.chi_flit.specs.declared.snoop.Snoop.TheVariants.{SnpUnique, SnpCleanInvalid}
 use Rattle.chi_flit.specs.declared.message.RspDown.TheVariants.{CompUC, CompDBIDResp}
 use Rattle.chi_flit.specs.declared.message.Msg.{Msg}
 use Rattle.chi_flit.specs.declared.message.Msg.TheVariants as messages
@@ -67,17 +68,21 @@ is_idle other = false
 abbrev pub asks_shared : FilterState → ℕ → List Bool
 asks_shared f n = if f.unique && has_any (others_than n f.named) then others_than n f.named else others_than n (owner_set f.owner)
 
--- whom a request asks, by the snoop that serves it
-abbrev pub asks : Snoop → FilterState → ℕ → List Bool
-asks SnpUnique f n = others_than n f.named
-asks SnpCleanInvalid f n = others_than n f.named
-asks shared f n = asks_shared f n
+-- whom a request asks
+abbrev pub asks : Kind → FilterState → ℕ → List Bool
+asks ReadNotSharedDirty f n = asks_shared f n
+asks ReadShared f n = asks_shared f n
+asks ReadUnique f n = others_than n f.named
+asks CleanUnique f n = others_than n f.named
+asks other f n = nobody
 
 -- whether a completion leaves its agent the only one named: a shared read does where nobody else is
-abbrev pub completes_unique : Snoop → FilterState → ℕ → Bool
-completes_unique SnpUnique f n = true
-completes_unique SnpCleanInvalid f n = true
-completes_unique shared f n = not (has_any (others_than n f.named))
+abbrev pub completes_unique : Kind → FilterState → ℕ → Bool
+completes_unique ReadNotSharedDirty f n = not (has_any (others_than n f.named))
+completes_unique ReadShared f n = not (has_any (others_than n f.named))
+completes_unique ReadUnique f n = true
+completes_unique CleanUnique f n = true
+completes_unique other f n = false
 
 -- the filter after a completion
 abbrev pub completed_filter : Bool → FilterState → ℕ → FilterState
@@ -85,15 +90,15 @@ completed_filter true f n = only_named n
 completed_filter false f n = filter_with (filter_without_flag f) n
 
 -- Completion: the filter is as above, and the CompAck is awaited
-abbrev pub home_after_completion : Home → Snoop → Agent → Slot → Home
-home_after_completion home snoop agent slot = record home {
-  filter = completed_filter (completes_unique snoop home.filter agent.0) home.filter agent.0;
+abbrev pub home_after_completion : Home → Kind → Agent → Slot → Home
+home_after_completion home kind agent slot = record home {
+  filter = completed_filter (completes_unique kind home.filter agent.0) home.filter agent.0;
   serving = AwaitingCompAck agent slot;
 }
 
--- the form of a completion: a CleanUnique, served by SnpCleanInvalid, has no data
-abbrev pub completion_form : Snoop → Bool → CompletionForm
-completion_form SnpCleanInvalid unique = forms.NoData
+-- the form of a completion: a CleanUnique's has no data
+abbrev pub completion_form : Kind → Bool → CompletionForm
+completion_form CleanUnique unique = forms.NoData
 completion_form other unique = forms.Data unique
 
 -- the message of a form, with the data that is sent
@@ -101,36 +106,37 @@ abbrev pub form_message : CompletionForm → List ℕ → Msg
 form_message (forms.Data unique) sent = messages.DatDown (record { unique = unique; words = sent })
 form_message forms.NoData sent = messages.RspDown CompUC
 
-abbrev pub completion_message : Snoop → Bool → List ℕ → Msg
-completion_message snoop unique sent = form_message (completion_form snoop unique) sent
+abbrev pub completion_message : Kind → Bool → List ℕ → Msg
+completion_message kind unique sent = form_message (completion_form kind unique) sent
 
-abbrev pub completion_of : Home → Snoop → Agent → List ℕ → Msg
-completion_of home snoop agent sent = completion_message snoop (completes_unique snoop home.filter agent.0) sent
+abbrev pub completion_of : Home → Kind → Agent → List ℕ → Msg
+completion_of home kind agent sent = completion_message kind (completes_unique kind home.filter agent.0) sent
 
 -- the home snoops for a request, or completes it at once where there is nobody to ask
-abbrev pub home_after_service : Home → Kind → Snoop → Agent → Slot → Home
-home_after_service home kind snoop agent slot =
-    if has_any (asks snoop home.filter agent.0)
-    then record home { serving = Snooping agent kind slot; awaited = asks snoop home.filter agent.0 }
-    else home_after_completion home snoop agent slot
+abbrev pub home_after_service : Home → Kind → Agent → Slot → Home
+home_after_service home kind agent slot =
+    if has_any (asks kind home.filter agent.0)
+    then record home { serving = Snooping agent kind slot; awaited = asks kind home.filter agent.0 }
+    else home_after_completion home kind agent slot
 
-abbrev pub served_sends : Home → Snoop → Agent → Started
-served_sends home snoop agent =
-    if has_any (asks snoop home.filter agent.0)
-    then Snoops snoop (asks snoop home.filter agent.0)
-    else Sends (completion_of home snoop agent home.memory)
+abbrev pub served_sends : Home → Kind → Snoop → Agent → Started
+served_sends home kind snoop agent =
+    if has_any (asks kind home.filter agent.0)
+    then Snoops snoop (asks kind home.filter agent.0)
+    else Sends (completion_of home kind agent home.memory)
 
--- a request that is taken up, by its kind and the kind's snoop: served with it; or, a copy-back, asked
--- for its write data; or, an Evict, done, its agent named no more
-abbrev pub started_as : Kind → Option Snoop → Home → Agent → Slot → Home
-started_as kind (Some snoop) home agent slot = home_after_service home kind snoop agent slot
-started_as kind None home agent slot =
-    if is_copy_back kind
-    then record home { serving = AwaitingWriteData agent kind slot }
-    else record home { filter = filter_without home.filter agent.0 }
+-- a request that is taken up: an Evict is done, its agent named no more; a copy-back is asked for its
+-- write data; each other kind is served
+abbrev pub started_as : Kind → Home → Agent → Slot → Home
+started_as Evict home agent slot = record home { filter = filter_without home.filter agent.0 }
+started_as WriteBackFull home agent slot = record home { serving = AwaitingWriteData agent WriteBackFull slot }
+started_as WriteCleanFull home agent slot = record home { serving = AwaitingWriteData agent WriteCleanFull slot }
+started_as WriteEvictFull home agent slot = record home { serving = AwaitingWriteData agent WriteEvictFull slot }
+started_as served home agent slot = home_after_service home served agent slot
 
+-- what is sent for it, with the kind's snoop, where it has one
 abbrev pub started_sends_as : Kind → Option Snoop → Home → Agent → Slot → Started
-started_sends_as kind (Some snoop) home agent slot = served_sends home snoop agent
+started_sends_as kind (Some snoop) home agent slot = served_sends home kind snoop agent
 started_sends_as kind None home agent slot = if is_copy_back kind then Sends (messages.RspDown CompDBIDResp) else Evicted slot
 
 -- what a start sends, with the memory as the data of a completion
@@ -142,7 +148,7 @@ started_with (begins.Snoops snoop agents) memory = Snoops snoop agents
 
 -- Start of a request that waits
 abbrev pub home_after_start : Home → Agent → Waiting → Home
-home_after_start home agent request = started_as request.kind (snoop_of request.kind) (taken_up home agent.0) agent request.slot
+home_after_start home agent request = started_as request.kind (taken_up home agent.0) agent request.slot
 
 abbrev pub started_sends : Home → Agent → Waiting → Started
 started_sends home agent request = started_sends_as request.kind (snoop_of request.kind) home agent request.slot
@@ -226,25 +232,17 @@ data_to_send other memory = memory
 abbrev pub answer_taken : Home → Agent → SnoopAnswer → Home
 answer_taken home agent answer = home_with_answer home agent.0 (memory_after answer home.memory) (filter_after answer home.filter agent)
 
--- the completion of the request that is served, by the snoop that serves it
-abbrev pub completed_by : Home → Option Snoop → Agent → Slot → Home
-completed_by home None agent slot = home
-completed_by home (Some snoop) agent slot = home_after_completion home snoop agent slot
-
-abbrev pub completion_by : Home → Option Snoop → Agent → List ℕ → Option Completion
-completion_by home None agent sent = None
-completion_by home (Some snoop) agent sent = Some (record { agent = agent; message = completion_of home snoop agent sent })
-
 -- a request that is snooped for completes when no answer is awaited any more
 abbrev pub finished_as : Serving → Home → Home
-finished_as (Snooping agent kind slot) home = if has_any home.awaited then home else completed_by home (snoop_of kind) agent slot
+finished_as (Snooping agent kind slot) home = if has_any home.awaited then home else home_after_completion home kind agent slot
 finished_as other home = home
 
 abbrev pub finished_home : Home → Home
 finished_home home = finished_as home.serving home
 
 abbrev pub finished_sends_as : Serving → Home → List ℕ → Option Completion
-finished_sends_as (Snooping agent kind slot) home sent = if has_any home.awaited then None else completion_by home (snoop_of kind) agent sent
+finished_sends_as (Snooping agent kind slot) home sent =
+    if has_any home.awaited then None else Some (record { agent = agent; message = completion_of home kind agent sent })
 finished_sends_as other home sent = None
 
 abbrev pub finished_sends : Home → List ℕ → Option Completion

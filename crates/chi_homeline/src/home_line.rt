@@ -1,13 +1,11 @@
 //! One line at the home.
 
 ghost use Rattle.std.specs.Prelude.{◌≡◌, ◌<◌, ℕ, List, IfOk, OnErr, None, Some, false, is_some, true};
-ghost use Rattle.chi_flit.specs.Kind.{snoop_of};
 ghost use Rattle.chi_flit.specs.Refusal.{refusal_of};
 ghost use Rattle.chi_filter.specs.Filter.{is_named};
 ghost use Rattle.chi_homeline.specs.Home.{Home, home_after_ack, acks_for, home_after_admit, answer_taken, asks, home_after_completion, completes_unique, completion_form, data_to_send, finished_home, finished_sends, idle_home, leaves, home_after_service, served_kind, served_sends, served_slot, snoop_answered, snoop_answered_sends, start_refusal, home_after_start, started_as, started_sends, started_with, waiting_of, writes_for, home_after_write};
 ghost use Rattle.chi_flit.specs.declared.kind.Kind.{Kind};
 ghost use Rattle.chi_flit.specs.declared.numbers.Slot.{Slot};
-ghost use Rattle.chi_flit.specs.declared.snoop.Snoop.{Snoop};
 ghost use Rattle.chi_homeline.specs.declared.serving.Completion.{Completion};
 ghost use Rattle.chi_homeline.specs.declared.serving.Waiting.{Waiting};
 ghost use Rattle.chi_homeline.specs.declared.serving.Started.TheVariants.{Sends};
@@ -119,8 +117,7 @@ impl HomeLine {
         requires { agent.0 < 8 }
         ensures sends { started_with result self.old.memory ≡ started_sends self.old agent request }
         ensures memory { self.new.memory ≡ self.old.memory }
-        ensures after { self.new
-            ≡ started_as request.kind (snoop_of request.kind) self.old agent request.slot }
+        ensures after { self.new ≡ started_as request.kind self.old agent request.slot }
     {
         let kind = request.kind;
         let slot = request.slot;
@@ -142,11 +139,10 @@ impl HomeLine {
 
     /// Snoops for a request, or completes it at once where there is nobody to ask.
     fn serve(&mut self, agent: Agent, kind: Kind, snoop: Snoop, slot: Slot) -> Begun
-        requires agent { agent.0 < 8 }
-        requires snoop { snoop_of kind ≡ Some snoop }
-        ensures sends { started_with result self.old.memory ≡ served_sends self.old snoop agent }
+        requires { agent.0 < 8 }
+        ensures sends { started_with result self.old.memory ≡ served_sends self.old kind snoop agent }
         ensures memory { self.new.memory ≡ self.old.memory }
-        ensures after { self.new ≡ home_after_service self.old kind snoop agent slot }
+        ensures after { self.new ≡ home_after_service self.old kind agent slot }
     {
         let agents = agents_to_ask(&self.filter, kind, agent);
         if has_any(&agents) {
@@ -161,10 +157,8 @@ impl HomeLine {
     /// Source: `docs/PROTOCOL.md`, "Completion".
     fn complete(&mut self, agent: Agent, kind: Kind, slot: Slot) -> CompletionForm
         requires { agent.0 < 8 }
-        ensures form { (snoop : Snoop) → snoop_of kind ≡ Some snoop
-            → result ≡ completion_form snoop (completes_unique snoop self.old.filter agent.0) }
-        ensures after { (snoop : Snoop) → snoop_of kind ≡ Some snoop
-            → self.new ≡ home_after_completion self.old snoop agent slot }
+        ensures form { result ≡ completion_form kind (completes_unique kind self.old.filter agent.0) }
+        ensures after { self.new ≡ home_after_completion self.old kind agent slot }
         ensures memory { self.new.memory ≡ self.old.memory }
     {
         let unique = completes_unique(&self.filter, kind, agent);
@@ -319,7 +313,6 @@ impl HomeLine {
         if has_any(&self.awaited) {
             return None;
         }
-        kind.snoop()?;
         let message = self.complete(agent, kind, slot).message(sent);
         Some(Completion { agent, message })
     }
@@ -380,7 +373,7 @@ fn leaves(kind: Kind, form: State) -> bool
 /// Source: `docs/PROTOCOL.md`, "Start".
 fn agents_to_ask(filter: &Filter, kind: Kind, agent: Agent) -> [bool; 8]
     requires { agent.0 < 8 }
-    ensures { (snoop : Snoop) → snoop_of kind ≡ Some snoop → result ≡ asks snoop filter.now agent.0 }
+    ensures { result ≡ asks kind filter.now agent.0 }
 {
     let others = filter.others_than(agent);
     match kind {
@@ -400,8 +393,7 @@ fn agents_to_ask(filter: &Filter, kind: Kind, agent: Agent) -> [bool; 8]
 /// Source: `docs/PROTOCOL.md`, "Completion".
 fn completes_unique(filter: &Filter, kind: Kind, agent: Agent) -> bool
     requires { agent.0 < 8 }
-    ensures { (snoop : Snoop) → snoop_of kind ≡ Some snoop
-        → result ≡ completes_unique snoop filter.now agent.0 }
+    ensures { result ≡ completes_unique kind filter.now agent.0 }
 {
     match kind {
         Kind::ReadNotSharedDirty | Kind::ReadShared => !has_any(&filter.others_than(agent)),
@@ -413,7 +405,7 @@ fn completes_unique(filter: &Filter, kind: Kind, agent: Agent) -> bool
 /// The form of a completion, by the kind of its request: a CleanUnique's has no data.
 /// Source: `docs/PROTOCOL.md`, "Completion".
 fn completion_form(kind: Kind, unique: bool) -> CompletionForm
-    ensures { (snoop : Snoop) → snoop_of kind ≡ Some snoop → result ≡ completion_form snoop unique }
+    ensures { result ≡ completion_form kind unique }
 {
     match kind {
         Kind::CleanUnique => CompletionForm::NoData,

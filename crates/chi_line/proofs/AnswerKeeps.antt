@@ -1,5 +1,5 @@
 -- Answers to snoops, and the completion that the last one brings, keep what a line keeps.
-use Rattle.std.proofs.Common.{set, ◌≡◌, ◌≢◌, ℕ, ◌<◌, List, Bool, true, false, Option, Some, None, length, arith, refl, sym, subst, ap, ◌∙◌, ⊎_elim, if◌then◌else◌, ◌&&◌, ◌⊎◌}
+use Rattle.std.proofs.Common.{set, ◌≡◌, ◌≢◌, ℕ, ◌<◌, List, Bool, true, false, Option, Some, None, is_some, length, arith, refl, sym, subst, ap, ◌∙◌, ⊎_elim, if◌then◌else◌, ◌&&◌, ◌⊎◌}
 use Rattle.std.proofs.lemmas.Bool.{cases_eq, both_ways, false_from_ne_true}
 use Rattle.std.proofs.lemmas.List.{length-set, get_or_default}
 use Rattle.std.proofs.lemmas.List.Folds.{list_any_none}
@@ -18,7 +18,7 @@ use Rattle.chi_homeline.specs.declared.serving.Serving.{Serving}
 use Rattle.chi_homeline.specs.declared.serving.Serving.TheVariants.{Snooping}
 use Rattle.chi_homeline.specs.declared.serving.SnoopAnswer.{SnoopAnswer}
 use Rattle.chi_homeline.specs.declared.serving.SnoopAnswer.TheVariants as answers
-use Rattle.chi_homeline.specs.Home.{home_with_answer, completed_by, completion_by, data_to_send, filter_after, finished_as, finished_sends_as, left_owner, left_shared, memory_after}
+use Rattle.chi_homeline.specs.Home.{completion_of, data_to_send, filter_after, finished_as, finished_sends_as, home_after_completion, home_with_answer, left_owner, left_shared, memory_after}
 use Rattle.chi_line.specs.LineState.{LineState, rn_of, cells_of}
 use Rattle.chi_line.specs.Clean.{IsClean}
 use Rattle.chi_line.specs.Kept.{Lane, LaneKept, IsOwnerInRange, IsServedRight, Kept, invalidates, is_read, lane, shares, snoop_out}
@@ -124,6 +124,7 @@ kept_answered last s n memory after c named owns may fits own clean_memory k =
 -- what a request that is snooped for needs to complete, once nobody is awaited
 record MayFinish (last : List ℕ) (s : LineState) (sent : List ℕ) : Type 0 where
   snooping : IsSnooping s.home.serving
+  snoops : is_some (snoop_of snooping.kind) ≡ true
   clear : s.home.filter.unique ≡ false
   sent_is : ((m : ℕ) → m < 8 → is_in s.home.awaited m ≡ false) → is_read snooping.kind ≡ true → sent ≡ last
 
@@ -132,29 +133,23 @@ abbrev finished_for : LineState → Serving → List ℕ → LineState
 finished_for s serving sent = record s { home = finished_as serving s.home; flits = completion_put s.flits (finished_sends_as serving s.home sent) }
 
 -- the last answer completes the request
-finished_done : (last : List ℕ) (s : LineState) (sent : List ℕ) (may : MayFinish last s sent) → Kept last s
-    → has_any s.home.awaited ≡ false → (snoop : Option Snoop) → snoop_of may.snooping.kind ≡ snoop
-    → Kept last (record s { home = completed_by s.home snoop may.snooping.agent may.snooping.slot; flits = completion_put s.flits (completion_by s.home snoop may.snooping.agent sent) })
-finished_done last s sent may k none None is = k
-finished_done last s sent may k none (Some snoop) is =
+finished_if : (last : List ℕ) (s : LineState) (sent : List ℕ) (may : MayFinish last s sent) → Kept last s → (b : Bool) → has_any s.home.awaited ≡ b
+    → Kept last (record s {
+      home = if b then s.home else home_after_completion s.home may.snooping.kind may.snooping.agent may.snooping.slot;
+      flits = completion_put s.flits (if b then None else Some (record { agent = may.snooping.agent; message = completion_of s.home may.snooping.kind may.snooping.agent sent }));
+    })
+finished_if last s sent may k true some = k
+finished_if last s sent may k false none =
     let all_in : (m : ℕ) → m < 8 → is_in s.home.awaited m ≡ false = λ m at. none_in s.home.awaited m k.awaited at none in
-    kept_completed last s may.snooping.agent may.snooping.kind snoop may.snooping.slot sent
+    kept_completed last s may.snooping.agent may.snooping.kind may.snooping.slot sent
     (record {
       here = subst IsServedRight may.snooping.serving_is k.in_range;
       serves = may.snooping.serving_is;
-      snoop_is = is;
+      snoops = may.snoops;
       all_in = all_in;
       sent_is = may.sent_is all_in;
       flag_clear = λ shared. may.clear;
     }) k
-
-finished_if : (last : List ℕ) (s : LineState) (sent : List ℕ) (may : MayFinish last s sent) → Kept last s → (b : Bool) → has_any s.home.awaited ≡ b
-    → Kept last (record s {
-      home = if b then s.home else completed_by s.home (snoop_of may.snooping.kind) may.snooping.agent may.snooping.slot;
-      flits = completion_put s.flits (if b then None else completion_by s.home (snoop_of may.snooping.kind) may.snooping.agent sent);
-    })
-finished_if last s sent may k true some = k
-finished_if last s sent may k false none = finished_done last s sent may k none (snoop_of may.snooping.kind) refl
 
 kept_finished : (last : List ℕ) (s : LineState) (sent : List ℕ) → MayFinish last s sent → Kept last s → Kept last (finished_for s s.home.serving sent)
 kept_finished last s sent may k =
@@ -284,4 +279,4 @@ kept_answered_by last s agent answer low here k =
     (answered_lane answer is.agent is.kind is.slot s.home.filter.unique s.home.filter.owner _ last n (lane s n) here fits.own (shares_only (snoop_of is.kind)) (snooped_lanes last s is k n low))
     (memory_left last s agent answer low here fits k) k in
     kept_finished last (with_answer s agent answer) (data_to_send answer s.home.memory)
-    (record { snooping = is; clear = fits.clear; sent_is = sent_last last s agent answer may here fits k answered }) answered
+    (record { snooping = is; snoops = sym (ap (λ v. is_some (snoop_out v)) is.serving_is) ∙ lanes.awaited_snooped awaited; clear = fits.clear; sent_is = sent_last last s agent answer may here fits k answered }) answered

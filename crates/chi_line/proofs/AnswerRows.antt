@@ -8,7 +8,6 @@ use Rattle.chi_flit.specs.declared.numbers.Line.{Line}
 use Rattle.chi_flit.specs.declared.numbers.Slot.{Slot}
 use Rattle.chi_flit.specs.declared.kind.Kind.{Kind}
 use Rattle.chi_flit.specs.declared.kind.Kind.TheVariants.{ReadShared}
-use Rattle.chi_flit.specs.declared.snoop.Snoop.{Snoop}
 use Rattle.chi_flit.specs.declared.snoop.Snoop.TheVariants.{SnpShared}
 use Rattle.chi_flit.specs.declared.credit.Profile.{Profile}
 use Rattle.chi_flit.specs.declared.action.Step.TheVariants as steps
@@ -27,7 +26,7 @@ use Rattle.chi_homeline.specs.declared.serving.Serving.{Serving}
 use Rattle.chi_homeline.specs.declared.serving.Serving.TheVariants.{Snooping}
 use Rattle.chi_homeline.specs.declared.serving.SnoopAnswer.{SnoopAnswer}
 use Rattle.chi_homeline.specs.declared.serving.SnoopAnswer.TheVariants as answers
-use Rattle.chi_homeline.specs.Home.{answer_taken, completed_by, completed_filter, completes_unique, completion_message, completion_by, data_to_send, filter_after, memory_after, snoop_answered_sends}
+use Rattle.chi_homeline.specs.Home.{answer_taken, completed_filter, completes_unique, completion_message, completion_of, data_to_send, filter_after, home_after_completion, memory_after, snoop_answered_sends}
 use Rattle.chi_line.specs.LineState.{LineState, cells_of}
 use Rattle.chi_line.specs.Kept.{IsServedRight, Kept, lane, snoop_out, snoops_for}
 use Rattle.chi_line.specs.Snooped.{answer_channel}
@@ -107,9 +106,9 @@ snooping_line s agent kind slot = record s { home = record s.home { serving = Sn
 row_if : (profile : Profile) (line : Line) (s : LineState) (m : Agent) (answer : SnoopAnswer) (agent : Agent) (kind : Kind) (slot : Slot) (may : MayAnswer s m answer agent kind) (flits : List Cells)
     → (b : Bool) → has_any (others_than m.0 s.home.awaited) ≡ b
     → IsPermutation (flit m (message_of answer) ∷ [] ++ in_flight flits)
-    (completion_flits (if b then None else completion_by (answer_taken (snooping_line s agent kind slot).home m answer) (snoop_of kind) agent (data_to_send answer s.home.memory)) ++ in_flight s.flits)
+    (completion_flits (if b then None else Some (record { agent = agent; message = completion_of (answer_taken (snooping_line s agent kind slot).home m answer) kind agent (data_to_send answer s.home.memory) })) ++ in_flight s.flits)
     → LineStep profile line m steps.RecvSnpResp (standing_of (snooping_line s agent kind slot)) Nothing None
-    (standing_of (record s { home = if b then answer_taken (snooping_line s agent kind slot).home m answer else completed_by (answer_taken (snooping_line s agent kind slot).home m answer) (snoop_of kind) agent slot; flits = flits }))
+    (standing_of (record s { home = if b then answer_taken (snooping_line s agent kind slot).home m answer else home_after_completion (answer_taken (snooping_line s agent kind slot).home m answer) kind agent slot; flits = flits }))
 row_if profile line s m answer agent kind slot may flits true is moves =
     let left : set_of (others_than m.0 s.home.awaited) ≡ with_for (set_of s.home.awaited) m false = others_are s.home.awaited m (subst (λ (k : ℕ). m.0 < k) (sym may.long) may.here) in (
       (refl, refl),
@@ -127,43 +126,36 @@ row_if profile line s m answer agent kind slot may flits true is moves =
         (λ i. record (answered_standing s m answer) { serving = protocol_snooping agent kind slot (left i); flits = in_flight flits }, moves),
       ),
     )
-row_if profile line s m answer agent kind slot may flits false is moves = go (snoop_of kind) refl moves
-  where
-    go : (o : Option Snoop) → snoop_of kind ≡ o
-        → IsPermutation (flit m (message_of answer) ∷ [] ++ in_flight flits) (completion_flits (completion_by (answer_taken (snooping_line s agent kind slot).home m answer) o agent (data_to_send answer s.home.memory)) ++ in_flight s.flits)
-        → LineStep profile line m steps.RecvSnpResp (standing_of (snooping_line s agent kind slot)) Nothing None
-        (standing_of (record s { home = completed_by (answer_taken (snooping_line s agent kind slot).home m answer) o agent slot; flits = flits }))
-    go None none moved = absurd (both_ways (is_some (snoop_of kind)) (ap is_some none) may.snoops)
-    go (Some snoop) some moved = (
-      (refl, refl),
-      agent,
-      kind,
-      slot,
-      set_of s.home.awaited,
-      refl,
-      may.awaited,
-      message_of answer,
-      answered_standing (snooping_line s agent kind slot) m answer,
-      answers_is (snooping_line s agent kind slot) m answer (subst (λ (k : ℕ). m.0 < k) (sym may.named) may.here),
-      inr (
-        subst Nobody (others_are s.home.awaited m (subst (λ (k : ℕ). m.0 < k) (sym may.long) may.here)) (nobody (others_than m.0 s.home.awaited) is),
-        completion_message snoop (completes_unique snoop (filter_after answer s.home.filter m) agent.0) (data_to_send answer s.home.memory),
-        with_filter (answered_standing (snooping_line s agent kind slot) m answer) (completed_filter (completes_unique snoop (filter_after answer s.home.filter m) agent.0) (filter_after answer s.home.filter m) agent.0),
-        completes kind snoop (given_by (message_of answer) (memory_after answer s.home.memory)) (data_to_send answer s.home.memory) (record (standing_of (snooping_line s agent kind slot)) { memory = memory_after answer s.home.memory }) (filter_after answer s.home.filter m) agent some
-            may.served (left_long s m answer may.named) (data_fits (snooping_line s agent kind slot) m answer agent kind (record {
-              here = may.here;
-              served = may.served;
-              named = may.named;
-              long = may.long;
-              awaited = may.awaited;
-              is_named = may.is_named;
-              apart = may.apart;
-              snoops = may.snoops;
-              shared = may.shared;
-            })),
-        (refl, moved),
-      ),
-    )
+row_if profile line s m answer agent kind slot may flits false is moves = (
+  (refl, refl),
+  agent,
+  kind,
+  slot,
+  set_of s.home.awaited,
+  refl,
+  may.awaited,
+  message_of answer,
+  answered_standing (snooping_line s agent kind slot) m answer,
+  answers_is (snooping_line s agent kind slot) m answer (subst (λ (k : ℕ). m.0 < k) (sym may.named) may.here),
+  inr (
+    subst Nobody (others_are s.home.awaited m (subst (λ (k : ℕ). m.0 < k) (sym may.long) may.here)) (nobody (others_than m.0 s.home.awaited) is),
+    completion_message kind (completes_unique kind (filter_after answer s.home.filter m) agent.0) (data_to_send answer s.home.memory),
+    with_filter (answered_standing (snooping_line s agent kind slot) m answer) (completed_filter (completes_unique kind (filter_after answer s.home.filter m) agent.0) (filter_after answer s.home.filter m) agent.0),
+    completes kind (given_by (message_of answer) (memory_after answer s.home.memory)) (data_to_send answer s.home.memory) (record (standing_of (snooping_line s agent kind slot)) { memory = memory_after answer s.home.memory }) (filter_after answer s.home.filter m) agent may.snoops
+        may.served (left_long s m answer may.named) (data_fits (snooping_line s agent kind slot) m answer agent kind (record {
+          here = may.here;
+          served = may.served;
+          named = may.named;
+          long = may.long;
+          awaited = may.awaited;
+          is_named = may.is_named;
+          apart = may.apart;
+          snoops = may.snoops;
+          shared = may.shared;
+        })),
+    (refl, moves),
+  ),
+)
 
 -- out of what the line keeps
 is_shared_read : (kind : Kind) → snoop_of kind ≡ Some SnpShared → kind ≡ ReadShared

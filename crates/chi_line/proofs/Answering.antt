@@ -5,8 +5,6 @@ use Rattle.std.specs.List.Sorted.{IsPermutation}
 use Rattle.chi_flit.specs.declared.numbers.Agent.{Agent}
 use Rattle.chi_flit.specs.declared.numbers.Slot.{Slot}
 use Rattle.chi_flit.specs.declared.kind.Kind.{Kind}
-use Rattle.chi_flit.specs.declared.snoop.Snoop.{Snoop}
-use Rattle.chi_flit.specs.Kind.{snoop_of}
 use Rattle.chi_flit.specs.Message.{channel_of}
 use Rattle.chi_filter.specs.Filter.{has_any}
 use Rattle.chi_wires.specs.declared.cells.Cells.{Cells}
@@ -18,7 +16,7 @@ use Rattle.chi_homeline.specs.declared.serving.Completion.{Completion}
 use Rattle.chi_homeline.specs.declared.serving.Serving.{Serving}
 use Rattle.chi_homeline.specs.declared.serving.Serving.TheVariants.{Snooping}
 use Rattle.chi_homeline.specs.declared.serving.SnoopAnswer.{SnoopAnswer}
-use Rattle.chi_homeline.specs.Home.{Home, completes_unique, completion_by, completion_of, finished_sends_as, snoop_answered_sends}
+use Rattle.chi_homeline.specs.Home.{Home, completes_unique, completion_form, completion_of, finished_sends_as, snoop_answered_sends}
 use Rattle.chi_line.specs.LineState.{LineState, cells_of}
 use Rattle.chi_line.specs.Kept.{snoops_for}
 use Rattle.chi_line.specs.Snooped.{answer_channel}
@@ -34,17 +32,18 @@ is_itself : (agent : Agent) (kind : Kind) (slot : Slot) → snoops_for (Snooping
 is_itself agent kind slot = grind arith
 
 pub sends_completes : (serving : Serving) (home : Home) (words : List ℕ) (c : Completion) → finished_sends_as serving home words ≡ Some c → Completes serving c
-sends_completes (Snooping agent kind slot) home words c h = go (has_any home.awaited) (snoop_of kind) h
+sends_completes (Snooping agent kind slot) home words c h = go (has_any home.awaited) h
   where
-    go : (b : Bool) (o : Option Snoop) → (if b then None else completion_by home o agent words) ≡ Some c → Completes (Snooping agent kind slot) c
-    go true o h = absurd (cc (h))
-    go false None h = absurd (cc (h))
-    go false (Some snoop) h =
-        let one : Completion = record { agent = agent; message = completion_of home snoop agent words } in
+    one : Completion
+    one = record { agent = agent; message = completion_of home kind agent words }
+
+    go : (b : Bool) → (if b then None else Some one) ≡ Some c → Completes (Snooping agent kind slot) c
+    go true h = absurd (cc (h))
+    go false h =
         let same : one ≡ c = cc (h) in
         subst (Completes (Snooping agent kind slot)) same (record {
           agent = is_itself agent kind slot;
-          down = λ cells r d. completion_down snoop (completes_unique snoop home.filter agent.0) words cells r d;
+          down = λ cells r d. completion_down (completion_form kind (completes_unique kind home.filter agent.0)) words cells r d;
         })
 sends_completes serving home words c h = absurd (cc (h))
 

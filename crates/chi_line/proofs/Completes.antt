@@ -1,14 +1,12 @@
 -- A completion keeps what the line keeps: at a start that has nobody to ask, and after the last answer.
-use Rattle.std.specs.Prelude.{◌≡◌, ◌≢◌, ℕ, ◌<◌, ◌≤◌, List, length, Bool, true, false, not, Some, None, get_or, slice_set}
+use Rattle.std.specs.Prelude.{◌≡◌, ◌≢◌, ℕ, ◌<◌, ◌≤◌, List, length, Bool, true, false, not, Some, None, is_some, get_or, slice_set}
 use Rattle.std.proofs.Common.{refl, sym, ◌∙◌, subst, ⊎_elim, arith}
 use Rattle.std.proofs.lemmas.List.{get_or-set_same, get_or-set_other, get_or-replicate, get_or_past, length-set}
 use Rattle.std.proofs.lemmas.Bool.{cases_lt, false≢true, true≢false, not-true, eqb-true}
 use Rattle.chi_flit.specs.declared.numbers.Agent.{Agent}
 use Rattle.chi_flit.specs.declared.numbers.Slot.{Slot}
 use Rattle.chi_flit.specs.declared.kind.Kind.{Kind}
-use Rattle.chi_flit.specs.declared.kind.Kind.TheVariants.{CleanUnique}
-use Rattle.chi_flit.specs.declared.snoop.Snoop.{Snoop}
-use Rattle.chi_flit.specs.declared.snoop.Snoop.TheVariants.{SnpShared, SnpNotSharedDirty, SnpUnique, SnpCleanInvalid}
+use Rattle.chi_flit.specs.declared.kind.Kind.TheVariants.{ReadNotSharedDirty, ReadShared, ReadUnique, CleanUnique}
 use Rattle.chi_flit.specs.Kind.{snoop_of}
 use Rattle.chi_filter.specs.Filter.{FilterState, nobody, only_named, only_set, is_in, has_any, others_than, is_named}
 use Rattle.chi_wires.specs.declared.cells.Cells.{Cells}
@@ -22,32 +20,19 @@ use Rattle.chi_line.proofs.Asks.{apart, same, in_only, none_in, left_in, length-
 use Rattle.chi_line.proofs.CompleteLanes.{read_completes, clean_completes, no_owner, alone_other, shared_other, none_left, read_from_none}
 
 -- the line after a completion, with the data that is sent
-abbrev pub completed_line : LineState → Snoop → Agent → Slot → List ℕ → LineState
-completed_line s snoop agent slot sent = record s { home = home_after_completion s.home snoop agent slot; flits = slice_set s.flits agent.0 (with_message (cells_of s agent.0) (completion_of s.home snoop agent sent)) }
+abbrev pub completed_line : LineState → Kind → Agent → Slot → List ℕ → LineState
+completed_line s kind agent slot sent = record s { home = home_after_completion s.home kind agent slot; flits = slice_set s.flits agent.0 (with_message (cells_of s agent.0) (completion_of s.home kind agent sent)) }
 
 -- what a completion needs
-pub record MayComplete (last : List ℕ) (s : LineState) (agent : Agent) (kind : Kind) (snoop : Snoop) (slot : Slot) (sent : List ℕ) : Type 0 where
+pub record MayComplete (last : List ℕ) (s : LineState) (agent : Agent) (kind : Kind) (slot : Slot) (sent : List ℕ) : Type 0 where
   pub here : agent.0 < 8
   pub serves : s.home.serving ≡ Snooping agent kind slot
-  pub snoop_is : snoop_of kind ≡ Some snoop
+  pub snoops : is_some (snoop_of kind) ≡ true
   -- nobody's answer is awaited
   pub all_in : (m : ℕ) → m < 8 → is_in s.home.awaited m ≡ false
   pub sent_is : is_read kind ≡ true → sent ≡ last
   -- where others stay named, none of them is flagged
-  pub flag_clear : completes_unique snoop s.home.filter agent.0 ≡ false → s.home.filter.unique ≡ false
-
--- kinds by their snoops
-pub is_clean_unique : (kind : Kind) → snoop_of kind ≡ Some SnpCleanInvalid → kind ≡ CleanUnique
-is_clean_unique kind is = search arith
-
-abbrev pub serves_read : Snoop → Bool
-serves_read SnpShared = true
-serves_read SnpNotSharedDirty = true
-serves_read SnpUnique = true
-serves_read SnpCleanInvalid = false
-
-pub is_read_by : (kind : Kind) (snoop : Snoop) → snoop_of kind ≡ Some snoop → is_read kind ≡ serves_read snoop
-is_read_by kind snoop is = search arith
+  pub flag_clear : completes_unique kind s.home.filter agent.0 ≡ false → s.home.filter.unique ≡ false
 
 nowhere : (m : ℕ) → get_or nobody m false ≡ false
 nowhere m = ⊎_elim (λ (below : m < 8). get_or-replicate 8 m false false below) (λ (above : 8 ≤ m). get_or_past nobody m false above) (cases_lt m 8)
@@ -79,10 +64,10 @@ kept_awaiting last s agent slot filter c low k owner names own other one up =
     kept_moved last last s _ agent.0 _ moves k low owner own other one
     (memory_by last s _ agent.0 _ low moves k (λ (clean : IsCleanLane (record (lane s agent.0) { named = true; flits = c })). record { copy = clean.copy; on_its_way = cc }))
 
-snooped_lanes : (last : List ℕ) (s : LineState) (agent : Agent) (kind : Kind) (snoop : Snoop) (slot : Slot) (sent : List ℕ)
-    → MayComplete last s agent kind snoop slot sent → Kept last s → (m : ℕ) → m < 8
+snooped_lanes : (last : List ℕ) (s : LineState) (agent : Agent) (kind : Kind) (slot : Slot) (sent : List ℕ)
+    → MayComplete last s agent kind slot sent → Kept last s → (m : ℕ) → m < 8
     → LaneKept (Snooping agent kind slot) s.home.filter.unique s.home.filter.owner last m (lane s m)
-snooped_lanes last s agent kind snoop slot sent may k m low =
+snooped_lanes last s agent kind slot sent may k m low =
     subst (λ serving. LaneKept serving s.home.filter.unique s.home.filter.owner last m (lane s m)) may.serves (k.lanes m low)
 
 nobody_else : (f : FilterState) (n m : ℕ) → length f.named ≡ 8 → m < 8 → m ≢ n → not (has_any (others_than n f.named)) ≡ true → is_named f m ≡ false
@@ -93,44 +78,45 @@ nobody_else f n m eight low other none =
 abbrev IsAlone : FilterState → ℕ → Type 0
 IsAlone f n = (m : ℕ) → m < 8 → m ≢ n → is_named f m ≡ false
 
-alone_by : (snoop : Snoop) (f : FilterState) (n : ℕ) → length f.named ≡ 8
-    → (invalidates (Some snoop) ≡ true → IsAlone f n) → completes_unique snoop f n ≡ true → IsAlone f n
-alone_by SnpNotSharedDirty f n eight others is m low other = nobody_else f n m eight low other is
-alone_by SnpShared f n eight others is m low other = nobody_else f n m eight low other is
-alone_by SnpUnique f n eight others is m low other = others refl m low other
-alone_by SnpCleanInvalid f n eight others is m low other = others refl m low other
+alone_by : (kind : Kind) (f : FilterState) (n : ℕ) → length f.named ≡ 8
+    → (invalidates (snoop_of kind) ≡ true → IsAlone f n) → completes_unique kind f n ≡ true → IsAlone f n
+alone_by ReadNotSharedDirty f n eight others is m low other = nobody_else f n m eight low other is
+alone_by ReadShared f n eight others is m low other = nobody_else f n m eight low other is
+alone_by ReadUnique f n eight others is m low other = others refl m low other
+alone_by CleanUnique f n eight others is m low other = others refl m low other
+alone_by unserved f n eight others is m low other = absurd (false≢true is)
 
-alone : (last : List ℕ) (s : LineState) (agent : Agent) (kind : Kind) (snoop : Snoop) (slot : Slot) (sent : List ℕ)
-    → MayComplete last s agent kind snoop slot sent → Kept last s
-    → completes_unique snoop s.home.filter agent.0 ≡ true → IsAlone s.home.filter agent.0
-alone last s agent kind snoop slot sent may k is =
-    alone_by snoop s.home.filter agent.0 k.named
-    (λ (invalidating : invalidates (Some snoop) ≡ true) (m : ℕ) (low : m < 8) (other : m ≢ agent.0).
+alone : (last : List ℕ) (s : LineState) (agent : Agent) (kind : Kind) (slot : Slot) (sent : List ℕ)
+    → MayComplete last s agent kind slot sent → Kept last s
+    → completes_unique kind s.home.filter agent.0 ≡ true → IsAlone s.home.filter agent.0
+alone last s agent kind slot sent may k is =
+    alone_by kind s.home.filter agent.0 k.named
+    (λ (invalidating : invalidates (snoop_of kind) ≡ true) (m : ℕ) (low : m < 8) (other : m ≢ agent.0).
     none_left s.home.filter.unique s.home.filter.owner last agent kind slot m (lane s m) (apart agent.0 m other)
-    (subst (λ v. invalidates v ≡ true) (sym may.snoop_is) invalidating) (may.all_in m low) (snooped_lanes last s agent kind snoop slot sent may k m low))
+    invalidating (may.all_in m low) (snooped_lanes last s agent kind slot sent may k m low))
     is
 
 -- the line where it is known whether its agent has it alone
-abbrev completed_as : Bool → LineState → Snoop → Agent → Slot → List ℕ → LineState
-completed_as unique s snoop agent slot sent = record s {
+abbrev completed_as : Bool → LineState → Kind → Agent → Slot → List ℕ → LineState
+completed_as unique s kind agent slot sent = record s {
   home = record s.home { filter = completed_filter unique s.home.filter agent.0; serving = AwaitingCompAck agent slot };
-  flits = slice_set s.flits agent.0 (with_message (cells_of s agent.0) (completion_message snoop unique sent));
+  flits = slice_set s.flits agent.0 (with_message (cells_of s agent.0) (completion_message kind unique sent));
 }
 
 -- the only one named
 only_one : (n a b : ℕ) → n < 8 → a < 8 → b < 8 → is_in (only_set n) a ≡ true → is_in (only_set n) b ≡ true → a ≡ b
 only_one n a b low below_a below_b in_a in_b = sym (eqb-true n a (in_only n a below_a in_a)) ∙ eqb-true n b (in_only n b below_b in_b)
 
-read_alone : (last : List ℕ) (s : LineState) (agent : Agent) (kind : Kind) (snoop : Snoop) (slot : Slot) (sent : List ℕ)
-    → MayComplete last s agent kind snoop slot sent → Kept last s → is_read kind ≡ true
-    → completes_unique snoop s.home.filter agent.0 ≡ true
+read_alone : (last : List ℕ) (s : LineState) (agent : Agent) (kind : Kind) (slot : Slot) (sent : List ℕ)
+    → MayComplete last s agent kind slot sent → Kept last s → is_read kind ≡ true
+    → completes_unique kind s.home.filter agent.0 ≡ true
     → Kept last (record s {
       home = record s.home { filter = only_named agent.0; serving = AwaitingCompAck agent slot };
       flits = slice_set s.flits agent.0 (record (cells_of s agent.0) { dat_down = Some (record { unique = true; words = sent }) });
     })
-read_alone last s agent kind snoop slot sent may k reads is =
-    let lanes : (m : ℕ) → m < 8 → LaneKept (Snooping agent kind slot) s.home.filter.unique s.home.filter.owner last m (lane s m) = snooped_lanes last s agent kind snoop slot sent may k in
-    let lonely : IsAlone s.home.filter agent.0 = alone last s agent kind snoop slot sent may k is in
+read_alone last s agent kind slot sent may k reads is =
+    let lanes : (m : ℕ) → m < 8 → LaneKept (Snooping agent kind slot) s.home.filter.unique s.home.filter.owner last m (lane s m) = snooped_lanes last s agent kind slot sent may k in
+    let lonely : IsAlone s.home.filter agent.0 = alone last s agent kind slot sent may k is in
     let f = s.home.filter in
     kept_awaiting last s agent slot (only_named agent.0) _ may.here k tt
     (only_puts f.named agent.0 may.here k.named lonely)
@@ -141,11 +127,11 @@ read_alone last s agent kind snoop slot sent may k reads is =
     refl
 
 clean_alone : (last : List ℕ) (s : LineState) (agent : Agent) (slot : Slot) (sent : List ℕ)
-    → MayComplete last s agent CleanUnique SnpCleanInvalid slot sent → Kept last s
-    → Kept last (completed_as true s SnpCleanInvalid agent slot sent)
+    → MayComplete last s agent CleanUnique slot sent → Kept last s
+    → Kept last (completed_as true s CleanUnique agent slot sent)
 clean_alone last s agent slot sent may k =
-    let lanes : (m : ℕ) → m < 8 → LaneKept (Snooping agent CleanUnique slot) s.home.filter.unique s.home.filter.owner last m (lane s m) = snooped_lanes last s agent CleanUnique SnpCleanInvalid slot sent may k in
-    let lonely : IsAlone s.home.filter agent.0 = alone last s agent CleanUnique SnpCleanInvalid slot sent may k refl in
+    let lanes : (m : ℕ) → m < 8 → LaneKept (Snooping agent CleanUnique slot) s.home.filter.unique s.home.filter.owner last m (lane s m) = snooped_lanes last s agent CleanUnique slot sent may k in
+    let lonely : IsAlone s.home.filter agent.0 = alone last s agent CleanUnique slot sent may k refl in
     let f = s.home.filter in
     kept_awaiting last s agent slot (only_named agent.0) _ may.here k tt
     (only_puts f.named agent.0 may.here k.named lonely)
@@ -154,16 +140,16 @@ clean_alone last s agent slot sent may k =
     (λ flag a b below_a below_b in_a in_b. only_one agent.0 a b may.here below_a below_b in_a in_b)
     refl
 
-read_shared : (last : List ℕ) (s : LineState) (agent : Agent) (kind : Kind) (snoop : Snoop) (slot : Slot) (sent : List ℕ)
-    → MayComplete last s agent kind snoop slot sent → Kept last s → is_read kind ≡ true
-    → completes_unique snoop s.home.filter agent.0 ≡ false
+read_shared : (last : List ℕ) (s : LineState) (agent : Agent) (kind : Kind) (slot : Slot) (sent : List ℕ)
+    → MayComplete last s agent kind slot sent → Kept last s → is_read kind ≡ true
+    → completes_unique kind s.home.filter agent.0 ≡ false
     → Kept last (record s {
       home = record s.home { filter = completed_filter false s.home.filter agent.0; serving = AwaitingCompAck agent slot };
       flits = slice_set s.flits agent.0 (record (cells_of s agent.0) { dat_down = Some (record { unique = false; words = sent }) });
     })
-read_shared last s agent kind snoop slot sent may k reads is =
+read_shared last s agent kind slot sent may k reads is =
     let f = s.home.filter in
-    let lanes : (m : ℕ) → m < 8 → LaneKept (Snooping agent kind slot) s.home.filter.unique s.home.filter.owner last m (lane s m) = snooped_lanes last s agent kind snoop slot sent may k in
+    let lanes : (m : ℕ) → m < 8 → LaneKept (Snooping agent kind slot) s.home.filter.unique s.home.filter.owner last m (lane s m) = snooped_lanes last s agent kind slot sent may k in
     let clear_lanes : (m : ℕ) → m < 8 → LaneKept (Snooping agent kind slot) false s.home.filter.owner last m (lane s m) =
     λ m low. subst (λ unique. LaneKept (Snooping agent kind slot) unique s.home.filter.owner last m (lane s m)) (may.flag_clear is) (lanes m low) in
     let none = read_from_none f.unique f.owner last agent kind slot (lane s agent.0) (same agent.0) reads (lanes agent.0 may.here) in
@@ -175,24 +161,21 @@ read_shared last s agent kind snoop slot sent may k reads is =
     (λ (flag : false ≡ true). absurd (false≢true flag))
     refl
 
-reads_by : (kind : Kind) (snoop : Snoop) → snoop_of kind ≡ Some snoop → serves_read snoop ≡ true → is_read kind ≡ true
-reads_by kind snoop is serves = is_read_by kind snoop is ∙ serves
-
-completed_by : (unique : Bool) (snoop : Snoop) (last : List ℕ) (s : LineState) (agent : Agent) (kind : Kind) (slot : Slot) (sent : List ℕ)
-    → completes_unique snoop s.home.filter agent.0 ≡ unique
-    → MayComplete last s agent kind snoop slot sent → Kept last s → Kept last (completed_as unique s snoop agent slot sent)
-completed_by true SnpNotSharedDirty last s agent kind slot sent is may k = read_alone last s agent kind SnpNotSharedDirty slot sent may k (reads_by kind SnpNotSharedDirty may.snoop_is refl) is
-completed_by true SnpShared last s agent kind slot sent is may k = read_alone last s agent kind SnpShared slot sent may k (reads_by kind SnpShared may.snoop_is refl) is
-completed_by true SnpUnique last s agent kind slot sent is may k = read_alone last s agent kind SnpUnique slot sent may k (reads_by kind SnpUnique may.snoop_is refl) is
-completed_by true SnpCleanInvalid last s agent kind slot sent is may k =
-    clean_alone last s agent slot sent (subst (λ v. MayComplete last s agent v SnpCleanInvalid slot sent) (is_clean_unique kind may.snoop_is) may) k
-completed_by false SnpNotSharedDirty last s agent kind slot sent is may k = read_shared last s agent kind SnpNotSharedDirty slot sent may k (reads_by kind SnpNotSharedDirty may.snoop_is refl) is
-completed_by false SnpShared last s agent kind slot sent is may k = read_shared last s agent kind SnpShared slot sent may k (reads_by kind SnpShared may.snoop_is refl) is
-completed_by false SnpUnique last s agent kind slot sent is may k = absurd (true≢false is)
-completed_by false SnpCleanInvalid last s agent kind slot sent is may k = absurd (true≢false is)
+completed_by : (unique : Bool) (kind : Kind) (last : List ℕ) (s : LineState) (agent : Agent) (slot : Slot) (sent : List ℕ)
+    → completes_unique kind s.home.filter agent.0 ≡ unique
+    → MayComplete last s agent kind slot sent → Kept last s → Kept last (completed_as unique s kind agent slot sent)
+completed_by true ReadNotSharedDirty last s agent slot sent is may k = read_alone last s agent ReadNotSharedDirty slot sent may k refl is
+completed_by true ReadShared last s agent slot sent is may k = read_alone last s agent ReadShared slot sent may k refl is
+completed_by true ReadUnique last s agent slot sent is may k = read_alone last s agent ReadUnique slot sent may k refl is
+completed_by true CleanUnique last s agent slot sent is may k = clean_alone last s agent slot sent may k
+completed_by false ReadNotSharedDirty last s agent slot sent is may k = read_shared last s agent ReadNotSharedDirty slot sent may k refl is
+completed_by false ReadShared last s agent slot sent is may k = read_shared last s agent ReadShared slot sent may k refl is
+completed_by false ReadUnique last s agent slot sent is may k = absurd (true≢false is)
+completed_by false CleanUnique last s agent slot sent is may k = absurd (true≢false is)
+completed_by unique unserved last s agent slot sent is may k = absurd (false≢true may.snoops)
 
 -- a completion keeps what a line keeps
-pub kept_completed : (last : List ℕ) (s : LineState) (agent : Agent) (kind : Kind) (snoop : Snoop) (slot : Slot) (sent : List ℕ)
-    → MayComplete last s agent kind snoop slot sent → Kept last s → Kept last (completed_line s snoop agent slot sent)
-kept_completed last s agent kind snoop slot sent may k =
-    completed_by (completes_unique snoop s.home.filter agent.0) snoop last s agent kind slot sent refl may k
+pub kept_completed : (last : List ℕ) (s : LineState) (agent : Agent) (kind : Kind) (slot : Slot) (sent : List ℕ)
+    → MayComplete last s agent kind slot sent → Kept last s → Kept last (completed_line s kind agent slot sent)
+kept_completed last s agent kind slot sent may k =
+    completed_by (completes_unique kind s.home.filter agent.0) kind last s agent slot sent refl may k

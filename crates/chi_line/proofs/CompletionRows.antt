@@ -1,10 +1,9 @@
 -- A completion, by the protocol alone.
-use Rattle.std.proofs.Common.{◌≡◌, ℕ, ◌<◌, List, length, Bool, true, false, not, Some, None, sym, subst, refl, ap, ◌∙◌, inl, inr}
+use Rattle.std.proofs.Common.{◌≡◌, ℕ, ◌<◌, List, length, Bool, true, false, not, None, is_some, sym, subst, refl, ap, ◌∙◌, inl, inr}
+use Rattle.std.proofs.lemmas.Bool.{false≢true}
 use Rattle.chi_flit.specs.declared.numbers.Agent.{Agent}
 use Rattle.chi_flit.specs.declared.kind.Kind.{Kind}
 use Rattle.chi_flit.specs.declared.kind.Kind.TheVariants.{ReadNotSharedDirty, ReadShared, ReadUnique, CleanUnique}
-use Rattle.chi_flit.specs.declared.snoop.Snoop.{Snoop}
-use Rattle.chi_flit.specs.declared.snoop.Snoop.TheVariants.{SnpShared, SnpNotSharedDirty, SnpUnique, SnpCleanInvalid}
 use Rattle.chi_flit.specs.Kind.{snoop_of}
 use Rattle.chi_filter.specs.Filter.{FilterState, has_any, others_than}
 use Rattle.chi_homeline.specs.Home.{completed_filter, completes_unique, completion_message}
@@ -45,17 +44,17 @@ none_left : (s : Standing) (f : FilterState) (agent : Agent) → agent.0 < 8 →
 none_left s f agent low eight none = subst Nobody (others_are f.named agent (subst (λ (k : ℕ). agent.0 < k) (sym eight) low)) (nobody (others_than agent.0 f.named) none)
 
 -- the message of a completion, and the filter that it leaves
-pub completes : (kind : Kind) (snoop : Snoop) (given sent : List ℕ) (s : Standing) (f : FilterState) (agent : Agent) → snoop_of kind ≡ Some snoop
+pub completes : (kind : Kind) (given sent : List ℕ) (s : Standing) (f : FilterState) (agent : Agent) → is_some (snoop_of kind) ≡ true
     → agent.0 < 8 → length f.named ≡ 8 → DataFits kind agent (with_filter s f) given sent
-    → CompletionRow kind agent given (with_filter s f) (completion_message snoop (completes_unique snoop f agent.0) sent) (with_filter s (completed_filter (completes_unique snoop f agent.0) f agent.0))
-completes ReadNotSharedDirty SnpNotSharedDirty given sent s f agent is low eight fits =
+    → CompletionRow kind agent given (with_filter s f) (completion_message kind (completes_unique kind f agent.0) sent) (with_filter s (completed_filter (completes_unique kind f agent.0) f agent.0))
+completes ReadNotSharedDirty given sent s f agent is low eight fits =
     let memory : s.memory ≡ sent = fits.memory (λ h. let e : ReadNotSharedDirty ≡ ReadShared = h.0 in cc) in
     shared_by (has_any (others_than agent.0 f.named)) s.memory sent s f agent low eight refl memory (λ none. memory)
-completes ReadShared SnpShared given sent s f agent is low eight fits =
+completes ReadShared given sent s f agent is low eight fits =
     shared_by (has_any (others_than agent.0 f.named)) given sent s f agent low eight refl fits.is
     (λ none. fits.memory (λ h. both _ h.1 (none_left s f agent low eight none)))
-completes ReadUnique SnpUnique given sent s f agent is low eight fits =
+completes ReadUnique given sent s f agent is low eight fits =
     let memory : s.memory ≡ sent = fits.memory (λ h. let e : ReadUnique ≡ ReadShared = h.0 in cc) in
     (ap (comp_data true) (sym memory), alone_is s f agent low)
-completes CleanUnique SnpCleanInvalid given sent s f agent is low eight fits = (refl, alone_is s f agent low)
-completes kind snoop given sent s f agent is low eight fits = absurd cc
+completes CleanUnique given sent s f agent is low eight fits = (refl, alone_is s f agent low)
+completes unserved given sent s f agent is low eight fits = absurd (false≢true is)

@@ -5,6 +5,7 @@ use Rattle.std.proofs.lemmas.Bool.{cases_eq, or_left, or_right}
 use Rattle.chi_flit.specs.declared.numbers.Agent.{Agent}
 use Rattle.chi_flit.specs.declared.numbers.Slot.{Slot}
 use Rattle.chi_flit.specs.declared.kind.Kind.{Kind}
+use Rattle.chi_flit.specs.declared.kind.Kind.TheVariants.{Evict, WriteBackFull, WriteCleanFull, WriteEvictFull}
 use Rattle.chi_flit.specs.declared.snoop.Snoop.{Snoop}
 use Rattle.chi_flit.specs.declared.action.Step.{Step}
 use Rattle.chi_flit.specs.declared.action.Step.TheVariants as steps
@@ -16,21 +17,23 @@ use Rattle.chi_flit.specs.declared.message.DatUp.TheVariants.{CopyBackWrData}
 use Rattle.chi_flit.specs.declared.message.Msg.TheVariants as messages
 use Rattle.chi_flit.specs.declared.state.State.{State}
 use Rattle.chi_flit.specs.Snoop.{answer_of}
-use Rattle.chi_flit.specs.Kind.{snoop_of, is_copy_back}
-use Rattle.chi_filter.specs.Filter.{has_any, filter_without}
+use Rattle.chi_flit.specs.Kind.{is_copy_back}
+use Rattle.chi_filter.specs.Filter.{has_any}
 use Rattle.chi_wires.specs.declared.cells.Cells.{Cells}
 use Rattle.chi_wires.specs.Cell.{without_message, no_flits, with_message}
 use Rattle.chi_rnline.specs.Rn.{Rn, no_line}
 use Rattle.chi_rnline.specs.declared.pending.Pending.{Pending}
 use Rattle.chi_rnline.specs.declared.pending.Phase.{Phase}
 use Rattle.chi_rnline.specs.declared.pending.Phase.TheVariants.{Sent, Retried}
+use Rattle.chi_homeline.specs.declared.serving.CompletionForm.{CompletionForm}
+use Rattle.chi_homeline.specs.declared.serving.CompletionForm.TheVariants as forms
 use Rattle.chi_homeline.specs.declared.serving.Waiting.{Waiting}
 use Rattle.chi_homeline.specs.declared.serving.Serving.{Serving}
 use Rattle.chi_homeline.specs.declared.serving.Serving.TheVariants.{Idle, Snooping, AwaitingCompAck, AwaitingWriteData}
 use Rattle.chi_homeline.specs.declared.serving.Started.{Started}
 use Rattle.chi_homeline.specs.declared.serving.Started.TheVariants.{Sends, Evicted, Snoops}
 use Rattle.chi_homeline.specs.declared.serving.SnoopAnswer.{SnoopAnswer}
-use Rattle.chi_homeline.specs.Home.{Home, acks_for, answer_taken, asks, home_after_completion, completed_by, completes_unique, completion_by, completion_message, completion_of, data_to_send, finished_as, finished_sends_as, started_as, started_sends, started_sends_as, taken_up, waiting_of}
+use Rattle.chi_homeline.specs.Home.{Home, acks_for, answer_taken, asks, completes_unique, completion_form, completion_of, data_to_send, finished_as, finished_sends_as, form_message, home_after_completion, home_after_service, started_as, started_sends, started_sends_as, taken_up, waiting_of}
 use Rattle.chi_line.specs.declared.act.Conditions.{Conditions}
 use Rattle.chi_line.specs.LineState.{LineState, rn_of, cells_of}
 use Rattle.chi_line.specs.Kept.{Kept, Lane, LaneKept, is_write_data, lane, served_kind, snoops_for, writes_for}
@@ -123,29 +126,33 @@ unserved : (b : Bool) (slot : Slot) → b ≡ false → (if b then Some slot els
 unserved b slot apart = ap (λ (x : Bool). if x then Some slot else None) apart
 
 -- Start
-started_serves : (kind : Kind) (o : Option Snoop) (home : Home) (agent : Agent) (slot : Slot) (m : ℕ) → m ≢ agent.0 → home.serving ≡ Idle → slot_served_for (started_as kind o home agent slot).serving m ≡ None
-started_serves kind (Some snoop) home agent slot m apart idle = go (has_any (asks snoop home.filter agent.0))
+serviced_serves : (kind : Kind) (home : Home) (agent : Agent) (slot : Slot) (m : ℕ) → m ≢ agent.0 → slot_served_for (home_after_service home kind agent slot).serving m ≡ None
+serviced_serves kind home agent slot m apart = go (has_any (asks kind home.filter agent.0))
   where
-    go : (b : Bool) → slot_served_for (if b then record home { serving = Snooping agent kind slot; awaited = asks snoop home.filter agent.0 } else home_after_completion home snoop agent slot).serving m ≡ None
+    go : (b : Bool) → slot_served_for (if b then record home { serving = Snooping agent kind slot; awaited = asks kind home.filter agent.0 } else home_after_completion home kind agent slot).serving m ≡ None
     go true = unserved (agent.0 == m) slot (differ agent.0 m apart)
     go false = unserved (agent.0 == m) slot (differ agent.0 m apart)
-started_serves kind None home agent slot m apart idle = go (is_copy_back kind)
-  where
-    go : (b : Bool) → slot_served_for (if b then record home { serving = AwaitingWriteData agent kind slot } else record home { filter = filter_without home.filter agent.0 }).serving m ≡ None
-    go true = unserved (agent.0 == m) slot (differ agent.0 m apart)
-    go false = ap (λ (v : Serving). slot_served_for v m) idle
 
-pub started_waits : (kind : Kind) (o : Option Snoop) (home : Home) (agent : Agent) (slot : Slot) → (started_as kind o home agent slot).waiting ≡ home.waiting
-started_waits kind (Some snoop) home agent slot = go (has_any (asks snoop home.filter agent.0))
+started_serves : (kind : Kind) (home : Home) (agent : Agent) (slot : Slot) (m : ℕ) → m ≢ agent.0 → home.serving ≡ Idle → slot_served_for (started_as kind home agent slot).serving m ≡ None
+started_serves Evict home agent slot m apart idle = ap (λ (v : Serving). slot_served_for v m) idle
+started_serves WriteBackFull home agent slot m apart idle = unserved (agent.0 == m) slot (differ agent.0 m apart)
+started_serves WriteCleanFull home agent slot m apart idle = unserved (agent.0 == m) slot (differ agent.0 m apart)
+started_serves WriteEvictFull home agent slot m apart idle = unserved (agent.0 == m) slot (differ agent.0 m apart)
+started_serves served home agent slot m apart idle = serviced_serves served home agent slot m apart
+
+serviced_waits : (kind : Kind) (home : Home) (agent : Agent) (slot : Slot) → (home_after_service home kind agent slot).waiting ≡ home.waiting
+serviced_waits kind home agent slot = go (has_any (asks kind home.filter agent.0))
   where
-    go : (b : Bool) → (if b then record home { serving = Snooping agent kind slot; awaited = asks snoop home.filter agent.0 } else home_after_completion home snoop agent slot).waiting ≡ home.waiting
+    go : (b : Bool) → (if b then record home { serving = Snooping agent kind slot; awaited = asks kind home.filter agent.0 } else home_after_completion home kind agent slot).waiting ≡ home.waiting
     go true = refl
     go false = refl
-started_waits kind None home agent slot = go (is_copy_back kind)
-  where
-    go : (b : Bool) → (if b then record home { serving = AwaitingWriteData agent kind slot } else record home { filter = filter_without home.filter agent.0 }).waiting ≡ home.waiting
-    go true = refl
-    go false = refl
+
+started_waits : (kind : Kind) (home : Home) (agent : Agent) (slot : Slot) → (started_as kind home agent slot).waiting ≡ home.waiting
+started_waits Evict home agent slot = refl
+started_waits WriteBackFull home agent slot = refl
+started_waits WriteCleanFull home agent slot = refl
+started_waits WriteEvictFull home agent slot = refl
+started_waits served home agent slot = serviced_waits served home agent slot
 
 -- cells that show the same of requests
 pub record SameCells (c c' : Cells) : Type 0 where
@@ -171,40 +178,39 @@ started_elsewhere s agent request m apart low idle =
       pending = refl;
       request = cells.request;
       response = inl cells.response;
-      waiting = ap (λ (l : List (Option Waiting)). get_or l m None) (started_waits request.kind (snoop_of request.kind) (taken_up s.home agent.0) agent request.slot) ∙ get_or-set_other s.home.waiting agent.0 m None None apart;
-      served = started_serves request.kind (snoop_of request.kind) (taken_up s.home agent.0) agent request.slot m apart idle ∙ sym (ap (λ (v : Serving). slot_served_for v m) idle);
+      waiting = ap (λ (l : List (Option Waiting)). get_or l m None) (started_waits request.kind (taken_up s.home agent.0) agent request.slot) ∙ get_or-set_other s.home.waiting agent.0 m None None apart;
+      served = started_serves request.kind (taken_up s.home agent.0) agent request.slot m apart idle ∙ sym (ap (λ (v : Serving). slot_served_for v m) idle);
     }
 
 -- RecvSnpResp
 pub finished_serves : (serving : Serving) (home : Home) (m : ℕ) → home.serving ≡ serving → slot_served_for (finished_as serving home).serving m ≡ slot_served_for serving m
-finished_serves (Snooping agent kind slot) home m is = go (has_any home.awaited) (snoop_of kind)
+finished_serves (Snooping agent kind slot) home m is = go (has_any home.awaited)
   where
-    go : (b : Bool) (o : Option Snoop) → slot_served_for (if b then home else completed_by home o agent slot).serving m ≡ slot_served_for (Snooping agent kind slot) m
-    go true o = ap (λ (v : Serving). slot_served_for v m) is
-    go false None = ap (λ (v : Serving). slot_served_for v m) is
-    go false (Some snoop) = refl
+    go : (b : Bool) → slot_served_for (if b then home else home_after_completion home kind agent slot).serving m ≡ slot_served_for (Snooping agent kind slot) m
+    go true = ap (λ (v : Serving). slot_served_for v m) is
+    go false = refl
 finished_serves serving home m is = ap (λ (v : Serving). slot_served_for v m) is
 
 pub finished_waits : (serving : Serving) (home : Home) → (finished_as serving home).waiting ≡ home.waiting
-finished_waits (Snooping agent kind slot) home = go (has_any home.awaited) (snoop_of kind)
+finished_waits (Snooping agent kind slot) home = go (has_any home.awaited)
   where
-    go : (b : Bool) (o : Option Snoop) → (if b then home else completed_by home o agent slot).waiting ≡ home.waiting
-    go true o = refl
-    go false None = refl
-    go false (Some snoop) = refl
+    go : (b : Bool) → (if b then home else home_after_completion home kind agent slot).waiting ≡ home.waiting
+    go true = refl
+    go false = refl
 finished_waits serving home = refl
 
-completion_request : (snoop : Snoop) (unique : Bool) (words : List ℕ) (cells : Cells) → (with_message cells (completion_message snoop unique words)).req ≡ cells.req
-completion_request snoop unique words cells = search arith
+completion_request : (form : CompletionForm) (words : List ℕ) (cells : Cells) → (with_message cells (form_message form words)).req ≡ cells.req
+completion_request (forms.Data unique) words cells = refl
+completion_request forms.NoData words cells = refl
 
 -- what a start sends leaves the cell of requests
 pub sent_request : (kind : Kind) (o : Option Snoop) (home : Home) (agent : Agent) (own : Slot) (flits : List Cells) → agent.0 < length flits
     → (get_or (flits_after_start flits agent.0 (started_sends_as kind o home agent own)) agent.0 no_flits).req ≡ (get_or flits agent.0 no_flits).req
-sent_request kind (Some snoop) home agent own flits low = go (has_any (asks snoop home.filter agent.0))
+sent_request kind (Some snoop) home agent own flits low = go (has_any (asks kind home.filter agent.0))
   where
-    go : (b : Bool) → (get_or (flits_after_start flits agent.0 (if b then Snoops snoop (asks snoop home.filter agent.0) else Sends (completion_of home snoop agent home.memory))) agent.0 no_flits).req ≡ (get_or flits agent.0 no_flits).req
-    go true = ap (λ (c : Cells). c.req) (snooped_at (asks snoop home.filter agent.0) snoop flits agent.0 low) ∙ (snoop_put (get_or (asks snoop home.filter agent.0) agent.0 false) snoop (get_or flits agent.0 no_flits)).request
-    go false = ap (λ (c : Cells). c.req) (get_or-set_same flits agent.0 _ no_flits low) ∙ completion_request snoop (completes_unique snoop home.filter agent.0) home.memory (get_or flits agent.0 no_flits)
+    go : (b : Bool) → (get_or (flits_after_start flits agent.0 (if b then Snoops snoop (asks kind home.filter agent.0) else Sends (completion_of home kind agent home.memory))) agent.0 no_flits).req ≡ (get_or flits agent.0 no_flits).req
+    go true = ap (λ (c : Cells). c.req) (snooped_at (asks kind home.filter agent.0) snoop flits agent.0 low) ∙ (snoop_put (get_or (asks kind home.filter agent.0) agent.0 false) snoop (get_or flits agent.0 no_flits)).request
+    go false = ap (λ (c : Cells). c.req) (get_or-set_same flits agent.0 _ no_flits low) ∙ completion_request (completion_form kind (completes_unique kind home.filter agent.0)) home.memory (get_or flits agent.0 no_flits)
 sent_request kind None home agent own flits low = go (is_copy_back kind)
   where
     go : (b : Bool) → (get_or (flits_after_start flits agent.0 (if b then Sends (messages.RspDown CompDBIDResp) else Evicted own)) agent.0 no_flits).req ≡ (get_or flits agent.0 no_flits).req
@@ -221,20 +227,20 @@ record Answers (serving : Serving) (m : ℕ) (c c' : Cells) : Type 0 where
   response : (c'.rsp_down ≡ c.rsp_down) ⊎ (snoops_for serving m ≡ true)
 
 put_elsewhere : (serving : Serving) (home : Home) (words : List ℕ) (flits : List Cells) (m : ℕ) → m < length flits → Answers serving m (get_or flits m no_flits) (get_or (completion_put flits (finished_sends_as serving home words)) m no_flits)
-put_elsewhere (Snooping agent kind slot) home words flits m low = go (has_any home.awaited) (snoop_of kind) (agent.0 == m) refl
+put_elsewhere (Snooping agent kind slot) home words flits m low = go (has_any home.awaited) (agent.0 == m) refl
   where
-    go : (b : Bool) (o : Option Snoop) (own : Bool) → (agent.0 == m) ≡ own → Answers (Snooping agent kind slot) m (get_or flits m no_flits) (get_or (completion_put flits (if b then None else completion_by home o agent words)) m no_flits)
-    go true o own is = record { request = refl; response = inl refl }
-    go false None own is = record { request = refl; response = inl refl }
-    go false (Some snoop) true is =
+    go : (b own : Bool) → (agent.0 == m) ≡ own
+        → Answers (Snooping agent kind slot) m (get_or flits m no_flits) (get_or (completion_put flits (if b then None else Some (record { agent = agent; message = completion_of home kind agent words }))) m no_flits)
+    go true own is = record { request = refl; response = inl refl }
+    go false true is =
         let e : agent.0 ≡ m = grind (arith, is) in
         record {
-          request = subst (λ (k : ℕ). (get_or (set flits k (with_message (get_or flits k no_flits) (completion_of home snoop agent words))) m no_flits).req ≡ (get_or flits m no_flits).req) (sym e)
-              (ap (λ (c : Cells). c.req) (get_or-set_same flits m _ no_flits low) ∙ completion_request snoop (completes_unique snoop home.filter agent.0) words (get_or flits m no_flits));
+          request = subst (λ (k : ℕ). (get_or (set flits k (with_message (get_or flits k no_flits) (completion_of home kind agent words))) m no_flits).req ≡ (get_or flits m no_flits).req) (sym e)
+              (ap (λ (c : Cells). c.req) (get_or-set_same flits m _ no_flits low) ∙ completion_request (completion_form kind (completes_unique kind home.filter agent.0)) words (get_or flits m no_flits));
           response = inr is;
         }
-    go false (Some snoop) false is =
-        let other : get_or (set flits agent.0 (with_message (get_or flits agent.0 no_flits) (completion_of home snoop agent words))) m no_flits ≡ get_or flits m no_flits = get_or-set_other flits agent.0 m _ no_flits (λ (e : m ≡ agent.0). grind (arith, is, e)) in
+    go false false is =
+        let other : get_or (set flits agent.0 (with_message (get_or flits agent.0 no_flits) (completion_of home kind agent words))) m no_flits ≡ get_or flits m no_flits = get_or-set_other flits agent.0 m _ no_flits (λ (e : m ≡ agent.0). grind (arith, is, e)) in
         record { request = ap (λ (c : Cells). c.req) other; response = inl (ap (λ (c : Cells). c.rsp_down) other) }
 put_elsewhere serving home words flits m low = record { request = refl; response = inl refl }
 

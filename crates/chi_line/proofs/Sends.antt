@@ -1,8 +1,8 @@
 -- What a start that isn't refused finds, and on which channels it sends.
 use Rattle.std.proofs.Common.{◌≡◌, ℕ, Bool, true, false, Option, Some, None, List, refl, ap, ◌∙◌, is_some, if◌then◌else◌, rules}
 use Rattle.chi_flit.specs.declared.numbers.Agent.{Agent}
+use Rattle.chi_flit.specs.declared.kind.Kind.{Kind}
 use Rattle.chi_flit.specs.declared.snoop.Snoop.{Snoop}
-use Rattle.chi_flit.specs.declared.snoop.Snoop.TheVariants.{SnpShared, SnpNotSharedDirty, SnpUnique, SnpCleanInvalid}
 use Rattle.chi_flit.specs.declared.action.Effect.TheVariants.{Nothing}
 use Rattle.chi_flit.specs.declared.message.RspDown.TheVariants.{CompDBIDResp}
 use Rattle.chi_flit.specs.declared.message.Msg.TheVariants as messages
@@ -12,10 +12,12 @@ use Rattle.chi_flit.specs.Kind.{snoop_of, is_copy_back}
 use Rattle.chi_filter.specs.Filter.{has_any}
 use Rattle.chi_wires.specs.declared.cells.Cells.{Cells}
 use Rattle.chi_wires.specs.Cell.{cell_of}
+use Rattle.chi_homeline.specs.declared.serving.CompletionForm.{CompletionForm}
+use Rattle.chi_homeline.specs.declared.serving.CompletionForm.TheVariants as forms
 use Rattle.chi_homeline.specs.declared.serving.Waiting.{Waiting}
 use Rattle.chi_homeline.specs.declared.serving.Started.TheVariants.{Sends, Evicted, Snoops}
 use Rattle.chi_line.specs.Step.{evicted_if, started_effect, waiting_effect, completed_slot, slot_unless}
-use Rattle.chi_homeline.specs.Home.{Home, asks, completion_message, completion_of, is_idle, served_sends, start_refusal, started_sends, started_sends_as, waiting_of}
+use Rattle.chi_homeline.specs.Home.{Home, asks, completion_of, form_message, is_idle, served_sends, start_refusal, started_sends, started_sends_as, waiting_of}
 
 -- a request waits, and the line is idle
 pub record CanStart (home : Home) (n : ℕ) : Type 0 where
@@ -35,23 +37,21 @@ can_start home n h =
     go (Some request) false h = absurd (cc (h))
 
 -- a completion finds its cell empty where both cells of responses to its agent are
-pub completion_down : (snoop : Snoop) (unique : Bool) (sent : List ℕ) (cells : Cells) → cells.rsp_down ≡ None → cells.dat_down ≡ None → cell_of cells (channel_of (completion_message snoop unique sent)) ≡ None
-completion_down SnpNotSharedDirty unique sent cells r d = search (rules, r, d)
-completion_down SnpShared unique sent cells r d = search (rules, r, d)
-completion_down SnpUnique unique sent cells r d = search (rules, r, d)
-completion_down SnpCleanInvalid unique sent cells r d = search (rules, r, d)
+pub completion_down : (form : CompletionForm) (sent : List ℕ) (cells : Cells) → cells.rsp_down ≡ None → cells.dat_down ≡ None → cell_of cells (channel_of (form_message form sent)) ≡ None
+completion_down (forms.Data unique) sent cells r d = search (rules, d)
+completion_down forms.NoData sent cells r d = search (rules, r)
 
 -- a request that is served by a snoop is not complete with its start
-pub served_effect : (home : Home) (snoop : Snoop) (agent : Agent) → started_effect (served_sends home snoop agent) ≡ Nothing
-served_effect home snoop agent = go (has_any (asks snoop home.filter agent.0))
+pub served_effect : (home : Home) (kind : Kind) (snoop : Snoop) (agent : Agent) → started_effect (served_sends home kind snoop agent) ≡ Nothing
+served_effect home kind snoop agent = go (has_any (asks kind home.filter agent.0))
   where
-    go : (b : Bool) → started_effect (if b then Snoops snoop (asks snoop home.filter agent.0) else Sends (completion_of home snoop agent home.memory)) ≡ Nothing
+    go : (b : Bool) → started_effect (if b then Snoops snoop (asks kind home.filter agent.0) else Sends (completion_of home kind agent home.memory)) ≡ Nothing
     go true = refl
     go false = refl
 
 -- the slot that a start would complete, by what serves the kind
 evicted_by : (s : Option Snoop) (c : Bool) (home : Home) (agent : Agent) (request : Waiting) → snoop_of request.kind ≡ s → is_copy_back request.kind ≡ c → completed_slot (started_effect (started_sends home agent request)) ≡ evicted_if s c request.slot
-evicted_by (Some snoop) c home agent request h g = ap (λ (o : Option Snoop). completed_slot (started_effect (started_sends_as request.kind o home agent request.slot))) h ∙ ap completed_slot (served_effect home snoop agent)
+evicted_by (Some snoop) c home agent request h g = ap (λ (o : Option Snoop). completed_slot (started_effect (started_sends_as request.kind o home agent request.slot))) h ∙ ap completed_slot (served_effect home request.kind snoop agent)
 evicted_by None true home agent request h g = ap (λ (o : Option Snoop). completed_slot (started_effect (started_sends_as request.kind o home agent request.slot))) h ∙ ap (λ (b : Bool). completed_slot (started_effect (if b then Sends (messages.RspDown CompDBIDResp) else Evicted request.slot))) g
 evicted_by None false home agent request h g = ap (λ (o : Option Snoop). completed_slot (started_effect (started_sends_as request.kind o home agent request.slot))) h ∙ ap (λ (b : Bool). completed_slot (started_effect (if b then Sends (messages.RspDown CompDBIDResp) else Evicted request.slot))) g
 

@@ -1,5 +1,5 @@
 -- Start is its row of the protocol.
-use Rattle.std.proofs.Common.{◌≡◌, ◌≢◌, ℕ, ◌<◌, ◌≤◌, ◌++◌, List, length, set, Bool, true, false, Option, Some, None, ◌==◌, ◌&&◌, if◌then◌else◌, sym, subst, refl, ap, ◌∙◌, inl, inr, ⊎_elim, arith}
+use Rattle.std.proofs.Common.{◌≡◌, ◌≢◌, ℕ, ◌<◌, ◌≤◌, ◌++◌, List, length, set, Bool, true, false, Option, Some, None, is_some, ◌==◌, ◌&&◌, if◌then◌else◌, sym, subst, refl, ap, ◌∙◌, inl, inr, ⊎_elim, arith}
 use Rattle.std.proofs.Math.Path.{fun_ext}
 use Rattle.std.specs.List.Sorted.{IsPermutation}
 use Rattle.std.proofs.lemmas.Bool.{and_parts, cases_eq, cases_lt, eq-eqb, ne_eqb, false≢true}
@@ -12,7 +12,6 @@ use Rattle.chi_flit.specs.declared.kind.Kind.TheVariants.{ReadNotSharedDirty, Re
 use Rattle.chi_flit.specs.declared.credit.Profile.{Profile}
 use Rattle.chi_flit.specs.declared.action.Step.TheVariants as steps
 use Rattle.chi_flit.specs.declared.snoop.Snoop.{Snoop}
-use Rattle.chi_flit.specs.declared.action.Effect.{Effect}
 use Rattle.chi_flit.specs.declared.snoop.Snoop.TheVariants.{SnpShared, SnpNotSharedDirty, SnpUnique, SnpCleanInvalid}
 use Rattle.chi_flit.specs.Kind.{snoop_of}
 use Rattle.chi_filter.specs.Filter.{FilterState, filter_without, has_any, is_in, is_named, nobody as nobody_marks, only_set, others_than, owner_set}
@@ -98,15 +97,12 @@ shared_asked s f n low eight inside one = go (f.unique && has_any (others_than n
         )
     go false is = owner_asked s f n f.owner refl inside low (λ flag. subst Nobody to_others (nobody (others_than n.0 f.named) (grind (arith, is, flag))))
 
-asks_is : (kind : Kind) (snoop : Snoop) (s : Standing) (f : FilterState) (n : Agent) → snoop_of kind ≡ Some snoop → n.0 < 8 → length f.named ≡ 8 → IsOwnerInRange f.owner → IsLone f → Asks kind n (with_filter s f) (set_of (asks snoop f n.0))
-asks_is ReadNotSharedDirty SnpNotSharedDirty s f n is low eight inside one = shared_asked s f n low eight inside one
-asks_is ReadShared SnpShared s f n is low eight inside one = shared_asked s f n low eight inside one
-asks_is ReadUnique SnpUnique s f n is low eight inside one = others_are f.named n (within n.0 _ low eight)
-asks_is CleanUnique SnpCleanInvalid s f n is low eight inside one = others_are f.named n (within n.0 _ low eight)
-asks_is kind snoop s f n is low eight inside one = absurd cc
-
-long_asked : (snoop : Snoop) (f : FilterState) (n : Agent) → n.0 < 8 → length f.named ≡ 8 → length (asks snoop f n.0) ≡ 8
-long_asked snoop f n low eight = (asks_fit snoop f n.0 low eight).eight
+asks_is : (kind : Kind) (s : Standing) (f : FilterState) (n : Agent) → is_some (snoop_of kind) ≡ true → n.0 < 8 → length f.named ≡ 8 → IsOwnerInRange f.owner → IsLone f → Asks kind n (with_filter s f) (set_of (asks kind f n.0))
+asks_is ReadNotSharedDirty s f n served low eight inside one = shared_asked s f n low eight inside one
+asks_is ReadShared s f n served low eight inside one = shared_asked s f n low eight inside one
+asks_is ReadUnique s f n served low eight inside one = others_are f.named n (within n.0 _ low eight)
+asks_is CleanUnique s f n served low eight inside one = others_are f.named n (within n.0 _ low eight)
+asks_is unserved s f n served low eight inside one = absurd (false≢true served)
 
 -- the line without the waiting request
 abbrev taken_standing : LineState → Agent → Standing
@@ -120,56 +116,50 @@ record MayStart (s : LineState) (n : Agent) : Type 0 where
   owner : IsOwnerInRange s.home.filter.owner
   one : IsLone s.home.filter
 
-service : (s : LineState) (n : Agent) (kind : Kind) (snoop : Snoop) (slot : Slot) (flits : List Cells) → MayStart s n → snoop_of kind ≡ Some snoop
-    → (b : Bool) → has_any (asks snoop s.home.filter n.0) ≡ b
-    → IsPermutation (in_flight flits) (start_flits n (if b then Snoops snoop (asks snoop s.home.filter n.0) else Sends (completion_of s.home snoop n s.home.memory)) ++ in_flight s.flits)
-    → SnoopStart kind snoop n slot (taken_standing s n) (started_effect (if b then Snoops snoop (asks snoop s.home.filter n.0) else Sends (completion_of s.home snoop n s.home.memory)))
+service : (s : LineState) (n : Agent) (kind : Kind) (snoop : Snoop) (slot : Slot) (flits : List Cells) → MayStart s n → is_some (snoop_of kind) ≡ true
+    → (b : Bool) → has_any (asks kind s.home.filter n.0) ≡ b
+    → IsPermutation (in_flight flits) (start_flits n (if b then Snoops snoop (asks kind s.home.filter n.0) else Sends (completion_of s.home kind n s.home.memory)) ++ in_flight s.flits)
+    → SnoopStart kind snoop n slot (taken_standing s n) (started_effect (if b then Snoops snoop (asks kind s.home.filter n.0) else Sends (completion_of s.home kind n s.home.memory)))
     (standing_of (record s {
-      home = if b then record (taken_up s.home n.0) { serving = Snooping n kind slot; awaited = asks snoop s.home.filter n.0 } else home_after_completion (taken_up s.home n.0) snoop n slot;
+      home = if b then record (taken_up s.home n.0) { serving = Snooping n kind slot; awaited = asks kind s.home.filter n.0 } else home_after_completion (taken_up s.home n.0) kind n slot;
       flits = flits;
     }))
-service s n kind snoop slot flits may is true some moves =
+service s n kind snoop slot flits may served true some moves =
     let f : FilterState = s.home.filter in (
       refl,
-      set_of (asks snoop f n.0),
-      asks_is kind snoop (taken_standing s n) f n is may.low may.named may.owner may.one,
+      set_of (asks kind f n.0),
+      asks_is kind (taken_standing s n) f n served may.low may.named may.owner may.one,
       inl (
-        somebody (asks snoop f n.0) some,
-        (refl, subst (λ (t : List Flit). IsPermutation (in_flight flits) (t ++ in_flight s.flits)) (each (asks snoop f n.0) snoop (long_asked snoop f n may.low may.named)) moves),
+        somebody (asks kind f n.0) some,
+        (refl, subst (λ (t : List Flit). IsPermutation (in_flight flits) (t ++ in_flight s.flits)) (each (asks kind f n.0) snoop (asks_fit kind f n.0 served may.low may.named).eight) moves),
       ),
     )
-service s n kind snoop slot flits may is false none moves =
+service s n kind snoop slot flits may served false none moves =
     let f : FilterState = s.home.filter in (
       refl,
-      set_of (asks snoop f n.0),
-      asks_is kind snoop (taken_standing s n) f n is may.low may.named may.owner may.one,
+      set_of (asks kind f n.0),
+      asks_is kind (taken_standing s n) f n served may.low may.named may.owner may.one,
       inr (
-        nobody (asks snoop f n.0) none,
-        completion_message snoop (completes_unique snoop f n.0) s.home.memory,
-        with_filter (taken_standing s n) (completed_filter (completes_unique snoop f n.0) f n.0),
-        completes kind snoop s.home.memory s.home.memory (taken_standing s n) f n is may.low may.named (record { is = refl; memory = λ _. refl }),
+        nobody (asks kind f n.0) none,
+        completion_message kind (completes_unique kind f n.0) s.home.memory,
+        with_filter (taken_standing s n) (completed_filter (completes_unique kind f n.0) f n.0),
+        completes kind s.home.memory s.home.memory (taken_standing s n) f n served may.low may.named (record { is = refl; memory = λ _. refl }),
         (refl, moves),
       ),
     )
 
--- a request that a snoop serves, by its kind
-by_kind : (kind : Kind) (snoop : Snoop) (n : Agent) (slot : Slot) (s : Standing) (effect : Effect) (new : Standing) → snoop_of kind ≡ Some snoop → SnoopStart kind snoop n slot s effect new → StartRow kind n slot s effect new
-by_kind ReadNotSharedDirty SnpNotSharedDirty n slot s effect new is row = row
-by_kind ReadShared SnpShared n slot s effect new is row = row
-by_kind ReadUnique SnpUnique n slot s effect new is row = row
-by_kind CleanUnique SnpCleanInvalid n slot s effect new is row = row
-by_kind kind snoop n slot s effect new is row = absurd cc
-
-start_as : (s : LineState) (n : Agent) (kind : Kind) (slot : Slot) (flits : List Cells) → MayStart s n → (o : Option Snoop) → snoop_of kind ≡ o
-    → IsPermutation (in_flight flits) (start_flits n (started_sends_as kind o s.home n slot) ++ in_flight s.flits)
-    → StartRow kind n slot (taken_standing s n) (started_effect (started_sends_as kind o s.home n slot)) (standing_of (record s { home = started_as kind o (taken_up s.home n.0) n slot; flits = flits }))
-start_as s n kind slot flits may (Some snoop) is moves = by_kind kind snoop n slot _ _ _ is (service s n kind snoop slot flits may is (has_any (asks snoop s.home.filter n.0)) refl moves)
-start_as s n Evict slot flits may None is moves =
+start_as : (s : LineState) (n : Agent) (kind : Kind) (slot : Slot) (flits : List Cells) → MayStart s n
+    → IsPermutation (in_flight flits) (start_flits n (started_sends_as kind (snoop_of kind) s.home n slot) ++ in_flight s.flits)
+    → StartRow kind n slot (taken_standing s n) (started_effect (started_sends_as kind (snoop_of kind) s.home n slot)) (standing_of (record s { home = started_as kind (taken_up s.home n.0) n slot; flits = flits }))
+start_as s n ReadNotSharedDirty slot flits may moves = service s n ReadNotSharedDirty SnpNotSharedDirty slot flits may refl (has_any (asks ReadNotSharedDirty s.home.filter n.0)) refl moves
+start_as s n ReadShared slot flits may moves = service s n ReadShared SnpShared slot flits may refl (has_any (asks ReadShared s.home.filter n.0)) refl moves
+start_as s n ReadUnique slot flits may moves = service s n ReadUnique SnpUnique slot flits may refl (has_any (asks ReadUnique s.home.filter n.0)) refl moves
+start_as s n CleanUnique slot flits may moves = service s n CleanUnique SnpCleanInvalid slot flits may refl (has_any (asks CleanUnique s.home.filter n.0)) refl moves
+start_as s n Evict slot flits may moves =
     (refl, with_filter (taken_standing s n) (filter_without s.home.filter n.0), leaves_filter (taken_standing s n) s.home.filter n (within n.0 _ may.low may.named), (refl, moves))
-start_as s n WriteBackFull slot flits may None is moves = (refl, (refl, moves))
-start_as s n WriteCleanFull slot flits may None is moves = (refl, (refl, moves))
-start_as s n WriteEvictFull slot flits may None is moves = (refl, (refl, moves))
-start_as s n kind slot flits may None is moves = absurd cc
+start_as s n WriteBackFull slot flits may moves = (refl, (refl, moves))
+start_as s n WriteCleanFull slot flits may moves = (refl, (refl, moves))
+start_as s n WriteEvictFull slot flits may moves = (refl, (refl, moves))
 
 pub row_start : (profile : Profile) (line : Line) (last : List ℕ) (s : LineState) (n : Agent) (request : Waiting) → n.0 < 8 → waiting_of s.home n.0 ≡ Some request → is_idle s.home.serving ≡ true → Kept last s
     → IsPermutation (in_flight (started_line s n request).flits) (start_flits n (started_sends s.home n request) ++ in_flight s.flits)
@@ -183,5 +173,5 @@ row_start profile line last s n request low waits idle k moves =
       ap (λ (v : Serving). serving_of v s.home.awaited) is,
       subst (λ (w : Agent → Option Waiting). StartRow request.kind n request.slot (record (standing_of s) { waiting = w }) (started_effect (started_sends s.home n request)) (standing_of (started_line s n request)))
           (puts (λ (w : Option Waiting). w) None s.home.waiting n None (within n.0 _ low k.waiting))
-          (start_as s n request.kind request.slot (started_line s n request).flits may (snoop_of request.kind) refl moves),
+          (start_as s n request.kind request.slot (started_line s n request).flits may moves),
     )

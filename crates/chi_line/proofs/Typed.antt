@@ -5,7 +5,7 @@ use Rattle.std.proofs.lemmas.Bool.{and_parts, eq-eqb}
 use Rattle.chi_flit.specs.declared.numbers.Agent.{Agent}
 use Rattle.chi_flit.specs.declared.numbers.Slot.{Slot}
 use Rattle.chi_flit.specs.declared.kind.Kind.{Kind}
-use Rattle.chi_flit.specs.declared.snoop.Snoop.{Snoop}
+use Rattle.chi_flit.specs.declared.kind.Kind.TheVariants.{Evict, WriteBackFull, WriteCleanFull, WriteEvictFull}
 use Rattle.chi_flit.specs.declared.action.Step.{Step}
 use Rattle.chi_flit.specs.declared.action.Step.TheVariants as steps
 use Rattle.chi_flit.specs.declared.credit.CreditType.{CreditType}
@@ -15,9 +15,8 @@ use Rattle.chi_flit.specs.declared.message.RspDown.{RspDown}
 use Rattle.chi_flit.specs.declared.message.RspDown.TheVariants.{CompUC}
 use Rattle.chi_flit.specs.declared.message.DatUp.{DatUp}
 use Rattle.chi_flit.specs.declared.message.DatUp.TheVariants.{CopyBackWrData}
-use Rattle.chi_flit.specs.Kind.{snoop_of, is_copy_back}
 use Rattle.chi_flit.specs.Credit.{credit_number, credit_type_of}
-use Rattle.chi_filter.specs.Filter.{has_any, filter_without}
+use Rattle.chi_filter.specs.Filter.{has_any}
 use Rattle.chi_wires.specs.declared.cells.Cells.{Cells}
 use Rattle.chi_wires.specs.Cell.{no_flits}
 use Rattle.chi_rnline.specs.Rn.{Rn, no_line}
@@ -26,7 +25,7 @@ use Rattle.chi_homeline.specs.declared.serving.Waiting.{Waiting}
 use Rattle.chi_homeline.specs.declared.serving.Serving.{Serving}
 use Rattle.chi_homeline.specs.declared.serving.Serving.TheVariants.{Idle, Snooping, AwaitingCompAck, AwaitingWriteData}
 use Rattle.chi_homeline.specs.declared.serving.SnoopAnswer.{SnoopAnswer}
-use Rattle.chi_homeline.specs.Home.{Home, answer_taken, asks, home_after_completion, completed_by, finished_as, served_kind, started_as, taken_up, waiting_of}
+use Rattle.chi_homeline.specs.Home.{Home, answer_taken, asks, finished_as, home_after_completion, home_after_service, served_kind, started_as, taken_up, waiting_of}
 use Rattle.chi_line.specs.LineState.{LineState, rn_of, cells_of}
 use Rattle.chi_line.specs.Step.{admitted_line, after_step, answer_in, answered_by, completion_received, data_written, dbid_received_line, is_slot, issued_line, received_line, resent_line, retried_line, slot_served_for, snooped_line, started_line, waiting_slot, where_some}
 use Rattle.chi_line.specs.Types.{has_type, is_of_type, pending_kind_of, requested_kind_of, served_kind_of, waiting_kind_of}
@@ -65,15 +64,11 @@ stays_asked profile ty s s' n slot stays t = record {
 -- a completion forgets the kind
 finished_kind : (profile : Profile) (ty : CreditType) (serving : Serving) (home : Home) (n : ℕ) (slot : Slot) → home.serving ≡ serving → Has profile ty (served_kind_of serving n slot)
     → Has profile ty (served_kind_of (finished_as serving home).serving n slot)
-finished_kind profile ty (Snooping agent kind own) home n slot is t = go (has_any home.awaited) (snoop_of kind)
+finished_kind profile ty (Snooping agent kind own) home n slot is t = go (has_any home.awaited)
   where
-    same : Has profile ty (served_kind_of home.serving n slot)
-    same = ap (λ (v : Serving). has_type profile ty (served_kind_of v n slot)) is ∙ t
-
-    go : (b : Bool) (o : Option Snoop) → Has profile ty (served_kind_of (if b then home else completed_by home o agent own).serving n slot)
-    go true o = same
-    go false None = same
-    go false (Some snoop) = refl
+    go : (b : Bool) → Has profile ty (served_kind_of (if b then home else home_after_completion home kind agent own).serving n slot)
+    go true = ap (λ (v : Serving). has_type profile ty (served_kind_of v n slot)) is ∙ t
+    go false = refl
 finished_kind profile ty serving home n slot is t = ap (λ (v : Serving). has_type profile ty (served_kind_of v n slot)) is ∙ t
 
 answered_kind : (profile : Profile) (ty : CreditType) (s : LineState) (agent : Agent) (answer : SnoopAnswer) (n : ℕ) (slot : Slot) → Has profile ty (served_kind_of s.home.serving n slot)
@@ -90,29 +85,33 @@ completion_kind : (profile : Profile) (ty : CreditType) (s : LineState) (m : ℕ
 completion_kind profile ty s m (Some CompUC) n slot t = t
 completion_kind profile ty s m there n slot t = t
 
-started_kind : (profile : Profile) (ty : CreditType) (kind : Kind) (o : Option Snoop) (home : Home) (agent : Agent) (own : Slot) (n : ℕ) (slot : Slot)
-    → (agent.0 ≡ n → Has profile ty (waiting_kind_of (Some (record { kind = kind; slot = own })) slot)) → Has profile ty (served_kind_of home.serving n slot)
-    → Has profile ty (served_kind_of (started_as kind o home agent own).serving n slot)
-started_kind profile ty kind o home agent own n slot waits t = by o
+-- the kind of a request is served for its agent's slot
+serves_kind : (profile : Profile) (ty : CreditType) (kind : Kind) (agent : Agent) (own : Slot) (n : ℕ) (slot : Slot)
+    → (agent.0 ≡ n → Has profile ty (waiting_kind_of (Some (record { kind = kind; slot = own })) slot))
+    → Has profile ty (if (agent.0 == n) && (own.0 == slot.0) then Some kind else None)
+serves_kind profile ty kind agent own n slot waits = at (agent.0 == n) refl
   where
     at : (b : Bool) → (agent.0 == n) ≡ b → Has profile ty (if b && (own.0 == slot.0) then Some kind else None)
     at true is = waits (grind (arith, is))
     at false is = refl
 
-    serves : Has profile ty (if (agent.0 == n) && (own.0 == slot.0) then Some kind else None)
-    serves = at (agent.0 == n) refl
+serviced_kind : (profile : Profile) (ty : CreditType) (kind : Kind) (home : Home) (agent : Agent) (own : Slot) (n : ℕ) (slot : Slot)
+    → (agent.0 ≡ n → Has profile ty (waiting_kind_of (Some (record { kind = kind; slot = own })) slot))
+    → Has profile ty (served_kind_of (home_after_service home kind agent own).serving n slot)
+serviced_kind profile ty kind home agent own n slot waits = go (has_any (asks kind home.filter agent.0))
+  where
+    go : (b : Bool) → Has profile ty (served_kind_of (if b then record home { serving = Snooping agent kind own; awaited = asks kind home.filter agent.0 } else home_after_completion home kind agent own).serving n slot)
+    go true = serves_kind profile ty kind agent own n slot waits
+    go false = refl
 
-    snooped : (snoop : Snoop) (b : Bool) → Has profile ty (served_kind_of (if b then record home { serving = Snooping agent kind own; awaited = asks snoop home.filter agent.0 } else home_after_completion home snoop agent own).serving n slot)
-    snooped snoop true = serves
-    snooped snoop false = refl
-
-    unsnooped : (b : Bool) → Has profile ty (served_kind_of (if b then record home { serving = AwaitingWriteData agent kind own } else record home { filter = filter_without home.filter agent.0 }).serving n slot)
-    unsnooped true = serves
-    unsnooped false = t
-
-    by : (o : Option Snoop) → Has profile ty (served_kind_of (started_as kind o home agent own).serving n slot)
-    by None = unsnooped (is_copy_back kind)
-    by (Some snoop) = snooped snoop (has_any (asks snoop home.filter agent.0))
+started_kind : (profile : Profile) (ty : CreditType) (kind : Kind) (home : Home) (agent : Agent) (own : Slot) (n : ℕ) (slot : Slot)
+    → (agent.0 ≡ n → Has profile ty (waiting_kind_of (Some (record { kind = kind; slot = own })) slot)) → Has profile ty (served_kind_of home.serving n slot)
+    → Has profile ty (served_kind_of (started_as kind home agent own).serving n slot)
+started_kind profile ty Evict home agent own n slot waits t = t
+started_kind profile ty WriteBackFull home agent own n slot waits t = serves_kind profile ty WriteBackFull agent own n slot waits
+started_kind profile ty WriteCleanFull home agent own n slot waits t = serves_kind profile ty WriteCleanFull agent own n slot waits
+started_kind profile ty WriteEvictFull home agent own n slot waits t = serves_kind profile ty WriteEvictFull agent own n slot waits
+started_kind profile ty served home agent own n slot waits t = serviced_kind profile ty served home agent own n slot waits
 
 -- what is served after a step that takes something away
 served_where_some : {A : Type 0} (profile : Profile) (ty : CreditType) (s : LineState) (n : ℕ) (slot : Slot) (there : Option A) (step : A → LineState) → Has profile ty (served_kind_of s.home.serving n slot)
@@ -127,7 +126,7 @@ served_step profile ty s agent steps.Admit n slot waits t = served_where_some pr
 served_step profile ty s agent steps.Retry n slot waits t = served_where_some profile ty s n slot (cells_of s agent.0).req (retried_line profile s agent.0) t (λ request here. t)
 served_step profile ty s agent steps.Resend n slot waits t = served_where_some profile ty s n slot (rn_of s agent.0).pending (resent_line s agent.0) t (λ request here. t)
 served_step profile ty s agent steps.Start n slot waits t = served_where_some profile ty s n slot (waiting_of s.home agent.0) (started_line s agent) t
-    (λ request here. started_kind profile ty request.kind (snoop_of request.kind) (taken_up s.home agent.0) agent request.slot n slot
+    (λ request here. started_kind profile ty request.kind (taken_up s.home agent.0) agent request.slot n slot
     (λ own. sym (ap (λ (w : Option Waiting). has_type profile ty (waiting_kind_of w slot)) here) ∙ waits own) t)
 served_step profile ty s agent steps.RecvSnp n slot waits t = served_where_some profile ty s n slot (cells_of s agent.0).snp (snooped_line s agent.0) t (λ snoop here. t)
 served_step profile ty s agent steps.RecvSnpResp n slot waits t = served_where_some profile ty s n slot (answer_in (cells_of s agent.0)) (answered_by s agent) t (λ answer here. answered_kind profile ty s agent answer n slot t)
