@@ -15,7 +15,7 @@ use Rattle.chi_flit.specs.declared.message.Msg.{Msg}
 use Rattle.chi_flit.specs.declared.message.Msg.TheVariants as messages
 use Rattle.chi_flit.specs.declared.refusal.Refusal.{Refusal}
 use Rattle.chi_flit.specs.declared.refusal.Refusal.TheVariants.{LineBusy, NotWaiting}
-use Rattle.chi_flit.specs.Kind.{gives_up, snoop_of, is_copy_back}
+use Rattle.chi_flit.specs.Kind.{gives_up, snoop_of}
 use Rattle.chi_flit.specs.Message.{no_words}
 use Rattle.chi_flit.specs.State.{is_dirty, is_valid}
 use Rattle.chi_filter.specs.Filter.{FilterState, filter_with, empty_filter, has_any, nobody, only_named, others_than, owner_set, owner_without, filter_without, filter_without_flag}
@@ -134,10 +134,11 @@ started_as WriteCleanFull home agent slot = record home { serving = AwaitingWrit
 started_as WriteEvictFull home agent slot = record home { serving = AwaitingWriteData agent WriteEvictFull slot }
 started_as served home agent slot = home_after_service home served agent slot
 
--- what is sent for it, with the kind's snoop, where it has one
+-- what is sent for it, with the kind's snoop; an Evict and the copy-backs have none
 abbrev pub started_sends_as : Kind → Option Snoop → Home → Agent → Slot → Started
+started_sends_as Evict snoop home agent slot = Evicted slot
+started_sends_as copy_back None home agent slot = Sends (messages.RspDown CompDBIDResp)
 started_sends_as kind (Some snoop) home agent slot = served_sends home kind snoop agent
-started_sends_as kind None home agent slot = if is_copy_back kind then Sends (messages.RspDown CompDBIDResp) else Evicted slot
 
 -- what a start sends, with the memory as the data of a completion
 abbrev pub started_with : Begun → List ℕ → Started

@@ -11,13 +11,11 @@ use Rattle.chi_flit.specs.declared.action.Step.{Step}
 use Rattle.chi_flit.specs.declared.action.Step.TheVariants as steps
 use Rattle.chi_flit.specs.declared.message.Request.{Request}
 use Rattle.chi_flit.specs.declared.message.RspDown.{RspDown}
-use Rattle.chi_flit.specs.declared.message.RspDown.TheVariants.{CompUC, CompI, CompDBIDResp}
+use Rattle.chi_flit.specs.declared.message.RspDown.TheVariants.{CompUC, CompI}
 use Rattle.chi_flit.specs.declared.message.DatUp.{DatUp}
 use Rattle.chi_flit.specs.declared.message.DatUp.TheVariants.{CopyBackWrData}
-use Rattle.chi_flit.specs.declared.message.Msg.TheVariants as messages
 use Rattle.chi_flit.specs.declared.state.State.{State}
 use Rattle.chi_flit.specs.Snoop.{answer_of}
-use Rattle.chi_flit.specs.Kind.{is_copy_back}
 use Rattle.chi_filter.specs.Filter.{has_any}
 use Rattle.chi_wires.specs.declared.cells.Cells.{Cells}
 use Rattle.chi_wires.specs.Cell.{without_message, no_flits, with_message}
@@ -33,7 +31,7 @@ use Rattle.chi_homeline.specs.declared.serving.Serving.TheVariants.{Idle, Snoopi
 use Rattle.chi_homeline.specs.declared.serving.Started.{Started}
 use Rattle.chi_homeline.specs.declared.serving.Started.TheVariants.{Sends, Evicted, Snoops}
 use Rattle.chi_homeline.specs.declared.serving.SnoopAnswer.{SnoopAnswer}
-use Rattle.chi_homeline.specs.Home.{Home, acks_for, answer_taken, asks, completes_unique, completion_form, completion_of, data_to_send, finished_as, finished_sends_as, form_message, home_after_completion, home_after_service, started_as, started_sends, started_sends_as, taken_up, waiting_of}
+use Rattle.chi_homeline.specs.Home.{Home, acks_for, answer_taken, asks, completes_unique, completion_form, completion_of, data_to_send, finished_as, finished_sends_as, form_message, home_after_completion, home_after_service, served_sends, started_as, started_sends, taken_up, waiting_of}
 use Rattle.chi_line.specs.declared.act.Conditions.{Conditions}
 use Rattle.chi_line.specs.LineState.{LineState, rn_of, cells_of}
 use Rattle.chi_line.specs.Kept.{Kept, Lane, LaneKept, is_write_data, lane, served_kind, snoops_for, writes_for}
@@ -203,19 +201,14 @@ completion_request : (form : CompletionForm) (words : List ℕ) (cells : Cells) 
 completion_request (forms.Data unique) words cells = refl
 completion_request forms.NoData words cells = refl
 
--- what a start sends leaves the cell of requests
-pub sent_request : (kind : Kind) (o : Option Snoop) (home : Home) (agent : Agent) (own : Slot) (flits : List Cells) → agent.0 < length flits
-    → (get_or (flits_after_start flits agent.0 (started_sends_as kind o home agent own)) agent.0 no_flits).req ≡ (get_or flits agent.0 no_flits).req
-sent_request kind (Some snoop) home agent own flits low = go (has_any (asks kind home.filter agent.0))
+-- what the start of a request that a snoop serves sends leaves the cell of requests
+pub served_request : (kind : Kind) (snoop : Snoop) (home : Home) (agent : Agent) (flits : List Cells) → agent.0 < length flits
+    → (get_or (flits_after_start flits agent.0 (served_sends home kind snoop agent)) agent.0 no_flits).req ≡ (get_or flits agent.0 no_flits).req
+served_request kind snoop home agent flits low = go (has_any (asks kind home.filter agent.0))
   where
     go : (b : Bool) → (get_or (flits_after_start flits agent.0 (if b then Snoops snoop (asks kind home.filter agent.0) else Sends (completion_of home kind agent home.memory))) agent.0 no_flits).req ≡ (get_or flits agent.0 no_flits).req
     go true = ap (λ (c : Cells). c.req) (snooped_at (asks kind home.filter agent.0) snoop flits agent.0 low) ∙ (snoop_put (get_or (asks kind home.filter agent.0) agent.0 false) snoop (get_or flits agent.0 no_flits)).request
     go false = ap (λ (c : Cells). c.req) (get_or-set_same flits agent.0 _ no_flits low) ∙ completion_request (completion_form kind (completes_unique kind home.filter agent.0)) home.memory (get_or flits agent.0 no_flits)
-sent_request kind None home agent own flits low = go (is_copy_back kind)
-  where
-    go : (b : Bool) → (get_or (flits_after_start flits agent.0 (if b then Sends (messages.RspDown CompDBIDResp) else Evicted own)) agent.0 no_flits).req ≡ (get_or flits agent.0 no_flits).req
-    go true = ap (λ (c : Cells). c.req) (get_or-set_same flits agent.0 _ no_flits low)
-    go false = ap (λ (c : Cells). c.req) (get_or-set_same flits agent.0 _ no_flits low)
 
 -- an answer to a snoop goes up
 pub answer_up : (state : State) (snoop : Snoop) (words : List ℕ) (cells : Cells) → SameCells cells (with_message (record cells { snp = None }) (answer_of state snoop words).1)

@@ -45,7 +45,7 @@ use Rattle.chi_line.specs.Step.{issued_slot, acknowledged_line, admitted_line, a
 use Rattle.chi_line.specs.Places.{is_at_home, Seen, agent_seen, where_in}
 use Rattle.chi_line.specs.Refused.{retry_refusal, step_refusal}
 use Rattle.chi_line.proofs.After.{IsRetried, IssueAllowed, cancel_allowed, dbid_there, flit_there, issue_allowed, names_used_slot, may_resend, retry_there}
-use Rattle.chi_line.proofs.Elsewhere.{SameCells, Stays, answer_up, answered_stays, sent_request, stays_elsewhere, stays_where, write_awaited, same_shown}
+use Rattle.chi_line.proofs.Elsewhere.{SameCells, Stays, answer_up, answered_stays, served_request, stays_elsewhere, stays_where, write_awaited, same_shown}
 use Rattle.chi_line.proofs.Facts.{acked_for_ack}
 use Rattle.chi_line.proofs.Finds.{idle_is}
 use Rattle.chi_line.proofs.EqualSlots.{same_slot}
@@ -327,7 +327,7 @@ start_snooped : (last : List ℕ) (s : LineState) (agent : Agent) (request : Wai
     (completed_slot (started_effect (served_sends s.home request.kind snoop agent)))
     (if_moved (completed_slot (started_effect (served_sends s.home request.kind snoop agent))) places.Admitted) (if_moved (completed_slot (started_effect (served_sends s.home request.kind snoop agent))) places.Closing)
 start_snooped last s agent request snoop h here idle =
-    go (has_any (asks request.kind s.home.filter agent.0)) (sent_request request.kind (Some snoop) s.home agent request.slot s.flits h.flits)
+    go (has_any (asks request.kind s.home.filter agent.0)) (served_request request.kind snoop s.home agent s.flits h.flits)
   where
     n : ℕ
     n = agent.0

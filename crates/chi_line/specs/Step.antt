@@ -7,6 +7,7 @@ use Rattle.chi_flit.specs.declared.numbers.Agent.{Agent}
 use Rattle.chi_flit.specs.declared.numbers.Line.{Line}
 use Rattle.chi_flit.specs.declared.numbers.Slot.{Slot}
 use Rattle.chi_flit.specs.declared.kind.Kind.{Kind}
+use Rattle.chi_flit.specs.declared.kind.Kind.TheVariants.{Evict}
 use Rattle.chi_flit.specs.declared.action.Action.{Action}
 use Rattle.chi_flit.specs.declared.action.Step.{Step}
 use Rattle.chi_flit.specs.declared.action.Step.TheVariants as steps
@@ -228,12 +229,10 @@ abbrev pub completed_effect : Option Slot → Effect
 completed_effect None = Nothing
 completed_effect (Some slot) = Completed slot
 
--- the slot of a request that its start completes, by the kind's snoop and whether it is a copy-back:
--- only an Evict has neither
-abbrev pub evicted_if : Option Snoop → Bool → Slot → Option Slot
-evicted_if (Some snoop) copy_back slot = None
-evicted_if None true slot = None
-evicted_if None false slot = Some slot
+-- the slot of a request that its start completes: that of an Evict
+abbrev pub slot_of_evict : Kind → Slot → Option Slot
+slot_of_evict Evict slot = Some slot
+slot_of_evict other slot = None
 
 -- the effect of an action that is done: a load gives the word's value, and the home is done with the
 -- request that is served at its CompAck or write data

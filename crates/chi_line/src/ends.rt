@@ -1,11 +1,10 @@
 //! Which request an action would complete.
 
 ghost use Rattle.std.specs.Prelude.{◌≡◌, ◌<◌};
-ghost use Rattle.chi_flit.specs.Kind.{is_copy_back, snoop_of};
 ghost use Rattle.chi_homeline.specs.Home.{served_slot, start_refusal, waiting_of};
 ghost use Rattle.chi_line.specs.LineState.{cells_of};
 ghost use Rattle.chi_line.specs.Refused.{completed_at, no_flit_unless};
-ghost use Rattle.chi_line.specs.Step.{completed_effect, evicted_if, slot_unless, waiting_effect};
+ghost use Rattle.chi_line.specs.Step.{completed_effect, slot_of_evict, slot_unless, waiting_effect};
 
 use crate::flits::has_flit;
 use crate::line::CoherentLine;
@@ -47,7 +46,7 @@ fn evicted_slot(home: &HomeLine, agent: Agent) -> Option<Slot>
 
 /// The slot of a request that its start completes: that of an Evict.
 fn slot_of_evict(request: Waiting) -> Option<Slot>
-    ensures { result ≡ evicted_if (snoop_of request.kind) (is_copy_back request.kind) request.slot }
+    ensures { result ≡ slot_of_evict request.kind request.slot }
 {
     match request.kind {
         Kind::Evict => Some(request.slot),
