@@ -51,6 +51,7 @@ use Rattle.chi_line.proofs.Finds.{idle_is}
 use Rattle.chi_line.proofs.EqualSlots.{same_slot}
 use Rattle.chi_line.proofs.SeenMoves.{Asked, SeenMoved, admit_seen, answered_seen, cancelled_seen, closed_seen, ended_seen, evicted_seen, issue_seen, none_moved, resent_seen, retried_seen, retry_seen, started_seen}
 use Rattle.chi_line.proofs.Sends.{CanStart, can_start}
+use Rattle.chi_line.proofs.Starts.{of_kind}
 use Rattle.chi_line.proofs.Trails.{Trail, completed_trail, not_served, place_pending, requested_trail, responded_trail, retried_trail, waiting_trail}
 use Rattle.chi_line.proofs.Typed.{issued_types, stays_asked, step_types}
 use Rattle.chi_line.proofs.Wheres.{is_free, acked_for, waits_not, written_for}
@@ -374,10 +375,6 @@ start_written last s agent request h here idle = taken_shows last s (asked_line 
   waiting = waits_no_more s agent.0 h.waiting;
   served = served_own agent.0 request.slot;
 })
-
--- a request of a kind in a slot
-abbrev of_kind : Kind → Slot → Waiting
-of_kind kind slot = record { kind = kind; slot = slot }
 
 start_as_shows : (last : List ℕ) (s : LineState) (agent : Agent) (kind : Kind) (slot : Slot) → Here last s agent.0 → waiting_of s.home agent.0 ≡ Some (of_kind kind slot) → s.home.serving ≡ Idle
     → Shows s (started_line s agent (of_kind kind slot)) agent.0 (start_completes kind s.home agent slot)

@@ -265,7 +265,7 @@ served_kept true last s agent request snoop may is asked =
 served_kept false last s agent request snoop may is asked = completing_kept last s agent request may (ap is_some is) asked
 
 -- a request of a kind in a slot
-abbrev of_kind : Kind → Slot → Waiting
+abbrev pub of_kind : Kind → Slot → Waiting
 of_kind kind slot = record { kind = kind; slot = slot }
 
 started_kept : (kind : Kind) (slot : Slot) (last : List ℕ) (s : LineState) (agent : Agent) → MayStart last s agent (of_kind kind slot)
