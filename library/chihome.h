@@ -13,12 +13,15 @@
  *
  * Each call answers CHI_OK, or the number of a refusal, after which nothing has changed; CHI_Closed of a closed
  * handle, which is not touched; and an opening of an open handle CHI_AlreadyOpen, which stays. Where a call is not
- * done, all numbers of what it tells are 0. Only the two openings take memory.
+ * done, all numbers of what it tells are 0. Only the two openings and chi_slice_copy take memory.
  */
 #ifndef CHIHOME_H
 #define CHIHOME_H
 
 #include <stdint.h>
+
+/* The version of this header; chi_version() is that of the library. */
+#define CHI_VERSION "0.1.0"
 
 #ifdef __cplusplus
 extern "C" {
@@ -123,6 +126,9 @@ enum ChiReleaseForm { CHI_NotReleased = 0, CHI_Freed = 1, CHI_Granted = 2 };
 /* The number of no agent, as the owner of a line. */
 enum { CHI_Nobody = 255 };
 
+/* The most flits that an action sends, and the most actions of an agent at a line that can be enabled. */
+enum { CHI_MostSent = 8, CHI_MostEnabled = 24 };
+
 /* The sizes of a node (docs/PROTOCOL.md, "Limits"). */
 typedef struct {
     uint8_t agents;      /* 1 to 8 */
@@ -165,6 +171,13 @@ typedef struct {
 typedef struct {
     ChiFlit channels[6]; /* by ChiChannel */
 } ChiFlits;
+
+/* A flit that an action sent or took: between the agent and the home, on a channel. */
+typedef struct {
+    uint8_t agent;
+    uint8_t channel; /* ChiChannel */
+    ChiFlit flit;
+} ChiSent;
 
 /* An agent's copy of a line. */
 typedef struct {
@@ -255,6 +268,18 @@ uint8_t chi_slice_open(ChiSlice *slice, const ChiConfig *config, uint8_t index);
 /* Does an action, and tells what it gives. Refused as docs/PROTOCOL.md, "The actions", says. */
 uint8_t chi_slice_act(ChiSlice *slice, const ChiAction *action, ChiEffect *effect);
 
+/* Does an action as chi_slice_act does it, and tells the flits that it sent, by agent, their number, and the one that it
+ * took, whose message is CHI_NoMessage where it took none. `sent` is CHI_MostSent long; all numbers behind `count` flits
+ * are 0. */
+uint8_t chi_slice_step(ChiSlice *slice, const ChiAction *action, ChiEffect *effect, ChiSent sent[8], uint8_t *count,
+                       ChiSent *taken);
+
+/* Tells the agent's actions at the line that chi_slice_act would do, and their number: each step once, Load and Store of
+ * word 0 with value 0, Issue for each kind with the agent's lowest slot that is idle in this slice, in the order of
+ * their numbers. `actions` is CHI_MostEnabled long; all numbers behind `count` actions are 0. Nothing is done.
+ * CHI_OutOfRange where the agent or the line is outside the node, or the line in another slice. */
+uint8_t chi_slice_enabled(ChiSlice *slice, uint8_t agent, uint8_t line, ChiAction actions[24], uint8_t *count);
+
 /* What chi_slice_act would answer. Nothing is done. */
 uint8_t chi_slice_refusal(ChiSlice *slice, const ChiAction *action);
 
@@ -267,6 +292,14 @@ uint8_t chi_slice_flits(ChiSlice *slice, uint8_t agent, uint8_t line, ChiFlits *
 
 /* Tells the record of a place in the journal, from 0. CHI_OutOfRange behind its end. */
 uint8_t chi_slice_journal(ChiSlice *slice, uint32_t place, ChiRecord *entry);
+
+/* Makes `to` a copy of `from`, which stays: a closed handle is opened, and an open one, of whatever sizes, is
+ * overwritten. CHI_Closed where `from` is closed; CHI_NoMemory; `to` stays then. */
+uint8_t chi_slice_copy(ChiSlice *to, ChiSlice *from);
+
+/* Tells 1 where the two slices are of the same sizes and index, with the same lines and the same journal, and else 0.
+ * CHI_Closed where one is closed. */
+uint8_t chi_slice_equal(ChiSlice *slice, ChiSlice *other, uint8_t *equal);
 
 /* Closes the handle, and frees the slice. */
 uint8_t chi_slice_close(ChiSlice *slice);
@@ -287,6 +320,13 @@ uint8_t chi_node_arrive(ChiNode *node, uint8_t agent, uint8_t line, ChiArrival *
 /* Does an action, and tells what it gives and where the entry of a completed request went. Refused as docs/PROTOCOL.md,
  * "A requester and its calls", says; CHI_OutOfRange also of CHI_Admit and CHI_Retry, which are chi_node_arrive's. */
 uint8_t chi_node_step(ChiNode *node, const ChiAction *action, ChiEffect *effect, ChiRelease *release);
+
+/* As chi_node_arrive and chi_node_step, and tells the flits that were sent, and the one that was taken, as chi_slice_step
+ * does: an arrival takes the request, and sends the RetryAck where it is retried. */
+uint8_t chi_node_arrive_flits(ChiNode *node, uint8_t agent, uint8_t line, ChiArrival *arrival, ChiSent sent[8],
+                              uint8_t *count, ChiSent *taken);
+uint8_t chi_node_step_flits(ChiNode *node, const ChiAction *action, ChiEffect *effect, ChiRelease *release,
+                            ChiSent sent[8], uint8_t *count, ChiSent *taken);
 
 /* The agent looks at what is promised to it. CHI_OutOfRange of the agent. */
 uint8_t chi_node_see(ChiNode *node, uint8_t agent, ChiCredits *credits);
@@ -314,6 +354,17 @@ uint8_t chi_node_audit(ChiNode *node, ChiAudit *audit);
 /* Closes the handle, and frees the node. */
 uint8_t chi_node_close(ChiNode *node);
 
+/* The version of the library, as CHI_VERSION. */
+const char *chi_version(void);
+
+/* The name of a number of an enum as it is printed by `chihome`, without the CHI_ of this header, and "?" of a number
+ * that is none of its enum's. They need no handle, and nobody frees them. */
+const char *chi_step_name(uint8_t step);       /* ChiStep: "Load" */
+const char *chi_kind_name(uint8_t kind);       /* ChiKind: "ReadShared" */
+const char *chi_message_name(uint8_t message); /* ChiMessage: "CompData_UC" */
+const char *chi_state_name(uint8_t state);     /* ChiState: "UC" */
+const char *chi_refusal_name(uint8_t answer);  /* ChiAnswer: "NoFlit", and "OK", "AlreadyOpen" and "Closed" */
+
 /* The layouts that the library was proved and built with. */
 #ifdef __cplusplus
 #define CHI_LAYOUT(it) static_assert(it, #it)
@@ -327,6 +378,7 @@ CHI_LAYOUT(sizeof(ChiAction) == 16 && offsetof(ChiAction, word) == 5 && offsetof
 CHI_LAYOUT(sizeof(ChiEffect) == 16 && offsetof(ChiEffect, slot) == 1 && offsetof(ChiEffect, value) == 8);
 CHI_LAYOUT(sizeof(ChiFlit) == 72 && offsetof(ChiFlit, credit) == 4 && offsetof(ChiFlit, words) == 8);
 CHI_LAYOUT(sizeof(ChiFlits) == 432);
+CHI_LAYOUT(sizeof(ChiSent) == 80 && offsetof(ChiSent, channel) == 1 && offsetof(ChiSent, flit) == 8);
 CHI_LAYOUT(sizeof(ChiCopy) == 72 && offsetof(ChiCopy, words) == 8);
 CHI_LAYOUT(sizeof(ChiRequest) == 3 && sizeof(ChiServing) == 4);
 CHI_LAYOUT(sizeof(ChiLine) == 776 && offsetof(ChiLine, memory) == 576 && offsetof(ChiLine, last) == 640);
