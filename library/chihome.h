@@ -357,8 +357,8 @@ uint8_t chi_node_close(ChiNode *node);
 /* The version of the library, as CHI_VERSION. */
 const char *chi_version(void);
 
-/* The name of a number of an enum as it is printed by `chihome`, without the CHI_ of this header, and "?" of a number
- * that is none of its enum's. They need no handle, and nobody frees them. */
+/* The name of a number in its enum, without CHI_, and "?" of a number that is none of the enum's. Kinds, messages, states
+ * and refusals are printed so by `chihome`. They need no handle, and nobody frees them. */
 const char *chi_step_name(uint8_t step);       /* ChiStep: "Load" */
 const char *chi_kind_name(uint8_t kind);       /* ChiKind: "ReadShared" */
 const char *chi_message_name(uint8_t message); /* ChiMessage: "CompData_UC" */

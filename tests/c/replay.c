@@ -9,16 +9,7 @@
 
 enum { WORDS = 9, ANSWER = 512 };
 
-static const char *const REFUSALS[] = {"", "JournalFull", "WrongState", "Pending", "NothingPending", "LineBusy",
-    "NotWaiting", "NoFlit", "NoMemory", "MustAccept", "OutOfRange", "NotOpen", "NoCredit"};
-static const char *const KINDS[] = {"ReadNotSharedDirty", "ReadShared", "ReadUnique", "CleanUnique", "Evict",
-    "WriteBackFull", "WriteCleanFull", "WriteEvictFull"};
-static const char *const STATES[] = {"I", "SC", "UC", "UD", "SD"};
 static const char *const SERVING[] = {"none", "snooping", "compack", "wrdata"};
-static const char *const MESSAGES[] = {"", "", "SnpShared", "SnpNotSharedDirty", "SnpUnique", "SnpCleanInvalid",
-    "RetryAck", "Comp_UC", "Comp_I", "CompDBIDResp", "CompData_SC", "CompData_UC", "SnpResp_I", "SnpResp_SC", "CompAck",
-    "SnpRespData_I_PD", "SnpRespData_SC_PD", "SnpRespData_SD", "CopyBackWrData_I", "CopyBackWrData_SC",
-    "CopyBackWrData_UC", "CopyBackWrData_UD_PD", "CopyBackWrData_SD_PD"};
 /* The words of the steps, by their numbers; those of an arrival have none. */
 static const char *const STEPS[] = {"load", "store", "drop", "issue", "", "", "retryack", "resend", "cancel", "start",
     "snp", "snpresp", "data", "comp", "ack", "dbid", "wrdata"};
@@ -44,7 +35,7 @@ static int is_refused(uint8_t answer) {
         SAY("ok");
         return 0;
     }
-    SAY("refused %u %s", answer, REFUSALS[answer]);
+    SAY("refused %u %s", answer, chi_refusal_name(answer));
     return 1;
 }
 
@@ -118,11 +109,11 @@ static void say_flits(uint8_t agent, uint8_t line) {
         if (flit->message == CHI_NoMessage) continue;
         some = 1;
         if (flit->message == CHI_Request)
-            SAY(" %s/%u/%s", KINDS[flit->kind], flit->slot, flit->allow_retry ? "allow" : "credit");
+            SAY(" %s/%u/%s", chi_kind_name(flit->kind), flit->slot, flit->allow_retry ? "allow" : "credit");
         else if (flit->message == CHI_RetryAck)
             SAY(" RetryAck/%u", flit->credit);
         else
-            SAY(" %s", MESSAGES[flit->message]);
+            SAY(" %s", chi_message_name(flit->message));
     }
     if (!some) SAY(" none");
 }
@@ -144,7 +135,7 @@ static void say_line(uint8_t line) {
     if (is_refused(chi_node_show(&node, line, &shown))) return;
     SAY(" copies");
     for (unsigned agent = 0; agent < config.agents; agent++)
-        SAY("%c%s", agent ? ',' : ' ', STATES[shown.copies[agent].state]);
+        SAY("%c%s", agent ? ',' : ' ', chi_state_name(shown.copies[agent].state));
     say_members("named", shown.named);
     SAY(" unique %s serving %s", shown.unique ? "yes" : "no", SERVING[shown.serving.form]);
     if (shown.serving.form != CHI_Idle) SAY(" %u", shown.serving.agent);
@@ -154,17 +145,23 @@ static void say_line(uint8_t line) {
     for (int word = 0; word < 8; word++) SAY(" %llu", (unsigned long long)shown.memory[word]);
 }
 
-static uint8_t place_in(const char *const *names, size_t count, const char *word) {
-    for (size_t place = 0; place < count; place++)
-        if (strcmp(names[place], word) == 0) return (uint8_t)place;
+static uint8_t step_of(const char *word) {
+    for (uint8_t step = 0; step < sizeof STEPS / sizeof *STEPS; step++)
+        if (strcmp(STEPS[step], word) == 0) return step;
+    return 255;
+}
+
+static uint8_t kind_of(const char *word) {
+    for (uint8_t kind = 0; kind < 8; kind++)
+        if (strcmp(chi_kind_name(kind), word) == 0) return kind;
     return 255;
 }
 
 static void say_action(char **words, int count) {
     ChiAction action = {.agent = small(words[1]), .line = small(words[2])};
-    action.step = place_in(STEPS, sizeof STEPS / sizeof *STEPS, words[0]);
+    action.step = step_of(words[0]);
     if (action.step == CHI_Issue && count == 5) {
-        action.kind = place_in(KINDS, sizeof KINDS / sizeof *KINDS, words[3]);
+        action.kind = kind_of(words[3]);
         action.slot = small(words[4]);
     } else if (count >= 4) {
         action.word = small(words[3]);
