@@ -12,3 +12,5 @@ pub mod Servings
 pub mod Wheres
 pub mod Phases
 pub mod Records
+pub mod Traffic
+pub mod Sendings

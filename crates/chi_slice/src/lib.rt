@@ -9,6 +9,7 @@ mod places;
 mod records;
 mod slice;
 mod terms;
+mod traffic;
 mod verdict;
 
 pub use agent_line::{AgentLine, AgentRow};
@@ -24,4 +25,5 @@ pub use laws::{an_action_leaves_one_slice, only_room_and_slots_join_lines};
 pub use places::Place;
 pub use slice::Slice;
 pub use terms::{Done, Terms};
+pub use traffic::{FlitsSent, Traffic};
 pub use verdict::check;

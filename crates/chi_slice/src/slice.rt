@@ -277,6 +277,15 @@ impl<A: Allocator> Slice<A> {
         self.lines[usize::from(at.row)].flits(at.agent)
     }
 
+    /// The line in a row, lent. Conditions: the row is one that `row_for` of this slice answered.
+    pub(crate) fn line_in(&self, at: AgentRow) -> &chi_line::CoherentLine
+        requires row { IsRow self.now at }
+        requires inside { CanAct self.now at }
+        ensures { result.now ≡ line_of_slice self.now at.line.0 }
+    {
+        &self.lines[usize::from(at.row)]
+    }
+
     /// Does one action of the agent in a row on the terms of its requester, as `act_under` does it, and asks
     /// for neither the agent nor the line again.
     ///
