@@ -14,3 +14,4 @@ pub mod Phases
 pub mod Records
 pub mod Traffic
 pub mod Sendings
+pub mod Idle

@@ -13,6 +13,7 @@ ghost use Rattle.chi_slice.specs.declared.places.Place.{Place};
 ghost use Rattle.chi_slice.specs.declared.terms.Terms.{Terms};
 ghost use Rattle.chi_slice.specs.Coherence.{IsCoherentSlice};
 ghost use Rattle.chi_config.specs.Config.{are_in_limits};
+ghost use Rattle.chi_slice.specs.Idle.{lowest_idle};
 ghost use Rattle.chi_slice.specs.Index.{HasType, IsInside, IsShown, SlotsInRange, is_slot_of, typed_at};
 ghost use Rattle.chi_slice.specs.Protocol.{IsEnabled, IsOpening, SliceStep, refused};
 ghost use Rattle.chi_slice.specs.Run.{IsRun};
@@ -136,6 +137,23 @@ impl<A: Allocator> Slice<A> {
         ensures { result ≡ uses self.now agent.0 slot }
     {
         self.places.is_used(agent, slot)
+    }
+
+    /// The agent's slot of the lowest number that is in use at no line of the slice; 8, which is none, where
+    /// each of the eight is.
+    ///
+    /// Conditions: the agent's number is below 8.
+    /// Source: `docs/PROTOCOL.md`, "Slots and accounts".
+    pub fn lowest_idle(&self, agent: Agent) -> Slot
+        requires { agent.0 < 8 }
+        ensures { result ≡ lowest_idle self.now agent.0 }
+    {
+        for number in 0..8 {
+            if !self.uses(agent, Slot(number)) {
+                return Slot(number);
+            }
+        }
+        Slot(8)
     }
 
     /// Whether the slot that a step of the agent names is in use.
