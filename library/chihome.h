@@ -13,7 +13,7 @@
  *
  * Each call answers CHI_OK, or the number of a refusal, after which nothing has changed; CHI_Closed of a closed
  * handle, which is not touched; and an opening of an open handle CHI_AlreadyOpen, which stays. Where a call is not
- * done, all numbers of what it tells are 0. Only the two openings and chi_slice_copy take memory.
+ * done, all numbers of what it tells are 0. Only the two openings take memory.
  */
 #ifndef CHIHOME_H
 #define CHIHOME_H
@@ -293,14 +293,6 @@ uint8_t chi_slice_flits(ChiSlice *slice, uint8_t agent, uint8_t line, ChiFlits *
 /* Tells the record of a place in the journal, from 0. CHI_OutOfRange behind its end. */
 uint8_t chi_slice_journal(ChiSlice *slice, uint32_t place, ChiRecord *entry);
 
-/* Makes `to` a copy of `from`, which stays: a closed handle is opened, and an open one, of whatever sizes, is
- * overwritten. CHI_Closed where `from` is closed; CHI_NoMemory; `to` stays then. */
-uint8_t chi_slice_copy(ChiSlice *to, ChiSlice *from);
-
-/* Tells 1 where the two slices are of the same sizes and index, with the same lines and the same journal, and else 0.
- * CHI_Closed where one is closed. */
-uint8_t chi_slice_equal(ChiSlice *slice, ChiSlice *other, uint8_t *equal);
-
 /* Closes the handle, and frees the slice. */
 uint8_t chi_slice_close(ChiSlice *slice);
 
@@ -320,13 +312,6 @@ uint8_t chi_node_arrive(ChiNode *node, uint8_t agent, uint8_t line, ChiArrival *
 /* Does an action, and tells what it gives and where the entry of a completed request went. Refused as docs/PROTOCOL.md,
  * "A requester and its calls", says; CHI_OutOfRange also of CHI_Admit and CHI_Retry, which are chi_node_arrive's. */
 uint8_t chi_node_step(ChiNode *node, const ChiAction *action, ChiEffect *effect, ChiRelease *release);
-
-/* As chi_node_arrive and chi_node_step, and tells the flits that were sent, and the one that was taken, as chi_slice_step
- * does: an arrival takes the request, and sends the RetryAck where it is retried. */
-uint8_t chi_node_arrive_flits(ChiNode *node, uint8_t agent, uint8_t line, ChiArrival *arrival, ChiSent sent[8],
-                              uint8_t *count, ChiSent *taken);
-uint8_t chi_node_step_flits(ChiNode *node, const ChiAction *action, ChiEffect *effect, ChiRelease *release,
-                            ChiSent sent[8], uint8_t *count, ChiSent *taken);
 
 /* The agent looks at what is promised to it. CHI_OutOfRange of the agent. */
 uint8_t chi_node_see(ChiNode *node, uint8_t agent, ChiCredits *credits);
