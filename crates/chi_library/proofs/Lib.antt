@@ -2,3 +2,6 @@ mod Fields
 mod Pointers
 mod SliceHandles
 mod NodeHandles
+mod Listings
+mod EnabledLists
+mod SentLists

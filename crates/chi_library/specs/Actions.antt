@@ -14,7 +14,7 @@ use Rattle.chi_flit.specs.declared.numbers.Slot.{Slot}
 use Rattle.chi_flit.specs.declared.numbers.WordNo.{WordNo}
 use Rattle.chi_library.specs.declared.actions.ChiAction.{ChiAction}
 use Rattle.chi_library.specs.declared.actions.ChiEffect.{ChiEffect}
-use Rattle.chi_library.specs.Numbers.{kind_of}
+use Rattle.chi_library.specs.Numbers.{kind_number, kind_of}
 
 -- an Issue needs a kind
 abbrev pub issue_if : Option Kind → Slot → Option Step
@@ -60,3 +60,35 @@ abbrev pub effect_told : Effect → ChiEffect
 effect_told Nothing = no_effect
 effect_told (Value value) = record { effect = 1; slot = 0; value = value }
 effect_told (Completed slot) = record { effect = 2; slot = slot.0; value = 0 }
+
+-- an action by C's numbers, of which those that its step doesn't read are 0
+abbrev pub no_action : ChiAction
+no_action = record { agent = 0; line = 0; step = 0; kind = 0; slot = 0; word = 0; value = 0 }
+
+abbrev pub step_number : Step → ℕ
+step_number (Load word) = 0
+step_number (Store word value) = 1
+step_number Drop = 2
+step_number (Issue kind slot) = 3
+step_number Admit = 4
+step_number Retry = 5
+step_number RecvRetry = 6
+step_number Resend = 7
+step_number Cancel = 8
+step_number Start = 9
+step_number RecvSnp = 10
+step_number RecvSnpResp = 11
+step_number RecvData = 12
+step_number RecvComp = 13
+step_number RecvAck = 14
+step_number RecvDbid = 15
+step_number RecvWrData = 16
+
+abbrev pub step_told : Step → ChiAction
+step_told (Load word) = record no_action { word = word.0 }
+step_told (Store word value) = record no_action { step = 1; word = word.0; value = value }
+step_told (Issue kind slot) = record no_action { step = 3; kind = kind_number kind; slot = slot.0 }
+step_told other = record no_action { step = step_number other }
+
+abbrev pub action_told : Action → ChiAction
+action_told action = record (step_told action.step) { agent = action.agent.0; line = action.line.0 }

@@ -9,3 +9,5 @@ pub mod NodeCalls
 pub mod NodeHandle
 pub mod SliceHandle
 pub mod SliceCalls
+pub mod Listed
+pub mod Enabled

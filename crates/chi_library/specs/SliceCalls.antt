@@ -1,17 +1,18 @@
 -- What the calls on a slice refuse, leave and tell, by C's numbers (docs/LIBRARY.md, "A slice").
-use Rattle.std.specs.Prelude.{◌≡◌, ℕ, Option, Some, None, nat_lt, slice_get, if◌then◌else◌}
+use Rattle.std.specs.Prelude.{◌≡◌, ℕ, List, [], map, Option, Some, None, nat_lt, slice_get, if◌then◌else◌}
 use Rattle.chi_flit.specs.declared.action.Action.{Action}
 use Rattle.chi_flit.specs.declared.refusal.Refusal.{Refusal}
 use Rattle.chi_flit.specs.declared.refusal.Refusal.TheVariants.{OutOfRange}
-use Rattle.chi_slice.specs.Words.{cells_of, effect_of, line_view, Record, Sizes}
+use Rattle.chi_slice.specs.Words.{cells_of, effect_of, flit_taken, flits_sent, line_view, Record, Sizes}
 use Rattle.chi_slice.specs.Slice.{SliceState, flits_refusal, last_of, line, opening_slice, action_refusal, slice_after_try, view_refusal}
 use Rattle.chi_library.specs.declared.actions.ChiEffect.{ChiEffect}
 use Rattle.chi_library.specs.declared.flits.ChiFlits.{ChiFlits}
+use Rattle.chi_library.specs.declared.flits.ChiSent.{ChiSent}
 use Rattle.chi_library.specs.declared.lines.ChiLine.{ChiLine}
 use Rattle.chi_library.specs.declared.records.ChiRecord.{ChiRecord}
 use Rattle.chi_library.specs.Actions.{effect_told, no_effect}
 use Rattle.chi_library.specs.Calls.{told_unless}
-use Rattle.chi_library.specs.Flits.{flits_told, no_flits_told}
+use Rattle.chi_library.specs.Flits.{flits_told, no_flits_told, no_sent, sent_told, taken_told}
 use Rattle.chi_library.specs.Lines.{line_told, no_line_told}
 use Rattle.chi_library.specs.Records.{no_record, record_told}
 
@@ -55,3 +56,13 @@ entry_refusal (Some entry) = None
 abbrev pub entry_told : Option Record → ChiRecord
 entry_told None = no_record
 entry_told (Some entry) = record_told entry
+
+-- the flits that an action sent, and the one that it took
+abbrev pub sent_shown : Option Action → SliceState → List ChiSent
+sent_shown None s = []
+sent_shown (Some action) s =
+    told_unless (action_refusal s action) [] (map sent_told (flits_sent s.config.profile (line s action.line.0) action.agent action.step))
+
+abbrev pub taken_shown : Option Action → SliceState → ChiSent
+taken_shown None s = no_sent
+taken_shown (Some action) s = told_unless (action_refusal s action) no_sent (taken_told (flit_taken (line s action.line.0) action.agent action.step))

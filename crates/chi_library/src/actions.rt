@@ -1,9 +1,9 @@
 //! An action in C's words, and what it gives.
 
 ghost use Rattle.std.specs.Prelude.{◌≡◌};
-ghost use Rattle.chi_library.specs.Actions.{action_of, effect_told, issue_of, no_effect, step_of};
+ghost use Rattle.chi_library.specs.Actions.{action_of, action_told, effect_told, issue_of, no_effect, step_number, step_of, step_told};
 
-use crate::numbers::kind_at;
+use crate::numbers::{kind_at, kind_number};
 use chi_flit::{Action, Agent, Effect, Line, Slot, Step, WordNo};
 
 /// One action: `ChiAction` of `chihome.h`. `kind` and `slot` are read of an Issue, `word` of a Load and a
@@ -29,6 +29,19 @@ pub struct ChiEffect {
     pub effect: u8,
     pub slot: u8,
     pub value: u64,
+}
+
+impl ChiAction {
+    /// No action: all numbers are 0.
+    pub(crate) const NONE: ChiAction = ChiAction {
+        agent: 0,
+        line: 0,
+        step: 0,
+        kind: 0,
+        slot: 0,
+        word: 0,
+        value: 0,
+    };
 }
 
 impl ChiEffect {
@@ -100,5 +113,69 @@ pub(crate) fn tell_effect(effect: &mut ChiEffect, given: Effect)
             effect.effect = 2;
             effect.slot = slot.0;
         }
+    }
+}
+
+/// The number of a step.
+fn step_number(step: Step) -> u8
+    ensures { result ≡ step_number step }
+{
+    match step {
+        Step::Load(_) => 0,
+        Step::Store(..) => 1,
+        Step::Drop => 2,
+        Step::Issue(..) => 3,
+        Step::Admit => 4,
+        Step::Retry => 5,
+        Step::RecvRetry => 6,
+        Step::Resend => 7,
+        Step::Cancel => 8,
+        Step::Start => 9,
+        Step::RecvSnp => 10,
+        Step::RecvSnpResp => 11,
+        Step::RecvData => 12,
+        Step::RecvComp => 13,
+        Step::RecvAck => 14,
+        Step::RecvDbid => 15,
+        Step::RecvWrData => 16,
+    }
+}
+
+/// A step by C's numbers, with agent and line 0.
+fn step_told(step: Step) -> ChiAction
+    ensures { result ≡ step_told step }
+{
+    match step {
+        Step::Load(word) => ChiAction {
+            word: word.0,
+            ..ChiAction::NONE
+        },
+        Step::Store(word, value) => ChiAction {
+            step: 1,
+            word: word.0,
+            value,
+            ..ChiAction::NONE
+        },
+        Step::Issue(kind, slot) => ChiAction {
+            step: 3,
+            kind: kind_number(kind),
+            slot: slot.0,
+            ..ChiAction::NONE
+        },
+        other => ChiAction {
+            step: step_number(other),
+            ..ChiAction::NONE
+        },
+    }
+}
+
+/// An action by C's numbers.
+pub(crate) fn action_told(action: Action) -> ChiAction
+    ensures { result ≡ action_told action }
+{
+    ChiAction {
+        agent: action.agent.0,
+        line: action.line.0,
+        ..step_told(action.step)
     }
 }

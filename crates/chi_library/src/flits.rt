@@ -1,10 +1,11 @@
 //! The flits in flight in C's words.
 
 ghost use Rattle.std.specs.Prelude.{◌≡◌};
-ghost use Rattle.chi_library.specs.Flits.{dat_down_message, dat_up_told, data_told, flit_told, flits_told, plain_told, request_told, response_told, rsp_up_message, snoop_message, write_message};
+ghost use Rattle.chi_slice.specs.Words.{channel_number, flit, flit_of};
+ghost use Rattle.chi_library.specs.Flits.{dat_down_message, dat_up_told, data_told, flit_told, flits_told, plain_told, request_told, response_told, rsp_up_message, sent_told, snoop_message, taken_told, write_message};
 
 use crate::numbers::{flag_number, kind_number};
-use chi_flit::{Channel, DatUp, Data, Msg, NO_DATA, Request, RspDown, RspUp, Snoop, State};
+use chi_flit::{Agent, Channel, DatUp, Data, Msg, NO_DATA, Request, RspDown, RspUp, Snoop, State};
 use chi_slice::Cells;
 
 /// A message in flight: `ChiFlit` of `chihome.h`. `kind`, `slot` and `allow_retry` are a request's, `credit`
@@ -30,6 +31,16 @@ pub struct ChiFlits {
     pub channels: [ChiFlit; 6],
 }
 
+/// A flit that an action sent or took, with its agent and the number of its channel: `ChiSent` of `chihome.h`.
+/// Source: `docs/PROTOCOL.md`, "Messages".
+#[repr(C)]
+#[derive(Clone, Copy)]
+pub struct ChiSent {
+    pub agent: u8,
+    pub channel: u8,
+    pub flit: ChiFlit,
+}
+
 impl ChiFlit {
     /// No message: all numbers are 0.
     pub(crate) const NONE: ChiFlit = ChiFlit {
@@ -46,6 +57,15 @@ impl ChiFlits {
     /// Nothing in flight.
     pub(crate) const NONE: ChiFlits = ChiFlits {
         channels: [ChiFlit::NONE; 6],
+    };
+}
+
+impl ChiSent {
+    /// No flit: all numbers are 0.
+    pub(crate) const NONE: ChiSent = ChiSent {
+        agent: 0,
+        channel: 0,
+        flit: ChiFlit::NONE,
     };
 }
 
@@ -182,5 +202,40 @@ pub(crate) fn flits_told(cells: &Cells) -> ChiFlits
             flit_told(cells.get(Channel::RspUp)),
             flit_told(cells.get(Channel::DatUp)),
         ],
+    }
+}
+
+/// The number of a channel.
+fn channel_number(channel: Channel) -> u8
+    ensures { result ≡ channel_number channel }
+{
+    match channel {
+        Channel::Req => 0,
+        Channel::Snp => 1,
+        Channel::RspDown => 2,
+        Channel::DatDown => 3,
+        Channel::RspUp => 4,
+        Channel::DatUp => 5,
+    }
+}
+
+/// A flit with its agent and its channel.
+pub(crate) fn sent_told(agent: Agent, message: Msg) -> ChiSent
+    ensures { result ≡ sent_told (flit agent message) }
+{
+    ChiSent {
+        agent: agent.0,
+        channel: channel_number(message.channel()),
+        flit: flit_told(Some(message)),
+    }
+}
+
+/// The flit that an action of the agent took, if it took one.
+pub(crate) fn taken_told(agent: Agent, taken: Option<Msg>) -> ChiSent
+    ensures { result ≡ taken_told (flit_of agent taken) }
+{
+    match taken {
+        Some(message) => sent_told(agent, message),
+        None => ChiSent::NONE,
     }
 }

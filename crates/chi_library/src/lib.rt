@@ -6,6 +6,7 @@
 mod actions;
 mod answers;
 mod box_pointer;
+mod enabled;
 mod flits;
 mod lines;
 mod node_calls;
@@ -16,9 +17,10 @@ mod records;
 mod sizes;
 mod slice_calls;
 mod slice_handle;
+mod steps;
 
 pub use actions::{ChiAction, ChiEffect};
-pub use flits::{ChiFlit, ChiFlits};
+pub use flits::{ChiFlit, ChiFlits, ChiSent};
 pub use lines::{ChiCopy, ChiLine, ChiRequest, ChiServing};
 pub use node_handle::ChiNode;
 pub use node_told::{ChiArrival, ChiAudit, ChiCredits, ChiRelease, ChiTotals};

@@ -18,6 +18,7 @@ pub use Rattle.chi_line.specs.Places.{where_at}
 pub use Rattle.chi_line.specs.Refused.{full_if, has_flit, line_refusal, marked_credit_refusal, no_flit_unless, retry_refusal, step_refusal}
 pub use Rattle.chi_line.specs.Step.{after_step, answer_in, completed_slot, data_answer, effect_of, is_comp, is_slot, is_step_in_range, issued_slot, pending_slot, record_of}
 pub use Rattle.chi_line.specs.Table.{IsAt, IsFound}
+pub use Rattle.chi_line.specs.Traffic.{flit_taken, flits_sent}
 pub use Rattle.chi_line.specs.Types.{has_type, is_of_type, pending_credit, pending_kind_of, requested_kind_of}
 pub use Rattle.chi_line.specs.View.{line_view}
 pub use Rattle.chi_rnline.specs.declared.pending.Pending.{Pending}
@@ -25,5 +26,5 @@ pub use Rattle.chi_rnline.specs.declared.pending.Phase.{Phase}
 pub use Rattle.chi_rnline.specs.Rn.{Rn, is_clean_copy, load_refusal, resend_refusal, store_refusal}
 pub use Rattle.chi_wires.specs.declared.cells.Cells.{Cells}
 pub use Rattle.chi_wires.specs.Cell.{cell_of, no_flits}
-pub use Rattle.chi_wires.specs.Flight.{Flit, flit, in_flight}
+pub use Rattle.chi_wires.specs.Flight.{Flit, channel_number, flit, flit_of, in_flight, snoop_flits}
 pub use Rattle.chi_wires.specs.Flits.{cells_at}
