@@ -1,5 +1,6 @@
 /* What chihome_pkg.sv calls: the calls of chihome.h with a handle as a chandle, and structs as single numbers. Bytes
- * by agent or by channel are packed into one number of 64 bits, the first in the lowest byte; flags by agent are bits.
+ * by agent, by channel or by place are packed into one number of 64 bits, the first in the lowest byte; flags by agent
+ * are bits. The eight words of a line are 512 bits, the first in the lowest.
  */
 #include "chihome.h"
 
@@ -45,6 +46,38 @@ static u64 tell_messages(const ChiFlits *flits) {
     return messages;
 }
 
+/* A vector of 512 bits of SystemVerilog is sixteen numbers of 32, the lowest first. */
+static void tell_words(const uint64_t *words, u32 *data) {
+    for (int word = 0; word < 8; word++) {
+        data[2 * word] = (u32)words[word];
+        data[2 * word + 1] = (u32)(words[word] >> 32);
+    }
+}
+
+static void tell_flit(const ChiFlit *flit, u8 *message, u8 *kind, u8 *slot, u8 *allow_retry, u8 *credit, u32 *data) {
+    *message = flit->message;
+    *kind = flit->kind;
+    *slot = flit->slot;
+    *allow_retry = flit->allow_retry;
+    *credit = flit->credit;
+    tell_words(flit->words, data);
+}
+
+static void tell_request(const ChiRequest *request, u8 *phase, u8 *kind, u8 *slot) {
+    *phase = request->phase;
+    *kind = request->kind;
+    *slot = request->slot;
+}
+
+static void tell_home(const ChiLine *line, u32 *memory, u32 *last, u8 *owner, u8 *awaited, u8 *kind, u8 *slot) {
+    tell_words(line->memory, memory);
+    tell_words(line->last, last);
+    *owner = line->owner;
+    *awaited = (u8)flags(line->awaited);
+    *kind = line->serving.kind;
+    *slot = line->serving.slot;
+}
+
 void *chi_dpi_slice_open(u8 agents, u8 lines, u8 slices, u8 profile, u64 entries, u32 journal, u8 index, u8 *answer) {
     ChiConfig config = sizes(agents, lines, slices, profile, entries, journal);
     ChiSlice *slice = calloc(1, sizeof *slice);
@@ -85,6 +118,81 @@ u8 chi_dpi_slice_flits(void *slice, u8 agent, u8 line, u64 *messages) {
     ChiFlits flits;
     u8 answer = chi_slice_flits(SLICE(slice), agent, line, &flits);
     *messages = tell_messages(&flits);
+    return answer;
+}
+
+u8 chi_dpi_slice_flit(void *slice, u8 agent, u8 line, u8 channel, u8 *message, u8 *kind, u8 *slot, u8 *allow_retry,
+                      u8 *credit, u32 *data) {
+    static const ChiFlit NONE;
+    ChiFlits flits;
+    u8 answer = chi_slice_flits(SLICE(slice), agent, line, &flits);
+    if (answer == CHI_OK && channel > CHI_DatUp) answer = CHI_OutOfRange;
+    tell_flit(answer == CHI_OK ? &flits.channels[channel] : &NONE, message, kind, slot, allow_retry, credit, data);
+    return answer;
+}
+
+u8 chi_dpi_slice_home(void *slice, u8 line, u32 *memory, u32 *last, u8 *owner, u8 *awaited, u8 *kind, u8 *slot) {
+    ChiLine shown;
+    u8 answer = chi_slice_show(SLICE(slice), line, &shown);
+    tell_home(&shown, memory, last, owner, awaited, kind, slot);
+    return answer;
+}
+
+u8 chi_dpi_slice_copy_of(void *slice, u8 agent, u8 line, u8 *state, u32 *data) {
+    static const ChiCopy NONE;
+    ChiLine shown;
+    u8 answer = chi_slice_show(SLICE(slice), line, &shown);
+    if (answer == CHI_OK && agent > 7) answer = CHI_OutOfRange;
+    const ChiCopy *copy = answer == CHI_OK ? &shown.copies[agent] : &NONE;
+    *state = copy->state;
+    tell_words(copy->words, data);
+    return answer;
+}
+
+u8 chi_dpi_slice_requests(void *slice, u8 agent, u8 line, u8 *pending, u8 *pending_kind, u8 *pending_slot, u8 *waiting,
+                          u8 *waiting_kind, u8 *waiting_slot) {
+    static const ChiRequest NONE;
+    ChiLine shown;
+    u8 answer = chi_slice_show(SLICE(slice), line, &shown);
+    if (answer == CHI_OK && agent > 7) answer = CHI_OutOfRange;
+    tell_request(answer == CHI_OK ? &shown.pending[agent] : &NONE, pending, pending_kind, pending_slot);
+    tell_request(answer == CHI_OK ? &shown.waiting[agent] : &NONE, waiting, waiting_kind, waiting_slot);
+    return answer;
+}
+
+u8 chi_dpi_slice_step(void *slice, u8 agent, u8 line, u8 step, u8 kind, u8 slot, u8 word, u64 value, u8 *effect,
+                      u8 *completed, u64 *loaded, u8 *count, u64 *agents, u64 *channels, u64 *messages, u8 *taken_channel,
+                      u8 *taken_message, u8 *taken_kind, u8 *taken_slot, u8 *taken_allow_retry, u8 *taken_credit,
+                      u32 *taken_data) {
+    ChiAction action = action_of(agent, line, step, kind, slot, word, value);
+    ChiEffect told;
+    ChiSent sent[CHI_MostSent], taken;
+    u8 answer = chi_slice_step(SLICE(slice), &action, &told, sent, count, &taken);
+    *effect = told.effect;
+    *completed = told.slot;
+    *loaded = told.value;
+    *agents = *channels = *messages = 0;
+    for (int place = 0; place < CHI_MostSent; place++) {
+        *agents |= (u64)sent[place].agent << 8 * place;
+        *channels |= (u64)sent[place].channel << 8 * place;
+        *messages |= (u64)sent[place].flit.message << 8 * place;
+    }
+    *taken_channel = taken.channel;
+    tell_flit(&taken.flit, taken_message, taken_kind, taken_slot, taken_allow_retry, taken_credit, taken_data);
+    return answer;
+}
+
+u8 chi_dpi_slice_enabled(void *slice, u8 agent, u8 line, u32 *steps, u8 *kinds, u8 *slot) {
+    ChiAction actions[CHI_MostEnabled];
+    u8 count, answer = chi_slice_enabled(SLICE(slice), agent, line, actions, &count);
+    *steps = 0;
+    *kinds = *slot = 0;
+    for (int place = 0; place < count; place++) {
+        *steps |= (u32)1 << actions[place].step;
+        if (actions[place].step != CHI_Issue) continue;
+        *kinds |= (u8)(1 << actions[place].kind);
+        *slot = actions[place].slot;
+    }
     return answer;
 }
 
@@ -172,6 +280,45 @@ u8 chi_dpi_node_flits(void *node, u8 agent, u8 line, u64 *messages) {
     ChiFlits flits;
     u8 answer = chi_node_flits(NODE(node), agent, line, &flits);
     *messages = tell_messages(&flits);
+    return answer;
+}
+
+u8 chi_dpi_node_flit(void *node, u8 agent, u8 line, u8 channel, u8 *message, u8 *kind, u8 *slot, u8 *allow_retry,
+                      u8 *credit, u32 *data) {
+    static const ChiFlit NONE;
+    ChiFlits flits;
+    u8 answer = chi_node_flits(NODE(node), agent, line, &flits);
+    if (answer == CHI_OK && channel > CHI_DatUp) answer = CHI_OutOfRange;
+    tell_flit(answer == CHI_OK ? &flits.channels[channel] : &NONE, message, kind, slot, allow_retry, credit, data);
+    return answer;
+}
+
+u8 chi_dpi_node_home(void *node, u8 line, u32 *memory, u32 *last, u8 *owner, u8 *awaited, u8 *kind, u8 *slot) {
+    ChiLine shown;
+    u8 answer = chi_node_show(NODE(node), line, &shown);
+    tell_home(&shown, memory, last, owner, awaited, kind, slot);
+    return answer;
+}
+
+u8 chi_dpi_node_copy_of(void *node, u8 agent, u8 line, u8 *state, u32 *data) {
+    static const ChiCopy NONE;
+    ChiLine shown;
+    u8 answer = chi_node_show(NODE(node), line, &shown);
+    if (answer == CHI_OK && agent > 7) answer = CHI_OutOfRange;
+    const ChiCopy *copy = answer == CHI_OK ? &shown.copies[agent] : &NONE;
+    *state = copy->state;
+    tell_words(copy->words, data);
+    return answer;
+}
+
+u8 chi_dpi_node_requests(void *node, u8 agent, u8 line, u8 *pending, u8 *pending_kind, u8 *pending_slot, u8 *waiting,
+                          u8 *waiting_kind, u8 *waiting_slot) {
+    static const ChiRequest NONE;
+    ChiLine shown;
+    u8 answer = chi_node_show(NODE(node), line, &shown);
+    if (answer == CHI_OK && agent > 7) answer = CHI_OutOfRange;
+    tell_request(answer == CHI_OK ? &shown.pending[agent] : &NONE, pending, pending_kind, pending_slot);
+    tell_request(answer == CHI_OK ? &shown.waiting[agent] : &NONE, waiting, waiting_kind, waiting_slot);
     return answer;
 }
 

@@ -1,0 +1,121 @@
+/* Does random actions on two slices, by chi_slice_act on one and by chi_slice_step on the other: both have to answer and
+ * tell the same, and the flits in flight without the one that was taken and with those that were sent have to be those
+ * in flight afterwards. The actions of an agent at a line that chi_slice_enabled lists have to be those that
+ * chi_slice_refusal would let be done, of each step once, with the lowest slot. */
+#include "chihome.h"
+
+#include <inttypes.h>
+#include <stdio.h>
+#include <string.h>
+
+enum { AGENTS = 4, LINES = 4, MANY = 1000000 };
+
+static ChiSlice one, other;
+static int failures;
+
+#define HOLDS(it) ((it) ? (void)0 : (void)(failures++, printf("%s:%d: %s\n", __FILE__, __LINE__, #it)))
+
+static uint64_t state;
+
+static uint64_t drawn(void) {
+    state += UINT64_C(0x9E3779B97F4A7C15);
+    uint64_t word = (state ^ (state >> 30)) * UINT64_C(0xBF58476D1CE4E5B9);
+    word = (word ^ (word >> 27)) * UINT64_C(0x94D049BB133111EB);
+    return word ^ (word >> 31);
+}
+
+static int is_same(const ChiFlit *flit, const ChiFlit *wanted) {
+    return flit->message == wanted->message && flit->kind == wanted->kind && flit->slot == wanted->slot &&
+        flit->allow_retry == wanted->allow_retry && flit->credit == wanted->credit &&
+        memcmp(flit->words, wanted->words, sizeof flit->words) == 0;
+}
+
+static int is_action(const ChiAction *action, const ChiAction *wanted) {
+    return action->agent == wanted->agent && action->line == wanted->line && action->step == wanted->step &&
+        action->kind == wanted->kind && action->slot == wanted->slot && action->word == wanted->word &&
+        action->value == wanted->value;
+}
+
+static int is_blank(const ChiSent *sent) {
+    static const ChiFlit NONE;
+    return sent->agent == 0 && sent->channel == 0 && is_same(&sent->flit, &NONE);
+}
+
+static void read_flits(uint8_t line, ChiFlits *flits) {
+    for (uint8_t agent = 0; agent < AGENTS; agent++) HOLDS(chi_slice_flits(&other, agent, line, &flits[agent]) == CHI_OK);
+}
+
+/* Takes a flit out of those in flight, and puts those that were sent to them. */
+static void move_flits(ChiFlits *flits, const ChiSent *sent, uint8_t count, const ChiSent *taken) {
+    static const ChiFlit NONE;
+    if (taken->flit.message != CHI_NoMessage) {
+        HOLDS(is_same(&flits[taken->agent].channels[taken->channel], &taken->flit));
+        flits[taken->agent].channels[taken->channel] = NONE;
+    }
+    for (uint8_t place = 0; place < count; place++) {
+        ChiFlit *cell = &flits[sent[place].agent].channels[sent[place].channel];
+        HOLDS(cell->message == CHI_NoMessage && sent[place].flit.message != CHI_NoMessage);
+        *cell = sent[place].flit;
+    }
+}
+
+static int tell_flits(const ChiAction *action) {
+    ChiFlits before[AGENTS], after[AGENTS];
+    ChiEffect effect, told;
+    ChiSent sent[CHI_MostSent], taken;
+    uint8_t count, line = action->line % LINES;
+    read_flits(line, before);
+    uint8_t answer = chi_slice_act(&one, action, &effect);
+    HOLDS(chi_slice_step(&other, action, &told, sent, &count, &taken) == answer);
+    HOLDS(effect.effect == told.effect && effect.slot == told.slot && effect.value == told.value);
+    HOLDS(count <= CHI_MostSent && (answer == CHI_OK || (count == 0 && is_blank(&taken))));
+    for (int place = count; place < CHI_MostSent; place++) HOLDS(is_blank(&sent[place]));
+    read_flits(line, after);
+    move_flits(before, sent, count, &taken);
+    for (int agent = 0; agent < AGENTS; agent++)
+        for (int channel = 0; channel < 6; channel++)
+            HOLDS(is_same(&before[agent].channels[channel], &after[agent].channels[channel]));
+    return answer == CHI_OK;
+}
+
+/* Finds the actions of an agent at a line that are not refused one by one. */
+static uint8_t find_enabled(uint8_t agent, uint8_t line, ChiAction *found) {
+    uint8_t count = 0;
+    for (uint8_t step = 0; step <= CHI_RecvWrData; step++)
+        for (uint8_t kind = 0; kind < (step == CHI_Issue ? 8 : 1); kind++)
+            for (uint8_t slot = 0; slot < (step == CHI_Issue ? 8 : 1); slot++) {
+                ChiAction action = {.agent = agent, .line = line, .step = step, .kind = kind, .slot = slot};
+                if (chi_slice_refusal(&other, &action) != CHI_OK) continue;
+                found[count++] = action;
+                break;
+            }
+    return count;
+}
+
+static uint64_t tell_enabled(uint8_t agent, uint8_t line) {
+    ChiAction actions[CHI_MostEnabled], found[CHI_MostEnabled];
+    static const ChiAction NONE;
+    uint8_t count;
+    HOLDS(chi_slice_enabled(&other, agent, line, actions, &count) == CHI_OK);
+    HOLDS(count == find_enabled(agent, line, found));
+    for (int place = 0; place < CHI_MostEnabled; place++)
+        HOLDS(is_action(&actions[place], place < count ? &found[place] : &NONE));
+    return count;
+}
+
+int main(void) {
+    const ChiConfig config = {.agents = AGENTS, .lines = LINES, .slices = 1, .entries = {1, 1}, .journal = 65536};
+    uint64_t done = 0, enabled = 0;
+    HOLDS(chi_slice_open(&one, &config, 0) == CHI_OK && chi_slice_open(&other, &config, 0) == CHI_OK);
+    for (int count = 0; count < MANY && failures < 10; count++) {
+        uint64_t word = drawn();
+        ChiAction action = {.agent = (uint8_t)(word % 5), .line = (uint8_t)((word >> 8) % 5),
+            .step = (uint8_t)((word >> 16) % 18), .kind = (uint8_t)((word >> 24) % 9), .slot = (uint8_t)((word >> 32) % 9),
+            .word = (uint8_t)((word >> 40) % 9), .value = word >> 48};
+        if (count % 8 == 0) enabled += tell_enabled((uint8_t)((word >> 3) % AGENTS), (uint8_t)((word >> 11) % LINES));
+        done += tell_flits(&action);
+    }
+    HOLDS(chi_slice_close(&one) == CHI_OK && chi_slice_close(&other) == CHI_OK && done > 0 && enabled > 0);
+    printf("%" PRIu64 " actions done, %" PRIu64 " were enabled\n", done, enabled);
+    return failures == 0 ? 0 : 1;
+}
