@@ -1,12 +1,13 @@
-/* How fast chi_slice_act is: about COUNT actions of the mix of crates/chi_speed over LINES lines (64, 8 or one),
- * on a new slice. Each effect is read. Prints what `act LINES COUNT` of that crate prints: nanoseconds, actions, and the
- * sum of what the effects told. */
+/* How fast chi_slice_act is, or chi_slice_step where `step` is the first word: about COUNT actions of the mix of
+ * crates/chi_speed over LINES lines (64, 8 or one), on a new slice. Each effect is read. Prints what `act LINES COUNT` of
+ * that crate prints: nanoseconds, actions, and the sum of what the effects told. */
 #define _POSIX_C_SOURCE 200809L /* clock_gettime */
 #include "chihome.h"
 
 #include <inttypes.h>
 #include <stdio.h>
 #include <stdlib.h>
+#include <string.h>
 #include <time.h>
 
 /* A line's cycle. The agent of a row is the one that comes so many after the line's own: line l is agent l mod 8's. */
@@ -123,17 +124,31 @@ static uint64_t act_all(ChiSlice *slice, size_t count) {
     return told;
 }
 
+/* The same by chi_slice_step, with the flits of each. */
+static uint64_t step_all(ChiSlice *slice, size_t count) {
+    uint64_t told = 0;
+    for (const ChiAction *action = script; action < script + count; action++) {
+        ChiEffect effect;
+        ChiSent sent[CHI_MostSent], taken;
+        uint8_t flits;
+        if (chi_slice_step(slice, action, &effect, sent, &flits, &taken) != CHI_OK) exit(1);
+        told += effect.value + effect.slot;
+    }
+    return told;
+}
+
 int main(int words, char **word) {
-    if (words != 3) return 2;
-    int lines = atoi(word[1]);
+    int steps = words == 4 && strcmp(word[1], "step") == 0;
+    if (words != 3 + steps) return 2;
+    int lines = atoi(word[1 + steps]);
     if (lines != 64 && lines != 8 && lines != 1) return 2;
     size_t count = lines == 64 ? mix(8, 8) : mix(1, lines);
-    size_t times = strtoul(word[2], NULL, 10) / count;
+    size_t times = strtoul(word[2 + steps], NULL, 10) / count;
     ChiConfig config = {.agents = 8, .lines = (uint8_t)lines, .slices = 1, .entries = {32, 32}, .journal = 65536};
     ChiSlice slice = {0};
     if (chi_slice_open(&slice, &config, 0) != CHI_OK) return 1;
     uint64_t told = 0, start = nanoseconds();
-    for (size_t time = 0; time < times; time++) told += act_all(&slice, count);
+    for (size_t time = 0; time < times; time++) told += steps ? step_all(&slice, count) : act_all(&slice, count);
     printf("%" PRIu64 " %zu %" PRIu64 "\n", nanoseconds() - start, times * count, told);
     return chi_slice_close(&slice) == CHI_OK ? 0 : 1;
 }

@@ -80,6 +80,7 @@ finished home words (Snooping agent kind slot) is = go (has_any home.awaited) (s
   where
     still : (snoop : Option Snoop) → flits_in (completed_for home.serving snoop agent words home) ≡ []
     still snoop = rw is refl
+
     go : (b : Bool) (snoop : Option Snoop)
         → flits_in (completed_for (if b then home else completed_home home snoop agent slot).serving snoop agent words (if b then home else completed_home home snoop agent slot))
         ≡ completion_flits (if b then None else completion_by home snoop agent words)

@@ -18,7 +18,7 @@ use crate::records::is_step_in_range;
 use crate::slice::Slice;
 use crate::terms::Terms;
 use chi_flit::{
-    Action, Agent, Channel, CompData, Data, DatUp, Effect, Kind, Msg, Profile, Refusal, Request,
+    Action, Agent, Channel, CompData, DatUp, Data, Effect, Kind, Msg, Profile, Refusal, Request,
     RspDown, RspUp, Slot, Snoop, Step, answer, credit_type, write_data,
 };
 use chi_homeline::{HomeLine, Serving, Waiting};

@@ -20,15 +20,15 @@ loop-step-preserved c =
     let rest = told_of c.args.slice.now c.args.agent c.args.line (drop (c.loop-step.step-index + 1) c.args.steps.now) in
     let alone = c.refusal.ensures.alone refl in
     elim c.if-is_none.branch [
-    then-is_none w ↦
-        let is : is_none c.refusal.result ≡ true = search (rules, c.is_none.ensures, w.if-is_none.true) in
-        let next = next_enabled c.args.slice.now c.args.agent c.args.line c.args.steps.now c.loop-step.step-index _ c.refusal.result c.loop-step-test.true alone is in
-        listing_more no_action w.action_told.result 24 whole before rest c.loop-step.actions c.if-is_none.actions c.loop-step.count c.if-is_none.count
-        (next ∙ ap (λ (x : ChiAction). x ∷ rest) (sym w.action_told.ensures)) (search (rules, w.actions-is, w.from.ensures)) w.count-is c.loop-step.invariant
-    | else-is_none w ↦
-        let is : is_none c.refusal.result ≡ false = search (rules, c.is_none.ensures, w.if-is_none.false) in
-        let next = next_refused c.args.slice.now c.args.agent c.args.line c.args.steps.now c.loop-step.step-index _ c.refusal.result c.loop-step-test.true alone is in
-        listing_same no_action 24 whole before rest c.loop-step.actions c.if-is_none.actions c.loop-step.count c.if-is_none.count next w.actions-is w.count-is c.loop-step.invariant
+      | then-is_none w ↦
+          let is : is_none c.refusal.result ≡ true = search (rules, c.is_none.ensures, w.if-is_none.true) in
+          let next = next_enabled c.args.slice.now c.args.agent c.args.line c.args.steps.now c.loop-step.step-index _ c.refusal.result c.loop-step-test.true alone is in
+          listing_more no_action w.action_told.result 24 whole before rest c.loop-step.actions c.if-is_none.actions c.loop-step.count c.if-is_none.count
+          (next ∙ ap (λ (x : ChiAction). x ∷ rest) (sym w.action_told.ensures)) (search (rules, w.actions-is, w.from.ensures)) w.count-is c.loop-step.invariant
+      | else-is_none w ↦
+          let is : is_none c.refusal.result ≡ false = search (rules, c.is_none.ensures, w.if-is_none.false) in
+          let next = next_refused c.args.slice.now c.args.agent c.args.line c.args.steps.now c.loop-step.step-index _ c.refusal.result c.loop-step-test.true alone is in
+          listing_same no_action 24 whole before rest c.loop-step.actions c.if-is_none.actions c.loop-step.count c.if-is_none.count next w.actions-is w.count-is c.loop-step.invariant
     ]
 
 pub returns : goal.returns

@@ -19,15 +19,15 @@ loop-agent-preserved c =
     let rest = told_from c.args.snoop c.args.agents.now (c.loop-agent.agent + 1) in
     let low : c.loop-agent.agent < length c.args.agents.now = omega (arith, c.loop-agent-test.true, c.told-agents) in
     elim c.if-agents-from.branch [
-    then-agents-from w ↦
-        let marked : get_or c.args.agents.now c.loop-agent.agent false ≡ true = search (rules, w.if-agents-from.true, c.from.ensures) in
-        let next = next_marked c.args.snoop c.args.agents.now c.loop-agent.agent false low marked in
-        listing_more no_sent w.sent_told.result 8 whole before rest c.loop-agent.sent c.if-agents-from.sent c.loop-agent.count c.if-agents-from.count
-        (next ∙ ap (λ (x : ChiSent). x ∷ rest) (sym w.sent_told.ensures)) (search (rules, w.sent-is, w.from-then-agents-from.ensures)) w.count-is c.loop-agent.invariant
-    | else-agents-from w ↦
-        let unmarked : get_or c.args.agents.now c.loop-agent.agent false ≡ false = search (rules, w.if-agents-from.false, c.from.ensures) in
-        let next = next_unmarked c.args.snoop c.args.agents.now c.loop-agent.agent false low unmarked in
-        listing_same no_sent 8 whole before rest c.loop-agent.sent c.if-agents-from.sent c.loop-agent.count c.if-agents-from.count next w.sent-is w.count-is c.loop-agent.invariant
+      | then-agents-from w ↦
+          let marked : get_or c.args.agents.now c.loop-agent.agent false ≡ true = search (rules, w.if-agents-from.true, c.from.ensures) in
+          let next = next_marked c.args.snoop c.args.agents.now c.loop-agent.agent false low marked in
+          listing_more no_sent w.sent_told.result 8 whole before rest c.loop-agent.sent c.if-agents-from.sent c.loop-agent.count c.if-agents-from.count
+          (next ∙ ap (λ (x : ChiSent). x ∷ rest) (sym w.sent_told.ensures)) (search (rules, w.sent-is, w.from-then-agents-from.ensures)) w.count-is c.loop-agent.invariant
+      | else-agents-from w ↦
+          let unmarked : get_or c.args.agents.now c.loop-agent.agent false ≡ false = search (rules, w.if-agents-from.false, c.from.ensures) in
+          let next = next_unmarked c.args.snoop c.args.agents.now c.loop-agent.agent false low unmarked in
+          listing_same no_sent 8 whole before rest c.loop-agent.sent c.if-agents-from.sent c.loop-agent.count c.if-agents-from.count next w.sent-is w.count-is c.loop-agent.invariant
     ]
 
 pub returns : goal.returns

@@ -12,7 +12,6 @@ index-requires g c =
     let low : c.from.result < length c.self.inside.lines.items = subst (λ (s : SliceState). c.from.result < length s.lines) (sym c.self.view_is) at.low in
     search (rules, low)
 
-
 pub returns : goal.returns
 returns g c =
     let s : SliceState = slice_with c.self.inside.config c.self.inside.index c.self.inside.lines.items c.self.inside.journal in
