@@ -1,6 +1,6 @@
 //! The actions that a slice wouldn't refuse, for C.
 
-ghost use Rattle.std.specs.Prelude.{◌≡◌, ◌≤◌, ◌<◌, [], length, map, replicate};
+ghost use Rattle.std.specs.Prelude.{◌≡◌, ◌≤◌, [], length, map, replicate};
 ghost use Rattle.chi_library.specs.Actions.{action_told, no_action};
 ghost use Rattle.chi_library.specs.Calls.{answer_number, output_of};
 ghost use Rattle.chi_library.specs.Enabled.{all_steps, enabled_of, enabled_told};
@@ -33,7 +33,8 @@ pub extern "C" fn chi_slice_enabled(
 ) -> u8
     ensures answer { result ≡ answer_number slice.old.value (λ s. flits_refusal s agent line) }
     ensures after { slice.new.value ≡ slice.old.value }
-    ensures listed { IsListed no_action 24 (output_of slice.old.value [] (enabled_told agent line)) actions.new count.new }
+    ensures listed { IsListed no_action 24 (output_of slice.old.value [] (enabled_told agent line))
+        actions.new count.new }
 {
     *actions = [ChiAction::NONE; 24];
     *count = 0;

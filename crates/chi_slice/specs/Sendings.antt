@@ -1,6 +1,6 @@
 -- Of the code alone, no public promise cites it: the flits that an action sends, by what its line says before it and
 -- the home after it (docs/PROTOCOL.md, "The actions").
-use Rattle.std.specs.Prelude.{ℕ, List, Option, Some, None, true, false, if◌then◌else◌}
+use Rattle.std.specs.Prelude.{ℕ, List, Option, Some, None, true, if◌then◌else◌}
 use Rattle.chi_flit.specs.declared.action.Step.{Step}
 use Rattle.chi_flit.specs.declared.action.Step.TheVariants as steps
 use Rattle.chi_flit.specs.declared.credit.Profile.{Profile}
