@@ -1,0 +1,973 @@
+"""chihome: a proved reference model of an AMBA CHI coherent system in miniature, from Python.
+
+Two things can be opened: a `Slice`, whose lines are stepped action by action, and a whole `Node` on one thread, with its
+tracker and its requesters. Each closes itself at the end of its `with`:
+
+    import chihome
+    from chihome import Kind, Step
+
+    with chihome.Slice(agents=2, lines=1) as model:
+        model.act(Step.Issue, 0, 0, kind=Kind.ReadShared)
+        model.act(Step.Admit, 0, 0)
+        model.act(Step.Start, 0, 0)
+        print(*model.flits(0, 0).values())
+
+What each call does is in docs/PROTOCOL.md; its contract is proved of the library's own code (docs/LIBRARY.md), and what
+stands here is tested, not proved. A call that the model refuses raises the exception of that refusal's name, a `Refused`,
+and then nothing has changed. A number that no call has a place for is answered as one outside its range: `OutOfRange`.
+
+The module needs Python 3.8 and libchihome.so, which it loads at the first opening: the file that the environment
+variable CHIHOME_LIBRARY names, or the one beside it, in the repository's `out`, or in the `lib` that it was installed
+with, or else the one that the system finds. The interpreter's lock is held during each call, so calls never overlap.
+"""
+
+from __future__ import annotations
+
+import ctypes
+import enum
+import itertools
+import os
+from ctypes import POINTER, byref, c_char_p, c_uint8, c_uint16, c_uint32, c_uint64, c_void_p
+from pathlib import Path
+from typing import Dict, FrozenSet, Iterator, List, NamedTuple, Optional, Sequence, Tuple
+
+
+# The numbers of chihome.h, without its CHI_.
+
+
+class Answer(enum.IntEnum):
+    """What a call answers: done, or the number of a refusal (docs/PROTOCOL.md, "Refusals")."""
+
+    OK = 0
+    JournalFull = 1
+    WrongState = 2
+    Pending = 3
+    NothingPending = 4
+    LineBusy = 5
+    NotWaiting = 6
+    NoFlit = 7
+    NoMemory = 8
+    MustAccept = 9
+    OutOfRange = 10
+    NotOpen = 11
+    NoCredit = 12
+    AlreadyOpen = 254
+    Closed = 255
+
+
+class Step(enum.IntEnum):
+    """The actions (docs/PROTOCOL.md, "The actions")."""
+
+    Load = 0
+    Store = 1
+    Drop = 2
+    Issue = 3
+    Admit = 4
+    Retry = 5
+    RecvRetry = 6
+    Resend = 7
+    Cancel = 8
+    Start = 9
+    RecvSnp = 10
+    RecvSnpResp = 11
+    RecvData = 12
+    RecvComp = 13
+    RecvAck = 14
+    RecvDbid = 15
+    RecvWrData = 16
+
+
+class Kind(enum.IntEnum):
+    """The kinds of request (docs/PROTOCOL.md, "Kinds of request")."""
+
+    ReadNotSharedDirty = 0
+    ReadShared = 1
+    ReadUnique = 2
+    CleanUnique = 3
+    Evict = 4
+    WriteBackFull = 5
+    WriteCleanFull = 6
+    WriteEvictFull = 7
+
+
+class State(enum.IntEnum):
+    """The cache states."""
+
+    I = 0
+    SC = 1
+    UC = 2
+    UD = 3
+    SD = 4
+
+
+class Profile(enum.IntEnum):
+    """How many credit types a node has (docs/PROTOCOL.md, "Limits")."""
+
+    Two = 0
+    Four = 1
+
+
+class Channel(enum.IntEnum):
+    """The channels (docs/PROTOCOL.md, "Messages")."""
+
+    Req = 0
+    Snp = 1
+    RspDown = 2
+    DatDown = 3
+    RspUp = 4
+    DatUp = 5
+
+
+class Message(enum.IntEnum):
+    """The messages (docs/PROTOCOL.md, "Messages")."""
+
+    NoMessage = 0
+    Request = 1
+    SnpShared = 2
+    SnpNotSharedDirty = 3
+    SnpUnique = 4
+    SnpCleanInvalid = 5
+    RetryAck = 6
+    Comp_UC = 7
+    Comp_I = 8
+    CompDBIDResp = 9
+    CompData_SC = 10
+    CompData_UC = 11
+    SnpResp_I = 12
+    SnpResp_SC = 13
+    CompAck = 14
+    SnpRespData_I_PD = 15
+    SnpRespData_SC_PD = 16
+    SnpRespData_SD = 17
+    CopyBackWrData_I = 18
+    CopyBackWrData_SC = 19
+    CopyBackWrData_UC = 20
+    CopyBackWrData_UD_PD = 21
+    CopyBackWrData_SD_PD = 22
+
+
+class EffectForm(enum.IntEnum):
+    """What an action gives."""
+
+    Nothing = 0
+    Value = 1
+    Completed = 2
+
+
+class Phase(enum.IntEnum):
+    """How far a request has come."""
+
+    NoRequest = 0
+    Sent = 1
+    Retried = 2
+    Waiting = 3
+
+
+class ServingForm(enum.IntEnum):
+    """What a line serves."""
+
+    Idle = 0
+    Snooping = 1
+    AwaitingCompAck = 2
+    AwaitingWriteData = 3
+
+
+class ArrivalForm(enum.IntEnum):
+    """What an arrival came to."""
+
+    NotArrived = 0
+    Admitted = 1
+    RetriedWith = 2
+
+
+class ReleaseForm(enum.IntEnum):
+    """Where a released entry went."""
+
+    NotReleased = 0
+    Freed = 1
+    Granted = 2
+
+
+Nobody = 255
+MostSent = 8
+MostEnabled = 24
+
+
+# The refusals.
+
+
+class Refused(Exception):
+    """A call that was refused, with the `number` and the `name` of its refusal: nothing has changed."""
+
+    number: int = -1
+    name: str = "?"
+
+    def __str__(self) -> str:
+        return f"refused {int(self.number)} {self.name}" + (f": {self.__doc__}" if self.__doc__ else "")
+
+
+class JournalFull(Refused):
+    """the journal has as many records as it may have"""
+
+    number, name = Answer.JournalFull, "JournalFull"
+
+
+class WrongState(Refused):
+    """the copy is in a state that doesn't allow it"""
+
+    number, name = Answer.WrongState, "WrongState"
+
+
+class Pending(Refused):
+    """the agent has a request to the line that is pending, or the slot is in use"""
+
+    number, name = Answer.Pending, "Pending"
+
+
+class NothingPending(Refused):
+    """the agent has no request to the line in phase Retried"""
+
+    number, name = Answer.NothingPending, "NothingPending"
+
+
+class LineBusy(Refused):
+    """the line serves a request"""
+
+    number, name = Answer.LineBusy, "LineBusy"
+
+
+class NotWaiting(Refused):
+    """the agent has no request that waits at this line"""
+
+    number, name = Answer.NotWaiting, "NotWaiting"
+
+
+class NoFlit(Refused):
+    """no message of that kind is in flight for the agent and the line"""
+
+    number, name = Answer.NoFlit, "NoFlit"
+
+
+class NoMemory(Refused, MemoryError):
+    """memory for an opening was asked for and not given"""
+
+    number, name = Answer.NoMemory, "NoMemory"
+
+
+class MustAccept(Refused):
+    """a Retry of a request that has no AllowRetry"""
+
+    number, name = Answer.MustAccept, "MustAccept"
+
+
+class OutOfRange(Refused):
+    """a number outside its range, or a line of another slice"""
+
+    number, name = Answer.OutOfRange, "OutOfRange"
+
+
+class NotOpen(Refused):
+    """the requester's account doesn't agree with the slice, which no node brings about"""
+
+    number, name = Answer.NotOpen, "NotOpen"
+
+
+class NoCredit(Refused):
+    """every seen credit of the type is reserved or there is none, or no request of the type was cancelled"""
+
+    number, name = Answer.NoCredit, "NoCredit"
+
+
+class AlreadyOpen(Refused):
+    """the handle is open"""
+
+    number, name = Answer.AlreadyOpen, "AlreadyOpen"
+
+
+class Closed(Refused):
+    """the handle is closed"""
+
+    number, name = Answer.Closed, "Closed"
+
+
+_REFUSALS = {int(it.number): it for it in Refused.__subclasses__()}
+
+
+def _check(answer: int) -> None:
+    """Raises the refusal of an answer that isn't CHI_OK."""
+    if answer:
+        refused = _REFUSALS.get(answer, Refused)()
+        refused.number = answer if refused.number < 0 else refused.number
+        raise refused
+
+
+# The layouts of chihome.h, each under its name with a dash before.
+
+
+class _ChiConfig(ctypes.Structure):
+    _fields_ = [("agents", c_uint8), ("lines", c_uint8), ("slices", c_uint8), ("profile", c_uint8),
+                ("entries", c_uint16 * 4), ("journal", c_uint32)]
+
+
+class _ChiAction(ctypes.Structure):
+    _fields_ = [("agent", c_uint8), ("line", c_uint8), ("step", c_uint8), ("kind", c_uint8), ("slot", c_uint8),
+                ("word", c_uint8), ("value", c_uint64)]
+
+
+class _ChiEffect(ctypes.Structure):
+    _fields_ = [("effect", c_uint8), ("slot", c_uint8), ("value", c_uint64)]
+
+
+class _ChiFlit(ctypes.Structure):
+    _fields_ = [("message", c_uint8), ("kind", c_uint8), ("slot", c_uint8), ("allow_retry", c_uint8),
+                ("credit", c_uint8), ("words", c_uint64 * 8)]
+
+
+class _ChiFlits(ctypes.Structure):
+    _fields_ = [("channels", _ChiFlit * 6)]
+
+
+class _ChiSent(ctypes.Structure):
+    _fields_ = [("agent", c_uint8), ("channel", c_uint8), ("flit", _ChiFlit)]
+
+
+class _ChiCopy(ctypes.Structure):
+    _fields_ = [("state", c_uint8), ("words", c_uint64 * 8)]
+
+
+class _ChiRequest(ctypes.Structure):
+    _fields_ = [("phase", c_uint8), ("kind", c_uint8), ("slot", c_uint8)]
+
+
+class _ChiServing(ctypes.Structure):
+    _fields_ = [("form", c_uint8), ("agent", c_uint8), ("kind", c_uint8), ("slot", c_uint8)]
+
+
+class _ChiLine(ctypes.Structure):
+    _fields_ = [("copies", _ChiCopy * 8), ("memory", c_uint64 * 8), ("last", c_uint64 * 8), ("pending", _ChiRequest * 8),
+                ("waiting", _ChiRequest * 8), ("named", c_uint8 * 8), ("awaited", c_uint8 * 8),
+                ("serving", _ChiServing), ("unique", c_uint8), ("owner", c_uint8)]
+
+
+class _ChiRecord(ctypes.Structure):
+    _fields_ = [("store", c_uint8), ("agent", c_uint8), ("line", c_uint8), ("word", c_uint8), ("value", c_uint64)]
+
+
+class _ChiArrival(ctypes.Structure):
+    _fields_ = [("arrival", c_uint8), ("entry", c_uint8), ("credit", c_uint8)]
+
+
+class _ChiRelease(ctypes.Structure):
+    _fields_ = [("release", c_uint8), ("agent", c_uint8)]
+
+
+class _ChiCredits(ctypes.Structure):
+    _fields_ = [("seen", c_uint32 * 4)]
+
+
+class _ChiTotals(ctypes.Structure):
+    _fields_ = [("free", c_uint32 * 4), ("hand", c_uint32 * 4), ("promised", c_uint32 * 4), ("owed", c_uint32 * 4)]
+
+
+class _ChiAudit(ctypes.Structure):
+    _fields_ = [("loads", c_uint64), ("stores", c_uint64), ("coherent", c_uint8)]
+
+
+class _ChiSlice(ctypes.Structure):
+    _fields_ = [("at", c_void_p)]
+
+
+class _ChiNode(ctypes.Structure):
+    _fields_ = [("at", c_void_p)]
+
+
+# The calls of chihome.h: what each returns and takes.
+
+_slice, _node, _action, _count = POINTER(_ChiSlice), POINTER(_ChiNode), POINTER(_ChiAction), POINTER(c_uint8)
+_effect, _sent, _release = POINTER(_ChiEffect), POINTER(_ChiSent), POINTER(_ChiRelease)
+_arrival, _line, _flits = POINTER(_ChiArrival), POINTER(_ChiLine), POINTER(_ChiFlits)
+
+_CALLS = {
+    "chi_slice_open": (c_uint8, [_slice, POINTER(_ChiConfig), c_uint8]),
+    "chi_slice_act": (c_uint8, [_slice, _action, _effect]),
+    "chi_slice_step": (c_uint8, [_slice, _action, _effect, _sent, _count, _sent]),
+    "chi_slice_enabled": (c_uint8, [_slice, c_uint8, c_uint8, _action, _count]),
+    "chi_slice_refusal": (c_uint8, [_slice, _action]),
+    "chi_slice_show": (c_uint8, [_slice, c_uint8, _line]),
+    "chi_slice_flits": (c_uint8, [_slice, c_uint8, c_uint8, _flits]),
+    "chi_slice_journal": (c_uint8, [_slice, c_uint32, POINTER(_ChiRecord)]),
+    "chi_slice_copy": (c_uint8, [_slice, _slice]),
+    "chi_slice_equal": (c_uint8, [_slice, _slice, _count]),
+    "chi_slice_close": (c_uint8, [_slice]),
+    "chi_node_open": (c_uint8, [_node, POINTER(_ChiConfig)]),
+    "chi_node_arrive": (c_uint8, [_node, c_uint8, c_uint8, _arrival]),
+    "chi_node_arrive_flits": (c_uint8, [_node, c_uint8, c_uint8, _arrival, _sent, _count, _sent]),
+    "chi_node_step": (c_uint8, [_node, _action, _effect, _release]),
+    "chi_node_step_flits": (c_uint8, [_node, _action, _effect, _release, _sent, _count, _sent]),
+    "chi_node_see": (c_uint8, [_node, c_uint8, POINTER(_ChiCredits)]),
+    "chi_node_give_back": (c_uint8, [_node, c_uint8, c_uint8, _release]),
+    "chi_node_tend": (c_uint8, [_node, c_uint8, c_uint8, _release]),
+    "chi_node_show": (c_uint8, [_node, c_uint8, _line]),
+    "chi_node_flits": (c_uint8, [_node, c_uint8, c_uint8, _flits]),
+    "chi_node_totals": (c_uint8, [_node, POINTER(_ChiTotals)]),
+    "chi_node_agrees": (c_uint8, [_node]),
+    "chi_node_audit": (c_uint8, [_node, POINTER(_ChiAudit)]),
+    "chi_node_close": (c_uint8, [_node]),
+    "chi_version": (c_char_p, []),
+    "chi_step_name": (c_char_p, [c_uint8]),
+    "chi_kind_name": (c_char_p, [c_uint8]),
+    "chi_message_name": (c_char_p, [c_uint8]),
+    "chi_state_name": (c_char_p, [c_uint8]),
+    "chi_refusal_name": (c_char_p, [c_uint8]),
+}
+
+
+class _Library:
+    """The calls of a libchihome.so, by their names."""
+
+    def __init__(self, path: str):
+        self.path = path
+        # (PyDLL holds the interpreter's lock, so that two threads are never in one handle)
+        loaded = ctypes.PyDLL(path)
+        for name, (result, words) in _CALLS.items():
+            call = getattr(loaded, name, None)
+            if call is not None:
+                call.restype, call.argtypes = result, words
+                setattr(self, name, call)
+
+    def __getattr__(self, name: str):
+        raise NotImplementedError(f"{self.path} has no {name}")
+
+
+_loaded: Optional[_Library] = None
+
+
+def _places() -> List[Path]:
+    """Where the library may be, the likeliest first."""
+    here = Path(__file__).resolve().parent
+    installed = here.parents[2] / "lib" if len(here.parents) > 2 else here
+    return [here / "libchihome.so", here.parent / "out" / "libchihome.so", installed / "libchihome.so"]
+
+
+def load_library(path: Optional[os.PathLike] = None) -> str:
+    """Loads the library, or the file that is given, for all openings that follow, and tells which file that is.
+
+    OSError where there is none."""
+    global _loaded
+    named = path or os.environ.get("CHIHOME_LIBRARY")
+    found = named or next((it for it in _places() if it.exists()), "libchihome.so")
+    _loaded = _Library(os.fspath(found))
+    return _loaded.path
+
+
+def _library() -> _Library:
+    if _loaded is None:
+        load_library()
+    return _loaded
+
+
+def version() -> str:
+    """The version of the library that is loaded."""
+    return _library().chi_version().decode()
+
+
+# What calls are told and tell.
+
+
+class Config(NamedTuple):
+    """The sizes of a node (docs/PROTOCOL.md, "Limits"): with two numbers of entries it is of profile Two, with four Four."""
+
+    agents: int = 1
+    lines: int = 1
+    slices: int = 1
+    entries: Sequence[int] = (1, 1)
+    journal: int = 65536
+
+    @property
+    def profile(self) -> Profile:
+        return Profile.Four if len(self.entries) == 4 else Profile.Two
+
+
+class Action(NamedTuple):
+    """An action, as `act(*action)` takes it."""
+
+    step: Step
+    agent: int
+    line: int
+    kind: Kind = Kind.ReadNotSharedDirty
+    slot: int = 0
+    word: int = 0
+    value: int = 0
+
+
+class Effect(NamedTuple):
+    """What an action gives: the value that a load read, or the slot of a request that the home is done with."""
+
+    value: Optional[int] = None
+    completed: Optional[int] = None
+
+
+class Flit(NamedTuple):
+    """A message in flight. Its text is the one that `chihome` prints."""
+
+    message: Message
+    kind: Optional[Kind] = None
+    slot: Optional[int] = None
+    allow_retry: Optional[bool] = None
+    credit: Optional[int] = None
+    words: Optional[Tuple[int, ...]] = None
+
+    def __str__(self) -> str:
+        if self.message == Message.Request:
+            return f"{self.kind.name}/{self.slot}/{'allow' if self.allow_retry else 'credit'}"
+        return f"RetryAck/{self.credit}" if self.message == Message.RetryAck else self.message.name
+
+
+class Sent(NamedTuple):
+    """A flit that an action sent or took, between the agent and the home."""
+
+    agent: int
+    channel: Channel
+    flit: Flit
+
+
+class Stepped(NamedTuple):
+    """What an action gives, the flits that it sent, and the one that it took."""
+
+    effect: Effect
+    sent: Tuple[Sent, ...]
+    taken: Optional[Sent]
+
+
+class Copy(NamedTuple):
+    """An agent's copy of a line."""
+
+    state: State
+    words: Tuple[int, ...]
+
+
+class Request(NamedTuple):
+    """A request that is pending, or that waits at the home."""
+
+    phase: Phase
+    kind: Kind
+    slot: int
+
+
+class Serving(NamedTuple):
+    """What the home does at a line. The kind is None while a CompAck is awaited."""
+
+    form: ServingForm
+    agent: int
+    kind: Optional[Kind]
+    slot: int
+
+
+class Line(NamedTuple):
+    """All parts of a line but its flits: what is by agent has a place for each, and None where there is nothing."""
+
+    copies: Tuple[Copy, ...]
+    memory: Tuple[int, ...]
+    last: Tuple[int, ...]
+    pending: Tuple[Optional[Request], ...]
+    waiting: Tuple[Optional[Request], ...]
+    named: FrozenSet[int]
+    awaited: FrozenSet[int]
+    serving: Optional[Serving]
+    unique: bool
+    owner: Optional[int]
+
+
+class Record(NamedTuple):
+    """A load or a store that was answered."""
+
+    store: bool
+    agent: int
+    line: int
+    word: int
+    value: int
+
+
+class Arrival(NamedTuple):
+    """What an arrival came to: admitted with an entry of the tracker, or retried with a credit type."""
+
+    entry: Optional[int] = None
+    credit: Optional[int] = None
+
+
+class Arrived(NamedTuple):
+    """What an arrival came to, the flits that it sent, and the one that it took."""
+
+    arrival: Arrival
+    sent: Tuple[Sent, ...]
+    taken: Optional[Sent]
+
+
+class Release(NamedTuple):
+    """Where a released entry went, and the agent that it was promised to, if to any."""
+
+    form: ReleaseForm
+    agent: Optional[int] = None
+
+
+class Served(NamedTuple):
+    """What an action of a node gives, and where the entry of a completed request went."""
+
+    effect: Effect
+    release: Release
+
+
+class ServedFlits(NamedTuple):
+    """As `Served`, with the flits that the action sent, and the one that it took."""
+
+    effect: Effect
+    release: Release
+    sent: Tuple[Sent, ...]
+    taken: Optional[Sent]
+
+
+class Totals(NamedTuple):
+    """Entries that are free, in hand and promised, and credits that are owed, each by type."""
+
+    free: Tuple[int, ...]
+    hand: Tuple[int, ...]
+    promised: Tuple[int, ...]
+    owed: Tuple[int, ...]
+
+
+class Audit(NamedTuple):
+    """How many loads and stores there were, and whether all is coherent, as always."""
+
+    loads: int
+    stores: int
+    coherent: bool
+
+
+def _within(number: int, most: int) -> int:
+    """The number, or the greatest that its field holds, which is outside every range, where it has no place there."""
+    return number if 0 <= number <= most else most
+
+
+def _byte(number: int) -> int:
+    return number if 0 <= number <= 255 else 255
+
+
+def _config_of(config: Config) -> _ChiConfig:
+    agents, lines, slices, entries, journal = config
+    if len(entries) not in (2, 4):
+        raise ValueError("entries are two numbers, or four")
+    each = [_within(it, 0xFFFF) for it in [*entries, 0, 0][:4]]
+    return _ChiConfig(_byte(agents), _byte(lines), _byte(slices), config.profile, tuple(each), _within(journal, 0xFFFFFFFF))
+
+
+def _action_of(step: int, agent: int, line: int, kind: int, slot: int, word: int, value: int) -> _ChiAction:
+    if not 0 <= value < 1 << 64:
+        raise ValueError("a value has 64 bits")
+    return _ChiAction(_byte(agent), _byte(line), _byte(step), _byte(kind), _byte(slot), _byte(word), value)
+
+
+def _effect_in(told: _ChiEffect) -> Effect:
+    if told.effect == EffectForm.Value:
+        return Effect(value=told.value)
+    return Effect(completed=told.slot) if told.effect == EffectForm.Completed else Effect()
+
+
+def _flit_in(told: _ChiFlit) -> Optional[Flit]:
+    message = Message(told.message)
+    if message == Message.NoMessage:
+        return None
+    if message == Message.Request:
+        return Flit(message, Kind(told.kind), told.slot, bool(told.allow_retry))
+    if message == Message.RetryAck:
+        return Flit(message, credit=told.credit)
+    return Flit(message, words=tuple(told.words) if "Data" in message.name else None)
+
+
+def _sent_in(told: _ChiSent) -> Optional[Sent]:
+    flit = _flit_in(told.flit)
+    return flit and Sent(told.agent, Channel(told.channel), flit)
+
+
+def _request_in(told: _ChiRequest) -> Optional[Request]:
+    phase = Phase(told.phase)
+    return Request(phase, Kind(told.kind), told.slot) if phase else None
+
+
+def _serving_in(told: _ChiServing) -> Optional[Serving]:
+    form = ServingForm(told.form)
+    kind = None if form == ServingForm.AwaitingCompAck else Kind(told.kind)
+    return Serving(form, told.agent, kind, told.slot) if form else None
+
+
+def _line_in(told: _ChiLine, agents: int) -> Line:
+    each = range(agents)
+    return Line(
+        tuple(Copy(State(told.copies[it].state), tuple(told.copies[it].words)) for it in each),
+        tuple(told.memory),
+        tuple(told.last),
+        tuple(_request_in(told.pending[it]) for it in each),
+        tuple(_request_in(told.waiting[it]) for it in each),
+        frozenset(it for it in each if told.named[it]),
+        frozenset(it for it in each if told.awaited[it]),
+        _serving_in(told.serving),
+        bool(told.unique),
+        None if told.owner == Nobody else told.owner,
+    )
+
+
+def _flits_in(told: _ChiFlits) -> Dict[Channel, Flit]:
+    flits = ((channel, _flit_in(told.channels[channel])) for channel in Channel)
+    return {channel: flit for channel, flit in flits if flit}
+
+
+def _release_in(told: _ChiRelease) -> Release:
+    form = ReleaseForm(told.release)
+    return Release(form, told.agent if form == ReleaseForm.Granted else None)
+
+
+def _arrival_in(told: _ChiArrival) -> Arrival:
+    if told.arrival == ArrivalForm.Admitted:
+        return Arrival(entry=told.entry)
+    return Arrival(credit=told.credit) if told.arrival == ArrivalForm.RetriedWith else Arrival()
+
+
+# The handles.
+
+
+class _Handle:
+    """What a slice and a node have in common: a handle of the library, which is closed once."""
+
+    def __init__(self, handle: ctypes.Structure, config: Config):
+        self._calls = _library()
+        self._handle = handle
+        self.config = config
+
+    def _close(self) -> int:
+        raise NotImplementedError
+
+    @property
+    def closed(self) -> bool:
+        """Whether nothing is open."""
+        return not self._handle.at
+
+    def close(self) -> None:
+        """Frees what is open. A second close does nothing; every other call on what is closed raises `Closed`."""
+        if self._handle.at:
+            _check(self._close())
+
+    def __enter__(self):
+        return self
+
+    def __exit__(self, *_) -> None:
+        self.close()
+
+    def __del__(self) -> None:
+        handle = getattr(self, "_handle", None)
+        if handle is not None and handle.at:
+            self._close()
+
+    def __reduce_ex__(self, protocol):
+        raise TypeError(f"a {type(self).__name__} is neither pickled nor copied so")
+
+
+class Slice(_Handle):
+    """A slice by itself, whose lines are stepped action by action. It knows no tracker: Admit, Retry and Resend are done
+    as the caller says, which is what a scoreboard wants.
+
+    It opens in its opening state: slice `index` of a node of these sizes. OutOfRange where a size is outside "Limits" of
+    docs/PROTOCOL.md, or there is no such slice; NoMemory."""
+
+    def __init__(self, agents: int = 1, lines: int = 1, slices: int = 1, entries: Sequence[int] = (1, 1),
+                 journal: int = 65536, index: int = 0):
+        super().__init__(_ChiSlice(), Config(agents, lines, slices, tuple(entries), journal))
+        self.index = index
+        _check(self._calls.chi_slice_open(byref(self._handle), byref(_config_of(self.config)), _byte(index)))
+
+    def _close(self) -> int:
+        return self._calls.chi_slice_close(byref(self._handle))
+
+    def act(self, step: Step, agent: int, line: int, kind: Kind = Kind.ReadNotSharedDirty, slot: int = 0, word: int = 0,
+            value: int = 0) -> Effect:
+        """Does an action, and tells what it gives. Refused as "The actions" of docs/PROTOCOL.md says."""
+        effect = _ChiEffect()
+        action = _action_of(step, agent, line, kind, slot, word, value)
+        _check(self._calls.chi_slice_act(byref(self._handle), byref(action), byref(effect)))
+        return _effect_in(effect)
+
+    def step(self, step: Step, agent: int, line: int, kind: Kind = Kind.ReadNotSharedDirty, slot: int = 0, word: int = 0,
+             value: int = 0) -> Stepped:
+        """Does an action as `act` does it, and tells also the flits that it sent, and the one that it took."""
+        effect, sent, count, taken = _ChiEffect(), (_ChiSent * MostSent)(), c_uint8(), _ChiSent()
+        action = _action_of(step, agent, line, kind, slot, word, value)
+        _check(self._calls.chi_slice_step(byref(self._handle), byref(action), byref(effect), sent, byref(count),
+                                          byref(taken)))
+        return Stepped(_effect_in(effect), tuple(map(_sent_in, sent[:count.value])), _sent_in(taken))
+
+    def refusal(self, step: Step, agent: int, line: int, kind: Kind = Kind.ReadNotSharedDirty, slot: int = 0,
+                word: int = 0, value: int = 0) -> Answer:
+        """What `act` would answer: Answer.OK, or the refusal. Nothing is done."""
+        action = _action_of(step, agent, line, kind, slot, word, value)
+        answer = self._calls.chi_slice_refusal(byref(self._handle), byref(action))
+        if answer == Answer.Closed:
+            raise Closed()
+        return Answer(answer)
+
+    def enabled(self, agent: int, line: int) -> List[Action]:
+        """The agent's actions at the line that `act` would do: each step once, Load and Store of word 0 with value 0,
+        Issue for each kind with the agent's lowest slot that is idle in this slice. Nothing is done. OutOfRange."""
+        actions, count = (_ChiAction * MostEnabled)(), c_uint8()
+        _check(self._calls.chi_slice_enabled(byref(self._handle), _byte(agent), _byte(line), actions, byref(count)))
+        return [Action(Step(it.step), it.agent, it.line, Kind(it.kind), it.slot, it.word, it.value)
+                for it in actions[:count.value]]
+
+    def show(self, line: int) -> Line:
+        """The line. OutOfRange where it is outside the node or in another slice."""
+        shown = _ChiLine()
+        _check(self._calls.chi_slice_show(byref(self._handle), _byte(line), byref(shown)))
+        return _line_in(shown, self.config.agents)
+
+    def flits(self, agent: int, line: int) -> Dict[Channel, Flit]:
+        """What is in flight between the agent and the home for the line, by channel. OutOfRange as of `show`, and of the
+        agent."""
+        flits = _ChiFlits()
+        _check(self._calls.chi_slice_flits(byref(self._handle), _byte(agent), _byte(line), byref(flits)))
+        return _flits_in(flits)
+
+    def journal(self, place: int) -> Record:
+        """The load or store of a place in the journal, from 0. OutOfRange behind its end."""
+        entry = _ChiRecord()
+        _check(self._calls.chi_slice_journal(byref(self._handle), _within(place, 0xFFFFFFFF), byref(entry)))
+        return Record(bool(entry.store), entry.agent, entry.line, entry.word, entry.value)
+
+    def records(self) -> Iterator[Record]:
+        """The loads and stores of the journal, in their order."""
+        for place in itertools.count():
+            try:
+                yield self.journal(place)
+            except OutOfRange:
+                return
+
+    def copy(self) -> Slice:
+        """A slice of its own that is as this one. NoMemory; Closed."""
+        made = object.__new__(Slice)
+        _Handle.__init__(made, _ChiSlice(), self.config)
+        made.index = self.index
+        _check(self._calls.chi_slice_copy(byref(made._handle), byref(self._handle)))
+        return made
+
+    def __copy__(self) -> Slice:
+        return self.copy()
+
+    def __deepcopy__(self, _) -> Slice:
+        return self.copy()
+
+    def equals(self, other: Slice) -> bool:
+        """Whether both are of the same sizes and index, with the same lines and the same journal. Closed."""
+        equal = c_uint8()
+        if self.closed or other.closed:
+            raise Closed()
+        if other is self:
+            return True
+        _check(self._calls.chi_slice_equal(byref(self._handle), byref(other._handle), byref(equal)))
+        return bool(equal.value)
+
+
+class Node(_Handle):
+    """A whole node on one thread: its slices, its tracker and its requesters, by the calls of "A requester and its calls"
+    in docs/PROTOCOL.md.
+
+    It opens in its opening state. OutOfRange where a size is outside "Limits" of docs/PROTOCOL.md; NoMemory."""
+
+    def __init__(self, agents: int = 1, lines: int = 1, slices: int = 1, entries: Sequence[int] = (1, 1),
+                 journal: int = 65536):
+        super().__init__(_ChiNode(), Config(agents, lines, slices, tuple(entries), journal))
+        _check(self._calls.chi_node_open(byref(self._handle), byref(_config_of(self.config))))
+
+    def _close(self) -> int:
+        return self._calls.chi_node_close(byref(self._handle))
+
+    def arrive(self, agent: int, line: int) -> Arrival:
+        """The agent's request in flight at the line arrives: it is admitted with an entry, or retried where each of its
+        type is claimed. OutOfRange; NoFlit where none is in flight."""
+        arrival = _ChiArrival()
+        _check(self._calls.chi_node_arrive(byref(self._handle), _byte(agent), _byte(line), byref(arrival)))
+        return _arrival_in(arrival)
+
+    def arrive_flits(self, agent: int, line: int) -> Arrived:
+        """As `arrive`, and tells the flits that were sent, and the one that was taken."""
+        arrival, sent, count, taken = _ChiArrival(), (_ChiSent * MostSent)(), c_uint8(), _ChiSent()
+        _check(self._calls.chi_node_arrive_flits(byref(self._handle), _byte(agent), _byte(line), byref(arrival), sent,
+                                                 byref(count), byref(taken)))
+        return Arrived(_arrival_in(arrival), tuple(map(_sent_in, sent[:count.value])), _sent_in(taken))
+
+    def step(self, step: Step, agent: int, line: int, kind: Kind = Kind.ReadNotSharedDirty, slot: int = 0, word: int = 0,
+             value: int = 0) -> Served:
+        """Does an action, and tells what it gives and where the entry of a completed request went. Refused as "A
+        requester and its calls" of docs/PROTOCOL.md says; OutOfRange also of Admit and Retry, which are `arrive`'s."""
+        effect, release = _ChiEffect(), _ChiRelease()
+        action = _action_of(step, agent, line, kind, slot, word, value)
+        _check(self._calls.chi_node_step(byref(self._handle), byref(action), byref(effect), byref(release)))
+        return Served(_effect_in(effect), _release_in(release))
+
+    def step_flits(self, step: Step, agent: int, line: int, kind: Kind = Kind.ReadNotSharedDirty, slot: int = 0,
+                   word: int = 0, value: int = 0) -> ServedFlits:
+        """As `step`, and tells the flits that were sent, and the one that was taken."""
+        effect, release = _ChiEffect(), _ChiRelease()
+        sent, count, taken = (_ChiSent * MostSent)(), c_uint8(), _ChiSent()
+        action = _action_of(step, agent, line, kind, slot, word, value)
+        _check(self._calls.chi_node_step_flits(byref(self._handle), byref(action), byref(effect), byref(release), sent,
+                                               byref(count), byref(taken)))
+        return ServedFlits(_effect_in(effect), _release_in(release), tuple(map(_sent_in, sent[:count.value])),
+                           _sent_in(taken))
+
+    def see(self, agent: int) -> Tuple[int, ...]:
+        """The agent looks at what is promised to it: the seen credits by type. OutOfRange."""
+        credits = _ChiCredits()
+        _check(self._calls.chi_node_see(byref(self._handle), _byte(agent), byref(credits)))
+        return tuple(credits.seen[:len(self.config.entries)])
+
+    def give_back(self, agent: int, credit: int) -> Release:
+        """The agent gives a seen credit of the type back, for a request that it cancelled. OutOfRange; NoCredit."""
+        release = _ChiRelease()
+        _check(self._calls.chi_node_give_back(byref(self._handle), _byte(agent), _byte(credit), byref(release)))
+        return _release_in(release)
+
+    def tend(self, agent: int, credit: int) -> Release:
+        """The agent claims a free entry of the type for whoever is owed one, and releases it: NotReleased where nobody
+        was seen owed one or none was free. OutOfRange."""
+        release = _ChiRelease()
+        _check(self._calls.chi_node_tend(byref(self._handle), _byte(agent), _byte(credit), byref(release)))
+        return _release_in(release)
+
+    def show(self, line: int) -> Line:
+        """The line. OutOfRange."""
+        shown = _ChiLine()
+        _check(self._calls.chi_node_show(byref(self._handle), _byte(line), byref(shown)))
+        return _line_in(shown, self.config.agents)
+
+    def flits(self, agent: int, line: int) -> Dict[Channel, Flit]:
+        """What is in flight between the agent and the home for the line, by channel. OutOfRange."""
+        flits = _ChiFlits()
+        _check(self._calls.chi_node_flits(byref(self._handle), _byte(agent), _byte(line), byref(flits)))
+        return _flits_in(flits)
+
+    def totals(self) -> Totals:
+        """How many entries of each type are free, in hand and promised, and how many credits are owed."""
+        totals = _ChiTotals()
+        _check(self._calls.chi_node_totals(byref(self._handle), byref(totals)))
+        types = len(self.config.entries)
+        return Totals(*(tuple(it[:types]) for it in (totals.free, totals.hand, totals.promised, totals.owed)))
+
+    def agrees(self) -> bool:
+        """Whether each requester agrees with each slice, as always."""
+        answer = self._calls.chi_node_agrees(byref(self._handle))
+        if answer == Answer.NotOpen:
+            return False
+        _check(answer)
+        return True
+
+    def audit(self) -> Audit:
+        """How many loads and stores there were, and whether each line is coherent and each journal legal, as always."""
+        audit = _ChiAudit()
+        _check(self._calls.chi_node_audit(byref(self._handle), byref(audit)))
+        return Audit(audit.loads, audit.stores, bool(audit.coherent))

@@ -1,0 +1,303 @@
+#!/usr/bin/env python3
+"""Tests the classes of library/chihome.py against the library: what calls give, each refusal's exception, closing, copies,
+and numbers that no field has a place for.
+
+Usage: tests/python/calls.py
+
+The status is 0 where nothing failed. A test of a call that the library lacks is skipped, and named.
+"""
+
+import copy
+import gc
+import pickle
+import sys
+import threading
+import unittest
+from pathlib import Path
+
+TOP = Path(__file__).resolve().parents[2]
+sys.dont_write_bytecode = True
+sys.path.insert(0, str(TOP / "library"))
+import chihome  # noqa: E402
+from chihome import Answer, Channel, Kind, Message, Phase, ReleaseForm, ServingForm, State, Step  # noqa: E402
+
+
+def has(name):
+    """Skips a test where the library lacks a call."""
+    try:
+        getattr(chihome._library(), name)
+        return lambda test: test
+    except NotImplementedError as lack:
+        return unittest.skip(str(lack))
+
+
+def read(model, agent, kind=Kind.ReadShared, slot=0):
+    """The agent's read of line 0 of a slice, up to its CompAck."""
+    model.act(Step.Issue, agent, 0, kind=kind, slot=slot)
+    model.act(Step.Admit, agent, 0)
+    model.act(Step.Start, agent, 0)
+
+
+class Slices(unittest.TestCase):
+    def test_cold_read(self):
+        with chihome.Slice(agents=2, lines=1) as model:
+            self.assertEqual(model.act(Step.Issue, 0, 0, kind=Kind.ReadShared, slot=3), chihome.Effect())
+            self.assertEqual({it: str(flit) for it, flit in model.flits(0, 0).items()},
+                             {Channel.Req: "ReadShared/3/allow"})
+            self.assertEqual(model.show(0).pending, (chihome.Request(Phase.Sent, Kind.ReadShared, 3), None))
+            model.act(Step.Admit, 0, 0)
+            self.assertEqual(model.show(0).waiting, (chihome.Request(Phase.Waiting, Kind.ReadShared, 3), None))
+            model.act(Step.Start, 0, 0)
+            line = model.show(0)
+            self.assertEqual(line.serving, chihome.Serving(ServingForm.AwaitingCompAck, 0, None, 3))
+            self.assertEqual((line.named, line.awaited, line.unique, line.owner), ({0}, set(), True, None))
+            data = chihome.Flit(Message.CompData_UC, words=(0,) * 8)
+            self.assertEqual(model.flits(0, 0), {Channel.DatDown: data})
+            model.act(Step.RecvData, 0, 0)
+            self.assertEqual(model.act(Step.RecvAck, 0, 0), chihome.Effect(completed=3))
+            model.act(Step.Store, 0, 0, word=7, value=(1 << 64) - 1)
+            self.assertEqual(model.act(Step.Load, 0, 0, word=7), chihome.Effect(value=(1 << 64) - 1))
+            line = model.show(0)
+            self.assertEqual(line.copies[0], chihome.Copy(State.UD, (0,) * 7 + ((1 << 64) - 1,)))
+            self.assertEqual((line.last, line.memory), (line.copies[0].words, (0,) * 8))
+            self.assertEqual(list(model.records()), [chihome.Record(True, 0, 0, 7, (1 << 64) - 1),
+                                                     chihome.Record(False, 0, 0, 7, (1 << 64) - 1)])
+
+    def test_snoop(self):
+        with chihome.Slice(agents=3, lines=1) as model:
+            read(model, 0)
+            model.act(Step.RecvData, 0, 0)
+            model.act(Step.RecvAck, 0, 0)
+            model.act(Step.Store, 0, 0, word=0, value=5)
+            read(model, 2)
+            line = model.show(0)
+            self.assertEqual(line.serving, chihome.Serving(ServingForm.Snooping, 2, Kind.ReadShared, 0))
+            self.assertEqual((line.named, line.awaited, line.owner), ({0}, {0}, None))
+            model.act(Step.RecvSnp, 0, 0)
+            answer = chihome.Flit(Message.SnpRespData_SD, words=(5,) + (0,) * 7)
+            self.assertEqual(model.flits(0, 0), {Channel.DatUp: answer})
+            model.act(Step.RecvSnpResp, 0, 0)
+            self.assertEqual((model.show(0).owner, model.show(0).copies[0].state), (0, State.SD))
+
+    def test_retry(self):
+        with chihome.Slice(agents=1, lines=1, entries=(1, 1, 1, 1)) as model:
+            model.act(Step.Issue, 0, 0, kind=Kind.ReadUnique)
+            model.act(Step.Retry, 0, 0)
+            self.assertEqual(model.flits(0, 0), {Channel.RspDown: chihome.Flit(Message.RetryAck, credit=2)})
+            self.assertEqual(str(model.flits(0, 0)[Channel.RspDown]), "RetryAck/2")
+            model.act(Step.RecvRetry, 0, 0)
+            self.assertEqual(model.show(0).pending[0].phase, Phase.Retried)
+            model.act(Step.Resend, 0, 0)
+            self.assertEqual(str(model.flits(0, 0)[Channel.Req]), "ReadUnique/0/credit")
+            with self.assertRaises(chihome.MustAccept):
+                model.act(Step.Retry, 0, 0)
+
+    def test_refusals(self):
+        with chihome.Slice(agents=2, lines=2, slices=2, index=1, journal=1) as model:
+            for refused, action in [
+                    (chihome.WrongState, chihome.Action(Step.Load, 0, 1)), (chihome.NoFlit, (Step.RecvAck, 0, 1)),
+                    (chihome.NotWaiting, (Step.Start, 0, 1)), (chihome.NothingPending, (Step.Resend, 0, 1)),
+                    (chihome.OutOfRange, (Step.Load, 0, 0)), (chihome.OutOfRange, (Step.Load, 2, 1)),
+                    (chihome.OutOfRange, (17, 0, 1)), (chihome.OutOfRange, (Step.Issue, 0, 1, 8)),
+                    (chihome.OutOfRange, (Step.Issue, 256, 1)), (chihome.OutOfRange, (Step.Load, -1, 1)),
+                    (chihome.OutOfRange, (Step.Load, 0, 257)), (chihome.OutOfRange, (256 + Step.Issue, 0, 1)),
+                    (chihome.OutOfRange, (Step.Issue, 0, 1, Kind.Evict, 256))]:
+                before = model.show(1)
+                with self.subTest(action=action), self.assertRaises(refused) as caught:
+                    model.act(*action)
+                self.assertEqual(model.refusal(*action), refused.number)
+                self.assertEqual((caught.exception.number, caught.exception.name), (refused.number, refused.__name__))
+                self.assertEqual(model.show(1), before)
+            model.act(Step.Issue, 0, 1)
+            self.assertEqual(model.refusal(Step.Admit, 0, 1), Answer.OK)
+            with self.assertRaises(chihome.Pending):
+                model.act(Step.Issue, 0, 1)
+            with self.assertRaises(chihome.OutOfRange):
+                model.show(0)
+            with self.assertRaises(chihome.OutOfRange):
+                model.flits(2, 1)
+            for place in (0, 1 << 32, -1):
+                with self.assertRaises(chihome.OutOfRange):
+                    model.journal(place)
+            with self.assertRaises(ValueError):
+                model.act(Step.Store, 0, 1, value=1 << 64)
+
+    def test_full_journal_and_busy_line(self):
+        with chihome.Slice(agents=2, lines=1, journal=1) as model:
+            read(model, 0)
+            model.act(Step.RecvData, 0, 0)
+            model.act(Step.Load, 0, 0)
+            with self.assertRaises(chihome.JournalFull):
+                model.act(Step.Load, 0, 0)
+            with self.assertRaises(chihome.LineBusy):
+                read(model, 1)
+
+    def test_closed(self):
+        model = chihome.Slice()
+        model.close()
+        model.close()
+        self.assertTrue(model.closed)
+        for call in (lambda: model.act(Step.Load, 0, 0), lambda: model.refusal(Step.Load, 0, 0), lambda: model.show(0),
+                     lambda: model.flits(0, 0), lambda: model.journal(0), lambda: model.equals(model)):
+            with self.assertRaises(chihome.Closed):
+                call()
+
+    def test_sizes(self):
+        for sizes in ({"agents": 0}, {"agents": 9}, {"agents": 257}, {"lines": 65}, {"lines": 2, "slices": 3},
+                      {"entries": (0, 1)}, {"entries": (1 << 16, 1)}, {"entries": (64, 1)}, {"entries": (1, 1, 1, 0)},
+                      {"journal": 0}, {"journal": 65537}, {"journal": 1 << 32 | 1}, {"index": 1}, {"index": 256}):
+            with self.subTest(**sizes), self.assertRaises(chihome.OutOfRange):
+                chihome.Slice(**sizes)
+        for entries in ((1,), (1, 1, 1), ()):
+            with self.assertRaises(ValueError):
+                chihome.Slice(entries=entries)
+
+    def test_end_without_close(self):
+        for _ in range(3):
+            chihome.Slice()
+            chihome.Node()
+        gc.collect()
+        with self.assertRaises(RuntimeError), chihome.Slice() as model:
+            raise RuntimeError
+        self.assertTrue(model.closed)
+
+    def test_no_other_copies(self):
+        with chihome.Slice() as model, chihome.Node() as node:
+            for call in (lambda: pickle.dumps(model), lambda: copy.copy(node), lambda: copy.deepcopy(node)):
+                with self.assertRaises(TypeError):
+                    call()
+
+    def test_threads(self):
+        with chihome.Slice(agents=8, lines=64) as model:
+            each = [threading.Thread(target=lambda: [model.refusal(Step.Load, 0, 0) for _ in range(2000)])
+                    for _ in range(4)]
+            for it in each:
+                it.start()
+            for it in each:
+                it.join()
+            self.assertEqual(list(model.records()), [])
+
+
+class NewCalls(unittest.TestCase):
+    @has("chi_slice_step")
+    def test_step(self):
+        with chihome.Slice(agents=3, lines=1) as model:
+            request = chihome.Sent(0, Channel.Req, chihome.Flit(Message.Request, Kind.ReadUnique, 0, True))
+            self.assertEqual(model.step(Step.Issue, 0, 0, kind=Kind.ReadUnique), (chihome.Effect(), (request,), None))
+            self.assertEqual(model.step(Step.Admit, 0, 0), (chihome.Effect(), (), request))
+            with self.assertRaises(chihome.NoFlit):
+                model.step(Step.RecvData, 0, 0)
+            data = chihome.Sent(0, Channel.DatDown, chihome.Flit(Message.CompData_UC, words=(0,) * 8))
+            self.assertEqual(model.step(Step.Start, 0, 0).sent, (data,))
+            ack = chihome.Sent(0, Channel.RspUp, chihome.Flit(Message.CompAck))
+            self.assertEqual(model.step(Step.RecvData, 0, 0), (chihome.Effect(), (ack,), data))
+            self.assertEqual(model.step(Step.RecvAck, 0, 0), (chihome.Effect(completed=0), (), ack))
+
+    @has("chi_slice_enabled")
+    def test_enabled(self):
+        with chihome.Slice(agents=2, lines=1) as model:
+            for action in model.enabled(0, 0):
+                self.assertEqual(model.refusal(*action), Answer.OK)
+            self.assertIn(chihome.Action(Step.Issue, 0, 0, Kind.ReadUnique), model.enabled(0, 0))
+            model.act(Step.Issue, 0, 0, kind=Kind.ReadUnique)
+            self.assertEqual([it.step for it in model.enabled(0, 0)], [Step.Admit, Step.Retry])
+            with self.assertRaises(chihome.OutOfRange):
+                model.enabled(2, 0)
+
+    @has("chi_slice_copy")
+    def test_copy(self):
+        with chihome.Slice(agents=2, lines=1) as model:
+            read(model, 0)
+            with model.copy() as other, copy.copy(model) as third, copy.deepcopy(model) as fourth:
+                self.assertTrue(model.equals(other) and other.equals(third) and model.equals(fourth))
+                other.act(Step.RecvData, 0, 0)
+                self.assertFalse(model.equals(other))
+                self.assertEqual(model.refusal(Step.RecvData, 0, 0), Answer.OK)
+                other.close()
+                for call in (other.copy, lambda: model.equals(other)):
+                    with self.assertRaises(chihome.Closed):
+                        call()
+            self.assertTrue(model.equals(model))
+
+    @has("chi_node_step_flits")
+    def test_node_flits(self):
+        with chihome.Node(agents=2, lines=1) as node:
+            issued = node.step_flits(Step.Issue, 1, 0, kind=Kind.ReadShared)
+            request = chihome.Sent(1, Channel.Req, chihome.Flit(Message.Request, Kind.ReadShared, 0, True))
+            self.assertEqual(issued.sent, (request,))
+            self.assertEqual(node.arrive_flits(1, 0), (chihome.Arrival(entry=0), (), request))
+            node.step(Step.Issue, 0, 0)
+            arrived = node.arrive_flits(0, 0)
+            self.assertEqual((arrived.arrival.credit, str(arrived.sent[0].flit)), (0, "RetryAck/0"))
+
+    @has("chi_version")
+    def test_version(self):
+        self.assertEqual(chihome.version(), (TOP / "VERSION").read_text().strip())
+
+    @has("chi_step_name")
+    def test_names(self):
+        calls = chihome._library()
+        for name, kind in (("step", Step), ("kind", Kind), ("message", Message), ("state", State), ("refusal", Answer)):
+            told = getattr(calls, f"chi_{name}_name")
+            for it in kind:
+                if it != Message.NoMessage and it != Message.Request:
+                    self.assertEqual(told(it).decode(), it.name)
+
+
+class Nodes(unittest.TestCase):
+    def test_retry_and_grant(self):
+        with chihome.Node(agents=2, lines=1, entries=(1, 1)) as node:
+            node.step(Step.Issue, 0, 0, kind=Kind.ReadShared)
+            self.assertEqual(node.arrive(0, 0), chihome.Arrival(entry=0))
+            node.step(Step.Issue, 1, 0, kind=Kind.ReadShared)
+            self.assertEqual(node.arrive(1, 0), chihome.Arrival(credit=0))
+            self.assertEqual(node.totals(), chihome.Totals((0, 1), (1, 0), (0, 0), (1, 0)))
+            self.assertEqual(str(node.flits(1, 0)[Channel.RspDown]), "RetryAck/0")
+            node.step(Step.Start, 0, 0)
+            node.step(Step.RecvData, 0, 0)
+            self.assertEqual(node.step(Step.RecvAck, 0, 0),
+                             (chihome.Effect(completed=0), chihome.Release(ReleaseForm.Granted, 1)))
+            node.step(Step.RecvRetry, 1, 0)
+            with self.assertRaises(chihome.NoCredit):
+                node.step(Step.Resend, 1, 0)
+            self.assertEqual(node.see(1), (1, 0))
+            node.step(Step.Resend, 1, 0)
+            self.assertEqual(node.arrive(1, 0), chihome.Arrival(entry=0))
+            self.assertEqual(node.tend(0, 0), chihome.Release(ReleaseForm.NotReleased))
+            with self.assertRaises(chihome.NoCredit):
+                node.give_back(1, 0)
+            self.assertEqual(node.step(Step.Load, 0, 0), (chihome.Effect(value=0), chihome.Release(ReleaseForm.NotReleased)))
+            self.assertTrue(node.agrees())
+            self.assertEqual(node.audit(), chihome.Audit(1, 0, True))
+            self.assertEqual(node.show(0).named, {0})
+
+    def test_refusals(self):
+        with chihome.Node(agents=1, lines=1, entries=(1, 1, 1, 1)) as node:
+            self.assertEqual(node.see(0), (0, 0, 0, 0))
+            with self.assertRaises(chihome.NoFlit):
+                node.arrive(0, 0)
+            for call in (lambda: node.arrive(1, 0), lambda: node.arrive(0, 256), lambda: node.step(Step.Admit, 0, 0),
+                         lambda: node.see(1), lambda: node.give_back(0, 4), lambda: node.tend(256, 0),
+                         lambda: node.show(1), lambda: node.flits(0, 1), lambda: chihome.Node(agents=0)):
+                with self.assertRaises(chihome.OutOfRange):
+                    call()
+        for call in (node.totals, node.agrees, node.audit, lambda: node.see(0), lambda: node.arrive(0, 0)):
+            with self.assertRaises(chihome.Closed):
+                call()
+
+
+class Loading(unittest.TestCase):
+    def test_no_library(self):
+        with self.assertRaises(OSError):
+            chihome.load_library("/there/is/no/libchihome.so")
+        chihome.load_library()
+
+    def test_refusals_are_caught_as_one(self):
+        with chihome.Slice() as model, self.assertRaises(chihome.Refused) as caught:
+            model.act(Step.Load, 0, 0)
+        self.assertTrue(str(caught.exception).startswith("refused 2 WrongState"))
+        self.assertTrue(issubclass(chihome.NoMemory, MemoryError))
+
+
+if __name__ == "__main__":
+    unittest.main(argv=[sys.argv[0], "-v"])
