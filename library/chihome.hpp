@@ -1,0 +1,710 @@
+/* chihome for C++17: the calls of chihome.h behind handles that move and close themselves, with enum classes, and
+ * std::optional where there may be nothing. Nothing here throws, and all of it is inline over libchihome; it is tested,
+ * not proved. docs/PROTOCOL.md says what each call does, and docs/LIBRARY.md what each bench must uphold.
+ *
+ *     chihome::Config config;
+ *     auto model = chihome::Slice::open(config);
+ *     if (!model) return model.answer();
+ *     auto effect = model->act({0, 0, chihome::Step::Issue, chihome::Kind::ReadShared, 0, 0, 0});
+ *     if (!effect) return effect.answer();
+ */
+#ifndef CHIHOME_HPP
+#define CHIHOME_HPP
+
+#include "chihome.h"
+
+#include <array>
+#include <cassert>
+#include <cstddef>
+#include <cstdint>
+#include <optional>
+#include <utility>
+
+namespace chihome {
+
+/* What a call answers: done, or the number of a refusal (docs/PROTOCOL.md, "Refusals"). */
+enum class Answer : std::uint8_t {
+    OK = CHI_OK,
+    JournalFull = CHI_JournalFull,
+    WrongState = CHI_WrongState,
+    Pending = CHI_Pending,
+    NothingPending = CHI_NothingPending,
+    LineBusy = CHI_LineBusy,
+    NotWaiting = CHI_NotWaiting,
+    NoFlit = CHI_NoFlit,
+    NoMemory = CHI_NoMemory,
+    MustAccept = CHI_MustAccept,
+    OutOfRange = CHI_OutOfRange,
+    NotOpen = CHI_NotOpen,
+    NoCredit = CHI_NoCredit,
+    AlreadyOpen = CHI_AlreadyOpen,
+    Closed = CHI_Closed
+};
+
+/* The actions (docs/PROTOCOL.md, "The actions"). */
+enum class Step : std::uint8_t {
+    Load = CHI_Load,
+    Store = CHI_Store,
+    Drop = CHI_Drop,
+    Issue = CHI_Issue,
+    Admit = CHI_Admit,
+    Retry = CHI_Retry,
+    RecvRetry = CHI_RecvRetry,
+    Resend = CHI_Resend,
+    Cancel = CHI_Cancel,
+    Start = CHI_Start,
+    RecvSnp = CHI_RecvSnp,
+    RecvSnpResp = CHI_RecvSnpResp,
+    RecvData = CHI_RecvData,
+    RecvComp = CHI_RecvComp,
+    RecvAck = CHI_RecvAck,
+    RecvDbid = CHI_RecvDbid,
+    RecvWrData = CHI_RecvWrData
+};
+
+/* The kinds of request (docs/PROTOCOL.md, "Kinds of request"). */
+enum class Kind : std::uint8_t {
+    ReadNotSharedDirty = CHI_ReadNotSharedDirty,
+    ReadShared = CHI_ReadShared,
+    ReadUnique = CHI_ReadUnique,
+    CleanUnique = CHI_CleanUnique,
+    Evict = CHI_Evict,
+    WriteBackFull = CHI_WriteBackFull,
+    WriteCleanFull = CHI_WriteCleanFull,
+    WriteEvictFull = CHI_WriteEvictFull
+};
+
+/* The cache states. */
+enum class State : std::uint8_t { I = CHI_I, SC = CHI_SC, UC = CHI_UC, UD = CHI_UD, SD = CHI_SD };
+
+/* How many credit types a node has (docs/PROTOCOL.md, "Limits"). */
+enum class Profile : std::uint8_t { Two = CHI_Two, Four = CHI_Four };
+
+/* The channels (docs/PROTOCOL.md, "Messages"). */
+enum class Channel : std::uint8_t {
+    Req = CHI_Req,
+    Snp = CHI_Snp,
+    RspDown = CHI_RspDown,
+    DatDown = CHI_DatDown,
+    RspUp = CHI_RspUp,
+    DatUp = CHI_DatUp
+};
+
+/* The messages (docs/PROTOCOL.md, "Messages"). */
+enum class Message : std::uint8_t {
+    NoMessage = CHI_NoMessage,
+    Request = CHI_Request,
+    SnpShared = CHI_SnpShared,
+    SnpNotSharedDirty = CHI_SnpNotSharedDirty,
+    SnpUnique = CHI_SnpUnique,
+    SnpCleanInvalid = CHI_SnpCleanInvalid,
+    RetryAck = CHI_RetryAck,
+    Comp_UC = CHI_Comp_UC,
+    Comp_I = CHI_Comp_I,
+    CompDBIDResp = CHI_CompDBIDResp,
+    CompData_SC = CHI_CompData_SC,
+    CompData_UC = CHI_CompData_UC,
+    SnpResp_I = CHI_SnpResp_I,
+    SnpResp_SC = CHI_SnpResp_SC,
+    CompAck = CHI_CompAck,
+    SnpRespData_I_PD = CHI_SnpRespData_I_PD,
+    SnpRespData_SC_PD = CHI_SnpRespData_SC_PD,
+    SnpRespData_SD = CHI_SnpRespData_SD,
+    CopyBackWrData_I = CHI_CopyBackWrData_I,
+    CopyBackWrData_SC = CHI_CopyBackWrData_SC,
+    CopyBackWrData_UC = CHI_CopyBackWrData_UC,
+    CopyBackWrData_UD_PD = CHI_CopyBackWrData_UD_PD,
+    CopyBackWrData_SD_PD = CHI_CopyBackWrData_SD_PD
+};
+
+/* What an action gives, how far a request has come, what a line serves, what an arrival came to, and where a released
+ * entry went. */
+enum class EffectForm : std::uint8_t { Nothing = CHI_Nothing, Value = CHI_Value, Completed = CHI_Completed };
+enum class Phase : std::uint8_t {
+    NoRequest = CHI_NoRequest,
+    Sent = CHI_Sent,
+    Retried = CHI_Retried,
+    Waiting = CHI_Waiting
+};
+enum class ServingForm : std::uint8_t {
+    Idle = CHI_Idle,
+    Snooping = CHI_Snooping,
+    AwaitingCompAck = CHI_AwaitingCompAck,
+    AwaitingWriteData = CHI_AwaitingWriteData
+};
+enum class ArrivalForm : std::uint8_t {
+    NotArrived = CHI_NotArrived,
+    Admitted = CHI_Admitted,
+    RetriedWith = CHI_RetriedWith
+};
+enum class ReleaseForm : std::uint8_t { NotReleased = CHI_NotReleased, Freed = CHI_Freed, Granted = CHI_Granted };
+
+using Words = std::array<std::uint64_t, 8>;
+using Counts = std::array<std::uint32_t, 4>;
+
+/* The sizes of a node (docs/PROTOCOL.md, "Limits"). */
+struct Config {
+    std::uint8_t agents = 1;
+    std::uint8_t lines = 1;
+    std::uint8_t slices = 1;
+    Profile profile = Profile::Two;
+    std::array<std::uint16_t, 4> entries = {1, 1, 0, 0};
+    std::uint32_t journal = 65536;
+};
+
+/* An action. Fields that its step does not read may hold anything. */
+struct Action {
+    std::uint8_t agent = 0;
+    std::uint8_t line = 0;
+    Step step = Step::Load;
+    Kind kind = Kind::ReadNotSharedDirty;
+    std::uint8_t slot = 0;
+    std::uint8_t word = 0;
+    std::uint64_t value = 0;
+};
+
+/* What an action gives: the value that a load read, or the slot of a request that the home is done with. */
+struct Effect {
+    std::optional<std::uint64_t> value;
+    std::optional<std::uint8_t> completed;
+};
+
+/* A message in flight: of a request its kind, slot and AllowRetry, of a RetryAck its credit type, of data its words. */
+struct Flit {
+    Message message = Message::NoMessage;
+    std::optional<Kind> kind;
+    std::optional<std::uint8_t> slot;
+    std::optional<bool> allow_retry;
+    std::optional<std::uint8_t> credit;
+    std::optional<Words> words;
+};
+
+/* What is in flight between an agent and the home for a line. */
+struct Flits {
+    std::array<std::optional<Flit>, 6> channels;
+    const std::optional<Flit> &operator[](Channel channel) const { return channels[static_cast<std::size_t>(channel)]; }
+};
+
+/* A flit that an action sent or took, between the agent and the home. */
+struct Sent {
+    std::uint8_t agent = 0;
+    Channel channel = Channel::Req;
+    Flit flit;
+};
+
+/* Up to `Most` things, without memory of their own. */
+template <class T, std::size_t Most> class Some {
+  public:
+    const T *begin() const { return each_.data(); }
+    const T *end() const { return each_.data() + count_; }
+    std::size_t size() const { return count_; }
+    bool empty() const { return count_ == 0; }
+    const T &operator[](std::size_t place) const {
+        assert(place < count_);
+        return each_[place];
+    }
+    void push_back(const T &it) {
+        assert(count_ < Most);
+        each_[count_++] = it;
+    }
+
+  private:
+    std::array<T, Most> each_ = {};
+    std::size_t count_ = 0;
+};
+
+/* What an action gives, the flits that it sent, and the one that it took. */
+struct Stepped {
+    Effect effect;
+    Some<Sent, CHI_MostSent> sent;
+    std::optional<Sent> taken;
+};
+
+/* An agent's copy of a line. */
+struct Copy {
+    State state = State::I;
+    Words words = {};
+};
+
+/* A request that is pending, or that waits at the home. */
+struct Request {
+    Phase phase = Phase::NoRequest;
+    Kind kind = Kind::ReadNotSharedDirty;
+    std::uint8_t slot = 0;
+};
+
+/* What the home does at a line: of no kind while a CompAck is awaited. */
+struct Serving {
+    ServingForm form = ServingForm::Idle;
+    std::uint8_t agent = 0;
+    std::optional<Kind> kind;
+    std::uint8_t slot = 0;
+};
+
+/* All parts of a line but its flits. Arrays of eight are by agent, or by word. */
+struct Line {
+    std::array<Copy, 8> copies;
+    Words memory = {};
+    Words last = {};
+    std::array<std::optional<Request>, 8> pending;
+    std::array<std::optional<Request>, 8> waiting;
+    std::array<bool, 8> named = {};
+    std::array<bool, 8> awaited = {};
+    std::optional<Serving> serving;
+    bool unique = false;
+    std::optional<std::uint8_t> owner;
+};
+
+/* A load or a store that was answered. */
+struct Record {
+    bool store = false;
+    std::uint8_t agent = 0;
+    std::uint8_t line = 0;
+    std::uint8_t word = 0;
+    std::uint64_t value = 0;
+};
+
+/* What an arrival came to: admitted with an entry of the tracker, or retried with a credit type. */
+struct Arrival {
+    std::optional<std::uint8_t> entry;
+    std::optional<std::uint8_t> credit;
+};
+
+/* What an arrival came to, the flits that it sent, and the one that it took. */
+struct Arrived {
+    Arrival arrival;
+    Some<Sent, CHI_MostSent> sent;
+    std::optional<Sent> taken;
+};
+
+/* Where a released entry went, and the agent that it was promised to, if to any. */
+struct Release {
+    ReleaseForm form = ReleaseForm::NotReleased;
+    std::optional<std::uint8_t> agent;
+};
+
+/* What an action of a node gives, and where the entry of a completed request went. */
+struct Served {
+    Effect effect;
+    Release release;
+};
+
+/* As Served, with the flits that the action sent, and the one that it took. */
+struct ServedFlits {
+    Effect effect;
+    Release release;
+    Some<Sent, CHI_MostSent> sent;
+    std::optional<Sent> taken;
+};
+
+/* Entries that are free, in hand and promised, and credits that are owed, by type. */
+struct Totals {
+    Counts free = {};
+    Counts hand = {};
+    Counts promised = {};
+    Counts owed = {};
+};
+
+/* How many loads and stores there were, and whether all is coherent, as always. */
+struct Audit {
+    std::uint64_t loads = 0;
+    std::uint64_t stores = 0;
+    bool coherent = false;
+};
+
+/* What a call that tells something came to: what it tells where it was done, and else the refusal. */
+template <class T> class [[nodiscard]] Outcome {
+  public:
+    Outcome(T told) : told_(std::move(told)) {}
+    Outcome(Answer refusal) : answer_(refusal) {}
+
+    Answer answer() const { return answer_; }
+    explicit operator bool() const { return told_.has_value(); }
+    const std::optional<T> &told() const { return told_; }
+    T &operator*() & {
+        assert(told_);
+        return *told_;
+    }
+    const T &operator*() const & {
+        assert(told_);
+        return *told_;
+    }
+    /* (of a temporary by value, which a loop over it may keep) */
+    T operator*() && {
+        assert(told_);
+        return std::move(*told_);
+    }
+    T *operator->() {
+        assert(told_);
+        return &*told_;
+    }
+    const T *operator->() const {
+        assert(told_);
+        return &*told_;
+    }
+
+  private:
+    Answer answer_ = Answer::OK;
+    std::optional<T> told_;
+};
+
+/* Between the layouts of chihome.h and what stands above. */
+namespace layout {
+
+template <class Enum> std::uint8_t number(Enum it) { return static_cast<std::uint8_t>(it); }
+
+inline Words words(const std::uint64_t (&from)[8]) {
+    Words to;
+    for (std::size_t word = 0; word < 8; word++) to[word] = from[word];
+    return to;
+}
+
+inline Counts counts(const std::uint32_t (&from)[4]) { return {from[0], from[1], from[2], from[3]}; }
+
+inline ChiConfig config(const Config &from) {
+    ChiConfig to = {from.agents, from.lines, from.slices, number(from.profile), {0, 0, 0, 0}, from.journal};
+    for (std::size_t type = 0; type < 4; type++) to.entries[type] = from.entries[type];
+    return to;
+}
+
+inline ChiAction action(const Action &from) {
+    return {from.agent, from.line, number(from.step), number(from.kind), from.slot, from.word, from.value};
+}
+
+inline Action action(const ChiAction &from) {
+    return {from.agent, from.line, Step(from.step), Kind(from.kind), from.slot, from.word, from.value};
+}
+
+inline Effect effect(const ChiEffect &from) {
+    Effect to;
+    if (from.effect == CHI_Value) to.value = from.value;
+    if (from.effect == CHI_Completed) to.completed = from.slot;
+    return to;
+}
+
+inline bool has_data(std::uint8_t message) {
+    return message == CHI_CompData_SC || message == CHI_CompData_UC || message >= CHI_SnpRespData_I_PD;
+}
+
+inline std::optional<Flit> flit(const ChiFlit &from) {
+    if (from.message == CHI_NoMessage) return std::nullopt;
+    Flit to;
+    to.message = Message(from.message);
+    if (from.message == CHI_Request) {
+        to.kind = Kind(from.kind);
+        to.slot = from.slot;
+        to.allow_retry = from.allow_retry != 0;
+    }
+    if (from.message == CHI_RetryAck) to.credit = from.credit;
+    if (has_data(from.message)) to.words = words(from.words);
+    return to;
+}
+
+inline Flits flits(const ChiFlits &from) {
+    Flits to;
+    for (std::size_t channel = 0; channel < 6; channel++) to.channels[channel] = flit(from.channels[channel]);
+    return to;
+}
+
+inline std::optional<Sent> sent(const ChiSent &from) {
+    std::optional<Flit> it = flit(from.flit);
+    if (!it) return std::nullopt;
+    return Sent{from.agent, Channel(from.channel), *it};
+}
+
+inline Some<Sent, CHI_MostSent> sent(const ChiSent (&from)[CHI_MostSent], std::uint8_t count) {
+    Some<Sent, CHI_MostSent> to;
+    for (std::size_t place = 0; place < count; place++) to.push_back(*sent(from[place]));
+    return to;
+}
+
+inline std::optional<Request> request(const ChiRequest &from) {
+    if (from.phase == CHI_NoRequest) return std::nullopt;
+    return Request{Phase(from.phase), Kind(from.kind), from.slot};
+}
+
+inline std::optional<Serving> serving(const ChiServing &from) {
+    if (from.form == CHI_Idle) return std::nullopt;
+    Serving to = {ServingForm(from.form), from.agent, std::nullopt, from.slot};
+    if (from.form != CHI_AwaitingCompAck) to.kind = Kind(from.kind);
+    return to;
+}
+
+inline Line line(const ChiLine &from) {
+    Line to;
+    to.memory = words(from.memory);
+    to.last = words(from.last);
+    for (std::size_t agent = 0; agent < 8; agent++) {
+        to.copies[agent] = {State(from.copies[agent].state), words(from.copies[agent].words)};
+        to.pending[agent] = request(from.pending[agent]);
+        to.waiting[agent] = request(from.waiting[agent]);
+        to.named[agent] = from.named[agent] != 0;
+        to.awaited[agent] = from.awaited[agent] != 0;
+    }
+    to.serving = serving(from.serving);
+    to.unique = from.unique != 0;
+    if (from.owner != CHI_Nobody) to.owner = from.owner;
+    return to;
+}
+
+inline Arrival arrival(const ChiArrival &from) {
+    Arrival to;
+    if (from.arrival == CHI_Admitted) to.entry = from.entry;
+    if (from.arrival == CHI_RetriedWith) to.credit = from.credit;
+    return to;
+}
+
+inline Release release(const ChiRelease &from) {
+    Release to;
+    to.form = ReleaseForm(from.release);
+    if (from.release == CHI_Granted) to.agent = from.agent;
+    return to;
+}
+
+/* What a call that answered `answer` came to. */
+template <class T> Outcome<T> outcome(std::uint8_t answer, T told) {
+    if (answer != CHI_OK) return Answer(answer);
+    return told;
+}
+
+}  // namespace layout
+
+/* A slice by itself. Closed until it is opened or moved to, and after it was moved from; each call on a closed one is
+ * answered Answer::Closed. */
+class Slice {
+  public:
+    Slice() = default;
+    Slice(Slice &&other) noexcept : handle_(std::exchange(other.handle_, ChiSlice{nullptr})) {}
+    Slice &operator=(Slice &&other) noexcept {
+        if (this != &other) {
+            close();
+            handle_ = std::exchange(other.handle_, ChiSlice{nullptr});
+        }
+        return *this;
+    }
+    ~Slice() { close(); }
+
+    /* Slice `index` of a node of these sizes, in its opening state. OutOfRange where a size is outside its limits or the
+     * index is not below the slices; NoMemory. */
+    static Outcome<Slice> open(const Config &config, std::uint8_t index = 0) {
+        Slice opened;
+        const ChiConfig sizes = layout::config(config);
+        const std::uint8_t answer = chi_slice_open(&opened.handle_, &sizes, index);
+        return layout::outcome(answer, std::move(opened));
+    }
+
+    /* Does an action, and tells what it gives. Refused as docs/PROTOCOL.md, "The actions", says. */
+    Outcome<Effect> act(const Action &action) {
+        const ChiAction told = layout::action(action);
+        ChiEffect effect;
+        const std::uint8_t answer = chi_slice_act(&handle_, &told, &effect);
+        return layout::outcome(answer, layout::effect(effect));
+    }
+
+    /* Does an action as act does it, and tells also the flits that it sent, and the one that it took. */
+    Outcome<Stepped> step(const Action &action) {
+        const ChiAction told = layout::action(action);
+        ChiEffect effect;
+        ChiSent sent[CHI_MostSent], taken;
+        std::uint8_t count = 0;
+        const std::uint8_t answer = chi_slice_step(&handle_, &told, &effect, sent, &count, &taken);
+        return layout::outcome(answer, Stepped{layout::effect(effect), layout::sent(sent, count), layout::sent(taken)});
+    }
+
+    /* What act would answer. Nothing is done. */
+    Answer refusal(const Action &action) {
+        const ChiAction told = layout::action(action);
+        return Answer(chi_slice_refusal(&handle_, &told));
+    }
+
+    /* The agent's actions at the line that act would do: each step once, Load and Store of word 0 with value 0, Issue for
+     * each kind with the agent's lowest slot that is idle in this slice. Nothing is done. OutOfRange. */
+    Outcome<Some<Action, CHI_MostEnabled>> enabled(std::uint8_t agent, std::uint8_t line) {
+        ChiAction actions[CHI_MostEnabled];
+        std::uint8_t count = 0;
+        const std::uint8_t answer = chi_slice_enabled(&handle_, agent, line, actions, &count);
+        Some<Action, CHI_MostEnabled> told;
+        for (std::size_t place = 0; place < count; place++) told.push_back(layout::action(actions[place]));
+        return layout::outcome(answer, told);
+    }
+
+    /* The line. OutOfRange where it is outside the node or in another slice. */
+    Outcome<Line> show(std::uint8_t line) {
+        ChiLine shown;
+        const std::uint8_t answer = chi_slice_show(&handle_, line, &shown);
+        return layout::outcome(answer, layout::line(shown));
+    }
+
+    /* What is in flight between the agent and the home for the line. OutOfRange as of show, and of the agent. */
+    Outcome<Flits> flits(std::uint8_t agent, std::uint8_t line) {
+        ChiFlits told;
+        const std::uint8_t answer = chi_slice_flits(&handle_, agent, line, &told);
+        return layout::outcome(answer, layout::flits(told));
+    }
+
+    /* The load or store of a place in the journal, from 0. OutOfRange behind its end. */
+    Outcome<Record> journal(std::uint32_t place) {
+        ChiRecord entry;
+        const std::uint8_t answer = chi_slice_journal(&handle_, place, &entry);
+        return layout::outcome(answer, Record{entry.store != 0, entry.agent, entry.line, entry.word, entry.value});
+    }
+
+    /* A slice of its own that is as this one. NoMemory; Closed. */
+    Outcome<Slice> copy() {
+        Slice made;
+        const std::uint8_t answer = chi_slice_copy(&made.handle_, &handle_);
+        return layout::outcome(answer, std::move(made));
+    }
+
+    /* Whether both are of the same sizes and index, with the same lines and the same journal. Closed. */
+    Outcome<bool> equals(Slice &other) {
+        std::uint8_t equal = 0;
+        if (this == &other) return is_open() ? Outcome<bool>(true) : Outcome<bool>(Answer::Closed);
+        const std::uint8_t answer = chi_slice_equal(&handle_, &other.handle_, &equal);
+        return layout::outcome(answer, equal != 0);
+    }
+
+    bool is_open() const { return handle_.at != nullptr; }
+
+    /* Frees what is open. Closed where nothing is. */
+    Answer close() noexcept { return is_open() ? Answer(chi_slice_close(&handle_)) : Answer::Closed; }
+
+  private:
+    ChiSlice handle_ = {nullptr};
+};
+
+/* A whole node on one thread: its slices, its tracker and its requesters, by the calls of docs/PROTOCOL.md, "A requester
+ * and its calls". Closed until it is opened or moved to, and after it was moved from; each call on a closed one is
+ * answered Answer::Closed. */
+class Node {
+  public:
+    Node() = default;
+    Node(Node &&other) noexcept : handle_(std::exchange(other.handle_, ChiNode{nullptr})) {}
+    Node &operator=(Node &&other) noexcept {
+        if (this != &other) {
+            close();
+            handle_ = std::exchange(other.handle_, ChiNode{nullptr});
+        }
+        return *this;
+    }
+    ~Node() { close(); }
+
+    /* A node of these sizes, in its opening state. OutOfRange where a size is outside its limits; NoMemory. */
+    static Outcome<Node> open(const Config &config) {
+        Node opened;
+        const ChiConfig sizes = layout::config(config);
+        const std::uint8_t answer = chi_node_open(&opened.handle_, &sizes);
+        return layout::outcome(answer, std::move(opened));
+    }
+
+    /* The agent's request in flight at the line arrives: it is admitted with an entry, or retried where each of its type
+     * is claimed. OutOfRange; NoFlit where none is in flight. */
+    Outcome<Arrival> arrive(std::uint8_t agent, std::uint8_t line) {
+        ChiArrival arrival;
+        const std::uint8_t answer = chi_node_arrive(&handle_, agent, line, &arrival);
+        return layout::outcome(answer, layout::arrival(arrival));
+    }
+
+    /* As arrive, and tells the flits that were sent, and the one that was taken. */
+    Outcome<Arrived> arrive_flits(std::uint8_t agent, std::uint8_t line) {
+        ChiArrival arrival;
+        ChiSent sent[CHI_MostSent], taken;
+        std::uint8_t count = 0;
+        const std::uint8_t answer = chi_node_arrive_flits(&handle_, agent, line, &arrival, sent, &count, &taken);
+        return layout::outcome(answer, Arrived{layout::arrival(arrival), layout::sent(sent, count), layout::sent(taken)});
+    }
+
+    /* Does an action, and tells what it gives and where the entry of a completed request went. Refused as
+     * docs/PROTOCOL.md, "A requester and its calls", says; OutOfRange also of Admit and Retry, which are arrive's. */
+    Outcome<Served> step(const Action &action) {
+        const ChiAction told = layout::action(action);
+        ChiEffect effect;
+        ChiRelease release;
+        const std::uint8_t answer = chi_node_step(&handle_, &told, &effect, &release);
+        return layout::outcome(answer, Served{layout::effect(effect), layout::release(release)});
+    }
+
+    /* As step, and tells the flits that were sent, and the one that was taken. */
+    Outcome<ServedFlits> step_flits(const Action &action) {
+        const ChiAction told = layout::action(action);
+        ChiEffect effect;
+        ChiRelease release;
+        ChiSent sent[CHI_MostSent], taken;
+        std::uint8_t count = 0;
+        const std::uint8_t answer = chi_node_step_flits(&handle_, &told, &effect, &release, sent, &count, &taken);
+        return layout::outcome(answer, ServedFlits{layout::effect(effect), layout::release(release),
+                                                   layout::sent(sent, count), layout::sent(taken)});
+    }
+
+    /* The agent looks at what is promised to it: the seen credits by type. OutOfRange. */
+    Outcome<Counts> see(std::uint8_t agent) {
+        ChiCredits credits;
+        const std::uint8_t answer = chi_node_see(&handle_, agent, &credits);
+        return layout::outcome(answer, layout::counts(credits.seen));
+    }
+
+    /* The agent gives a seen credit of the type back, for a request that it cancelled. OutOfRange; NoCredit. */
+    Outcome<Release> give_back(std::uint8_t agent, std::uint8_t credit) {
+        ChiRelease release;
+        const std::uint8_t answer = chi_node_give_back(&handle_, agent, credit, &release);
+        return layout::outcome(answer, layout::release(release));
+    }
+
+    /* The agent claims a free entry of the type for whoever is owed one, and releases it: NotReleased where nobody was
+     * seen owed one or none was free. OutOfRange. */
+    Outcome<Release> tend(std::uint8_t agent, std::uint8_t credit) {
+        ChiRelease release;
+        const std::uint8_t answer = chi_node_tend(&handle_, agent, credit, &release);
+        return layout::outcome(answer, layout::release(release));
+    }
+
+    /* The line, and what is in flight between the agent and the home for one. OutOfRange. */
+    Outcome<Line> show(std::uint8_t line) {
+        ChiLine shown;
+        const std::uint8_t answer = chi_node_show(&handle_, line, &shown);
+        return layout::outcome(answer, layout::line(shown));
+    }
+    Outcome<Flits> flits(std::uint8_t agent, std::uint8_t line) {
+        ChiFlits told;
+        const std::uint8_t answer = chi_node_flits(&handle_, agent, line, &told);
+        return layout::outcome(answer, layout::flits(told));
+    }
+
+    /* How many entries of each type are free, in hand and promised, and how many credits are owed. */
+    Outcome<Totals> totals() {
+        ChiTotals told;
+        const std::uint8_t answer = chi_node_totals(&handle_, &told);
+        return layout::outcome(answer, Totals{layout::counts(told.free), layout::counts(told.hand),
+                                              layout::counts(told.promised), layout::counts(told.owed)});
+    }
+
+    /* Whether each requester agrees with each slice: Answer::OK, always. */
+    Answer agrees() { return Answer(chi_node_agrees(&handle_)); }
+
+    /* How many loads and stores there were, and whether each line is coherent and each journal legal, as always. */
+    Outcome<Audit> audit() {
+        ChiAudit told;
+        const std::uint8_t answer = chi_node_audit(&handle_, &told);
+        return layout::outcome(answer, Audit{told.loads, told.stores, told.coherent != 0});
+    }
+
+    bool is_open() const { return handle_.at != nullptr; }
+
+    /* Frees what is open. Closed where nothing is. */
+    Answer close() noexcept { return is_open() ? Answer(chi_node_close(&handle_)) : Answer::Closed; }
+
+  private:
+    ChiNode handle_ = {nullptr};
+};
+
+/* The version of the library, and the names of numbers, as chihome prints them. */
+inline const char *version() { return chi_version(); }
+inline const char *name(Step it) { return chi_step_name(layout::number(it)); }
+inline const char *name(Kind it) { return chi_kind_name(layout::number(it)); }
+inline const char *name(Message it) { return chi_message_name(layout::number(it)); }
+inline const char *name(State it) { return chi_state_name(layout::number(it)); }
+inline const char *name(Answer it) { return chi_refusal_name(layout::number(it)); }
+
+}  // namespace chihome
+
+#endif
