@@ -18,7 +18,11 @@ _chihome() {
     esac
     case $word in
         -*) mapfile -t COMPREPLY < <(compgen -W "$(grep -oE -e '--[a-z-]+' <<< "$line")" -- "$word") ;;
-        *) [[ $line == *FILE* ]] && compopt -o filenames 2> /dev/null && mapfile -t COMPREPLY < <(compgen -f -- "$word") ;;
+        *)
+            [[ $line == *FILE* ]] || return
+            compopt -o filenames 2> /dev/null
+            mapfile -t COMPREPLY < <(compgen -f -- "$word")
+            ;;
     esac
 }
 complete -F _chihome chihome
