@@ -18,7 +18,8 @@ and then nothing has changed. A number that no call has a place for is answered 
 
 The module needs Python 3.8 and libchihome.so, which it loads at the first opening: the file that the environment
 variable CHIHOME_LIBRARY names, or the one beside it, in the repository's `out`, or in the `lib` that it was installed
-with, or else the one that the system finds. The interpreter's lock is held during each call, so calls never overlap.
+with, or else the one that the system finds. The interpreter's lock is held during each call, so calls never overlap;
+where Python has no such lock, the caller sees to that.
 """
 
 from __future__ import annotations
