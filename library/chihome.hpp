@@ -270,13 +270,6 @@ struct Arrival {
     std::optional<std::uint8_t> credit;
 };
 
-/* What an arrival came to, the flits that it sent, and the one that it took. */
-struct Arrived {
-    Arrival arrival;
-    Some<Sent, CHI_MostSent> sent;
-    std::optional<Sent> taken;
-};
-
 /* Where a released entry went, and the agent that it was promised to, if to any. */
 struct Release {
     ReleaseForm form = ReleaseForm::NotReleased;
@@ -287,14 +280,6 @@ struct Release {
 struct Served {
     Effect effect;
     Release release;
-};
-
-/* As Served, with the flits that the action sent, and the one that it took. */
-struct ServedFlits {
-    Effect effect;
-    Release release;
-    Some<Sent, CHI_MostSent> sent;
-    std::optional<Sent> taken;
 };
 
 /* Entries that are free, in hand and promised, and credits that are owed, by type. */
@@ -549,21 +534,6 @@ class Slice {
         return layout::outcome(answer, Record{entry.store != 0, entry.agent, entry.line, entry.word, entry.value});
     }
 
-    /* A slice of its own that is as this one. NoMemory; Closed. */
-    Outcome<Slice> copy() {
-        Slice made;
-        const std::uint8_t answer = chi_slice_copy(&made.handle_, &handle_);
-        return layout::outcome(answer, std::move(made));
-    }
-
-    /* Whether both are of the same sizes and index, with the same lines and the same journal. Closed. */
-    Outcome<bool> equals(Slice &other) {
-        std::uint8_t equal = 0;
-        if (this == &other) return is_open() ? Outcome<bool>(true) : Outcome<bool>(Answer::Closed);
-        const std::uint8_t answer = chi_slice_equal(&handle_, &other.handle_, &equal);
-        return layout::outcome(answer, equal != 0);
-    }
-
     bool is_open() const { return handle_.at != nullptr; }
 
     /* Frees what is open. Closed where nothing is. */
@@ -605,15 +575,6 @@ class Node {
         return layout::outcome(answer, layout::arrival(arrival));
     }
 
-    /* As arrive, and tells the flits that were sent, and the one that was taken. */
-    Outcome<Arrived> arrive_flits(std::uint8_t agent, std::uint8_t line) {
-        ChiArrival arrival;
-        ChiSent sent[CHI_MostSent], taken;
-        std::uint8_t count = 0;
-        const std::uint8_t answer = chi_node_arrive_flits(&handle_, agent, line, &arrival, sent, &count, &taken);
-        return layout::outcome(answer, Arrived{layout::arrival(arrival), layout::sent(sent, count), layout::sent(taken)});
-    }
-
     /* Does an action, and tells what it gives and where the entry of a completed request went. Refused as
      * docs/PROTOCOL.md, "A requester and its calls", says; OutOfRange also of Admit and Retry, which are arrive's. */
     Outcome<Served> step(const Action &action) {
@@ -622,18 +583,6 @@ class Node {
         ChiRelease release;
         const std::uint8_t answer = chi_node_step(&handle_, &told, &effect, &release);
         return layout::outcome(answer, Served{layout::effect(effect), layout::release(release)});
-    }
-
-    /* As step, and tells the flits that were sent, and the one that was taken. */
-    Outcome<ServedFlits> step_flits(const Action &action) {
-        const ChiAction told = layout::action(action);
-        ChiEffect effect;
-        ChiRelease release;
-        ChiSent sent[CHI_MostSent], taken;
-        std::uint8_t count = 0;
-        const std::uint8_t answer = chi_node_step_flits(&handle_, &told, &effect, &release, sent, &count, &taken);
-        return layout::outcome(answer, ServedFlits{layout::effect(effect), layout::release(release),
-                                                   layout::sent(sent, count), layout::sent(taken)});
     }
 
     /* The agent looks at what is promised to it: the seen credits by type. OutOfRange. */

@@ -397,14 +397,10 @@ _CALLS = {
     "chi_slice_show": (c_uint8, [_slice, c_uint8, _line]),
     "chi_slice_flits": (c_uint8, [_slice, c_uint8, c_uint8, _flits]),
     "chi_slice_journal": (c_uint8, [_slice, c_uint32, POINTER(_ChiRecord)]),
-    "chi_slice_copy": (c_uint8, [_slice, _slice]),
-    "chi_slice_equal": (c_uint8, [_slice, _slice, _count]),
     "chi_slice_close": (c_uint8, [_slice]),
     "chi_node_open": (c_uint8, [_node, POINTER(_ChiConfig)]),
     "chi_node_arrive": (c_uint8, [_node, c_uint8, c_uint8, _arrival]),
-    "chi_node_arrive_flits": (c_uint8, [_node, c_uint8, c_uint8, _arrival, _sent, _count, _sent]),
     "chi_node_step": (c_uint8, [_node, _action, _effect, _release]),
-    "chi_node_step_flits": (c_uint8, [_node, _action, _effect, _release, _sent, _count, _sent]),
     "chi_node_see": (c_uint8, [_node, c_uint8, POINTER(_ChiCredits)]),
     "chi_node_give_back": (c_uint8, [_node, c_uint8, c_uint8, _release]),
     "chi_node_tend": (c_uint8, [_node, c_uint8, c_uint8, _release]),
@@ -596,14 +592,6 @@ class Arrival(NamedTuple):
     credit: Optional[int] = None
 
 
-class Arrived(NamedTuple):
-    """What an arrival came to, the flits that it sent, and the one that it took."""
-
-    arrival: Arrival
-    sent: Tuple[Sent, ...]
-    taken: Optional[Sent]
-
-
 class Release(NamedTuple):
     """Where a released entry went, and the agent that it was promised to, if to any."""
 
@@ -616,15 +604,6 @@ class Served(NamedTuple):
 
     effect: Effect
     release: Release
-
-
-class ServedFlits(NamedTuple):
-    """As `Served`, with the flits that the action sent, and the one that it took."""
-
-    effect: Effect
-    release: Release
-    sent: Tuple[Sent, ...]
-    taken: Optional[Sent]
 
 
 class Totals(NamedTuple):
@@ -848,30 +827,6 @@ class Slice(_Handle):
             except OutOfRange:
                 return
 
-    def copy(self) -> Slice:
-        """A slice of its own that is as this one. NoMemory; Closed."""
-        made = object.__new__(Slice)
-        _Handle.__init__(made, _ChiSlice(), self.config)
-        made.index = self.index
-        _check(self._calls.chi_slice_copy(byref(made._handle), byref(self._handle)))
-        return made
-
-    def __copy__(self) -> Slice:
-        return self.copy()
-
-    def __deepcopy__(self, _) -> Slice:
-        return self.copy()
-
-    def equals(self, other: Slice) -> bool:
-        """Whether both are of the same sizes and index, with the same lines and the same journal. Closed."""
-        equal = c_uint8()
-        if self.closed or other.closed:
-            raise Closed()
-        if other is self:
-            return True
-        _check(self._calls.chi_slice_equal(byref(self._handle), byref(other._handle), byref(equal)))
-        return bool(equal.value)
-
 
 class Node(_Handle):
     """A whole node on one thread: its slices, its tracker and its requesters, by the calls of "A requester and its calls"
@@ -894,13 +849,6 @@ class Node(_Handle):
         _check(self._calls.chi_node_arrive(byref(self._handle), _byte(agent), _byte(line), byref(arrival)))
         return _arrival_in(arrival)
 
-    def arrive_flits(self, agent: int, line: int) -> Arrived:
-        """As `arrive`, and tells the flits that were sent, and the one that was taken."""
-        arrival, sent, count, taken = _ChiArrival(), (_ChiSent * MostSent)(), c_uint8(), _ChiSent()
-        _check(self._calls.chi_node_arrive_flits(byref(self._handle), _byte(agent), _byte(line), byref(arrival), sent,
-                                                 byref(count), byref(taken)))
-        return Arrived(_arrival_in(arrival), tuple(map(_sent_in, sent[:count.value])), _sent_in(taken))
-
     def step(self, step: Step, agent: int, line: int, kind: Kind = Kind.ReadNotSharedDirty, slot: int = 0, word: int = 0,
              value: int = 0) -> Served:
         """Does an action, and tells what it gives and where the entry of a completed request went. Refused as "A
@@ -909,17 +857,6 @@ class Node(_Handle):
         action = _action_of(step, agent, line, kind, slot, word, value)
         _check(self._calls.chi_node_step(byref(self._handle), byref(action), byref(effect), byref(release)))
         return Served(_effect_in(effect), _release_in(release))
-
-    def step_flits(self, step: Step, agent: int, line: int, kind: Kind = Kind.ReadNotSharedDirty, slot: int = 0,
-                   word: int = 0, value: int = 0) -> ServedFlits:
-        """As `step`, and tells the flits that were sent, and the one that was taken."""
-        effect, release = _ChiEffect(), _ChiRelease()
-        sent, count, taken = (_ChiSent * MostSent)(), c_uint8(), _ChiSent()
-        action = _action_of(step, agent, line, kind, slot, word, value)
-        _check(self._calls.chi_node_step_flits(byref(self._handle), byref(action), byref(effect), byref(release), sent,
-                                               byref(count), byref(taken)))
-        return ServedFlits(_effect_in(effect), _release_in(release), tuple(map(_sent_in, sent[:count.value])),
-                           _sent_in(taken))
 
     def see(self, agent: int) -> Tuple[int, ...]:
         """The agent looks at what is promised to it: the seen credits by type. OutOfRange."""

@@ -1,5 +1,5 @@
-/* What the handles of chihome.hpp answer: opened, moved, copied and closed, and what the calls of a slice and of a node
- * give. With -DNEW_CALLS also the calls on flits, copies and names. The status is 0 where all holds. */
+/* What the handles of chihome.hpp answer: opened, moved and closed, and what the calls of a slice and of a node give. With
+ * -DNEW_CALLS also what a step sent, enabled actions, and names. The status is 0 where all holds. */
 #include "chihome.hpp"
 
 #include <cstdio>
@@ -102,14 +102,8 @@ static void new_calls() {
     const Stepped issued = *model.step(action(1, Step::Issue));
     HOLDS(issued.sent.size() == 1 && issued.sent[0].agent == 1 && issued.sent[0].channel == Channel::Req && !issued.taken);
     HOLDS(model.enabled(1, 0)->size() == 2 && (*model.enabled(1, 0))[0].step == Step::Admit);
-    Slice other = *model.copy();
-    HOLDS(*model.equals(other) && *model.equals(model));
-    HOLDS(other.step(action(1, Step::Admit))->taken->flit.kind == Kind::ReadShared && !*model.equals(other));
+    HOLDS(model.step(action(1, Step::Admit))->taken->flit.kind == Kind::ReadShared);
     for (const Action &it : *model.enabled(1, 0)) HOLDS(model.refusal(it) == Answer::OK);
-    HOLDS(other.close() == Answer::OK && model.equals(other).answer() == Answer::Closed && !other.copy());
-    Node whole = *Node::open(sizes(2, 1));
-    HOLDS(whole.step_flits(action(1, Step::Issue))->sent.size() == 1);
-    HOLDS(whole.arrive_flits(1, 0)->taken->flit.message == Message::Request);
     HOLDS(std::strcmp(version(), CHI_VERSION) == 0 && std::strcmp(name(Step::RecvDbid), "RecvDbid") == 0);
     HOLDS(std::strcmp(name(Answer::NoFlit), "NoFlit") == 0 && std::strcmp(name(Message::CompAck), "CompAck") == 0);
     HOLDS(std::strcmp(name(Kind::Evict), "Evict") == 0 && std::strcmp(name(State::SD), "SD") == 0);

@@ -138,7 +138,7 @@ class Slices(unittest.TestCase):
         model.close()
         self.assertTrue(model.closed)
         for call in (lambda: model.act(Step.Load, 0, 0), lambda: model.refusal(Step.Load, 0, 0), lambda: model.show(0),
-                     lambda: model.flits(0, 0), lambda: model.journal(0), lambda: model.equals(model)):
+                     lambda: model.flits(0, 0), lambda: model.journal(0)):
             with self.assertRaises(chihome.Closed):
                 call()
 
@@ -161,9 +161,9 @@ class Slices(unittest.TestCase):
             raise RuntimeError
         self.assertTrue(model.closed)
 
-    def test_no_other_copies(self):
+    def test_no_copies(self):
         with chihome.Slice() as model, chihome.Node() as node:
-            for call in (lambda: pickle.dumps(model), lambda: copy.copy(node), lambda: copy.deepcopy(node)):
+            for call in (lambda: pickle.dumps(model), lambda: copy.copy(model), lambda: copy.deepcopy(node)):
                 with self.assertRaises(TypeError):
                     call()
 
@@ -203,32 +203,6 @@ class NewCalls(unittest.TestCase):
             self.assertEqual([it.step for it in model.enabled(0, 0)], [Step.Admit, Step.Retry])
             with self.assertRaises(chihome.OutOfRange):
                 model.enabled(2, 0)
-
-    @has("chi_slice_copy")
-    def test_copy(self):
-        with chihome.Slice(agents=2, lines=1) as model:
-            read(model, 0)
-            with model.copy() as other, copy.copy(model) as third, copy.deepcopy(model) as fourth:
-                self.assertTrue(model.equals(other) and other.equals(third) and model.equals(fourth))
-                other.act(Step.RecvData, 0, 0)
-                self.assertFalse(model.equals(other))
-                self.assertEqual(model.refusal(Step.RecvData, 0, 0), Answer.OK)
-                other.close()
-                for call in (other.copy, lambda: model.equals(other)):
-                    with self.assertRaises(chihome.Closed):
-                        call()
-            self.assertTrue(model.equals(model))
-
-    @has("chi_node_step_flits")
-    def test_node_flits(self):
-        with chihome.Node(agents=2, lines=1) as node:
-            issued = node.step_flits(Step.Issue, 1, 0, kind=Kind.ReadShared)
-            request = chihome.Sent(1, Channel.Req, chihome.Flit(Message.Request, Kind.ReadShared, 0, True))
-            self.assertEqual(issued.sent, (request,))
-            self.assertEqual(node.arrive_flits(1, 0), (chihome.Arrival(entry=0), (), request))
-            node.step(Step.Issue, 0, 0)
-            arrived = node.arrive_flits(0, 0)
-            self.assertEqual((arrived.arrival.credit, str(arrived.sent[0].flit)), (0, "RetryAck/0"))
 
     @has("chi_version")
     def test_version(self):
