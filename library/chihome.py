@@ -472,7 +472,7 @@ def version() -> str:
 
 
 class Config(NamedTuple):
-    """The sizes of a node (docs/PROTOCOL.md, "Limits"): with two numbers of entries it is of profile Two, with four Four."""
+    """The sizes of a node (docs/PROTOCOL.md, "Limits"): of profile Two with two numbers of entries, of Four with four."""
 
     agents: int = 1
     lines: int = 1
@@ -637,7 +637,8 @@ def _config_of(config: Config) -> _ChiConfig:
     if len(entries) not in (2, 4):
         raise ValueError("entries are two numbers, or four")
     each = [_within(it, 0xFFFF) for it in [*entries, 0, 0][:4]]
-    return _ChiConfig(_byte(agents), _byte(lines), _byte(slices), config.profile, tuple(each), _within(journal, 0xFFFFFFFF))
+    records = _within(journal, 0xFFFFFFFF)
+    return _ChiConfig(_byte(agents), _byte(lines), _byte(slices), config.profile, tuple(each), records)
 
 
 def _action_of(step: int, agent: int, line: int, kind: int, slot: int, word: int, value: int) -> _ChiAction:

@@ -240,7 +240,8 @@ class Nodes(unittest.TestCase):
             self.assertEqual(node.tend(0, 0), chihome.Release(ReleaseForm.NotReleased))
             with self.assertRaises(chihome.NoCredit):
                 node.give_back(1, 0)
-            self.assertEqual(node.step(Step.Load, 0, 0), (chihome.Effect(value=0), chihome.Release(ReleaseForm.NotReleased)))
+            self.assertEqual(node.step(Step.Load, 0, 0),
+                             (chihome.Effect(value=0), chihome.Release(ReleaseForm.NotReleased)))
             self.assertTrue(node.agrees())
             self.assertEqual(node.audit(), chihome.Audit(1, 0, True))
             self.assertEqual(node.show(0).named, {0})

@@ -75,7 +75,8 @@ def main():
         before, each = lines_of(sources), {}
         for path in files:
             # (of a crate's folder a few stand for all: each sort of file in each of its folders)
-            each.setdefault((path.parent.relative_to(name).parts[:3], path.suffix, path.parts[-2] == "library" and path.name), path)
+            own = path.name if path.parent.name == "library" else ""
+            each.setdefault((path.parent.relative_to(name).parts[:3], path.suffix, own), path)
         for path in each.values():
             wrong += wrong_of(sources, path, before)
         if lines_of(sources) != before:
