@@ -10,7 +10,7 @@ pub mod Places
 pub mod Table
 pub mod Types
 pub mod Moves
-pub mod Upshots
+pub mod Outcomes
 pub mod Traffic
 pub mod Words
 pub mod Protocol

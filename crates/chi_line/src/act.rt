@@ -9,7 +9,7 @@ ghost use Rattle.chi_line.specs.Step.{after, effect_of, is_step_in_range};
 ghost use Rattle.chi_line.specs.Traffic.{KeepsFlits};
 
 use crate::line::CoherentLine;
-use crate::upshots::Upshot;
+use crate::outcomes::ActionOutcome;
 use chi_flit::{Action, Profile, Refusal, Step};
 
 /// What an action needs to know beside its line.
@@ -38,14 +38,14 @@ impl CoherentLine {
     /// what "What a line keeps" says, for some values last stored to its words.
     /// Source: `docs/PROTOCOL.md`, "The actions", "Messages", "Agreement" and "What a line keeps".
     #[inline(always)]
-    pub fn act(&mut self, conditions: Conditions, action: Action) -> Result<Upshot, Refusal>
+    pub fn act(&mut self, conditions: Conditions, action: Action) -> Result<ActionOutcome, Refusal>
         requires agent { action.agent.0 < 8 }
         requires step { is_step_in_range action.step ≡ true }
         requires kept { (last : List ℕ) × Kept last self.old }
         ensures refusal { refusal_of result ≡ line_refusal conditions self.old action }
-        ensures effect { IfOk result (λ upshot. upshot.effect ≡ effect_of self.old action) }
-        ensures slot { IfOk result (λ upshot. upshot.slot ≡ moved_slot self.old action.agent action.step) }
-        ensures to { IfOk result (λ upshot. upshot.to ≡ moved_to self.old action.agent action.step) }
+        ensures effect { IfOk result (λ outcome. outcome.effect ≡ effect_of self.old action) }
+        ensures slot { IfOk result (λ outcome. outcome.slot ≡ moved_slot self.old action.agent action.step) }
+        ensures to { IfOk result (λ outcome. outcome.to ≡ moved_to self.old action.agent action.step) }
         ensures after { OnOk result (self.new ≡ after conditions.profile self.old action) }
         ensures flits { OnOk result (KeepsFlits conditions.profile self.old action self.new) }
         ensures err { OnErr result (self.new ≡ self.old) }

@@ -8,11 +8,11 @@ ghost use Rattle.chi_rnline.specs.Rn.{cancel_refusal, drop_refusal, load_refusal
 ghost use Rattle.chi_line.specs.LineState.{rn_of};
 ghost use Rattle.chi_line.specs.Refused.{full_if};
 ghost use Rattle.chi_line.specs.Step.{cancelled_line, dropped_line, pending_slot, stored_line};
-ghost use Rattle.chi_line.specs.Upshots.{upshot_with_move, upshot_without_move};
+ghost use Rattle.chi_line.specs.Outcomes.{outcome_with_move, outcome_without_move};
 
 use crate::line::CoherentLine;
+use crate::outcomes::ActionOutcome;
 use crate::slots::pending_slot;
-use crate::upshots::Upshot;
 use chi_flit::{Agent, Effect, Refusal, WordNo};
 
 impl CoherentLine {
@@ -20,19 +20,24 @@ impl CoherentLine {
     ///
     /// Refused 2 (WrongState) where there is no copy, then 1 (JournalFull) where the journal is `full`.
     /// Source: `docs/PROTOCOL.md`, "The actions", Load.
-    pub(crate) fn load(&self, agent: Agent, word: WordNo, full: bool) -> Result<Upshot, Refusal>
+    pub(crate) fn load(
+        &self,
+        agent: Agent,
+        word: WordNo,
+        full: bool,
+    ) -> Result<ActionOutcome, Refusal>
         requires agent { agent.0 < 8 }
         requires word { word.0 < 8 }
         ensures refusal { refusal_of result
             ≡ option_or (load_refusal (rn_of self.now agent.0)) (full_if full) }
-        ensures upshot { IfOk result
-            (λ upshot. upshot ≡ upshot_without_move (Value (word_of (rn_of self.now agent.0) word.0))) }
+        ensures outcome { IfOk result
+            (λ outcome. outcome ≡ outcome_without_move (Value (word_of (rn_of self.now agent.0) word.0))) }
     {
         let value = self.requesters[usize::from(agent.0)].load(word)?;
         if full {
             return Err(Refusal::JournalFull);
         }
-        Ok(Upshot::without_move(Effect::Value(value)))
+        Ok(ActionOutcome::without_move(Effect::Value(value)))
     }
 
     /// Store: the word of the agent's copy has the value. The journal takes a record of it.
@@ -46,12 +51,12 @@ impl CoherentLine {
         word: WordNo,
         value: u64,
         full: bool,
-    ) -> Result<Upshot, Refusal>
+    ) -> Result<ActionOutcome, Refusal>
         requires agent { agent.0 < 8 }
         requires word { word.0 < 8 }
         ensures refusal { refusal_of result
             ≡ option_or (store_refusal (rn_of self.old agent.0)) (full_if full) }
-        ensures upshot { IfOk result (λ upshot. upshot ≡ upshot_without_move Nothing) }
+        ensures outcome { IfOk result (λ outcome. outcome ≡ outcome_without_move Nothing) }
         ensures after { OnOk result (self.new ≡ stored_line self.old agent.0 word.0 value) }
         ensures err { OnErr result (self.new ≡ self.old) }
     {
@@ -60,7 +65,7 @@ impl CoherentLine {
             return Err(copy.why_no_store().unwrap_or(Refusal::JournalFull));
         }
         copy.store(word, value)?;
-        Ok(Upshot::without_move(Effect::Nothing))
+        Ok(ActionOutcome::without_move(Effect::Nothing))
     }
 
     /// Drop: the agent's copy is given up, and nobody is told.
@@ -68,15 +73,15 @@ impl CoherentLine {
     /// Refused 3 (Pending) where a request is pending, then 2 (WrongState) where the copy isn't clean;
     /// nothing changes then.
     /// Source: `docs/PROTOCOL.md`, "The actions", Drop.
-    pub(crate) fn drop_clean(&mut self, agent: Agent) -> Result<Upshot, Refusal>
+    pub(crate) fn drop_clean(&mut self, agent: Agent) -> Result<ActionOutcome, Refusal>
         requires { agent.0 < 8 }
         ensures refusal { refusal_of result ≡ drop_refusal (rn_of self.old agent.0) }
-        ensures upshot { IfOk result (λ upshot. upshot ≡ upshot_without_move Nothing) }
+        ensures outcome { IfOk result (λ outcome. outcome ≡ outcome_without_move Nothing) }
         ensures after { OnOk result (self.new ≡ dropped_line self.old agent.0) }
         ensures err { OnErr result (self.new ≡ self.old) }
     {
         self.requesters[usize::from(agent.0)].drop_clean()?;
-        Ok(Upshot::without_move(Effect::Nothing))
+        Ok(ActionOutcome::without_move(Effect::Nothing))
     }
 
     /// Cancel: the agent's retried copy-back is given up; nothing is pending.
@@ -84,17 +89,17 @@ impl CoherentLine {
     /// Refused 4 (NothingPending) where no request is in phase Retried, then 2 (WrongState) where it may
     /// still be sent; nothing changes then.
     /// Source: `docs/PROTOCOL.md`, "The actions", Cancel.
-    pub(crate) fn cancel(&mut self, agent: Agent) -> Result<Upshot, Refusal>
+    pub(crate) fn cancel(&mut self, agent: Agent) -> Result<ActionOutcome, Refusal>
         requires { agent.0 < 8 }
         ensures refusal { refusal_of result ≡ cancel_refusal (rn_of self.old agent.0) }
-        ensures upshot { IfOk result
-            (λ upshot. upshot ≡ upshot_with_move (pending_slot (rn_of self.old agent.0).pending) None) }
+        ensures outcome { IfOk result
+            (λ outcome. outcome ≡ outcome_with_move (pending_slot (rn_of self.old agent.0).pending) None) }
         ensures after { OnOk result (self.new ≡ cancelled_line self.old agent.0) }
         ensures err { OnErr result (self.new ≡ self.old) }
     {
         let copy = &mut self.requesters[usize::from(agent.0)];
         let slot = pending_slot(copy.pending());
         copy.cancel()?;
-        Ok(Upshot::with_move(slot, None))
+        Ok(ActionOutcome::with_move(slot, None))
     }
 }

@@ -16,16 +16,16 @@ ghost use Rattle.chi_line.specs.Moves.{requested_slot};
 ghost use Rattle.chi_line.specs.Refused.{no_flit_unless, resend_step_refusal, retry_refusal};
 ghost use Rattle.chi_line.specs.Step.{admitted_line, is_retry, issued_line, pending_slot, resent_line, retried_line, retry_received_line, started_line, waiting_effect, where_some};
 ghost use Rattle.chi_line.specs.Traffic.{Balances, flit_on, request_again, retry_ack, started_flits};
-ghost use Rattle.chi_line.specs.Upshots.{upshot_of_start, upshot_with_move};
+ghost use Rattle.chi_line.specs.Outcomes.{outcome_of_start, outcome_with_move};
 ghost use Rattle.chi_line.specs.declared.seen.Where.TheVariants.{Admitted, Refused, Retried, Riding, Sent};
 
 use crate::act::Conditions;
 use crate::flits::has_flit;
 use crate::line::CoherentLine;
+use crate::outcomes::ActionOutcome;
 use crate::refusals::has_credit;
 use crate::seen::Where;
 use crate::slots::pending_slot;
-use crate::upshots::Upshot;
 use chi_flit::{
     Agent, Channel, CompData, Effect, Kind, Msg, Profile, Refusal, Request, RspDown, Slot, Step,
     credit_type,
@@ -45,12 +45,12 @@ impl CoherentLine {
         kind: Kind,
         slot: Slot,
         used: bool,
-    ) -> Result<Upshot, Refusal>
+    ) -> Result<ActionOutcome, Refusal>
         requires agent { agent.0 < 8 }
         requires empty { (rn_of self.old agent.0).pending ≡ None → (cells_of self.old agent.0).req ≡ None }
         ensures refusal { refusal_of result
             ≡ if used then Some refusals.Pending else issue_refusal (rn_of self.old agent.0) kind }
-        ensures upshot { IfOk result (λ upshot. upshot ≡ upshot_with_move (Some slot) (Some Sent)) }
+        ensures outcome { IfOk result (λ outcome. outcome ≡ outcome_with_move (Some slot) (Some Sent)) }
         ensures after { OnOk result (self.new ≡ issued_line self.old agent.0 kind slot) }
         ensures flits { OnOk result
             (Balances [] (flit agent (request_message kind slot true) ∷ []) self.old self.new) }
@@ -61,18 +61,18 @@ impl CoherentLine {
         }
         let request = self.requesters[usize::from(agent.0)].issue(kind, slot)?;
         self.flits.put(agent, request);
-        Ok(Upshot::with_move(Some(slot), Some(Where::Sent)))
+        Ok(ActionOutcome::with_move(Some(slot), Some(Where::Sent)))
     }
 
     /// Admit: the agent's request, which was in flight, waits.
     ///
     /// Refused 7 (NoFlit) where there is none; nothing changes then.
     /// Source: `docs/PROTOCOL.md`, "The actions", Admit.
-    pub(crate) fn admit(&mut self, agent: Agent) -> Result<Upshot, Refusal>
+    pub(crate) fn admit(&mut self, agent: Agent) -> Result<ActionOutcome, Refusal>
         requires { agent.0 < 8 }
         ensures refusal { refusal_of result ≡ no_flit_unless (is_some (cells_of self.old agent.0).req) }
-        ensures upshot { IfOk result (λ upshot. upshot
-            ≡ upshot_with_move (requested_slot (cells_of self.old agent.0).req) (Some Admitted)) }
+        ensures outcome { IfOk result (λ outcome. outcome
+            ≡ outcome_with_move (requested_slot (cells_of self.old agent.0).req) (Some Admitted)) }
         ensures after { OnOk result (self.new
             ≡ where_some self.old (cells_of self.old agent.0).req (admitted_line self.old agent.0)) }
         ensures flits { OnOk result (Balances (flit_on self.old agent channels.Req) [] self.old self.new) }
@@ -82,7 +82,7 @@ impl CoherentLine {
         let Request { kind, slot, .. } = cells.req.ok_or(Refusal::NoFlit)?;
         self.flits.clear(agent, Channel::Req);
         self.home.admit(agent, Waiting { kind, slot });
-        Ok(Upshot::with_move(Some(slot), Some(Where::Admitted)))
+        Ok(ActionOutcome::with_move(Some(slot), Some(Where::Admitted)))
     }
 
     /// Retry: the agent's request is taken, and RetryAck of its credit type is in flight.
@@ -90,13 +90,13 @@ impl CoherentLine {
     /// Refused 7 (NoFlit) where no request is in flight, then 9 (MustAccept) where it is without AllowRetry;
     /// nothing changes then.
     /// Source: `docs/PROTOCOL.md`, "The actions", Retry.
-    pub(crate) fn retry(&mut self, agent: Agent, profile: Profile) -> Result<Upshot, Refusal>
+    pub(crate) fn retry(&mut self, agent: Agent, profile: Profile) -> Result<ActionOutcome, Refusal>
         requires agent { agent.0 < 8 }
         requires empty { is_some (cells_of self.old agent.0).req ≡ true
             → (cells_of self.old agent.0).rsp_down ≡ None }
         ensures refusal { refusal_of result ≡ retry_refusal (cells_of self.old agent.0).req }
-        ensures upshot { IfOk result (λ upshot. upshot
-            ≡ upshot_with_move (requested_slot (cells_of self.old agent.0).req) (Some Refused)) }
+        ensures outcome { IfOk result (λ outcome. outcome
+            ≡ outcome_with_move (requested_slot (cells_of self.old agent.0).req) (Some Refused)) }
         ensures after { OnOk result (self.new
             ≡ where_some self.old (cells_of self.old agent.0).req (retried_line profile self.old agent.0)) }
         ensures flits { OnOk result (Balances (flit_on self.old agent channels.Req)
@@ -110,18 +110,18 @@ impl CoherentLine {
         }
         let answer = Msg::RspDown(RspDown::RetryAck(credit_type(profile, request.kind)));
         self.flits.exchange(agent, Channel::Req, answer);
-        Ok(Upshot::with_move(Some(request.slot), Some(Where::Refused)))
+        Ok(ActionOutcome::with_move(Some(request.slot), Some(Where::Refused)))
     }
 
     /// RecvRetry: the agent takes its RetryAck, and its request is in phase Retried.
     ///
     /// Refused 7 (NoFlit) where no RetryAck is in flight; nothing changes then.
     /// Source: `docs/PROTOCOL.md`, "The actions", RecvRetry.
-    pub(crate) fn receive_retry(&mut self, agent: Agent) -> Result<Upshot, Refusal>
+    pub(crate) fn receive_retry(&mut self, agent: Agent) -> Result<ActionOutcome, Refusal>
         requires { agent.0 < 8 }
         ensures refusal { refusal_of result ≡ no_flit_unless (is_retry (cells_of self.old agent.0).rsp_down) }
-        ensures upshot { IfOk result (λ upshot. upshot
-            ≡ upshot_with_move (pending_slot (rn_of self.old agent.0).pending) (Some Retried)) }
+        ensures outcome { IfOk result (λ outcome. outcome
+            ≡ outcome_with_move (pending_slot (rn_of self.old agent.0).pending) (Some Retried)) }
         ensures after { OnOk result (self.new ≡ retry_received_line self.old agent.0) }
         ensures flits { OnOk result
             (Balances (flit_on self.old agent channels.RspDown) [] self.old self.new) }
@@ -134,7 +134,7 @@ impl CoherentLine {
         let copy = &mut self.requesters[usize::from(agent.0)];
         let slot = pending_slot(copy.pending());
         copy.retried();
-        Ok(Upshot::with_move(slot, Some(Where::Retried)))
+        Ok(ActionOutcome::with_move(slot, Some(Where::Retried)))
     }
 
     /// Resend: the agent's retried request is in flight again, without AllowRetry.
@@ -143,13 +143,17 @@ impl CoherentLine {
     /// copy-back and the copy isn't in its needed state, then 12 (NoCredit) where there is no credit of its
     /// type; nothing changes then.
     /// Source: `docs/PROTOCOL.md`, "The actions", Resend.
-    pub(crate) fn resend(&mut self, agent: Agent, conditions: Conditions) -> Result<Upshot, Refusal>
+    pub(crate) fn resend(
+        &mut self,
+        agent: Agent,
+        conditions: Conditions,
+    ) -> Result<ActionOutcome, Refusal>
         requires agent { agent.0 < 8 }
         requires empty { resend_refusal (rn_of self.old agent.0) ≡ None
             → (cells_of self.old agent.0).req ≡ None }
         ensures refusal { refusal_of result ≡ resend_step_refusal conditions (rn_of self.old agent.0) }
-        ensures upshot { IfOk result (λ upshot. upshot
-            ≡ upshot_with_move (pending_slot (rn_of self.old agent.0).pending) (Some Riding)) }
+        ensures outcome { IfOk result (λ outcome. outcome
+            ≡ outcome_with_move (pending_slot (rn_of self.old agent.0).pending) (Some Riding)) }
         ensures after { OnOk result (self.new
             ≡ where_some self.old (rn_of self.old agent.0).pending (resent_line self.old agent.0)) }
         ensures flits { OnOk result
@@ -165,7 +169,7 @@ impl CoherentLine {
         }
         let message = copy.resend()?;
         self.flits.put(agent, message);
-        Ok(Upshot::with_move(Some(request.slot), Some(Where::Riding)))
+        Ok(ActionOutcome::with_move(Some(request.slot), Some(Where::Riding)))
     }
 
     /// Start: the home begins to serve the agent's waiting request, and what that sends is in flight. An
@@ -175,15 +179,15 @@ impl CoherentLine {
     /// nothing changes then.
     /// Source: `docs/PROTOCOL.md`, "Start".
     #[inline(always)]
-    pub(crate) fn start(&mut self, agent: Agent) -> Result<Upshot, Refusal>
+    pub(crate) fn start(&mut self, agent: Agent) -> Result<ActionOutcome, Refusal>
         requires agent { agent.0 < 8 }
         requires down { is_some (waiting_of self.old.home agent.0) ≡ true
             → ((cells_of self.old agent.0).rsp_down ≡ None) × ((cells_of self.old agent.0).dat_down ≡ None) }
         requires no_snoops { is_idle self.old.home.serving ≡ true → (other : ℕ)
             → (cells_of self.old other).snp ≡ None }
         ensures refusal { refusal_of result ≡ start_refusal self.old.home agent.0 }
-        ensures upshot { IfOk result (λ upshot. upshot
-            ≡ upshot_of_start (waiting_effect self.old.home agent (waiting_of self.old.home agent.0))) }
+        ensures outcome { IfOk result (λ outcome. outcome
+            ≡ outcome_of_start (waiting_effect self.old.home agent (waiting_of self.old.home agent.0))) }
         ensures after { OnOk result (self.new
             ≡ where_some self.old (waiting_of self.old.home agent.0) (started_line self.old agent)) }
         ensures flits { OnOk result
@@ -193,19 +197,19 @@ impl CoherentLine {
         match self.home.start(agent)? {
             Begun::Completes(form) => {
                 put_form(&mut self.flits, agent, form, &self.home);
-                Ok(Upshot::without_move(Effect::Nothing))
+                Ok(ActionOutcome::without_move(Effect::Nothing))
             }
             Begun::WriteData => {
                 self.flits.put(agent, Msg::RspDown(RspDown::CompDBIDResp));
-                Ok(Upshot::without_move(Effect::Nothing))
+                Ok(ActionOutcome::without_move(Effect::Nothing))
             }
             Begun::Evicted(slot) => {
                 self.flits.put(agent, Msg::RspDown(RspDown::CompI));
-                Ok(Upshot::of_evict(slot))
+                Ok(ActionOutcome::of_evict(slot))
             }
             Begun::Snoops { snoop, agents } => {
                 self.flits.put_snoops(agents, snoop);
-                Ok(Upshot::without_move(Effect::Nothing))
+                Ok(ActionOutcome::without_move(Effect::Nothing))
             }
         }
     }

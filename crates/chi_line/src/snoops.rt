@@ -17,11 +17,11 @@ ghost use Rattle.chi_line.specs.Refused.{no_flit_unless};
 ghost use Rattle.chi_line.specs.Snooped.{completion_put};
 ghost use Rattle.chi_line.specs.Step.{answer_in, answered_by, snooped_line, where_some};
 ghost use Rattle.chi_line.specs.Traffic.{Balances, answer_flit, answered_flits, completion_flits, flit_on, snoop_answer};
-ghost use Rattle.chi_line.specs.Upshots.{upshot_without_move};
+ghost use Rattle.chi_line.specs.Outcomes.{outcome_without_move};
 
 use crate::flits::answer_in;
 use crate::line::CoherentLine;
-use crate::upshots::Upshot;
+use crate::outcomes::ActionOutcome;
 use chi_flit::{Agent, Channel, Effect, Refusal};
 use chi_homeline::Completion;
 use chi_wires::Wires;
@@ -31,12 +31,12 @@ impl CoherentLine {
     ///
     /// Refused 7 (NoFlit) where no snoop is in flight; nothing changes then.
     /// Source: `docs/PROTOCOL.md`, "Answers to snoops".
-    pub(crate) fn receive_snoop(&mut self, agent: Agent) -> Result<Upshot, Refusal>
+    pub(crate) fn receive_snoop(&mut self, agent: Agent) -> Result<ActionOutcome, Refusal>
         requires agent { agent.0 < 8 }
         requires empty { is_some (cells_of self.old agent.0).snp ≡ true
             → ((cells_of self.old agent.0).rsp_up ≡ None) × ((cells_of self.old agent.0).dat_up ≡ None) }
         ensures refusal { refusal_of result ≡ no_flit_unless (is_some (cells_of self.old agent.0).snp) }
-        ensures upshot { IfOk result (λ upshot. upshot ≡ upshot_without_move Nothing) }
+        ensures outcome { IfOk result (λ outcome. outcome ≡ outcome_without_move Nothing) }
         ensures after { OnOk result (self.new
             ≡ where_some self.old (cells_of self.old agent.0).snp (snooped_line self.old agent.0)) }
         ensures flits { OnOk result (Balances (flit_on self.old agent channels.Snp)
@@ -47,7 +47,7 @@ impl CoherentLine {
         let snoop = cells.snp.ok_or(Refusal::NoFlit)?;
         let answer = self.requesters[usize::from(agent.0)].snooped(snoop);
         self.flits.exchange(agent, Channel::Snp, answer);
-        Ok(Upshot::without_move(Effect::Nothing))
+        Ok(ActionOutcome::without_move(Effect::Nothing))
     }
 
     /// RecvSnpResp: the home takes the agent's answer to its snoop. Where it is the last one, the completion
@@ -56,7 +56,7 @@ impl CoherentLine {
     /// Refused 7 (NoFlit) where no answer is in flight; nothing changes then.
     /// Source: `docs/PROTOCOL.md`, "Answers of snooped agents".
     #[inline(always)]
-    pub(crate) fn receive_answer(&mut self, agent: Agent) -> Result<Upshot, Refusal>
+    pub(crate) fn receive_answer(&mut self, agent: Agent) -> Result<ActionOutcome, Refusal>
         requires agent { agent.0 < 8 }
         requires named { is_some (answer_in (cells_of self.old agent.0)) ≡ true
             → is_named self.old.home.filter agent.0 ≡ true }
@@ -64,7 +64,7 @@ impl CoherentLine {
             → ((cells_of self.old other).rsp_down ≡ None) × ((cells_of self.old other).dat_down ≡ None) }
         ensures refusal { refusal_of result
             ≡ no_flit_unless (is_some (answer_in (cells_of self.old agent.0))) }
-        ensures upshot { IfOk result (λ upshot. upshot ≡ upshot_without_move Nothing) }
+        ensures outcome { IfOk result (λ outcome. outcome ≡ outcome_without_move Nothing) }
         ensures after { OnOk result (self.new
             ≡ where_some self.old (answer_in (cells_of self.old agent.0)) (answered_by self.old agent)) }
         ensures flits { OnOk result (Balances (answer_flit self.old agent (answer_in (cells_of self.old agent.0)))
@@ -76,7 +76,7 @@ impl CoherentLine {
         self.flits.clear(agent, found.channel);
         let completion = self.home.snp_resp(agent, found.answer);
         put_completion(&mut self.flits, completion);
-        Ok(Upshot::without_move(Effect::Nothing))
+        Ok(ActionOutcome::without_move(Effect::Nothing))
     }
 }
 

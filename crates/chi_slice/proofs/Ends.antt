@@ -31,7 +31,7 @@ pub record Ended (old : SliceState) (terms : Terms) (action : Action) (effect : 
   pub slot_is : slot ≡ moved_by old action
   pub after : new ≡ slice_after old action
 
--- what the upshot says of the line
+-- what the outcome says of the line
 pub record Move (action : Action) (at : LineState) (slot : Option Slot) (to : Option Where) : Type 0 where
   pub slot_is : slot ≡ moved_slot at action.agent action.step
   pub to_is : to ≡ moved_to at action.agent action.step

@@ -338,13 +338,13 @@ impl<A: Allocator> Slice<A> {
         };
         let conditions = self.conditions(action, terms);
         let line = &mut self.lines[usize::from(at.row)];
-        let upshot = line.act(conditions, action)?;
+        let outcome = line.act(conditions, action)?;
         self.places
-            .follow(action.agent, action.line, upshot.slot, upshot.to);
-        note(&mut self.journal, action, upshot.effect);
+            .follow(action.agent, action.line, outcome.slot, outcome.to);
+        note(&mut self.journal, action, outcome.effect);
         Ok(Done {
-            effect: upshot.effect,
-            slot: upshot.slot,
+            effect: outcome.effect,
+            slot: outcome.slot,
         })
     }
 

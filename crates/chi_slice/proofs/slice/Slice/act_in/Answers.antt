@@ -13,22 +13,22 @@ act-requires-clause-kept g c =
 pub note-requires : goal.note-requires
 note-requires g c =
     room_for (ready c.args.self.now c.args.terms (action_in c.args.at c.args.step) c.self.invariant.0 c.self.view_is (not_out c.args.self.now (action_in c.args.at c.args.step) c.requires.inside) (c.from.ensures ∙ c.requires.row) c.conditions-conditions.ensures c.index_mut-line.ensures.value)
-    c.in_ok-upshot.ensures.refusal c.in_ok-upshot.ensures.effect
+    c.in_ok-outcome.ensures.refusal c.in_ok-outcome.ensures.effect
 
-pub returns-in_err-upshot-clause-refusal : goal.returns-in_err-upshot-clause-refusal
-returns-in_err-upshot-clause-refusal g c =
-    let by_line : Some c.in_err-upshot.field-0.0 ≡ refused_under c.args.terms c.args.self.now (action_in c.args.at c.args.step) =
-    c.in_err-upshot.ensures.refusal ∙ refused_now c.self.view_is
+pub returns-in_err-outcome-clause-refusal : goal.returns-in_err-outcome-clause-refusal
+returns-in_err-outcome-clause-refusal g c =
+    let by_line : Some c.in_err-outcome.field-0.0 ≡ refused_under c.args.terms c.args.self.now (action_in c.args.at c.args.step) =
+    c.in_err-outcome.ensures.refusal ∙ refused_now c.self.view_is
     (ready c.args.self.now c.args.terms (action_in c.args.at c.args.step) c.self.invariant.0 c.self.view_is (not_out c.args.self.now (action_in c.args.at c.args.step) c.requires.inside) (c.from.ensures ∙ c.requires.row) c.conditions-conditions.ensures c.index_mut-line.ensures.value) in
     search (rules, by_line)
 
 end : (g : given.Over) (c : goal.After-note g)
-    → Ended c.args.self.now c.args.terms (action_in c.args.at c.args.step) c.in_ok-upshot.upshot.effect c.in_ok-upshot.upshot.slot (slice_with c.self.inside.config c.self.inside.index (slice_set c.self.inside.lines.items c.from.result c.act.new.self) c.note.new.journal) c.follow.new.self
+    → Ended c.args.self.now c.args.terms (action_in c.args.at c.args.step) c.in_ok-outcome.outcome.effect c.in_ok-outcome.outcome.slot (slice_with c.self.inside.config c.self.inside.index (slice_set c.self.inside.lines.items c.from.result c.act.new.self) c.note.new.journal) c.follow.new.self
 end g c =
     ended c.args.self.now c.args.terms (action_in c.args.at c.args.step) c.self.inside.places c.follow.new.self c.note.new.journal c.self.view_is c.self.invariant.1
     (ready c.args.self.now c.args.terms (action_in c.args.at c.args.step) c.self.invariant.0 c.self.view_is (not_out c.args.self.now (action_in c.args.at c.args.step) c.requires.inside) (c.from.ensures ∙ c.requires.row) c.conditions-conditions.ensures c.index_mut-line.ensures.value)
-    (record { refusal = c.in_ok-upshot.ensures.refusal; effect_is = c.in_ok-upshot.ensures.effect; after_is = c.in_ok-upshot.ensures.after; flits = c.in_ok-upshot.ensures.flits })
-    (record { slot_is = c.in_ok-upshot.ensures.slot; to_is = c.in_ok-upshot.ensures.to })
+    (record { refusal = c.in_ok-outcome.ensures.refusal; effect_is = c.in_ok-outcome.ensures.effect; after_is = c.in_ok-outcome.ensures.after; flits = c.in_ok-outcome.ensures.flits })
+    (record { slot_is = c.in_ok-outcome.ensures.slot; to_is = c.in_ok-outcome.ensures.to })
     c.follow.ensures c.note.ensures
 
 pub invariant_of-self-2 : goal.invariant_of-self-2

@@ -2,7 +2,7 @@
 
 ghost use Rattle.std.specs.Prelude.{◌≡◌};
 ghost use Rattle.chi_flit.specs.declared.action.Effect.TheVariants.{Completed};
-ghost use Rattle.chi_line.specs.Upshots.{upshot_of_end, upshot_of_start, upshot_with_move, upshot_without_move};
+ghost use Rattle.chi_line.specs.Outcomes.{outcome_of_end, outcome_of_start, outcome_with_move, outcome_without_move};
 
 use crate::seen::Where;
 use chi_flit::{Effect, Slot};
@@ -10,7 +10,7 @@ use chi_flit::{Effect, Slot};
 /// What an action came to: its effect, and what became of a request of its agent.
 /// Source: `docs/PROTOCOL.md`, "The actions" and "Agreement".
 #[derive(Clone, Copy, Debug, PartialEq, Eq)]
-pub struct Upshot {
+pub struct ActionOutcome {
     pub effect: Effect,
     /// The slot of the request that was moved, if one was.
     pub slot: Option<Slot>,
@@ -18,13 +18,13 @@ pub struct Upshot {
     pub to: Option<Where>,
 }
 
-impl Upshot {
+impl ActionOutcome {
     /// An effect, and no request was moved.
     #[inline(always)]
-    pub(crate) fn without_move(effect: Effect) -> Upshot
-        ensures { result ≡ upshot_without_move effect }
+    pub(crate) fn without_move(effect: Effect) -> ActionOutcome
+        ensures { result ≡ outcome_without_move effect }
     {
-        Upshot {
+        ActionOutcome {
             effect,
             slot: None,
             to: None,
@@ -33,10 +33,10 @@ impl Upshot {
 
     /// A request is there now, or over, and there is no effect.
     #[inline(always)]
-    pub(crate) fn with_move(slot: Option<Slot>, to: Option<Where>) -> Upshot
-        ensures { result ≡ upshot_with_move slot to }
+    pub(crate) fn with_move(slot: Option<Slot>, to: Option<Where>) -> ActionOutcome
+        ensures { result ≡ outcome_with_move slot to }
     {
-        Upshot {
+        ActionOutcome {
             effect: Effect::Nothing,
             slot,
             to,
@@ -45,10 +45,10 @@ impl Upshot {
 
     /// The home is done with the request of the slot, and that is over.
     #[inline(always)]
-    pub(crate) fn of_end(slot: Slot) -> Upshot
-        ensures { result ≡ upshot_of_end (Completed slot) }
+    pub(crate) fn of_end(slot: Slot) -> ActionOutcome
+        ensures { result ≡ outcome_of_end (Completed slot) }
     {
-        Upshot {
+        ActionOutcome {
             effect: Effect::Completed(slot),
             slot: Some(slot),
             to: None,
@@ -57,10 +57,10 @@ impl Upshot {
 
     /// The home is done with the Evict of the slot, whose completion is in flight.
     #[inline(always)]
-    pub(crate) fn of_evict(slot: Slot) -> Upshot
-        ensures { result ≡ upshot_of_start (Completed slot) }
+    pub(crate) fn of_evict(slot: Slot) -> ActionOutcome
+        ensures { result ≡ outcome_of_start (Completed slot) }
     {
-        Upshot {
+        ActionOutcome {
             effect: Effect::Completed(slot),
             slot: Some(slot),
             to: Some(Where::Closing),

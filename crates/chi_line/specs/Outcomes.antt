@@ -4,24 +4,24 @@ use Rattle.std.specs.Prelude.{Option, None}
 use Rattle.chi_flit.specs.declared.numbers.Slot.{Slot}
 use Rattle.chi_flit.specs.declared.action.Effect.{Effect}
 use Rattle.chi_flit.specs.declared.action.Effect.TheVariants.{Nothing}
-use Rattle.chi_line.specs.declared.upshots.Upshot.{Upshot}
+use Rattle.chi_line.specs.declared.outcomes.ActionOutcome.{ActionOutcome}
 use Rattle.chi_line.specs.declared.seen.Where.{Where}
 use Rattle.chi_line.specs.declared.seen.Where.TheVariants.{Closing}
 use Rattle.chi_line.specs.Moves.{if_moved}
 use Rattle.chi_line.specs.Step.{completed_slot}
 
 -- no request was moved
-abbrev pub upshot_without_move : Effect → Upshot
-upshot_without_move effect = record { effect = effect; slot = None; to = None }
+abbrev pub outcome_without_move : Effect → ActionOutcome
+outcome_without_move effect = record { effect = effect; slot = None; to = None }
 
 -- a request is there now, or over
-abbrev pub upshot_with_move : Option Slot → Option Where → Upshot
-upshot_with_move slot to = record { effect = Nothing; slot = slot; to = to }
+abbrev pub outcome_with_move : Option Slot → Option Where → ActionOutcome
+outcome_with_move slot to = record { effect = Nothing; slot = slot; to = to }
 
 -- the home is done with a request, and that is over
-abbrev pub upshot_of_end : Effect → Upshot
-upshot_of_end effect = record { effect = effect; slot = completed_slot effect; to = None }
+abbrev pub outcome_of_end : Effect → ActionOutcome
+outcome_of_end effect = record { effect = effect; slot = completed_slot effect; to = None }
 
 -- a start: an Evict is complete, and closing
-abbrev pub upshot_of_start : Effect → Upshot
-upshot_of_start effect = record { effect = effect; slot = completed_slot effect; to = if_moved (completed_slot effect) Closing }
+abbrev pub outcome_of_start : Effect → ActionOutcome
+outcome_of_start effect = record { effect = effect; slot = completed_slot effect; to = if_moved (completed_slot effect) Closing }
