@@ -101,24 +101,32 @@ class Node:
         here = self.lines[line]
         return ["6"] * (agent not in here.waiting) + ([f"5 {here.serving.what}"] if here.serving else [])
 
+    def why_not_retried(self, agent, line):
+        if not self.lines[line].pending[agent]:
+            return ["4 nothing is pending"]
+        return ["4 it was sent again" if self.pending_slot(agent, line).state == "Riding" else "4 it wasn't retried"]
+
     def refusals_of_resend(self, agent, line):
         here = self.lines[line]
         if not here.is_retried[agent]:
-            return ["4"]
+            return self.why_not_retried(agent, line)
         reasons = [] if here.is_sendable(agent) else ["2"]
         return reasons + ["12"] * (not self.spare(agent, credit_type(here.pending[agent].kind, self.types == 4)))
 
     def refusals_of_cancel(self, agent, line):
         here = self.lines[line]
         if not here.is_retried[agent]:
-            return ["4"]
+            return self.why_not_retried(agent, line)
         if here.pending[agent].kind not in COPY_BACKS:
             return ["2 it is no copy-back"]
         return ["2 its copy is as it needs it"] if here.is_sendable(agent) else []
 
     def refusals_of_giveback(self, agent, type):
         cancelled = any(slot.state == "Cancelled" and slot.type == type for slot in self.slots[agent])
-        return ["12 no slot is cancelled"] * (not cancelled) + ["12 no credit is seen"] * (not self.spare(agent, type))
+        spare = self.spare(agent, type)
+        if not cancelled:
+            return ["12 a credit is seen, and no slot is cancelled" if spare else "12 no slot is cancelled"]
+        return [] if spare else ["12 no credit is seen"]
 
     # The tracker.
 
