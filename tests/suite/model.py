@@ -311,8 +311,23 @@ class Node:
 
 
 def commands_of(text):
-    """The header of a check file, and its commands: the number of the line, the words, and the wanted answer or nothing."""
+    """The numbers of a check file's header, and its commands: the number of the line, the words, and the wanted answer or nothing.
+
+    A faulty line is a ValueError that names it."""
     lines = [(number, line) for number, line in enumerate(text.splitlines(), 1) if line and not line.startswith("#")]
-    parts = [(number, *line.partition(" -> ")) for number, line in lines[1:]]
-    header = [int(word) for word in lines[0][1].split()[1:]]
-    return header, [(number, command.split(), wanted if arrow else None) for number, command, arrow, wanted in parts]
+    first, *numbers = lines[0][1].split() if lines else [""]
+    if first != "node" or len(numbers) not in (6, 8) or not all(map(str.isdigit, numbers)):
+        raise ValueError(f"line {lines[0][0] if lines else 1}: bad header")
+    commands = []
+    for number, line in lines[1:]:
+        command, arrow, wanted = line.partition(" -> ")
+        if not is_command(command.split()):
+            raise ValueError(f"line {number}: bad command")
+        commands.append((number, command.split(), wanted if arrow else None))
+    return [int(it) for it in numbers], commands
+
+
+def is_command(words):
+    """Whether a line's words are a command of docs/FORMATS.md, "Commands"."""
+    names = OPERANDS.get(words[0], "none").split() if words else ["none"]
+    return len(names) == len(words) - 1 and all(word in NEEDS if name == "kind" else word.isdigit() for name, word in zip(names, words[1:]))
