@@ -40,6 +40,7 @@ impl fmt::Display for Spelled {
                 write!(f, "tend {agent} {credit}")
             }
             Command::Act(action) => {
+                let action = action.action();
                 let word = step_word(action.step);
                 let (agent, line) = (action.agent, action.line);
                 let operands = Operands(action.step);

@@ -27,7 +27,7 @@ impl fmt::Display for Front {
     fn fmt<W: fmt::Write>(&self, f: &mut fmt::Formatter<W>) -> fmt::Result {
         match self.0 {
             Command::Act(action) => {
-                let step = StepFront(action.step);
+                let step = StepFront(action.action().step);
                 write!(f, "{step}")
             }
             _ => Ok(()),
@@ -63,7 +63,7 @@ fn ok_words(command: Command) -> &'static [u8]
     ensures { result.now ≡ ok_words command }
 {
     match command {
-        Command::Act(action) => step_ok(action.step),
+        Command::Act(action) => step_ok(action.action().step),
         _ => b"ok ",
     }
 }
@@ -90,7 +90,7 @@ fn agent_of(command: Command) -> Option<Agent>
         | Command::See { agent }
         | Command::GiveBack { agent, .. }
         | Command::Tend { agent, .. } => Some(agent),
-        Command::Act(action) => Some(action.agent),
+        Command::Act(action) => Some(action.action().agent),
     }
 }
 
@@ -124,7 +124,10 @@ fn done_x(layout: &Layout, command: Command) -> Option<u64>
         Command::Audit | Command::Arrive { .. } | Command::GiveBack { .. } | Command::Tend { .. } =>
             Some(layout.home_words_x()),
         Command::See { agent } => Some(words_x(agent)),
-        Command::Act(action) => step_x(layout, action.agent, action.step),
+        Command::Act(action) => {
+            let action = action.action();
+            step_x(layout, action.agent, action.step)
+        }
     }
 }
 
@@ -169,19 +172,19 @@ pub(crate) fn add_note<A: Allocator>(
     text: &mut Vec<u8, A>,
     layout: &Layout,
     y: u64,
-    command: Command,
+    command: &Command,
     answer: &[u8],
 ) -> Result<(), NoMemory>
     ensures { OnOk result
-        (text.new.items ≡ text.old.items ++ note_text layout.now y command answer.now) }
+        (text.new.items ≡ text.old.items ++ note_text layout.now y command.now answer.now) }
 {
     if answer.starts_with(b"refused") {
-        let x = refused_x(layout, command);
+        let x = refused_x(layout, *command);
         return add_words(text, "refused", x, y, &Front(Command::Totals), answer);
     }
-    let words = behind(ok_words(command), answer);
-    match (done_x(layout, command), words) {
-        (Some(x), Some(words)) => add_words(text, "answer", x, y, &Front(command), words),
+    let words = behind(ok_words(*command), answer);
+    match (done_x(layout, *command), words) {
+        (Some(x), Some(words)) => add_words(text, "answer", x, y, &Front(*command), words),
         _ => Ok(()),
     }
 }

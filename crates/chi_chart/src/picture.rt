@@ -240,7 +240,7 @@ impl<A: Allocator> Picture<A> {
             &mut self.text,
             &self.layout,
             words_y,
-            row.command,
+            &row.command,
             row.answer.as_bytes(),
         )?;
         self.add_marks(row.y, later, &row.marks)

@@ -69,7 +69,7 @@ pub(crate) fn line_of(command: Command) -> Option<Line>
         Command::Show { line } | Command::Flits { line, .. } | Command::Arrive { line, .. } => {
             Some(line)
         }
-        Command::Act(action) => Some(action.line),
+        Command::Act(action) => Some(action.action().line),
         Command::Totals
         | Command::Audit
         | Command::See { .. }
@@ -102,20 +102,20 @@ fn seen_line<A: Allocator>(system: &System<A>, line: Option<Line>) -> Option<Lin
 fn play<A: Allocator, B: Allocator + Copy>(
     alloc: B,
     system: &mut System<A>,
-    command: Command,
+    command: &Command,
     y: u32,
 ) -> Result<Row<B>, NoMemory>
-    ensures { IfOk result (λ row. IsPlayed system.old system.new command y (row_seen row)) }
+    ensures { IfOk result (λ row. IsPlayed system.old system.new command.now y (row_seen row)) }
 {
-    let line = line_of(command);
+    let line = line_of(*command);
     let before = seen_line(system, line);
     let mut text = String::new(alloc);
-    answer(system, command, &mut text)?;
+    answer(system, *command, &mut text)?;
     let after = seen_line(system, line);
     let marks = marks_between(alloc, line, &before, &after)?;
     Ok(Row {
         y,
-        command,
+        command: *command,
         answer: text,
         marks,
     })
@@ -164,7 +164,7 @@ pub(crate) fn rows_of<A: Allocator + Copy>(
         bottom: TOP,
     };
     for command in commands {
-        let row = play(alloc, &mut system, *command, rows.bottom)?;
+        let row = play(alloc, &mut system, command, rows.bottom)?;
         let shown = is_line(only, line_of(*command));
         rows.add(shown, row)?;
     }

@@ -5,6 +5,7 @@ pub mod LineRuns
 pub mod Machines
 pub mod Seen
 pub mod Reasons
+pub mod OwnSteps
 pub mod Turned
 pub mod Credited
 pub mod Openings

@@ -15,12 +15,12 @@ use Rattle.chi_credit.specs.declared.slot.SlotState.{SlotState}
 use Rattle.chi_credit.specs.declared.slot.SlotState.TheVariants as states
 use Rattle.chi_credit.specs.Account.{state_at}
 use Rattle.chi_slice.specs.Words.{cells_of, effect_of, line_view as shown_line}
-use Rattle.chi_node.specs.Calls.{arrival_refusal, is_own_step}
+use Rattle.chi_node.specs.Calls.{arrival_refusal}
 use Rattle.chi_node.specs.Home.{node_flits_refusal, node_last, node_line, slice_of, node_view_refusal}
 use Rattle.chi_reply.specs.declared.replies.Reply.TheVariants as replies
 use Rattle.chi_script.specs.declared.commands.Command.{Command}
 use Rattle.chi_script.specs.declared.commands.Command.TheVariants as commands
-use Rattle.chi_replay.specs.Turns.{Answer, Asks, Claimed, Ends, GiveBack, Glanced, Judged, Machine, Owed, Saw, Spent, Tended, Turn, Went, act_turn, act_refusal, acting, machine_agent_refusal, arrive, arriving, turn_of_attempt, cancelled_refusal, turn_after_claim, turn_after_release, completing, credits_of, turn_after_action, give_back, credit_given_back, turn_after_glance, turn_after_verdict, or_refused, turn_after_owe, turn_after_see, slots_of, turn_after_spend, tend, turn_after_tend, turn, type_refusal}
+use Rattle.chi_replay.specs.Turns.{Answer, Asks, Claimed, Ends, GiveBack, Glanced, Judged, Machine, Owed, Saw, Spent, Tended, Turn, Went, act_turn, act_refusal, machine_agent_refusal, arrive, arriving, turn_of_attempt, cancelled_refusal, turn_after_claim, turn_after_release, completing, credits_of, turn_after_action, give_back, credit_given_back, turn_after_glance, turn_after_verdict, or_refused, turn_after_owe, turn_after_see, slots_of, turn_after_spend, tend, turn_after_tend, turn, type_refusal}
 use Rattle.chi_replay.specs.Texts.{ending}
 use Rattle.chi_replay.proofs.PlainReplies.{IsPlain, audit, credits, flits, reply, shown, totals}
 
@@ -110,10 +110,6 @@ when_judged : (m : Machine) (answer : Answer) → SaysPlain (turn_after_verdict 
 when_judged m (Judged coherent) = audit _
 when_judged m other = empty
 
-of_acting : (own : Bool) (m : Machine) (action : Action) → SaysPlain (acting own m action)
-of_acting true m action = of_act m action
-of_acting false m action = of_arrive m action.agent action.line
-
 pub turn_plain : (m : Machine) (command : Command) → SaysPlain (turn m command)
 turn_plain m commands.Totals = when_glanced m
 turn_plain m commands.Audit = when_judged m
@@ -123,4 +119,4 @@ turn_plain m (commands.Arrive agent l) = of_arrive m agent l
 turn_plain m (commands.See agent) = refused_or (machine_agent_refusal m agent) m _ (when_seen m agent)
 turn_plain m (commands.GiveBack agent ty) = of_give_back m agent ty
 turn_plain m (commands.Tend agent ty) = of_tend m agent ty
-turn_plain m (commands.Act action) = of_acting (is_own_step action.step) m action
+turn_plain m (commands.Act action) = of_act m action

@@ -34,7 +34,7 @@ use Rattle.chi_node.specs.declared.answers.Stepped.{Stepped}
 use Rattle.chi_node.specs.Requester.{RequesterState}
 use Rattle.chi_node.specs.Arrives.{Arrives}
 use Rattle.chi_node.specs.AfterStep.{Completes, Finishes, account_after, requester_after}
-use Rattle.chi_node.specs.Calls.{ArrivesAt, arrival_action, is_own_step, place_at}
+use Rattle.chi_node.specs.Calls.{ArrivesAt, arrival_action, place_at}
 use Rattle.chi_script.specs.declared.commands.Command.TheVariants as commands
 use Rattle.chi_slice.specs.Audits.{IsAudited, loads_in}
 use Rattle.chi_node.specs.Home.{HomeState, slices_after, node_line, slice_of}
@@ -42,7 +42,7 @@ use Rattle.chi_node.specs.System.{ArrivesIn, IsSystem, OthersStay, StepsIn, Syst
 use Rattle.chi_reply.specs.Replies.{audit_text, reply_text, totals_text}
 use Rattle.chi_reply.specs.declared.replies.Reply.TheVariants as replies
 use Rattle.chi_replay.specs.Ports.{Claims, Owes, Releases, Spends, seen_counts}
-use Rattle.chi_replay.specs.Turns.{Claimed, Ends, Glanced, Judged, Machine, Owed, Spent, Turn, Went, act_turn, act_refusal, acting, machine_after_admission, arrive, arriving, turn_of_attempt, by_type, completing, credits_of, turn_after_action, less_one, or_refused, slots_after, slots_of, with_action, with_arrival, with_credits, with_end, turn}
+use Rattle.chi_replay.specs.Turns.{Claimed, Ends, Glanced, Judged, Machine, Owed, Spent, Turn, Went, act_turn, act_refusal, machine_after_admission, arrive, arriving, turn_of_attempt, by_type, completing, credits_of, turn_after_action, less_one, or_refused, slots_after, slots_of, with_action, with_arrival, with_credits, with_end, turn}
 use Rattle.chi_replay.specs.NodeReplies.{arrival_reply, done_reply, step_reply, totals_told}
 use Rattle.chi_replay.specs.Session.{PlaysOn, SaysOn, machine_of, ports_of}
 use Rattle.chi_replay.proofs.Machines.{at_port, at_port_again, credits_at, machine_after, machine_seen_same, ports_after, ports_same, slots_at}
@@ -210,18 +210,13 @@ done_plays y y' action (Completed slot) (Some released) k low home others h =
     (completing_plays y y' action slot released k low home others h.1)
 
 -- a step
-step_plays : (y y' : SystemState) (action : Action) (result : Result Stepped Refusal) → IsSystem y → refusal_of result ≡ system_step_refusal y action → IfOk result (λ stepped. StepsIn y y' action stepped) → OnErr result (y' ≡ y)
+pub step_plays : (y y' : SystemState) (action : Action) (result : Result Stepped Refusal) → IsSystem y → refusal_of result ≡ system_step_refusal y action → IfOk result (λ stepped. StepsIn y y' action stepped) → OnErr result (y' ≡ y)
     → PlaysOn (act_turn (machine_of y) action) y y' (reply_text (step_reply result))
 step_plays y y' action (Err refusal) k h ok err = refused_plays y y' (act_refusal (machine_of y) action) refusal _ (h ∙ sym (act_same y action)) err
 step_plays y y' action (Ok stepped) k h ok err =
     allowed_plays y y' (act_refusal (machine_of y) action) _ (reply_text (step_reply (Ok stepped))) (h ∙ sym (act_same y action))
     (subst (λ (e : Effect). PlaysOn (turn_after_action e (machine_of y) action) y y' (reply_text (done_reply stepped.effect stepped.released))) ok.effect
     (done_plays y y' action stepped.effect stepped.released k (steps_low y action k h) ok.home ok.others ok.requester))
-
--- an action that is none of an arrival's
-pub own_plays : (y y' : SystemState) (action : Action) (result : Result Stepped Refusal) → is_own_step action.step ≡ true → IsSystem y → refusal_of result ≡ system_step_refusal y action → IfOk result (λ stepped. StepsIn y y' action stepped) → OnErr result (y' ≡ y)
-    → PlaysOn (acting (is_own_step action.step) (machine_of y) action) y y' (reply_text (step_reply result))
-own_plays y y' action result own k h ok err = subst (λ (b : Bool). PlaysOn (acting b (machine_of y) action) y y' (reply_text (step_reply result))) (sym own) (step_plays y y' action result k h ok err)
 
 -- a turn that was played says its line, with its end
 pub said_on : (y y' : SystemState) (t : Turn) (said before after : List ℕ) → PlaysOn t y y' said → after ≡ before ++ (said ++ (10 ∷ [])) → SaysOn t y y' before after

@@ -31,7 +31,7 @@ use Rattle.chi_node.specs.declared.answers.Arrived.{Arrived}
 use Rattle.chi_node.specs.declared.answers.Arrived.TheVariants as arrivals
 use Rattle.chi_node.specs.AfterStep.{account_after}
 use Rattle.chi_node.specs.Parts.{is_of_profile}
-use Rattle.chi_node.specs.Calls.{arrival_action, arrival_refusal, is_own_step, is_slot_taken, place_at, wanted_credit, refused_with}
+use Rattle.chi_node.specs.Calls.{arrival_action, arrival_refusal, is_slot_taken, place_at, wanted_credit, refused_with}
 use Rattle.chi_slice.specs.Audits.{loads_in, stores_in}
 use Rattle.chi_node.specs.Home.{HomeState, slices_after, node_flits_refusal, node_last, node_line, opening_home, slice_of, node_view_refusal}
 use Rattle.chi_reply.specs.Replies.{audit_text, credits_text, flits_text, reply_text, shown_text, totals_text}
@@ -265,11 +265,6 @@ turn_after_verdict m (Judged coherent) =
     Ends (audit_text (record { loads = loads_in m.home.slices; stores = stores_in m.home.slices; coherent = coherent })) m
 turn_after_verdict m other = never m
 
--- an action; Admit and Retry are what an arrival does
-abbrev pub acting : Bool → Machine → Action → Turn
-acting true m action = act_turn m action
-acting false m action = arrive m action.agent action.line
-
 -- the table of the commands
 abbrev pub turn : Machine → Command → Turn
 turn m commands.Totals = Asks Glance (turn_after_glance m)
@@ -280,4 +275,4 @@ turn m (commands.Arrive agent l) = arrive m agent l
 turn m (commands.See agent) = or_refused (machine_agent_refusal m agent) m (Asks (See agent) (turn_after_see m agent))
 turn m (commands.GiveBack agent ty) = give_back m agent ty
 turn m (commands.Tend agent ty) = tend m agent ty
-turn m (commands.Act action) = acting (is_own_step action.step) m action
+turn m (commands.Act action) = act_turn m action

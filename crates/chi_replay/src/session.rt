@@ -1,14 +1,13 @@
 //! One command after the other, played on a node.
 
 ghost use Rattle.std.specs.Prelude.{◌≡◌, [], ◌∷◌, ◌++◌, OnOk, string_bytes};
-ghost use Rattle.chi_node.specs.Calls.{is_own_step};
 ghost use Rattle.chi_reply.specs.Replies.{reply_text};
 ghost use Rattle.chi_script.specs.declared.commands.Command.TheVariants as commands;
 ghost use Rattle.chi_replay.specs.Turns.{turn};
 ghost use Rattle.chi_replay.specs.Session.{PlaysOn, SaysTurn, machine_of};
 
 use crate::node_replies::{arrival_reply, give_back_reply, step_reply, tend_reply, totals_told};
-use chi_flit::{Agent, CreditType, Line, NoMemory, Step};
+use chi_flit::{Agent, CreditType, Line, NoMemory};
 use chi_node::System;
 use chi_reply::{InFlight, Printable, Reply, SeenCredits, Shown};
 use chi_script::Command;
@@ -55,13 +54,9 @@ pub fn answer<A: Allocator, B: Allocator>(
             let reply = tend(system, agent, credit);
             say(&reply, text)
         }
-        Command::Act(action) if is_own_step(action.step) => {
-            let stepped = system.step(action);
-            say(&step_reply(stepped), text)
-        }
         Command::Act(action) => {
-            let arrived = system.arrive(action.agent, action.line);
-            say(&arrival_reply(arrived), text)
+            let stepped = system.step(action.action());
+            say(&step_reply(stepped), text)
         }
     }
 }
@@ -183,11 +178,4 @@ fn tend<A: Allocator>(system: &mut System<A>, agent: Agent, credit: Option<Credi
 {
     let tended = system.tend(agent, credit);
     tend_reply(tended)
-}
-
-/// Whether a step is none of an arrival's.
-fn is_own_step(step: Step) -> bool
-    ensures { result ≡ is_own_step step }
-{
-    !matches!(step, Step::Admit | Step::Retry)
 }

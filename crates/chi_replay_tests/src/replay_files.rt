@@ -1,9 +1,12 @@
 //! Files of commands, good and faulty, by `docs/FORMATS.md`, "Replay files".
 
+ghost use Rattle.std.specs.Prelude.{◌≡◌};
+
 use chi_flit::{Action, Agent, CreditType, Kind, Line, Profile, Slot, Step, WordNo};
 use chi_script::{
-    Command, Fault, Header, MOST_BYTES, commands_are_lines, headers_are_lines, number,
-    numbers_are_decimal, read_command, read_file, read_header, replay_front_is_enough, small,
+    Command, Fault, Header, MOST_BYTES, RequesterAction, commands_are_lines, headers_are_lines,
+    number, numbers_are_decimal, read_command, read_file, read_header, replay_front_is_enough,
+    small,
 };
 use std::alloc::{AllocError, Global};
 use std::process::Abort;
@@ -38,13 +41,24 @@ fn reads(rt: &impl Abort, alloc: Global, line: &[u8], wanted: Result<Option<Comm
     assert!(rt; line_two(alloc, line) == wanted, "{line:?}");
 }
 
-/// A command that is one step of agent 1 on line 3.
-fn act(step: Step) -> Command {
-    Command::Act(Action {
+/// That step of agent 1 on line 3.
+fn action(step: Step) -> Action
+    ensures { result.step ≡ step }
+{
+    Action {
         agent: Agent(1),
         line: Line(3),
         step,
-    })
+    }
+}
+
+/// One line, which is given without its end, is read as a command that is this action.
+fn acts(rt: &impl Abort, alloc: Global, line: &[u8], wanted: Action) {
+    let read = match line_two(alloc, line) {
+        Ok(Some(Command::Act(read))) => Some(read.action()),
+        _ => None,
+    };
+    assert!(rt; read == Some(wanted), "{line:?}");
 }
 
 #[test]
@@ -62,14 +76,14 @@ fn a_good_file_is_its_header_and_its_commands(rt: HostRuntime) -> Result<(), Fau
     };
     assert!(rt; script.header == header);
     let commands = [
-        act(Step::Issue(Kind::ReadNotSharedDirty, Slot(7))),
+        Command::Act(RequesterAction::new(action(Step::Issue(Kind::ReadNotSharedDirty, Slot(7))))),
         Command::Arrive {
             agent: Agent(1),
             line: Line(3),
         },
-        act(Step::Start),
-        act(Step::RecvData),
-        act(Step::RecvAck),
+        Command::Act(RequesterAction::new(action(Step::Start))),
+        Command::Act(RequesterAction::new(action(Step::RecvData))),
+        Command::Act(RequesterAction::new(action(Step::RecvAck))),
         Command::Flits {
             agent: Agent(255),
             line: Line(255),
@@ -109,7 +123,7 @@ const ACTIONS: [(&[u8], Step); 18] = [
 #[test]
 fn each_action_is_a_line(rt: HostRuntime) {
     for (line, step) in &ACTIONS {
-        reads(&rt, rt.alloc(), line, Ok(Some(act(*step))));
+        acts(&rt, rt.alloc(), line, action(*step));
     }
 }
 
@@ -127,8 +141,8 @@ const KINDS: [(&[u8], Kind); 8] = [
 #[test]
 fn each_kind_is_named(rt: HostRuntime) {
     for (line, kind) in &KINDS {
-        let issue = act(Step::Issue(*kind, Slot(0)));
-        reads(&rt, rt.alloc(), line, Ok(Some(issue)));
+        let issue = action(Step::Issue(*kind, Slot(0)));
+        acts(&rt, rt.alloc(), line, issue);
     }
 }
 

@@ -4,7 +4,7 @@ use Rattle.std.proofs.lemmas.Bool.Decides.{nat_tests}
 use Rattle.chi_script.specs.declared.commands.Command.{Command}
 use Rattle.chi_script.specs.declared.headers.Header.{Header}
 use Rattle.chi_script.specs.Commands.{command_of, verb_step}
-use Rattle.chi_script.specs.Spelling.{IsHeaderLine, IsLine}
+use Rattle.chi_script.specs.Spelling.{IsHeaderLine}
 use Rattle.chi_script.specs.Words.{◌>>=◌, small_of, words_of}
 use Rattle.chi_script.proofs.CommandLemmas.{line_again, line_read}
 use Rattle.chi_script.proofs.LineLemmas.{parts_of as cut}

@@ -1,6 +1,6 @@
 -- The lines of a check file: a comment, or a command that may carry the answer that is wanted of it
 -- (docs/FORMATS.md, "Check files").
-use Rattle.std.specs.Prelude.{ℕ, ◌==◌, Bool, true, List, [], ◌∷◌, Option, Some, None, drop, length, map, take, if◌then◌else◌, codes}
+use Rattle.std.specs.Prelude.{ℕ, ◌==◌, Bool, true, List, [], ◌∷◌, Option, Some, None, drop, length, take, if◌then◌else◌, codes}
 use Rattle.std.specs.Option.{option_map}
 use Rattle.std.specs.Str.{bytes_eq}
 use Rattle.chi_script.specs.declared.commands.Command.{Command}

@@ -1,14 +1,8 @@
 -- The commands of a replay file: a table for each count of words, a line for each command
 -- (docs/FORMATS.md, "Replay files").
-use Rattle.std.specs.Prelude.{ℕ, ◌==◌, List, [], ◌∷◌, Option, Some, None, if◌then◌else◌, codes}
+use Rattle.std.specs.Prelude.{ℕ, List, [], ◌∷◌, Option, Some, None, if◌then◌else◌, codes}
 use Rattle.chi_flit.specs.Numbers.{agent_at, line_at, slot_at, word_at, credit_of}
 use Rattle.chi_flit.specs.Kind.{kind_text}
-use Rattle.chi_flit.specs.declared.numbers.Agent.{Agent}
-use Rattle.chi_flit.specs.declared.numbers.Line.{Line}
-use Rattle.chi_flit.specs.declared.numbers.Slot.{Slot}
-use Rattle.chi_flit.specs.declared.numbers.WordNo.{WordNo}
-use Rattle.chi_flit.specs.declared.credit.CreditType.{CreditType}
-use Rattle.chi_flit.specs.declared.credit.CreditType.TheVariants.{T0, T1, T2, T3}
 use Rattle.chi_flit.specs.declared.kind.Kind.{Kind}
 use Rattle.chi_flit.specs.declared.kind.Kind.TheVariants.{ReadNotSharedDirty, ReadShared, ReadUnique, CleanUnique, Evict, WriteBackFull, WriteCleanFull, WriteEvictFull}
 use Rattle.chi_flit.specs.declared.action.Step.{Step}

@@ -106,7 +106,12 @@ fn add_check<'a, A: Allocator>(
     if is_comment(line) {
         return Ok(());
     }
-    let check = check_in(line, number)?;
-    checks.push(check)?;
-    Ok(())
+    // (matched, since the checker doesn't follow a `?` on what has a reference and an invariant in it)
+    match check_in(line, number) {
+        Ok(check) => match checks.push(check) {
+            Ok(()) => Ok(()),
+            Err(_) => Err(Fault::NoMemory),
+        },
+        Err(fault) => Err(fault),
+    }
 }

@@ -1,11 +1,12 @@
 //! The commands of a replay file: a table for each count of words, a line for each command.
 
-ghost use Rattle.std.specs.Prelude.{◌≡◌, ◌∷◌};
+ghost use Rattle.std.specs.Prelude.{◌≡◌, ◌≢◌, ◌∷◌, IfSome};
 ghost use Rattle.chi_script.specs.Words.{words_of};
 ghost use Rattle.chi_flit.specs.Numbers.{credit_of};
 ghost use Rattle.chi_script.specs.Commands.{command_of, command_bare, command_one, command_two, command_step, act_at, verb_step, step_with_one, step_with_two, kind_named};
 
 use crate::numbers::{number, small};
+use crate::requester_actions::RequesterAction;
 use crate::usual_lines::usual_command;
 use crate::words::{first_argument, first_word, is};
 use chi_flit::{Action, Agent, CreditType, Kind, Line, Slot, Step, WordNo};
@@ -49,8 +50,8 @@ pub enum Command {
     },
     /// A command that is one action: `load N L W`, `store N L W V`, `issue N L KIND SLOT`, and of the
     /// form `VERB N L` those of `drop`, `start`, `snp`, `snpresp`, `retryack`, `resend`, `cancel`, `data`,
-    /// `comp`, `ack`, `dbid` and `wrdata`.
-    Act(Action),
+    /// `comp`, `ack`, `dbid` and `wrdata`. No line is Admit or Retry, which `arrive` does.
+    Act(RequesterAction),
 }
 
 /// The command that a line is, which is given without its line end. `None` for an unknown word, a wrong
@@ -186,6 +187,8 @@ fn credit_at(number: u8) -> Option<CreditType>
 
 /// The step of the agent and the line that two words name.
 fn command_of_step(first: &[u8], second: &[u8], step: Step) -> Option<Command>
+    requires no_admit { step ≢ Step.Admit }
+    requires no_retry { step ≢ Step.Retry }
     ensures { result ≡ command_step first.now second.now step }
 {
     Some(act(small(first)?, small(second)?, step))
@@ -193,17 +196,21 @@ fn command_of_step(first: &[u8], second: &[u8], step: Step) -> Option<Command>
 
 /// The command that is this step of an agent on a line.
 pub(crate) fn act(first: u8, second: u8, step: Step) -> Command
+    requires no_admit { step ≢ Step.Admit }
+    requires no_retry { step ≢ Step.Retry }
     ensures { result ≡ act_at first second step }
 {
     let agent = Agent(first);
     let line = Line(second);
-    Command::Act(Action { agent, line, step })
+    let action = RequesterAction::new(Action { agent, line, step });
+    Command::Act(action)
 }
 
 /// The step of `VERB N L`.
 #[tactic(auto, unfolding(crate::specs::Commands::verb_step))]
 fn step_of(verb: &[u8]) -> Option<Step>
-    ensures { result ≡ verb_step verb.now }
+    ensures is { result ≡ verb_step verb.now }
+    ensures own { IfSome result (λ step. (step ≢ Step.Admit) × (step ≢ Step.Retry)) }
 {
     if is(verb, "drop") {
         Some(Step::Drop)
@@ -236,7 +243,8 @@ fn step_of(verb: &[u8]) -> Option<Step>
 
 /// The step of `VERB N L` and one word whose form the verb says.
 fn step_with_one(verb: &[u8], third: &[u8]) -> Option<Step>
-    ensures { result ≡ step_with_one verb.now third.now }
+    ensures is { result ≡ step_with_one verb.now third.now }
+    ensures own { IfSome result (λ step. (step ≢ Step.Admit) × (step ≢ Step.Retry)) }
 {
     if is(verb, "load") {
         Some(Step::Load(WordNo(small(third)?)))
@@ -247,7 +255,8 @@ fn step_with_one(verb: &[u8], third: &[u8]) -> Option<Step>
 
 /// The step of `VERB N L` and two words whose form the verb says.
 fn step_with_two(verb: &[u8], third: &[u8], fourth: &[u8]) -> Option<Step>
-    ensures { result ≡ step_with_two verb.now third.now fourth.now }
+    ensures is { result ≡ step_with_two verb.now third.now fourth.now }
+    ensures own { IfSome result (λ step. (step ≢ Step.Admit) × (step ≢ Step.Retry)) }
 {
     if is(verb, "store") {
         Some(Step::Store(WordNo(small(third)?), number(fourth)?))

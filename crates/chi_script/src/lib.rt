@@ -14,6 +14,7 @@ mod headers;
 mod laws;
 mod numbers;
 mod operations;
+mod requester_actions;
 mod storms;
 mod usual_lines;
 mod words;
@@ -32,5 +33,6 @@ pub use laws::{
 };
 pub use numbers::{number, small};
 pub use operations::{AgentOperation, read_operation};
+pub use requester_actions::RequesterAction;
 pub use storms::{StormFile, read_storm};
 pub use words::{first_word, is, read_words};

@@ -1,6 +1,6 @@
 //! The lines that nearly all commands of a file are, known by their first letters.
 
-ghost use Rattle.std.specs.Prelude.{◌≡◌, ℕ, ◌∷◌, IfSome, Some, true};
+ghost use Rattle.std.specs.Prelude.{◌≡◌, ◌≢◌, ℕ, ◌∷◌, IfSome, Some, true};
 ghost use Rattle.chi_script.specs.Words.{has_no_space, words_of};
 ghost use Rattle.chi_script.specs.Commands.{act_at, command_of, command_two};
 
@@ -76,6 +76,8 @@ fn glance(line: &[u8]) -> Option<Command>
 #[inline(always)]
 fn step_on(line: &[u8], verb: &[u8], step: Step) -> Option<Command>
     requires word { has_no_space verb.now ≡ true }
+    requires no_admit { step ≢ Step.Admit }
+    requires no_retry { step ≢ Step.Retry }
     requires step { (n l : ℕ) → command_two verb.now n l ≡ Some (act_at n l step) }
     ensures { IfSome result (λ command. command_of (words_of line.now) ≡ Some command) }
 {

@@ -1,7 +1,7 @@
 -- Each command's line leads on, and the last one leads to the whole text.
-use Rattle.std.proofs.Common.{◌≡◌, ◌+◌, ◌<◌, ◌≤◌, ◌∷◌, drop, get_or, length, string_bytes, subst, add-one, drop-cons, arith, rules}
+use Rattle.std.proofs.Common.{◌≡◌, ◌+◌, ◌<◌, ◌≤◌, ◌∷◌, ◌∙◌, ap, drop, get_or, length, string_bytes, subst, sym, add-one, drop-cons, arith, rules}
 use Rattle.std.proofs.Math.ListN.{drop_of_length-le}
-use Rattle.chi_script.specs.declared.commands.Command.TheVariants.{Totals}
+use Rattle.chi_script.specs.declared.commands.Command.{Command}
 use Rattle.chi_replay.specs.Texts.{IsText}
 use Rattle.chi_replay.specs.Session.{machine_of, ports_of}
 use Rattle.chi_replay.proofs.Leads.{LeadsOn, leads_first, leads_further, leads_to}
@@ -15,9 +15,12 @@ loop-command-init g c =
 pub loop-command-preserved : goal.loop-command-preserved
 loop-command-preserved g c =
     let all = c.args.commands.now in
-    let low : c.loop-command.command-index < length all = omega arith in
-    let cut : drop c.loop-command.command-index all ≡ get_or all c.loop-command.command-index Totals ∷ drop (c.loop-command.command-index + 1) all = rw add-one (drop-cons all c.loop-command.command-index Totals low) in
-    leads_further c.args.config.now all (string_bytes c.loop-command.text) _ (machine_of c.loop-command.system) _ (ports_of c.loop-command.system) _ (get_or all c.loop-command.command-index Totals) (drop (c.loop-command.command-index + 1) all)
+    let n = c.loop-command.command-index in
+    let one = c.command-item.result in
+    let low : n < length all = omega arith in
+    let here : one ≡ get_or all n one = search (rules, c.command-item.is) in
+    let cut : drop n all ≡ one ∷ drop (n + 1) all = rw add-one (drop-cons all n one low) ∙ ap (λ (x : Command). x ∷ drop (n + 1) all) (sym here) in
+    leads_further c.args.config.now all (string_bytes c.loop-command.text) _ (machine_of c.loop-command.system) _ (ports_of c.loop-command.system) _ one (drop (n + 1) all)
     (subst (LeadsOn c.args.config.now all (string_bytes c.loop-command.text) (machine_of c.loop-command.system) (ports_of c.loop-command.system)) cut c.loop-command.invariant) (search (rules, c.in_ok-answer.ensures))
 
 pub returns : goal.returns

@@ -1,15 +1,15 @@
 -- What is answered to an arrival and to a step plays the command's turn, and is put behind the text.
-use Rattle.std.proofs.Common.{◌≡◌, Bool, true, false, IfOk, OnOk, string_bytes, subst, sym, rules}
+use Rattle.std.proofs.Common.{◌≡◌, IfOk, OnOk, string_bytes, subst, sym, rules}
 use Rattle.chi_flit.specs.declared.action.Action.{Action}
 use Rattle.chi_flit.specs.Refusal.{refusal_of}
-use Rattle.chi_node.specs.Calls.{is_own_step}
 use Rattle.chi_reply.specs.Replies.{reply_text}
 use Rattle.chi_script.specs.declared.commands.Command.{Command}
 use Rattle.chi_node.specs.System.{ArrivesIn, arrive_refusal}
 use Rattle.chi_replay.specs.NodeReplies.{arrival_reply, step_reply}
-use Rattle.chi_replay.specs.Turns.{acting, arrive}
+use Rattle.chi_replay.specs.Turns.{act_turn, arrive}
 use Rattle.chi_replay.specs.Session.{PlaysOn, SaysTurn, machine_of}
-use Rattle.chi_replay.proofs.Turned.{answered_on, arrive_plays, own_plays}
+use Rattle.chi_replay.proofs.OwnSteps.{own_step}
+use Rattle.chi_replay.proofs.Turned.{answered_on, arrive_plays, step_plays}
 use Rattle.chi_replay.proofs.session.answer.Goals as goal
 
 pub returns-in-Arrive : goal.returns-in-Arrive
@@ -25,29 +25,16 @@ returns-in-Arrive g c =
     subst (λ (k : Command). OnOk c.say.result (SaysTurn k y did.new.self (string_bytes c.args.text.now) (string_bytes c.say.new.text))) (sym c.in-Arrive.is)
     (answered_on y did.new.self (arrive (machine_of y) agent line) (reply_text c.arrival_reply.result) (string_bytes c.args.text.now) (string_bytes c.say.new.text) c.say.result plays c.say.ensures)
 
+pub step-stepped-requires : goal.step-stepped-requires
+step-stepped-requires g c = own_step c.action.result.step c.action.ensures.no_admit c.action.ensures.no_retry
+
 pub returns-in-Act : goal.returns-in-Act
 returns-in-Act g c =
     let y = c.args.system.now in
     let did = c.step-stepped in
     let action = c.in-Act.action in
-    let own : is_own_step action.step ≡ true = search (rules, c.is_own_step.ensures, c.if-is_own_step.true) in
     let said : c.step_reply.result ≡ step_reply did.result = search (rules, c.step_reply.ensures) in
-    let plays : PlaysOn (acting (is_own_step action.step) (machine_of y) action) y did.new.self (reply_text c.step_reply.result) = rw said (own_plays y did.new.self action did.result own did.ensures.kept did.ensures.refusal did.ensures.ok did.ensures.err) in
+    let stepped : PlaysOn (act_turn (machine_of y) c.action.result) y did.new.self (reply_text c.step_reply.result) = rw said (step_plays y did.new.self c.action.result did.result did.ensures.kept did.ensures.refusal did.ensures.ok did.ensures.err) in
+    let plays : PlaysOn (act_turn (machine_of y) action) y did.new.self (reply_text c.step_reply.result) = subst (λ (a : Action). PlaysOn (act_turn (machine_of y) a) y did.new.self (reply_text c.step_reply.result)) c.action.ensures.is stepped in
     subst (λ (k : Command). OnOk c.say-in-Act.result (SaysTurn k y did.new.self (string_bytes c.args.text.now) (string_bytes c.say-in-Act.new.text))) (sym c.in-Act.is)
-    (answered_on y did.new.self (acting (is_own_step action.step) (machine_of y) action) (reply_text c.step_reply.result) (string_bytes c.args.text.now) (string_bytes c.say-in-Act.new.text) c.say-in-Act.result plays c.say-in-Act.ensures)
-
-pub returns-in-Act-2 : goal.returns-in-Act-2
-returns-in-Act-2 g c =
-    let y = c.args.system.now in
-    let did = c.arrive-arrived-in-Act-2 in
-    let action = c.in-Act-2.action in
-    let same : c.in-Act.action ≡ action = cc (c.in-Act.is, c.in-Act-2.is) in
-    let tested : is_own_step c.in-Act.action.step ≡ false = search (rules, c.is_own_step.ensures, c.if-is_own_step.false) in
-    let other : is_own_step action.step ≡ false = subst (λ (a : Action). is_own_step a.step ≡ false) same tested in
-    let said : c.arrival_reply-in-Act-2.result ≡ arrival_reply did.result = search (rules, c.arrival_reply-in-Act-2.ensures) in
-    let refusal : refusal_of did.result ≡ arrive_refusal y action.agent.0 action.line.0 = search (rules, did.ensures.refusal) in
-    let ok : IfOk did.result (λ arrived. ArrivesIn y did.new.self action.agent action.line arrived) = search (rules, did.ensures.ok) in
-    let arrives : PlaysOn (acting false (machine_of y) action) y did.new.self (reply_text c.arrival_reply-in-Act-2.result) = rw said (arrive_plays y did.new.self action.agent action.line did.result did.ensures.kept refusal ok did.ensures.err) in
-    let plays : PlaysOn (acting (is_own_step action.step) (machine_of y) action) y did.new.self (reply_text c.arrival_reply-in-Act-2.result) = subst (λ (b : Bool). PlaysOn (acting b (machine_of y) action) y did.new.self (reply_text c.arrival_reply-in-Act-2.result)) (sym other) arrives in
-    subst (λ (k : Command). OnOk c.say-in-Act-2.result (SaysTurn k y did.new.self (string_bytes c.args.text.now) (string_bytes c.say-in-Act-2.new.text))) (sym c.in-Act-2.is)
-    (answered_on y did.new.self (acting (is_own_step action.step) (machine_of y) action) (reply_text c.arrival_reply-in-Act-2.result) (string_bytes c.args.text.now) (string_bytes c.say-in-Act-2.new.text) c.say-in-Act-2.result plays c.say-in-Act-2.ensures)
+    (answered_on y did.new.self (act_turn (machine_of y) action) (reply_text c.step_reply.result) (string_bytes c.args.text.now) (string_bytes c.say-in-Act.new.text) c.say-in-Act.result plays c.say-in-Act.ensures)

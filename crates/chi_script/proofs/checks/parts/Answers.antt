@@ -1,5 +1,5 @@
 -- Each step of the walk looks at what is left of the line.
-use Rattle.std.proofs.Common.{◌≡◌, ◌+◌, ◌-◌, ◌<◌, length, drop, take, Some, true, false, sym, ap, ◌∙◌, arith}
+use Rattle.std.proofs.Common.{◌≡◌, ◌+◌, length, drop, Some, true, false, sym, ap, ◌∙◌, arith}
 use Rattle.std.proofs.lemmas.List.{take_rest}
 use Rattle.chi_script.specs.Checks.{arrow, begins_with, parts_of}
 use Rattle.chi_script.proofs.PartLemmas.{ends, goes_on, stops}
