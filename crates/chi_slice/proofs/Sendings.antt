@@ -20,13 +20,13 @@ use Rattle.chi_homeline.specs.declared.serving.Serving.TheVariants.{Idle, Snoopi
 use Rattle.chi_homeline.specs.declared.serving.SnoopAnswer.{SnoopAnswer}
 use Rattle.chi_homeline.specs.declared.serving.Started.TheVariants.{Sends, Snoops}
 use Rattle.chi_homeline.specs.declared.serving.Waiting.{Waiting}
-use Rattle.chi_homeline.specs.Home.{Home, answer_taken, asks, completed_by as completed_home, completed_filter, completes_unique, completion_by, completion_message, completion_of, data_to_send, finished_as, finished_sends_as, home_after_completion, home_after_service, served_sends, started_as, started_sends_as, taken_up, waiting_of}
+use Rattle.chi_homeline.specs.Home.{Home, answer_taken, asks, completed_filter, completes_unique, completion_message, completion_of, data_to_send, finished_as, finished_sends_as, home_after_completion, home_after_service, served_sends, started_as, started_sends_as, taken_up, waiting_of}
 use Rattle.chi_line.specs.LineState.{LineState, cells_of, rn_of}
 use Rattle.chi_line.specs.Step.{after, after_step, answer_in, answered_by, is_step_in_range, started_line, where_some}
 use Rattle.chi_line.specs.Refused.{line_refusal}
 use Rattle.chi_line.specs.Traffic.{answer_flit, answered_flits, completion_ack, completion_flits, flit_taken, flits_sent, request_again, retry_ack, snoop_answer, start_flits, started_flits}
 use Rattle.chi_wires.specs.Flight.{flit, flit_of}
-use Rattle.chi_slice.specs.Sendings.{answer_message, completed_for, completion_sent, due_of, message_taken, own_sent, sent_by, start_due, start_sent, words_sent}
+use Rattle.chi_slice.specs.Sendings.{answer_message, completed_for, completion_sent, due_of, message_taken, own_sent, sent_by, service_sent, start_due, start_sent, words_sent}
 use Rattle.chi_slice.specs.declared.traffic.Due.{Due}
 use Rattle.chi_slice.specs.declared.traffic.FlitsSent.{FlitsSent}
 use Rattle.chi_slice.specs.Slice.{SliceKept, SliceState, action_refusal, conditions_under, flits_refusal, is_in_range, is_line_in_range, line, no_terms, row_of_line, slice_after}
@@ -44,22 +44,24 @@ flag true f n = refl
 flag false f n = refl
 
 -- a request that is served: whoever is asked is awaited, and a completion leaves the flag as it says
-served : (home : Home) (kind : Kind) (snoop : Snoop) (agent : Agent) (slot : Slot) → snoop_of kind ≡ Some snoop
-    → flits_in (start_sent (Some snoop) kind agent (home_after_service home kind snoop agent slot)) ≡ start_flits agent (served_sends home snoop agent)
-served home kind snoop agent slot is = go (has_any (asks snoop home.filter agent.0))
+served : (home : Home) (kind : Kind) (snoop : Snoop) (agent : Agent) (slot : Slot)
+    → flits_in (service_sent (home_after_service home kind agent slot).serving kind snoop agent (home_after_service home kind agent slot)) ≡ start_flits agent (served_sends home kind snoop agent)
+served home kind snoop agent slot = go (has_any (asks kind home.filter agent.0))
   where
-    go : (b : Bool)
-        → flits_in (start_sent (Some snoop) kind agent (if b then record home { serving = Snooping agent kind slot; awaited = asks snoop home.filter agent.0 } else home_after_completion home snoop agent slot))
-        ≡ start_flits agent (if b then Snoops snoop (asks snoop home.filter agent.0) else Sends (completion_of home snoop agent home.memory))
+    after_as : Bool → Home
+    after_as b = if b then record home { serving = Snooping agent kind slot; awaited = asks kind home.filter agent.0 } else home_after_completion home kind agent slot
+
+    go : (b : Bool) → flits_in (service_sent (after_as b).serving kind snoop agent (after_as b))
+        ≡ start_flits agent (if b then Snoops snoop (asks kind home.filter agent.0) else Sends (completion_of home kind agent home.memory))
     go true = refl
-    go false = ap (λ (unique : Bool). flit agent (completion_message snoop unique home.memory) ∷ []) (flag (completes_unique snoop home.filter agent.0) home.filter agent.0)
+    go false = ap (λ (unique : Bool). flit agent (completion_message kind unique home.memory) ∷ []) (flag (completes_unique kind home.filter agent.0) home.filter agent.0)
 
 started : (home : Home) (agent : Agent) (kind : Kind) (slot : Slot)
-    → flits_in (start_sent (snoop_of kind) kind agent (started_as kind (snoop_of kind) (taken_up home agent.0) agent slot)) ≡ start_flits agent (started_sends_as kind (snoop_of kind) home agent slot)
-started home agent ReadNotSharedDirty slot = served (taken_up home agent.0) ReadNotSharedDirty SnpNotSharedDirty agent slot refl
-started home agent ReadShared slot = served (taken_up home agent.0) ReadShared SnpShared agent slot refl
-started home agent ReadUnique slot = served (taken_up home agent.0) ReadUnique SnpUnique agent slot refl
-started home agent CleanUnique slot = served (taken_up home agent.0) CleanUnique SnpCleanInvalid agent slot refl
+    → flits_in (start_sent kind (snoop_of kind) agent (started_as kind (taken_up home agent.0) agent slot)) ≡ start_flits agent (started_sends_as kind (snoop_of kind) home agent slot)
+started home agent ReadNotSharedDirty slot = served (taken_up home agent.0) ReadNotSharedDirty SnpNotSharedDirty agent slot
+started home agent ReadShared slot = served (taken_up home agent.0) ReadShared SnpShared agent slot
+started home agent ReadUnique slot = served (taken_up home agent.0) ReadUnique SnpUnique agent slot
+started home agent CleanUnique slot = served (taken_up home agent.0) CleanUnique SnpCleanInvalid agent slot
 started home agent Evict slot = refl
 started home agent WriteBackFull slot = refl
 started home agent WriteCleanFull slot = refl
@@ -76,17 +78,18 @@ finished : (home : Home) (words : List ℕ) (serving : Serving) → home.serving
 finished home words Idle is = refl
 finished home words (AwaitingCompAck agent slot) is = refl
 finished home words (AwaitingWriteData agent kind slot) is = refl
-finished home words (Snooping agent kind slot) is = go (has_any home.awaited) (snoop_of kind)
+finished home words (Snooping agent kind slot) is = go (has_any home.awaited)
   where
-    still : (snoop : Option Snoop) → flits_in (completed_for home.serving snoop agent words home) ≡ []
-    still snoop = rw is refl
+    after_as : Bool → Home
+    after_as b = if b then home else home_after_completion home kind agent slot
 
-    go : (b : Bool) (snoop : Option Snoop)
-        → flits_in (completed_for (if b then home else completed_home home snoop agent slot).serving snoop agent words (if b then home else completed_home home snoop agent slot))
-        ≡ completion_flits (if b then None else completion_by home snoop agent words)
-    go true snoop = still snoop
-    go false None = still None
-    go false (Some snoop) = ap (λ (unique : Bool). flit agent (completion_message snoop unique words) ∷ []) (flag (completes_unique snoop home.filter agent.0) home.filter agent.0)
+    still : flits_in (completed_for home.serving kind agent words home) ≡ []
+    still = rw is refl
+
+    go : (b : Bool) → flits_in (completed_for (after_as b).serving kind agent words (after_as b))
+        ≡ completion_flits (if b then None else Some (record { agent = agent; message = completion_of home kind agent words }))
+    go true = still
+    go false = ap (λ (unique : Bool). flit agent (completion_message kind unique words) ∷ []) (flag (completes_unique kind home.filter agent.0) home.filter agent.0)
 
 unanswered : (s : LineState) (serving : Serving) (words : List ℕ) → s.home.serving ≡ serving → flits_in (completion_sent serving words s.home) ≡ []
 unanswered s Idle words is = refl

@@ -1,10 +1,11 @@
 -- Of the code alone, no public promise cites it: the flits that an action sends, by what its line says before it and
 -- the home after it (docs/PROTOCOL.md, "The actions").
-use Rattle.std.specs.Prelude.{ℕ, List, Option, Some, None, true, if◌then◌else◌}
+use Rattle.std.specs.Prelude.{ℕ, List, Option, Some, None, true}
 use Rattle.chi_flit.specs.declared.action.Step.{Step}
 use Rattle.chi_flit.specs.declared.action.Step.TheVariants as steps
 use Rattle.chi_flit.specs.declared.credit.Profile.{Profile}
 use Rattle.chi_flit.specs.declared.kind.Kind.{Kind}
+use Rattle.chi_flit.specs.declared.kind.Kind.TheVariants.{Evict}
 use Rattle.chi_flit.specs.declared.message.Channel.TheVariants as channels
 use Rattle.chi_flit.specs.declared.message.Msg.{Msg}
 use Rattle.chi_flit.specs.declared.message.Msg.TheVariants as messages
@@ -12,7 +13,7 @@ use Rattle.chi_flit.specs.declared.message.RspDown.TheVariants.{CompDBIDResp, Co
 use Rattle.chi_flit.specs.declared.message.RspUp.TheVariants.{CompAck}
 use Rattle.chi_flit.specs.declared.numbers.Agent.{Agent}
 use Rattle.chi_flit.specs.declared.snoop.Snoop.{Snoop}
-use Rattle.chi_flit.specs.Kind.{is_copy_back, snoop_of}
+use Rattle.chi_flit.specs.Kind.{snoop_of}
 use Rattle.chi_flit.specs.Message.{write_data_of}
 use Rattle.chi_homeline.specs.declared.serving.Serving.{Serving}
 use Rattle.chi_homeline.specs.declared.serving.Serving.TheVariants.{AwaitingCompAck, Snooping}
@@ -74,25 +75,22 @@ due_of profile s agent steps.RecvDbid = Own (Some (messages.DatUp (write_data_of
 due_of profile s agent other = Own None
 
 -- what a start sent, by the home after it
-abbrev pub service_sent : Serving → Snoop → Agent → Home → FlitsSent
-service_sent (Snooping served kind slot) snoop agent home = Snoops snoop home.awaited
-service_sent other snoop agent home = One agent (completion_message snoop home.filter.unique home.memory)
+abbrev pub service_sent : Serving → Kind → Snoop → Agent → Home → FlitsSent
+service_sent (Snooping served kind slot) asking snoop agent home = Snoops snoop home.awaited
+service_sent other kind snoop agent home = One agent (completion_message kind home.filter.unique home.memory)
 
-abbrev pub start_sent : Option Snoop → Kind → Agent → Home → FlitsSent
-start_sent None kind agent home = One agent (messages.RspDown (if is_copy_back kind then CompDBIDResp else CompI))
-start_sent (Some snoop) kind agent home = service_sent home.serving snoop agent home
+abbrev pub start_sent : Kind → Option Snoop → Agent → Home → FlitsSent
+start_sent Evict snoop agent home = One agent (messages.RspDown CompI)
+start_sent copy_back None agent home = One agent (messages.RspDown CompDBIDResp)
+start_sent kind (Some snoop) agent home = service_sent home.serving kind snoop agent home
 
 -- the completion that an answer brought, by the home after it
-abbrev pub completed_by : Option Snoop → Agent → List ℕ → Home → FlitsSent
-completed_by None agent words home = Nothing
-completed_by (Some snoop) agent words home = One agent (completion_message snoop home.filter.unique words)
-
-abbrev pub completed_for : Serving → Option Snoop → Agent → List ℕ → Home → FlitsSent
-completed_for (AwaitingCompAck served slot) snoop agent words home = completed_by snoop agent words home
-completed_for other snoop agent words home = Nothing
+abbrev pub completed_for : Serving → Kind → Agent → List ℕ → Home → FlitsSent
+completed_for (AwaitingCompAck served slot) kind agent words home = One agent (completion_message kind home.filter.unique words)
+completed_for other kind agent words home = Nothing
 
 abbrev pub completion_sent : Serving → List ℕ → Home → FlitsSent
-completion_sent (Snooping agent kind slot) words home = completed_for home.serving (snoop_of kind) agent words home
+completion_sent (Snooping agent kind slot) words home = completed_for home.serving kind agent words home
 completion_sent other words home = Nothing
 
 -- what a step sent, by what was due before it and the home after it
@@ -102,5 +100,5 @@ own_sent agent (Some message) = One agent message
 
 abbrev pub sent_by : Due → Agent → Home → FlitsSent
 sent_by (Own message) agent home = own_sent agent message
-sent_by (dues.Start kind) agent home = start_sent (snoop_of kind) kind agent home
+sent_by (dues.Start kind) agent home = start_sent kind (snoop_of kind) agent home
 sent_by (Completion serving words) agent home = completion_sent serving words home

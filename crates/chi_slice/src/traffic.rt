@@ -10,7 +10,7 @@ ghost use Rattle.chi_line.specs.Step.{answer_in, effect_of};
 ghost use Rattle.chi_line.specs.Traffic.{completion_ack, flit_taken, flits_sent, request_again, retry_ack, snoop_answer};
 ghost use Rattle.chi_rnline.specs.Rn.{request_message};
 ghost use Rattle.chi_wires.specs.Flight.{flit_of};
-ghost use Rattle.chi_slice.specs.Sendings.{answer_message, completion_sent, due_of, message_taken, sent_by, start_due, start_sent, words_sent};
+ghost use Rattle.chi_slice.specs.Sendings.{answer_message, completion_sent, due_of, message_taken, sent_by, service_sent, start_due, start_sent, words_sent};
 ghost use Rattle.chi_slice.specs.Slice.{KeepsSliceFlits, action_refusal, line as line_of_slice, slice_after};
 ghost use Rattle.chi_slice.specs.Traffic.{flits_in};
 
@@ -222,13 +222,13 @@ fn start_due(waiting: Option<Waiting>) -> Due
     }
 }
 
-/// A completion that a snoop's kind has, by the home after it.
-fn completion(snoop: Snoop, home: &HomeLine, words: Data) -> Msg
-    ensures { result ≡ completion_message snoop home.now.filter.unique words }
+/// The completion of a request of the kind, by the home after it.
+fn completion(kind: Kind, home: &HomeLine, words: Data) -> Msg
+    ensures { result ≡ completion_message kind home.now.filter.unique words }
 {
-    match snoop {
-        Snoop::SnpCleanInvalid => Msg::RspDown(RspDown::CompUC),
-        Snoop::SnpShared | Snoop::SnpNotSharedDirty | Snoop::SnpUnique => {
+    match kind {
+        Kind::CleanUnique => Msg::RspDown(RspDown::CompUC),
+        _ => {
             let unique = home.filter().is_unique();
             Msg::DatDown(CompData { unique, words })
         }
@@ -237,19 +237,25 @@ fn completion(snoop: Snoop, home: &HomeLine, words: Data) -> Msg
 
 /// What the start of a request of the kind sent, by the home after it.
 fn start_sent(kind: Kind, agent: Agent, home: &HomeLine) -> FlitsSent
-    ensures { result ≡ start_sent (snoop_of kind) kind agent home.now }
+    ensures { result ≡ start_sent kind (snoop_of kind) agent home.now }
 {
-    let Some(snoop) = kind.snoop() else {
-        let response = if kind.is_copy_back() {
-            RspDown::CompDBIDResp
-        } else {
-            RspDown::CompI
-        };
-        return FlitsSent::One {
+    match (kind, kind.snoop()) {
+        (Kind::Evict, _) => FlitsSent::One {
             agent,
-            message: Msg::RspDown(response),
-        };
-    };
+            message: Msg::RspDown(RspDown::CompI),
+        },
+        (_, None) => FlitsSent::One {
+            agent,
+            message: Msg::RspDown(RspDown::CompDBIDResp),
+        },
+        (_, Some(snoop)) => service_sent(kind, snoop, agent, home),
+    }
+}
+
+/// The snoops for a request of the kind, or its completion, by the home after its start.
+fn service_sent(kind: Kind, snoop: Snoop, agent: Agent, home: &HomeLine) -> FlitsSent
+    ensures { result ≡ service_sent home.now.serving kind snoop agent home.now }
+{
     match home.serving() {
         Serving::Snooping { .. } => FlitsSent::Snoops {
             snoop,
@@ -257,7 +263,7 @@ fn start_sent(kind: Kind, agent: Agent, home: &HomeLine) -> FlitsSent
         },
         _ => FlitsSent::One {
             agent,
-            message: completion(snoop, home, home.memory()),
+            message: completion(kind, home, home.memory()),
         },
     }
 }
@@ -267,15 +273,10 @@ fn completion_sent(serving: Serving, words: Data, home: &HomeLine) -> FlitsSent
     ensures { result ≡ completion_sent serving words home.now }
 {
     match (serving, home.serving()) {
-        (Serving::Snooping { agent, kind, .. }, Serving::AwaitingCompAck { .. }) => {
-            match kind.snoop() {
-                Some(snoop) => FlitsSent::One {
-                    agent,
-                    message: completion(snoop, home, words),
-                },
-                None => FlitsSent::Nothing,
-            }
-        }
+        (Serving::Snooping { agent, kind, .. }, Serving::AwaitingCompAck { .. }) => FlitsSent::One {
+            agent,
+            message: completion(kind, home, words),
+        },
         _ => FlitsSent::Nothing,
     }
 }
