@@ -1,10 +1,10 @@
 -- What the words of a command line ask for, as clap reads them (docs/FORMATS.md, "The program").
-use Rattle.std.specs.Prelude.{◌≡◌, ℕ, Bool, List, [], ◌∷◌, true, Option, Some, None, Result, Ok, Err, codes, if◌then◌else◌}
+use Rattle.std.specs.Prelude.{◌≡◌, ℕ, Bool, List, [], ◌∷◌, true, Option, Some, None, Result, Ok, Err, codes, map, if◌then◌else◌}
 use Rattle.std.specs.Option.{option_and_then, option_map}
 use Rattle.std.specs.Str.{bytes_eq}
-use Rattle.clap.specs.Words.{App, Kinds, Row, Rule, Text, fault_of, first_of, new_app, new_rule, subcommand_of, with_rule, with_subcommand}
+use Rattle.clap.specs.Words.{App, Kinds, Row, Rule, Text, all_of, fault_of, first_of, new_app, new_rule, subcommand_of, with_rule, with_subcommand}
 use Rattle.clap.specs.Simple.{on_top}
-use Rattle.clap.specs.declared.builder.action.ArgAction.TheVariants.{Set, SetTrue}
+use Rattle.clap.specs.declared.builder.action.ArgAction.TheVariants.{Append, Set, SetTrue}
 use Rattle.chi_flit.specs.declared.numbers.Line.{Line}
 use Rattle.chi_resolution.specs.declared.ledger.Types.{Types}
 use Rattle.chi_script.specs.Words.{◌>>=◌}
@@ -19,6 +19,10 @@ use Rattle.chi_arguments.specs.declared.jobs.Job.TheVariants.{Chart, Check, Expl
 abbrev pub file_rule : Rule
 file_rule = record (new_rule (codes "FILE")) { required = true; action = Some Set }
 
+-- FILE..: one file or more
+abbrev pub files_rule : Rule
+files_rule = record (new_rule (codes "FILE")) { required = true; action = Some Append }
+
 -- --NAME VALUE: the option stands once at most
 abbrev pub option_rule : Text → Rule
 option_rule name = record (new_rule name) { long = Some name; action = Some Set }
@@ -31,9 +35,9 @@ flag_rule name = record (new_rule name) { long = Some name; action = Some SetTru
 abbrev pub replay_line : App
 replay_line = with_rule (new_app (codes "replay")) file_rule
 
--- `check FILE`
+-- `check FILE.. [--tap]`
 abbrev pub check_line : App
-check_line = with_rule (new_app (codes "check")) file_rule
+check_line = with_rule (with_rule (new_app (codes "check")) files_rule) (flag_rule (codes "tap"))
 
 -- `chart FILE [--line L]`
 abbrev pub chart_line : App
@@ -56,12 +60,12 @@ abbrev pub command_lines : App
 command_lines =
     with_subcommand (with_subcommand (with_subcommand (with_subcommand (with_subcommand program_line replay_line.top) check_line.top) chart_line.top) explain_line.top) storm_line.top
 
--- what a command line asks for: the replay of a file, its check, its chart, of one line alone where one is
+-- what a command line asks for: the replay of a file, the check of files, as TAP or not, a chart, of one line alone where one is
 -- given, the explanation of a trace, with its types of credit, whether grants may come early, and the one line
 -- that is written where one is given, or a storm with its seed and its turns
 pub data Asked : Type 0 where
   replay : Text → Asked
-  check : Text → Asked
+  check : List Text → Bool → Asked
   chart : Text → Option Line → Asked
   explain : Text → Types → Bool → Option Address → Asked
   storm : Text → ℕ → ℕ → Asked
@@ -70,9 +74,9 @@ pub data Asked : Type 0 where
 abbrev pub replay_in : List Row → Option Asked
 replay_in rows = option_map replay (first_of (codes "FILE") rows)
 
--- and so behind `check`
+-- behind `check` stand the paths, and whether TAP is printed
 abbrev pub check_in : List Row → Option Asked
-check_in rows = option_map check (first_of (codes "FILE") rows)
+check_in rows = option_map (λ paths. check paths (is_given (first_of (codes "tap") rows))) (all_of (codes "FILE") rows)
 
 -- behind `chart` stand the path and the option
 abbrev pub chart_in : List Row → Option Asked
@@ -115,10 +119,10 @@ asked_if (kind ∷ kinds) found = None
 abbrev pub asked_in : List Text → Option Asked
 asked_in words = asked_if (fault_of command_lines words) (subcommand_of command_lines words)
 
--- a job, with its path as text
+-- a job, with its paths as texts
 abbrev pub asked_by : Job → Asked
 asked_by (Replay path) = replay path.now
-asked_by (Check path) = check path.now
+asked_by (Check paths tap) = check (map (λ path. path.now) paths.items) tap
 asked_by (Chart path only) = chart path.now only
 asked_by (Explain path types early only) = explain path.now types early only
 asked_by (Storm path seed turns) = storm path.now seed turns

@@ -2,8 +2,8 @@
 
 ghost use Rattle.std.specs.Prelude.{◌≡◌, IfOk, false, map};
 ghost use Rattle.std.specs.Option.{option_and_then, option_map};
-ghost use Rattle.clap.specs.Words.{app_of, first_of, found_of, rows_of, rule_of, subcommand_rows_of};
-ghost use Rattle.chi_arguments.specs.CommandLines.{IsAsked, asked_behind, asked_by, asked_in, chart_in, check_in, command_lines, explain_in, file_rule, flag_rule, option_rule, replay_in, storm_asked};
+ghost use Rattle.clap.specs.Words.{all_of, app_of, first_of, found_of, rows_of, rule_of, subcommand_rows_of};
+ghost use Rattle.chi_arguments.specs.CommandLines.{IsAsked, asked_behind, asked_by, asked_in, chart_in, check_in, command_lines, explain_in, file_rule, files_rule, flag_rule, option_rule, replay_in, storm_asked};
 
 use crate::faults::ArgFault;
 use crate::options::{address, is_given, only, seed, turns, types};
@@ -15,13 +15,18 @@ use std::alloc::{AllocError, Global};
 
 /// What the program is asked to do.
 /// Source: `docs/FORMATS.md`, "The program".
-#[derive(Clone, Copy, Debug, PartialEq, Eq)]
+#[derive(Debug, Drop, PartialEq, Eq)]
 pub enum Job<'a> {
     /// `replay FILE`: runs the commands of the file at this path.
     Replay(&'a str),
-    /// `check FILE`: runs the commands of the file at this path, and compares their answers with those that
-    /// are wanted.
-    Check(&'a str),
+    /// `check FILE.. [--tap]`: runs the commands of each of the files at these paths, and compares their
+    /// answers with those that are wanted.
+    Check {
+        /// One path or more, in their order.
+        paths: Vec<&'a str>,
+        /// Whether TAP is printed.
+        tap: bool,
+    },
     /// `chart FILE [--line L]`: draws the chart of the file at this path.
     Chart {
         path: &'a str,
@@ -60,7 +65,7 @@ pub fn arguments<'a>(alloc: Global, words: &'a [&'a str]) -> Result<Job<'a>, Arg
     ensures { IsAsked (asked_in (map (λ word. word.now) words.entry.now)) result }
 {
     let matches = command_line(alloc)?.try_get_matches_from(words)?;
-    read_job(&matches)
+    read_job(alloc, &matches)
 }
 
 /// The subcommand that replays a file.
@@ -90,6 +95,9 @@ const TYPES: &str = "types";
 /// The option that says that grants may come early.
 const EARLY_GRANTS: &str = "early-grants";
 
+/// The option that says that a check prints TAP.
+const TAP: &str = "tap";
+
 /// The option that is a storm's seed.
 const SEED: &str = "seed";
 
@@ -101,7 +109,9 @@ fn command_line<'a>(alloc: Global) -> Result<Command<'a>, AllocError>
     ensures { IfOk result (λ command. app_of command ≡ command_lines) }
 {
     let replay = Command::new(alloc, REPLAY).arg(file(alloc))?;
-    let check = Command::new(alloc, CHECK).arg(file(alloc))?;
+    let check = Command::new(alloc, CHECK)
+        .arg(files(alloc))?
+        .arg(flag(alloc, TAP))?;
     let chart = Command::new(alloc, CHART)
         .arg(file(alloc))?
         .arg(option(alloc, LINE))?;
@@ -131,6 +141,16 @@ fn file<'a>(alloc: Global) -> Arg<'a>
     Arg::new(alloc, FILE).required(true).action(ArgAction::Set)
 }
 
+/// The paths of files, of which one has to be given at least.
+fn files<'a>(alloc: Global) -> Arg<'a>
+    ensures rule { rule_of result ≡ files_rule }
+    ensures local { result.global ≡ false }
+{
+    Arg::new(alloc, FILE)
+        .required(true)
+        .action(ArgAction::Append)
+}
+
 /// An option of this name, which has one value where it is given.
 fn option<'a>(alloc: Global, name: &'a str) -> Arg<'a>
     ensures rule { rule_of result ≡ option_rule name.entry.now }
@@ -148,12 +168,12 @@ fn flag<'a>(alloc: Global, name: &'a str) -> Arg<'a>
 }
 
 /// The job of the subcommand that was read.
-fn read_job<'a>(matches: &ArgMatches<'a>) -> Result<Job<'a>, ArgFault>
+fn read_job<'a>(alloc: Global, matches: &ArgMatches<'a>) -> Result<Job<'a>, ArgFault>
     ensures { IsAsked (option_and_then asked_behind (subcommand_rows_of matches.now)) result }
 {
     match matches.subcommand() {
         Some((REPLAY, replay)) => read_replay(replay),
-        Some((CHECK, check)) => read_check(check),
+        Some((CHECK, check)) => read_check(alloc, check),
         Some((CHART, chart)) => read_chart(chart).ok_or(ArgFault::Bad),
         Some((EXPLAIN, explain)) => read_explain(explain).ok_or(ArgFault::Bad),
         Some((STORM, storm)) => read_storm(storm).ok_or(ArgFault::Bad),
@@ -171,14 +191,17 @@ fn read_replay<'a>(matches: &ArgMatches<'a>) -> Result<Job<'a>, ArgFault>
     }
 }
 
-/// The job of `check FILE`.
-fn read_check<'a>(matches: &ArgMatches<'a>) -> Result<Job<'a>, ArgFault>
+/// The job of `check FILE..` and its option.
+fn read_check<'a>(alloc: Global, matches: &ArgMatches<'a>) -> Result<Job<'a>, ArgFault>
     ensures { IsAsked (check_in (rows_of (found_of matches.now))) result }
 {
-    match text_of(matches, FILE) {
-        Some(path) => Ok(Job::Check(path)),
-        None => Err(ArgFault::Bad),
-    }
+    let Some(given) = texts_of(matches, FILE) else {
+        return Err(ArgFault::Bad);
+    };
+    let tap = is_given(text_of(matches, TAP));
+    let mut paths = Vec::new(alloc);
+    paths.extend_from_slice(given)?;
+    Ok(Job::Check { paths, tap })
 }
 
 /// The job of `chart FILE` and its option.
@@ -221,4 +244,12 @@ fn text_of<'a>(matches: &ArgMatches<'a>, name: &str) -> Option<&'a str>
     ensures { option_map (λ text. text.now) result ≡ first_of name.now (rows_of (found_of matches.now)) }
 {
     matches.get_str(name)
+}
+
+/// All texts that were found for this name.
+fn texts_of<'m, 'a>(matches: &'m ArgMatches<'a>, name: &str) -> Option<&'m [&'a str]>
+    ensures { option_map (λ texts. map (λ text. text.now) texts.now) result
+        ≡ all_of name.now (rows_of (found_of matches.now)) }
+{
+    matches.get_strs(name)
 }

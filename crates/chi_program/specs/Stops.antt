@@ -1,11 +1,12 @@
 -- How the program ends: its status, and the line on standard error without its line end
 -- (docs/FORMATS.md, "The program").
-use Rattle.std.specs.Prelude.{ℕ, Bool, true, false, List, ◌∷◌, [], Result, Ok, Err}
+use Rattle.std.specs.Prelude.{ℕ, Bool, true, false, List, ◌∷◌, [], Option, Some, None, Result, Ok, Err}
 use Rattle.std.specs.declared.io.ErrorKind.{ErrorKind}
 use Rattle.std.specs.declared.io.ErrorKind.TheVariants as kinds
 use Rattle.chi_arguments.specs.declared.faults.ArgFault.{ArgFault}
 use Rattle.chi_arguments.specs.declared.faults.ArgFault.TheVariants as faults
 use Rattle.chi_arguments.specs.Faults as words
+use Rattle.chi_script.specs.declared.faults.Fault.{Fault}
 use Rattle.chi_script.specs.Faults as script
 use Rattle.chi_program.specs.declared.program.End.{End}
 use Rattle.chi_program.specs.declared.program.End.TheVariants as ends
@@ -26,6 +27,7 @@ abbrev pub end_status : End → ℕ
 end_status ends.Done = 0
 end_status ends.Unfinished = 2
 end_status ends.Differs = 5
+end_status (ends.Faulty fault) = script.status_of fault
 end_status ends.Malformed = 1
 end_status ends.Unexplained = 6
 
@@ -33,6 +35,11 @@ end_status ends.Unexplained = 6
 abbrev pub check_end : Bool → End
 check_end true = ends.Done
 check_end false = ends.Differs
+
+-- the end of a check of several files: the first fault comes before any answer that differs
+abbrev pub suite_end : Option Fault → Bool → End
+suite_end None hold = check_end hold
+suite_end (Some fault) hold = ends.Faulty fault
 
 -- the end of an explanation of which this came
 abbrev pub explain_end : Outcome → End

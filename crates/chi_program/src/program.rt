@@ -4,13 +4,15 @@ ghost use Rattle.std.specs.Prelude.{◌≡◌, Some, IfOk, IfErr, Contains, map,
 ghost use Rattle.std.specs.Vec.Iter.{into_iter_items};
 ghost use Rattle.chi_arguments.specs.declared.faults.ArgFault.{ArgFault};
 ghost use Rattle.chi_program.specs.declared.program.Stop.TheVariants.{Arguments, Run};
-ghost use Rattle.chi_program.specs.Stops.{check_end, end_status, explain_end, run_status, statuses, stop_status, stop_text, storm_end, words_fault};
+ghost use Rattle.chi_program.specs.Stops.{check_end, end_status, explain_end, run_status, statuses, stop_status, stop_text, storm_end, suite_end, words_fault};
+ghost use Rattle.chi_program.specs.Suites.{given_in};
+ghost use Rattle.chi_replay.specs.Suites.{given_of};
 
 use chi_arguments::{ArgFault, Job, arguments};
 use chi_chart::chart;
-use chi_devices::{FileInput, StandardOutput};
+use chi_devices::{FileInput, Output, StandardOutput, read_all};
 use chi_flit::Line;
-use chi_replay::{check, replay};
+use chi_replay::{SuiteFile, SuiteForm, check, check_suite, replay};
 use chi_resolution::Options;
 use chi_script::Fault;
 use chi_storm::storm;
@@ -84,6 +86,8 @@ enum End {
     Unfinished,
     /// An answer of a check differs from the one that is wanted.
     Differs,
+    /// Of several files that were checked some are faulty, which was told; this is the first fault.
+    Faulty(Fault),
     /// The file is no trace.
     Malformed,
     /// Some flit of a trace isn't explained.
@@ -99,6 +103,7 @@ impl End {
             End::Done => 0,
             End::Unfinished => 2,
             End::Differs => 5,
+            End::Faulty(fault) => fault.status(),
             End::Malformed => 1,
             End::Unexplained => 6,
         }
@@ -140,7 +145,7 @@ fn follow<R: Env + Files + AllocGlobal + Print + Eprint + Threads + Wait + Clock
     let words = words_of(rt.alloc(), &texts)?;
     match arguments(rt.alloc(), &words)? {
         Job::Replay(path) => Ok(replay_file(rt, path)?),
-        Job::Check(path) => Ok(check_file(rt, path)?),
+        Job::Check { paths, tap } => Ok(check_files(rt, &paths, tap)?),
         Job::Chart { path, only } => Ok(chart_file(rt, path, only)?),
         Job::Explain {
             path,
@@ -192,12 +197,116 @@ fn replay_file<R: Files + AllocGlobal + Print>(rt: &R, path: &str) -> Result<End
     Ok(End::Done)
 }
 
+/// Checks the files at the paths, and writes to standard output what came of it: of one file its own report, of
+/// several, or where TAP is asked for, what is told of all.
+fn check_files<R: Files + AllocGlobal + Print + Eprint>(
+    rt: &R,
+    paths: &[&str],
+    tap: bool,
+) -> Result<End, Fault> {
+    match (paths, tap) {
+        ([path], false) => check_file(rt, path),
+        (_, false) => check_all(rt, paths, SuiteForm::Lines),
+        (_, true) => check_all(rt, paths, SuiteForm::Tap),
+    }
+}
+
 /// Checks the file at the path, and writes to standard output what came of it.
 fn check_file<R: Files + AllocGlobal + Print>(rt: &R, path: &str) -> Result<End, Fault> {
     let mut input = FileInput::open(rt, path)?;
     let mut output = StandardOutput::new(io::writer(rt));
     let hold = check(rt.alloc(), &mut input, &mut output)?;
     Ok(check_end(hold))
+}
+
+/// Checks each of the files at the paths. A line for each that is faulty or can't be read is on standard error.
+fn check_all<R: Files + AllocGlobal + Print + Eprint>(
+    rt: &R,
+    paths: &[&str],
+    form: SuiteForm,
+) -> Result<End, Fault> {
+    let files = read_files(rt, paths)?;
+    let suite = suite_of(rt.alloc(), &files)?;
+    let report = check_suite(rt.alloc(), form, &suite)?;
+    let mut output = StandardOutput::new(io::writer(rt));
+    if output.write_all(&report.text).is_err() {
+        return Err(Fault::Write);
+    }
+    if !report.faults.is_empty() {
+        let _ = rt.eprint(report.faults.as_str());
+    }
+    Ok(suite_end(report.fault, report.hold))
+}
+
+/// A file of which the path was given.
+#[derive(Drop)]
+struct ReadFile<'a> {
+    path: &'a str,
+    /// Its bytes, where it can be read.
+    bytes: Option<Vec<u8>>,
+}
+
+impl ReadFile<'_> {
+    /// The same, lent to a check.
+    fn lent(&self) -> SuiteFile<'_>
+        ensures { given_of result ≡ given_in self.now }
+    {
+        let bytes = match &self.bytes {
+            Some(bytes) => Some(bytes.as_slice()),
+            None => None,
+        };
+        SuiteFile {
+            name: self.path,
+            bytes,
+        }
+    }
+}
+
+/// The files at the paths, one for each in their order; `NoMemory` where memory runs out.
+fn read_files<'a, R: Files + AllocGlobal>(
+    rt: &R,
+    paths: &[&'a str],
+) -> Result<Vec<ReadFile<'a>>, Fault>
+    ensures { IfOk result
+        (λ files. map (λ file. file.path.now) files.items ≡ map (λ path. path.now) paths.now) }
+{
+    let mut files = Vec::new(rt.alloc());
+    for path in paths {
+        let bytes = read_file(rt, path)?;
+        files.push(ReadFile { path, bytes })?;
+    }
+    Ok(files)
+}
+
+/// The bytes of the file at the path, where it can be read; `NoMemory` where memory runs out.
+fn read_file<R: Files + AllocGlobal>(rt: &R, path: &str) -> Result<Option<Vec<u8>>, Fault> {
+    let mut input = match FileInput::open(rt, path) {
+        Ok(input) => input,
+        Err(Fault::NoMemory) => return Err(Fault::NoMemory),
+        Err(_) => return Ok(None),
+    };
+    match read_all(rt.alloc(), &mut input) {
+        Ok(bytes) => Ok(Some(bytes)),
+        Err(Fault::NoMemory) => Err(Fault::NoMemory),
+        Err(_) => Ok(None),
+    }
+}
+
+/// The same files, lent to a check; `NoMemory` where memory runs out.
+fn suite_of<'a>(alloc: Global, files: &'a [ReadFile<'a>]) -> Result<Vec<SuiteFile<'a>>, Fault>
+    ensures { IfOk result (λ suite. map given_of suite.items ≡ map given_in files.now) }
+{
+    Ok(files.iter().map(|file| file.lent()).collect(alloc)?)
+}
+
+/// The end of a check of several files, of which this is the first fault, and all answers hold, or not.
+fn suite_end(fault: Option<Fault>, hold: bool) -> End
+    ensures { result ≡ suite_end fault hold }
+{
+    match fault {
+        Some(fault) => End::Faulty(fault),
+        None => check_end(hold),
+    }
 }
 
 /// The end of a check of which all answers hold, or not.

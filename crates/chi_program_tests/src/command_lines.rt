@@ -11,26 +11,56 @@ fn a_replay_has_its_path(rt: HostRuntime) {
     assert!(rt; arguments(rt.alloc(), &words) == Ok(Job::Replay("a.chi")));
 }
 
+/// Command lines of a check, each with its paths and with whether TAP is printed.
+const CHECKS: [(&[&str], &[&str], bool); 5] = [
+    (&["chihome", "check", "a.chi"], &["a.chi"], false),
+    (
+        &["chihome", "check", "a", "b", "a"],
+        &["a", "b", "a"],
+        false,
+    ),
+    (&["chihome", "check", "--tap", "a"], &["a"], true),
+    (&["chihome", "check", "a", "--tap", "b"], &["a", "b"], true),
+    (&["chihome", "check", "--", "--tap"], &["--tap"], false),
+];
+
 #[test]
-fn a_check_has_its_path(rt: HostRuntime) {
-    let words = ["chihome", "check", "a.chi"];
-    assert!(rt; arguments(rt.alloc(), &words) == Ok(Job::Check("a.chi")));
+fn a_check_has_its_paths(rt: HostRuntime) {
+    for (words, paths, tap) in &CHECKS {
+        checks(&rt, words, paths, *tap);
+    }
 }
 
-/// Other command lines than `check FILE`.
+/// The words ask for a check of these files.
+fn checks<'a>(
+    rt: &(impl Abort + AllocGlobal),
+    words: &'a [&'a str],
+    wanted: &[&str],
+    as_tap: bool,
+) {
+    match arguments(rt.alloc(), words) {
+        Ok(Job::Check { paths, tap }) => {
+            assert!(rt; paths.as_slice() == wanted, "{words:?}");
+            assert!(rt; tap == as_tap, "{words:?}");
+        }
+        _ => assert!(rt; false, "{words:?}"),
+    }
+}
+
+/// Other command lines than `check FILE.. [--tap]`.
 const BAD_CHECKS: [&[&str]; 8] = [
     &["chihome", "check"],
-    &["chihome", "check", "a", "b"],
+    &["chihome", "check", "--tap"],
     &["chihome", "checks", "a"],
     &["chihome", "Check", "a"],
     &["chihome", "check", "a", "-x"],
     &["chihome", "check", "a", "--seed", "1"],
-    &["chihome", "check", "a", "replay", "a"],
+    &["chihome", "check", "a", "--tap", "--tap"],
     &["chihome", "check", "--help"],
 ];
 
 #[test]
-fn a_check_with_more_or_other_words_is_bad(rt: HostRuntime) {
+fn a_check_with_other_words_is_bad(rt: HostRuntime) {
     are_bad(&rt, &BAD_CHECKS);
 }
 

@@ -17,3 +17,4 @@ pub mod PlainTurns
 pub mod AnswerLines
 pub mod ReportLemmas
 pub mod Reported
+pub mod SuiteLemmas

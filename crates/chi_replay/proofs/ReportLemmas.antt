@@ -1,8 +1,8 @@
 -- Lines behind those of the checks change nothing of a report.
 use Rattle.std.proofs.Common.{◌≡◌, ℕ, List, [], ◌∷◌, ◌++◌, length, refl, ap, arith}
-use Rattle.std.specs.List.{filter, flat_map}
+use Rattle.std.specs.List.{filter}
 use Rattle.chi_script.specs.Checks.{CheckLine}
-use Rattle.chi_replay.specs.Reports.{CheckedAnswer, difference, differing, differs, checked_answers, report_text, check_summary, wanted_in}
+use Rattle.chi_replay.specs.Reports.{CheckedAnswer, differing, differs, checked_answers}
 
 abbrev checked : CheckLine → List ℕ → CheckedAnswer
 checked check answer = record { check = check; answer = answer }
@@ -14,6 +14,3 @@ more_lines (check ∷ checks) (answer ∷ answers) more e = ap (λ (os : List Ch
 
 pub same_differing : (checks : List CheckLine) (answers more : List (List ℕ)) → length answers ≡ length checks → differing checks (answers ++ more) ≡ differing checks answers
 same_differing checks answers more e = ap (filter differs) (more_lines checks answers more e)
-
-pub same_report : (checks : List CheckLine) (answers more : List (List ℕ)) → length answers ≡ length checks → report_text checks (answers ++ more) ≡ report_text checks answers
-same_report checks answers more e = ap (λ (os : List CheckedAnswer). flat_map difference os ++ check_summary (length (wanted_in checks)) (length os)) (same_differing checks answers more e)

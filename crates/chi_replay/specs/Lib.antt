@@ -7,3 +7,4 @@ pub mod Answers
 pub mod Replays
 pub mod Reports
 pub mod Checks
+pub mod Suites

@@ -44,9 +44,9 @@ difference_from line (Some wanted) answer = difference_line line wanted answer
 abbrev pub difference : CheckedAnswer → List ℕ
 difference checked = difference_from checked.check.line checked.check.wanted checked.answer
 
--- a line for each answer that differs
-abbrev pub differing_text : List CheckLine → List (List ℕ) → List ℕ
-differing_text checks answers = flat_map difference (differing checks answers)
+-- a line for each answer that differs, each behind this front
+abbrev pub differing_text : List ℕ → List CheckLine → List (List ℕ) → List ℕ
+differing_text front checks answers = flat_map (λ checked. front ++ difference checked) (differing checks answers)
 
 -- the last line: how many answers are wanted, and how many of them differ
 abbrev pub check_summary : ℕ → ℕ → List ℕ
@@ -56,4 +56,4 @@ check_summary wanted found =
 
 -- the whole text
 abbrev pub report_text : List CheckLine → List (List ℕ) → List ℕ
-report_text checks answers = differing_text checks answers ++ check_summary (length (wanted_in checks)) (length (differing checks answers))
+report_text checks answers = differing_text [] checks answers ++ check_summary (length (wanted_in checks)) (length (differing checks answers))

@@ -1,15 +1,16 @@
 //! From the bytes of a check file to the report that is printed.
 
-ghost use Rattle.std.specs.Prelude.{◌≡◌, ◌≢◌, ◌+◌, ◌^◌, ◌<◌, IfOk, IfErr, IfSome, map};
+ghost use Rattle.std.specs.Prelude.{◌≡◌, ◌≢◌, ◌↔◌, ◌+◌, ◌++◌, ◌^◌, ◌<◌, IfOk, IfErr, IfSome, IsTrue, map};
 ghost use Rattle.std.specs.Io.KnownBytes.{Keeps};
 ghost use Rattle.chi_script.specs.Faults.{Fails};
 ghost use Rattle.chi_replay.specs.Replays.{AtWrite, KeepsAtFault, NoText, NoTextAt, RefusesFault};
 ghost use Rattle.chi_script.specs.Checks.{line_of_check};
 ghost use Rattle.chi_script.specs.CheckFiles.{check_file_of};
-ghost use Rattle.chi_replay.specs.Checks.{IsReport, IsCheckReport, WritesReportFront, WritesReport, commands_in};
+ghost use Rattle.chi_replay.specs.Reports.{check_summary};
+ghost use Rattle.chi_replay.specs.Checks.{ComparesChecks, IsCheckReport, IsComparison, WritesReportFront, WritesReport, commands_in};
 
 use crate::replays::config_of;
-use crate::reports::{CheckReport, compare};
+use crate::reports::{Comparison, compare, write_summary};
 use crate::runs::run;
 use chi_devices::{Failed, Input, Output, read_all};
 use chi_flit::NoMemory;
@@ -25,19 +26,47 @@ pub fn commands_of<A: Allocator>(alloc: A, checks: &[Check]) -> Result<Vec<Comma
     checks.iter().map(|check| check.command).collect(alloc)
 }
 
-/// The report on a good file. Refused where memory runs out.
-fn report_on<A: Allocator + Copy>(
+/// The answers of a good file's commands beside the wanted ones. Refused where memory runs out.
+fn compare_script<A: Allocator + Copy>(
     alloc: A,
+    front: &[u8],
     script: &CheckFile<'_, A>,
-) -> Result<CheckReport<A>, NoMemory>
+) -> Result<Comparison<A>, NoMemory>
     ensures { IfOk result
-        (λ report. IsReport script.now.header
-        (map line_of_check script.now.checks.items) report.hold report.text.items) }
+        (λ found. ComparesChecks script.now.header (map line_of_check script.now.checks.items)
+        front.now found.lines.items found.wanted found.differing) }
 {
     let config = config_of(&script.header);
     let commands = commands_of(alloc, &script.checks)?;
     let text = run(alloc, &config, &commands)?;
-    compare(alloc, &script.checks, text.as_bytes())
+    compare(alloc, front, &script.checks, text.as_bytes())
+}
+
+/// The answers of a file's commands beside the wanted ones; the file's bytes are these, and the front stands
+/// at the beginning of each line on an answer that differs. Else its first fault, or want of memory.
+pub(crate) fn compare_file<A: Allocator + Copy>(
+    alloc: A,
+    front: &[u8],
+    bytes: &[u8],
+) -> Result<Comparison<A>, Fault>
+    ensures ok { IfOk result
+        (λ found. IsComparison bytes.now front.now found.lines.items found.wanted found.differing) }
+    ensures err { IfErr result (λ fault. Fails fault (check_file_of bytes.now)) }
+{
+    let script = read_checks(alloc, bytes)?;
+    match compare_script(alloc, front, &script) {
+        Ok(found) => Ok(found),
+        Err(_) => Err(Fault::NoMemory),
+    }
+}
+
+/// What came of the checks of a file.
+#[derive(Drop)]
+struct CheckReport<A: Allocator> {
+    /// What is printed.
+    text: Vec<u8, A>,
+    /// Whether each answer is the wanted one, where one is wanted.
+    hold: bool,
 }
 
 /// The report on a file, whose bytes these are; else its first fault, or want of memory.
@@ -45,11 +74,27 @@ fn report_of<A: Allocator + Copy>(alloc: A, bytes: &[u8]) -> Result<CheckReport<
     ensures ok { IfOk result (λ report. IsCheckReport bytes.now report.hold report.text.items) }
     ensures err { IfErr result (λ fault. Fails fault (check_file_of bytes.now)) }
 {
-    let script = read_checks(alloc, bytes)?;
-    match report_on(alloc, &script) {
+    let found = compare_file(alloc, b"", bytes)?;
+    match report_on(found) {
         Ok(report) => Ok(report),
         Err(_) => Err(Fault::NoMemory),
     }
+}
+
+/// The report on what was found. Refused where memory runs out.
+fn report_on<A: Allocator>(found: Comparison<A>) -> Result<CheckReport<A>, NoMemory>
+    ensures text { IfOk result
+        (λ report. report.text.items ≡ found.lines.items ++ check_summary found.wanted found.differing) }
+    ensures hold { IfOk result (λ report. IsTrue report.hold ↔ (found.differing ≡ 0)) }
+{
+    let Comparison {
+        lines: mut text,
+        wanted,
+        differing,
+    } = found;
+    write_summary(&mut text, wanted, differing)?;
+    let hold = differing == 0;
+    Ok(CheckReport { text, hold })
 }
 
 /// The same of an input's bytes; `Read` where reading them failed.

@@ -11,6 +11,7 @@ mod replays;
 mod reports;
 mod runs;
 mod session;
+mod suites;
 
 pub use checks::{check, commands_of};
 pub use laws::answers_are_lines;
@@ -18,3 +19,4 @@ pub use node_replies::totals_told;
 pub use replays::{config_of, replay};
 pub use runs::{run, run_lines};
 pub use session::answer;
+pub use suites::{SuiteFile, SuiteForm, SuiteReport, check_suite};

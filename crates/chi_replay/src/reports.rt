@@ -1,47 +1,53 @@
 //! The answers of a file's commands beside those that are wanted, and the text that is printed of them.
 
-ghost use Rattle.std.specs.Prelude.{◌≡◌, ◌↔◌, ◌<◌, ◌+◌, ◌^◌, [], ◌∷◌, ◌++◌, IfOk, IsTrue, OnOk, length, map};
+ghost use Rattle.std.specs.Prelude.{◌≡◌, ◌<◌, ◌+◌, ◌^◌, [], ◌∷◌, ◌++◌, IfOk, OnOk, length, map};
 ghost use Rattle.chi_script.specs.Files.{lines_of};
 ghost use Rattle.chi_script.specs.Checks.{line_of_check};
-ghost use Rattle.chi_replay.specs.Reports.{difference_line, differing, differing_text, report_text, check_summary, wanted_in};
+ghost use Rattle.chi_replay.specs.Reports.{difference_line, differing, differing_text, check_summary, wanted_in};
 
 use chi_flit::NoMemory;
 use chi_script::{Check, first_line};
 use std::alloc::Allocator;
 use std::io::Write;
 
-/// What came of the checks of a file.
+/// The answers of a file's checks beside the wanted ones.
 /// Source: `docs/FORMATS.md`, "Check files".
 #[derive(Drop)]
-pub(crate) struct CheckReport<A: Allocator> {
-    /// What is printed.
-    pub(crate) text: Vec<u8, A>,
-    /// Whether each answer is the wanted one, where one is wanted.
-    pub(crate) hold: bool,
+pub(crate) struct Comparison<A: Allocator> {
+    /// A line for each answer that differs.
+    pub(crate) lines: Vec<u8, A>,
+    /// How many answers are wanted.
+    pub(crate) wanted: usize,
+    /// How many of them differ.
+    pub(crate) differing: usize,
 }
 
-/// Compares each answer of a text, which has a line for each check, with the one that is wanted. Refused
-/// where memory runs out.
+/// Compares each answer of a text, which has a line for each check, with the one that is wanted. The front
+/// stands at the beginning of each line on an answer that differs. Refused where memory runs out.
 pub(crate) fn compare<A: Allocator>(
     alloc: A,
+    front: &[u8],
     checks: &[Check],
     text: &[u8],
-) -> Result<CheckReport<A>, NoMemory>
+) -> Result<Comparison<A>, NoMemory>
     requires { length checks.now < length (lines_of text.now) }
-    ensures text { IfOk result
-        (λ report. report.text.items ≡ report_text (map line_of_check checks.now) (lines_of text.now)) }
-    ensures hold { IfOk result
-        (λ report. IsTrue report.hold
-        ↔ (differing (map line_of_check checks.now) (lines_of text.now) ≡ [])) }
+    ensures lines { IfOk result
+        (λ found. found.lines.items
+        ≡ differing_text front.now (map line_of_check checks.now) (lines_of text.now)) }
+    ensures wanted { IfOk result
+        (λ found. found.wanted ≡ length (wanted_in (map line_of_check checks.now))) }
+    ensures differing { IfOk result
+        (λ found. found.differing
+        ≡ length (differing (map line_of_check checks.now) (lines_of text.now))) }
 {
     let mut found = Comparison::new(alloc);
     let mut rest = text;
     for check in checks {
         let (answer, after) = next_answer(rest);
-        found.add(check, answer)?;
+        found.add(front, check, answer)?;
         rest = after;
     }
-    found.report()
+    Ok(found)
 }
 
 /// The first line of a text that a line end closes, and what stands behind it.
@@ -55,36 +61,28 @@ fn next_answer(text: &[u8]) -> (&[u8], &[u8])
     }
 }
 
-/// The checks as far as they were compared: the lines on answers that differ, how many answers were wanted,
-/// and how many of them differ.
-#[derive(Drop)]
-struct Comparison<A: Allocator> {
-    text: Vec<u8, A>,
-    wanted: usize,
-    differing: usize,
-}
-
 impl<A: Allocator> Comparison<A> {
     /// Nothing was compared yet.
     fn new(alloc: A) -> Comparison<A>
-        ensures text { result.text.items ≡ [] }
+        ensures lines { result.lines.items ≡ [] }
         ensures wanted { result.wanted ≡ 0 }
         ensures differing { result.differing ≡ 0 }
     {
         Comparison {
-            text: Vec::new(alloc),
+            lines: Vec::new(alloc),
             wanted: 0,
             differing: 0,
         }
     }
 
     /// Compares one answer more.
-    fn add(&mut self, check: &Check, answer: &[u8]) -> Result<(), NoMemory>
+    fn add(&mut self, front: &[u8], check: &Check, answer: &[u8]) -> Result<(), NoMemory>
         requires wanted { self.old.wanted + 1 < 2 ^ 64 }
         requires differing { self.old.differing + 1 < 2 ^ 64 }
-        ensures text { OnOk result
-            (self.new.text.items
-            ≡ self.old.text.items ++ differing_text (line_of_check check.now ∷ []) (answer.now ∷ [])) }
+        ensures lines { OnOk result
+            (self.new.lines.items
+            ≡ self.old.lines.items
+            ++ differing_text front.now (line_of_check check.now ∷ []) (answer.now ∷ [])) }
         ensures wanted { OnOk result
             (self.new.wanted ≡ self.old.wanted + length (wanted_in (line_of_check check.now ∷ []))) }
         ensures differing { OnOk result
@@ -100,23 +98,8 @@ impl<A: Allocator> Comparison<A> {
             return Ok(());
         }
         self.differing += 1;
-        write_difference(&mut self.text, check.line, wanted, answer)
-    }
-
-    /// What came of all checks.
-    fn report(self) -> Result<CheckReport<A>, NoMemory>
-        ensures text { IfOk result
-            (λ report. report.text.items ≡ self.text.items ++ check_summary self.wanted self.differing) }
-        ensures hold { IfOk result (λ report. IsTrue report.hold ↔ (self.differing ≡ 0)) }
-    {
-        let Comparison {
-            mut text,
-            wanted,
-            differing,
-        } = self;
-        write_verdict(&mut text, wanted, differing)?;
-        let hold = differing == 0;
-        Ok(CheckReport { text, hold })
+        self.lines.extend_from_slice(front)?;
+        write_difference(&mut self.lines, check.line, wanted, answer)
     }
 }
 
@@ -138,8 +121,8 @@ fn write_difference<A: Allocator>(
     Ok(())
 }
 
-/// Puts the last line behind the text.
-fn write_verdict<A: Allocator>(
+/// Puts the last line of a report behind the text. Refused where memory runs out.
+pub(crate) fn write_summary<A: Allocator>(
     text: &mut Vec<u8, A>,
     wanted: usize,
     differing: usize,

@@ -33,4 +33,6 @@ mod shown;
 #[cfg(test)]
 mod storm_files;
 #[cfg(test)]
+mod suites;
+#[cfg(test)]
 mod totals;

@@ -7,7 +7,7 @@ use Rattle.chi_replay.proofs.reports.compare.Given as goal
 
 abbrev pub invariant-loop-check : goal.invariant-loop-check
 invariant-loop-check g l = record {
-  text : l.found.text.items ++ differing_text (map line_of_check (drop l.check-index l.checks)) (lines_of l.rest) ≡ differing_text (map line_of_check l.checks) (lines_of l.text);
+  lines_so_far : l.found.lines.items ++ differing_text l.front (map line_of_check (drop l.check-index l.checks)) (lines_of l.rest) ≡ differing_text l.front (map line_of_check l.checks) (lines_of l.text);
   wanted : l.found.wanted + length (wanted_in (map line_of_check (drop l.check-index l.checks))) ≡ length (wanted_in (map line_of_check l.checks));
   differing : l.found.differing + length (differing (map line_of_check (drop l.check-index l.checks)) (lines_of l.rest)) ≡ length (differing (map line_of_check l.checks) (lines_of l.text));
   lines : length (drop l.check-index l.checks) < length (lines_of l.rest);
