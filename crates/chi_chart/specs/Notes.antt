@@ -1,5 +1,5 @@
 -- What is written of a command's answer, and where (docs/FORMATS.md, "Charts").
-use Rattle.std.specs.Prelude.{ℕ, ◌+◌, List, [], ◌∷◌, ◌++◌, Option, Some, None, drop, length, if◌then◌else◌, codes}
+use Rattle.std.specs.Prelude.{ℕ, ◌+◌, nat_lt, List, [], ◌∷◌, ◌++◌, Option, Some, None, drop, length, if◌then◌else◌, codes}
 use Rattle.std.specs.Fmt.{decimal}
 use Rattle.chi_flit.specs.declared.numbers.Agent.{Agent}
 use Rattle.chi_flit.specs.declared.action.Step.{Step}
@@ -23,12 +23,12 @@ agent_of_command (commands.GiveBack agent ty) = Some agent
 agent_of_command (commands.Tend agent ty) = Some agent
 agent_of_command (commands.Act action) = Some action.agent
 
--- beside an agent, or else beside the home
+-- beside an agent, or else beside the home: where it is no agent's, or there is no such agent
 abbrev pub beside : Layout → Option Agent → ℕ
 beside layout None = home_words_x layout
-beside layout (Some agent) = words_x agent.0
+beside layout (Some agent) = if nat_lt agent.0 layout.agents then words_x agent.0 else home_words_x layout
 
--- a refusal is told at the agent that is refused
+-- a refusal is told at the agent that is refused, where it has a lifeline
 abbrev pub refused_x : Layout → Command → ℕ
 refused_x layout command = beside layout (agent_of_command command)
 

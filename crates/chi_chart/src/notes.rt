@@ -94,14 +94,25 @@ fn agent_of(command: Command) -> Option<Agent>
     }
 }
 
-/// Where a refusal is told: at the agent that is refused.
+/// Beside an agent, or else beside the home: where it is no agent's, or there is no such agent.
+fn beside(layout: &Layout, agent: Option<Agent>) -> u64
+    ensures { result ≡ beside layout.now agent }
+{
+    let Some(agent) = agent else {
+        return layout.home_words_x();
+    };
+    if agent.0 < layout.agents {
+        words_x(agent)
+    } else {
+        layout.home_words_x()
+    }
+}
+
+/// Where a refusal is told: at the agent that is refused, where it has a lifeline.
 fn refused_x(layout: &Layout, command: Command) -> u64
     ensures { result ≡ refused_x layout.now command }
 {
-    match agent_of(command) {
-        Some(agent) => words_x(agent),
-        None => layout.home_words_x(),
-    }
+    beside(layout, agent_of(command))
 }
 
 /// Where an action's answer is told, if it is.
