@@ -10,7 +10,7 @@ use Rattle.chi_credit.specs.declared.slot.SlotState.TheVariants.{Idle, Sent, Ref
 use Rattle.chi_credit.specs.declared.slot.SlotRecord.{SlotRecord}
 use Rattle.chi_credit.specs.Slot.{idle_slot, is_idle_state}
 use Rattle.chi_credit.specs.Account.{state_at, IsLowestIdle}
-use Rattle.chi_agent.specs.Choice.{is_idle_slot, lowest_idle}
+use Rattle.chi_agent.specs.Choice.{is_idle_slot, lowest_idle_slot}
 
 not_idle : (state : SlotState) → state ≢ Idle → is_idle_state state ≡ false
 not_idle Idle ne = absurd (ne refl)
@@ -26,7 +26,7 @@ not_idle Cancelled ne = refl
 first_free : (slots : List SlotRecord) (s : ℕ) → s ≤ length slots → ((i : ℕ) → i < s → state_at slots i ≢ Idle) → (s < length slots → state_at slots s ≡ Idle) → position_or_len is_idle_slot slots ≡ s
 first_free slots s l before here = position_or_len_is is_idle_slot slots s idle_slot l (λ k below. not_idle (state_at slots k) (before k below)) (λ there. ap is_idle_state (here there))
 
-pub idle_found : (slots : List SlotRecord) (found : Option Slot) → length slots ≡ 8 → IfSome found (λ slot. IsLowestIdle slots slot.0) → IfNone found ((s : ℕ) → s < 8 → state_at slots s ≢ Idle) → found ≡ lowest_idle slots
+pub idle_found : (slots : List SlotRecord) (found : Option Slot) → length slots ≡ 8 → IfSome found (λ slot. IsLowestIdle slots slot.0) → IfNone found ((s : ℕ) → s < 8 → state_at slots s ≢ Idle) → found ≡ lowest_idle_slot slots
 idle_found slots (Some slot) eight some none =
     let at : position_or_len is_idle_slot slots ≡ slot.0 = first_free slots slot.0 (omega (arith, some.0)) some.2 (λ _. some.1) in
     let within : nat_lt slot.0 (length slots) ≡ true = lt-ltb slot.0 (length slots) (omega (arith, some.0)) in

@@ -66,15 +66,15 @@ retry profile rn r = if is_pending_retried rn.pending then cancel_or_resend (res
 abbrev pub is_idle_slot : SlotRecord → Bool
 is_idle_slot slot = is_idle_state slot.state
 
-abbrev pub lowest_idle : List SlotRecord → Option Slot
-lowest_idle slots = option_map (λ s. record { 0 = s }) (position is_idle_slot slots)
+abbrev pub lowest_idle_slot : List SlotRecord → Option Slot
+lowest_idle_slot slots = option_map (λ s. record { 0 = s }) (position is_idle_slot slots)
 
 abbrev pub issue_into : Option Slot → OperationPlace → Kind → Option Choice
 issue_into None place kind = None
 issue_into (Some slot) place kind = Some (Try place (steps.Issue kind slot))
 
 abbrev pub issue : Rn → List SlotRecord → OperationPlace → Kind → Option Choice
-issue rn slots place kind = if is_some rn.pending then None else issue_into (lowest_idle slots) place kind
+issue rn slots place kind = if is_some rn.pending then None else issue_into (lowest_idle_slot slots) place kind
 
 abbrev pub load : Rn → List SlotRecord → OperationPlace → WordNo → Kind → Option Choice
 load rn slots place word kind = if is_valid rn.state then Some (Try place (steps.Load word)) else issue rn slots place kind

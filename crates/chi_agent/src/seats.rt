@@ -29,11 +29,14 @@ pub(crate) fn first_seat(
     inbox: &Inbox,
 ) -> Option<Seat>
     requires writers { map writer_of scripts.old.items ≡ map requester_number requesters.old.items }
-    requires outboxes { outboxes.old.items ≡ map (outbox_of inbox.now.channel) requesters.old.items }
-    ensures requester { IfSome result (λ seat. requesters.old.items ≡ seat.requester ∷ requesters.new.items) }
+    requires outboxes { outboxes.old.items
+        ≡ map (outbox_of inbox.now.channel) requesters.old.items }
+    ensures requester { IfSome result (λ seat. requesters.old.items
+        ≡ seat.requester ∷ requesters.new.items) }
     ensures script { IfSome result (λ seat. scripts.old.items ≡ seat.script ∷ scripts.new.items) }
     ensures outbox { IfSome result (λ seat. outboxes.old.items ≡ seat.outbox ∷ outboxes.new.items) }
-    ensures channel { IfSome result (λ seat. seat.outbox ≡ outbox_of inbox.now.channel seat.requester) }
+    ensures channel { IfSome result (λ seat. seat.outbox
+        ≡ outbox_of inbox.now.channel seat.requester) }
     ensures none { IfNone result (requesters.new ≡ requesters.old) }
 {
     if requesters.is_empty() || scripts.is_empty() || outboxes.is_empty() {

@@ -36,8 +36,10 @@ impl<'s, A: Allocator> Sight<'s, A> {
         ensures slice { IfSome result (λ sight. sight.slice.now ≡ slice.now) }
         ensures requester { IfSome result (λ sight. sight.requester.now ≡ requester.now) }
         ensures line { IfSome result (λ sight. sight.line ≡ line) }
-        ensures inside { IfSome result (λ _. are_in_range slice.now requester.now.number line.0 ≡ true) }
-        ensures outside { IfNone result (are_in_range slice.now requester.now.number line.0 ≡ false) }
+        ensures inside { IfSome result (λ _. are_in_range slice.now requester.now.number line.0
+            ≡ true) }
+        ensures outside { IfNone result (are_in_range slice.now requester.now.number line.0
+            ≡ false) }
     {
         let agent = requester.number();
         let at = slice.agent_line(agent, line).ok()?;

@@ -209,8 +209,10 @@ pub(crate) fn start_all<
     ensures few { vec_len result.0 ≤ plan.agents }
     ensures all { result.1 ≡ true → map (λ h. begun h.promise) result.0.items
         ≡ starts node.now.config plan.seed plan.turns requesters.items (operations_of scripts.items) }
-    ensures same { result.1 ≡ true → map (λ h. h.promise.seat.value.requester) result.0.items ≡ requesters.items }
-    ensures channels { All (λ h. h.promise.seat.value.outbox.channel ≡ inbox.now.channel) result.0.items }
+    ensures same { result.1 ≡ true
+        → map (λ h. h.promise.seat.value.requester) result.0.items ≡ requesters.items }
+    ensures channels { All (λ h. h.promise.seat.value.outbox.channel
+        ≡ inbox.now.channel) result.0.items }
 {
     for _ in 0..plan.agents {
         let Some(seat) = first_seat(&mut requesters, &mut scripts, &mut outboxes, inbox) else {
@@ -237,7 +239,8 @@ pub(crate) fn join_all<R: Threads>(
     ArrayVec<bool, 8>,
 )
     requires few { vec_len handles ≤ 8 }
-    requires channels { All (λ h. h.promise.seat.value.outbox.channel ≡ inbox.old.channel) handles.items }
+    requires channels { All (λ h. h.promise.seat.value.outbox.channel
+        ≡ inbox.old.channel) handles.items }
     requires unread { (inbox.old.got ≡ []) × (inbox.old.told ≡ []) }
     ensures same { AreSame (map (λ h. h.promise.seat.value.requester) handles.items) result.0.items }
     ensures leave { AllLeave (map (λ h. begun h.promise) handles.items) result.0.items result.1.items result.2.items }

@@ -1,7 +1,7 @@
 //! The eligible operation of a script: what is tried of it.
 
 ghost use Rattle.std.specs.Prelude.{◌≡◌, IfSome, length};
-ghost use Rattle.chi_agent.specs.Choice.{by_task, drop_or_skip, hand_back, issue, issue_into, load, lowest_idle, operation, store_in, IsChosenAt, IsOwnChoice};
+ghost use Rattle.chi_agent.specs.Choice.{by_task, drop_or_skip, hand_back, issue, issue_into, load, lowest_idle_slot, operation, store_in, IsChosenAt, IsOwnChoice};
 
 use crate::choice::Choice;
 use crate::operations::{OperationPlace, Operations, Unfinished};
@@ -13,7 +13,7 @@ use std::alloc::Allocator;
 /// The free slot of the lowest number.
 fn lowest_idle(requester: &Requester) -> Option<Slot>
     requires { length requester.now.slots ≡ 8 }
-    ensures { result ≡ lowest_idle requester.now.slots }
+    ensures { result ≡ lowest_idle_slot requester.now.slots }
 {
     requester.lowest_idle()
 }

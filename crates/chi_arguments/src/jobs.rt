@@ -241,7 +241,8 @@ fn read_storm<'a>(matches: &ArgMatches<'a>) -> Option<Job<'a>>
 
 /// The first text that was found for this name.
 fn text_of<'a>(matches: &ArgMatches<'a>, name: &str) -> Option<&'a str>
-    ensures { option_map (λ text. text.now) result ≡ first_of name.now (rows_of (found_of matches.now)) }
+    ensures { option_map (λ text. text.now) result
+        ≡ first_of name.now (rows_of (found_of matches.now)) }
 {
     matches.get_str(name)
 }

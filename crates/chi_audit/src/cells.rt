@@ -31,7 +31,8 @@ impl Tallies {
     pub fn store<R: Wait>(&self, rt: &R, writer: &mut Writer, tally: Tally)
         requires cell { slice_get self.now writer.old.agent ≡ Some writer.old.cell }
         requires later { NotAbove (last_tally writer.old.stored) tally }
-        ensures stored { writer.new ≡ record writer.old { stored = writer.old.stored ++ tally ∷ [] } }
+        ensures stored { writer.new
+            ≡ record writer.old { stored = writer.old.stored ++ tally ∷ [] } }
         ensures last { last_tally writer.new.stored ≡ tally }
     {
         let place = usize::from(writer.agent.0);

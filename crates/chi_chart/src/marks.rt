@@ -230,7 +230,8 @@ fn add_channel<A: Allocator>(
     after: &Cells,
 ) -> Result<(), NoMemory>
     ensures { OnOk result
-        (marks.new.items ≡ marks.old.items ++ channel_marks line agent before.now after.now channel) }
+        (marks.new.items
+        ≡ marks.old.items ++ channel_marks line agent before.now after.now channel) }
 {
     let cell = ChannelCell {
         line,

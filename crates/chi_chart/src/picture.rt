@@ -329,7 +329,8 @@ impl<A: Allocator> Picture<A> {
     /// The head of the text: its size, its ground, and its style.
     fn add_head(&mut self) -> Result<(), NoMemory>
         ensures text { OnOk result
-            (self.new.text.items ≡ self.old.text.items ++ head_text self.old.layout self.old.bottom) }
+            (self.new.text.items
+            ≡ self.old.text.items ++ head_text self.old.layout self.old.bottom) }
         ensures layout { self.new.layout ≡ self.old.layout }
         ensures bottom { self.new.bottom ≡ self.old.bottom }
     {
@@ -345,7 +346,8 @@ impl<A: Allocator> Picture<A> {
     /// The frame: the home's slices, its lifeline, and those of the agents.
     fn add_frame(&mut self) -> Result<(), NoMemory>
         ensures text { OnOk result
-            (self.new.text.items ≡ self.old.text.items ++ frame_text self.old.layout self.old.bottom) }
+            (self.new.text.items
+            ≡ self.old.text.items ++ frame_text self.old.layout self.old.bottom) }
         ensures layout { self.new.layout ≡ self.old.layout }
         ensures bottom { self.new.bottom ≡ self.old.bottom }
     {

@@ -38,7 +38,8 @@ pub fn read_most<A: Allocator, I: Input>(
     most: usize,
 ) -> Result<Vec<u8, A>, Fault>
     requires { I.failures input.old + 1 < 2 ^ 64 }
-    ensures front { IfOk result (λ bytes. IfSome (I.left input.old) (λ file. bytes.items ≡ take most file)) }
+    ensures front { IfOk result (λ bytes. IfSome (I.left input.old) (λ file. bytes.items
+        ≡ take most file)) }
     ensures bound { IfOk result (λ bytes. length bytes.items ≤ most) }
     ensures ok { OnOk result (I.failures input.new ≡ I.failures input.old) }
     ensures err { IfErr result (CountsFault (I.failures input.old) (I.failures input.new)) }

@@ -27,7 +27,8 @@ fn behind_new<'f>(
     channel: Channel,
 ) -> Option<&'f [SentFlit]>
     ensures { IfSome result
-        (λ rest. flits.now ≡ new_flit agent (cell_of before.now channel) (cell_of after.now channel) ++ rest.now) }
+        (λ rest. flits.now
+        ≡ new_flit agent (cell_of before.now channel) (cell_of after.now channel) ++ rest.now) }
 {
     match (before.get(channel), after.get(channel)) {
         (None, Some(message)) => behind(flits, SentFlit { agent, message }),
@@ -63,7 +64,8 @@ fn behind_agent<'f>(
     before: &Cells,
     after: &Cells,
 ) -> Option<&'f [SentFlit]>
-    ensures { IfSome result (λ rest. flits.now ≡ sent_of_agent agent before.now after.now ++ rest.now) }
+    ensures { IfSome result (λ rest. flits.now
+        ≡ sent_of_agent agent before.now after.now ++ rest.now) }
 {
     let rest = behind_new(flits, agent, before, after, Channel::Req)?;
     let rest = behind_new(rest, agent, before, after, Channel::RspDown)?;

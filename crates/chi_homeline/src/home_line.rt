@@ -99,9 +99,11 @@ impl HomeLine {
     pub fn start(&mut self, agent: Agent) -> Result<Begun, Refusal>
         requires { agent.0 < 8 }
         ensures refusal { refusal_of result ≡ start_refusal self.old agent.0 }
-        ensures sends { IfOk result (λ begun. (request : Waiting) → waiting_of self.old agent.0 ≡ Some request
+        ensures sends { IfOk result (λ begun. (request : Waiting)
+            → waiting_of self.old agent.0 ≡ Some request
             → started_with begun self.old.memory ≡ started_sends self.old agent request) }
-        ensures ok { IfOk result (λ _. (request : Waiting) → waiting_of self.old agent.0 ≡ Some request
+        ensures ok { IfOk result (λ _. (request : Waiting)
+            → waiting_of self.old agent.0 ≡ Some request
             → self.new ≡ home_after_start self.old agent request) }
         ensures memory { IfOk result (λ _. self.new.memory ≡ self.old.memory) }
         ensures err { OnErr result (self.new ≡ self.old) }
@@ -140,7 +142,8 @@ impl HomeLine {
     /// Snoops for a request, or completes it at once where there is nobody to ask.
     fn serve(&mut self, agent: Agent, kind: Kind, snoop: Snoop, slot: Slot) -> Begun
         requires { agent.0 < 8 }
-        ensures sends { started_with result self.old.memory ≡ served_sends self.old kind snoop agent }
+        ensures sends { started_with result self.old.memory
+            ≡ served_sends self.old kind snoop agent }
         ensures memory { self.new.memory ≡ self.old.memory }
         ensures after { self.new ≡ home_after_service self.old kind agent slot }
     {
@@ -177,8 +180,10 @@ impl HomeLine {
     /// Source: `docs/PROTOCOL.md`, "The actions", RecvAck.
     pub fn ack(&mut self, agent: Agent) -> Option<Slot>
         ensures answers { is_some result ≡ acks_for self.old.serving agent.0 }
-        ensures slot { (slot : Slot) → result ≡ Some slot → served_slot self.old.serving ≡ Some slot }
-        ensures after { acks_for self.old.serving agent.0 ≡ true → self.new ≡ home_after_ack self.old }
+        ensures slot { (slot : Slot) → result ≡ Some slot
+            → served_slot self.old.serving ≡ Some slot }
+        ensures after { acks_for self.old.serving agent.0 ≡ true
+            → self.new ≡ home_after_ack self.old }
         ensures stays { acks_for self.old.serving agent.0 ≡ false → self.new ≡ self.old }
     {
         match self.serving {
@@ -257,7 +262,8 @@ impl HomeLine {
         requires { agent.0 < 8 }
         ensures sends { is_named self.old.filter agent.0 ≡ true
             → result ≡ snoop_answered_sends self.old agent answer }
-        ensures agent { (completion : Completion) → result ≡ Some completion → completion.agent.0 < 8 }
+        ensures agent { (completion : Completion) → result ≡ Some completion
+            → completion.agent.0 < 8 }
         ensures after { is_named self.old.filter agent.0 ≡ true
             → self.new ≡ snoop_answered self.old agent answer }
         ensures nothing { is_named self.old.filter agent.0 ≡ false → result ≡ None }
@@ -304,7 +310,8 @@ impl HomeLine {
     /// completion.
     fn finish(&mut self, sent: Data) -> Option<Completion>
         ensures sends { result ≡ finished_sends self.old sent }
-        ensures agent { (completion : Completion) → result ≡ Some completion → completion.agent.0 < 8 }
+        ensures agent { (completion : Completion) → result ≡ Some completion
+            → completion.agent.0 < 8 }
         ensures after { self.new ≡ finished_home self.old }
     {
         let Serving::Snooping { agent, kind, slot } = self.serving else {
@@ -325,9 +332,11 @@ impl HomeLine {
     pub fn wr_data(&mut self, agent: Agent, form: State, words: Data) -> Option<Slot>
         requires { agent.0 < 8 }
         ensures answers { is_some result ≡ writes_for self.old.serving agent.0 }
-        ensures slot { (slot : Slot) → result ≡ Some slot → served_slot self.old.serving ≡ Some slot }
+        ensures slot { (slot : Slot) → result ≡ Some slot
+            → served_slot self.old.serving ≡ Some slot }
         ensures after { (kind : Kind) → writes_for self.old.serving agent.0 ≡ true
-            → served_kind self.old.serving ≡ Some kind → self.new ≡ home_after_write self.old agent.0 kind form words }
+            → served_kind self.old.serving ≡ Some kind
+            → self.new ≡ home_after_write self.old agent.0 kind form words }
         ensures stays { writes_for self.old.serving agent.0 ≡ false → self.new ≡ self.old }
     {
         match self.serving {

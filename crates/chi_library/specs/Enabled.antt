@@ -23,15 +23,15 @@ all_steps slot =
     ∷ Issue CleanUnique slot ∷ Issue Evict slot ∷ Issue WriteBackFull slot ∷ Issue WriteCleanFull slot ∷ Issue WriteEvictFull slot
     ∷ Admit ∷ Retry ∷ RecvRetry ∷ Resend ∷ Cancel ∷ Start ∷ RecvSnp ∷ RecvSnpResp ∷ RecvData ∷ RecvComp ∷ RecvAck ∷ RecvDbid ∷ RecvWrData ∷ []
 
-abbrev pub action_by : Agent → Line → Step → Action
-action_by agent l step = record { agent = agent; line = l; step = step }
+abbrev pub candidate_action : Agent → Line → Step → Action
+candidate_action agent l step = record { agent = agent; line = l; step = step }
 
-abbrev pub is_enabled : SliceState → Action → Bool
-is_enabled s action = is_none (action_refusal s action)
+abbrev pub is_unrefused : SliceState → Action → Bool
+is_unrefused s action = is_none (action_refusal s action)
 
 -- those of these steps that aren't refused
 abbrev pub enabled_of : SliceState → Agent → Line → List Step → List Action
-enabled_of s agent l steps = filter (is_enabled s) (map (action_by agent l) steps)
+enabled_of s agent l steps = filter (is_unrefused s) (map (candidate_action agent l) steps)
 
 -- those of all steps, where an Issue names the agent's lowest slot that is free in the slice
 abbrev pub enabled_actions : SliceState → Agent → Line → List Action

@@ -229,7 +229,8 @@ pub extern "C" fn chi_node_flits(
 ) -> u8
     ensures answer { result ≡ answer_number node.old.value (λ y. node_flits_refusal y.home agent line) }
     ensures after { node.new.value ≡ node.old.value }
-    ensures flits { flits.new ≡ output_of node.old.value no_flits_told (node_flits_told agent line) }
+    ensures flits { flits.new
+        ≡ output_of node.old.value no_flits_told (node_flits_told agent line) }
 {
     *flits = ChiFlits::NONE;
     match node.take(alloc) {

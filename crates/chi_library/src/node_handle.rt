@@ -66,7 +66,8 @@ impl ChiNode {
 
     /// Takes the node out, if there is one: the handle is closed then.
     pub(crate) fn take(&mut self, alloc: Global) -> Option<Box<System<Global>>>
-        ensures node { MatchOption result (self.old.value ≡ None) (λ held. self.old.value ≡ Some held.value) }
+        ensures node { MatchOption result (self.old.value ≡ None) (λ held. self.old.value
+            ≡ Some held.value) }
         ensures closed { self.new.value ≡ None }
     {
         let handle = mem::replace(self, ChiNode::none(alloc));

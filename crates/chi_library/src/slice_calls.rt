@@ -63,8 +63,10 @@ pub extern "C" fn chi_slice_act(
     effect: &mut ChiEffect,
 ) -> u8
     ensures answer { result ≡ answer_number slice.old.value (decoded_refusal (action_of action.now)) }
-    ensures after { slice.new.value ≡ state_after slice.old.value (act_after (action_of action.now)) }
-    ensures effect { effect.new ≡ output_of slice.old.value no_effect (act_told (action_of action.now)) }
+    ensures after { slice.new.value
+        ≡ state_after slice.old.value (act_after (action_of action.now)) }
+    ensures effect { effect.new
+        ≡ output_of slice.old.value no_effect (act_told (action_of action.now)) }
 {
     *effect = ChiEffect::NONE;
     match slice.take(alloc) {
@@ -165,7 +167,8 @@ pub extern "C" fn chi_slice_journal(
 ) -> u8
     ensures answer { result ≡ answer_number slice.old.value (λ s. entry_refusal (entry_at s place)) }
     ensures after { slice.new.value ≡ slice.old.value }
-    ensures entry { entry.new ≡ output_of slice.old.value no_record (λ s. entry_told (entry_at s place)) }
+    ensures entry { entry.new
+        ≡ output_of slice.old.value no_record (λ s. entry_told (entry_at s place)) }
 {
     *entry = ChiRecord::NONE;
     match slice.take(alloc) {

@@ -36,11 +36,14 @@ pub extern "C" fn chi_slice_step(
     taken: &mut ChiSent,
 ) -> u8
     ensures answer { result ≡ answer_number slice.old.value (decoded_refusal (action_of action.now)) }
-    ensures after { slice.new.value ≡ state_after slice.old.value (act_after (action_of action.now)) }
-    ensures effect { effect.new ≡ output_of slice.old.value no_effect (act_told (action_of action.now)) }
+    ensures after { slice.new.value
+        ≡ state_after slice.old.value (act_after (action_of action.now)) }
+    ensures effect { effect.new
+        ≡ output_of slice.old.value no_effect (act_told (action_of action.now)) }
     ensures sent { IsListed no_sent 8 (output_of slice.old.value [] (sent_shown (action_of action.now)))
         sent.new count.new }
-    ensures taken { taken.new ≡ output_of slice.old.value no_sent (taken_shown (action_of action.now)) }
+    ensures taken { taken.new
+        ≡ output_of slice.old.value no_sent (taken_shown (action_of action.now)) }
 {
     *effect = ChiEffect::NONE;
     *sent = [ChiSent::NONE; 8];

@@ -44,8 +44,10 @@ impl CoherentLine {
         requires kept { (last : List ℕ) × Kept last self.old }
         ensures refusal { refusal_of result ≡ line_refusal conditions self.old action }
         ensures effect { IfOk result (λ outcome. outcome.effect ≡ effect_of self.old action) }
-        ensures slot { IfOk result (λ outcome. outcome.slot ≡ moved_slot self.old action.agent action.step) }
-        ensures to { IfOk result (λ outcome. outcome.to ≡ moved_to self.old action.agent action.step) }
+        ensures slot { IfOk result (λ outcome. outcome.slot
+            ≡ moved_slot self.old action.agent action.step) }
+        ensures to { IfOk result (λ outcome. outcome.to
+            ≡ moved_to self.old action.agent action.step) }
         ensures after { OnOk result (self.new ≡ after conditions.profile self.old action) }
         ensures flits { OnOk result (KeepsFlits conditions.profile self.old action self.new) }
         ensures err { OnErr result (self.new ≡ self.old) }

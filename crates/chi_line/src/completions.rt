@@ -33,7 +33,8 @@ impl CoherentLine {
         requires agent { agent.0 < 8 }
         requires empty { is_some (cells_of self.old agent.0).dat_down ≡ true
             → (cells_of self.old agent.0).rsp_up ≡ None }
-        ensures refusal { refusal_of result ≡ no_flit_unless (is_some (cells_of self.old agent.0).dat_down) }
+        ensures refusal { refusal_of result
+            ≡ no_flit_unless (is_some (cells_of self.old agent.0).dat_down) }
         ensures outcome { IfOk result (λ outcome. outcome
             ≡ outcome_with_move (pending_slot (rn_of self.old agent.0).pending) (Some Answered)) }
         ensures after { OnOk result (self.new
@@ -59,7 +60,8 @@ impl CoherentLine {
         requires agent { agent.0 < 8 }
         requires empty { (cells_of self.old agent.0).rsp_down ≡ Some CompUC
             → (cells_of self.old agent.0).rsp_up ≡ None }
-        ensures refusal { refusal_of result ≡ no_flit_unless (is_comp (cells_of self.old agent.0).rsp_down) }
+        ensures refusal { refusal_of result
+            ≡ no_flit_unless (is_comp (cells_of self.old agent.0).rsp_down) }
         ensures outcome { IfOk result (λ outcome. outcome
             ≡ outcome_with_move (pending_slot (rn_of self.old agent.0).pending)
             (completed_to (cells_of self.old agent.0).rsp_down)) }
@@ -97,9 +99,11 @@ impl CoherentLine {
         requires agent { agent.0 < 8 }
         requires awaited { is_ack (cells_of self.old agent.0).rsp_up ≡ true
             → acks_for self.old.home.serving agent.0 ≡ true }
-        ensures refusal { refusal_of result ≡ no_flit_unless (is_ack (cells_of self.old agent.0).rsp_up) }
+        ensures refusal { refusal_of result
+            ≡ no_flit_unless (is_ack (cells_of self.old agent.0).rsp_up) }
         ensures outcome { IfOk result
-            (λ outcome. outcome ≡ outcome_of_end (completed_effect (served_slot self.old.home.serving))) }
+            (λ outcome. outcome
+            ≡ outcome_of_end (completed_effect (served_slot self.old.home.serving))) }
         ensures after { OnOk result (self.new ≡ acknowledged_line self.old agent.0) }
         ensures flits { OnOk result (Balances (flit_on self.old agent channels.RspUp) [] self.old self.new) }
         ensures err { OnErr result (self.new ≡ self.old) }
@@ -125,7 +129,8 @@ impl CoherentLine {
             → is_some (rn_of self.old agent.0).pending ≡ true }
         requires empty { is_dbid (cells_of self.old agent.0).rsp_down ≡ true
             → (cells_of self.old agent.0).dat_up ≡ None }
-        ensures refusal { refusal_of result ≡ no_flit_unless (is_dbid (cells_of self.old agent.0).rsp_down) }
+        ensures refusal { refusal_of result
+            ≡ no_flit_unless (is_dbid (cells_of self.old agent.0).rsp_down) }
         ensures outcome { IfOk result (λ outcome. outcome
             ≡ outcome_with_move (pending_slot (rn_of self.old agent.0).pending) (Some Answered)) }
         ensures after { OnOk result (self.new
@@ -158,7 +163,8 @@ impl CoherentLine {
         ensures refusal { refusal_of result
             ≡ no_flit_unless (is_write_data (cells_of self.old agent.0).dat_up) }
         ensures outcome { IfOk result
-            (λ outcome. outcome ≡ outcome_of_end (completed_effect (served_slot self.old.home.serving))) }
+            (λ outcome. outcome
+            ≡ outcome_of_end (completed_effect (served_slot self.old.home.serving))) }
         ensures after { OnOk result (self.new
             ≡ where_some self.old (served_kind self.old.home.serving)
             (λ kind. data_written self.old agent.0 kind (cells_of self.old agent.0).dat_up)) }

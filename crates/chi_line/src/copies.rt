@@ -31,7 +31,8 @@ impl CoherentLine {
         ensures refusal { refusal_of result
             ≡ option_or (load_refusal (rn_of self.now agent.0)) (full_if full) }
         ensures outcome { IfOk result
-            (λ outcome. outcome ≡ outcome_without_move (Value (word_of (rn_of self.now agent.0) word.0))) }
+            (λ outcome. outcome
+            ≡ outcome_without_move (Value (word_of (rn_of self.now agent.0) word.0))) }
     {
         let value = self.requesters[usize::from(agent.0)].load(word)?;
         if full {
@@ -93,7 +94,8 @@ impl CoherentLine {
         requires { agent.0 < 8 }
         ensures refusal { refusal_of result ≡ cancel_refusal (rn_of self.old agent.0) }
         ensures outcome { IfOk result
-            (λ outcome. outcome ≡ outcome_with_move (pending_slot (rn_of self.old agent.0).pending) None) }
+            (λ outcome. outcome
+            ≡ outcome_with_move (pending_slot (rn_of self.old agent.0).pending) None) }
         ensures after { OnOk result (self.new ≡ cancelled_line self.old agent.0) }
         ensures err { OnErr result (self.new ≡ self.old) }
     {

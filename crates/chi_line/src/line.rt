@@ -64,7 +64,8 @@ impl CoherentLine {
         requires { agent.0 < 8 }
         ensures cells { result.now ≡ cells_of self.now agent.0 }
         ensures once { (channel : Channel)
-            → filter (is_at channel agent) (in_flight self.now.flits) ≡ flit_of agent (cell_of result.now channel) }
+            → filter (is_at channel agent) (in_flight self.now.flits)
+            ≡ flit_of agent (cell_of result.now channel) }
     {
         self.flits.cells(agent)
     }

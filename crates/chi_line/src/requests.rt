@@ -47,10 +47,12 @@ impl CoherentLine {
         used: bool,
     ) -> Result<ActionOutcome, Refusal>
         requires agent { agent.0 < 8 }
-        requires empty { (rn_of self.old agent.0).pending ≡ None → (cells_of self.old agent.0).req ≡ None }
+        requires empty { (rn_of self.old agent.0).pending ≡ None
+            → (cells_of self.old agent.0).req ≡ None }
         ensures refusal { refusal_of result
             ≡ if used then Some refusals.Pending else issue_refusal (rn_of self.old agent.0) kind }
-        ensures outcome { IfOk result (λ outcome. outcome ≡ outcome_with_move (Some slot) (Some Sent)) }
+        ensures outcome { IfOk result (λ outcome. outcome
+            ≡ outcome_with_move (Some slot) (Some Sent)) }
         ensures after { OnOk result (self.new ≡ issued_line self.old agent.0 kind slot) }
         ensures flits { OnOk result
             (Balances [] (flit agent (request_message kind slot true) ∷ []) self.old self.new) }
@@ -70,7 +72,8 @@ impl CoherentLine {
     /// Source: `docs/PROTOCOL.md`, "The actions", Admit.
     pub(crate) fn admit(&mut self, agent: Agent) -> Result<ActionOutcome, Refusal>
         requires { agent.0 < 8 }
-        ensures refusal { refusal_of result ≡ no_flit_unless (is_some (cells_of self.old agent.0).req) }
+        ensures refusal { refusal_of result
+            ≡ no_flit_unless (is_some (cells_of self.old agent.0).req) }
         ensures outcome { IfOk result (λ outcome. outcome
             ≡ outcome_with_move (requested_slot (cells_of self.old agent.0).req) (Some Admitted)) }
         ensures after { OnOk result (self.new
@@ -119,7 +122,8 @@ impl CoherentLine {
     /// Source: `docs/PROTOCOL.md`, "The actions", RecvRetry.
     pub(crate) fn receive_retry(&mut self, agent: Agent) -> Result<ActionOutcome, Refusal>
         requires { agent.0 < 8 }
-        ensures refusal { refusal_of result ≡ no_flit_unless (is_retry (cells_of self.old agent.0).rsp_down) }
+        ensures refusal { refusal_of result
+            ≡ no_flit_unless (is_retry (cells_of self.old agent.0).rsp_down) }
         ensures outcome { IfOk result (λ outcome. outcome
             ≡ outcome_with_move (pending_slot (rn_of self.old agent.0).pending) (Some Retried)) }
         ensures after { OnOk result (self.new ≡ retry_received_line self.old agent.0) }
@@ -151,7 +155,8 @@ impl CoherentLine {
         requires agent { agent.0 < 8 }
         requires empty { resend_refusal (rn_of self.old agent.0) ≡ None
             → (cells_of self.old agent.0).req ≡ None }
-        ensures refusal { refusal_of result ≡ resend_step_refusal conditions (rn_of self.old agent.0) }
+        ensures refusal { refusal_of result
+            ≡ resend_step_refusal conditions (rn_of self.old agent.0) }
         ensures outcome { IfOk result (λ outcome. outcome
             ≡ outcome_with_move (pending_slot (rn_of self.old agent.0).pending) (Some Riding)) }
         ensures after { OnOk result (self.new
@@ -182,7 +187,8 @@ impl CoherentLine {
     pub(crate) fn start(&mut self, agent: Agent) -> Result<ActionOutcome, Refusal>
         requires agent { agent.0 < 8 }
         requires down { is_some (waiting_of self.old.home agent.0) ≡ true
-            → ((cells_of self.old agent.0).rsp_down ≡ None) × ((cells_of self.old agent.0).dat_down ≡ None) }
+            → ((cells_of self.old agent.0).rsp_down ≡ None)
+            × ((cells_of self.old agent.0).dat_down ≡ None) }
         requires no_snoops { is_idle self.old.home.serving ≡ true → (other : ℕ)
             → (cells_of self.old other).snp ≡ None }
         ensures refusal { refusal_of result ≡ start_refusal self.old.home agent.0 }

@@ -34,8 +34,10 @@ impl CoherentLine {
     pub(crate) fn receive_snoop(&mut self, agent: Agent) -> Result<ActionOutcome, Refusal>
         requires agent { agent.0 < 8 }
         requires empty { is_some (cells_of self.old agent.0).snp ≡ true
-            → ((cells_of self.old agent.0).rsp_up ≡ None) × ((cells_of self.old agent.0).dat_up ≡ None) }
-        ensures refusal { refusal_of result ≡ no_flit_unless (is_some (cells_of self.old agent.0).snp) }
+            → ((cells_of self.old agent.0).rsp_up ≡ None)
+            × ((cells_of self.old agent.0).dat_up ≡ None) }
+        ensures refusal { refusal_of result
+            ≡ no_flit_unless (is_some (cells_of self.old agent.0).snp) }
         ensures outcome { IfOk result (λ outcome. outcome ≡ outcome_without_move Nothing) }
         ensures after { OnOk result (self.new
             ≡ where_some self.old (cells_of self.old agent.0).snp (snooped_line self.old agent.0)) }
@@ -61,7 +63,8 @@ impl CoherentLine {
         requires named { is_some (answer_in (cells_of self.old agent.0)) ≡ true
             → is_named self.old.home.filter agent.0 ≡ true }
         requires down { (other : ℕ) → snoops_for self.old.home.serving other ≡ true
-            → ((cells_of self.old other).rsp_down ≡ None) × ((cells_of self.old other).dat_down ≡ None) }
+            → ((cells_of self.old other).rsp_down ≡ None)
+            × ((cells_of self.old other).dat_down ≡ None) }
         ensures refusal { refusal_of result
             ≡ no_flit_unless (is_some (answer_in (cells_of self.old agent.0))) }
         ensures outcome { IfOk result (λ outcome. outcome ≡ outcome_without_move Nothing) }

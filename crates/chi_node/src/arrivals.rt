@@ -34,7 +34,8 @@ impl Requester {
         requires slot { slot.0 < 8 }
         requires sent { state_at self.old.slots slot.0 ≡ SlotState.Sent }
         requires entries { 0 < size self.old.port.shape (type_at self.old.slots slot.0) }
-        ensures unanswered { IfSome result (λ _. (slot_record_at self.old.slots slot.0).answered ≡ false) }
+        ensures unanswered { IfSome result (λ _. (slot_record_at self.old.slots slot.0).answered
+            ≡ false) }
         ensures claimed { IfSome result
             (λ e. IsOf self.old.port.shape (type_at self.old.slots slot.0) e.0
             × (has e.0 self.old.port ≡ 0)) }

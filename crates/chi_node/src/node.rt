@@ -103,7 +103,8 @@ impl<A: Allocator> Node<A> {
     /// Source: `docs/PROTOCOL.md`, "A requester and its calls".
     #[inline(always)]
     pub fn lock<R: Wait>(&self, rt: &R, line: Line) -> Result<MutexGuard<'_, Slice<A>>, Refusal>
-        ensures refusal { (refusal_of result ≡ None) ⊎ IsLockRefusal self.now line.0 (refusal_of result) }
+        ensures refusal { (refusal_of result ≡ None)
+            ⊎ IsLockRefusal self.now line.0 (refusal_of result) }
         ensures inside { OnOk result (nat_lt line.0 self.now.config.lines ≡ true) }
         ensures slice { IfOk result
             (λ guard. IsSliceOf self.now.config line.0 (mutex_guard_value guard)) }
@@ -140,7 +141,8 @@ impl<A: Allocator> Node<A> {
         line: Line,
     ) -> Result<Arrived, Refusal>
         requires own { IsOwn self.now requester.old }
-        ensures outside { nat_lt line.0 self.now.config.lines ≡ false → refusal_of result ≡ Some OutOfRange }
+        ensures outside { nat_lt line.0 self.now.config.lines ≡ false
+            → refusal_of result ≡ Some OutOfRange }
         ensures done { UnderLock self.now line.0 requester.old requester.new (refusal_of result)
             (ArrivesLocked self.now.config line requester.old requester.new result) }
         ensures err { OnErr result (requester.new ≡ requester.old) }

@@ -14,7 +14,8 @@ use std::alloc::Allocator;
 
 /// The slices of a node of that size, each in its opening state.
 fn slices<A: Allocator + Copy>(alloc: A, config: &Config) -> Result<Vec<Slice<A>, A>, NoMemory>
-    ensures slices { IfOk result (λ slices. slices.items ≡ opening_slices config.now config.now.slices) }
+    ensures slices { IfOk result (λ slices. slices.items
+        ≡ opening_slices config.now config.now.slices) }
     ensures limits { are_in_limits config.now ≡ true }
 {
     let count = config.slices();
@@ -31,9 +32,11 @@ fn requesters<A: Allocator>(
     alloc: A,
     config: &Config,
 ) -> Result<(Tracker<A>, ArrayVec<Requester, 8>), NoMemory>
-    ensures tracker { IfOk result (λ made. made.0.shape ≡ shape_of config.now.entries config.now.agents) }
+    ensures tracker { IfOk result (λ made. made.0.shape
+        ≡ shape_of config.now.entries config.now.agents) }
     ensures types { IfOk result (λ made. HasOwnTypes config.now made.0.shape) }
-    ensures requesters { IfOk result (λ made. made.1.items ≡ requesters_of made.0 config.now.agents) }
+    ensures requesters { IfOk result (λ made. made.1.items
+        ≡ requesters_of made.0 config.now.agents) }
     ensures agree { IfOk result (λ made. AgreeAtOpening config.now made.0.table made.0.shape) }
 {
     let (entries, agents) = (config.entries(), config.agents());
@@ -56,10 +59,13 @@ pub fn parts<A: Allocator + Copy>(
     config: &Config,
 ) -> Result<(Vec<Slice<A>, A>, Tracker<A>, ArrayVec<Requester, 8>), NoMemory>
     ensures limits { are_in_limits config.now ≡ true }
-    ensures slices { IfOk result (λ made. made.0.items ≡ opening_slices config.now config.now.slices) }
-    ensures tracker { IfOk result (λ made. made.1.shape ≡ shape_of config.now.entries config.now.agents) }
+    ensures slices { IfOk result (λ made. made.0.items
+        ≡ opening_slices config.now config.now.slices) }
+    ensures tracker { IfOk result (λ made. made.1.shape
+        ≡ shape_of config.now.entries config.now.agents) }
     ensures types { IfOk result (λ made. HasOwnTypes config.now made.1.shape) }
-    ensures requesters { IfOk result (λ made. made.2.items ≡ requesters_of made.1 config.now.agents) }
+    ensures requesters { IfOk result (λ made. made.2.items
+        ≡ requesters_of made.1 config.now.agents) }
     ensures agree { IfOk result (λ made. AgreeAtOpening config.now made.1.table made.1.shape) }
 {
     let slices = slices(alloc, config)?;

@@ -101,7 +101,8 @@ impl Requester {
     /// Source: `docs/PROTOCOL.md`, "Slots and accounts".
     pub fn lowest_idle(&self) -> Option<Slot>
         ensures some { IfSome result (λ slot. IsLowestIdle self.now.slots slot.0) }
-        ensures none { IfNone result ((s : ℕ) → s < 8 → state_at self.now.slots s ≢ SlotState.Idle) }
+        ensures none { IfNone result ((s : ℕ) → s < 8
+            → state_at self.now.slots s ≢ SlotState.Idle) }
     {
         self.account.lowest_idle()
     }

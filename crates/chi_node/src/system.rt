@@ -252,7 +252,8 @@ impl<A: Allocator> System<A> {
     /// Refused 10 (OutOfRange) exactly where the agent or the line is outside the node.
     /// Source: `docs/PROTOCOL.md`, "Messages".
     pub fn flits(&self, agent: Agent, line: Line) -> Result<Cells, Refusal>
-        ensures cells { IfOk result (λ cells. cells ≡ cells_of (node_line self.now.home line.0) agent.0) }
+        ensures cells { IfOk result (λ cells. cells
+            ≡ cells_of (node_line self.now.home line.0) agent.0) }
         ensures refusal { refusal_of result ≡ node_flits_refusal self.now.home agent.0 line.0 }
         ensures agent { OnOk result (agent.0 < self.now.home.config.agents) }
     {

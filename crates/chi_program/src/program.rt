@@ -173,7 +173,8 @@ fn arguments_of(alloc: Global, given: Args) -> Result<Vec<String>, ArgFault>
 
 /// The same words, lent; `NoMemory` where memory runs out.
 fn words_of<'a>(alloc: Global, texts: &'a [String]) -> Result<Vec<&'a str>, ArgFault>
-    ensures ok { IfOk result (λ words. map (λ word. word.now) words.items ≡ map string_bytes texts.now) }
+    ensures ok { IfOk result (λ words. map (λ word. word.now) words.items
+        ≡ map string_bytes texts.now) }
     ensures err { IfErr result (λ fault. fault ≡ ArgFault.NoMemory) }
 {
     Ok(texts.iter().map(|text| text.as_str()).collect(alloc)?)

@@ -84,7 +84,8 @@ fn report_of<A: Allocator + Copy>(alloc: A, bytes: &[u8]) -> Result<CheckReport<
 /// The report on what was found. Refused where memory runs out.
 fn report_on<A: Allocator>(found: Comparison<A>) -> Result<CheckReport<A>, NoMemory>
     ensures text { IfOk result
-        (λ report. report.text.items ≡ found.lines.items ++ check_summary found.wanted found.differing) }
+        (λ report. report.text.items
+        ≡ found.lines.items ++ check_summary found.wanted found.differing) }
     ensures hold { IfOk result (λ report. IsTrue report.hold ↔ (found.differing ≡ 0)) }
 {
     let Comparison {

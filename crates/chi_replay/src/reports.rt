@@ -84,7 +84,8 @@ impl<A: Allocator> Comparison<A> {
             ≡ self.old.lines.items
             ++ differing_text front.now (line_of_check check.now ∷ []) (answer.now ∷ [])) }
         ensures wanted { OnOk result
-            (self.new.wanted ≡ self.old.wanted + length (wanted_in (line_of_check check.now ∷ []))) }
+            (self.new.wanted
+            ≡ self.old.wanted + length (wanted_in (line_of_check check.now ∷ []))) }
         ensures differing { OnOk result
             (self.new.differing
             ≡ self.old.differing

@@ -256,7 +256,8 @@ impl<A: Allocator + Copy> SuiteRun<A> {
     fn report(self, form: SuiteForm) -> Result<SuiteReport<A>, NoMemory>
         ensures text { IfOk result
             (λ report. report.text.items ≡ self.text.items ++ suite_end form self.counts) }
-        ensures faults { IfOk result (λ report. string_bytes report.faults ≡ string_bytes self.faults) }
+        ensures faults { IfOk result (λ report. string_bytes report.faults
+            ≡ string_bytes self.faults) }
         ensures fault { IfOk result (λ report. report.fault ≡ self.fault) }
         ensures hold { IfOk result (λ report. IsTrue report.hold ↔ (self.counts.differ ≡ 0)) }
     {

@@ -292,7 +292,8 @@ impl RnLine {
     /// Source: `docs/PROTOCOL.md`, "The actions", Resend.
     pub fn resend(&mut self) -> Result<Msg, Refusal>
         ensures refusal { refusal_of result ≡ resend_refusal self.old }
-        ensures message { IfOk result (λ message. (request : Pending) → self.old.pending ≡ Some request
+        ensures message { IfOk result (λ message. (request : Pending)
+            → self.old.pending ≡ Some request
             → message ≡ request_message request.kind request.slot false) }
         ensures ok { IfOk result (λ _. self.new ≡ rn_after_resend self.old) }
         ensures err { OnErr result (self.new ≡ self.old) }

@@ -26,7 +26,7 @@ use Rattle.chi_line.specs.Step.{after, after_step, answer_in, answered_by, is_st
 use Rattle.chi_line.specs.Refused.{line_refusal}
 use Rattle.chi_line.specs.Traffic.{answer_flit, answered_flits, completion_ack, completion_flits, flit_taken, flits_sent, request_again, retry_ack, snoop_answer, start_flits, started_flits}
 use Rattle.chi_wires.specs.Flight.{flit, flit_of}
-use Rattle.chi_slice.specs.Sendings.{answer_message, completed_for, completion_sent, due_of, message_taken, own_sent, sent_by, service_sent, start_due, start_sent, words_sent}
+use Rattle.chi_slice.specs.Sendings.{answer_message, completed_for, completion_sent, flits_due, message_taken, own_sent, sent_by, service_sent, start_due, start_sent, words_sent}
 use Rattle.chi_slice.specs.declared.traffic.Due.{Due}
 use Rattle.chi_slice.specs.declared.traffic.FlitsSent.{FlitsSent}
 use Rattle.chi_slice.specs.Slice.{SliceKept, SliceState, action_refusal, conditions_under, flits_refusal, is_in_range, is_line_in_range, line, no_terms, row_of_line, slice_after}
@@ -103,7 +103,7 @@ answered s agent None = unanswered s s.home.serving s.home.memory refl
 answered s agent (Some answer) = finished (answer_taken s.home agent answer) (data_to_send answer s.home.memory) s.home.serving refl
 
 -- what a step sends
-pub sends : (profile : Profile) (s : LineState) (agent : Agent) (step : Step) → flits_in (sent_by (due_of profile s agent step) agent (after_step profile s agent step).home) ≡ flits_sent profile s agent step
+pub sends : (profile : Profile) (s : LineState) (agent : Agent) (step : Step) → flits_in (sent_by (flits_due profile s agent step) agent (after_step profile s agent step).home) ≡ flits_sent profile s agent step
 sends profile s agent (steps.Issue kind slot) = refl
 sends profile s agent steps.Retry = own agent (retry_ack profile (cells_of s agent.0).req)
 sends profile s agent steps.Resend = own agent (request_again (rn_of s agent.0).pending)
@@ -126,13 +126,13 @@ takes s agent other = refl
 
 -- on a slice: the home after the action is that of its line by its step
 pub sent_is : (s new : SliceState) (action : Action) (due : Due) (home : Home) (sent : FlitsSent) → SliceKept s → is_in_range s action ≡ true → new ≡ slice_after s action
-    → due ≡ due_of s.config.profile (line s action.line.0) action.agent action.step → home ≡ (line new action.line.0).home → sent ≡ sent_by due action.agent home
+    → due ≡ flits_due s.config.profile (line s action.line.0) action.agent action.step → home ≡ (line new action.line.0).home → sent ≡ sent_by due action.agent home
     → flits_in sent ≡ flits_sent s.config.profile (line s action.line.0) action.agent action.step
 sent_is s new action due home sent k inside done due_is home_is is =
     let left : line (slice_after s action) action.line.0 ≡ after s.config.profile (line s action.line.0) action =
     line_in_row-with_line s (row_of_line s action.line.0) (after s.config.profile (line s action.line.0) action) (in_range s action k inside).row k in
     let there : home ≡ (after s.config.profile (line s action.line.0) action).home = home_is ∙ ap (λ (v : SliceState). (line v action.line.0).home) done ∙ ap (λ (l : LineState). l.home) left in
-    ap flits_in (is ∙ ap (λ (d : Due). sent_by d action.agent home) due_is ∙ ap (λ (h : Home). sent_by (due_of s.config.profile (line s action.line.0) action.agent action.step) action.agent h) there)
+    ap flits_in (is ∙ ap (λ (d : Due). sent_by d action.agent home) due_is ∙ ap (λ (h : Home). sent_by (flits_due s.config.profile (line s action.line.0) action.agent action.step) action.agent h) there)
     ∙ sends s.config.profile (line s action.line.0) action.agent action.step
 
 -- an action whose agent or line isn't there is refused

@@ -62,17 +62,17 @@ start_due None = Own None
 start_due (Some request) = dues.Start request.kind
 
 -- what the line says before a step
-abbrev pub due_of : Profile → LineState → Agent → Step → Due
-due_of profile s agent (steps.Issue kind slot) = Own (Some (request_message kind slot true))
-due_of profile s agent steps.Retry = Own (retry_ack profile (cells_of s agent.0).req)
-due_of profile s agent steps.Resend = Own (request_again (rn_of s agent.0).pending)
-due_of profile s agent steps.Start = start_due (waiting_of s.home agent.0)
-due_of profile s agent steps.RecvSnp = Own (snoop_answer (rn_of s agent.0) (cells_of s agent.0).snp)
-due_of profile s agent steps.RecvSnpResp = Completion s.home.serving (words_sent (answer_in (cells_of s agent.0)) s.home.memory)
-due_of profile s agent steps.RecvData = Own (Some (messages.RspUp CompAck))
-due_of profile s agent steps.RecvComp = Own (completion_ack (cells_of s agent.0).rsp_down)
-due_of profile s agent steps.RecvDbid = Own (Some (messages.DatUp (write_data_of (rn_of s agent.0).state (rn_of s agent.0).words)))
-due_of profile s agent other = Own None
+abbrev pub flits_due : Profile → LineState → Agent → Step → Due
+flits_due profile s agent (steps.Issue kind slot) = Own (Some (request_message kind slot true))
+flits_due profile s agent steps.Retry = Own (retry_ack profile (cells_of s agent.0).req)
+flits_due profile s agent steps.Resend = Own (request_again (rn_of s agent.0).pending)
+flits_due profile s agent steps.Start = start_due (waiting_of s.home agent.0)
+flits_due profile s agent steps.RecvSnp = Own (snoop_answer (rn_of s agent.0) (cells_of s agent.0).snp)
+flits_due profile s agent steps.RecvSnpResp = Completion s.home.serving (words_sent (answer_in (cells_of s agent.0)) s.home.memory)
+flits_due profile s agent steps.RecvData = Own (Some (messages.RspUp CompAck))
+flits_due profile s agent steps.RecvComp = Own (completion_ack (cells_of s agent.0).rsp_down)
+flits_due profile s agent steps.RecvDbid = Own (Some (messages.DatUp (write_data_of (rn_of s agent.0).state (rn_of s agent.0).words)))
+flits_due profile s agent other = Own None
 
 -- what a start sent, by the home after it
 abbrev pub service_sent : Serving → Kind → Snoop → Agent → Home → FlitsSent

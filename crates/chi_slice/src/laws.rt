@@ -25,6 +25,7 @@ pub fn only_room_and_slots_join_lines()
 /// Source: `docs/PROTOCOL.md`, "The actions".
 pub fn an_action_leaves_one_slice()
     ensures { (old new other : SliceState) (action : Action) (effect own : Effect) → SliceKept old
-        → is_line_in_range old action.line.0 ≡ true → SliceStep old action effect new → SliceStep old action own other
+        → is_line_in_range old action.line.0 ≡ true → SliceStep old action effect new
+        → SliceStep old action own other
         → LeavesOne old action effect own new other }
 {}

@@ -187,7 +187,8 @@ impl<A: Allocator> Slice<A> {
     fn site(&self, action: Action, terms: Terms) -> Result<Site, Refusal>
         ensures refusal { refusal_of result ≡ range_refusal self.now action }
         ensures row { IfOk result (λ site. site.row ≡ row_of_line self.now action.line.0) }
-        ensures conditions { IfOk result (λ site. site.conditions ≡ conditions_under terms self.now action) }
+        ensures conditions { IfOk result (λ site. site.conditions
+            ≡ conditions_under terms self.now action) }
     {
         match self.row_in_range(action) {
             Some(row) => Ok(Site {
@@ -322,7 +323,8 @@ impl<A: Allocator> Slice<A> {
         ensures protocol { IfOk result
             (λ done. SliceStep self.old (action_in at step) done.effect self.new) }
         ensures journal { OnOk result
-            (self.new.journal ≡ log_after self.old.journal (entry_of self.old (action_in at step))) }
+            (self.new.journal
+            ≡ log_after self.old.journal (entry_of self.old (action_in at step))) }
         ensures flits { OnOk result (KeepsSliceFlits self.old (action_in at step) self.new) }
         ensures others { OnOk result (OtherLinesStay self.old self.new at.line.0) }
         ensures effect { IfOk result (λ done. done.effect
@@ -442,7 +444,8 @@ impl<A: Allocator> Slice<A> {
     /// another slice.
     /// Source: `docs/PROTOCOL.md`, "Messages".
     pub fn flits(&self, agent: Agent, line: Line) -> Result<Cells, Refusal>
-        ensures cells { IfOk result (λ cells. cells ≡ cells_of (line_of_slice self.now line.0) agent.0) }
+        ensures cells { IfOk result (λ cells. cells
+            ≡ cells_of (line_of_slice self.now line.0) agent.0) }
         ensures refusal { refusal_of result ≡ flits_refusal self.now agent.0 line.0 }
         ensures kept { SliceKept self.now }
         ensures slots { SlotsInRange self.now }
@@ -458,8 +461,10 @@ impl<A: Allocator> Slice<A> {
     /// another slice.
     /// Source: `docs/PROTOCOL.md`, "One line".
     pub fn agent_line(&self, agent: Agent, line: Line) -> Result<AgentLine<'_>, Refusal>
-        ensures copy { IfOk result (λ at. at.copy.now ≡ rn_of (line_of_slice self.now line.0) agent.0) }
-        ensures flits { IfOk result (λ at. at.flits.now ≡ cells_of (line_of_slice self.now line.0) agent.0) }
+        ensures copy { IfOk result (λ at. at.copy.now
+            ≡ rn_of (line_of_slice self.now line.0) agent.0) }
+        ensures flits { IfOk result (λ at. at.flits.now
+            ≡ cells_of (line_of_slice self.now line.0) agent.0) }
         ensures home { IfOk result (λ at. at.home.now ≡ (line_of_slice self.now line.0).home) }
         ensures refusal { refusal_of result ≡ flits_refusal self.now agent.0 line.0 }
     {
@@ -514,7 +519,8 @@ impl<A: Allocator> Slice<A> {
     /// each. No line is looked at but that of the place.
     /// Source: `docs/PROTOCOL.md`, "Agreement".
     pub fn has_type(&self, agent: Agent, slot: Slot, credit: CreditType) -> bool
-        ensures typed { agent.0 < 8 → slot.0 < 8 → IsTrue result ↔ HasType self.now credit agent.0 slot }
+        ensures typed { agent.0 < 8 → slot.0 < 8
+            → IsTrue result ↔ HasType self.now credit agent.0 slot }
         ensures outside { is_slot_of agent.0 slot ≡ false → result ≡ true }
         ensures kept { SliceKept self.now }
     {

@@ -10,7 +10,7 @@ ghost use Rattle.chi_line.specs.Step.{answer_in, effect_of};
 ghost use Rattle.chi_line.specs.Traffic.{completion_ack, flit_taken, flits_sent, request_again, retry_ack, snoop_answer};
 ghost use Rattle.chi_rnline.specs.Rn.{request_message};
 ghost use Rattle.chi_wires.specs.Flight.{flit_of};
-ghost use Rattle.chi_slice.specs.Sendings.{answer_message, completion_sent, due_of, message_taken, sent_by, service_sent, start_due, start_sent, words_sent};
+ghost use Rattle.chi_slice.specs.Sendings.{answer_message, completion_sent, flits_due, message_taken, sent_by, service_sent, start_due, start_sent, words_sent};
 ghost use Rattle.chi_slice.specs.Slice.{KeepsSliceFlits, action_refusal, line as line_of_slice, slice_after};
 ghost use Rattle.chi_slice.specs.Traffic.{flits_in};
 
@@ -154,7 +154,7 @@ fn request(kind: Kind, slot: Slot, allow_retry: bool) -> Option<Msg>
 /// What a line says before a step of the flits that it will send.
 fn due_of(line: &CoherentLine, profile: Profile, agent: Agent, step: Step) -> Due
     requires { agent.0 < 8 }
-    ensures { result ≡ due_of profile line.now agent step }
+    ensures { result ≡ flits_due profile line.now agent step }
 {
     match step {
         Step::Issue(kind, slot) => Due::Own(request(kind, slot, true)),

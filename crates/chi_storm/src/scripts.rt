@@ -62,7 +62,8 @@ pub(crate) fn scripts_of(
 ) -> Result<Vec<Script<Global>>, NoMemory>
     requires fresh { All (IsFresh tallies.now) writers.items }
     requires count { length writers.items ≡ agents }
-    ensures writers { IfOk result (λ scripts. map writer_of scripts.items ≡ map writer_agent writers.items) }
+    ensures writers { IfOk result (λ scripts. map writer_of scripts.items
+        ≡ map writer_agent writers.items) }
     ensures scripts { IfOk result
         (λ scripts. operations_of scripts.items ≡ scripts_below agents deeds.now) }
     ensures fresh { IfOk result (λ scripts. AreFresh tallies.now scripts.items) }

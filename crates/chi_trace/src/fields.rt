@@ -197,7 +197,8 @@ fn word(part: &[u8]) -> Option<Option<u64>>
 
 /// The word that the first part of a list names, and the parts behind its comma. `None` where there is no comma.
 fn first_word(list: &[u8]) -> Option<(Option<u64>, &[u8])>
-    ensures { option_map (λ found. (found.0, comma_parts found.1.now)) result ≡ first_part (comma_parts list.now) }
+    ensures { option_map (λ found. (found.0, comma_parts found.1.now)) result
+        ≡ first_part (comma_parts list.now) }
 {
     let end = comma(list)?;
     let first = word(&list[..end])?;

@@ -28,6 +28,8 @@ pub fn lines_are_flits()
 /// these flits in their order, and has no more bytes than a trace may have.
 /// Source: `docs/TRACES.md`, "Traces".
 pub fn traces_are_lines()
-    ensures read { (file : List ℕ) (flits : List Seen) → trace_of file ≡ Ok flits → IsTrace flits file }
-    ensures again { (file : List ℕ) (flits : List Seen) → IsTrace flits file → trace_of file ≡ Ok flits }
+    ensures read { (file : List ℕ) (flits : List Seen) → trace_of file ≡ Ok flits
+        → IsTrace flits file }
+    ensures again { (file : List ℕ) (flits : List Seen) → IsTrace flits file
+        → trace_of file ≡ Ok flits }
 {}

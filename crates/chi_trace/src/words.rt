@@ -18,7 +18,8 @@ fn is_blank(byte: u8) -> bool
 /// The first word of a line, and what stands behind the blank after it. `None` where the line has no word.
 /// Source: `docs/TRACES.md`, "Traces".
 pub(crate) fn first_word(line: &[u8]) -> Option<(&[u8], &[u8])>
-    ensures { option_map (λ found. (found.0.now, blank_words found.1.now)) result ≡ first_word_of (blank_words line.now) }
+    ensures { option_map (λ found. (found.0.now, blank_words found.1.now)) result
+        ≡ first_word_of (blank_words line.now) }
 {
     let start = word_start(line)?;
     let text = &line[start..];

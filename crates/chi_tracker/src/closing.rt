@@ -56,7 +56,8 @@ fn add_due(mut dues: Dues, number: usize, due: [u32; 4]) -> Dues
 
 /// Joins the seats of all ports.
 pub(crate) fn gather(board: &Board, mut ports: ArrayVec<Port, 8>) -> Gathered
-    requires table { (board.now.table_id.words ≡ word_count) × All (λ p. p.table ≡ board.now.table_id) ports.items }
+    requires table { (board.now.table_id.words ≡ word_count)
+        × All (λ p. p.table ≡ board.now.table_id) ports.items }
     requires few { length ports.items ≤ 8 }
     ensures chair { (result.chair.table_id ≡ board.now.table_id)
         × (result.chair.me.0.ports ≡ views_of ports.items) }
@@ -96,7 +97,8 @@ pub(crate) fn last_words<A: Allocator>(
     table: Table<u8, SeatView, Shape, Law, A>,
     chair: Chair,
 ) -> Words
-    requires words { (table.shared.table_id.words ≡ word_count) × (table.shared.table_id.slots ≡ 0) }
+    requires words { (table.shared.table_id.words ≡ word_count)
+        × (table.shared.table_id.slots ≡ 0) }
     requires table { chair.table_id ≡ table.shared.table_id }
     requires all { length chair.me.0.ports ≡ table.shared.key.agents }
     ensures rule { TrackerRule table.shared.key (closed_state result chair.me.0.ports) }

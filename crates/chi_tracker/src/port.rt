@@ -83,7 +83,8 @@ impl Default for Port {
 impl Port {
     // The port of requester `number`, which has done nothing yet.
     pub(crate) fn on_chair(chair: Chair, number: usize, shape: Shape) -> Port
-        requires view { (shown chair.me ≡ solo (new_port shape number)) × (chair.me.0.history ≡ []) }
+        requires view { (shown chair.me ≡ solo (new_port shape number))
+            × (chair.me.0.history ≡ []) }
         requires shape { IsShape shape × (number < shape.agents) }
         ensures { result ≡ record { table = chair.table_id; port = new_port shape number; history = [] } }
     {
@@ -99,7 +100,8 @@ impl Port {
     // The port's seat, with its number and the credits due.
     pub(crate) fn into_seated(self) -> Seated
         requires { 0 < self.table.words }
-        ensures chair { (result.chair.table_id ≡ self.table) × (shown result.chair.me ≡ solo self.port)
+        ensures chair { (result.chair.table_id ≡ self.table)
+            × (shown result.chair.me ≡ solo self.port)
             × (result.chair.me.0.history ≡ self.history) }
         ensures number { (result.number ≡ self.port.who) × (self.port.duty ≡ None) }
         ensures due { (t : ℕ) → t < 4 → IsDue self.port t (slice_index result.due t) }
@@ -130,7 +132,8 @@ impl Port {
         requires entries { 0 < size self.old.port.shape (credit_number ty) }
         ensures table { self.new.table ≡ self.old.table }
         ensures some { IfSome result (λ e. HasClaimed (credit_number ty) e.0 self.old.port self.new.port) }
-        ensures none { IfNone result (self.new.port ≡ scanned_all (credit_number ty) self.old.port) }
+        ensures none { IfNone result (self.new.port
+            ≡ scanned_all (credit_number ty) self.old.port) }
         ensures found { IfNone result (FoundAll self.old.port.shape (credit_number ty) self.new.port) }
         ensures mine { IfSome result (λ e. has e.0 self.new.port ≡ 1) }
         ensures entry { IfSome result (λ e. e.0 < low self.new.port.shape 4) }
@@ -209,7 +212,8 @@ impl Port {
         requires table { self.old.table ≡ tracker.now.table }
         ensures table { self.new.table ≡ self.old.table }
         ensures port { self.new.port ≡ saw_all self.new.port.seen self.old.port }
-        ensures more { (e : ℕ) → e < 256 → set_at self.old.port.seen e ≤ set_at self.new.port.seen e }
+        ensures more { (e : ℕ) → e < 256
+            → set_at self.old.port.seen e ≤ set_at self.new.port.seen e }
         ensures counts { (t : ℕ) → t < 4 → slice_index result t ≡ seen_of self.new.port t }
         ensures running { IsAfter self.new.history self.new.port }
         ensures acts { Does self.old (SeeActs self.new.port.seen) self.new }

@@ -28,8 +28,10 @@ pub(crate) fn scan(
     ensures table { chair.new.table_id ≡ chair.old.table_id }
     ensures some { IfSome result
         (λ e. IsOf (port_in chair.old.me).shape ty e × (has e (port_in chair.old.me) ≡ 0)
-        × (shown chair.new.me ≡ solo (into_hand e (port_after_scan ty (e - first) (port_in chair.old.me))))) }
-    ensures none { IfNone result (shown chair.new.me ≡ solo (port_after_scan ty count (port_in chair.old.me))) }
+        × (shown chair.new.me
+        ≡ solo (into_hand e (port_after_scan ty (e - first) (port_in chair.old.me))))) }
+    ensures none { IfNone result (shown chair.new.me
+        ≡ solo (port_after_scan ty count (port_in chair.old.me))) }
     ensures free { IfSome result (λ e. Does (owner_in chair.old) (FoundFree ty first e) (owner_in chair.new)) }
     ensures taken { IfNone result (Does (owner_in chair.old) (FoundTaken ty first count) (owner_in chair.new)) }
     ensures after { IsAfter chair.new.me.0.history (port_in chair.new.me) }

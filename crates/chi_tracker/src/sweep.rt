@@ -104,7 +104,8 @@ fn settle_first(
     ensures view { MatchOption result
         (shown chair.new.me ≡ solo (freed_entry entry (swept_all ty (port_in chair.old.me))))
         (λ m. (m < agents) × ((left : ℕ)
-        × (shown chair.new.me ≡ solo (granted_to m entry (stands_at ty m left (port_in chair.old.me)))))) }
+        × (shown chair.new.me
+        ≡ solo (granted_to m entry (stands_at ty m left (port_in chair.old.me)))))) }
     ensures acts { MatchOption result
         (Does (owner_in chair.old) (Then (SweptFor ty entry agents) (One (Step.Free entry)))
         (owner_in chair.new))

@@ -51,7 +51,8 @@ fn free_counts(words: &Words, shape: &Shape) -> [u32; 4]
 /// How many entries are in hand, by type: claimed, and promised to no requester.
 fn hand_counts(words: &Words, promised: &[u64; 4], shape: &Shape) -> [u32; 4]
     requires entries { low shape.now 4 ≤ 256 }
-    requires promised { (e : ℕ) → e < 256 → set_at promised.now e ≡ is_promised words.now shape.now.agents e }
+    requires promised { (e : ℕ) → e < 256
+        → set_at promised.now e ≡ is_promised words.now shape.now.agents e }
     ensures { (t : ℕ) → t < 4
         → slice_index result t ≡ count_of shape.now t (is_in_hand words.now shape.now.agents) }
 {

@@ -77,7 +77,8 @@ impl<A: Allocator> Tracker<A> {
         requires { (chair.table_id ≡ self.now.table) × (chair.me ≡ (all_new self.now.shape, [])) }
         ensures ports { result.items
             ≡ owners self.now.table (new_ports self.now.shape 0 self.now.shape.agents) }
-        ensures own { All (λ p. (p.table ≡ self.now.table) × (p.port.shape ≡ self.now.shape)) result.items }
+        ensures own { All (λ p. (p.table ≡ self.now.table)
+            × (p.port.shape ≡ self.now.shape)) result.items }
         ensures all { length result.items ≡ self.now.shape.agents }
     {
         let (board, shape) = (&self.table.shared, self.shape);
@@ -91,7 +92,8 @@ impl<A: Allocator> Tracker<A> {
 
     // The words as ports share them.
     pub(crate) fn board(&self) -> &Board
-        ensures { (result.now.table_id ≡ self.now.table) × (result.now.table_id.words ≡ word_count) }
+        ensures { (result.now.table_id ≡ self.now.table)
+            × (result.now.table_id.words ≡ word_count) }
     {
         &self.table.shared
     }

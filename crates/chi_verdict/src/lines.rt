@@ -63,7 +63,8 @@ fn gather<A: Allocator>(
 ) -> Result<usize, Obstacle>
     requires { flits.old.items ≡ [] }
     ensures bound { IfOk result (λ count. count ≤ length items.now) }
-    ensures line { IfOk result (λ count. All (λ item. is_on_line line item ≡ true) (take count items.now)) }
+    ensures line { IfOk result (λ count. All (λ item. is_on_line line item
+        ≡ true) (take count items.now)) }
     ensures flits { IfOk result
         (λ count. map Flit flits.new.items ≡ said_by (take count items.now)) }
 {

@@ -60,7 +60,8 @@ impl Wires {
         requires { agent.0 < 8 }
         ensures cells { result.now ≡ cells_at self.now agent.0 }
         ensures once { (channel : Channel)
-            → filter (is_at channel agent) (in_flight self.now) ≡ flit_of agent (cell_of result.now channel) }
+            → filter (is_at channel agent) (in_flight self.now)
+            ≡ flit_of agent (cell_of result.now channel) }
     {
         cells_of(&self.cells, agent)
     }
@@ -197,7 +198,8 @@ pub fn cells_of(flits: &[Cells; 8], agent: Agent) -> &Cells
     requires { agent.0 < 8 }
     ensures cells { result.now ≡ cells_at flits.now agent.0 }
     ensures once { (channel : Channel)
-        → filter (is_at channel agent) (in_flight flits.now) ≡ flit_of agent (cell_of result.now channel) }
+        → filter (is_at channel agent) (in_flight flits.now)
+        ≡ flit_of agent (cell_of result.now channel) }
 {
     &flits[usize::from(agent.0)]
 }
