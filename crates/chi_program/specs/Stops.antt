@@ -37,9 +37,9 @@ check_end true = ends.Done
 check_end false = ends.Differs
 
 -- the end of a check of several files: the first fault comes before any answer that differs
-abbrev pub suite_end : Option Fault → Bool → End
-suite_end None hold = check_end hold
-suite_end (Some fault) hold = ends.Faulty fault
+abbrev pub suite_stop : Option Fault → Bool → End
+suite_stop None hold = check_end hold
+suite_stop (Some fault) hold = ends.Faulty fault
 
 -- the end of an explanation of which this came
 abbrev pub explain_end : Outcome → End

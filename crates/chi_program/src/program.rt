@@ -4,7 +4,7 @@ ghost use Rattle.std.specs.Prelude.{◌≡◌, Some, IfOk, IfErr, Contains, map,
 ghost use Rattle.std.specs.Vec.Iter.{into_iter_items};
 ghost use Rattle.chi_arguments.specs.declared.faults.ArgFault.{ArgFault};
 ghost use Rattle.chi_program.specs.declared.program.Stop.TheVariants.{Arguments, Run};
-ghost use Rattle.chi_program.specs.Stops.{check_end, end_status, explain_end, run_status, statuses, stop_status, stop_text, storm_end, suite_end, words_fault};
+ghost use Rattle.chi_program.specs.Stops.{check_end, end_status, explain_end, run_status, statuses, stop_status, stop_text, storm_end, suite_stop, words_fault};
 ghost use Rattle.chi_program.specs.Suites.{given_in};
 ghost use Rattle.chi_replay.specs.Suites.{given_of};
 
@@ -302,7 +302,7 @@ fn suite_of<'a>(alloc: Global, files: &'a [ReadFile<'a>]) -> Result<Vec<SuiteFil
 
 /// The end of a check of several files, of which this is the first fault, and all answers hold, or not.
 fn suite_end(fault: Option<Fault>, hold: bool) -> End
-    ensures { result ≡ suite_end fault hold }
+    ensures { result ≡ suite_stop fault hold }
 {
     match fault {
         Some(fault) => End::Faulty(fault),

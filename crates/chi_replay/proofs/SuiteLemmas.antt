@@ -13,7 +13,7 @@ use Rattle.chi_replay.specs.declared.suites.SuiteCounts.{SuiteCounts}
 use Rattle.chi_replay.specs.declared.suites.SuiteFile.{SuiteFile}
 use Rattle.chi_replay.specs.declared.suites.SuiteForm.{SuiteForm}
 use Rattle.chi_replay.specs.Reports.{differing, differing_text, wanted_in}
-use Rattle.chi_replay.specs.Suites.{Came, answered, faulty, FileCheck, GivenFile, IsFileCheck, IsSuiteReport, MayCome, SuiteGoesOn, SuiteState, counts_of, counts_with, differing_of, fault_line, fault_of, faulty_line, faulty_text, file_text, files_text, found_text, front_of, given, given_of, first_fault, first_of, has_differing, is_answered, new_counts, no_counts, state_with, suite_end, suite_head, wanted_of}
+use Rattle.chi_replay.specs.Suites.{Came, answered, faulty, FileCheck, GivenFile, IsFileCheck, IsSuiteReport, MayCome, SuiteGoesOn, SuiteState, counts_of, counts_with, differing_of, fault_line, fault_of, faulty_line, faulty_text, file_text, files_text, found_text, front_of, given, given_of, first_fault, first_of, has_differing, is_answered, new_counts, no_counts, state_with, suite_end, suite_head, wanted_answers}
 
 abbrev check_of : GivenFile → Came → FileCheck
 check_of file came = record { file = file; came = came }
@@ -62,14 +62,14 @@ counts_more told file (answered checks answers) =
     counts_same _ _ _ _ _ _ _ _
     (filtered (λ x. is_answered x.came) told it)
     (filtered (λ x. has_differing x.came) told it ∙ ap (λ (n : ℕ). length (filter (λ x. has_differing x.came) told) + n) (one_or_none it (length (differing checks answers) == 0)))
-    (gathered (λ x. wanted_of x.came) told it)
+    (gathered (λ x. wanted_answers x.came) told it)
     (gathered (λ x. differing_of x.came) told it)
 counts_more told file (faulty fault) =
     let it = check_of file (faulty fault) in
     counts_same _ _ _ _ _ _ _ _
     (filtered (λ x. is_answered x.came) told it ∙ omega arith)
     (filtered (λ x. has_differing x.came) told it ∙ omega arith)
-    (gathered (λ x. wanted_of x.came) told it ∙ omega arith)
+    (gathered (λ x. wanted_answers x.came) told it ∙ omega arith)
     (gathered (λ x. differing_of x.came) told it ∙ omega arith)
 
 -- what was told of so many of these files, of which there are so many in all

@@ -45,9 +45,9 @@ abbrev pub IsFileCheck : FileCheck → Type 0
 IsFileCheck told = MayCome told.file.bytes told.came
 
 -- the answers that are wanted in a file, and those that differ
-abbrev pub wanted_of : Came → List CheckLine
-wanted_of (answered checks answers) = wanted_in checks
-wanted_of (faulty fault) = []
+abbrev pub wanted_answers : Came → List CheckLine
+wanted_answers (answered checks answers) = wanted_in checks
+wanted_answers (faulty fault) = []
 
 abbrev pub differing_of : Came → List CheckedAnswer
 differing_of (answered checks answers) = differing checks answers
@@ -136,7 +136,7 @@ abbrev pub counts_of : List FileCheck → SuiteCounts
 counts_of told = record {
   files = length (filter (λ it. is_answered it.came) told);
   files_differ = length (filter (λ it. has_differing it.came) told);
-  wanted = length (flat_map (λ it. wanted_of it.came) told);
+  wanted = length (flat_map (λ it. wanted_answers it.came) told);
   differ = length (flat_map (λ it. differing_of it.came) told);
 }
 
