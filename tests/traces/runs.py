@@ -1,7 +1,8 @@
 """Random runs of the protocol of docs/PROTOCOL.md, written out as the traces of docs/TRACES.md.
 
 The lines are those of tests/protocol.py, so what the program explains comes from elsewhere. `trace` gives the lines of a
-run; what no monitor sees (stores, drops, cancels, what the home takes) leaves no line in it."""
+run; what no monitor sees (drops, cancels, what the home takes) leaves no line in it, nor do loads and stores that aren't
+listed."""
 
 import random
 import sys
@@ -34,8 +35,8 @@ class Ids:
 class Monitor:
     """What is seen: the lines of the trace, the ids, and the credits that requesters have."""
 
-    def __init__(self, rng, agents, four, beats):
-        self.rng, self.four, self.beats = rng, four, beats
+    def __init__(self, rng, agents, four, beats, listed):
+        self.rng, self.four, self.beats, self.listed = rng, four, beats, listed
         self.nodes = [4 * number + 8 for number in range(agents)]
         self.lines = []
         self.requests, self.buffers, self.snoops = Ids(rng), Ids(rng), Ids(rng)
@@ -52,6 +53,11 @@ class Monitor:
         self.rng.shuffle(halves)
         for beat in halves if self.beats and self.rng.random() < 0.4 else [texts]:
             self.say("DAT", *head, data=",".join(beat), **columns)
+
+    def say_access(self, agent, opcode, address, value):
+        """A load or a store, where it is listed."""
+        if self.listed == "all" or (self.listed and self.rng.random() < 0.5):
+            self.say("CPU", self.nodes[agent], None, None, opcode, f"{address:x}", data=f"{value:x}")
 
     def grant(self):
         """A credit that is owed is granted."""
@@ -104,10 +110,31 @@ class SeenLine(Line):
     def credit_type(self, agent):
         return credit_type(self.pending[agent].kind, self.four)
 
+    def load(self, agent):
+        """A load, where there is a copy."""
+        state, words = self.copies[agent]
+        if self.monitor.listed and state != "I":
+            word = self.rng.randrange(8)
+            self.monitor.say_access(agent, "Load", self.address + 8 * word, words[word])
+
+    def store(self, agent, word, value):
+        super().store(agent, word, value)
+        self.monitor.say_access(agent, "Store", self.address + 8 * word, value)
+
+    def use(self, agent):
+        """Loads and stores of a copy that has just come, before its CompAck is on the port."""
+        while self.monitor.listed and self.rng.random() < 0.3:
+            if self.copies[agent][0] in ("UC", "UD") and self.rng.random() < 0.5:
+                self.store(agent, self.rng.randrange(8), self.rng.randrange(1 << 16))
+            else:
+                self.load(agent)
+
     def processor(self):
-        """A store, a drop or a request of some agent, where its copy allows it."""
+        """A load, a store, a drop or a request of some agent, where its copy allows it."""
         agent, chance = self.rng.randrange(len(self.copies)), self.rng.random()
         state = self.copies[agent][0]
+        if self.monitor.listed and self.rng.random() < 0.5:
+            self.load(agent)
         if self.pending[agent]:
             return
         if state in ("UC", "UD") and chance < 0.4:
@@ -135,6 +162,8 @@ class SeenLine(Line):
         super().cancel(agent)
 
     def put(self, agent, channel, text, words=None):
+        if text == "CompAck":
+            self.use(agent)
         super().put(agent, channel, text, words)
         opcode, _, resp = text.partition("_")
         getattr(self, f"say_{channel}")(agent, opcode, resp or "-", words)
@@ -179,10 +208,10 @@ class SeenLine(Line):
         self.monitor.say_data(words, *self.to_home(agent, opcode), opcode, self.maybe_address(), resp=resp)
 
 
-def trace(seed, flits, agents, lines, four, beats):
-    """The lines of the trace of a run with so many flits or a few more."""
+def trace(seed, flits, agents, lines, four, beats, listed=None):
+    """The lines of the trace of a run with so many flits or a few more. Of loads and stores it lists none, some or all."""
     rng = random.Random(seed)
-    monitor = Monitor(rng, agents, four, beats)
+    monitor = Monitor(rng, agents, four, beats, listed)
     run = [SeenLine(monitor, number) for number in range(lines)]
     while len(monitor.lines) < flits:
         if monitor.owed and rng.random() < 0.3:

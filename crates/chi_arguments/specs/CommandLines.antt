@@ -5,11 +5,12 @@ use Rattle.std.specs.Str.{bytes_eq}
 use Rattle.clap.specs.Words.{App, Kinds, Row, Rule, Text, all_of, fault_of, first_of, new_app, new_rule, subcommand_of, with_rule, with_subcommand}
 use Rattle.clap.specs.Simple.{on_top}
 use Rattle.clap.specs.declared.builder.action.ArgAction.TheVariants.{Append, Set, SetTrue}
+use Rattle.chi_explain.specs.declared.observed.StoreListing.{StoreListing}
 use Rattle.chi_flit.specs.declared.numbers.Line.{Line}
 use Rattle.chi_resolution.specs.declared.ledger.Types.{Types}
 use Rattle.chi_script.specs.Words.{◌>>=◌}
 use Rattle.chi_trace.specs.declared.fields.Address.{Address}
-use Rattle.chi_arguments.specs.Options.{asked_address_of, is_given, line_option, seed_of, turns_of, types_option}
+use Rattle.chi_arguments.specs.Options.{asked_address_of, is_given, line_option, seed_of, stores_option, turns_of, types_option}
 use Rattle.chi_arguments.specs.declared.faults.ArgFault.{ArgFault}
 use Rattle.chi_arguments.specs.declared.faults.ArgFault.TheVariants.{Bad, NoMemory}
 use Rattle.chi_arguments.specs.declared.jobs.Job.{Job}
@@ -43,9 +44,9 @@ check_line = with_rule (with_rule (new_app (codes "check")) files_rule) (flag_ru
 abbrev pub chart_line : App
 chart_line = with_rule (with_rule (new_app (codes "chart")) file_rule) (option_rule (codes "line"))
 
--- `explain FILE [--types T] [--early-grants] [--line ADDR]`
+-- `explain FILE [--types T] [--stores S] [--early-grants] [--line ADDR]`
 abbrev pub explain_line : App
-explain_line = with_rule (with_rule (with_rule (with_rule (new_app (codes "explain")) file_rule) (option_rule (codes "types"))) (flag_rule (codes "early-grants"))) (option_rule (codes "line"))
+explain_line = with_rule (with_rule (with_rule (with_rule (with_rule (new_app (codes "explain")) file_rule) (option_rule (codes "types"))) (option_rule (codes "stores"))) (flag_rule (codes "early-grants"))) (option_rule (codes "line"))
 
 -- `storm FILE [--seed N] [--turns N]`
 abbrev pub storm_line : App
@@ -61,13 +62,13 @@ command_lines =
     with_subcommand (with_subcommand (with_subcommand (with_subcommand (with_subcommand program_line replay_line.top) check_line.top) chart_line.top) explain_line.top) storm_line.top
 
 -- what a command line asks for: the replay of a file, the check of files, as TAP or not, a chart, of one line alone where one is
--- given, the explanation of a trace, with its types of credit, whether grants may come early, and the one line
+-- given, the explanation of a trace, with its types of credit, the stores that it lists, whether grants may come early, and the one line
 -- that is written where one is given, or a storm with its seed and its turns
 pub data Asked : Type 0 where
   replay : Text → Asked
   check : List Text → Bool → Asked
   chart : Text → Option Line → Asked
-  explain : Text → Types → Bool → Option Address → Asked
+  explain : Text → Types → StoreListing → Bool → Option Address → Asked
   storm : Text → ℕ → ℕ → Asked
 
 -- behind `replay` stands the path
@@ -90,8 +91,9 @@ abbrev pub explain_in : List Row → Option Asked
 explain_in rows = do
   path ← first_of (codes "FILE") rows
   types ← types_option (first_of (codes "types") rows)
+  stores ← stores_option (first_of (codes "stores") rows)
   only ← asked_address_of (first_of (codes "line") rows)
-  Some (explain path types (is_given (first_of (codes "early-grants") rows)) only)
+  Some (explain path types stores (is_given (first_of (codes "early-grants") rows)) only)
 
 -- behind `storm` stand the path and the options
 abbrev pub storm_asked : List Row → Option Asked
@@ -124,7 +126,7 @@ abbrev pub asked_by : Job → Asked
 asked_by (Replay path) = replay path.now
 asked_by (Check paths tap) = check (map (λ path. path.now) paths.items) tap
 asked_by (Chart path only) = chart path.now only
-asked_by (Explain path types early only) = explain path.now types early only
+asked_by (Explain path types stores early only) = explain path.now types stores early only
 asked_by (Storm path seed turns) = storm path.now seed turns
 
 -- the job is what was asked for, and the words are bad where nothing is; memory may run out at any words

@@ -1,5 +1,7 @@
 -- The values of options (docs/FORMATS.md, "The program").
 use Rattle.std.specs.Prelude.{ℕ, Bool, false, List, Option, Some, None, codes, if◌then◌else◌}
+use Rattle.chi_explain.specs.declared.observed.StoreListing.{StoreListing}
+use Rattle.chi_explain.specs.declared.observed.StoreListing.TheVariants.{Partial, Complete}
 use Rattle.chi_flit.specs.declared.numbers.Line.{Line}
 use Rattle.chi_resolution.specs.declared.ledger.Types.{Types}
 use Rattle.chi_resolution.specs.declared.ledger.Types.TheVariants.{Two, Four, Any}
@@ -31,6 +33,13 @@ types_option (Some word) =
     if is_text word (codes "two") then Some Two else (
     if is_text word (codes "four") then Some Four else (
     if is_text word (codes "any") then Some Any else None))
+
+-- which stores a trace lists, and some or none where nothing is given
+abbrev pub stores_option : Option (List ℕ) → Option StoreListing
+stores_option None = Some Partial
+stores_option (Some word) =
+    if is_text word (codes "hidden") then Some Partial else (
+    if is_text word (codes "listed") then Some Complete else None)
 
 -- whether an option without a value was given: clap finds the text `true` then
 abbrev pub is_given : Option (List ℕ) → Bool

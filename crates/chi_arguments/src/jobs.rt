@@ -6,7 +6,8 @@ ghost use Rattle.clap.specs.Words.{all_of, app_of, first_of, found_of, rows_of, 
 ghost use Rattle.chi_arguments.specs.CommandLines.{IsAsked, asked_behind, asked_by, asked_in, chart_in, check_in, command_lines, explain_in, file_rule, files_rule, flag_rule, option_rule, replay_in, storm_asked};
 
 use crate::faults::ArgFault;
-use crate::options::{address, is_given, only, seed, turns, types};
+use crate::options::{address, is_given, only, seed, stores, turns, types};
+use chi_explain::StoreListing;
 use chi_flit::Line;
 use chi_resolution::Types;
 use chi_trace::Address;
@@ -33,12 +34,14 @@ pub enum Job<'a> {
         /// The line alone that is shown, 0 to 63; all lines where it isn't given.
         only: Option<Line>,
     },
-    /// `explain FILE [--types two|four|any] [--early-grants] [--line ADDR]`: holds the trace at this path against the
-    /// model.
+    /// `explain FILE [--types two|four|any] [--stores hidden|listed] [--early-grants] [--line ADDR]`: holds the trace at
+    /// this path against the model.
     Explain {
         path: &'a str,
         /// Which types of credit it has; those of profile `Two` where it isn't given.
         types: Types,
+        /// Which stores of processors it lists; some or none where it isn't given.
+        stores: StoreListing,
         /// Whether its monitors stand at the requesters, where a grant may come before its RetryAck.
         early_grants: bool,
         /// The address of the line whose explanation is written as a check file, where one is given.
@@ -92,6 +95,9 @@ const LINE: &str = "line";
 /// The option that says which types of credit a trace has.
 const TYPES: &str = "types";
 
+/// The option that says which stores a trace lists.
+const STORES: &str = "stores";
+
 /// The option that says that grants may come early.
 const EARLY_GRANTS: &str = "early-grants";
 
@@ -118,6 +124,7 @@ fn command_line<'a>(alloc: Global) -> Result<Command<'a>, AllocError>
     let explain = Command::new(alloc, EXPLAIN)
         .arg(file(alloc))?
         .arg(option(alloc, TYPES))?
+        .arg(option(alloc, STORES))?
         .arg(flag(alloc, EARLY_GRANTS))?
         .arg(option(alloc, LINE))?;
     let storm = Command::new(alloc, STORM)
@@ -219,11 +226,13 @@ fn read_explain<'a>(matches: &ArgMatches<'a>) -> Option<Job<'a>>
 {
     let path = text_of(matches, FILE)?;
     let types = types(text_of(matches, TYPES))?;
+    let stores = stores(text_of(matches, STORES))?;
     let early_grants = is_given(text_of(matches, EARLY_GRANTS));
     let only = address(text_of(matches, LINE))?;
     Some(Job::Explain {
         path,
         types,
+        stores,
         early_grants,
         only,
     })

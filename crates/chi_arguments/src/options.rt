@@ -1,8 +1,9 @@
 //! The values of options.
 
 ghost use Rattle.std.specs.Prelude.{◌≡◌, Some, option_map};
-ghost use Rattle.chi_arguments.specs.Options.{asked_address_of, is_given, line_option, seed_of, turns_of, types_option};
+ghost use Rattle.chi_arguments.specs.Options.{asked_address_of, is_given, line_option, seed_of, stores_option, turns_of, types_option};
 
+use chi_explain::StoreListing;
 use chi_flit::Line;
 use chi_resolution::Types;
 use chi_script::{is, number};
@@ -72,6 +73,31 @@ fn types_in(word: &[u8]) -> Option<Types>
         Some(Types::Four)
     } else if is(word, "any") {
         Some(Types::Any)
+    } else {
+        None
+    }
+}
+
+/// Which stores a trace lists whose `--stores` has this value: some or none where it isn't given, and `None` where the
+/// value is neither `hidden` nor `listed`.
+/// Source: `docs/FORMATS.md`, "The program".
+pub fn stores(value: Option<&str>) -> Option<StoreListing>
+    ensures { result ≡ stores_option (option_map (λ word. word.now) value.entry) }
+{
+    match value {
+        None => Some(StoreListing::Partial),
+        Some(word) => listing_in(word.as_bytes()),
+    }
+}
+
+/// The listing of this name.
+fn listing_in(word: &[u8]) -> Option<StoreListing>
+    ensures { result ≡ stores_option (Some word.now) }
+{
+    if is(word, "hidden") {
+        Some(StoreListing::Partial)
+    } else if is(word, "listed") {
+        Some(StoreListing::Complete)
     } else {
         None
     }

@@ -1,9 +1,10 @@
--- What explains the flits that were seen of a line (docs/TRACES.md, "Explanations").
+-- What explains what was seen of a line (docs/TRACES.md, "Explanations").
 use Rattle.std.specs.Prelude.{◌≡◌, ℕ, Bool, true, false, List, [], ◌∷◌, ◌++◌, Option, Some, None, replicate, slice_set}
-use Rattle.std.specs.List.{slice_index_or}
+use Rattle.std.specs.List.{All, slice_index_or}
 use Rattle.chi_slice.specs.Words.{cells_of, Sizes}
 use Rattle.chi_flit.specs.declared.action.Action.{Action}
 use Rattle.chi_flit.specs.declared.action.Effect.{Effect}
+use Rattle.chi_flit.specs.declared.action.Effect.TheVariants.{Value}
 use Rattle.chi_flit.specs.declared.action.Step.{Step}
 use Rattle.chi_flit.specs.declared.action.Step.TheVariants as steps
 use Rattle.chi_flit.specs.declared.message.Msg.TheVariants as messages
@@ -12,8 +13,11 @@ use Rattle.chi_flit.specs.declared.snoop.Snoop.{Snoop}
 use Rattle.chi_slice.specs.Protocol.{SliceStep}
 use Rattle.chi_slice.specs.Slice.{SliceState, action_refusal, line}
 use Rattle.chi_explain.specs.declared.explanations.Deed.{Deed}
-use Rattle.chi_explain.specs.declared.explanations.Deed.TheVariants.{Act, Snoop as Shown}
-use Rattle.chi_explain.specs.declared.sent.SentFlit.{SentFlit}
+use Rattle.chi_explain.specs.declared.explanations.Deed.TheVariants.{Act, Snoop as Shown, Load, Store}
+use Rattle.chi_explain.specs.declared.observed.Observed.{Observed}
+use Rattle.chi_explain.specs.declared.observed.Observed.TheVariants as seen_of
+use Rattle.chi_explain.specs.declared.observed.StoreListing.{StoreListing}
+use Rattle.chi_explain.specs.declared.observed.StoreListing.TheVariants.{Complete}
 use Rattle.chi_explain.specs.Opening.{IsOpenAt}
 use Rattle.chi_explain.specs.Sent.{sent_between}
 
@@ -34,42 +38,52 @@ abbrev pub shown_after : List Bool → Agent → Step → List Bool
 shown_after shown agent steps.RecvSnp = slice_set shown agent.0 false
 shown_after shown agent other = shown
 
--- the action is enabled, and is done by the protocol
-abbrev pub IsAct : SliceState → Action → SliceState → Type 0
-IsAct s action s' = (action_refusal s action ≡ None) × ((effect : Effect) × SliceStep s action effect s')
+-- the action is enabled, and is done by the protocol, with this effect
+abbrev pub IsAct : SliceState → Action → Effect → SliceState → Type 0
+IsAct s action effect s' = (action_refusal s action ≡ None) × SliceStep s action effect s'
 
--- An agent's step is done, and sends the flits that were seen next, but for snoops. Which snoops in flight were seen,
--- and what is still to be seen, is given before it and after it.
-pub record IsDone (agent : Agent) (step : Step) (s : SliceState) (shown : List Bool) (flits : List SentFlit) (s' : SliceState) (shown' : List Bool) (flits' : List SentFlit) : Type 0 where
-  pub done : IsAct s (line_action agent step) s'
-  pub seen : MayTake shown agent step
+-- An agent's step is done with this effect, and sends the flits that were seen next, but for snoops. Which snoops in
+-- flight were seen, and what is still to be seen, is given before it and after it.
+pub record IsDone (agent : Agent) (step : Step) (effect : Effect) (s : SliceState) (shown : List Bool) (seen : List Observed) (s' : SliceState) (shown' : List Bool) (seen' : List Observed) : Type 0 where
+  pub done : IsAct s (line_action agent step) effect s'
+  pub answers : MayTake shown agent step
   pub taken : shown' ≡ shown_after shown agent step
-  pub sent : flits ≡ sent_between (line s 0) (line s' 0) ++ flits'
+  pub sent : seen ≡ sent_between (line s 0) (line s' 0) ++ seen'
 
--- the first flit is this snoop to the agent, if there is one
-abbrev pub IsSnoopSeen : Agent → Option Snoop → List SentFlit → List SentFlit → Type 0
-IsSnoopSeen agent None flits flits' = ⊥
-IsSnoopSeen agent (Some snoop) flits flits' = flits ≡ record { agent = agent; message = messages.Snp snoop } ∷ flits'
+-- the first that was seen is this snoop to the agent, if there is one
+abbrev pub IsSnoopSeen : Agent → Option Snoop → List Observed → List Observed → Type 0
+IsSnoopSeen agent None seen seen' = ⊥
+IsSnoopSeen agent (Some snoop) seen seen' = seen ≡ seen_of.Flit (record { agent = agent; message = messages.Snp snoop }) ∷ seen'
 
 -- a snoop to the agent that is in flight, and wasn't seen before, is the flit that was seen next
-pub record IsShown (agent : Agent) (s : SliceState) (shown : List Bool) (flits : List SentFlit) (shown' : List Bool) (flits' : List SentFlit) : Type 0 where
-  pub snoop : IsSnoopSeen agent (cells_of (line s 0) agent.0).snp flits flits'
+pub record IsShown (agent : Agent) (s : SliceState) (shown : List Bool) (seen : List Observed) (shown' : List Bool) (seen' : List Observed) : Type 0 where
+  pub snoop : IsSnoopSeen agent (cells_of (line s 0) agent.0).snp seen seen'
   pub first : is_shown shown agent ≡ false
   pub now : shown' ≡ slice_set shown agent.0 true
 
--- an item of an explanation
-abbrev pub Explains : Deed → SliceState → List Bool → List SentFlit → SliceState → List Bool → List SentFlit → Type 0
-Explains (Act agent step) s shown flits s' shown' flits' = IsDone agent step s shown flits s' shown' flits'
-Explains (Shown agent) s shown flits s' shown' flits' = IsShown agent s shown flits shown' flits' × (s' ≡ s)
+-- an item of an explanation; a load or a store that was seen is done, and a load reads the value that was seen
+abbrev pub Explains : Deed → SliceState → List Bool → List Observed → SliceState → List Bool → List Observed → Type 0
+Explains (Act agent step) s shown seen s' shown' seen' = (effect : Effect) × IsDone agent step effect s shown seen s' shown' seen'
+Explains (Shown agent) s shown seen s' shown' seen' = IsShown agent s shown seen shown' seen' × (s' ≡ s)
+Explains (Load agent word value) s shown seen s' shown' seen' =
+    IsDone agent (steps.Load word) (Value value) s shown seen s' shown' (seen_of.Load agent word value ∷ seen')
+Explains (Store agent word value) s shown seen s' shown' seen' =
+    (effect : Effect) × IsDone agent (steps.Store word value) effect s shown seen s' shown' (seen_of.Store agent word value ∷ seen')
 
--- the items in their order explain all these flits
-abbrev pub Explained : SliceState → List Bool → List Deed → List SentFlit → Type 0
-Explained s shown [] flits = flits ≡ []
-Explained s shown (deed ∷ deeds) flits =
-    (s' : SliceState) × (shown' : List Bool) × (flits' : List SentFlit)
-    × Explains deed s shown flits s' shown' flits' × Explained s' shown' deeds flits'
+-- the items in their order explain all that was seen
+abbrev pub Explained : SliceState → List Bool → List Deed → List Observed → Type 0
+Explained s shown [] seen = seen ≡ []
+Explained s shown (deed ∷ deeds) seen =
+    (s' : SliceState) × (shown' : List Bool) × (seen' : List Observed)
+    × Explains deed s shown seen s' shown' seen' × Explained s' shown' deeds seen'
 
--- a line in a node of this size whose memory had these words at first: the items explain all these flits
-abbrev pub IsExplained : Sizes → List ℕ → List Deed → List SentFlit → Type 0
-IsExplained config memory deeds flits =
-    (s : SliceState) × (s.config ≡ config) × IsOpenAt memory s × Explained s (replicate 8 false) deeds flits
+-- where all stores are listed no other step is a store
+abbrev pub is_listed : StoreListing → Deed → Bool
+is_listed Complete (Act agent (steps.Store word value)) = false
+is_listed stores deed = true
+
+-- a line in a node of this size whose memory had these words at first: the items explain all that was seen
+abbrev pub IsExplained : Sizes → StoreListing → List ℕ → List Deed → List Observed → Type 0
+IsExplained config stores memory deeds seen =
+    (s : SliceState) × (s.config ≡ config) × IsOpenAt memory s × Explained s (replicate 8 false) deeds seen
+    × All (λ deed. is_listed stores deed ≡ true) deeds

@@ -1,12 +1,15 @@
 //! The actions that explain what was seen of a line.
 
-ghost use Rattle.std.specs.Prelude.{◌≡◌, ◌<◌, IfOk, IsTrue, OnOk, replicate, false};
-ghost use Rattle.chi_explain.specs.Explained.{Explained, Explains, IsAct, IsDone, IsExplained, IsShown, IsSnoopSeen, MayTake, line_action, is_shown, shown_after};
+ghost use Rattle.std.specs.Prelude.{◌≡◌, ◌<◌, IfOk, IsTrue, OnOk, replicate, false, true};
+ghost use Rattle.std.specs.List.{All};
+ghost use Rattle.chi_explain.specs.Explained.{Explained, Explains, IsAct, IsDone, IsExplained, IsShown, IsSnoopSeen, MayTake, is_listed, line_action, is_shown, shown_after};
+ghost use Rattle.chi_explain.specs.declared.explanations.Deed.TheVariants.{Load, Store};
 ghost use Rattle.chi_slice.specs.Slice.{line};
 
+use crate::observed::{Observed, StoreListing};
 use crate::openings::{LINE, opened};
-use crate::sent::{SentFlit, behind, behind_all};
-use chi_flit::{Action, Agent, Data, Msg, NoMemory, Refusal, Snoop, Step};
+use crate::sent::{SentFlit, behind, behind_all, behind_load, behind_store};
+use chi_flit::{Action, Agent, Data, Effect, Msg, NoMemory, Refusal, Snoop, Step, WordNo};
 use chi_slice::{Cells, Config, Slice};
 use std::alloc::Allocator;
 
@@ -18,9 +21,13 @@ pub enum Deed {
     Act(Agent, Step),
     /// The snoop to the agent, which an earlier step has sent, is seen.
     Snoop(Agent),
+    /// The agent's load, which was seen, reads this value of the word.
+    Load(Agent, WordNo, u64),
+    /// The agent's store, which was seen, writes this value to the word.
+    Store(Agent, WordNo, u64),
 }
 
-/// Why the items of an explanation don't explain the flits.
+/// Why the items of an explanation don't explain what was seen.
 /// Source: `docs/TRACES.md`, "Explanations".
 #[derive(Clone, Copy, Debug, PartialEq, Eq)]
 pub enum Unexplained {
@@ -31,10 +38,12 @@ pub enum Unexplained {
     /// This item, counted from 0, is refused so.
     Refused(usize, Refusal),
     /// This item, counted from 0, sends something else than was seen next, or a snoop is answered that wasn't
-    /// seen.
+    /// seen, or a load reads another value.
     Differs(usize),
-    /// All items are done, and so many flits of those that were seen are left.
+    /// All items are done, and so much of what was seen is left.
     Left(usize),
+    /// All stores are listed, and an item is a store that isn't.
+    Unlisted,
 }
 
 /// Which agents' snoops that are in flight were seen.
@@ -53,22 +62,51 @@ enum Missed {
     Differs,
 }
 
+/// The effect of a step that is done, and what is left of what was seen behind the flits that it sends.
+#[derive(Clone, Copy)]
+struct Sent<'f> {
+    effect: Effect,
+    rest: &'f [Observed],
+}
+
 /// Does the items in their order on a line whose memory has these words at first, in a node of this size, and
-/// compares what they send with the flits that were seen: they are explained where each item is enabled and sends
-/// what was seen next, and nothing that was seen is left.
+/// compares what they send with what was seen: it is explained where each item is enabled and sends what was seen
+/// next, each load and store that was seen is an item in its turn, and nothing that was seen is left. Where all stores
+/// are listed no other item is a store.
 /// Source: `docs/TRACES.md`, "Explanations".
 pub fn explain_line<A: Allocator + Copy>(
     alloc: A,
     config: &Config,
+    stores: StoreListing,
     memory: Data,
     deeds: &[Deed],
-    flits: &[SentFlit],
+    seen: &[Observed],
 ) -> Result<(), Unexplained>
-    ensures { OnOk result (IsExplained config.now memory deeds.now flits.now) }
+    ensures { OnOk result (IsExplained config.now stores memory deeds.now seen.now) }
 {
+    if !are_listed(stores, deeds) {
+        return Err(Unexplained::Unlisted);
+    }
     match opened(alloc, config, memory)? {
-        Some(mut slice) => explain_from(&mut slice, deeds, flits),
+        Some(mut slice) => explain_from(&mut slice, deeds, seen),
         None => Err(Unexplained::NoRoom),
+    }
+}
+
+/// Whether no item is a store that should be listed and isn't.
+fn are_listed(stores: StoreListing, deeds: &[Deed]) -> bool
+    ensures { IsTrue result → All (λ deed. is_listed stores deed ≡ true) deeds.now }
+{
+    deeds.iter().all(|deed| is_listed(stores, *deed))
+}
+
+/// Whether the item is no store that should be listed and isn't.
+fn is_listed(stores: StoreListing, deed: Deed) -> bool
+    ensures { result ≡ is_listed stores deed }
+{
+    match (stores, deed) {
+        (StoreListing::Complete, Deed::Act(_, Step::Store(_, _))) => false,
+        _ => true,
     }
 }
 
@@ -76,12 +114,12 @@ pub fn explain_line<A: Allocator + Copy>(
 fn explain_from<A: Allocator>(
     slice: &mut Slice<A>,
     deeds: &[Deed],
-    flits: &[SentFlit],
+    seen: &[Observed],
 ) -> Result<(), Unexplained>
-    ensures { OnOk result (Explained slice.old (replicate 8 false) deeds.now flits.now) }
+    ensures { OnOk result (Explained slice.old (replicate 8 false) deeds.now seen.now) }
 {
     let mut shown = [false; 8];
-    let mut rest = flits;
+    let mut rest = seen;
     for (at, deed) in deeds.iter().enumerate() {
         rest = match explain_next(slice, &mut shown, *deed, rest) {
             Ok(later) => later,
@@ -96,21 +134,70 @@ fn explain_from<A: Allocator>(
     }
 }
 
-/// Does one item; what is left of the flits that were seen.
+/// Does one item; what is left of what was seen.
 fn explain_next<'f, A: Allocator>(
     slice: &mut Slice<A>,
     shown: &mut Shown,
     deed: Deed,
-    flits: &'f [SentFlit],
-) -> Result<&'f [SentFlit], Missed>
+    seen: &'f [Observed],
+) -> Result<&'f [Observed], Missed>
     ensures { IfOk result
-        (λ rest. Explains deed slice.old shown.old flits.now slice.new shown.new rest.now) }
+        (λ rest. Explains deed slice.old shown.old seen.now slice.new shown.new rest.now) }
 {
     match deed {
-        Deed::Act(agent, step) if agent.0 < 8 => act(slice, shown, agent, step, flits),
-        Deed::Snoop(agent) if agent.0 < 8 => show(slice, shown, agent, flits),
-        Deed::Act(_, _) | Deed::Snoop(_) => Err(Missed::Refused(Refusal::OutOfRange)),
+        Deed::Act(agent, step) if agent.0 < 8 => {
+            let sent = act(slice, shown, agent, step, seen)?;
+            Ok(sent.rest)
+        }
+        Deed::Snoop(agent) if agent.0 < 8 => show(slice, shown, agent, seen),
+        Deed::Load(agent, word, value) if agent.0 < 8 => {
+            load(slice, shown, agent, word, value, seen)
+        }
+        Deed::Store(agent, word, value) if agent.0 < 8 => {
+            store(slice, shown, agent, word, value, seen)
+        }
+        Deed::Act(_, _) | Deed::Snoop(_) | Deed::Load(_, _, _) | Deed::Store(_, _, _) => {
+            Err(Missed::Refused(Refusal::OutOfRange))
+        }
     }
+}
+
+/// The agent's load reads this value, and was seen next.
+fn load<'f, A: Allocator>(
+    slice: &mut Slice<A>,
+    shown: &mut Shown,
+    agent: Agent,
+    word: WordNo,
+    value: u64,
+    seen: &'f [Observed],
+) -> Result<&'f [Observed], Missed>
+    requires { agent.0 < 8 }
+    ensures { IfOk result (λ rest.
+        Explains (Load agent word value) slice.old shown.old seen.now slice.new shown.new rest.now) }
+{
+    let sent = act(slice, shown, agent, Step::Load(word), seen)?;
+    match sent.effect {
+        Effect::Value(read) if read == value => {}
+        _ => return Err(Missed::Differs),
+    }
+    behind_load(sent.rest, agent, word, value).ok_or(Missed::Differs)
+}
+
+/// The agent's store of this value was seen next.
+fn store<'f, A: Allocator>(
+    slice: &mut Slice<A>,
+    shown: &mut Shown,
+    agent: Agent,
+    word: WordNo,
+    value: u64,
+    seen: &'f [Observed],
+) -> Result<&'f [Observed], Missed>
+    requires { agent.0 < 8 }
+    ensures { IfOk result (λ rest.
+        Explains (Store agent word value) slice.old shown.old seen.now slice.new shown.new rest.now) }
+{
+    let sent = act(slice, shown, agent, Step::Store(word, value), seen)?;
+    behind_store(sent.rest, agent, word, value).ok_or(Missed::Differs)
 }
 
 /// A snoop to the agent that is in flight and wasn't seen is the flit that was seen next.
@@ -118,11 +205,11 @@ fn show<'f, A: Allocator>(
     slice: &Slice<A>,
     shown: &mut Shown,
     agent: Agent,
-    flits: &'f [SentFlit],
-) -> Result<&'f [SentFlit], Missed>
+    seen: &'f [Observed],
+) -> Result<&'f [Observed], Missed>
     requires { agent.0 < 8 }
     ensures { IfOk result
-        (λ rest. IsShown agent slice.now shown.old flits.now shown.new rest.now) }
+        (λ rest. IsShown agent slice.now shown.old seen.now shown.new rest.now) }
 {
     let cells = match slice.flits(agent, LINE) {
         Ok(cells) => cells,
@@ -131,57 +218,58 @@ fn show<'f, A: Allocator>(
     if is_shown(shown, agent) {
         return Err(Missed::Differs);
     }
-    let rest = behind_snoop(flits, agent, cells.snp)?;
+    let rest = behind_snoop(seen, agent, cells.snp)?;
     shown[usize::from(agent.0)] = true;
     Ok(rest)
 }
 
-/// What is left of the flits behind this snoop to the agent, where it is the first.
+/// What is left of what was seen behind this snoop to the agent, where it is the first.
 fn behind_snoop(
-    flits: &[SentFlit],
+    seen: &[Observed],
     agent: Agent,
     snoop: Option<Snoop>,
-) -> Result<&[SentFlit], Missed>
-    ensures { IfOk result (λ rest. IsSnoopSeen agent snoop flits.now rest.now) }
+) -> Result<&[Observed], Missed>
+    ensures { IfOk result (λ rest. IsSnoopSeen agent snoop seen.now rest.now) }
 {
     let Some(snoop) = snoop else {
         return Err(Missed::Differs);
     };
     let message = Msg::Snp(snoop);
-    match behind(flits, SentFlit { agent, message }) {
+    match behind(seen, SentFlit { agent, message }) {
         Some(rest) => Ok(rest),
         None => Err(Missed::Differs),
     }
 }
 
-/// The step is enabled, and sends the flits that were seen next.
+/// The step is enabled, and sends the flits that were seen next; its effect, and what is left.
 fn act<'f, A: Allocator>(
     slice: &mut Slice<A>,
     shown: &mut Shown,
     agent: Agent,
     step: Step,
-    flits: &'f [SentFlit],
-) -> Result<&'f [SentFlit], Missed>
+    seen: &'f [Observed],
+) -> Result<Sent<'f>, Missed>
     requires { agent.0 < 8 }
-    ensures { IfOk result
-        (λ rest. IsDone agent step slice.old shown.old flits.now slice.new shown.new rest.now) }
+    ensures { IfOk result (λ sent. IsDone agent step sent.effect
+        slice.old shown.old seen.now slice.new shown.new sent.rest.now) }
 {
     if !may_take(shown, agent, step) {
         return Err(Missed::Differs);
     }
     let before = flits_at(slice)?;
-    do_step(slice, agent, step)?;
+    let effect = do_step(slice, agent, step)?;
     let after = flits_at(slice)?;
     answer(shown, agent, step);
-    match behind_all(flits, &before, &after) {
-        Some(rest) => Ok(rest),
+    match behind_all(seen, &before, &after) {
+        Some(rest) => Ok(Sent { effect, rest }),
         None => Err(Missed::Differs),
     }
 }
 
-/// Does the step.
-fn do_step<A: Allocator>(slice: &mut Slice<A>, agent: Agent, step: Step) -> Result<(), Missed>
-    ensures { OnOk result (IsAct slice.old (line_action agent step) slice.new) }
+/// Does the step; its effect.
+fn do_step<A: Allocator>(slice: &mut Slice<A>, agent: Agent, step: Step) -> Result<Effect, Missed>
+    ensures { IfOk result
+        (λ effect. IsAct slice.old (line_action agent step) effect slice.new) }
 {
     let action = Action {
         agent,
@@ -189,7 +277,7 @@ fn do_step<A: Allocator>(slice: &mut Slice<A>, agent: Agent, step: Step) -> Resu
         step,
     };
     match slice.act(action) {
-        Ok(_) => Ok(()),
+        Ok(effect) => Ok(effect),
         Err(refusal) => Err(Missed::Refused(refusal)),
     }
 }

@@ -1,14 +1,15 @@
-//! What the model allows in place of a flit.
+//! What the model allows in place of what was seen.
 
-ghost use Rattle.std.specs.Prelude.{◌<◌};
+ghost use Rattle.std.specs.Prelude.{◌≡◌, ◌<◌, IfOk, OnOk};
+ghost use Rattle.chi_monitor.specs.Choices.{AreAlike, is_alike, is_same_way};
 
 use crate::faults::LineFault;
 use crate::line::Search;
 use crate::search::{line_behind, take};
-use chi_explain::SentFlit;
+use chi_explain::{Observed, SentFlit, StoreListing};
 use chi_flit::{
     Agent, CompData, CreditType, DatUp, Kind, Msg, NO_DATA, Request, RspDown, RspUp, Slot, Snoop,
-    State,
+    State, WordNo,
 };
 use std::alloc::Allocator;
 
@@ -32,35 +33,123 @@ const SNOOPS: [Snoop; 4] = [
 
 const STATES: [State; 5] = [State::I, State::SC, State::UC, State::UD, State::SD];
 
-/// The messages of the same direction that the model allows in place of this flit, behind those before it. Words of
-/// data that no flit has shown are 0 in them.
+/// What the model allows in place of what was seen, behind that before it: of a flit the flits of its requester in the
+/// same direction, of a load or a store those of the same word. Words of data that no flit has shown are 0 in them.
 /// Source: `docs/TRACES.md`, "What is printed".
 pub fn allowed<A: Allocator + Copy>(
     alloc: A,
-    before: &[SentFlit],
-    flit: &SentFlit,
-) -> Result<Vec<Msg, A>, LineFault> {
-    let mut messages = Vec::new(alloc);
-    if flit.agent.0 >= 8 {
-        return Ok(messages);
-    }
-    let search = line_behind(alloc, before)?;
-    for message in candidates(alloc, &search, flit)?.iter() {
-        let mut tried = line_behind(alloc, before)?;
-        let agent = flit.agent;
-        let candidate = SentFlit {
-            agent,
-            message: *message,
-        };
-        if take(&mut tried, &candidate).is_ok() {
-            messages.push(*message)?;
+    stores: StoreListing,
+    before: &[Observed],
+    seen: &Observed,
+) -> Result<Vec<Observed, A>, LineFault>
+    ensures { IfOk result (λ others. AreAlike seen.now others.items) }
+{
+    let mut allowed = Vec::new(alloc);
+    let search = line_behind(alloc, stores, before)?;
+    for candidate in candidates(alloc, &search, seen)?.iter() {
+        let mut tried = line_behind(alloc, stores, before)?;
+        if take(&mut tried, candidate).is_ok() {
+            add_alike(&mut allowed, seen, candidate)?;
         }
     }
-    Ok(messages)
+    Ok(allowed)
+}
+
+/// Puts what is alike behind the others.
+fn add_alike<A: Allocator>(
+    others: &mut Vec<Observed, A>,
+    seen: &Observed,
+    other: &Observed,
+) -> Result<(), LineFault>
+    ensures { OnOk result (AreAlike seen.now others.old.items
+        → AreAlike seen.now others.new.items) }
+{
+    if is_alike(seen, other) {
+        others.push(*other)?;
+    }
+    Ok(())
+}
+
+/// Whether it is a flit of the same requester and direction, or a load or a store of the same requester and word.
+#[tactic(auto, unfolding(crate::specs::Choices::is_alike))]
+fn is_alike(one: &Observed, other: &Observed) -> bool
+    ensures { result ≡ is_alike one.now other.now }
+{
+    match (one, other) {
+        (Observed::Flit(one), Observed::Flit(other)) => {
+            one.agent.0 == other.agent.0 && is_same_way(&one.message, &other.message)
+        }
+        (
+            Observed::Load(agent, word, _) | Observed::Store(agent, word, _),
+            Observed::Load(other, that, _) | Observed::Store(other, that, _),
+        ) => agent.0 == other.0 && word.0 == that.0,
+        _ => false,
+    }
+}
+
+/// Whether two messages are of one direction: two requests, two snoops, or responses and data of the same way.
+fn is_same_way(one: &Msg, other: &Msg) -> bool
+    ensures { result ≡ is_same_way one.now other.now }
+{
+    match (one, other) {
+        (Msg::Req(_), Msg::Req(_)) | (Msg::Snp(_), Msg::Snp(_)) => true,
+        (Msg::RspDown(_) | Msg::DatDown(_), Msg::RspDown(_) | Msg::DatDown(_)) => true,
+        (Msg::RspUp(_) | Msg::DatUp(_), Msg::RspUp(_) | Msg::DatUp(_)) => true,
+        _ => false,
+    }
+}
+
+/// What may stand in its place.
+fn candidates<A: Allocator + Copy>(
+    alloc: A,
+    search: &Search<A>,
+    seen: &Observed,
+) -> Result<Vec<Observed, A>, LineFault> {
+    match seen {
+        Observed::Flit(flit) if flit.agent.0 < 8 => flits(alloc, search, flit),
+        Observed::Load(agent, word, value) | Observed::Store(agent, word, value)
+            if agent.0 < 8 && word.0 < 8 => { accesses(alloc, search, *agent, *word, *value) }
+        _ => Ok(Vec::new(alloc)),
+    }
+}
+
+/// The load of what the copy has in the word, and a store to it.
+fn accesses<A: Allocator>(
+    alloc: A,
+    search: &Search<A>,
+    agent: Agent,
+    word: WordNo,
+    value: u64,
+) -> Result<Vec<Observed, A>, LineFault>
+    requires agents { agent.0 < 8 }
+    requires words { word.0 < 8 }
+{
+    let has = search.words_of(agent)[usize::from(word.0)];
+    let mut accesses = Vec::new(alloc);
+    accesses.push(Observed::Load(agent, word, has))?;
+    accesses.push(Observed::Store(agent, word, value))?;
+    Ok(accesses)
+}
+
+/// The flits of the requester in the same direction.
+fn flits<A: Allocator + Copy>(
+    alloc: A,
+    search: &Search<A>,
+    flit: &SentFlit,
+) -> Result<Vec<Observed, A>, LineFault>
+    requires { flit.now.agent.0 < 8 }
+{
+    let agent = flit.agent;
+    let mut flits = Vec::new(alloc);
+    for message in messages(alloc, search, flit)?.iter() {
+        let message = *message;
+        flits.push(Observed::Flit(SentFlit { agent, message }))?;
+    }
+    Ok(flits)
 }
 
 /// The messages of the same direction.
-fn candidates<A: Allocator + Copy>(
+fn messages<A: Allocator + Copy>(
     alloc: A,
     search: &Search<A>,
     flit: &SentFlit,

@@ -1,11 +1,12 @@
 //! Explanations that were found and done.
 
-ghost use Rattle.std.specs.Prelude.{IfOk};
+ghost use Rattle.std.specs.Prelude.{IfErr, IfOk, IfSome, length};
+ghost use Rattle.chi_monitor.specs.Places.{IsWithin};
 ghost use Rattle.chi_explain.specs.Explained.{IsExplained};
 
 use crate::faults::LineFault;
 use crate::search::{Witness, search_line};
-use chi_explain::{SentFlit, Unexplained, explain_line};
+use chi_explain::{Observed, StoreListing, Unexplained, explain_line};
 use chi_slice::Config;
 use std::alloc::Allocator;
 
@@ -13,41 +14,45 @@ use std::alloc::Allocator;
 /// Source: `docs/TRACES.md`, "Explanations".
 #[derive(Clone, Copy, Debug, PartialEq, Eq)]
 pub enum NoExplanation {
-    /// No run of the model sends this flit, counted from 0, behind those before it.
+    /// Memory ran out while it was looked for.
+    NoMemory,
+    /// No run of the model sends or does this, counted from 0 in what was seen, behind that before it.
     Fault(usize, LineFault),
-    /// Actions were found that don't explain the flits.
+    /// Actions were found that don't explain what was seen.
     Undone(Unexplained),
 }
 
-/// Actions of a node of this size that explain the flits that were seen of a line: they were found, and then done
-/// and compared with the flits.
+/// Actions of a node of this size that explain what was seen of a line: they were found, and then done and compared
+/// with it. Where all stores are listed no others are among them.
 ///
-/// `Fault` where none are found, with the first flit that no run of the model sends.
+/// `Fault` where none are found, with the first flit, load or store that no run of the model sends or does.
 /// Source: `docs/TRACES.md`, "Explanations".
 pub fn explain_flits<A: Allocator + Copy>(
     alloc: A,
     config: &Config,
-    flits: &[SentFlit],
+    stores: StoreListing,
+    seen: &[Observed],
 ) -> Result<Witness<A>, NoExplanation>
-    ensures { IfOk result
-        (λ witness. IsExplained config.now witness.memory witness.deeds.items flits.now) }
+    ensures explained { IfOk result
+        (λ witness. IsExplained config.now stores witness.memory witness.deeds.items seen.now) }
+    ensures told { IfErr result (IsWithin (length seen.now)) }
 {
-    let witness = match search_line(alloc, flits) {
-        Ok(witness) => witness,
-        Err((at, fault)) => return Err(NoExplanation::Fault(at, fault)),
-    };
-    match explain_line(alloc, config, witness.memory, &witness.deeds, flits) {
+    let witness = search_line(alloc, stores, seen)?;
+    match explain_line(alloc, config, stores, witness.memory, &witness.deeds, seen) {
         Ok(()) => Ok(witness),
         Err(undone) => Err(NoExplanation::Undone(undone)),
     }
 }
 
-/// The first of the flits, counted from 0, that no run of the model sends behind those before it, and why; none is
-/// done. `None` where there is no such flit.
+/// The first of what was seen, counted from 0, that no run of the model sends or does behind that before it, and why,
+/// as `Fault`; nothing is done. `None` where there is no such, `NoMemory` where memory runs out.
 /// Source: `docs/TRACES.md`, "Explanations".
 pub fn first_fault<A: Allocator + Copy>(
     alloc: A,
-    flits: &[SentFlit],
-) -> Option<(usize, LineFault)> {
-    search_line(alloc, flits).err()
+    stores: StoreListing,
+    seen: &[Observed],
+) -> Option<NoExplanation>
+    ensures { IfSome result (IsWithin (length seen.now)) }
+{
+    search_line(alloc, stores, seen).err()
 }

@@ -3,26 +3,26 @@
 use chi_flit::{Agent, Kind};
 
 /// A set of agents.
-pub(crate) type Agents = [bool; 8];
+pub(crate) type AgentSet = [bool; 8];
 
 /// Nobody.
-pub(crate) const NOBODY: Agents = [false; 8];
+pub(crate) const NOBODY: AgentSet = [false; 8];
 
 /// Who is named, whether the flag is set, and who owns the line.
 #[derive(Clone, Copy)]
-pub(crate) struct Filter {
-    pub named: Agents,
+pub(crate) struct KnownFilter {
+    pub named: AgentSet,
     pub unique: bool,
     pub owner: Option<Agent>,
 }
 
 /// Whether some agent is in the set.
-pub(crate) fn has_any(set: &Agents) -> bool {
+pub(crate) fn has_any(set: &AgentSet) -> bool {
     set.iter().any(|marked| *marked)
 }
 
 /// The set with the agent, or without it.
-pub(crate) fn with_mark(mut set: Agents, agent: Agent, marked: bool) -> Agents {
+pub(crate) fn with_mark(mut set: AgentSet, agent: Agent, marked: bool) -> AgentSet {
     if agent.0 < 8 {
         set[usize::from(agent.0)] = marked;
     }
@@ -30,25 +30,25 @@ pub(crate) fn with_mark(mut set: Agents, agent: Agent, marked: bool) -> Agents {
 }
 
 /// Whether the agent is in the set.
-pub(crate) fn has(set: &Agents, agent: Agent) -> bool {
+pub(crate) fn has(set: &AgentSet, agent: Agent) -> bool {
     agent.0 < 8 && set[usize::from(agent.0)]
 }
 
-impl Filter {
+impl KnownFilter {
     /// Nobody is named.
-    pub const NONE: Filter = Filter {
+    pub const NONE: KnownFilter = KnownFilter {
         named: NOBODY,
         unique: false,
         owner: None,
     };
 
     /// Everybody who is named but the agent.
-    pub fn others(&self, agent: Agent) -> Agents {
+    pub fn others(&self, agent: Agent) -> AgentSet {
         with_mark(self.named, agent, false)
     }
 
     /// Whom a start of the agent's request of this kind snoops.
-    pub fn targets(&self, agent: Agent, kind: Kind) -> Agents {
+    pub fn targets(&self, agent: Agent, kind: Kind) -> AgentSet {
         let others = self.others(agent);
         match kind {
             Kind::ReadNotSharedDirty | Kind::ReadShared => {
@@ -66,7 +66,7 @@ impl Filter {
     }
 
     /// The owner alone, where that is another agent.
-    fn owner_but(&self, agent: Agent) -> Agents {
+    fn owner_but(&self, agent: Agent) -> AgentSet {
         match self.owner {
             Some(owner) if owner.0 != agent.0 => with_mark(NOBODY, owner, true),
             Some(_) | None => NOBODY,

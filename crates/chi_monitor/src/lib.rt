@@ -1,4 +1,4 @@
-//! The search for an explanation of the flits that a monitor saw of a line: without backtracking and without a
+//! The search for an explanation of what a monitor saw of a line: without backtracking and without a
 //! look ahead.
 //!
 //! Source: `docs/TRACES.md`, "Explanations".
@@ -15,6 +15,6 @@ mod values;
 
 pub use choices::allowed;
 pub use explained::{NoExplanation, explain_flits, first_fault};
-pub use faults::LineFault;
+pub use faults::{LineFault, Reach};
 pub use search::Witness;
 pub use values::Known;

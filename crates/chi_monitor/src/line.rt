@@ -2,10 +2,11 @@
 
 ghost use Rattle.std.specs.Prelude.{◌<◌};
 
-use crate::faults::LineFault;
-use crate::filter::{Agents, Filter, NOBODY, has, has_any, with_mark};
-use crate::requester::{Asked, Given, Requester, Stage};
-use crate::values::{Known, Unknown, Values, Words};
+use crate::faults::{LineFault, Reach};
+use crate::filter::{AgentSet, KnownFilter, NOBODY, has, has_any, with_mark};
+use crate::requester::{Asked, Given, KnownRequester, Stage};
+use crate::values::{Known, Unknown, UnknownWords, Values};
+use chi_explain::{Deed, StoreListing};
 use chi_flit::{
     Agent, CompData, DatUp, Data, Kind, Msg, NO_DATA, RspUp, Slot, Snoop, State, Step, WordNo,
     answer,
@@ -18,6 +19,8 @@ pub(crate) enum Draft {
     Act(Agent, Step),
     Store(Agent, WordNo, Unknown),
     Snoop(Agent),
+    /// A load or a store that was seen.
+    Seen(Deed),
 }
 
 /// A group of snoops, whose request a completion tells.
@@ -25,9 +28,9 @@ pub(crate) enum Draft {
 struct Group {
     snoop: Snoop,
     /// Whose request it may be.
-    may_be: Agents,
-    snooped: Agents,
-    answered: Agents,
+    may_be: AgentSet,
+    snooped: AgentSet,
+    answered: AgentSet,
     /// The items that are to name whose it is: an Admit, and the Start behind it.
     at: usize,
 }
@@ -44,12 +47,13 @@ enum Service {
 /// A line as the flits so far have shown it.
 #[derive(Drop)]
 pub(crate) struct Search<A: Allocator> {
+    stores: StoreListing,
     values: Values<A>,
-    opening: Words,
-    memory: Words,
-    filter: Filter,
+    opening: UnknownWords,
+    memory: UnknownWords,
+    filter: KnownFilter,
     service: Service,
-    requesters: [Requester; 8],
+    requesters: [KnownRequester; 8],
     /// The message by which each agent has answered.
     answers: [Option<Answer>; 8],
     items: Vec<Draft, A>,
@@ -61,27 +65,28 @@ enum Answer {
     Invalid,
     Clean,
     /// Dirty data, and no copy is left.
-    InvalidPassed(Words),
+    InvalidPassed(UnknownWords),
     /// Dirty data, and a clean copy is left.
-    CleanPassed(Words),
+    CleanPassed(UnknownWords),
     /// Data whose sender stays responsible.
-    Shared(Words),
+    Shared(UnknownWords),
 }
 
 const SLOT: Slot = Slot(0);
 
 impl<A: Allocator + Copy> Search<A> {
     /// A line that nobody has a copy of, and nothing is known of its memory.
-    pub fn new(alloc: A) -> Result<Search<A>, LineFault> {
+    pub fn new(alloc: A, stores: StoreListing) -> Result<Search<A>, LineFault> {
         let mut values = Values::new(alloc);
         let memory = values.unknown_line()?;
         Ok(Search {
+            stores,
             values,
             opening: memory,
             memory,
-            filter: Filter::NONE,
+            filter: KnownFilter::NONE,
             service: Service::Idle,
-            requesters: [Requester::NONE; 8],
+            requesters: [KnownRequester::NONE; 8],
             answers: [None; 8],
             items: Vec::new(alloc),
         })
@@ -133,20 +138,33 @@ impl<A: Allocator> Search<A> {
     }
 
     /// The agent's side.
-    fn at(&self, agent: Agent) -> Requester
+    fn at(&self, agent: Agent) -> KnownRequester
         requires { agent.0 < 8 }
     {
         self.requesters[usize::from(agent.0)]
     }
 
-    fn put(&mut self, agent: Agent, requester: Requester)
+    fn put(&mut self, agent: Agent, requester: KnownRequester)
         requires { agent.0 < 8 }
     {
         self.requesters[usize::from(agent.0)] = requester;
     }
 
+    /// Whether stores may have been done that weren't seen.
+    fn may_hide(&self) -> bool {
+        matches!(self.stores, StoreListing::Partial)
+    }
+
+    /// The states that a copy may be in by now whose last known one is this.
+    fn reach(&self, base: State) -> Reach {
+        Reach {
+            base,
+            stores: self.stores,
+        }
+    }
+
     /// Stores the words, one after the other.
-    fn store_all(&mut self, agent: Agent, words: &Words) -> Result<(), LineFault> {
+    fn store_all(&mut self, agent: Agent, words: &UnknownWords) -> Result<(), LineFault> {
         for (number, word) in words.iter().enumerate() {
             self.items
                 .push(Draft::Store(agent, WordNo(number as u8), *word))?;
@@ -171,13 +189,14 @@ impl<A: Allocator> Search<A> {
                 self.act(agent, Step::Drop)?;
                 side.base = State::I;
             }
-            (Kind::WriteBackFull | Kind::WriteCleanFull, State::UC | State::UD) => {
+            (Kind::WriteBackFull | Kind::WriteCleanFull, State::UC | State::UD)
+                if self.may_hide() => {
                 side.words = self.values.unknown_line()?;
                 self.store_all(agent, &side.words)?;
                 side.base = State::UD;
             }
             (kind, base) if kind.needs(base) => {}
-            (kind, base) => return Err(LineFault::Needs(kind, base)),
+            (kind, base) => return Err(LineFault::Needs(kind, self.reach(base))),
         }
         self.act(agent, Step::Issue(kind, SLOT))?;
         if matches!(kind, Kind::Evict) {
@@ -243,7 +262,7 @@ impl<A: Allocator> Search<A> {
     }
 
     /// The agents whose waiting request asks for this snoop of the agent, among these.
-    fn askers(&self, snoop: Snoop, agent: Agent, among: &Agents) -> Agents
+    fn askers(&self, snoop: Snoop, agent: Agent, among: &AgentSet) -> AgentSet
         requires { agent.0 < 8 }
     {
         let mut askers = NOBODY;
@@ -330,12 +349,12 @@ impl<A: Allocator> Search<A> {
     fn answered(
         &mut self,
         agent: Agent,
-        side: &mut Requester,
+        side: &mut KnownRequester,
         snoop: Snoop,
         message: &Msg,
         free: bool,
     ) -> Result<(State, Answer), LineFault> {
-        let fault = LineFault::Answer(side.base, snoop);
+        let fault = LineFault::Answer(self.reach(side.base), snoop);
         let leaves = answer(side.base, snoop, NO_DATA).0;
         match message {
             Msg::RspUp(RspUp::SnpRespI) => match side.base {
@@ -368,12 +387,12 @@ impl<A: Allocator> Search<A> {
     fn answered_by_data(
         &mut self,
         agent: Agent,
-        side: &mut Requester,
+        side: &mut KnownRequester,
         snoop: Snoop,
         message: &DatUp,
         free: bool,
     ) -> Result<(State, Answer), LineFault> {
-        let fault = LineFault::Answer(side.base, snoop);
+        let fault = LineFault::Answer(self.reach(side.base), snoop);
         let (leaves, data) = match message {
             DatUp::SnpRespDataIPD(data) => (State::I, data),
             DatUp::SnpRespDataSCPD(data) => (State::SC, data),
@@ -381,7 +400,7 @@ impl<A: Allocator> Search<A> {
             DatUp::CopyBackWrData(_, _) => return Err(fault),
         };
         match side.base {
-            State::UC | State::UD if free => {
+            State::UC | State::UD if free && self.may_hide() => {
                 side.words = self.values.known_line(data)?;
                 let words = side.words;
                 self.store_all(agent, &words)?;
@@ -407,9 +426,58 @@ impl<A: Allocator> Search<A> {
         ))
     }
 
+    /// A load of the agent that read this value.
+    pub fn load(&mut self, agent: Agent, word: WordNo, value: u64) -> Result<(), LineFault>
+        requires agents { agent.0 < 8 }
+        requires words { word.0 < 8 }
+    {
+        let mut side = self.at(agent);
+        if !side.base.is_valid() {
+            return Err(LineFault::NoCopy);
+        }
+        let held = side.words[usize::from(word.0)];
+        if !self.values.is_now(held, value) {
+            let stored = matches!(side.base, State::UC | State::UD) && side.asked.is_none();
+            if !stored || !self.may_hide() {
+                return Err(LineFault::Word(word, self.values.value(held)));
+            }
+            let now = self.values.known_one(value)?;
+            self.items.push(Draft::Store(agent, word, now))?;
+            side.words[usize::from(word.0)] = now;
+            side.base = State::UD;
+            self.put(agent, side);
+        }
+        self.items
+            .push(Draft::Seen(Deed::Load(agent, word, value)))?;
+        Ok(())
+    }
+
+    /// A store of the agent that wrote this value.
+    pub fn store(&mut self, agent: Agent, word: WordNo, value: u64) -> Result<(), LineFault>
+        requires agents { agent.0 < 8 }
+        requires words { word.0 < 8 }
+    {
+        let mut side = self.at(agent);
+        if side.asked.is_some() {
+            return Err(LineFault::Pending);
+        }
+        match side.base {
+            State::UC | State::UD => {}
+            State::I | State::SC | State::SD => {
+                return Err(LineFault::NoStore(self.reach(side.base)));
+            }
+        }
+        side.words[usize::from(word.0)] = self.values.known_one(value)?;
+        side.base = State::UD;
+        self.put(agent, side);
+        self.items
+            .push(Draft::Seen(Deed::Store(agent, word, value)))?;
+        Ok(())
+    }
+
     /// The agent's request is admitted and started here, or was at the first snoop of its group, whose answers then
     /// come to the home. The data that an answer gave for the completion, if one did.
-    fn begin(&mut self, agent: Agent, kind: Kind) -> Result<Option<Words>, LineFault>
+    fn begin(&mut self, agent: Agent, kind: Kind) -> Result<Option<UnknownWords>, LineFault>
         requires { agent.0 < 8 }
     {
         let targets = self.filter.targets(agent, kind);
@@ -458,7 +526,7 @@ impl<A: Allocator> Search<A> {
     }
 
     /// All answers come to the home.
-    fn take_answers(&mut self) -> Result<Option<Words>, LineFault> {
+    fn take_answers(&mut self) -> Result<Option<UnknownWords>, LineFault> {
         let mut given = None;
         for number in 0..8 {
             let agent = Agent(number);

@@ -1,6 +1,6 @@
 //! A requester's side of a line, as the flits show it.
 
-use crate::values::{Unknown, Words};
+use crate::values::{Unknown, UnknownWords};
 use chi_flit::{Kind, Snoop, State};
 
 /// How far a request has come.
@@ -27,26 +27,26 @@ pub(crate) struct Asked {
 #[derive(Clone, Copy)]
 pub(crate) enum Given {
     /// Data, for a copy in this state.
-    Data(State, Words),
+    Data(State, UnknownWords),
     /// Comp_UC.
     Unique,
 }
 
 /// What is known of a requester.
 #[derive(Clone, Copy)]
-pub(crate) struct Requester {
+pub(crate) struct KnownRequester {
     /// The state of the copy after the last flit of the requester.
     pub base: State,
-    pub words: Words,
+    pub words: UnknownWords,
     pub asked: Option<Asked>,
     /// A snoop that isn't answered.
     pub snoop: Option<Snoop>,
     pub given: Option<Given>,
 }
 
-impl Requester {
+impl KnownRequester {
     /// No copy, and nothing under way.
-    pub const NONE: Requester = Requester {
+    pub const NONE: KnownRequester = KnownRequester {
         base: State::I,
         words: [Unknown(0); 8],
         asked: None,

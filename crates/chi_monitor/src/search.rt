@@ -1,65 +1,93 @@
-//! The explanation of all flits of a line.
+//! The explanation of all that was seen of a line.
 
+ghost use Rattle.std.specs.Prelude.{◌<◌, ℕ, IfErr, length};
+ghost use Rattle.chi_monitor.specs.Places.{IsWithin};
+
+use crate::explained::NoExplanation;
 use crate::faults::LineFault;
 use crate::line::{Draft, Search};
-use chi_explain::{Deed, SentFlit};
+use chi_explain::{Deed, Observed, SentFlit, StoreListing};
 use chi_flit::{DatUp, Data, Msg, RspDown, RspUp, Step};
 use std::alloc::Allocator;
 
-/// Actions that explain the flits of a line, and what its memory had at first.
+/// Actions that explain what was seen of a line, and what its memory had at first.
 /// Source: `docs/TRACES.md`, "Explanations".
 #[derive(Drop)]
 pub struct Witness<A: Allocator> {
     pub memory: Data,
     pub deeds: Vec<Deed, A>,
-    /// For each flit, how many of the items were found once it was taken.
+    /// Of each that was seen, how many of the items were found once it was taken.
     pub ends: Vec<usize, A>,
 }
 
-/// The first flit that no run of the model sends, counted from 0, and why.
-pub(crate) type FirstFault = (usize, LineFault);
-
-/// Actions that should explain the flits that were seen of a line, or the first flit that no run of the model
-/// sends.
+/// Actions that should explain what was seen of a line, or the first of it that no run of the model sends or does.
 pub(crate) fn search_line<A: Allocator + Copy>(
     alloc: A,
-    flits: &[SentFlit],
-) -> Result<Witness<A>, FirstFault> {
+    stores: StoreListing,
+    seen: &[Observed],
+) -> Result<Witness<A>, NoExplanation>
+    ensures { IfErr result (IsWithin (length seen.now)) }
+{
     let mut ends = Vec::new(alloc);
-    let mut search = match Search::new(alloc) {
+    let mut search = match Search::new(alloc, stores) {
         Ok(search) => search,
-        Err(fault) => return Err((0, fault)),
+        Err(_) => return Err(NoExplanation::NoMemory),
     };
-    for (at, flit) in flits.iter().enumerate() {
-        let taken = take(&mut search, flit);
+    for (at, item) in seen.iter().enumerate() {
+        let taken = take(&mut search, item);
         if let Err(fault) = taken {
-            return Err((at, fault));
+            return Err(told_at(at, fault));
         }
         if ends.push(search.items().len()).is_err() {
-            return Err((at, LineFault::NoMemory));
+            return Err(NoExplanation::NoMemory);
         }
     }
     search.close();
     match explanation(alloc, &search, ends) {
         Ok(witness) => Ok(witness),
-        Err(fault) => Err((flits.len(), fault)),
+        Err(_) => Err(NoExplanation::NoMemory),
     }
 }
 
-/// The line behind these flits, of which none is a fault.
+/// The fault of what was seen at this place, or want of memory.
+fn told_at(at: usize, fault: LineFault) -> NoExplanation
+    ensures { (count : ℕ) → at < count → IsWithin count result }
+{
+    match fault {
+        LineFault::NoMemory => NoExplanation::NoMemory,
+        fault => NoExplanation::Fault(at, fault),
+    }
+}
+
+/// The line behind what was seen, of which none is a fault.
 pub(crate) fn line_behind<A: Allocator + Copy>(
     alloc: A,
-    flits: &[SentFlit],
+    stores: StoreListing,
+    seen: &[Observed],
 ) -> Result<Search<A>, LineFault> {
-    let mut search = Search::new(alloc)?;
-    for flit in flits {
-        take(&mut search, flit)?;
+    let mut search = Search::new(alloc, stores)?;
+    for item in seen {
+        take(&mut search, item)?;
     }
     Ok(search)
 }
 
+/// Takes what was seen next.
+pub(crate) fn take<A: Allocator>(search: &mut Search<A>, seen: &Observed) -> Result<(), LineFault> {
+    match seen {
+        Observed::Flit(flit) => take_flit(search, flit),
+        Observed::Load(agent, word, value) if agent.0 < 8 && word.0 < 8 => {
+            search.load(*agent, *word, *value)
+        }
+        Observed::Store(agent, word, value) if agent.0 < 8 && word.0 < 8 => {
+            search.store(*agent, *word, *value)
+        }
+        Observed::Load(_, _, _) | Observed::Store(_, _, _) => Err(LineFault::NoAgent),
+    }
+}
+
 /// Takes the next flit.
-pub(crate) fn take<A: Allocator>(search: &mut Search<A>, flit: &SentFlit) -> Result<(), LineFault> {
+fn take_flit<A: Allocator>(search: &mut Search<A>, flit: &SentFlit) -> Result<(), LineFault> {
     let agent = flit.agent;
     if agent.0 >= 8 {
         return Err(LineFault::NoAgent);
@@ -104,5 +132,6 @@ fn deed<A: Allocator>(search: &Search<A>, item: Draft) -> Deed {
             Deed::Act(agent, Step::Store(word, search.value(value)))
         }
         Draft::Snoop(agent) => Deed::Snoop(agent),
+        Draft::Seen(deed) => deed,
     }
 }

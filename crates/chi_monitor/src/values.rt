@@ -9,7 +9,7 @@ use std::fmt;
 pub(crate) struct Unknown(pub usize);
 
 /// The words of a line.
-pub(crate) type Words = [Unknown; 8];
+pub(crate) type UnknownWords = [Unknown; 8];
 
 /// The words of a line, as far as they are known.
 #[derive(Clone, Copy, Debug, PartialEq, Eq)]
@@ -52,7 +52,7 @@ impl<A: Allocator> Values<A> {
     }
 
     /// The words of a line that nothing is known of.
-    pub fn unknown_line(&mut self) -> Result<Words, AllocError> {
+    pub fn unknown_line(&mut self) -> Result<UnknownWords, AllocError> {
         let mut words = [Unknown(0); 8];
         for word in words.iter_mut() {
             *word = self.add(None)?;
@@ -61,7 +61,7 @@ impl<A: Allocator> Values<A> {
     }
 
     /// The words of a line that has these values.
-    pub fn known_line(&mut self, values: &Data) -> Result<Words, AllocError> {
+    pub fn known_line(&mut self, values: &Data) -> Result<UnknownWords, AllocError> {
         let mut words = [Unknown(0); 8];
         for (word, value) in words.iter_mut().zip(values) {
             *word = self.add(Some(*value))?;
@@ -92,8 +92,22 @@ impl<A: Allocator> Values<A> {
         }
     }
 
+    /// A word of this value.
+    pub fn known_one(&mut self, value: u64) -> Result<Unknown, AllocError> {
+        self.add(Some(value))
+    }
+
+    /// Whether the word may have the value; then it has it from now on.
+    pub fn is_now(&mut self, word: Unknown, value: u64) -> bool {
+        let may = self.may_be(word, value);
+        if may {
+            self.bind(word, value);
+        }
+        may
+    }
+
     /// Whether the words may have these values; then they have them from now on.
-    pub fn are_now(&mut self, words: &Words, values: &Data) -> bool {
+    pub fn are_now(&mut self, words: &UnknownWords, values: &Data) -> bool {
         let may = words
             .iter()
             .zip(values)
@@ -107,7 +121,7 @@ impl<A: Allocator> Values<A> {
     }
 
     /// What is known of the words of a line.
-    pub fn known(&self, words: &Words) -> Known {
+    pub fn known(&self, words: &UnknownWords) -> Known {
         let mut known = [None; 8];
         for (place, word) in known.iter_mut().zip(words) {
             *place = self.known_word(*word);
@@ -124,7 +138,7 @@ impl<A: Allocator> Values<A> {
     }
 
     /// The values of the words of a line.
-    pub fn line(&self, words: &Words) -> Data {
+    pub fn line(&self, words: &UnknownWords) -> Data {
         let mut values = [0; 8];
         for (value, word) in values.iter_mut().zip(words) {
             *value = self.value(*word);

@@ -12,8 +12,8 @@ use Rattle.chi_program.specs.declared.program.End.{End}
 use Rattle.chi_program.specs.declared.program.End.TheVariants as ends
 use Rattle.chi_program.specs.declared.program.Stop.{Stop}
 use Rattle.chi_program.specs.declared.program.Stop.TheVariants.{Arguments, Run}
-use Rattle.chi_verdict.specs.declared.reports.Outcome.{Outcome}
-use Rattle.chi_verdict.specs.declared.reports.Outcome.TheVariants as outcomes
+use Rattle.chi_verdict.specs.declared.reports.TraceOutcome.{TraceOutcome}
+use Rattle.chi_verdict.specs.declared.reports.TraceOutcome.TheVariants as outcomes
 
 abbrev pub stop_status : Stop → ℕ
 stop_status (Arguments fault) = words.argument_fault_status fault
@@ -42,7 +42,7 @@ suite_stop None hold = check_end hold
 suite_stop (Some fault) hold = ends.Faulty fault
 
 -- the end of an explanation of which this came
-abbrev pub explain_end : Outcome → End
+abbrev pub explain_end : TraceOutcome → End
 explain_end outcomes.Explained = ends.Done
 explain_end outcomes.Faulty = ends.Unexplained
 explain_end outcomes.Malformed = ends.Malformed

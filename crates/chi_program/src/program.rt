@@ -17,7 +17,7 @@ use chi_resolution::Options;
 use chi_script::Fault;
 use chi_storm::storm;
 use chi_trace::Address;
-use chi_verdict::{Outcome, explain};
+use chi_verdict::{TraceOutcome, explain};
 use std::alloc::Global;
 use std::env::Args;
 use std::io::ErrorKind;
@@ -150,12 +150,14 @@ fn follow<R: Env + Files + AllocGlobal + Print + Eprint + Threads + Wait + Clock
         Job::Explain {
             path,
             types,
+            stores,
             early_grants,
             only,
         } => {
             let options = Options {
                 types,
                 early_grants,
+                stores,
             };
             Ok(explain_file(rt, path, options, only)?)
         }
@@ -359,19 +361,19 @@ fn explain_file<R: Files + AllocGlobal + Print + Eprint>(
     let mut input = FileInput::open(rt, path)?;
     let mut output = StandardOutput::new(io::writer(rt));
     let report = explain(rt.alloc(), &mut input, &mut output, options, only)?;
-    if report.outcome == Outcome::Malformed {
+    if report.outcome == TraceOutcome::Malformed {
         let _ = rt.eprintln(report.text.as_str());
     }
     Ok(explain_end(report.outcome))
 }
 
 /// The end of an explanation of which this came.
-fn explain_end(outcome: Outcome) -> End
+fn explain_end(outcome: TraceOutcome) -> End
     ensures { result ≡ explain_end outcome }
 {
     match outcome {
-        Outcome::Explained => End::Done,
-        Outcome::Faulty => End::Unexplained,
-        Outcome::Malformed => End::Malformed,
+        TraceOutcome::Explained => End::Done,
+        TraceOutcome::Faulty => End::Unexplained,
+        TraceOutcome::Malformed => End::Malformed,
     }
 }

@@ -7,7 +7,7 @@ use Rattle.std.proofs.lemmas.List.Elements.{All-append, All-set}
 use Rattle.std.proofs.lemmas.Option.{slice_get_cases}
 use Rattle.chi_trace.specs.declared.fields.NodeId.{NodeId}
 use Rattle.chi_trace.specs.declared.fields.PcrdType.{PcrdType}
-use Rattle.chi_resolution.specs.declared.ledger.Account.{Account}
+use Rattle.chi_resolution.specs.declared.ledger.CreditLedger.{CreditLedger}
 use Rattle.chi_resolution.specs.declared.ledger.Booking.{Booking}
 use Rattle.chi_resolution.specs.declared.ledger.CreditEvent.TheVariants as events
 use Rattle.chi_resolution.specs.declared.reasons.IdReason.{IdReason}
@@ -37,52 +37,52 @@ pub opened_balanced : (early : Bool) (node : NodeId) (pcrd : PcrdType) → IsBal
 opened_balanced early node pcrd = record { spent = omega arith; retried = λ e. omega arith }
 
 -- the account at a place
-got_balanced : (early : Bool) (node : NodeId) (pcrd : PcrdType) (accounts : List Account) (place : ℕ) → All (IsBalanced early) accounts → IsBalanced early (account_at (Some place) node pcrd accounts)
+got_balanced : (early : Bool) (node : NodeId) (pcrd : PcrdType) (accounts : List CreditLedger) (place : ℕ) → All (IsBalanced early) accounts → IsBalanced early (account_at (Some place) node pcrd accounts)
 got_balanced early node pcrd accounts place all =
     let found = slice_get_cases accounts place in
     elim found.1 as (λ v. IsBalanced early (account_at (Some place) node pcrd accounts)) [
-      | inl is ↦ subst (λ (got : Option Account). IsBalanced early (account_or (opened_account node pcrd) got)) (sym is.2) (subst (IsBalanced early) is.3 (all place is.0 is.1))
-      | inr is ↦ subst (λ (got : Option Account). IsBalanced early (account_or (opened_account node pcrd) got)) (sym is.1) (opened_balanced early node pcrd)
+      | inl is ↦ subst (λ (got : Option CreditLedger). IsBalanced early (account_or (opened_account node pcrd) got)) (sym is.2) (subst (IsBalanced early) is.3 (all place is.0 is.1))
+      | inr is ↦ subst (λ (got : Option CreditLedger). IsBalanced early (account_or (opened_account node pcrd) got)) (sym is.1) (opened_balanced early node pcrd)
     ]
 
-at_balanced : (early : Bool) (node : NodeId) (pcrd : PcrdType) (accounts : List Account) (place : Option ℕ) → All (IsBalanced early) accounts → IsBalanced early (account_at place node pcrd accounts)
+at_balanced : (early : Bool) (node : NodeId) (pcrd : PcrdType) (accounts : List CreditLedger) (place : Option ℕ) → All (IsBalanced early) accounts → IsBalanced early (account_at place node pcrd accounts)
 at_balanced early node pcrd accounts None all = opened_balanced early node pcrd
 at_balanced early node pcrd accounts (Some place) all = got_balanced early node pcrd accounts place all
 
-pub held_balanced : (early : Bool) (node : NodeId) (pcrd : PcrdType) (accounts : List Account) → All (IsBalanced early) accounts → IsBalanced early (held_of node pcrd accounts).account
+pub held_balanced : (early : Bool) (node : NodeId) (pcrd : PcrdType) (accounts : List CreditLedger) → All (IsBalanced early) accounts → IsBalanced early (held_of node pcrd accounts).account
 held_balanced early node pcrd accounts all = at_balanced early node pcrd accounts (position (is_account node pcrd) accounts) all
 
 -- one more of each sort
-pub more_retried : (early : Bool) (account : Account) → IsBalanced early account → IsBalanced early (with_event events.Retried account)
+pub more_retried : (early : Bool) (account : CreditLedger) → IsBalanced early account → IsBalanced early (with_event events.Retried account)
 more_retried early account is = record { spent = is.spent; retried = λ e. omega (arith, is.retried e) }
 
-pub more_granted : (early : Bool) (account : Account) → IsBalanced early account → (early ≡ false → account.granted < account.retried) → IsBalanced early (with_event events.Granted account)
+pub more_granted : (early : Bool) (account : CreditLedger) → IsBalanced early account → (early ≡ false → account.granted < account.retried) → IsBalanced early (with_event events.Granted account)
 more_granted early account is less = record { spent = omega (arith, is.spent); retried = λ e. omega (arith, less e) }
 
-some_unused : (account : Account) → (unused_of account == 0) ≡ false → account.resent + account.returned + 1 ≤ account.granted
+some_unused : (account : CreditLedger) → (unused_of account == 0) ≡ false → account.resent + account.returned + 1 ≤ account.granted
 some_unused account e = grind (arith, nat_tests)
 
-pub more_resent : (early : Bool) (account : Account) → IsBalanced early account → (unused_of account == 0) ≡ false → IsBalanced early (with_event events.Resent account)
+pub more_resent : (early : Bool) (account : CreditLedger) → IsBalanced early account → (unused_of account == 0) ≡ false → IsBalanced early (with_event events.Resent account)
 more_resent early account is some = record { spent = omega (arith, some_unused account some); retried = is.retried }
 
-pub more_returned : (early : Bool) (account : Account) → IsBalanced early account → (unused_of account == 0) ≡ false → IsBalanced early (with_event events.Returned account)
+pub more_returned : (early : Bool) (account : CreditLedger) → IsBalanced early account → (unused_of account == 0) ≡ false → IsBalanced early (with_event events.Returned account)
 more_returned early account is some = record { spent = omega (arith, some_unused account some); retried = is.retried }
 
 -- what a booking leaves is balanced
 abbrev pub IsKept : Bool → Booking → Type 0
 IsKept early booking = IsBalanced early (with_event booking.event booking.held.account)
 
-one_balanced : (early : Bool) (account : Account) → IsBalanced early account → All (IsBalanced early) (account ∷ [])
+one_balanced : (early : Bool) (account : CreditLedger) → IsBalanced early account → All (IsBalanced early) (account ∷ [])
 one_balanced early account is zero d less = is
 one_balanced early account is (suc k) d less = absurd (omega (arith, less))
 
-put_balanced : (early : Bool) (place : Option ℕ) (account : Account) (accounts : List Account) → IsBalanced early account → All (IsBalanced early) accounts → All (IsBalanced early) (put place account accounts)
+put_balanced : (early : Bool) (place : Option ℕ) (account : CreditLedger) (accounts : List CreditLedger) → IsBalanced early account → All (IsBalanced early) accounts → All (IsBalanced early) (put place account accounts)
 put_balanced early None account accounts is all = All-append (IsBalanced early) accounts (account ∷ []) all (one_balanced early account is)
 put_balanced early (Some place) account accounts is all = All-set (IsBalanced early) accounts place account is all
 
-pub booked_balanced : (early : Bool) (booking : Booking) (accounts : List Account) → IsKept early booking → All (IsBalanced early) accounts → All (IsBalanced early) (booked booking accounts)
+pub booked_balanced : (early : Bool) (booking : Booking) (accounts : List CreditLedger) → IsKept early booking → All (IsBalanced early) accounts → All (IsBalanced early) (booked booking accounts)
 booked_balanced early booking accounts is all = put_balanced early booking.held.place (with_event booking.event booking.held.account) accounts is all
 
-pub booked_all_balanced : (early : Bool) (books : Option Booking) (accounts : List Account) → IfSome books (IsKept early) → All (IsBalanced early) accounts → All (IsBalanced early) (booked_all books accounts)
+pub booked_all_balanced : (early : Bool) (books : Option Booking) (accounts : List CreditLedger) → IfSome books (IsKept early) → All (IsBalanced early) accounts → All (IsBalanced early) (booked_all books accounts)
 booked_all_balanced early None accounts is all = all
 booked_all_balanced early (Some booking) accounts is all = booked_balanced early booking accounts is all

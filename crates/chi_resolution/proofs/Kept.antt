@@ -14,8 +14,8 @@ use Rattle.chi_trace.specs.declared.fields.Resp.{Resp}
 use Rattle.chi_trace.specs.declared.flits.Seen.{Seen}
 use Rattle.chi_trace.specs.declared.opcodes.Opcode.{Opcode}
 use Rattle.chi_trace.specs.declared.opcodes.Opcode.TheVariants as opcodes
-use Rattle.chi_resolution.specs.declared.beats.Begun.{Begun}
-use Rattle.chi_resolution.specs.declared.beats.Unfinished.{Unfinished}
+use Rattle.chi_resolution.specs.declared.beats.FoundData.{FoundData}
+use Rattle.chi_resolution.specs.declared.beats.OpenData.{OpenData}
 use Rattle.chi_resolution.specs.declared.changes.Change.{Change}
 use Rattle.chi_resolution.specs.declared.changes.Change.TheVariants.{Flit, Credit, Beat}
 use Rattle.chi_resolution.specs.declared.changes.LineFlit.{LineFlit}
@@ -23,17 +23,17 @@ use Rattle.chi_resolution.specs.declared.ids.Found.{Found}
 use Rattle.chi_resolution.specs.declared.ids.OpenId.{OpenId}
 use Rattle.chi_resolution.specs.declared.ids.OpenKey.{OpenKey}
 use Rattle.chi_resolution.specs.declared.ids.OpenKey.TheVariants as keys
-use Rattle.chi_resolution.specs.declared.ledger.Account.{Account}
+use Rattle.chi_resolution.specs.declared.ledger.CreditLedger.{CreditLedger}
 use Rattle.chi_resolution.specs.declared.ledger.Booking.{Booking}
 use Rattle.chi_resolution.specs.declared.ledger.CreditEvent.TheVariants as events
-use Rattle.chi_resolution.specs.declared.lines.Observed.{Observed}
+use Rattle.chi_explain.specs.declared.observed.Observed.{Observed}
 use Rattle.chi_resolution.specs.declared.nodes.Ends.{Ends}
 use Rattle.chi_resolution.specs.declared.reasons.IdReason.{IdReason}
 use Rattle.chi_resolution.specs.declared.reasons.IdReason.TheVariants as reasons
 use Rattle.chi_resolution.specs.declared.resolution.Options.{Options}
-use Rattle.chi_resolution.specs.Changes.{Open, access_of, answered, beat_by, beat_of, begun_or_freed, booking_of, completed, request_completion, completed_with, credit_change, early_of, change_by, change_of, first_beat, flit_change, freed, given_back, granted, later_beat, may_grant, named, new_id, opened, replied, request_by, requested, responded, retried, right_type, sent_again, snooped, with_credit}
+use Rattle.chi_resolution.specs.Changes.{Open, access_of, answered, beat_by, beat_of, begun_or_freed, booking_of, completed, request_completion, completed_with, credit_change, early_of, change_by, change_of, first_beat, flit_change, freed, given_back, granted, later_beat, may_grant, named, new_id, opened, received, replied, request_by, requested, responded, retried, right_type, sent_again, snooped, unless_lacking, with_credit}
 use Rattle.chi_resolution.specs.Ledger.{IsBalanced, held_of, wanted_of}
-use Rattle.chi_resolution.specs.Beats.{data_of, filled, is_whole}
+use Rattle.chi_resolution.specs.Beats.{data_before, data_of, filled, is_whole}
 use Rattle.chi_resolution.specs.Ids.{id_of}
 use Rattle.chi_resolution.specs.Messages.{answer_form, completion_response, message_of}
 use Rattle.chi_resolution.specs.Nodes.{ends_of}
@@ -136,7 +136,7 @@ answer_kept early table ends seen =
     each (ok_or (answer_form resp) (reasons.Form resp)) _ (FlitKept early) (λ response.
     reply_kept early table ends seen (keys.Snoop ends.requester txn) response)))
 
-begun_kept : (early whole : Bool) (table : Open) (found : Found) (begun : Unfinished) (flit : LineFlit) → FlitKept early flit → FlitKept early (begun_or_freed whole table found begun flit)
+begun_kept : (early whole : Bool) (table : Open) (found : Found) (begun : OpenData) (flit : LineFlit) → FlitKept early flit → FlitKept early (begun_or_freed whole table found begun flit)
 begun_kept early true table found begun flit is = is
 begun_kept early false table found begun flit is = is
 
@@ -148,7 +148,7 @@ first_kept early table ends seen found words =
     each (opened table ends seen found.id.line seen.opcode) _ (FlitKept early) (λ opens.
     begun_kept early (is_whole words) table found _ _ tt)))
 
-beat_by_kept : (early : Bool) (table : Open) (ends : Ends) (seen : Seen) (found : Found) (words : List (Option ℕ)) (begun : Option Begun) → IfOk (beat_by table ends seen found words begun) (ChangeKept early)
+beat_by_kept : (early : Bool) (table : Open) (ends : Ends) (seen : Seen) (found : Found) (words : List (Option ℕ)) (begun : Option FoundData) → IfOk (beat_by table ends seen found words begun) (ChangeKept early)
 beat_by_kept early table ends seen found words None = each_of (first_beat table ends seen found words) _ (FlitKept early) (ChangeKept early) (first_kept early table ends seen found words) (λ flit is. is)
 beat_by_kept early table ends seen found words (Some begun) = each (later_beat ends seen found begun words) _ (ChangeKept early) (λ further. tt)
 
@@ -159,13 +159,13 @@ beat_kept early table ends seen key =
     each (named table key seen) _ (ChangeKept early) (λ found.
     beat_by_kept early table ends seen found words (data_of key table.unfinished)))
 
-access_kept : (early : Bool) (ends : Ends) (seen : Seen) → IfOk (access_of ends seen) (FlitKept early)
+access_kept : (early : Bool) (table : Open) (ends : Ends) (seen : Seen) → IfOk (access_of table ends seen) (FlitKept early)
 unfolding access_of
-access_kept early ends seen =
+access_kept early table ends seen =
     each (needed_address seen) _ (FlitKept early) (λ address.
     each (value_in seen.payload) _ (FlitKept early) (λ value. tt))
 
-may_grant_less : (account : Account) (n : ℕ) → may_grant account n ≡ true → n ≡ 0 → account.granted < account.retried
+may_grant_less : (account : CreditLedger) (n : ℕ) → may_grant account n ≡ true → n ≡ 0 → account.granted < account.retried
 may_grant_less account n may none = grind (arith, nat_tests)
 
 none_early : (b : Bool) (n : ℕ) → b ≡ false → cond b n 0 ≡ 0
@@ -205,12 +205,22 @@ by_opcode opcodes.CompAck options table ends seen all = each (buffer_of seen) _ 
 by_opcode opcodes.CompData options table ends seen all = each (needed_txn seen) _ (ChangeKept options.early_grants) (λ txn. beat_kept options.early_grants table ends seen _)
 by_opcode opcodes.SnpRespData options table ends seen all = each (needed_txn seen) _ (ChangeKept options.early_grants) (λ txn. beat_kept options.early_grants table ends seen _)
 by_opcode opcodes.CopyBackWrData options table ends seen all = each (buffer_of seen) _ (ChangeKept options.early_grants) (λ dbid. beat_kept options.early_grants table ends seen _)
-by_opcode opcodes.Load options table ends seen all = as_flit options.early_grants _ (access_kept options.early_grants ends seen)
-by_opcode opcodes.Store options table ends seen all = as_flit options.early_grants _ (access_kept options.early_grants ends seen)
+by_opcode opcodes.Load options table ends seen all = as_flit options.early_grants _ (access_kept options.early_grants table ends seen)
+by_opcode opcodes.Store options table ends seen all = as_flit options.early_grants _ (access_kept options.early_grants table ends seen)
+
+unless_lacking_kept : (early : Bool) (flit : LineFlit) (begun : Option FoundData) → FlitKept early flit → IfOk (unless_lacking flit begun) (ChangeKept early)
+unless_lacking_kept early flit None is = is
+unless_lacking_kept early flit (Some begun) is = tt
+
+received_kept : (early : Bool) (table : Open) (opcode : Opcode) (change : Change) → ChangeKept early change → IfOk (received table opcode change) (ChangeKept early)
+received_kept early table opcode (Flit flit) is = unless_lacking_kept early flit (data_before opcode flit.line table.unfinished) is
+received_kept early table opcode (Credit booking) is = is
+received_kept early table opcode (Beat further) is = is
 
 change_kept : (options : Options) (table : Open) (ends : Ends) (seen : Seen) → TableKept options.early_grants table → IfOk (change_of options table ends seen) (ChangeKept options.early_grants)
 unfolding change_of
-change_kept options table ends seen all = by_opcode seen.opcode options table ends seen all
+change_kept options table ends seen all =
+    each_of (change_by seen.opcode options table ends seen) _ (ChangeKept options.early_grants) (ChangeKept options.early_grants) (by_opcode seen.opcode options table ends seen all) (received_kept options.early_grants table seen.opcode)
 
 after_kept : (early : Bool) (at : ℕ) (change : Change) (table : Open) → ChangeKept early change → TableKept early table → TableKept early (open_after at change table)
 after_kept early at (Flit flit) table is all = booked_all_balanced early flit.books table.accounts is all

@@ -18,8 +18,8 @@ use Rattle.chi_trace.specs.declared.fields.Resp.{Resp}
 use Rattle.chi_trace.specs.declared.flits.Seen.{Seen}
 use Rattle.chi_trace.specs.declared.opcodes.Opcode.{Opcode}
 use Rattle.chi_trace.specs.declared.opcodes.Opcode.TheVariants as opcodes
-use Rattle.chi_resolution.specs.declared.beats.Begun.{Begun}
-use Rattle.chi_resolution.specs.declared.beats.Unfinished.{Unfinished}
+use Rattle.chi_resolution.specs.declared.beats.FoundData.{FoundData}
+use Rattle.chi_resolution.specs.declared.beats.OpenData.{OpenData}
 use Rattle.chi_resolution.specs.declared.changes.Change.{Change}
 use Rattle.chi_resolution.specs.declared.changes.Change.TheVariants.{Flit, Credit, Beat}
 use Rattle.chi_resolution.specs.declared.changes.Further.{Further}
@@ -29,39 +29,40 @@ use Rattle.chi_resolution.specs.declared.ids.Found.{Found}
 use Rattle.chi_resolution.specs.declared.ids.OpenId.{OpenId}
 use Rattle.chi_resolution.specs.declared.ids.OpenKey.{OpenKey}
 use Rattle.chi_resolution.specs.declared.ids.OpenKey.TheVariants as keys
-use Rattle.chi_resolution.specs.declared.ledger.Account.{Account}
+use Rattle.chi_resolution.specs.declared.ledger.CreditLedger.{CreditLedger}
 use Rattle.chi_resolution.specs.declared.ledger.Booking.{Booking}
 use Rattle.chi_resolution.specs.declared.ledger.CreditEvent.{CreditEvent}
 use Rattle.chi_resolution.specs.declared.ledger.CreditEvent.TheVariants as events
 use Rattle.chi_resolution.specs.declared.lines.CacheLine.{CacheLine}
-use Rattle.chi_resolution.specs.declared.lines.Observed.{Observed}
-use Rattle.chi_resolution.specs.declared.lines.Observed.TheVariants as observed
+use Rattle.chi_explain.specs.declared.observed.Observed.{Observed}
+use Rattle.chi_explain.specs.declared.observed.Observed.TheVariants as observed
 use Rattle.chi_resolution.specs.declared.lines.Resolved.{Resolved}
 use Rattle.chi_resolution.specs.declared.nodes.Ends.{Ends}
 use Rattle.chi_resolution.specs.declared.reasons.IdReason.{IdReason}
 use Rattle.chi_resolution.specs.declared.reasons.IdReason.TheVariants as reasons
 use Rattle.chi_resolution.specs.declared.resolution.Options.{Options}
-use Rattle.chi_resolution.specs.Beats.{data_of, filled, is_whole, joined}
-use Rattle.chi_resolution.specs.Ids.{id_of, plain_id}
+use Rattle.chi_resolution.specs.Beats.{data_before, data_of, filled, is_whole, joined}
+use Rattle.chi_resolution.specs.Ids.{id_of, is_completed, plain_id}
 use Rattle.chi_resolution.specs.Ledger.{attempts, booked_type, held_of, unused_of, wanted_of}
 use Rattle.chi_resolution.specs.Lines.{line_of}
 use Rattle.chi_resolution.specs.Messages.{answer_form, completion_response, is_same_resp, message_of}
 use Rattle.chi_resolution.specs.Reasons.{◌>>=◌, needed_address, needed_allow_retry, buffer_of, needed_dbid, needed_pcrd, needed_resp, needed_txn, value_in, words_in}
 
--- what is open, and the flits that are resolved
+-- what is open, the flits that are resolved, and the loads and stores that wait for a CompAck
 pub record Open : Type 0 where
   pub ids : List OpenId
-  pub unfinished : List Unfinished
-  pub accounts : List Account
+  pub unfinished : List OpenData
+  pub accounts : List CreditLedger
   pub flits : List Resolved
+  pub waiting : List Resolved
 
 -- what references to the tables point to
 abbrev pub table_of : Tables → Open
-table_of tables = record { ids = tables.ids.now; unfinished = tables.unfinished.now; accounts = tables.accounts.now; flits = tables.flits.now }
+table_of tables = record { ids = tables.ids.now; unfinished = tables.unfinished.now; accounts = tables.accounts.now; flits = tables.flits.now; waiting = tables.waiting.now }
 
 -- a flit that neither frees, opens nor books
 abbrev pub plain_flit : CacheLine → Observed → LineFlit
-plain_flit line flit = record { line = line; flit = flit; frees = None; opens = None; books = None; begins = None }
+plain_flit line flit = record { line = line; flit = flit; frees = None; opens = None; books = None; begins = None; waits = false }
 
 abbrev pub sent : Ends → Msg → Observed
 sent ends message = observed.Flit (record { agent = ends.agent; message = message })
@@ -84,7 +85,7 @@ abbrev pub named : Open → OpenKey → Seen → Result Found IdReason
 named table key seen = ok_or (id_of key table.ids) (reasons.NotOpen key) >>= in_line seen.address
 
 -- the id that a flit without data frees: no data that frees it lacks words
-abbrev pub unless_begun : OpenKey → Found → Option Begun → Result Found IdReason
+abbrev pub unless_begun : OpenKey → Found → Option FoundData → Result Found IdReason
 unless_begun key found None = Ok found
 unless_begun key found (Some begun) = Err (reasons.Unfinished key)
 
@@ -159,6 +160,11 @@ retried options table ends seen = do
     books = Some (booking_of table ends.requester type events.Retried);
   })
 
+-- a CompAck follows Comp_UC
+abbrev pub is_acknowledged : RspDown → Bool
+is_acknowledged downs.CompUC = true
+is_acknowledged other = false
+
 -- Comp_UC and CompDBIDResp free a request and open a DBID
 unfoldable pub responded : Open → Ends → Seen → RspDown → Result LineFlit IdReason
 responded table ends seen response = do
@@ -168,7 +174,7 @@ responded table ends seen response = do
   key ← new_id table (keys.Buffer ends.requester dbid)
   Ok (record (plain_flit found.id.line (sent ends (messages.RspDown response))) {
     frees = Some found.place;
-    opens = Some (plain_id key found.id.line);
+    opens = Some (record (plain_id key found.id.line) { awaits_ack = is_acknowledged response });
   })
 
 -- Comp_I frees a request
@@ -204,11 +210,11 @@ abbrev pub opened : Open → Ends → Seen → CacheLine → Opcode → Result (
 opened table ends seen line opcodes.CompData = do
   dbid ← needed_dbid seen
   key ← new_id table (keys.Buffer ends.requester dbid)
-  Ok (Some (plain_id key line))
+  Ok (Some (record (plain_id key line) { awaits_ack = true }))
 opened table ends seen line other = Ok None
 
 -- data frees its id, once no word lacks
-abbrev pub begun_or_freed : Bool → Open → Found → Unfinished → LineFlit → LineFlit
+abbrev pub begun_or_freed : Bool → Open → Found → OpenData → LineFlit → LineFlit
 begun_or_freed true table found begun flit = record flit { frees = Some found.place }
 begun_or_freed false table found begun flit = record flit { begins = Some begun }
 
@@ -218,7 +224,7 @@ first_beat table ends seen found words = do
   message ← ok_or (message_of seen.opcode resp (filled words)) (reasons.Form resp)
   opens ← opened table ends seen found.id.line seen.opcode
   Ok (begun_or_freed (is_whole words) table found
-      (record { key = found.id.key; place = length table.flits; resp = resp; dbid = seen.dbid; words = words })
+      (record { key = found.id.key; line = found.id.line; place = length table.flits; resp = resp; dbid = seen.dbid; words = words })
       (record (plain_flit found.id.line (sent ends message)) { opens = opens }))
 
 -- a further beat has the RESP and the DBID of the first
@@ -231,14 +237,14 @@ abbrev pub place_if : Bool → ℕ → Option ℕ
 place_if true place = Some place
 place_if false place = None
 
-abbrev pub is_form : Unfinished → Option Resp → Option DbId → Bool
+abbrev pub is_form : OpenData → Option Resp → Option DbId → Bool
 is_form begun None dbid = false
 is_form begun (Some resp) dbid = is_same_resp resp begun.resp && is_same_dbid dbid begun.dbid
 
-abbrev pub joined_as : Unfinished → Seen → List (Option ℕ) → Result (List (Option ℕ)) IdReason
+abbrev pub joined_as : OpenData → Seen → List (Option ℕ) → Result (List (Option ℕ)) IdReason
 joined_as begun seen more = if is_form begun seen.resp seen.dbid then joined begun.key begun.words more else Err (reasons.OtherBeat begun.key)
 
-unfoldable pub later_beat : Ends → Seen → Found → Begun → List (Option ℕ) → Result Further IdReason
+unfoldable pub later_beat : Ends → Seen → Found → FoundData → List (Option ℕ) → Result Further IdReason
 later_beat ends seen found begun more = do
   words ← joined_as begun.so_far seen more
   message ← ok_or (message_of seen.opcode begun.so_far.resp (filled words)) (reasons.Form begun.so_far.resp)
@@ -249,7 +255,7 @@ later_beat ends seen found begun more = do
     frees = place_if (is_whole words) found.place;
   })
 
-abbrev pub beat_by : Open → Ends → Seen → Found → List (Option ℕ) → Option Begun → Result Change IdReason
+abbrev pub beat_by : Open → Ends → Seen → Found → List (Option ℕ) → Option FoundData → Result Change IdReason
 beat_by table ends seen found words None = first_beat table ends seen found words >>= λ flit. Ok (Flit flit)
 beat_by table ends seen found words (Some begun) = later_beat ends seen found begun words >>= λ further. Ok (Beat further)
 
@@ -265,7 +271,7 @@ abbrev pub early_of : Options → Open → NodeId → PcrdType → ℕ
 early_of options table node pcrd = if options.early_grants then attempts options.types node pcrd table.ids else 0
 
 -- G < R, or as far above R as that
-abbrev pub may_grant : Account → ℕ → Bool
+abbrev pub may_grant : CreditLedger → ℕ → Bool
 may_grant account early = nat_lt account.granted (account.retried + early)
 
 abbrev pub granted_booking : NodeId → PcrdType → ℕ → Booking → Result Booking IdReason
@@ -291,11 +297,12 @@ abbrev pub access_with : Opcode → Ends → Address → ℕ → Observed
 access_with opcodes.Load ends address value = observed.Load ends.agent (record { 0 = address.0 % 64 / 8 }) value
 access_with other ends address value = observed.Store ends.agent (record { 0 = address.0 % 64 / 8 }) value
 
-unfoldable pub access_of : Ends → Seen → Result LineFlit IdReason
-access_of ends seen = do
+-- it waits where its requester has a completion without its CompAck
+unfoldable pub access_of : Open → Ends → Seen → Result LineFlit IdReason
+access_of table ends seen = do
   address ← needed_address seen
   value ← value_in seen.payload
-  Ok (plain_flit (line_of address) (access_with seen.opcode ends address value))
+  Ok (record (plain_flit (line_of address) (access_with seen.opcode ends address value)) { waits = is_completed ends.requester (line_of address) table.ids })
 
 abbrev pub flit_change : Result LineFlit IdReason → Result Change IdReason
 flit_change flit = flit >>= λ flit. Ok (Flit flit)
@@ -317,8 +324,21 @@ change_by opcodes.CompAck options table ends seen = buffer_of seen >>= λ dbid. 
 change_by opcodes.CompData options table ends seen = needed_txn seen >>= λ txn. beat_of table ends seen (keys.Request ends.requester txn)
 change_by opcodes.SnpRespData options table ends seen = needed_txn seen >>= λ txn. beat_of table ends seen (keys.Snoop ends.requester txn)
 change_by opcodes.CopyBackWrData options table ends seen = buffer_of seen >>= λ dbid. beat_of table ends seen (keys.Buffer ends.requester dbid)
-change_by opcodes.Load options table ends seen = flit_change (access_of ends seen)
-change_by opcodes.Store options table ends seen = flit_change (access_of ends seen)
+change_by opcodes.Load options table ends seen = flit_change (access_of table ends seen)
+change_by opcodes.Store options table ends seen = flit_change (access_of table ends seen)
+
+-- the home sends a flit only once it has all words of the data that comes before it
+abbrev pub unless_lacking : LineFlit → Option FoundData → Result Change IdReason
+unless_lacking flit None = Ok (Flit flit)
+unless_lacking flit (Some begun) = Err (reasons.Lacking begun.so_far.key)
+
+abbrev pub once_received : Open → Opcode → LineFlit → Result Change IdReason
+once_received table opcode flit = unless_lacking flit (data_before opcode flit.line table.unfinished)
+
+abbrev pub received : Open → Opcode → Change → Result Change IdReason
+received table opcode (Flit flit) = once_received table opcode flit
+received table opcode (Credit booking) = Ok (Credit booking)
+received table opcode (Beat further) = Ok (Beat further)
 
 unfoldable pub change_of : Options → Open → Ends → Seen → Result Change IdReason
-change_of options table ends seen = change_by seen.opcode options table ends seen
+change_of options table ends seen = change_by seen.opcode options table ends seen >>= received table seen.opcode

@@ -1,6 +1,7 @@
 -- The ids that are open, in the order in which they were opened (docs/TRACES.md, "Nodes, ids and credits").
 use Rattle.std.specs.Prelude.{ℕ, ◌==◌, ◌&&◌, Bool, false, List, Option, Some, None}
-use Rattle.std.specs.List.{position, remove, slice_get}
+use Rattle.std.specs.List.{list_any, position, remove, slice_get}
+use Rattle.chi_trace.specs.declared.fields.NodeId.{NodeId}
 use Rattle.chi_resolution.specs.declared.ids.Found.{Found}
 use Rattle.chi_resolution.specs.declared.ids.OpenId.{OpenId}
 use Rattle.chi_resolution.specs.declared.ids.OpenKey.{OpenKey}
@@ -32,7 +33,18 @@ id_of key ids = found_in ids (position (has_key key) ids)
 
 -- an id that no more is known of than its line
 abbrev pub plain_id : OpenKey → CacheLine → OpenId
-plain_id key line = record { key = key; line = line; may_retry = None; waits_for = None }
+plain_id key line = record { key = key; line = line; may_retry = None; waits_for = None; awaits_ack = false }
+
+-- a CompAck of the node at the line is to free it
+abbrev pub is_key_of : NodeId → OpenKey → Bool
+is_key_of node (Buffer n d) = n.0 == node.0
+is_key_of node other = false
+
+abbrev pub is_ack_due : NodeId → CacheLine → OpenId → Bool
+is_ack_due node line id = is_key_of node id.key && (id.awaits_ack && id.line.0 == line.0)
+
+abbrev pub is_completed : NodeId → CacheLine → List OpenId → Bool
+is_completed node line ids = list_any (is_ack_due node line) ids
 
 -- the ids without the one at a place, if there is to be none
 abbrev pub without : Option ℕ → List OpenId → List OpenId

@@ -11,7 +11,7 @@ use Rattle.chi_trace.specs.declared.fields.PcrdType.{PcrdType}
 use Rattle.chi_resolution.specs.declared.ids.OpenId.{OpenId}
 use Rattle.chi_resolution.specs.declared.ids.OpenKey.{OpenKey}
 use Rattle.chi_resolution.specs.declared.ids.OpenKey.TheVariants.{Request}
-use Rattle.chi_resolution.specs.declared.ledger.Account.{Account}
+use Rattle.chi_resolution.specs.declared.ledger.CreditLedger.{CreditLedger}
 use Rattle.chi_resolution.specs.declared.ledger.Booking.{Booking}
 use Rattle.chi_resolution.specs.declared.ledger.CreditEvent.{CreditEvent}
 use Rattle.chi_resolution.specs.declared.ledger.CreditEvent.TheVariants as events
@@ -50,56 +50,56 @@ is_attempt types node pcrd id = attempt_of types node pcrd id.key id.may_retry
 abbrev pub attempts : Types → NodeId → PcrdType → List OpenId → ℕ
 attempts types node pcrd ids = count_by (is_attempt types node pcrd) ids
 
-abbrev pub opened_account : NodeId → PcrdType → Account
+abbrev pub opened_account : NodeId → PcrdType → CreditLedger
 opened_account node pcrd = record { node = node; pcrd = pcrd; retried = 0; granted = 0; resent = 0; returned = 0 }
 
-abbrev pub is_account : NodeId → PcrdType → Account → Bool
+abbrev pub is_account : NodeId → PcrdType → CreditLedger → Bool
 is_account node pcrd account = account.node.0 == node.0 && account.pcrd.0 == pcrd.0
 
 -- the account at a place, or a new one
-abbrev pub account_or : Account → Option Account → Account
+abbrev pub account_or : CreditLedger → Option CreditLedger → CreditLedger
 account_or account None = account
 account_or account (Some known) = known
 
-abbrev pub account_at : Option ℕ → NodeId → PcrdType → List Account → Account
+abbrev pub account_at : Option ℕ → NodeId → PcrdType → List CreditLedger → CreditLedger
 account_at None node pcrd accounts = opened_account node pcrd
 account_at (Some place) node pcrd accounts = account_or (opened_account node pcrd) (slice_get accounts place)
 
 -- the account of a node and a type, and its place
-abbrev pub held_of : NodeId → PcrdType → List Account → Held
+abbrev pub held_of : NodeId → PcrdType → List CreditLedger → Held
 held_of node pcrd accounts = record {
   place = position (is_account node pcrd) accounts;
   account = account_at (position (is_account node pcrd) accounts) node pcrd accounts;
 }
 
 -- G - S - B
-abbrev pub unused_of : Account → ℕ
+abbrev pub unused_of : CreditLedger → ℕ
 unused_of account = account.granted - account.resent - account.returned
 
 -- R - G
-abbrev pub owed_of : Account → ℕ
+abbrev pub owed_of : CreditLedger → ℕ
 owed_of account = account.retried - account.granted
 
 -- an account with one more
-abbrev pub with_event : CreditEvent → Account → Account
+abbrev pub with_event : CreditEvent → CreditLedger → CreditLedger
 with_event events.Retried account = record account { retried = account.retried + 1 }
 with_event events.Granted account = record account { granted = account.granted + 1 }
 with_event events.Resent account = record account { resent = account.resent + 1 }
 with_event events.Returned account = record account { returned = account.returned + 1 }
 
 -- an account in its place, or behind the others
-abbrev pub put : Option ℕ → Account → List Account → List Account
+abbrev pub put : Option ℕ → CreditLedger → List CreditLedger → List CreditLedger
 put None account accounts = accounts ++ account ∷ []
 put (Some place) account accounts = slice_set accounts place account
 
-abbrev pub booked : Booking → List Account → List Account
+abbrev pub booked : Booking → List CreditLedger → List CreditLedger
 booked booking accounts = put booking.held.place (with_event booking.event booking.held.account) accounts
 
-abbrev pub booked_all : Option Booking → List Account → List Account
+abbrev pub booked_all : Option Booking → List CreditLedger → List CreditLedger
 booked_all None accounts = accounts
 booked_all (Some booking) accounts = booked booking accounts
 
 -- what the ledger keeps: S + B ≤ G, and G ≤ R unless grants may be early
-pub record IsBalanced (early : Bool) (account : Account) : Type 0 where
+pub record IsBalanced (early : Bool) (account : CreditLedger) : Type 0 where
   pub spent : account.resent + account.returned ≤ account.granted
   pub retried : early ≡ false → account.granted ≤ account.retried

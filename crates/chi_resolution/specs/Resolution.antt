@@ -1,18 +1,23 @@
 -- What a trace resolves to: each flit is taken with what those before it have left open, up to the first that isn't
 -- allowed (docs/TRACES.md, "Nodes, ids and credits").
-use Rattle.std.specs.Prelude.{ℕ, ◌+◌, List, [], ◌∷◌, ◌++◌, Option, Some, None, Result, Ok, Err, if◌then◌else◌, is_some, slice_set}
-use Rattle.std.specs.List.{remove, slice_get}
+use Rattle.std.specs.Prelude.{ℕ, ◌+◌, ◌==◌, ◌&&◌, not, Bool, true, false, List, [], ◌∷◌, ◌++◌, Option, Some, None, Result, Ok, Err, if◌then◌else◌, is_some, slice_set}
+use Rattle.std.specs.List.{filter, remove, slice_get}
 use Rattle.std.specs.Option.{option_to_list}
 use Rattle.chi_trace.specs.declared.fields.NodeId.{NodeId}
 use Rattle.chi_trace.specs.declared.flits.Seen.{Seen}
-use Rattle.chi_resolution.specs.declared.beats.Unfinished.{Unfinished}
+use Rattle.chi_resolution.specs.declared.beats.OpenData.{OpenData}
 use Rattle.chi_resolution.specs.declared.changes.Change.{Change}
 use Rattle.chi_resolution.specs.declared.changes.Change.TheVariants.{Flit, Credit, Beat}
 use Rattle.chi_resolution.specs.declared.changes.Further.{Further}
 use Rattle.chi_resolution.specs.declared.changes.LineFlit.{LineFlit}
 use Rattle.chi_resolution.specs.declared.ids.OpenId.{OpenId}
-use Rattle.chi_resolution.specs.declared.ledger.Account.{Account}
-use Rattle.chi_resolution.specs.declared.lines.Observed.{Observed}
+use Rattle.chi_resolution.specs.declared.ledger.CreditLedger.{CreditLedger}
+use Rattle.chi_explain.specs.declared.observed.Observed.{Observed}
+use Rattle.chi_explain.specs.declared.observed.Observed.TheVariants as observed
+use Rattle.chi_flit.specs.declared.message.Msg.{Msg}
+use Rattle.chi_flit.specs.declared.message.Msg.TheVariants as messages
+use Rattle.chi_flit.specs.declared.message.RspUp.TheVariants as ups
+use Rattle.chi_flit.specs.declared.numbers.Agent.{Agent}
 use Rattle.chi_resolution.specs.declared.lines.Resolved.{Resolved}
 use Rattle.chi_resolution.specs.declared.reasons.IdFault.{IdFault}
 use Rattle.chi_resolution.specs.declared.reasons.IdReason.{IdReason}
@@ -30,30 +35,57 @@ pub record Progress : Type 0 where
   pub requesters : List NodeId
   pub table : Open
 
-abbrev pub progress_of : Option NodeId → List NodeId → List OpenId → List Unfinished → List Account → List Resolved → Progress
-progress_of home requesters ids unfinished accounts flits = record {
+abbrev pub progress_of : Option NodeId → List NodeId → List OpenId → List OpenData → List CreditLedger → List Resolved → List Resolved → Progress
+progress_of home requesters ids unfinished accounts flits waiting = record {
   home = home;
   requesters = requesters;
-  table = record { ids = ids; unfinished = unfinished; accounts = accounts; flits = flits };
+  table = record { ids = ids; unfinished = unfinished; accounts = accounts; flits = flits; waiting = waiting };
 }
 
 abbrev pub nothing : Progress
-nothing = progress_of None [] [] [] [] []
+nothing = progress_of None [] [] [] [] [] []
 
 -- the id at a place is free, if one is, and another one open behind the others
 abbrev pub ids_after : Option ℕ → Option OpenId → List OpenId → List OpenId
 ids_after frees opens ids = without frees ids ++ option_to_list opens
+
+-- a load or a store waits for the CompAck of its requester, behind which it then stands
+abbrev pub is_ack : Msg → Bool
+is_ack (messages.RspUp ups.CompAck) = true
+is_ack other = false
+
+abbrev pub is_ack_of : Agent → Observed → Bool
+is_ack_of agent (observed.Flit sent) = sent.agent.0 == agent.0 && is_ack sent.message
+is_ack_of agent other = false
+
+abbrev pub agent_of : Observed → Agent
+agent_of (observed.Flit sent) = sent.agent
+agent_of (observed.Load agent word value) = agent
+agent_of (observed.Store agent word value) = agent
+
+abbrev pub is_released : LineFlit → Resolved → Bool
+is_released flit item = item.line.0 == flit.line.0 && is_ack_of (agent_of item.flit) flit.flit
+
+abbrev pub item_of : ℕ → LineFlit → Resolved
+item_of at flit = record { at = at; line = flit.line; flit = flit.flit }
+
+abbrev pub placed : ℕ → LineFlit → List Resolved → List Resolved
+placed at flit waiting = if flit.waits then [] else item_of at flit ∷ filter (is_released flit) waiting
+
+abbrev pub waiting_after : ℕ → LineFlit → List Resolved → List Resolved
+waiting_after at flit waiting = if flit.waits then waiting ++ item_of at flit ∷ [] else filter (λ item. not (is_released flit item)) waiting
 
 abbrev pub after_flit : ℕ → LineFlit → Open → Open
 after_flit at flit table = record {
   ids = ids_after flit.frees flit.opens table.ids;
   unfinished = table.unfinished ++ option_to_list flit.begins;
   accounts = booked_all flit.books table.accounts;
-  flits = table.flits ++ record { at = at; line = flit.line; flit = flit.flit } ∷ [];
+  flits = table.flits ++ placed at flit table.waiting;
+  waiting = waiting_after at flit table.waiting;
 }
 
 -- data with the words of a further beat; it is finished where it frees its id
-abbrev pub data_after : Further → List Unfinished → List Unfinished
+abbrev pub data_after : Further → List OpenData → List OpenData
 data_after further unfinished = if is_some further.frees then remove unfinished further.place else slice_set unfinished further.place further.joined
 
 -- a flit of data stands at the place of its first beat
@@ -70,6 +102,7 @@ after_beat further table = record {
   unfinished = data_after further table.unfinished;
   accounts = table.accounts;
   flits = refilled further.joined.place further.flit table.flits;
+  waiting = table.waiting;
 }
 
 abbrev pub open_after : ℕ → Change → Open → Open

@@ -1,23 +1,25 @@
 //! Data in more than one beat.
 
 ghost use Rattle.std.specs.Prelude.{◌≡◌, position, slice_get};
-ghost use Rattle.chi_resolution.specs.Beats.{begun_at, data_of, filled, is_of_key, is_whole, joined, merged_one};
+ghost use Rattle.chi_resolution.specs.Beats.{begun_at, completes, data_before, data_of, filled, is_before, is_of_key, is_whole, joined, merged_one, waits_for};
 
 use crate::ids::{OpenKey, is_same_key};
+use crate::lines::CacheLine;
 use crate::reasons::IdReason;
 use chi_flit::{Data, WordNo};
-use chi_trace::{DbId, Resp};
+use chi_trace::{DbId, Opcode, Resp};
 
 /// The words of a line that a beat, or some beats, have.
-pub(crate) type Words = [Option<u64>; 8];
+pub(crate) type BeatWords = [Option<u64>; 8];
 
 /// Data that lacks words yet: its id stays in use.
 /// Source: `docs/TRACES.md`, "Nodes, ids and credits".
 #[derive(Clone, Copy, Debug, PartialEq, Eq)]
-pub struct Unfinished {
+pub struct OpenData {
     /// The id that the data frees: of a request's CompData, a copy-back's CopyBackWrData or a snoop's
     /// SnpRespData.
     pub key: OpenKey,
+    pub line: CacheLine,
     /// The place of its flit among those that are resolved.
     pub place: usize,
     pub resp: Resp,
@@ -28,31 +30,31 @@ pub struct Unfinished {
 
 /// Unfinished data, and its place among that which is unfinished.
 #[derive(Clone, Copy)]
-pub(crate) struct Begun {
+pub(crate) struct FoundData {
     pub place: usize,
-    pub so_far: Unfinished,
+    pub so_far: OpenData,
 }
 
 /// Whether it is the data that frees the id.
-fn is_of(begun: &Unfinished, key: OpenKey) -> bool
+fn is_of(begun: &OpenData, key: OpenKey) -> bool
     ensures { result ≡ is_of_key key begun.now }
 {
     is_same_key(begun.key, key)
 }
 
 /// The place of the unfinished data that frees an id.
-fn place_of(unfinished: &[Unfinished], key: OpenKey) -> Option<usize>
+fn place_of(unfinished: &[OpenData], key: OpenKey) -> Option<usize>
     ensures { result ≡ position (is_of_key key) unfinished.now }
 {
     unfinished.iter().position(|begun| is_of(begun, key))
 }
 
 /// The unfinished data at a place.
-fn begun_at(unfinished: &[Unfinished], place: usize) -> Option<Begun>
+fn begun_at(unfinished: &[OpenData], place: usize) -> Option<FoundData>
     ensures { result ≡ begun_at place (slice_get unfinished.now place) }
 {
     match unfinished.get(place) {
-        Some(so_far) => Some(Begun {
+        Some(so_far) => Some(FoundData {
             place,
             so_far: *so_far,
         }),
@@ -61,7 +63,7 @@ fn begun_at(unfinished: &[Unfinished], place: usize) -> Option<Begun>
 }
 
 /// The unfinished data that frees an id.
-pub(crate) fn find_data(unfinished: &[Unfinished], key: OpenKey) -> Option<Begun>
+pub(crate) fn find_data(unfinished: &[OpenData], key: OpenKey) -> Option<FoundData>
     ensures { result ≡ data_of key unfinished.now }
 {
     match place_of(unfinished, key) {
@@ -70,15 +72,67 @@ pub(crate) fn find_data(unfinished: &[Unfinished], key: OpenKey) -> Option<Begun
     }
 }
 
+/// Whether a flit of the opcode completes a request.
+fn completes(opcode: Opcode) -> bool
+    ensures { result ≡ completes opcode }
+{
+    matches!(
+        opcode,
+        Opcode::Comp | Opcode::CompDBIDResp | Opcode::CompData
+    )
+}
+
+/// Whether the home sends a flit of the opcode only once it has the data that frees the id: a completion is behind all
+/// answers and behind write data, a snoop behind write data.
+fn waits_for(opcode: Opcode, key: OpenKey) -> bool
+    ensures { result ≡ waits_for opcode key }
+{
+    match key {
+        OpenKey::Snoop(_, _) => completes(opcode),
+        OpenKey::Buffer(_, _) => completes(opcode) || matches!(opcode, Opcode::Snoop(_)),
+        OpenKey::Request(_, _) | OpenKey::Retried(_, _) => false,
+    }
+}
+
+/// Whether the home sends a flit of the opcode at the line only once it has the data.
+fn is_before(begun: &OpenData, opcode: Opcode, line: CacheLine) -> bool
+    ensures { result ≡ is_before opcode line begun.now }
+{
+    begun.line.0 == line.0 && waits_for(opcode, begun.key)
+}
+
+/// The place of the unfinished data that comes before a flit of this opcode at the line.
+fn place_before(unfinished: &[OpenData], opcode: Opcode, line: CacheLine) -> Option<usize>
+    ensures { result ≡ position (is_before opcode line) unfinished.now }
+{
+    unfinished
+        .iter()
+        .position(|data| is_before(data, opcode, line))
+}
+
+/// The unfinished data that comes before a flit of this opcode at the line.
+pub(crate) fn find_before(
+    unfinished: &[OpenData],
+    opcode: Opcode,
+    line: CacheLine,
+) -> Option<FoundData>
+    ensures { result ≡ data_before opcode line unfinished.now }
+{
+    match place_before(unfinished, opcode, line) {
+        Some(place) => begun_at(unfinished, place),
+        None => None,
+    }
+}
+
 /// Whether no word lacks.
-pub(crate) fn is_whole(words: &Words) -> bool
+pub(crate) fn is_whole(words: &BeatWords) -> bool
     ensures { result ≡ is_whole words.now }
 {
     words.iter().all(|word| word.is_some())
 }
 
 /// The words, with 0 in place of those that lack.
-pub(crate) fn filled(words: &Words) -> Data
+pub(crate) fn filled(words: &BeatWords) -> Data
     ensures { result ≡ filled words.now }
 {
     [
@@ -95,7 +149,11 @@ pub(crate) fn filled(words: &Words) -> Data
 
 /// The words of the beats so far and those of a further one. `WordAgain` where both have a word.
 #[tactic(auto, unfolding(crate::specs::Beats::joined))]
-pub(crate) fn joined(key: OpenKey, words: &Words, more: &Words) -> Result<Words, IdReason>
+pub(crate) fn joined(
+    key: OpenKey,
+    words: &BeatWords,
+    more: &BeatWords,
+) -> Result<BeatWords, IdReason>
     ensures { result ≡ joined key words.now more.now }
 {
     Ok([

@@ -2,17 +2,19 @@
 
 ghost use Rattle.std.specs.Prelude.{◌≡◌};
 ghost use Rattle.chi_resolution.specs.Reasons.{needed_address, needed_allow_retry, buffer_of, needed_dbid, needed_pcrd, needed_resp, needed_txn, value_in, words_in};
-ghost use Rattle.chi_resolution.specs.Changes.{access_of, access_with, answered, attempted, beat_of, booking_of, change_of, completed, credit_change, early_of, first_beat, flit_change, freed, given_back, granted, is_form, is_same_dbid, later_beat, may_grant, named, new_id, opened, plain_flit, replied, requested, responded, retried, right_type, sent, sent_again, snooped, table_of};
+ghost use Rattle.chi_resolution.specs.Changes.{access_of, change_by, is_acknowledged, once_received, access_with, answered, attempted, beat_of, booking_of, change_of, completed, credit_change, early_of, first_beat, flit_change, freed, given_back, granted, is_form, is_same_dbid, later_beat, may_grant, named, new_id, opened, plain_flit, replied, requested, responded, retried, right_type, sent, sent_again, snooped, table_of};
 
-use crate::beats::{Begun, Unfinished, Words, filled, find_data, is_whole, joined};
-use crate::ids::{Found, OpenId, OpenKey, find_id, plain_id};
-use crate::ledger::{Account, Booking, CreditEvent, find_account};
-use crate::lines::{CacheLine, Observed, Resolved, line_of, word_of};
+use crate::beats::{
+    BeatWords, FoundData, OpenData, filled, find_before, find_data, is_whole, joined,
+};
+use crate::ids::{Found, OpenId, OpenKey, find_id, is_completed, plain_id};
+use crate::ledger::{Booking, CreditEvent, CreditLedger, find_account};
+use crate::lines::{CacheLine, Resolved, line_of, word_of};
 use crate::messages::{answer, completion, is_same_resp, message_with};
 use crate::nodes::Ends;
 use crate::reasons::IdReason;
 use crate::resolution::Options;
-use chi_explain::SentFlit;
+use chi_explain::{Observed, SentFlit};
 use chi_flit::{Kind, Msg, Request, RspDown, RspUp, Slot, Snoop};
 use chi_trace::{Address, Column, DbId, NodeId, Opcode, Payload, PcrdType, Resp, Seen, TxnId};
 
@@ -37,7 +39,9 @@ pub(crate) struct LineFlit {
     pub opens: Option<OpenId>,
     pub books: Option<Booking>,
     /// Its data, where words lack.
-    pub begins: Option<Unfinished>,
+    pub begins: Option<OpenData>,
+    /// A load or a store that waits for a CompAck of its requester.
+    pub waits: bool,
 }
 
 /// What a further beat does.
@@ -46,7 +50,7 @@ pub(crate) struct Further {
     /// The place of the data among that which is unfinished.
     pub place: usize,
     /// The data with the words of the beat.
-    pub joined: Unfinished,
+    pub joined: OpenData,
     pub flit: Observed,
     /// The place of the id that the data frees, where no word lacks any more.
     pub frees: Option<usize>,
@@ -57,9 +61,10 @@ pub(crate) struct Further {
 pub(crate) struct Tables<'a> {
     pub options: Options,
     pub ids: &'a [OpenId],
-    pub unfinished: &'a [Unfinished],
-    pub accounts: &'a [Account],
+    pub unfinished: &'a [OpenData],
+    pub accounts: &'a [CreditLedger],
     pub flits: &'a [Resolved],
+    pub waiting: &'a [Resolved],
 }
 
 /// A flit that neither frees, opens nor books.
@@ -73,6 +78,7 @@ fn plain_flit(line: CacheLine, flit: Observed) -> LineFlit
         opens: None,
         books: None,
         begins: None,
+        waits: false,
     }
 }
 
@@ -131,7 +137,7 @@ fn buffer_of(seen: &Seen) -> Result<DbId, IdReason>
 }
 
 /// The words of a beat.
-fn words_in(payload: Payload) -> Result<Words, IdReason>
+fn words_in(payload: Payload) -> Result<BeatWords, IdReason>
     ensures { result ≡ words_in payload }
 {
     match payload {
@@ -160,6 +166,13 @@ fn access_with(opcode: Opcode, ends: &Ends, address: Address, value: u64) -> Obs
     }
 }
 
+/// Whether a CompAck follows the response.
+fn is_acknowledged(response: RspDown) -> bool
+    ensures { result ≡ is_acknowledged response }
+{
+    matches!(response, RspDown::CompUC)
+}
+
 /// Whether two flits have the same DBID, or none.
 fn is_same_dbid(one: Option<DbId>, other: Option<DbId>) -> bool
     ensures { result ≡ is_same_dbid one other }
@@ -172,7 +185,7 @@ fn is_same_dbid(one: Option<DbId>, other: Option<DbId>) -> bool
 }
 
 /// Whether a further beat has the form and the DBID of the first.
-fn is_form(begun: &Unfinished, resp: Option<Resp>, dbid: Option<DbId>) -> bool
+fn is_form(begun: &OpenData, resp: Option<Resp>, dbid: Option<DbId>) -> bool
     ensures { result ≡ is_form begun.now resp dbid }
 {
     match resp {
@@ -356,7 +369,10 @@ impl Tables<'_> {
         let buffer = self.new_id(OpenKey::Buffer(ends.requester, dbid))?;
         Ok(LineFlit {
             frees: Some(found.place),
-            opens: Some(plain_id(buffer, found.id.line)),
+            opens: Some(OpenId {
+                awaits_ack: is_acknowledged(response),
+                ..plain_id(buffer, found.id.line)
+            }),
             ..plain_flit(found.id.line, sent(ends, Msg::RspDown(response)))
         })
     }
@@ -416,7 +432,7 @@ impl Tables<'_> {
         ends: &Ends,
         seen: &Seen,
         found: &Found,
-        words: &Words,
+        words: &BeatWords,
     ) -> Result<LineFlit, IdReason>
         ensures { result ≡ first_beat (table_of self.now) ends.now seen.now found.now words.now }
     {
@@ -434,8 +450,9 @@ impl Tables<'_> {
             });
         }
         Ok(LineFlit {
-            begins: Some(Unfinished {
+            begins: Some(OpenData {
                 key: found.id.key,
+                line: found.id.line,
                 place: self.flits.len(),
                 resp,
                 dbid: seen.dbid,
@@ -453,7 +470,10 @@ impl Tables<'_> {
             Opcode::CompData => {
                 let dbid = dbid_of(seen)?;
                 let buffer = self.new_id(OpenKey::Buffer(ends.requester, dbid))?;
-                Ok(Some(plain_id(buffer, line)))
+                Ok(Some(OpenId {
+                    awaits_ack: true,
+                    ..plain_id(buffer, line)
+                }))
             }
             _ => Ok(None),
         }
@@ -511,10 +531,46 @@ impl Tables<'_> {
         }
     }
 
+    /// What a processor did to a word: it waits where its requester's copy isn't acknowledged.
+    #[tactic(auto, unfolding(crate::specs::Changes::access_of))]
+    fn access(&self, ends: &Ends, seen: &Seen) -> Result<LineFlit, IdReason>
+        ensures { result ≡ access_of (table_of self.now) ends.now seen.now }
+    {
+        let address = address_of(seen)?;
+        let value = value_in(seen.payload)?;
+        let line = line_of(address);
+        let flit = access_with(seen.opcode, ends, address, value);
+        Ok(LineFlit {
+            waits: is_completed(self.ids, ends.requester, line),
+            ..plain_flit(line, flit)
+        })
+    }
+
+    /// A flit of the opcode, which the home sends only once it has all words of the data that comes before it.
+    fn once_received(&self, opcode: Opcode, flit: LineFlit) -> Result<Change, IdReason>
+        ensures { result ≡ once_received (table_of self.now) opcode flit }
+    {
+        match find_before(self.unfinished, opcode, flit.line) {
+            Some(data) => Err(IdReason::Lacking(data.so_far.key)),
+            None => Ok(Change::Flit(flit)),
+        }
+    }
+
     /// What the flit does, between these nodes, or why it isn't allowed.
     #[tactic(auto, unfolding(crate::specs::Changes::change_of))]
     pub(crate) fn change(&self, ends: &Ends, seen: &Seen) -> Result<Change, IdReason>
         ensures { result ≡ change_of self.now.options (table_of self.now) ends.now seen.now }
+    {
+        match self.change_by(ends, seen)? {
+            Change::Flit(flit) => self.once_received(seen.opcode, flit),
+            change @ (Change::Credit(_) | Change::Beat(_)) => Ok(change),
+        }
+    }
+
+    /// The same by the ids and the ledger alone.
+    fn change_by(&self, ends: &Ends, seen: &Seen) -> Result<Change, IdReason>
+        ensures { result ≡
+            change_by seen.now.opcode self.now.options (table_of self.now) ends.now seen.now }
     {
         let node = ends.requester;
         match seen.opcode {
@@ -542,7 +598,7 @@ impl Tables<'_> {
             }
             Opcode::PCrdGrant => told_booking(self.grant(ends, seen)),
             Opcode::PCrdReturn => told_booking(self.give_back(ends, seen)),
-            Opcode::Load | Opcode::Store => told(access(ends, seen)),
+            Opcode::Load | Opcode::Store => told(self.access(ends, seen)),
         }
     }
 }
@@ -553,8 +609,8 @@ fn later_beat(
     ends: &Ends,
     seen: &Seen,
     found: &Found,
-    begun: &Begun,
-    more: &Words,
+    begun: &FoundData,
+    more: &BeatWords,
 ) -> Result<Further, IdReason>
     ensures { result ≡ later_beat ends.now seen.now found.now begun.now more.now }
 {
@@ -573,14 +629,14 @@ fn later_beat(
     };
     Ok(Further {
         place: begun.place,
-        joined: Unfinished { words, ..so_far },
+        joined: OpenData { words, ..so_far },
         flit: sent(ends, message),
         frees,
     })
 }
 
 /// Whether one more credit may be granted: G < R, or as far above R as that.
-fn may_grant(account: &Account, early: usize) -> bool
+fn may_grant(account: &CreditLedger, early: usize) -> bool
     ensures { result ≡ may_grant account.now early }
 {
     match account.granted.checked_sub(account.retried) {
@@ -597,17 +653,6 @@ fn right_type(named: PcrdType, wanted: Option<PcrdType>) -> Result<PcrdType, IdR
         Some(wanted) if wanted.0 != named.0 => Err(IdReason::OtherType { named, wanted }),
         Some(_) | None => Ok(named),
     }
-}
-
-/// What a processor did to a word.
-#[tactic(auto, unfolding(crate::specs::Changes::access_of))]
-fn access(ends: &Ends, seen: &Seen) -> Result<LineFlit, IdReason>
-    ensures { result ≡ access_of ends.now seen.now }
-{
-    let address = address_of(seen)?;
-    let value = value_in(seen.payload)?;
-    let flit = access_with(seen.opcode, ends, address, value);
-    Ok(plain_flit(line_of(address), flit))
 }
 
 /// The change of a flit of a line.

@@ -1,7 +1,7 @@
 //! The ids that are open.
 
 ghost use Rattle.std.specs.Prelude.{◌≡◌, position, slice_get};
-ghost use Rattle.chi_resolution.specs.Ids.{found_at, has_key, id_of, is_same_key, plain_id};
+ghost use Rattle.chi_resolution.specs.Ids.{found_at, has_key, id_of, is_ack_due, is_completed, is_same_key, plain_id};
 
 use crate::lines::CacheLine;
 use chi_flit::Kind;
@@ -33,6 +33,8 @@ pub struct OpenId {
     pub may_retry: Option<Kind>,
     /// The type of credit that a retried request waits for.
     pub waits_for: Option<PcrdType>,
+    /// A CompAck is to free it, for which loads and stores of the node at the line wait.
+    pub awaits_ack: bool,
 }
 
 /// An open id, and its place among those that are open.
@@ -106,5 +108,23 @@ pub(crate) fn plain_id(key: OpenKey, line: CacheLine) -> OpenId
         line,
         may_retry: None,
         waits_for: None,
+        awaits_ack: false,
     }
+}
+
+/// Whether a CompAck of the node at the line is to free the id.
+fn is_ack_due(id: &OpenId, node: NodeId, line: CacheLine) -> bool
+    ensures { result ≡ is_ack_due node line id.now }
+{
+    match id.key {
+        OpenKey::Buffer(of, _) => of.0 == node.0 && (id.awaits_ack && id.line.0 == line.0),
+        OpenKey::Request(_, _) | OpenKey::Snoop(_, _) | OpenKey::Retried(_, _) => false,
+    }
+}
+
+/// Whether the node has a completion at the line without its CompAck.
+pub(crate) fn is_completed(ids: &[OpenId], node: NodeId, line: CacheLine) -> bool
+    ensures { result ≡ is_completed node line ids.now }
+{
+    ids.iter().any(|id| is_ack_due(id, node, line))
 }

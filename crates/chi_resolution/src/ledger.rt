@@ -22,7 +22,7 @@ pub enum Types {
 /// What the flits so far have shown of a node's credits of a type.
 /// Source: `docs/TRACES.md`, "Nodes, ids and credits".
 #[derive(Clone, Copy, Debug, PartialEq, Eq)]
-pub struct Account {
+pub struct CreditLedger {
     pub node: NodeId,
     pub pcrd: PcrdType,
     /// RetryAcks.
@@ -39,7 +39,7 @@ pub struct Account {
 #[derive(Clone, Copy)]
 pub(crate) struct Held {
     pub place: Option<usize>,
-    pub account: Account,
+    pub account: CreditLedger,
 }
 
 /// What a flit does to an account.
@@ -112,10 +112,10 @@ impl Types {
 }
 
 /// The account of a node that nothing was retried of.
-fn opened_account(node: NodeId, pcrd: PcrdType) -> Account
+fn opened_account(node: NodeId, pcrd: PcrdType) -> CreditLedger
     ensures { result ≡ opened_account node pcrd }
 {
-    Account {
+    CreditLedger {
         node,
         pcrd,
         retried: 0,
@@ -125,7 +125,7 @@ fn opened_account(node: NodeId, pcrd: PcrdType) -> Account
     }
 }
 
-impl Account {
+impl CreditLedger {
     /// Whether it is that of this node and type.
     fn is_of(&self, node: NodeId, pcrd: PcrdType) -> bool
         ensures { result ≡ is_account node pcrd self.now }
@@ -152,7 +152,7 @@ impl Account {
     }
 
     /// The account with one more; `None` where the number would pass 2^64.
-    pub(crate) fn with_event(&self, event: CreditEvent) -> Option<Account>
+    pub(crate) fn with_event(&self, event: CreditEvent) -> Option<CreditLedger>
         ensures { IfSome result (λ account. account ≡ with_event event self.now) }
     {
         let mut account = *self;
@@ -167,7 +167,7 @@ impl Account {
 }
 
 /// The place of the account of a node and a type.
-fn place_of(accounts: &[Account], node: NodeId, pcrd: PcrdType) -> Option<usize>
+fn place_of(accounts: &[CreditLedger], node: NodeId, pcrd: PcrdType) -> Option<usize>
     ensures { result ≡ position (is_account node pcrd) accounts.now }
 {
     accounts
@@ -176,7 +176,12 @@ fn place_of(accounts: &[Account], node: NodeId, pcrd: PcrdType) -> Option<usize>
 }
 
 /// The account at a place: one with nothing where there is none.
-fn account_at(place: Option<usize>, node: NodeId, pcrd: PcrdType, accounts: &[Account]) -> Account
+fn account_at(
+    place: Option<usize>,
+    node: NodeId,
+    pcrd: PcrdType,
+    accounts: &[CreditLedger],
+) -> CreditLedger
     ensures { result ≡ account_at place node pcrd accounts.now }
 {
     match place {
@@ -189,7 +194,7 @@ fn account_at(place: Option<usize>, node: NodeId, pcrd: PcrdType, accounts: &[Ac
 }
 
 /// The account of a node and a type, and its place.
-pub(crate) fn find_account(accounts: &[Account], node: NodeId, pcrd: PcrdType) -> Held
+pub(crate) fn find_account(accounts: &[CreditLedger], node: NodeId, pcrd: PcrdType) -> Held
     ensures { result ≡ held_of node pcrd accounts.now }
 {
     let place = place_of(accounts, node, pcrd);

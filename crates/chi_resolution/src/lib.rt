@@ -14,10 +14,10 @@ mod nodes;
 mod reasons;
 mod resolution;
 
-pub use beats::Unfinished;
+pub use beats::OpenData;
 pub use ids::{OpenId, OpenKey};
-pub use ledger::{Account, Types};
-pub use lines::{CacheLine, Observed, Resolved, line_of};
+pub use ledger::{CreditLedger, Types};
+pub use lines::{CacheLine, Resolved, line_of};
 pub use nodes::Nodes;
 pub use reasons::{IdFault, IdReason};
 pub use resolution::{Options, Resolution, resolve};

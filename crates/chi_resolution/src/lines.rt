@@ -3,8 +3,8 @@
 ghost use Rattle.std.specs.Prelude.{◌≡◌, ◌/◌, ◌%◌};
 ghost use Rattle.chi_resolution.specs.Lines.{line_of};
 
-use chi_explain::SentFlit;
-use chi_flit::{Agent, WordNo};
+use chi_explain::Observed;
+use chi_flit::WordNo;
 use chi_trace::Address;
 
 /// A line of memory: an address divided by the 64 bytes of a line. A monitor that sees the NS bit puts it
@@ -13,23 +13,11 @@ use chi_trace::Address;
 #[derive(Clone, Copy, Debug, PartialEq, Eq)]
 pub struct CacheLine(pub u64);
 
-/// What was seen of a line.
-/// Source: `docs/TRACES.md`, "Nodes, ids and credits".
-#[derive(Clone, Copy, Debug, PartialEq, Eq)]
-pub enum Observed {
-    /// A flit, with all its data.
-    Flit(SentFlit),
-    /// The agent's processor read this value of the word.
-    Load(Agent, WordNo, u64),
-    /// The agent's processor wrote this value to the word.
-    Store(Agent, WordNo, u64),
-}
-
 /// What was seen of which line.
 /// Source: `docs/TRACES.md`, "Nodes, ids and credits".
 #[derive(Clone, Copy, Debug, PartialEq, Eq)]
 pub struct Resolved {
-    /// Which of the flits that were seen it is, counted from 0: the first beat of data.
+    /// Which line of those that were read it is, counted from 0: the first beat of data.
     pub at: usize,
     pub line: CacheLine,
     pub flit: Observed,

@@ -34,6 +34,8 @@ pub enum IdReason {
     NotOpen(OpenKey),
     /// The flit frees an id whose data lacks words yet.
     Unfinished(OpenKey),
+    /// A flit of the home that it sends once it has the data that frees this id, whose words lack yet.
+    Lacking(OpenKey),
     /// The flit's address isn't in the line of its id.
     WrongAddress { named: Address, line: CacheLine },
     /// A later beat of the id's data, with another RESP or DBID than the first.

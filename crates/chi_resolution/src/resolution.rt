@@ -1,17 +1,19 @@
 //! The flits of a trace, resolved one after the other.
 
-ghost use Rattle.std.specs.Prelude.{◌≡◌, All, IfOk, OnOk};
+ghost use Rattle.std.specs.Prelude.{◌≡◌, ◌++◌, All, IfOk, OnOk, not};
+ghost use Rattle.std.specs.List.{filter};
 ghost use Rattle.chi_resolution.specs.Ledger.{IsBalanced, booked};
-ghost use Rattle.chi_resolution.specs.Resolution.{after_beat, after_flit, allowed_of, data_after, ids_after, nothing, resolution_of, taken};
+ghost use Rattle.chi_resolution.specs.Resolution.{after_beat, after_flit, agent_of, allowed_of, data_after, ids_after, is_ack_of, is_released, nothing, placed, resolution_of, taken, waiting_after};
 
-use crate::beats::Unfinished;
+use crate::beats::OpenData;
 use crate::changes::{Change, Further, LineFlit, Tables};
 use crate::ids::OpenId;
-use crate::ledger::{Account, Booking, Types};
+use crate::ledger::{Booking, CreditLedger, Types};
 use crate::lines::Resolved;
 use crate::nodes::{Ends, Nodes};
 use crate::reasons::{IdFault, IdReason};
-use chi_flit::NoMemory;
+use chi_explain::{Observed, StoreListing};
+use chi_flit::{Agent, Msg, NoMemory, RspUp};
 use chi_trace::Seen;
 use std::alloc::{AllocError, Allocator};
 use std::marker::Model;
@@ -23,13 +25,16 @@ pub struct Options {
     pub types: Types,
     /// The monitors stand at the requesters, where a grant may come before its RetryAck.
     pub early_grants: bool,
+    /// Which stores it lists.
+    pub stores: StoreListing,
 }
 
 /// The flits of a trace, resolved, and what is open behind them.
 /// Source: `docs/TRACES.md`, "Nodes, ids and credits".
 #[derive(Debug, Drop)]
 pub struct Resolution<A: Allocator> {
-    /// In the order of the trace; data stands at the place of its first beat. Words that no beat has had are 0.
+    /// In the order of the trace, but that a load or a store that waits for a CompAck stands behind it; data stands at the
+    /// place of its first beat. Words that no beat has had are 0.
     pub flits: Vec<Resolved, A>,
     pub nodes: Nodes<A>,
     /// The first flit that isn't allowed; all before it are resolved, and nothing else.
@@ -37,9 +42,11 @@ pub struct Resolution<A: Allocator> {
     /// The ids that are open behind them, in the order in which they were opened.
     pub ids: Vec<OpenId, A>,
     /// The data that lacks words.
-    pub unfinished: Vec<Unfinished, A>,
+    pub unfinished: Vec<OpenData, A>,
     /// The accounts of the nodes and types of which credits were seen.
-    pub accounts: Vec<Account, A>,
+    pub accounts: Vec<CreditLedger, A>,
+    /// The loads and stores that still wait for a CompAck, in the order of the trace.
+    pub waiting: Vec<Resolved, A>,
 }
 
 /// What the flits so far have left open, and those that are resolved.
@@ -47,9 +54,10 @@ pub struct Resolution<A: Allocator> {
 struct Resolver<A: Allocator> {
     nodes: Nodes<A>,
     ids: Vec<OpenId, A>,
-    unfinished: Vec<Unfinished, A>,
-    accounts: Vec<Account, A>,
+    unfinished: Vec<OpenData, A>,
+    accounts: Vec<CreditLedger, A>,
     flits: Vec<Resolved, A>,
+    waiting: Vec<Resolved, A>,
 }
 
 impl<A: Allocator> Model for Resolver<A> {
@@ -59,7 +67,7 @@ impl<A: Allocator> Model for Resolver<A> {
 
     ghost view = { λ s.
         progress_of s.nodes.home s.nodes.requesters.items s.ids.items s.unfinished.items
-        s.accounts.items s.flits.items };
+        s.accounts.items s.flits.items s.waiting.items };
 }
 
 /// The nodes of a flit, and what it does.
@@ -93,6 +101,8 @@ pub fn resolve<A: Allocator + Copy>(
         r.unfinished.items ≡ (resolution_of options seen.now).progress.table.unfinished) }
     ensures accounts { IfOk result (λ r.
         r.accounts.items ≡ (resolution_of options seen.now).progress.table.accounts) }
+    ensures waiting { IfOk result (λ r.
+        r.waiting.items ≡ (resolution_of options seen.now).progress.table.waiting) }
 
     // Of each node and type: S + B ≤ G, and G ≤ R unless grants may be early.
     ensures ledger { IfOk result (λ r. All (IsBalanced options.early_grants) r.accounts.items) }
@@ -127,7 +137,10 @@ fn change_ids<A: Allocator>(
 }
 
 /// The account has one more, and is in its place or behind the others. Its number is at most that of the flits.
-fn book<A: Allocator>(accounts: &mut Vec<Account, A>, booking: &Booking) -> Result<(), AllocError>
+fn book<A: Allocator>(
+    accounts: &mut Vec<CreditLedger, A>,
+    booking: &Booking,
+) -> Result<(), AllocError>
     ensures { OnOk result (accounts.new.items ≡ booked booking.now accounts.old.items) }
 {
     let Some(account) = booking.held.account.with_event(booking.event) else {
@@ -145,7 +158,7 @@ fn book<A: Allocator>(accounts: &mut Vec<Account, A>, booking: &Booking) -> Resu
 }
 
 /// The data has the words of a further beat; where it lacks none it is finished.
-fn change_data<A: Allocator>(unfinished: &mut Vec<Unfinished, A>, further: &Further)
+fn change_data<A: Allocator>(unfinished: &mut Vec<OpenData, A>, further: &Further)
     ensures { unfinished.new.items ≡ data_after further.now unfinished.old.items }
 {
     if further.place < unfinished.len() {
@@ -155,6 +168,87 @@ fn change_data<A: Allocator>(unfinished: &mut Vec<Unfinished, A>, further: &Furt
             unfinished[further.place] = further.joined;
         }
     }
+}
+
+/// Whether it is the agent's CompAck.
+fn is_ack_of(flit: &Observed, agent: Agent) -> bool
+    ensures { result ≡ is_ack_of agent flit.now }
+{
+    match flit {
+        Observed::Flit(sent) => {
+            sent.agent.0 == agent.0 && matches!(sent.message, Msg::RspUp(RspUp::CompAck))
+        }
+        Observed::Load(_, _, _) | Observed::Store(_, _, _) => false,
+    }
+}
+
+/// The agent of an item.
+fn agent_of(flit: &Observed) -> Agent
+    ensures { result ≡ agent_of flit.now }
+{
+    match flit {
+        Observed::Flit(sent) => sent.agent,
+        Observed::Load(agent, _, _) | Observed::Store(agent, _, _) => *agent,
+    }
+}
+
+/// Whether a load or a store waits for this flit.
+fn is_released(flit: &LineFlit, item: &Resolved) -> bool
+    ensures { result ≡ is_released flit.now item.now }
+{
+    item.line.0 == flit.line.0 && is_ack_of(&flit.flit, agent_of(&item.flit))
+}
+
+/// Puts the loads and stores that wait for a flit behind it.
+fn release<A: Allocator>(
+    flits: &mut Vec<Resolved, A>,
+    waiting: &[Resolved],
+    flit: &LineFlit,
+) -> Result<(), AllocError>
+    ensures { OnOk result
+        (flits.new.items ≡ flits.old.items ++ filter (is_released flit.now) waiting.now) }
+{
+    for item in waiting {
+        if is_released(flit, item) {
+            flits.push(*item)?;
+        }
+    }
+    Ok(())
+}
+
+/// Takes out the loads and stores that wait for a flit.
+fn forget<A: Allocator>(waiting: &mut Vec<Resolved, A>, flit: &LineFlit)
+    ensures { waiting.new.items
+        ≡ filter (λ item. not (is_released flit.now item)) waiting.old.items }
+{
+    waiting.retain(|item| !is_released(flit, item));
+}
+
+/// A flit stands behind those before it, with the loads and stores that wait for it, or waits itself.
+fn place<A: Allocator>(
+    flits: &mut Vec<Resolved, A>,
+    waiting: &mut Vec<Resolved, A>,
+    at: usize,
+    flit: &LineFlit,
+) -> Result<(), AllocError>
+    ensures flits { OnOk result
+        (flits.new.items ≡ flits.old.items ++ placed at flit.now waiting.old.items) }
+    ensures waiting { OnOk result
+        (waiting.new.items ≡ waiting_after at flit.now waiting.old.items) }
+{
+    let item = Resolved {
+        at,
+        line: flit.line,
+        flit: flit.flit,
+    };
+    if flit.waits {
+        waiting.push(item)?;
+    } else {
+        flits.push(item)?;
+        release(flits, waiting, flit)?;
+        forget(waiting, flit);
+    }
+    Ok(())
 }
 
 impl<A: Allocator + Copy> Resolver<A> {
@@ -169,6 +263,7 @@ impl<A: Allocator + Copy> Resolver<A> {
             unfinished: Vec::new(alloc),
             accounts: Vec::new(alloc),
             flits,
+            waiting: Vec::new(alloc),
         })
     }
 }
@@ -186,6 +281,7 @@ impl<A: Allocator> Resolver<A> {
             unfinished: &self.unfinished,
             accounts: &self.accounts,
             flits: &self.flits,
+            waiting: &self.waiting,
         };
         let change = tables.change(&ends, seen)?;
         Ok(Allowed { ends, change })
@@ -215,12 +311,7 @@ impl<A: Allocator> Resolver<A> {
         if let Some(begun) = flit.begins {
             self.unfinished.push(begun)?;
         }
-        self.flits.push(Resolved {
-            at,
-            line: flit.line,
-            flit: flit.flit,
-        })?;
-        Ok(())
+        place(&mut self.flits, &mut self.waiting, at, flit)
     }
 
     /// A further beat of data.
@@ -244,6 +335,7 @@ impl<A: Allocator> Resolver<A> {
         ensures ids { result.ids.items ≡ self.table.ids }
         ensures unfinished { result.unfinished.items ≡ self.table.unfinished }
         ensures accounts { result.accounts.items ≡ self.table.accounts }
+        ensures waiting { result.waiting.items ≡ self.table.waiting }
     {
         Resolution {
             flits: self.flits,
@@ -252,6 +344,7 @@ impl<A: Allocator> Resolver<A> {
             ids: self.ids,
             unfinished: self.unfinished,
             accounts: self.accounts,
+            waiting: self.waiting,
         }
     }
 }

@@ -1,10 +1,10 @@
 //! Data in more than one beat.
 
 use crate::traces::{PLAIN, assert_fault, resolved};
-use chi_explain::SentFlit;
+use chi_explain::{Observed, SentFlit};
 use chi_flit::{Agent, DatUp, Msg, WordNo};
-use chi_resolution::{IdReason, Observed, OpenKey};
-use chi_trace::{NodeId, TxnId};
+use chi_resolution::{IdReason, OpenKey};
+use chi_trace::{DbId, NodeId, TxnId};
 use std::test::Fail;
 
 /// The beats of two answers, mixed, the last first.
@@ -73,6 +73,38 @@ fn beats_fit(rt: HostRuntime) -> Result<(), Fail> {
         assert_fault(&rt, &resolution, 3, *reason);
         assert_eq!(rt; resolution.flits.len(), 2);
         assert_eq!(rt; resolution.unfinished.len(), 1);
+    }
+    Ok(())
+}
+
+/// Data to the home that lacks words, and what the home may not send before its last beat.
+const TO_HOME: [(&[u8], usize, IdReason); 2] = [
+    (
+        b"REQ c 40 2 ReadUnique 0 - - 1 - -
+SNP 40 8 1 SnpUnique 0 - - - - -
+DAT 8 40 1 SnpRespData - I_PD - - - x,x,x,x,5,6,7,8
+DAT 40 c 2 CompData - UC 2 - - 1,2,3,4,5,6,7,8
+",
+        4,
+        IdReason::Lacking(OpenKey::Snoop(NodeId(8), TxnId(1))),
+    ),
+    (
+        b"REQ 8 40 1 WriteBackFull 0 - - 1 - -
+RSP 40 8 1 CompDBIDResp - - 2 - - -
+DAT 8 40 2 CopyBackWrData - UD_PD - - - x,x,x,x,5,6,7,8
+SNP 40 c 1 SnpUnique 40 - - - - -
+SNP 40 c 2 SnpUnique 0 - - - - -
+",
+        5,
+        IdReason::Lacking(OpenKey::Buffer(NodeId(8), DbId(2))),
+    ),
+];
+
+#[test]
+fn home_awaits_last_beats(rt: HostRuntime) -> Result<(), Fail> {
+    for (trace, count, reason) in &TO_HOME {
+        let resolution = resolved(rt.alloc(), PLAIN, trace)?;
+        assert_fault(&rt, &resolution, *count, *reason);
     }
     Ok(())
 }

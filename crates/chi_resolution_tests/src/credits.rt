@@ -1,6 +1,7 @@
 //! Credits that come early and late, and those that aren't there.
 
 use crate::traces::{PLAIN, assert_fault, resolved};
+use chi_explain::StoreListing;
 use chi_resolution::{IdReason, Options, Types};
 use chi_trace::{NodeId, PcrdType};
 use std::test::Fail;
@@ -9,6 +10,7 @@ use std::test::Fail;
 const EARLY: Options = Options {
     types: Types::Two,
     early_grants: true,
+    stores: StoreListing::Partial,
 };
 
 /// A grant before its RetryAck.
@@ -76,10 +78,7 @@ REQ 8 40 2 ReadUnique 0 - - 0 3 -
 #[test]
 fn types_are_of_kinds(rt: HostRuntime) -> Result<(), Fail> {
     for (types, wanted) in [(Types::Two, 0), (Types::Four, 2)] {
-        let options = Options {
-            types,
-            early_grants: false,
-        };
+        let options = Options { types, ..PLAIN };
         let resolution = resolved(rt.alloc(), options, ANY_TYPE)?;
         let reason = IdReason::OtherType {
             named: PcrdType(3),
@@ -89,7 +88,7 @@ fn types_are_of_kinds(rt: HostRuntime) -> Result<(), Fail> {
     }
     let any = Options {
         types: Types::Any,
-        early_grants: false,
+        ..PLAIN
     };
     let resolution = resolved(rt.alloc(), any, ANY_TYPE)?;
     assert!(rt; resolution.fault.is_none());

@@ -1,9 +1,9 @@
 //! Ids that are opened, freed and opened again.
 
 use crate::traces::{PLAIN, flit, resolved};
-use chi_explain::SentFlit;
+use chi_explain::{Observed, SentFlit};
 use chi_flit::{Agent, CompData, DatUp, Kind, Msg, Request, RspDown, RspUp, Slot, Snoop, WordNo};
-use chi_resolution::{Account, CacheLine, Observed, OpenId, OpenKey};
+use chi_resolution::{CacheLine, CreditLedger, OpenId, OpenKey};
 use chi_trace::{NodeId, PcrdType, TxnId};
 use std::test::Fail;
 
@@ -71,7 +71,7 @@ fn flits_have_agents_and_lines(rt: HostRuntime) -> Result<(), Fail> {
     assert!(rt; resolution.nodes.home == Some(NodeId(0x40)));
     assert!(rt; resolution.nodes.requesters.as_slice() == [NodeId(8), NodeId(0xc)].as_slice());
     assert!(rt; resolution.ids.is_empty());
-    let account = Account {
+    let account = CreditLedger {
         node: NodeId(0xc),
         pcrd: PcrdType(0),
         retried: 1,
@@ -108,6 +108,7 @@ fn ids_are_used_again(rt: HostRuntime) -> Result<(), Fail> {
         line: CacheLine(0),
         may_retry: Some(Kind::CleanUnique),
         waits_for: None,
+        awaits_ack: false,
     };
     assert!(rt; resolution.ids.as_slice() == [open].as_slice());
     Ok(())

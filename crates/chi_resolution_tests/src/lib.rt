@@ -1,4 +1,4 @@
-//! Tests of `chi_resolution` through its public calls alone: whole traces, as a monitor writes them.
+//! Tests of `chi_resolution` and `chi_verdict` through their public calls alone: whole traces, as a monitor writes them.
 #![tactic(auto)]
 
 #[cfg(test)]
@@ -9,5 +9,9 @@ mod credits;
 mod faults;
 #[cfg(test)]
 mod ids;
+#[cfg(test)]
+mod processors;
+#[cfg(test)]
+mod reports;
 #[cfg(test)]
 mod traces;

@@ -1,8 +1,7 @@
 //! Traces and what is wanted of them.
 
-use chi_resolution::{
-    CacheLine, IdReason, Observed, Options, Resolution, Resolved, Types, resolve,
-};
+use chi_explain::{Observed, StoreListing};
+use chi_resolution::{CacheLine, IdReason, Options, Resolution, Resolved, Types, resolve};
 use chi_trace::read_trace;
 use std::alloc::Global;
 use std::process::Abort;
@@ -12,6 +11,7 @@ use std::test::Fail;
 pub const PLAIN: Options = Options {
     types: Types::Two,
     early_grants: false,
+    stores: StoreListing::Partial,
 };
 
 /// The resolution of a trace that the grammar takes.

@@ -1,11 +1,11 @@
 -- A fault passes through what follows.
 use Rattle.std.proofs.Common.{Result, ap}
-use Rattle.chi_trace.specs.declared.faults.Fault.{Fault}
-use Rattle.chi_trace.specs.declared.faults.Fault.TheVariants.{NoMemory, TooLarge, MissingNewline, FewWords, BadWord}
+use Rattle.chi_trace.specs.declared.faults.TraceFault.{TraceFault}
+use Rattle.chi_trace.specs.declared.faults.TraceFault.TheVariants.{NoMemory, TooLarge, MissingNewline, FewWords, BadWord}
 use Rattle.chi_trace.specs.Faults.{TraceFails}
 use Rattle.chi_trace.specs.Files.{◌>>=◌}
 
-pub failed : {A B : Type 0} (fault : Fault) (read : Result A Fault) (next : A → Result B Fault) → TraceFails fault read → TraceFails fault (read >>= next)
+pub failed : {A B : Type 0} (fault : TraceFault) (read : Result A TraceFault) (next : A → Result B TraceFault) → TraceFails fault read → TraceFails fault (read >>= next)
 failed NoMemory read next is = tt
 failed TooLarge read next is = ap (λ r. r >>= next) is
 failed (MissingNewline line) read next is = ap (λ r. r >>= next) is

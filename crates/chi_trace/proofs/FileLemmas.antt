@@ -3,8 +3,8 @@ use Rattle.std.proofs.Common.{◌≡◌, ◌⊎◌, inl, inr, ℕ, ◌+◌, ◌<
 use Rattle.std.proofs.lemmas.Bool.Decides.{nat_tests}
 use Rattle.chi_script.specs.Files.{lines_of}
 use Rattle.chi_script.proofs.LineLemmas.{parts_of}
-use Rattle.chi_trace.specs.declared.faults.Fault.{Fault}
-use Rattle.chi_trace.specs.declared.faults.Fault.TheVariants.{MissingNewline, TooLarge}
+use Rattle.chi_trace.specs.declared.faults.TraceFault.{TraceFault}
+use Rattle.chi_trace.specs.declared.faults.TraceFault.TheVariants.{MissingNewline, TooLarge}
 use Rattle.chi_trace.specs.declared.flits.Seen.{Seen}
 use Rattle.chi_trace.specs.Files.{◌>>=◌, flits_at, trace_flits, one_of, trace_of}
 use Rattle.chi_trace.specs.Flits.{flit_at}
@@ -12,7 +12,7 @@ use Rattle.chi_trace.specs.Spelling.{AreFlits, IsCommentLine, IsFlitLine, IsTrac
 use Rattle.chi_trace.specs.Words.{blank_words}
 use Rattle.chi_trace.proofs.LineLemmas.{comment_again, comment_read, line_again, line_read}
 
-bound : {A B : Type 0} (step : Result A Fault) (next : A → Result B Fault) (y : B) → (step >>= next) ≡ Ok y → (x : A) × (step ≡ Ok x) × (next x ≡ Ok y)
+bound : {A B : Type 0} (step : Result A TraceFault) (next : A → Result B TraceFault) (y : B) → (step >>= next) ≡ Ok y → (x : A) × (step ≡ Ok x) × (next x ≡ Ok y)
 bound (Ok x) next y e = (x, refl, e)
 bound (Err fault) next y e = cc
 
@@ -56,7 +56,7 @@ flits_read n line (next ∷ rest) flits e =
     }
 
 -- a file that isn't too large
-fits : (b : Bool) (read : Result (List Seen) Fault) (x : List Seen) → cond b (Err TooLarge) read ≡ Ok x → (b ≡ false) × (read ≡ Ok x)
+fits : (b : Bool) (read : Result (List Seen) TraceFault) (x : List Seen) → cond b (Err TooLarge) read ≡ Ok x → (b ≡ false) × (read ≡ Ok x)
 fits true read x e = cc
 fits false read x e = (refl, e)
 

@@ -3,11 +3,11 @@ use Rattle.std.proofs.Common.{◌≡◌, ℕ, Bool, true, false, cond, List, [],
 use Rattle.chi_script.specs.Words.{◌>>=◌}
 use Rattle.chi_script.proofs.NumberLemmas.{bound}
 use Rattle.chi_trace.specs.declared.columns.Column.{Column}
-use Rattle.chi_trace.specs.declared.faults.Fault.{Fault}
-use Rattle.chi_trace.specs.declared.faults.Fault.TheVariants.{BadWord, FewWords}
+use Rattle.chi_trace.specs.declared.faults.TraceFault.{TraceFault}
+use Rattle.chi_trace.specs.declared.faults.TraceFault.TheVariants.{BadWord, FewWords}
 use Rattle.chi_trace.specs.declared.flits.Seen.{Seen}
-use Rattle.chi_trace.specs.declared.opcodes.Channel.{Channel}
-use Rattle.chi_trace.specs.declared.opcodes.Channel.TheVariants as channels
+use Rattle.chi_trace.specs.declared.opcodes.TraceChannel.{TraceChannel}
+use Rattle.chi_trace.specs.declared.opcodes.TraceChannel.TheVariants as channels
 use Rattle.chi_trace.specs.Columns.{Row, first_word_of, row_behind}
 use Rattle.chi_trace.specs.Flits.{flit_at, flit_of_row, is_comment_word, seen_in, told_at}
 use Rattle.chi_trace.specs.Opcodes.{opcode_channel, channel_word}
@@ -86,7 +86,7 @@ pub comment_again : (n : ℕ) (words : List (List ℕ)) → IsCommentLine words 
 comment_again n [] is = refl
 comment_again n (first ∷ rest) is = rw is refl
 
-no_comment : (channel : Channel) → is_comment_word (channel_word channel) ≡ false
+no_comment : (channel : TraceChannel) → is_comment_word (channel_word channel) ≡ false
 no_comment channels.Req = refl
 no_comment channels.Snp = refl
 no_comment channels.Rsp = refl

@@ -8,8 +8,8 @@ use Rattle.chi_flit.specs.declared.snoop.Snoop.TheVariants.{SnpShared, SnpNotSha
 use Rattle.chi_script.specs.Words.{is_text}
 use Rattle.chi_trace.specs.declared.columns.Column.{Column}
 use Rattle.chi_trace.specs.declared.columns.Column.TheVariants as columns
-use Rattle.chi_trace.specs.declared.opcodes.Channel.{Channel}
-use Rattle.chi_trace.specs.declared.opcodes.Channel.TheVariants as channels
+use Rattle.chi_trace.specs.declared.opcodes.TraceChannel.{TraceChannel}
+use Rattle.chi_trace.specs.declared.opcodes.TraceChannel.TheVariants as channels
 use Rattle.chi_trace.specs.declared.opcodes.Opcode.{Opcode}
 use Rattle.chi_trace.specs.declared.opcodes.Opcode.TheVariants as opcodes
 use Rattle.chi_trace.specs.Columns.{Row}
@@ -17,16 +17,16 @@ use Rattle.chi_trace.specs.Flits.{◌>>=◌, opcode_of}
 use Rattle.chi_trace.specs.Opcodes.{channel_in, opcode_channel, channel_word, cpu_opcode, data_opcode, opcode_in, opcode_text, request_opcode, response_opcode, snoop_opcode}
 use Rattle.chi_trace.proofs.FieldLemmas.{none_left, pick, text_is}
 
-channel_read : (word : List ℕ) (channel : Channel) → channel_in word ≡ Some channel → word ≡ channel_word channel
+channel_read : (word : List ℕ) (channel : TraceChannel) → channel_in word ≡ Some channel → word ≡ channel_word channel
 channel_read word channel e =
-    let P : Channel → Type 0 = λ c. word ≡ channel_word c in
+    let P : TraceChannel → Type 0 = λ c. word ≡ channel_word c in
     pick P (is_text word (codes "REQ")) channels.Req _ (text_is word _) (
     pick P (is_text word (codes "SNP")) channels.Snp _ (text_is word _) (
     pick P (is_text word (codes "RSP")) channels.Rsp _ (text_is word _) (
     pick P (is_text word (codes "DAT")) channels.Dat _ (text_is word _) (
     pick P (is_text word (codes "CPU")) channels.Cpu None (text_is word _) (none_left P))))) channel e
 
-channel_named : (channel : Channel) → channel_in (channel_word channel) ≡ Some channel
+channel_named : (channel : TraceChannel) → channel_in (channel_word channel) ≡ Some channel
 channel_named channels.Req = refl
 channel_named channels.Snp = refl
 channel_named channels.Rsp = refl
@@ -34,7 +34,7 @@ channel_named channels.Dat = refl
 channel_named channels.Cpu = refl
 
 -- what the opcode of a channel is named
-abbrev IsNamed : Channel → List ℕ → Opcode → Type 0
+abbrev IsNamed : TraceChannel → List ℕ → Opcode → Type 0
 IsNamed channel word opcode = (channel ≡ opcode_channel opcode) × (word ≡ opcode_text opcode)
 
 request_opcode_read : (word : List ℕ) (opcode : Opcode) → request_opcode word ≡ Some opcode → IsNamed channels.Req word opcode
@@ -86,7 +86,7 @@ cpu_opcode_read word opcode e =
     pick P (is_text word (codes "Load")) opcodes.Load _ (λ is. (refl, text_is word _ is)) (
     pick P (is_text word (codes "Store")) opcodes.Store None (λ is. (refl, text_is word _ is)) (none_left P)) opcode e
 
-opcode_in_read : (channel : Channel) (word : List ℕ) (opcode : Opcode) → opcode_in channel word ≡ Some opcode → IsNamed channel word opcode
+opcode_in_read : (channel : TraceChannel) (word : List ℕ) (opcode : Opcode) → opcode_in channel word ≡ Some opcode → IsNamed channel word opcode
 opcode_in_read channels.Req word opcode e = request_opcode_read word opcode e
 opcode_in_read channels.Snp word opcode e = snoop_opcode_read word opcode e
 opcode_in_read channels.Rsp word opcode e = response_opcode_read word opcode e

@@ -1,10 +1,10 @@
 -- How the faults of reading a trace are told (docs/TRACES.md, "Traces").
 use Rattle.std.specs.Prelude.{◌≡◌, Result, Ok, Err}
-use Rattle.chi_trace.specs.declared.faults.Fault.{Fault}
-use Rattle.chi_trace.specs.declared.faults.Fault.TheVariants.{NoMemory, TooLarge, MissingNewline, FewWords, BadWord}
+use Rattle.chi_trace.specs.declared.faults.TraceFault.{TraceFault}
+use Rattle.chi_trace.specs.declared.faults.TraceFault.TheVariants.{NoMemory, TooLarge, MissingNewline, FewWords, BadWord}
 
 -- a fault that reading answers is the one that the grammar names, but for want of memory
-abbrev pub TraceFails : {Y : Type 0} → Fault → Result Y Fault → Type 0
+abbrev pub TraceFails : {Y : Type 0} → TraceFault → Result Y TraceFault → Type 0
 TraceFails NoMemory read = Unit {0}
 TraceFails TooLarge read = read ≡ Err TooLarge
 TraceFails (MissingNewline line) read = read ≡ Err (MissingNewline line)
@@ -12,6 +12,6 @@ TraceFails (FewWords line) read = read ≡ Err (FewWords line)
 TraceFails (BadWord line column) read = read ≡ Err (BadWord line column)
 
 -- what a function returned, seen by view, is what the grammar reads, unless memory ran out
-abbrev pub TraceGives : {X Y : Type 0} → (X → Y) → Result X Fault → Result Y Fault → Type 0
+abbrev pub TraceGives : {X Y : Type 0} → (X → Y) → Result X TraceFault → Result Y TraceFault → Type 0
 TraceGives view (Ok x) read = read ≡ Ok (view x)
 TraceGives view (Err fault) read = TraceFails fault read

@@ -2,8 +2,8 @@
 use Rattle.std.specs.Prelude.{ℕ, ◌==◌, Bool, false, List, [], ◌∷◌, Option, Some, None, Result, Ok, Err, if◌then◌else◌, ok_or}
 use Rattle.chi_trace.specs.declared.columns.Column.{Column}
 use Rattle.chi_trace.specs.declared.columns.Column.TheVariants as columns
-use Rattle.chi_trace.specs.declared.faults.Fault.{Fault}
-use Rattle.chi_trace.specs.declared.faults.Fault.TheVariants.{BadWord, FewWords}
+use Rattle.chi_trace.specs.declared.faults.TraceFault.{TraceFault}
+use Rattle.chi_trace.specs.declared.faults.TraceFault.TheVariants.{BadWord, FewWords}
 use Rattle.chi_trace.specs.declared.flits.Seen.{Seen}
 use Rattle.chi_trace.specs.declared.opcodes.Opcode.{Opcode}
 use Rattle.chi_trace.specs.Columns.{Row, first_word_of, row_behind}
@@ -52,20 +52,20 @@ is_comment_word [] = false
 is_comment_word (b ∷ bs) = b == 35
 
 -- which column of line n is wrong
-abbrev pub told_at : ℕ → Result Seen Column → Result (Option Seen) Fault
+abbrev pub told_at : ℕ → Result Seen Column → Result (Option Seen) TraceFault
 told_at n (Ok seen) = Ok (Some seen)
 told_at n (Err column) = Err (BadWord n column)
 
 -- the flit of line n with these columns, if there are so many
-abbrev pub flit_of_row : ℕ → Option Row → Result (Option Seen) Fault
+abbrev pub flit_of_row : ℕ → Option Row → Result (Option Seen) TraceFault
 flit_of_row n None = Err (FewWords n)
 flit_of_row n (Some row) = told_at n (seen_in n row)
 
 -- the same of a first word and those behind it; none where it is a comment or there is no word
-abbrev pub flit_from : ℕ → Option (List ℕ × List (List ℕ)) → Result (Option Seen) Fault
+abbrev pub flit_from : ℕ → Option (List ℕ × List (List ℕ)) → Result (Option Seen) TraceFault
 flit_from n None = Ok None
 flit_from n (Some found) = if is_comment_word found.0 then Ok None else flit_of_row n (row_behind found.0 found.1)
 
 -- the flit of line n with these words
-abbrev pub flit_at : ℕ → List (List ℕ) → Result (Option Seen) Fault
+abbrev pub flit_at : ℕ → List (List ℕ) → Result (Option Seen) TraceFault
 flit_at n words = flit_from n (first_word_of words)

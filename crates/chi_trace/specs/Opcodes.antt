@@ -7,12 +7,12 @@ use Rattle.chi_flit.specs.declared.kind.Kind.TheVariants.{ReadNotSharedDirty, Re
 use Rattle.chi_flit.specs.declared.snoop.Snoop.{Snoop}
 use Rattle.chi_flit.specs.declared.snoop.Snoop.TheVariants.{SnpShared, SnpNotSharedDirty, SnpUnique, SnpCleanInvalid}
 use Rattle.chi_script.specs.Words.{is_text}
-use Rattle.chi_trace.specs.declared.opcodes.Channel.{Channel}
-use Rattle.chi_trace.specs.declared.opcodes.Channel.TheVariants as channels
+use Rattle.chi_trace.specs.declared.opcodes.TraceChannel.{TraceChannel}
+use Rattle.chi_trace.specs.declared.opcodes.TraceChannel.TheVariants as channels
 use Rattle.chi_trace.specs.declared.opcodes.Opcode.{Opcode}
 use Rattle.chi_trace.specs.declared.opcodes.Opcode.TheVariants as opcodes
 
-abbrev pub channel_word : Channel → List ℕ
+abbrev pub channel_word : TraceChannel → List ℕ
 channel_word channels.Req = codes "REQ"
 channel_word channels.Snp = codes "SNP"
 channel_word channels.Rsp = codes "RSP"
@@ -20,7 +20,7 @@ channel_word channels.Dat = codes "DAT"
 channel_word channels.Cpu = codes "CPU"
 
 -- the channel that a word names
-abbrev pub channel_in : List ℕ → Option Channel
+abbrev pub channel_in : List ℕ → Option TraceChannel
 channel_in word =
     if is_text word (codes "REQ") then Some channels.Req else (
     if is_text word (codes "SNP") then Some channels.Snp else (
@@ -28,7 +28,7 @@ channel_in word =
     if is_text word (codes "DAT") then Some channels.Dat else (
     if is_text word (codes "CPU") then Some channels.Cpu else None))))
 
-abbrev pub opcode_channel : Opcode → Channel
+abbrev pub opcode_channel : Opcode → TraceChannel
 opcode_channel (opcodes.Request kind) = channels.Req
 opcode_channel opcodes.PCrdReturn = channels.Req
 opcode_channel (opcodes.Snoop snoop) = channels.Snp
@@ -100,7 +100,7 @@ cpu_opcode word =
     if is_text word (codes "Load") then Some opcodes.Load else (
     if is_text word (codes "Store") then Some opcodes.Store else None)
 
-abbrev pub opcode_in : Channel → List ℕ → Option Opcode
+abbrev pub opcode_in : TraceChannel → List ℕ → Option Opcode
 opcode_in channels.Req word = request_opcode word
 opcode_in channels.Snp word = snoop_opcode word
 opcode_in channels.Rsp word = response_opcode word

@@ -1,6 +1,6 @@
 //! Why a file is no trace.
 
-ghost use Rattle.chi_trace.specs.declared.faults.Fault.TheVariants.{NoMemory};
+ghost use Rattle.chi_trace.specs.declared.faults.TraceFault.TheVariants.{NoMemory};
 ghost use Rattle.std.specs.Prelude.{◌≡◌};
 
 use crate::columns::Column;
@@ -9,7 +9,7 @@ use std::alloc::{AllocError, AllocFailed};
 /// Why a file is no trace. Lines are counted from 1.
 /// Source: `docs/TRACES.md`, "Traces".
 #[derive(Clone, Copy, Debug, PartialEq, Eq)]
-pub enum Fault {
+pub enum TraceFault {
     /// Memory ran out.
     NoMemory,
     /// The file has more than `MOST_BYTES` bytes.
@@ -22,18 +22,18 @@ pub enum Fault {
     BadWord { line: usize, column: Column },
 }
 
-impl From<AllocError> for Fault {
+impl From<AllocError> for TraceFault {
     ghost from_gives = { λ _ fault. fault ≡ NoMemory };
 
-    fn from(_lack: AllocError) -> Fault {
-        Fault::NoMemory
+    fn from(_lack: AllocError) -> TraceFault {
+        TraceFault::NoMemory
     }
 }
 
-impl<T: Drop> From<AllocFailed<T>> for Fault {
+impl<T: Drop> From<AllocFailed<T>> for TraceFault {
     ghost from_gives = { λ _ fault. fault ≡ NoMemory };
 
-    fn from(_lack: AllocFailed<T>) -> Fault {
-        Fault::NoMemory
+    fn from(_lack: AllocFailed<T>) -> TraceFault {
+        TraceFault::NoMemory
     }
 }

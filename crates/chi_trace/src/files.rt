@@ -5,7 +5,7 @@ ghost use Rattle.chi_script.specs.Files.{lines_of};
 ghost use Rattle.chi_trace.specs.Faults.{TraceGives};
 ghost use Rattle.chi_trace.specs.Files.{trace_flits, trace_of, with_trace_line};
 
-use crate::faults::Fault;
+use crate::faults::TraceFault;
 use crate::flits::{Seen, flit_in};
 use chi_script::first_line;
 use std::alloc::Allocator;
@@ -22,17 +22,17 @@ pub const MOST_BYTES: usize = 67_108_864;
 /// `NoMemory` where memory runs out.
 /// Source: `docs/TRACES.md`, "Traces".
 #[tactic(auto, unfolding(crate::specs::Files::trace_of))]
-pub fn read_trace<A: Allocator + Copy>(alloc: A, bytes: &[u8]) -> Result<Vec<Seen, A>, Fault>
+pub fn read_trace<A: Allocator + Copy>(alloc: A, bytes: &[u8]) -> Result<Vec<Seen, A>, TraceFault>
     ensures { TraceGives (λ flits. flits.items) result (trace_of bytes.now) }
 {
     if bytes.len() > MOST_BYTES {
-        return Err(Fault::TooLarge);
+        return Err(TraceFault::TooLarge);
     }
     flits_from(alloc, bytes)
 }
 
 /// The flits of all lines.
-fn flits_from<A: Allocator + Copy>(alloc: A, bytes: &[u8]) -> Result<Vec<Seen, A>, Fault>
+fn flits_from<A: Allocator + Copy>(alloc: A, bytes: &[u8]) -> Result<Vec<Seen, A>, TraceFault>
     requires { length bytes.now ≤ 67108864 }
     ensures { TraceGives (λ flits. flits.items) result (trace_flits 1 (lines_of bytes.now)) }
 {
@@ -47,12 +47,16 @@ fn flits_from<A: Allocator + Copy>(alloc: A, bytes: &[u8]) -> Result<Vec<Seen, A
     if rest.is_empty() {
         Ok(flits)
     } else {
-        Err(Fault::MissingNewline(number))
+        Err(TraceFault::MissingNewline(number))
     }
 }
 
 /// Puts the flit that a line is behind the others; nothing where it is none.
-fn add_flit<A: Allocator>(flits: &mut Vec<Seen, A>, line: &[u8], number: usize) -> Result<(), Fault>
+fn add_flit<A: Allocator>(
+    flits: &mut Vec<Seen, A>,
+    line: &[u8],
+    number: usize,
+) -> Result<(), TraceFault>
     ensures { TraceGives (λ _. flits.new.items) result (with_trace_line flits.old.items number line.now) }
 {
     if let Some(seen) = flit_in(line, number)? {

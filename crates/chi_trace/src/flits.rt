@@ -8,7 +8,7 @@ ghost use Rattle.chi_trace.specs.Flits.{flit_at, is_comment_word, opcode_of, see
 ghost use Rattle.chi_trace.specs.Words.{blank_words};
 
 use crate::columns::{Column, Columns, columns_behind};
-use crate::faults::Fault;
+use crate::faults::TraceFault;
 use crate::fields::{
     Address, DbId, NodeId, Payload, PcrdType, Resp, TxnId, read_address, read_allow, read_dbid,
     read_node, read_payload, read_pcrd, read_resp, read_txn,
@@ -122,7 +122,7 @@ fn is_comment(first: &[u8]) -> bool
 
 /// The flit that a line is, which is given without its line end and has this number; `None` where it is a
 /// comment or has no words.
-pub(crate) fn flit_in(line: &[u8], number: usize) -> Result<Option<Seen>, Fault>
+pub(crate) fn flit_in(line: &[u8], number: usize) -> Result<Option<Seen>, TraceFault>
     ensures { TraceGives (λ seen. seen) result (flit_at number (blank_words line.now)) }
 {
     let Some((first, rest)) = first_word(line) else {
@@ -131,10 +131,10 @@ pub(crate) fn flit_in(line: &[u8], number: usize) -> Result<Option<Seen>, Fault>
     if is_comment(first) {
         return Ok(None);
     }
-    let columns = columns_behind(first, rest).ok_or(Fault::FewWords(number))?;
+    let columns = columns_behind(first, rest).ok_or(TraceFault::FewWords(number))?;
     match columns.seen(number) {
         Ok(seen) => Ok(Some(seen)),
-        Err(column) => Err(Fault::BadWord {
+        Err(column) => Err(TraceFault::BadWord {
             line: number,
             column,
         }),

@@ -16,9 +16,9 @@ mod uses;
 mod words;
 
 pub use columns::Column;
-pub use faults::Fault;
+pub use faults::TraceFault;
 pub use fields::{Address, DbId, NodeId, Payload, PcrdType, Resp, TxnId, read_address};
 pub use files::{MOST_BYTES, read_trace};
 pub use flits::Seen;
 pub use laws::{lines_are_flits, numbers_are_hexadecimal, traces_are_lines};
-pub use opcodes::{Channel, Opcode};
+pub use opcodes::{Opcode, TraceChannel};

@@ -11,7 +11,7 @@ use std::fmt;
 /// processor loads and stores.
 /// Source: `docs/TRACES.md`, "Traces".
 #[derive(Clone, Copy, Debug, PartialEq, Eq)]
-pub enum Channel {
+pub enum TraceChannel {
     Req,
     Snp,
     Rsp,
@@ -46,34 +46,34 @@ pub enum Opcode {
 }
 
 /// The channel that the word names.
-pub(crate) fn channel_in(word: &[u8]) -> Option<Channel>
+pub(crate) fn channel_in(word: &[u8]) -> Option<TraceChannel>
     ensures { result ≡ channel_in word.now }
 {
     if is(word, "REQ") {
-        Some(Channel::Req)
+        Some(TraceChannel::Req)
     } else if is(word, "SNP") {
-        Some(Channel::Snp)
+        Some(TraceChannel::Snp)
     } else if is(word, "RSP") {
-        Some(Channel::Rsp)
+        Some(TraceChannel::Rsp)
     } else if is(word, "DAT") {
-        Some(Channel::Dat)
+        Some(TraceChannel::Dat)
     } else if is(word, "CPU") {
-        Some(Channel::Cpu)
+        Some(TraceChannel::Cpu)
     } else {
         None
     }
 }
 
 /// The opcode of the channel that the word names.
-pub(crate) fn opcode_in(channel: Channel, word: &[u8]) -> Option<Opcode>
+pub(crate) fn opcode_in(channel: TraceChannel, word: &[u8]) -> Option<Opcode>
     ensures { result ≡ opcode_in channel word.now }
 {
     match channel {
-        Channel::Req => request_opcode(word),
-        Channel::Snp => snoop_opcode(word),
-        Channel::Rsp => response_opcode(word),
-        Channel::Dat => data_opcode(word),
-        Channel::Cpu => cpu_opcode(word),
+        TraceChannel::Req => request_opcode(word),
+        TraceChannel::Snp => snoop_opcode(word),
+        TraceChannel::Rsp => response_opcode(word),
+        TraceChannel::Dat => data_opcode(word),
+        TraceChannel::Cpu => cpu_opcode(word),
     }
 }
 
@@ -173,20 +173,20 @@ fn cpu_opcode(word: &[u8]) -> Option<Opcode>
 impl Opcode {
     /// The channel that a line of this opcode names.
     /// Source: `docs/TRACES.md`, "Traces".
-    pub fn channel(self) -> Channel
+    pub fn channel(self) -> TraceChannel
         ensures { result ≡ opcode_channel self }
     {
         match self {
-            Opcode::Request(_) | Opcode::PCrdReturn => Channel::Req,
-            Opcode::Snoop(_) => Channel::Snp,
+            Opcode::Request(_) | Opcode::PCrdReturn => TraceChannel::Req,
+            Opcode::Snoop(_) => TraceChannel::Snp,
             Opcode::RetryAck
             | Opcode::Comp
             | Opcode::CompDBIDResp
             | Opcode::PCrdGrant
             | Opcode::SnpResp
-            | Opcode::CompAck => Channel::Rsp,
-            Opcode::CompData | Opcode::SnpRespData | Opcode::CopyBackWrData => Channel::Dat,
-            Opcode::Load | Opcode::Store => Channel::Cpu,
+            | Opcode::CompAck => TraceChannel::Rsp,
+            Opcode::CompData | Opcode::SnpRespData | Opcode::CopyBackWrData => TraceChannel::Dat,
+            Opcode::Load | Opcode::Store => TraceChannel::Cpu,
         }
     }
 }

@@ -6,6 +6,7 @@ use Rattle.std.specs.declared.cmp.Ordering.TheVariants.{Less, Equal, Greater}
 use Rattle.std.proofs.lemmas.List.Elements.{All-weaker, filter_agree}
 use Rattle.std.proofs.lemmas.List.Sorted.{All-permutation, IsPermutation-sym}
 use Rattle.chi_slice.specs.Words.{Sizes}
+use Rattle.chi_explain.specs.declared.observed.StoreListing.{StoreListing}
 use Rattle.chi_resolution.specs.declared.lines.Resolved.{Resolved}
 use Rattle.chi_verdict.specs.Lines.{AreExplained, AreLinesExplained, is_on_line, items_of}
 
@@ -34,7 +35,7 @@ same_items items sorted stable one =
     sym (filter_agree (ties by_line one) (is_on_line one.line) (ties_are one) sorted) ∙ stable one ∙ filter_agree (ties by_line one) (is_on_line one.line) (ties_are one) items
 
 -- what is explained in one order is in the other
-pub unsorted : (config : Sizes) (items sorted : List Resolved) → IsPermutation items sorted → IsStableByKey line_number nat_cmp items sorted → AreLinesExplained config sorted → AreLinesExplained config items
-unsorted config items sorted moved stable explained =
-    All-permutation (λ item. AreExplained config (items_of item.line items)) sorted items (IsPermutation-sym items sorted moved)
-    (All-weaker (λ item. AreExplained config (items_of item.line sorted)) (λ item. AreExplained config (items_of item.line items)) (λ item is. subst (AreExplained config) (same_items items sorted stable item) is) sorted explained)
+pub unsorted : (config : Sizes) (stores : StoreListing) (items sorted : List Resolved) → IsPermutation items sorted → IsStableByKey line_number nat_cmp items sorted → AreLinesExplained config stores sorted → AreLinesExplained config stores items
+unsorted config stores items sorted moved stable explained =
+    All-permutation (λ item. AreExplained config stores (items_of item.line items)) sorted items (IsPermutation-sym items sorted moved)
+    (All-weaker (λ item. AreExplained config stores (items_of item.line sorted)) (λ item. AreExplained config stores (items_of item.line items)) (λ item is. subst (AreExplained config stores) (same_items items sorted stable item) is) sorted explained)

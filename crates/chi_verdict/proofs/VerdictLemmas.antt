@@ -4,29 +4,29 @@ use Rattle.std.proofs.lemmas.Bool.{ltb-false}
 use Rattle.std.proofs.lemmas.List.{length-take, take_all}
 use Rattle.chi_slice.specs.Words.{Sizes}
 use Rattle.chi_trace.specs.Files.{trace_of}
-use Rattle.chi_trace.specs.declared.faults.Fault.{Fault}
-use Rattle.chi_trace.specs.declared.faults.Fault.TheVariants.{TooLarge}
+use Rattle.chi_trace.specs.declared.faults.TraceFault.{TraceFault}
+use Rattle.chi_trace.specs.declared.faults.TraceFault.TheVariants.{TooLarge}
 use Rattle.chi_trace.specs.declared.flits.Seen.{Seen}
 use Rattle.chi_resolution.specs.Resolution.{resolution_of}
 use Rattle.chi_resolution.specs.declared.lines.Resolved.{Resolved}
 use Rattle.chi_resolution.specs.declared.reasons.IdFault.{IdFault}
 use Rattle.chi_resolution.specs.declared.resolution.Options.{Options}
-use Rattle.chi_verdict.specs.declared.reports.Outcome.{Outcome}
-use Rattle.chi_verdict.specs.declared.reports.Outcome.TheVariants.{Explained, Faulty, Malformed}
+use Rattle.chi_verdict.specs.declared.reports.TraceOutcome.{TraceOutcome}
+use Rattle.chi_verdict.specs.declared.reports.TraceOutcome.TheVariants.{Explained, Faulty, Malformed}
 use Rattle.chi_verdict.specs.Verdicts.{AreFlitsExplained, IfExplained, IsTraceExplained, verdict_sizes}
 use Rattle.chi_verdict.specs.Lines.{AreLinesExplained}
 
-said : {P Q : Type 0} (outcome : Outcome) → (P → Q) → IfExplained outcome P → IfExplained outcome Q
+said : {P Q : Type 0} (outcome : TraceOutcome) → (P → Q) → IfExplained outcome P → IfExplained outcome Q
 said Explained f is = f is
 said Faulty f is = tt
 said Malformed f is = tt
 
 -- the same fact in other words
-pub carried : {X E P Q : Type 0} (of : X → Outcome) (r : Result X E) → (P → Q) → IfOk r (λ report. IfExplained (of report) P) → IfOk r (λ report. IfExplained (of report) Q)
+pub carried : {X E P Q : Type 0} (of : X → TraceOutcome) (r : Result X E) → (P → Q) → IfOk r (λ report. IfExplained (of report) P) → IfOk r (λ report. IfExplained (of report) Q)
 carried of (Ok report) f is = said (of report) f is
 carried of (Err e) f is = tt
 
-not_then : (b : Bool) (read : Result (List Seen) Fault) (seen : List Seen) → (if b then Err TooLarge else read) ≡ Ok seen → b ≡ false
+not_then : (b : Bool) (read : Result (List Seen) TraceFault) (seen : List Seen) → (if b then Err TooLarge else read) ≡ Ok seen → b ≡ false
 not_then false read seen e = refl
 not_then true read seen e = absurd (cc e)
 
@@ -46,14 +46,14 @@ on_ok (Err e) ok is = absurd (cc ok)
 
 -- what was judged is the trace's resolution
 pub flits_explained : {X E : Type 0} (options : Options) (seen : List Seen) (judged : Result X E) (config : Sizes) (fault : Option IdFault) (flits : List Resolved) → config ≡ verdict_sizes options.types
-    → fault ≡ (resolution_of options seen).fault → flits ≡ (resolution_of options seen).progress.table.flits → OnOk judged (fault ≡ None) → OnOk judged (AreLinesExplained config flits) → IsOk judged → AreFlitsExplained options seen
+    → fault ≡ (resolution_of options seen).fault → flits ≡ (resolution_of options seen).progress.table.flits → OnOk judged (fault ≡ None) → OnOk judged (AreLinesExplained config options.stores flits) → IsOk judged → AreFlitsExplained options seen
 flits_explained options seen judged config fault flits size same_fault same none all ok = record {
   allowed = sym same_fault ∙ on_ok judged ok none;
-  explained = subst (λ (c : Sizes). AreLinesExplained c (resolution_of options seen).progress.table.flits) size (subst (AreLinesExplained config) same (on_ok judged ok all));
+  explained = subst (λ (c : Sizes). AreLinesExplained c options.stores (resolution_of options seen).progress.table.flits) size (subst (AreLinesExplained config options.stores) same (on_ok judged ok all));
 }
 
 -- so the report that was given is one on the file
-pub told : {R E : Type 0} (options : Options) (left : Option (List ℕ)) (bytes : List ℕ) (of : R → Outcome) (report : R) (given : Result R E) → IfSome left (λ file. bytes ≡ take 67108865 file) → IfExplained (of report) (IsTraceExplained options bytes)
+pub told : {R E : Type 0} (options : Options) (left : Option (List ℕ)) (bytes : List ℕ) (of : R → TraceOutcome) (report : R) (given : Result R E) → IfSome left (λ file. bytes ≡ take 67108865 file) → IfExplained (of report) (IsTraceExplained options bytes)
     → IfOk given (λ r. r ≡ report) → IfOk given (λ r. IfSome left (λ file. IfExplained (of r) (IsTraceExplained options file)))
 told options None bytes of report (Ok r) front is same = tt
 told options None bytes of report (Err e) front is same = tt

@@ -8,8 +8,8 @@ use Rattle.chi_resolution.specs.Resolution.{resolution_of}
 use Rattle.chi_resolution.specs.declared.ledger.Types.{Types}
 use Rattle.chi_resolution.specs.declared.ledger.Types.TheVariants.{Two, Four, Any}
 use Rattle.chi_resolution.specs.declared.resolution.Options.{Options}
-use Rattle.chi_verdict.specs.declared.reports.Outcome.{Outcome}
-use Rattle.chi_verdict.specs.declared.reports.Outcome.TheVariants.{Explained, Faulty, Malformed}
+use Rattle.chi_verdict.specs.declared.reports.TraceOutcome.{TraceOutcome}
+use Rattle.chi_verdict.specs.declared.reports.TraceOutcome.TheVariants.{Explained, Faulty, Malformed}
 use Rattle.chi_verdict.specs.Lines.{AreLinesExplained}
 
 -- a node of one line with eight agents, and as many records as a journal may have
@@ -21,7 +21,7 @@ verdict_sizes Four = four_types 8 1 1 (1 ∷ 1 ∷ 1 ∷ 1 ∷ []) 65536
 -- the ids and the ledger allow all the flits, and those of each line are explained
 pub record AreFlitsExplained (options : Options) (seen : List Seen) : Type 0 where
   pub allowed : (resolution_of options seen).fault ≡ None
-  pub explained : AreLinesExplained (verdict_sizes options.types) (resolution_of options seen).progress.table.flits
+  pub explained : AreLinesExplained (verdict_sizes options.types) options.stores (resolution_of options seen).progress.table.flits
 
 -- a file is a trace, whose flits are explained
 pub record IsTraceExplained (options : Options) (file : List ℕ) : Type 0 where
@@ -30,13 +30,13 @@ pub record IsTraceExplained (options : Options) (file : List ℕ) : Type 0 where
   pub explained : AreFlitsExplained options seen
 
 -- where the outcome is that all is explained
-abbrev pub IfExplained : Outcome → Type 0 → Type 0
+abbrev pub IfExplained : TraceOutcome → Type 0 → Type 0
 IfExplained Explained P = P
 IfExplained Faulty P = Unit {0}
 IfExplained Malformed P = Unit {0}
 
 -- a report was written, but where the file is malformed: then nothing was
-abbrev pub IsWritten : Outcome → Option (List ℕ) → Option (List ℕ) → List ℕ → Type 0
+abbrev pub IsWritten : TraceOutcome → Option (List ℕ) → Option (List ℕ) → List ℕ → Type 0
 IsWritten Explained old new text = Appends old new text
 IsWritten Faulty old new text = Appends old new text
 IsWritten Malformed old new text = Keeps old new

@@ -104,14 +104,31 @@ fn write_deeds<A: Allocator>(
     deeds: &[Deed],
 ) -> Result<(), NoMemory> {
     for deed in deeds {
-        if let Deed::Act(agent, step) = *deed {
-            write_before(text, ballast, agent, step)?;
-            write_step(text, ballast, agent, step)?;
-            ballast.note(agent, step);
-            write_after(text, ballast, agent, step)?;
+        match *deed {
+            Deed::Act(agent, step) => write_act(text, ballast, agent, step)?,
+            Deed::Load(agent, word, value) => {
+                kept(writeln!(text, "load {agent} 0 {word} -> ok value {value}"))?;
+            }
+            Deed::Store(agent, word, value) => {
+                write_step(text, ballast, agent, Step::Store(word, value))?;
+            }
+            Deed::Snoop(_) => {}
         }
     }
     Ok(())
+}
+
+/// Puts the command of an agent's step behind the text, and what has to be done for the tracker.
+fn write_act<A: Allocator>(
+    text: &mut String<A>,
+    ballast: &mut Ballast,
+    agent: Agent,
+    step: Step,
+) -> Result<(), NoMemory> {
+    write_before(text, ballast, agent, step)?;
+    write_step(text, ballast, agent, step)?;
+    ballast.note(agent, step);
+    write_after(text, ballast, agent, step)
 }
 
 /// What has to be done for the tracker before a step.

@@ -3,7 +3,7 @@
 ghost use Rattle.std.specs.Prelude.{◌≡◌, ◌+◌, ◌^◌, ◌<◌, IfOk, IfSome, string_bytes};
 ghost use Rattle.chi_verdict.specs.Verdicts.{IfExplained, IsTraceExplained, IsWritten};
 
-use crate::reports::{Outcome, Report, report_on};
+use crate::reports::{TraceOutcome, TraceReport, report_on};
 use chi_devices::{Failed, Input, Output, read_most};
 use chi_resolution::Options;
 use chi_script::Fault;
@@ -23,7 +23,7 @@ pub fn explain<A: Allocator + Copy, I: Input, O: Output>(
     output: &mut O,
     options: Options,
     only: Option<Address>,
-) -> Result<Report<A>, Fault>
+) -> Result<TraceReport<A>, Fault>
     requires reads { I.failures input.old + 1 < 2 ^ 64 }
     requires writes { O.failures output.old + 1 < 2 ^ 64 }
     ensures explained { IfOk result (λ report. IfSome (I.left input.old)
@@ -41,16 +41,18 @@ pub fn explain<A: Allocator + Copy, I: Input, O: Output>(
 /// Writes the report, but where the file is malformed.
 fn write_report<A: Allocator, O: Output>(
     output: &mut O,
-    report: Report<A>,
-) -> Result<Report<A>, Fault>
+    report: TraceReport<A>,
+) -> Result<TraceReport<A>, Fault>
     requires { O.failures output.old + 1 < 2 ^ 64 }
     ensures same { IfOk result (λ given. given ≡ report) }
     ensures written { IfOk result (λ given.
         IsWritten given.outcome (O.written output.old) (O.written output.new) (string_bytes given.text)) }
 {
     match report.outcome {
-        Outcome::Malformed => Ok(report),
-        Outcome::Explained | Outcome::Faulty => match output.write_all(report.text.as_bytes()) {
+        TraceOutcome::Malformed => Ok(report),
+        TraceOutcome::Explained | TraceOutcome::Faulty => match output.write_all(
+            report.text.as_bytes(),
+        ) {
             Ok(()) => Ok(report),
             Err(Failed) => Err(Fault::Write),
         },

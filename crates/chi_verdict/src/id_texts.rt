@@ -162,6 +162,13 @@ impl ReasonText<'_> {
                     "the data of {name} lacks words; allowed: its other beats"
                 )
             }
+            IdReason::Lacking(key) => {
+                let name = KeyName(key);
+                write!(
+                    f,
+                    "the data of {name} lacks words, and comes first; allowed: its other beats"
+                )
+            }
             IdReason::OtherBeat(key) => {
                 let name = KeyName(key);
                 write!(

@@ -1,36 +1,34 @@
 //! The cache lines of a trace, each explained by itself.
 
-ghost use Rattle.std.specs.Prelude.{◌≡◌, ◌≤◌, ◌+◌, [], true, IfOk, OnOk, length, map, take};
+ghost use Rattle.std.specs.Prelude.{◌≡◌, ◌≤◌, ◌+◌, [], true, IfOk, OnOk, length, take};
 ghost use Rattle.std.specs.List.{All};
 ghost use Rattle.chi_verdict.specs.Lines.{AreExplained, AreLinesExplained, is_on_line, said_by};
-ghost use Rattle.chi_resolution.specs.declared.lines.Observed.TheVariants.{Flit};
 
-use chi_explain::{Deed, SentFlit, Unexplained};
+use chi_explain::{Deed, Observed, StoreListing, Unexplained};
 use chi_flit::{NoMemory, Refusal};
 use chi_monitor::{LineFault, NoExplanation, explain_flits, first_fault};
-use chi_resolution::{CacheLine, Observed, Resolved};
+use chi_resolution::{CacheLine, Resolved};
 use chi_slice::Config;
 use std::alloc::{AllocError, AllocFailed, Allocator};
 
 /// How much was explained.
 /// Source: `docs/TRACES.md`, "What is printed".
 #[derive(Clone, Copy, Debug, PartialEq, Eq)]
-pub struct Totals {
+pub struct TraceTotals {
     pub flits: usize,
     pub actions: usize,
     pub lines: usize,
 }
 
-/// Why the flits of a cache line aren't explained. A flit is named by its place in the trace, counted from 0.
+/// Why what was seen of a cache line isn't explained. A flit, a load or a store is named by its place in the trace,
+/// counted from 0.
 /// Source: `docs/TRACES.md`, "What is printed".
 #[derive(Clone, Copy, Debug, PartialEq, Eq)]
 pub enum Obstacle {
     /// Memory ran out.
     NoMemory,
-    /// No run of the model sends this flit behind those before it.
+    /// No run of the model sends this flit, or does this load or store, behind those before it.
     Fault { at: usize, fault: LineFault },
-    /// A load or a store of a processor, which explanations don't take.
-    Processor { at: usize },
     /// The explanation of this line has more loads and stores than a journal has room for.
     Long(CacheLine),
     /// No explanation of this line was found that holds, though none of its flits is a fault.
@@ -55,38 +53,33 @@ impl From<NoMemory> for Obstacle {
     }
 }
 
-/// The flits of the items in front that are of the line, put into a list that is empty; how many items these are.
+/// What the items in front that are of the line say, put into a list that is empty; how many items these are.
 fn gather<A: Allocator>(
-    flits: &mut Vec<SentFlit, A>,
+    seen: &mut Vec<Observed, A>,
     line: CacheLine,
     items: &[Resolved],
 ) -> Result<usize, Obstacle>
-    requires { flits.old.items ≡ [] }
+    requires { seen.old.items ≡ [] }
     ensures bound { IfOk result (λ count. count ≤ length items.now) }
     ensures line { IfOk result (λ count. All (λ item. is_on_line line item
         ≡ true) (take count items.now)) }
-    ensures flits { IfOk result
-        (λ count. map Flit flits.new.items ≡ said_by (take count items.now)) }
+    ensures seen { IfOk result (λ count. seen.new.items ≡ said_by (take count items.now)) }
 {
     for (count, item) in items.iter().enumerate() {
         if item.line.0 != line.0 {
             return Ok(count);
         }
-        match item.flit {
-            Observed::Flit(flit) => flits.push(flit)?,
-            Observed::Load(_, _, _) | Observed::Store(_, _, _) => {
-                return Err(Obstacle::Processor { at: item.at });
-            }
-        }
+        seen.push(item.flit)?;
     }
     Ok(items.len())
 }
 
-/// The obstacle at a line whose flits, which these items are, have no explanation.
+/// The obstacle at a line whose items, which stand in front, have no explanation.
 fn obstacle_at(line: CacheLine, items: &[Resolved], cause: NoExplanation) -> Obstacle {
     match cause {
-        NoExplanation::Fault(_, LineFault::NoMemory)
-        | NoExplanation::Undone(Unexplained::NoMemory) => Obstacle::NoMemory,
+        NoExplanation::NoMemory | NoExplanation::Undone(Unexplained::NoMemory) => {
+            Obstacle::NoMemory
+        }
         NoExplanation::Fault(number, fault) => match items.get(number) {
             Some(item) => Obstacle::Fault { at: item.at, fault },
             None => Obstacle::NoMemory,
@@ -112,21 +105,25 @@ struct Front {
 fn explain_front<A: Allocator + Copy>(
     alloc: A,
     config: &Config,
+    stores: StoreListing,
     items: &[Resolved],
 ) -> Result<Front, Obstacle>
     ensures bound { IfOk result (λ front. front.count ≤ length items.now) }
     ensures line { IfOk result
         (λ front. All (λ item. is_on_line front.line item ≡ true) (take front.count items.now)) }
     ensures explained { IfOk result
-        (λ front. AreExplained config.now (take front.count items.now)) }
+        (λ front. AreExplained config.now stores (take front.count items.now)) }
 {
     let line = match items.first() {
         Some(item) => item.line,
         None => CacheLine(0),
     };
-    let mut flits = Vec::new(alloc);
-    let count = gather(&mut flits, line, items)?;
-    match explain_flits(alloc, config, &flits) {
+    let mut seen = Vec::new(alloc);
+    let count = match gather(&mut seen, line, items) {
+        Ok(count) => count,
+        Err(_) => return Err(Obstacle::NoMemory),
+    };
+    match explain_flits(alloc, config, stores, &seen) {
         Ok(witness) => Ok(Front {
             line,
             count,
@@ -140,7 +137,7 @@ fn explain_front<A: Allocator + Copy>(
 fn count_actions(deeds: &[Deed]) -> usize {
     deeds
         .iter()
-        .filter(|deed| matches!(**deed, Deed::Act(_, _)))
+        .filter(|deed| !matches!(**deed, Deed::Snoop(_)))
         .count()
 }
 
@@ -155,11 +152,12 @@ fn number_behind(line: CacheLine) -> u128
 fn explain_sorted<A: Allocator + Copy>(
     alloc: A,
     config: &Config,
+    stores: StoreListing,
     sorted: &[Resolved],
-) -> Result<Totals, Obstacle>
-    ensures { OnOk result (AreLinesExplained config.now sorted.now) }
+) -> Result<TraceTotals, Obstacle>
+    ensures { OnOk result (AreLinesExplained config.now stores sorted.now) }
 {
-    let mut totals = Totals {
+    let mut totals = TraceTotals {
         flits: sorted.len(),
         actions: 0,
         lines: 0,
@@ -168,7 +166,7 @@ fn explain_sorted<A: Allocator + Copy>(
     let mut at = 0;
     while at < sorted.len() {
         let (_, rest) = sorted.split_at(at);
-        let front = explain_front(alloc, config, rest)?;
+        let front = explain_front(alloc, config, stores, rest)?;
         if front.count == 0 || u128::from(front.line.0) < floor {
             return Err(Obstacle::Undone(front.line));
         }
@@ -183,27 +181,29 @@ fn explain_sorted<A: Allocator + Copy>(
 /// Puts items that ascend by line, and explains those of each line by themselves, in a node of this size: how much
 /// was explained.
 ///
-/// `Fault`, `Processor`, `Long` or `Undone` where a line isn't explained: of all lines that which comes first in the
-/// trace, where it is the flit that is told. `NoMemory` where memory runs out. The items stay the same, but for their
+/// `Fault`, `Long` or `Undone` where a line isn't explained: of all lines that which comes first in the
+/// trace, where it is a flit, a load or a store that is told. `NoMemory` where memory runs out. The items stay the same, but for their
 /// order: they ascend by line, and those of a line stand as before.
 /// Source: `docs/TRACES.md`, "What is printed".
 pub fn explain_lines<A: Allocator + Copy>(
     alloc: A,
     config: &Config,
+    stores: StoreListing,
     items: &mut Vec<Resolved, A>,
-) -> Result<Totals, Obstacle>
-    ensures { OnOk result (AreLinesExplained config.now items.old.items) }
+) -> Result<TraceTotals, Obstacle>
+    ensures { OnOk result (AreLinesExplained config.now stores items.old.items) }
 {
     items.sort_by_key(|item| item.line.0)?;
-    match explain_sorted(alloc, config, items) {
+    match explain_sorted(alloc, config, stores, items) {
         Ok(totals) => Ok(totals),
-        Err(obstacle) => Err(first_obstacle(alloc, items, obstacle)),
+        Err(obstacle) => Err(first_obstacle(alloc, stores, items, obstacle)),
     }
 }
 
 /// The obstacle that comes first in the trace among items that ascend by line, where one was met.
-pub(crate) fn first_obstacle<A: Allocator + Copy>(
+fn first_obstacle<A: Allocator + Copy>(
     alloc: A,
+    stores: StoreListing,
     sorted: &[Resolved],
     met: Obstacle,
 ) -> Obstacle {
@@ -213,9 +213,9 @@ pub(crate) fn first_obstacle<A: Allocator + Copy>(
         let [item, ..] = rest else {
             break;
         };
-        let found = search_line(alloc, item.line, rest);
-        rest = found.1;
-        first = earlier(first, found.0);
+        let (found, later) = search_line(alloc, stores, item.line, rest);
+        rest = later;
+        first = earlier(first, found);
     }
     first
 }
@@ -223,35 +223,24 @@ pub(crate) fn first_obstacle<A: Allocator + Copy>(
 /// The fault of the items in front that are of the line, if there is one, and the items behind them.
 fn search_line<A: Allocator + Copy>(
     alloc: A,
+    stores: StoreListing,
     line: CacheLine,
     items: &[Resolved],
 ) -> (Option<Obstacle>, &[Resolved]) {
-    let mut flits = Vec::new(alloc);
-    match gather(&mut flits, line, items) {
+    let mut seen = Vec::new(alloc);
+    match gather(&mut seen, line, items) {
         Ok(count) => {
-            let found = match first_fault(alloc, &flits) {
-                Some((at, fault)) => Some(obstacle_at(
-                    line,
-                    items,
-                    NoExplanation::Fault(at, fault),
-                )),
-                None => None,
-            };
-            (found, &items[count..])
+            let (_, later) = items.split_at(count);
+            match first_fault(alloc, stores, &seen) {
+                Some(cause) => (Some(obstacle_at(line, items, cause)), later),
+                None => (None, later),
+            }
         }
-        Err(obstacle) => (Some(obstacle), behind(line, items)),
+        Err(_) => (Some(Obstacle::NoMemory), &[]),
     }
 }
 
-/// The items behind those in front that are of the line.
-fn behind(line: CacheLine, items: &[Resolved]) -> &[Resolved] {
-    match items.iter().position(|item| item.line != line) {
-        Some(end) if end <= items.len() => &items[end..],
-        Some(_) | None => &[],
-    }
-}
-
-/// Of two obstacles the one whose flit comes first in the trace; want of memory before all.
+/// Of two obstacles the one whose place comes first in the trace; want of memory before all.
 fn earlier(one: Obstacle, other: Option<Obstacle>) -> Obstacle {
     match (one, other) {
         (Obstacle::NoMemory, _) | (_, Some(Obstacle::NoMemory)) => Obstacle::NoMemory,
@@ -264,10 +253,10 @@ fn earlier(one: Obstacle, other: Option<Obstacle>) -> Obstacle {
     }
 }
 
-/// The flit that an obstacle tells, by its place in the trace.
+/// The place in the trace that an obstacle tells.
 fn place_of(obstacle: &Obstacle) -> Option<usize> {
     match obstacle {
-        Obstacle::Fault { at, fault: _ } | Obstacle::Processor { at } => Some(*at),
+        Obstacle::Fault { at, fault: _ } => Some(*at),
         Obstacle::NoMemory | Obstacle::Long(_) | Obstacle::Undone(_) => None,
     }
 }

@@ -3,7 +3,7 @@
 use crate::names::kept;
 use chi_flit::NoMemory;
 use chi_script::first_line;
-use chi_trace::{Channel, Column, Fault};
+use chi_trace::{Column, TraceChannel, TraceFault};
 use std::alloc::Allocator;
 use std::fmt;
 use std::fmt::Write;
@@ -70,7 +70,7 @@ fn place_of(column: Column) -> usize {
 /// What is expected in a column, behind this word in the first one.
 fn expected(column: Column, channel: &[u8]) -> &'static str {
     match column {
-        Column::Channel => "REQ, SNP, RSP or DAT",
+        Column::Channel => "REQ, SNP, RSP, DAT or CPU",
         Column::Source | Column::Target | Column::Txn | Column::Dbid => {
             "a hexadecimal number, ffff at most"
         }
@@ -79,6 +79,7 @@ fn expected(column: Column, channel: &[u8]) -> &'static str {
         Column::Resp => "I, SC, UC, UD, SD, I_PD, SC_PD, UC_PD, UD_PD or SD_PD",
         Column::AllowRetry => "0 or 1",
         Column::Pcrd => "a hexadecimal number, f at most",
+        Column::Data if matches!(channel, b"CPU") => "a hexadecimal number of 64 bits",
         Column::Data => "eight hexadecimal words or x with commas between them, or 128 digits",
     }
 }
@@ -90,6 +91,7 @@ fn opcodes(channel: &[u8]) -> &'static str {
             "ReadNotSharedDirty, ReadShared, ReadUnique, CleanUnique, Evict, WriteBackFull, WriteCleanFull, WriteEvictFull or PCrdReturn"
         }
         b"SNP" => "SnpShared, SnpNotSharedDirty, SnpUnique or SnpCleanInvalid",
+        b"CPU" => "Load or Store",
         b"RSP" => "RetryAck, Comp, CompDBIDResp, PCrdGrant, SnpResp or CompAck",
         _ => "CompData, SnpRespData or CopyBackWrData",
     }
@@ -122,19 +124,19 @@ fn word_at(line: &[u8], place: usize) -> &[u8] {
 pub(crate) fn write_malformed<A: Allocator>(
     text: &mut String<A>,
     bytes: &[u8],
-    fault: Fault,
+    fault: TraceFault,
 ) -> Result<(), NoMemory> {
     let written = match fault {
-        Fault::NoMemory => return Err(NoMemory),
-        Fault::TooLarge => write!(text, "chihome: file too large"),
-        Fault::MissingNewline(line) => write!(text, "chihome: line {line}: missing newline"),
-        Fault::FewWords(line) => {
+        TraceFault::NoMemory => return Err(NoMemory),
+        TraceFault::TooLarge => write!(text, "chihome: file too large"),
+        TraceFault::MissingNewline(line) => write!(text, "chihome: line {line}: missing newline"),
+        TraceFault::FewWords(line) => {
             write!(
                 text,
                 "chihome: line {line}: fewer than eleven words, expected {HEAD}"
             )
         }
-        Fault::BadWord { line, column } => {
+        TraceFault::BadWord { line, column } => {
             let words = line_at(bytes, line);
             let (name, word) = (ColumnName(column), Word(word_at(words, place_of(column))));
             let wanted = expected(column, word_at(words, 0));

@@ -1,5 +1,6 @@
 //! How nodes, lines and flits of a trace are written.
 
+use chi_explain::Observed;
 use chi_flit::{Msg, NoMemory, RspDown};
 use chi_resolution::CacheLine;
 use chi_trace::{NodeId, Opcode, Seen};
@@ -20,7 +21,11 @@ pub(crate) struct SeenName<'a>(pub &'a Seen);
 
 /// A message as a trace would show it.
 #[derive(Clone, Copy)]
-pub(crate) struct MessageName(pub Msg);
+struct MessageName(Msg);
+
+/// What a trace would show: a message, or a load with its value, or a store.
+#[derive(Clone, Copy)]
+pub(crate) struct ObservedName(pub Observed);
 
 impl fmt::Display for NodeName {
     fn fmt<W: fmt::Write>(&self, f: &mut fmt::Formatter<W>) -> fmt::Result {
@@ -64,6 +69,19 @@ impl fmt::Display for MessageName {
             }
             Msg::RspDown(RspDown::RetryAck(_)) => f.write_str("RetryAck"),
             message => write!(f, "{message}"),
+        }
+    }
+}
+
+impl fmt::Display for ObservedName {
+    fn fmt<W: fmt::Write>(&self, f: &mut fmt::Formatter<W>) -> fmt::Result {
+        match self.0 {
+            Observed::Flit(flit) => {
+                let name = MessageName(flit.message);
+                write!(f, "{name}")
+            }
+            Observed::Load(_, _, value) => write!(f, "Load of {value:x}"),
+            Observed::Store(_, _, _) => f.write_str("Store"),
         }
     }
 }

@@ -1,8 +1,10 @@
 //! What is open at the end of a trace, a line for each.
 
 use crate::names::{LineName, NodeName, kept};
+use chi_explain::Observed;
 use chi_flit::NoMemory;
-use chi_resolution::{Account, OpenId, OpenKey, Unfinished};
+use chi_resolution::{CreditLedger, OpenData, OpenId, OpenKey, Resolution, Resolved};
+use chi_trace::NodeId;
 use std::alloc::Allocator;
 use std::fmt;
 use std::fmt::Write;
@@ -13,7 +15,7 @@ struct OpenText(OpenId);
 
 /// Credits that a node is owed, or hasn't used.
 #[derive(Clone, Copy)]
-struct AccountText(Account);
+struct AccountText(CreditLedger);
 
 impl fmt::Display for OpenText {
     fn fmt<W: fmt::Write>(&self, f: &mut fmt::Formatter<W>) -> fmt::Result {
@@ -66,13 +68,34 @@ impl fmt::Display for AccountText {
 /// Puts a line for each thing that is open behind the text.
 pub(crate) fn write_open<A: Allocator>(
     text: &mut String<A>,
-    open: &[OpenId],
-    unfinished: &[Unfinished],
-    accounts: &[Account],
+    resolution: &Resolution<A>,
 ) -> Result<(), NoMemory> {
-    write_ids(text, open)?;
-    write_unfinished(text, open, unfinished)?;
-    write_accounts(text, accounts)
+    write_ids(text, &resolution.ids)?;
+    write_unfinished(text, &resolution.ids, &resolution.unfinished)?;
+    write_waiting(text, &resolution.nodes.requesters, &resolution.waiting)?;
+    write_accounts(text, &resolution.accounts)
+}
+
+fn write_waiting<A: Allocator>(
+    text: &mut String<A>,
+    requesters: &[NodeId],
+    waiting: &[Resolved],
+) -> Result<(), NoMemory> {
+    for item in waiting {
+        let (agent, name) = match item.flit {
+            Observed::Flit(_) => continue,
+            Observed::Load(agent, _, _) => (agent, "load"),
+            Observed::Store(agent, _, _) => (agent, "store"),
+        };
+        if let Some(node) = requesters.get(usize::from(agent.0)) {
+            let (node, line) = (NodeName(*node), LineName(item.line));
+            kept(writeln!(
+                text,
+                "open: a {name} of node {node} at {line}, without the CompAck that it waits for"
+            ))?;
+        }
+    }
+    Ok(())
 }
 
 fn write_ids<A: Allocator>(text: &mut String<A>, open: &[OpenId]) -> Result<(), NoMemory> {
@@ -86,7 +109,7 @@ fn write_ids<A: Allocator>(text: &mut String<A>, open: &[OpenId]) -> Result<(), 
 fn write_unfinished<A: Allocator>(
     text: &mut String<A>,
     open: &[OpenId],
-    unfinished: &[Unfinished],
+    unfinished: &[OpenData],
 ) -> Result<(), NoMemory> {
     for data in unfinished {
         if let Some(id) = open.iter().find(|id| id.key == data.key) {
@@ -100,7 +123,7 @@ fn write_unfinished<A: Allocator>(
 
 fn write_accounts<A: Allocator>(
     text: &mut String<A>,
-    accounts: &[Account],
+    accounts: &[CreditLedger],
 ) -> Result<(), NoMemory> {
     for account in accounts {
         if account.owed() > 0 || account.unused() > 0 {

@@ -3,29 +3,28 @@
 ghost use Rattle.std.specs.Prelude.{◌≡◌, IfOk, IsOk, None, OnOk, Some};
 ghost use Rattle.chi_verdict.specs.Lines.{AreLinesExplained};
 ghost use Rattle.chi_verdict.specs.Verdicts.{AreFlitsExplained, IfExplained, IsTraceExplained, verdict_sizes};
-ghost use Rattle.chi_verdict.specs.declared.reports.Outcome.TheVariants as Outcome;
+ghost use Rattle.chi_verdict.specs.declared.reports.TraceOutcome.TheVariants as TraceOutcome;
 
 use crate::check_files::Told;
 use crate::id_texts::ReasonText;
-use crate::lines::{Obstacle, Totals, explain_lines};
+use crate::lines::{Obstacle, TraceTotals, explain_lines};
 use crate::malformed::write_malformed;
-use crate::names::{LineName, MessageName, NodeName, SeenName, kept, requester_of};
+use crate::names::{LineName, NodeName, ObservedName, SeenName, kept, requester_of};
 use crate::open_texts::write_open;
-use chi_explain::SentFlit;
+use chi_explain::{Observed, StoreListing};
 use chi_flit::{NoMemory, Profile};
 use chi_monitor::{LineFault, allowed, explain_flits};
-use chi_resolution::{
-    CacheLine, IdFault, Observed, Options, Resolution, Resolved, Types, line_of, resolve,
-};
+use chi_resolution::{CacheLine, IdFault, Options, Resolution, Resolved, Types, line_of, resolve};
 use chi_slice::Config;
-use chi_trace::{Address, Fault, Seen, read_trace};
+use chi_trace::{Address, Opcode, Seen, TraceFault, read_trace};
 use std::alloc::Allocator;
+use std::fmt;
 use std::fmt::Write;
 
 /// What came of a trace.
 /// Source: `docs/TRACES.md`, "What is printed".
 #[derive(Clone, Copy, Debug, PartialEq, Eq)]
-pub enum Outcome {
+pub enum TraceOutcome {
     /// Each line is explained.
     Explained,
     /// Some flit isn't explained.
@@ -37,10 +36,28 @@ pub enum Outcome {
 /// What came of a trace, and what is told of it.
 /// Source: `docs/TRACES.md`, "What is printed".
 #[derive(Drop)]
-pub struct Report<A: Allocator> {
-    pub outcome: Outcome,
+pub struct TraceReport<A: Allocator> {
+    pub outcome: TraceOutcome,
     /// Lines for standard output; of a malformed file one line, without its end, for standard error.
     pub text: String<A>,
+}
+
+/// How many flits of a trace are explained, and how many loads and stores.
+#[derive(Clone, Copy)]
+struct ExplainedCount {
+    flits: usize,
+    accesses: usize,
+}
+
+impl fmt::Display for ExplainedCount {
+    fn fmt<W: fmt::Write>(&self, f: &mut fmt::Formatter<W>) -> fmt::Result {
+        let (flits, accesses) = (self.flits, self.accesses);
+        write!(f, "{flits} flits")?;
+        if accesses > 0 {
+            write!(f, " and {accesses} loads and stores")?;
+        }
+        Ok(())
+    }
 }
 
 /// Why a trace isn't explained.
@@ -68,18 +85,19 @@ fn config_of(types: Types) -> Option<Config>
     }
 }
 
-/// Explains the flits of a resolution, whose order is another one then: how much was explained, or the first flit
-/// that isn't.
+/// Explains what a resolution has, whose order is another one then: how much was explained, or the first that isn't.
 fn judge<A: Allocator + Copy>(
     alloc: A,
     config: &Config,
+    stores: StoreListing,
     resolution: &mut Resolution<A>,
-) -> Result<Result<Totals, Stop>, NoMemory>
+) -> Result<Result<TraceTotals, Stop>, NoMemory>
     ensures allowed { IfOk result (λ judged. OnOk judged (resolution.old.fault ≡ None)) }
     ensures explained { IfOk result
-        (λ judged. OnOk judged (AreLinesExplained config.now resolution.old.flits.items)) }
+        (λ judged. OnOk judged
+        (AreLinesExplained config.now stores resolution.old.flits.items)) }
 {
-    match explain_lines(alloc, config, &mut resolution.flits) {
+    match explain_lines(alloc, config, stores, &mut resolution.flits) {
         Ok(totals) => match resolution.fault {
             None => Ok(Ok(totals)),
             Some(fault) => Ok(Err(Stop::Ids(fault))),
@@ -108,7 +126,7 @@ pub fn report_on<A: Allocator + Copy>(
     bytes: &[u8],
     options: Options,
     only: Option<Address>,
-) -> Result<Report<A>, NoMemory>
+) -> Result<TraceReport<A>, NoMemory>
     ensures { IfOk result
         (λ report. IfExplained report.outcome (IsTraceExplained options bytes.now)) }
 {
@@ -119,13 +137,17 @@ pub fn report_on<A: Allocator + Copy>(
 }
 
 /// What is told of a file that is no trace.
-fn malformed<A: Allocator>(alloc: A, bytes: &[u8], fault: Fault) -> Result<Report<A>, NoMemory>
-    ensures { IfOk result (λ report. report.outcome ≡ Outcome.Malformed) }
+fn malformed<A: Allocator>(
+    alloc: A,
+    bytes: &[u8],
+    fault: TraceFault,
+) -> Result<TraceReport<A>, NoMemory>
+    ensures { IfOk result (λ report. report.outcome ≡ TraceOutcome.Malformed) }
 {
     let mut text = String::new(alloc);
     write_malformed(&mut text, bytes, fault)?;
-    let outcome = Outcome::Malformed;
-    Ok(Report { outcome, text })
+    let outcome = TraceOutcome::Malformed;
+    Ok(TraceReport { outcome, text })
 }
 
 /// The report on the flits of a trace.
@@ -134,7 +156,7 @@ fn report_on_flits<A: Allocator + Copy>(
     seen: &[Seen],
     options: Options,
     only: Option<Address>,
-) -> Result<Report<A>, NoMemory>
+) -> Result<TraceReport<A>, NoMemory>
     ensures { IfOk result
         (λ report. IfExplained report.outcome (AreFlitsExplained options seen.now)) }
 {
@@ -143,10 +165,11 @@ fn report_on_flits<A: Allocator + Copy>(
         None => unreachable!(),
     };
     let mut resolution = resolve(alloc, seen, options)?;
-    let judged = judge(alloc, &config, &mut resolution)?;
+    let judged = judge(alloc, &config, options.stores, &mut resolution)?;
     let trace = Trace {
         seen,
         profile: profile_of(options.types),
+        stores: options.stores,
         config,
         resolution: &resolution,
     };
@@ -157,27 +180,22 @@ fn report_on_flits<A: Allocator + Copy>(
 fn report_on_judged<A: Allocator + Copy>(
     alloc: A,
     trace: &Trace<'_, A>,
-    judged: Result<Totals, Stop>,
+    judged: Result<TraceTotals, Stop>,
     only: Option<Address>,
-) -> Result<Report<A>, NoMemory>
+) -> Result<TraceReport<A>, NoMemory>
     ensures { IfOk result
         (λ report. IfExplained report.outcome (IsOk judged)) }
 {
     match judged {
         Ok(totals) => {
             let text = trace.explained_text(alloc, totals, only)?;
-            let outcome = Outcome::Explained;
-            Ok(Report { outcome, text })
-        }
-        Err(Stop::Line(Obstacle::Processor { at })) => {
-            let text = trace.processor_text(alloc, at)?;
-            let outcome = Outcome::Malformed;
-            Ok(Report { outcome, text })
+            let outcome = TraceOutcome::Explained;
+            Ok(TraceReport { outcome, text })
         }
         Err(stop) => {
             let text = trace.faulty_text(alloc, &stop, only)?;
-            let outcome = Outcome::Faulty;
-            Ok(Report { outcome, text })
+            let outcome = TraceOutcome::Faulty;
+            Ok(TraceReport { outcome, text })
         }
     }
 }
@@ -187,16 +205,27 @@ fn report_on_judged<A: Allocator + Copy>(
 struct Trace<'a, A: Allocator> {
     seen: &'a [Seen],
     profile: Profile,
+    stores: StoreListing,
     config: Config,
     resolution: &'a Resolution<A>,
 }
 
 impl<A: Allocator + Copy> Trace<'_, A> {
+    /// How many flits, loads and stores are explained: all but the loads and stores that wait.
+    fn explained(&self) -> ExplainedCount {
+        let is_access = |seen: &&Seen| matches!(seen.opcode, Opcode::Load | Opcode::Store);
+        let accesses = self.seen.iter().filter(is_access).count();
+        ExplainedCount {
+            flits: self.seen.len().saturating_sub(accesses),
+            accesses: accesses.saturating_sub(self.resolution.waiting.len()),
+        }
+    }
+
     /// What is told where all is explained: totals and what is open, or the check file of one line.
     fn explained_text(
         &self,
         alloc: A,
-        totals: Totals,
+        totals: TraceTotals,
         only: Option<Address>,
     ) -> Result<String<A>, NoMemory> {
         let mut text = String::new(alloc);
@@ -204,18 +233,13 @@ impl<A: Allocator + Copy> Trace<'_, A> {
             self.write_line(alloc, &mut text, line_of(address), self.seen.len())?;
             return Ok(text);
         }
-        let (flits, actions, lines) = (self.seen.len(), totals.actions, totals.lines);
+        let (actions, lines) = (totals.actions, totals.lines);
+        let explained = self.explained();
         kept(writeln!(
             text,
-            "explained {flits} flits by {actions} actions on {lines} lines"
+            "explained {explained} by {actions} actions on {lines} lines"
         ))?;
-        let resolution = self.resolution;
-        write_open(
-            &mut text,
-            &resolution.ids,
-            &resolution.unfinished,
-            &resolution.accounts,
-        )?;
+        write_open(&mut text, self.resolution)?;
         Ok(text)
     }
 
@@ -233,17 +257,6 @@ impl<A: Allocator + Copy> Trace<'_, A> {
             text.push_str("# ")?;
         }
         self.write_stop(alloc, &mut text, stop)?;
-        Ok(text)
-    }
-
-    /// What is told of a trace with loads or stores.
-    fn processor_text(&self, alloc: A, at: usize) -> Result<String<A>, NoMemory> {
-        let mut text = String::new(alloc);
-        let number = self.seen.get(at).map_or(0, |seen| seen.line);
-        kept(write!(
-            text,
-            "chihome: line {number}: CH CPU, expected REQ, SNP, RSP or DAT, as loads and stores aren't explained"
-        ))?;
         Ok(text)
     }
 
@@ -287,8 +300,8 @@ impl<A: Allocator + Copy> Trace<'_, A> {
             line,
             items,
         };
-        let flits = flits_of(alloc, items)?;
-        match explain_flits(alloc, &self.config, &flits) {
+        let seen = said_by(alloc, items)?;
+        match explain_flits(alloc, &self.config, self.stores, &seen) {
             Ok(witness) => told.write(text, &witness),
             Err(_) => kept(writeln!(text, "# no explanation was found")),
         }
@@ -312,7 +325,7 @@ impl<A: Allocator + Copy> Trace<'_, A> {
                 let line = LineName(*line);
                 kept(writeln!(text, "no explanation of the cache line at {line} was found"))
             }
-            Stop::Line(Obstacle::NoMemory | Obstacle::Processor { at: _ }) => Err(NoMemory),
+            Stop::Line(Obstacle::NoMemory) => Err(NoMemory),
         }
     }
 
@@ -354,17 +367,26 @@ impl<A: Allocator + Copy> Trace<'_, A> {
             return Ok(());
         };
         self.write_seen(text, seen)?;
-        let found = self.resolution.flits.iter().find(|item| item.at == at);
-        let Some(item) = found else {
+        let items = self.resolution.flits.as_slice();
+        let Some(place) = items.iter().position(|item| item.at == at) else {
+            return Ok(());
+        };
+        let (before, rest) = items.split_at(place);
+        let [item, ..] = rest else {
             return Ok(());
         };
         let line = LineName(item.line);
         kept(write!(text, " at {line}: {fault}; allowed: "))?;
-        let before = flits_of(alloc, self.items_of(item.line, at))?;
-        match item.flit {
-            Observed::Flit(flit) => write_allowed(alloc, text, &before, &flit),
-            Observed::Load(_, _, _) | Observed::Store(_, _, _) => Ok(()),
-        }
+        let before = said_by(alloc, line_of_last(before, item.line))?;
+        write_allowed(alloc, text, self.stores, &before, &item.flit)
+    }
+}
+
+/// The items at the end of those that ascend by line that are of this line.
+fn line_of_last(items: &[Resolved], line: CacheLine) -> &[Resolved] {
+    match items.iter().position(|item| item.line == line) {
+        Some(start) if start <= items.len() => &items[start..],
+        Some(_) | None => &[],
     }
 }
 
@@ -373,39 +395,38 @@ impl Stop {
     fn place(&self) -> usize {
         match self {
             Stop::Ids(fault) => fault.at,
-            Stop::Line(Obstacle::Fault { at, fault: _ } | Obstacle::Processor { at }) => *at,
+            Stop::Line(Obstacle::Fault { at, fault: _ }) => *at,
             Stop::Line(Obstacle::NoMemory | Obstacle::Long(_) | Obstacle::Undone(_)) => usize::MAX,
         }
     }
 }
 
-/// The flits of items.
-fn flits_of<A: Allocator>(alloc: A, items: &[Resolved]) -> Result<Vec<SentFlit, A>, NoMemory> {
-    let mut flits = Vec::new(alloc);
+/// What items say.
+fn said_by<A: Allocator>(alloc: A, items: &[Resolved]) -> Result<Vec<Observed, A>, NoMemory> {
+    let mut seen = Vec::new(alloc);
     for item in items {
-        if let Observed::Flit(flit) = item.flit {
-            flits.push(flit)?;
-        }
+        seen.push(item.flit)?;
     }
-    Ok(flits)
+    Ok(seen)
 }
 
-/// Puts the messages that are allowed in place of a flit behind the text, and ends the line.
+/// Puts what is allowed in place of what was seen behind the text, and ends the line.
 fn write_allowed<A: Allocator + Copy>(
     alloc: A,
     text: &mut String<A>,
-    before: &[SentFlit],
-    flit: &SentFlit,
+    stores: StoreListing,
+    before: &[Observed],
+    seen: &Observed,
 ) -> Result<(), NoMemory> {
-    let messages = match allowed(alloc, before, flit) {
-        Ok(messages) => messages,
+    let others = match allowed(alloc, stores, before, seen) {
+        Ok(others) => others,
         Err(_) => return Err(NoMemory),
     };
-    for (number, message) in messages.iter().enumerate() {
-        let name = MessageName(*message);
+    for (number, other) in others.iter().enumerate() {
+        let name = ObservedName(*other);
         let comma = if number > 0 { ", " } else { "" };
         kept(write!(text, "{comma}{name}"))?;
     }
-    let end = if messages.is_empty() { "nothing" } else { "" };
+    let end = if others.is_empty() { "nothing" } else { "" };
     kept(writeln!(text, "{end}"))
 }

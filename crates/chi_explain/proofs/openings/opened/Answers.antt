@@ -1,4 +1,4 @@
-use Rattle.std.proofs.Common.{rules, arith}
+use Rattle.std.proofs.Common.{arith}
 use Rattle.chi_slice.proofs.Rows.{in_limits}
 use Rattle.chi_explain.proofs.openings.opened.Goals as goal
 

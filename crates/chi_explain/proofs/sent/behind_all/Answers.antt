@@ -2,9 +2,9 @@ use Rattle.chi_explain.proofs.SentLemmas.{none_sent, one_more}
 use Rattle.chi_explain.proofs.sent.behind_all.Goals as goal
 
 pub loop-number-init : goal.loop-number-init
-loop-number-init c = none_sent c.args.before.now c.args.after.now c.args.flits.now
+loop-number-init c = none_sent c.args.before.now c.args.after.now c.args.seen.now
 
 pub loop-number-preserved : goal.loop-number-preserved
 loop-number-preserved c =
-    one_more c.args.before.now c.args.after.now c.loop-number.number c.args.flits.now c.loop-number.rest.now c.in_ok-rest.rest.now c.loop-number.invariant
+    one_more c.args.before.now c.args.after.now c.loop-number.number c.args.seen.now c.loop-number.rest.now c.in_ok-rest.rest.now c.loop-number.invariant
     (rw (c.cells_of.ensures.cells, c.cells_of-in-loop-number.ensures.cells) at c.in_ok-rest.ensures)

@@ -23,6 +23,7 @@ returns-in-Err g c =
       ids = c.ended.ensures.ids ∙ ap (λ o. o.progress.table.ids) e;
       unfinished = c.ended.ensures.unfinished ∙ ap (λ o. o.progress.table.unfinished) e;
       accounts = accounts;
+      waiting = c.ended.ensures.waiting ∙ ap (λ o. o.progress.table.waiting) e;
       ledger = subst (All (IsBalanced c.args.options.early_grants)) (sym accounts) (trace_kept c.args.options c.args.seen.now);
     }
 
@@ -38,5 +39,6 @@ returns g c =
       ids = c.ended-2.ensures.ids ∙ ap (λ o. o.progress.table.ids) e;
       unfinished = c.ended-2.ensures.unfinished ∙ ap (λ o. o.progress.table.unfinished) e;
       accounts = accounts;
+      waiting = c.ended-2.ensures.waiting ∙ ap (λ o. o.progress.table.waiting) e;
       ledger = subst (All (IsBalanced c.args.options.early_grants)) (sym accounts) (trace_kept c.args.options c.args.seen.now);
     }

@@ -1,8 +1,7 @@
-use Rattle.std.proofs.Common.{◌≡◌, true, map, take}
+use Rattle.std.proofs.Common.{◌≡◌, true, take}
 use Rattle.std.specs.List.{All}
-use Rattle.chi_resolution.specs.declared.lines.Observed.TheVariants.{Flit}
 use Rattle.chi_verdict.specs.Lines.{is_on_line, said_by}
 use Rattle.chi_verdict.proofs.lines.gather.Given as goal
 
 abbrev pub invariant-loop-count : goal.invariant-loop-count
-invariant-loop-count g l = All (λ item. is_on_line l.line item ≡ true) (take l.count l.items) × (map Flit l.flits.items ≡ said_by (take l.count l.items))
+invariant-loop-count g l = All (λ item. is_on_line l.line item ≡ true) (take l.count l.items) × (l.seen.items ≡ said_by (take l.count l.items))

@@ -1,0 +1,7 @@
+-- What is kept is what the test passes.
+use Rattle.std.proofs.Common.{rules}
+use Rattle.std.proofs.lemmas.Fn.{filter_same}
+use Rattle.chi_resolution.proofs.resolution.forget.Goals as goal
+
+pub returns : goal.returns
+returns g c = filter_same _ _ _ (λ x b f' k. search rules) _ _ c.retain.ensures.filtered

@@ -1,0 +1,94 @@
+//! What is told of whole traces.
+
+use crate::traces::PLAIN;
+use chi_resolution::Options;
+use chi_trace::Address;
+use chi_verdict::{TraceOutcome, report_on};
+use std::alloc::Global;
+use std::test::Fail;
+
+/// A trace, the line that is asked for, and what is told.
+struct Told {
+    trace: &'static [u8],
+    only: Option<u64>,
+    outcome: TraceOutcome,
+    text: &'static str,
+}
+
+/// A read, and a store that isn't listed.
+const READ: &[u8] = b"REQ 8 40 1 ReadUnique 1040 - - 1 - -
+DAT 40 8 1 CompData - UC 11 - - 0,0,0,0,0,0,0,0
+RSP 8 40 11 CompAck - - - - - -
+CPU 8 - - Load 1048 - - - - 2a
+";
+
+const TOLD: [Told; 6] = [
+    Told {
+        trace: b"",
+        only: None,
+        outcome: TraceOutcome::Explained,
+        text: "explained 0 flits by 0 actions on 0 lines\n",
+    },
+    Told {
+        trace: READ,
+        only: None,
+        outcome: TraceOutcome::Explained,
+        text: "explained 3 flits and 1 loads and stores by 7 actions on 1 lines\n",
+    },
+    Told {
+        trace: READ,
+        only: Some(0x1048),
+        outcome: TraceOutcome::Explained,
+        text: "# line 0 is the cache line at 1040
+# agent 0 is node 8
+# the home is node 40
+node 1 1 1 1 1 65536
+# line 1: ReadUnique of node 8
+issue 0 0 ReadUnique 0 -> ok
+# line 2: CompData_UC to node 8
+arrive 0 0
+start 0 0
+# line 3: CompAck of node 8
+data 0 0 -> ok
+ack 0 0
+# line 4: Load of node 8
+store 0 0 1 42 -> ok
+load 0 0 1 -> ok value 42
+",
+    },
+    Told {
+        trace: b"REQ 8 40 1 Evict 1040 - - 1 - -\nSNP 40 8 1 SnpShared 1040 - - - - -\n",
+        only: None,
+        outcome: TraceOutcome::Faulty,
+        text: "line 1: Evict of node 8 at 1040: its copy is I, and Evict isn't issued from there; allowed: ReadNotSharedDirty, ReadShared, ReadUnique\n",
+    },
+    Told {
+        trace: b"RSP 8 40 1 CompAck 1040 - - - - -\n",
+        only: None,
+        outcome: TraceOutcome::Faulty,
+        text: "line 1: CompAck of node 8 at 1040: a completion with DBID 1 to node 8 isn't open; allowed: nothing, as none of its node is open\n",
+    },
+    Told {
+        trace: b"\nREQ 8 40 1 Evict 1040 - - 2 - -\n",
+        only: None,
+        outcome: TraceOutcome::Malformed,
+        text: "chihome: line 2: AR 2, expected 0 or 1",
+    },
+];
+
+/// Whether this is told of the trace.
+fn is_told(alloc: Global, options: Options, told: &Told) -> bool {
+    let only = told.only.map(|address| Address(address));
+    match report_on(alloc, told.trace, options, only) {
+        Ok(report) => report.outcome == told.outcome && report.text.as_str() == told.text,
+        Err(_) => false,
+    }
+}
+
+#[test]
+fn each_trace_is_told(rt: HostRuntime) -> Result<(), Fail> {
+    for told in &TOLD {
+        assert!(rt; is_told(rt.alloc(), PLAIN, told), "{:?}", told.text);
+    }
+    Ok(())
+}
