@@ -8,19 +8,19 @@ use Rattle.chi_flit.specs.declared.numbers.WordNo.{WordNo}
 use Rattle.chi_explain.specs.declared.observed.Observed.{Observed}
 use Rattle.chi_explain.specs.declared.observed.Observed.TheVariants.{Flit, Load, Store}
 
-abbrev pub is_request : Msg → Bool
-is_request (Req request) = true
-is_request other = false
+abbrev pub is_request_flit : Msg → Bool
+is_request_flit (Req request) = true
+is_request_flit other = false
 
-abbrev pub is_snoop : Msg → Bool
-is_snoop (Snp snoop) = true
-is_snoop other = false
+abbrev pub is_snoop_flit : Msg → Bool
+is_snoop_flit (Snp snoop) = true
+is_snoop_flit other = false
 
 -- a response or data to a requester
-abbrev pub is_down : Msg → Bool
-is_down (RspDown response) = true
-is_down (DatDown read) = true
-is_down other = false
+abbrev pub is_to_requester : Msg → Bool
+is_to_requester (RspDown response) = true
+is_to_requester (DatDown read) = true
+is_to_requester other = false
 
 -- a response or data of one
 abbrev pub is_up : Msg → Bool
@@ -31,7 +31,7 @@ is_up other = false
 -- two messages of one direction: two requests, two snoops, or responses and data of the same way
 abbrev pub is_same_way : Msg → Msg → Bool
 is_same_way one other =
-    (is_request one && is_request other) || ((is_snoop one && is_snoop other) || ((is_down one && is_down other) || (is_up one && is_up other)))
+    (is_request_flit one && is_request_flit other) || ((is_snoop_flit one && is_snoop_flit other) || ((is_to_requester one && is_to_requester other) || (is_up one && is_up other)))
 
 abbrev pub is_same_word : Agent → WordNo → Agent → WordNo → Bool
 is_same_word agent word other that = agent.0 == other.0 && word.0 == that.0

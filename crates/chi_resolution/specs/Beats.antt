@@ -32,19 +32,19 @@ data_of key unfinished = begun_in unfinished (position (is_of_key key) unfinishe
 
 -- the home completes a request once it has all answers and all write data of the line, and snoops once it has the
 -- write data
-abbrev pub completes : Opcode → Bool
-completes opcodes.Comp = true
-completes opcodes.CompDBIDResp = true
-completes opcodes.CompData = true
-completes other = false
+abbrev pub completes_data : Opcode → Bool
+completes_data opcodes.Comp = true
+completes_data opcodes.CompDBIDResp = true
+completes_data opcodes.CompData = true
+completes_data other = false
 
 abbrev pub snoops : Opcode → Bool
 snoops (opcodes.Snoop snoop) = true
 snoops other = false
 
 abbrev pub waits_for : Opcode → OpenKey → Bool
-waits_for opcode (keys.Snoop node txn) = completes opcode
-waits_for opcode (keys.Buffer node dbid) = completes opcode || snoops opcode
+waits_for opcode (keys.Snoop node txn) = completes_data opcode
+waits_for opcode (keys.Buffer node dbid) = completes_data opcode || snoops opcode
 waits_for opcode other = false
 
 abbrev pub is_before : Opcode → CacheLine → OpenData → Bool

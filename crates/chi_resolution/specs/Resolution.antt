@@ -50,21 +50,21 @@ abbrev pub ids_after : Option ℕ → Option OpenId → List OpenId → List Ope
 ids_after frees opens ids = without frees ids ++ option_to_list opens
 
 -- a load or a store waits for the CompAck of its requester, behind which it then stands
-abbrev pub is_ack : Msg → Bool
-is_ack (messages.RspUp ups.CompAck) = true
-is_ack other = false
+abbrev pub is_acknowledged_by : Msg → Bool
+is_acknowledged_by (messages.RspUp ups.CompAck) = true
+is_acknowledged_by other = false
 
 abbrev pub is_ack_of : Agent → Observed → Bool
-is_ack_of agent (observed.Flit sent) = sent.agent.0 == agent.0 && is_ack sent.message
+is_ack_of agent (observed.Flit sent) = sent.agent.0 == agent.0 && is_acknowledged_by sent.message
 is_ack_of agent other = false
 
-abbrev pub agent_of : Observed → Agent
-agent_of (observed.Flit sent) = sent.agent
-agent_of (observed.Load agent word value) = agent
-agent_of (observed.Store agent word value) = agent
+abbrev pub acting_agent : Observed → Agent
+acting_agent (observed.Flit sent) = sent.agent
+acting_agent (observed.Load agent word value) = agent
+acting_agent (observed.Store agent word value) = agent
 
 abbrev pub is_released : LineFlit → Resolved → Bool
-is_released flit item = item.line.0 == flit.line.0 && is_ack_of (agent_of item.flit) flit.flit
+is_released flit item = item.line.0 == flit.line.0 && is_ack_of (acting_agent item.flit) flit.flit
 
 abbrev pub item_of : ℕ → LineFlit → Resolved
 item_of at flit = record { at = at; line = flit.line; flit = flit.flit }

@@ -1,7 +1,7 @@
 //! Data in more than one beat.
 
 ghost use Rattle.std.specs.Prelude.{◌≡◌, position, slice_get};
-ghost use Rattle.chi_resolution.specs.Beats.{begun_at, completes, data_before, data_of, filled, is_before, is_of_key, is_whole, joined, merged_one, waits_for};
+ghost use Rattle.chi_resolution.specs.Beats.{begun_at, completes_data, data_before, data_of, filled, is_before, is_of_key, is_whole, joined, merged_one, waits_for};
 
 use crate::ids::{OpenKey, is_same_key};
 use crate::lines::CacheLine;
@@ -74,7 +74,7 @@ pub(crate) fn find_data(unfinished: &[OpenData], key: OpenKey) -> Option<FoundDa
 
 /// Whether a flit of the opcode completes a request.
 fn completes(opcode: Opcode) -> bool
-    ensures { result ≡ completes opcode }
+    ensures { result ≡ completes_data opcode }
 {
     matches!(
         opcode,

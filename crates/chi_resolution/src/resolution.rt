@@ -3,7 +3,7 @@
 ghost use Rattle.std.specs.Prelude.{◌≡◌, ◌++◌, All, IfOk, OnOk, not};
 ghost use Rattle.std.specs.List.{filter};
 ghost use Rattle.chi_resolution.specs.Ledger.{IsBalanced, booked};
-ghost use Rattle.chi_resolution.specs.Resolution.{after_beat, after_flit, agent_of, allowed_of, data_after, ids_after, is_ack_of, is_released, nothing, placed, resolution_of, taken, waiting_after};
+ghost use Rattle.chi_resolution.specs.Resolution.{after_beat, after_flit, acting_agent, allowed_of, data_after, ids_after, is_ack_of, is_released, nothing, placed, resolution_of, taken, waiting_after};
 
 use crate::beats::OpenData;
 use crate::changes::{Change, Further, LineFlit, Tables};
@@ -184,7 +184,7 @@ fn is_ack_of(flit: &Observed, agent: Agent) -> bool
 
 /// The agent of an item.
 fn agent_of(flit: &Observed) -> Agent
-    ensures { result ≡ agent_of flit.now }
+    ensures { result ≡ acting_agent flit.now }
 {
     match flit {
         Observed::Flit(sent) => sent.agent,
