@@ -1,19 +1,9 @@
-//! Tests of a slice, and of the parts of its lines, through their public calls alone, by the tables of
-//! `docs/PROTOCOL.md`: a slice; flits, a journal, a requester's line, a filter, a line at the home, and the wires.
+//! Tests of a slice of `chi_slice` through its public calls alone, against the tables of
+//! `docs/PROTOCOL.md`.
 #![tactic(auto)]
 
 #[cfg(test)]
-mod comparison;
-#[cfg(test)]
-mod filters;
-#[cfg(test)]
-mod flits;
-#[cfg(test)]
 mod four_slices;
-#[cfg(test)]
-mod home_lines;
-#[cfg(test)]
-mod journals;
 #[cfg(test)]
 mod memory;
 #[cfg(test)]
@@ -24,8 +14,6 @@ mod readers;
 mod refusals;
 #[cfg(test)]
 mod refused;
-#[cfg(test)]
-mod requester_lines;
 #[cfg(test)]
 mod retries;
 #[cfg(test)]
@@ -42,7 +30,5 @@ mod slots;
 mod snoops;
 #[cfg(test)]
 mod verdicts;
-#[cfg(test)]
-mod wires;
 #[cfg(test)]
 mod write_data;
