@@ -1,15 +1,11 @@
-//! Tests of agents, in threads and one after another, of reports and tallies, and of storms, through their public
-//! calls, by `docs/FORMATS.md`, "A turn", "Reports and tallies", "Storm files" and "The output of a storm".
+//! Tests of agents, in threads and one after another, and of reports and tallies, through their public calls, by
+//! `docs/FORMATS.md`, "A turn" and "Reports and tallies".
 #![tactic(auto)]
 
 #[cfg(test)]
 mod bench;
 #[cfg(test)]
-mod comparison;
-#[cfg(test)]
 mod crossing;
-#[cfg(test)]
-mod devices;
 #[cfg(test)]
 mod draws;
 #[cfg(test)]
@@ -25,17 +21,11 @@ mod races;
 #[cfg(test)]
 mod reports;
 #[cfg(test)]
-mod scripts;
-#[cfg(test)]
 mod sights;
-#[cfg(test)]
-mod storms;
 #[cfg(test)]
 mod tallies;
 #[cfg(test)]
 mod tellers;
-#[cfg(test)]
-mod verdicts;
 #[cfg(test)]
 mod watched;
 #[cfg(test)]
