@@ -10,7 +10,7 @@ use Rattle.chi_flit.specs.declared.refusal.Refusal.{Refusal}
 use Rattle.chi_slice.specs.Idle.{lowest_idle}
 use Rattle.chi_slice.specs.Slice.{SliceState, action_refusal, flits_refusal}
 use Rattle.chi_library.specs.declared.actions.ChiAction.{ChiAction}
-use Rattle.chi_library.specs.Actions.{action_told, no_action}
+use Rattle.chi_library.specs.Actions.{action_told}
 use Rattle.chi_library.specs.Calls.{told_unless}
 use Rattle.chi_library.specs.Enabled.{candidate_action, all_steps, enabled_of, enabled_told, is_unrefused}
 use Rattle.chi_library.specs.Listed.{IsListed}
@@ -47,8 +47,8 @@ few_enabled s agent l (step ∷ steps) = go (is_unrefused s (candidate_action ag
     go false is few = let same = ap length (first s agent l step steps false is) in omega (arith, same, few)
 
 -- where the agent and the line are there, those of all steps are shown
-pub shown : (s : SliceState) (agent : Agent) (l : Line) (steps : List Step) (array : List ChiAction) (count : ℕ) → None ≡ flits_refusal s agent.0 l.0 → steps ≡ all_steps (lowest_idle s agent.0)
-    → IsListed no_action 24 (told_of s agent l steps) array count → IsListed no_action 24 (enabled_told agent.0 l.0 s) array count
-shown s agent l steps array count there is listed =
-    subst (λ (refusal : Option Refusal). IsListed no_action 24 (told_unless refusal [] (told_of s agent l (all_steps (lowest_idle s agent.0)))) array count) there
-    (subst (λ (them : List Step). IsListed no_action 24 (told_of s agent l them) array count) is listed)
+pub shown : (s : SliceState) (agent : Agent) (l : Line) (steps : List Step) (old array : List ChiAction) (count : ℕ) → None ≡ flits_refusal s agent.0 l.0 → steps ≡ all_steps (lowest_idle s agent.0)
+    → IsListed (told_of s agent l steps) old array count → IsListed (enabled_told agent.0 l.0 s) old array count
+shown s agent l steps old array count there is listed =
+    subst (λ (refusal : Option Refusal). IsListed (told_unless refusal [] (told_of s agent l (all_steps (lowest_idle s agent.0)))) old array count) there
+    (subst (λ (them : List Step). IsListed (told_of s agent l them) old array count) is listed)

@@ -1,7 +1,7 @@
 //! The actions that a slice wouldn't refuse, for C.
 
-ghost use Rattle.std.specs.Prelude.{◌≡◌, ◌≤◌, [], length, map, replicate};
-ghost use Rattle.chi_library.specs.Actions.{action_told, no_action};
+ghost use Rattle.std.specs.Prelude.{◌≡◌, ◌≤◌, [], length, map};
+ghost use Rattle.chi_library.specs.Actions.{action_told};
 ghost use Rattle.chi_library.specs.Calls.{answer_number, output_of};
 ghost use Rattle.chi_library.specs.Enabled.{all_steps, enabled_of, enabled_told};
 ghost use Rattle.chi_library.specs.Listed.{IsListed};
@@ -20,7 +20,8 @@ use std::alloc::Global;
 /// the slice. Nothing is done.
 ///
 /// Answers 10 where the agent or the line is outside the node, or the line is in another slice; `count` is 0
-/// then. All numbers of `actions` behind `count` of them are 0. Answers 255 of a closed handle.
+/// then. Of `actions` the first `count` are written, and the others stay as they were. Answers 255 of a closed
+/// handle.
 /// Source: `docs/PROTOCOL.md`, "The actions"; `docs/LIBRARY.md`, "A slice".
 #[unsafe(no_mangle)]
 pub extern "C" fn chi_slice_enabled(
@@ -33,10 +34,9 @@ pub extern "C" fn chi_slice_enabled(
 ) -> u8
     ensures answer { result ≡ answer_number slice.old.value (λ s. flits_refusal s agent line) }
     ensures after { slice.new.value ≡ slice.old.value }
-    ensures listed { IsListed no_action 24 (output_of slice.old.value [] (enabled_told agent line))
-        actions.new count.new }
+    ensures listed { IsListed (output_of slice.old.value [] (enabled_told agent line))
+        actions.old actions.new count.new }
 {
-    *actions = [ChiAction::NONE; 24];
     *count = 0;
     match slice.take(alloc) {
         Some(held) => {
@@ -88,10 +88,10 @@ fn show_enabled(
     actions: &mut [ChiAction; 24],
     count: &mut u8,
 ) -> u8
-    requires blank { actions.old ≡ replicate 24 no_action }
     requires none { count.old ≡ 0 }
     ensures answer { result ≡ number_if (flits_refusal slice.now agent.0 line.0) }
-    ensures listed { IsListed no_action 24 (enabled_told agent.0 line.0 slice.now) actions.new count.new }
+    ensures listed { IsListed (enabled_told agent.0 line.0 slice.now)
+        actions.old actions.new count.new }
 {
     match slice.row_for(agent, line) {
         Ok(_) => {
@@ -111,10 +111,9 @@ fn list_enabled(
     steps: &[Step],
     actions: &mut [ChiAction; 24],
 ) -> u8
-    requires few { length steps.now ≤ 24 }
-    requires blank { actions.old ≡ replicate 24 no_action }
-    ensures { IsListed no_action 24 (map action_told (enabled_of slice.now agent line steps.now))
-        actions.new result }
+    requires { length steps.now ≤ 24 }
+    ensures { IsListed (map action_told (enabled_of slice.now agent line steps.now))
+        actions.old actions.new result }
 {
     let mut count = 0;
     for step in steps {

@@ -1,15 +1,16 @@
 //! The flits in flight in C's words.
 
-ghost use Rattle.std.specs.Prelude.{◌≡◌};
+ghost use Rattle.std.specs.Prelude.{◌≡◌, Some};
+ghost use Rattle.chi_flit.specs.declared.message.Msg.TheVariants as messages;
 ghost use Rattle.chi_slice.specs.Words.{channel_number, flit, flit_of};
-ghost use Rattle.chi_library.specs.Flits.{dat_down_message, dat_up_told, data_told, flit_told, flits_told, plain_told, request_told, response_told, rsp_up_message, sent_told, snoop_message, taken_told, write_message};
+ghost use Rattle.chi_library.specs.Flits.{dat_down_message, dat_up_told, flit_told, flits_told, no_flit, no_sent, request_told, response_told, rsp_up_message, sent_told, snoop_message, taken_told, write_message};
 
 use crate::numbers::{flag_number, kind_number};
-use chi_flit::{Agent, Channel, DatUp, Data, Msg, NO_DATA, Request, RspDown, RspUp, Snoop, State};
+use chi_flit::{Agent, Channel, DatUp, Msg, NO_DATA, Request, RspDown, RspUp, Snoop, State};
 use chi_slice::Cells;
 
 /// A message in flight: `ChiFlit` of `chihome.h`. `kind`, `slot` and `allow_retry` are a request's, `credit`
-/// a RetryAck's, and `words` those of a message with data; elsewhere they are 0.
+/// a RetryAck's, and `words` those of a message with data; elsewhere they are 0. `reserved` is padding in C.
 /// Source: `docs/PROTOCOL.md`, "Messages".
 #[repr(C)]
 #[derive(Clone, Copy)]
@@ -19,6 +20,7 @@ pub struct ChiFlit {
     pub slot: u8,
     pub allow_retry: u8,
     pub credit: u8,
+    pub reserved: [u8; 3],
     pub words: [u64; 8],
 }
 
@@ -32,12 +34,14 @@ pub struct ChiFlits {
 }
 
 /// A flit that an action sent or took, with its agent and the number of its channel: `ChiSent` of `chihome.h`.
+/// `reserved` is padding in C.
 /// Source: `docs/PROTOCOL.md`, "Messages".
 #[repr(C)]
 #[derive(Clone, Copy)]
 pub struct ChiSent {
     pub agent: u8,
     pub channel: u8,
+    pub reserved: [u8; 6],
     pub flit: ChiFlit,
 }
 
@@ -49,6 +53,7 @@ impl ChiFlit {
         slot: 0,
         allow_retry: 0,
         credit: 0,
+        reserved: [0; 3],
         words: NO_DATA,
     };
 }
@@ -65,42 +70,20 @@ impl ChiSent {
     pub(crate) const NONE: ChiSent = ChiSent {
         agent: 0,
         channel: 0,
+        reserved: [0; 6],
         flit: ChiFlit::NONE,
     };
 }
 
-/// A message without more.
-fn plain(message: u8) -> ChiFlit
-    ensures { result ≡ plain_told message }
+/// Tells a request, where all numbers are 0.
+fn tell_request(flit: &mut ChiFlit, request: &Request)
+    requires { flit.old ≡ no_flit }
+    ensures { flit.new ≡ request_told request.now }
 {
-    ChiFlit {
-        message,
-        ..ChiFlit::NONE
-    }
-}
-
-/// A message with data.
-fn with_data(message: u8, words: Data) -> ChiFlit
-    ensures { result ≡ data_told message words }
-{
-    ChiFlit {
-        message,
-        words,
-        ..ChiFlit::NONE
-    }
-}
-
-/// A request.
-fn request_told(request: Request) -> ChiFlit
-    ensures { result ≡ request_told request }
-{
-    ChiFlit {
-        message: 1,
-        kind: kind_number(request.kind),
-        slot: request.slot.0,
-        allow_retry: flag_number(request.allow_retry),
-        ..ChiFlit::NONE
-    }
+    flit.message = 1;
+    flit.kind = kind_number(request.kind);
+    flit.slot = request.slot.0;
+    flit.allow_retry = flag_number(request.allow_retry);
 }
 
 /// The number of a snoop's message.
@@ -115,19 +98,19 @@ fn snoop_message(snoop: Snoop) -> u8
     }
 }
 
-/// A response without data to a requester.
-fn response_told(response: RspDown) -> ChiFlit
-    ensures { result ≡ response_told response }
+/// Tells a response without data to a requester, where all numbers are 0.
+fn tell_response(flit: &mut ChiFlit, response: &RspDown)
+    requires { flit.old ≡ no_flit }
+    ensures { flit.new ≡ response_told response.now }
 {
     match response {
-        RspDown::RetryAck(credit) => ChiFlit {
-            message: 6,
-            credit: credit.number(),
-            ..ChiFlit::NONE
-        },
-        RspDown::CompUC => plain(7),
-        RspDown::CompI => plain(8),
-        RspDown::CompDBIDResp => plain(9),
+        RspDown::RetryAck(credit) => {
+            flit.message = 6;
+            flit.credit = credit.number();
+        }
+        RspDown::CompUC => flit.message = 7,
+        RspDown::CompI => flit.message = 8,
+        RspDown::CompDBIDResp => flit.message = 9,
     }
 }
 
@@ -162,15 +145,46 @@ fn write_message(state: State) -> u8
     }
 }
 
-/// A response with data to the home.
-fn dat_up_told(response: DatUp) -> ChiFlit
-    ensures { result ≡ dat_up_told response }
+/// Tells a response with data to the home, where all numbers are 0.
+fn tell_dat_up(flit: &mut ChiFlit, response: &DatUp)
+    requires { flit.old ≡ no_flit }
+    ensures { flit.new ≡ dat_up_told response.now }
 {
     match response {
-        DatUp::SnpRespDataIPD(words) => with_data(15, words),
-        DatUp::SnpRespDataSCPD(words) => with_data(16, words),
-        DatUp::SnpRespDataSD(words) => with_data(17, words),
-        DatUp::CopyBackWrData(state, words) => with_data(write_message(state), words),
+        DatUp::SnpRespDataIPD(words) => {
+            flit.message = 15;
+            flit.words = *words;
+        }
+        DatUp::SnpRespDataSCPD(words) => {
+            flit.message = 16;
+            flit.words = *words;
+        }
+        DatUp::SnpRespDataSD(words) => {
+            flit.message = 17;
+            flit.words = *words;
+        }
+        DatUp::CopyBackWrData(state, words) => {
+            flit.message = write_message(*state);
+            flit.words = *words;
+        }
+    }
+}
+
+/// Tells a message: each number once, and those that stay 0, nearly all of them, all together.
+fn tell_flit(flit: &mut ChiFlit, message: &Msg)
+    ensures { flit.new ≡ flit_told (Some message.now) }
+{
+    *flit = ChiFlit::NONE;
+    match message {
+        Msg::Req(request) => tell_request(flit, request),
+        Msg::Snp(snoop) => flit.message = snoop_message(*snoop),
+        Msg::RspDown(response) => tell_response(flit, response),
+        Msg::DatDown(sent) => {
+            flit.message = dat_down_message(sent.unique);
+            flit.words = sent.words;
+        }
+        Msg::RspUp(response) => flit.message = rsp_up_message(*response),
+        Msg::DatUp(response) => tell_dat_up(flit, response),
     }
 }
 
@@ -178,15 +192,11 @@ fn dat_up_told(response: DatUp) -> ChiFlit
 fn flit_told(message: Option<Msg>) -> ChiFlit
     ensures { result ≡ flit_told message }
 {
-    match message {
-        None => ChiFlit::NONE,
-        Some(Msg::Req(request)) => request_told(request),
-        Some(Msg::Snp(snoop)) => plain(snoop_message(snoop)),
-        Some(Msg::RspDown(response)) => response_told(response),
-        Some(Msg::DatDown(sent)) => with_data(dat_down_message(sent.unique), sent.words),
-        Some(Msg::RspUp(response)) => plain(rsp_up_message(response)),
-        Some(Msg::DatUp(response)) => dat_up_told(response),
+    let mut flit = ChiFlit::NONE;
+    if let Some(message) = message {
+        tell_flit(&mut flit, &message);
     }
+    flit
 }
 
 /// What is in flight between an agent and the home, in C's words.
@@ -219,23 +229,32 @@ fn channel_number(channel: Channel) -> u8
     }
 }
 
-/// A flit with its agent and its channel.
-pub(crate) fn sent_told(agent: Agent, message: Msg) -> ChiSent
-    ensures { result ≡ sent_told (flit agent message) }
+/// Tells a flit with its agent and its channel.
+pub(crate) fn tell_sent(told: &mut ChiSent, agent: Agent, message: &Msg)
+    ensures { told.new ≡ sent_told (flit agent message.now) }
 {
-    ChiSent {
-        agent: agent.0,
-        channel: channel_number(message.channel()),
-        flit: flit_told(Some(message)),
-    }
+    told.agent = agent.0;
+    told.channel = channel_number(message.channel());
+    told.reserved = [0; 6];
+    tell_flit(&mut told.flit, message);
 }
 
-/// The flit that an action of the agent took, if it took one.
-pub(crate) fn taken_told(agent: Agent, taken: Option<Msg>) -> ChiSent
-    ensures { result ≡ taken_told (flit_of agent taken) }
+/// Tells a snoop with its agent.
+pub(crate) fn tell_snoop(told: &mut ChiSent, agent: Agent, snoop: Snoop)
+    ensures { told.new ≡ sent_told (flit agent (messages.Snp snoop)) }
 {
-    match taken {
-        Some(message) => sent_told(agent, message),
-        None => ChiSent::NONE,
+    *told = ChiSent::NONE;
+    told.agent = agent.0;
+    told.channel = 1;
+    told.flit.message = snoop_message(snoop);
+}
+
+/// Tells the flit that an action of the agent took, if it took one, where all numbers are 0.
+pub(crate) fn tell_taken(told: &mut ChiSent, agent: Agent, taken: &Option<Msg>)
+    requires { told.old ≡ no_sent }
+    ensures { told.new ≡ taken_told (flit_of agent taken.now) }
+{
+    if let Some(message) = taken {
+        tell_sent(told, agent, message);
     }
 }
