@@ -9,11 +9,11 @@
  *   is never copied, and nobody writes its field. A handle that is forgotten open leaks its memory.
  * - A handle belongs to one thread at a time: calls on it never overlap. Calls on two handles may.
  * - Each pointer that is passed points to a variable of its type, and no two of a call overlap. What a call is told
- *   is `const` here; what it tells is written by every call.
+ *   is `const` here; what it tells is written by every call, of an array with a count the first `count` entries.
  *
  * Each call answers CHI_OK, or the number of a refusal, after which nothing has changed; CHI_Closed of a closed
  * handle, which is not touched; and an opening of an open handle CHI_AlreadyOpen, which stays. Where a call is not
- * done, all numbers of what it tells are 0. Only the two openings take memory.
+ * done, all numbers of what it tells are 0, so also such a count. Only the two openings take memory.
  */
 #ifndef CHIHOME_H
 #define CHIHOME_H
@@ -269,15 +269,15 @@ uint8_t chi_slice_open(ChiSlice *slice, const ChiConfig *config, uint8_t index);
 uint8_t chi_slice_act(ChiSlice *slice, const ChiAction *action, ChiEffect *effect);
 
 /* Does an action as chi_slice_act does it, and tells the flits that it sent, by agent, their number, and the one that it
- * took, whose message is CHI_NoMessage where it took none. `sent` is CHI_MostSent long; all numbers behind `count` flits
- * are 0. */
+ * took, whose message is CHI_NoMessage where it took none. `sent` is CHI_MostSent long; of its entries the first `count`
+ * are written, and the others stay as they were. */
 uint8_t chi_slice_step(ChiSlice *slice, const ChiAction *action, ChiEffect *effect, ChiSent sent[8], uint8_t *count,
                        ChiSent *taken);
 
 /* Tells the agent's actions at the line that chi_slice_act would do, and their number: each step once, Load and Store of
  * word 0 with value 0, Issue for each kind with the agent's lowest slot that is idle in this slice, in the order of
- * their numbers. `actions` is CHI_MostEnabled long; all numbers behind `count` actions are 0. Nothing is done.
- * CHI_OutOfRange where the agent or the line is outside the node, or the line in another slice. */
+ * their numbers. `actions` is CHI_MostEnabled long; of its entries the first `count` are written, and the others stay
+ * as they were. Nothing is done. CHI_OutOfRange where the agent or the line is outside the node, or the line in another slice. */
 uint8_t chi_slice_enabled(ChiSlice *slice, uint8_t agent, uint8_t line, ChiAction actions[24], uint8_t *count);
 
 /* What chi_slice_act would answer. Nothing is done. */

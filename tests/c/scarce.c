@@ -68,14 +68,11 @@ static void slice_answers(void) {
     uint8_t count = 255;
     ChiConfig wrong = SIZES;
     HOLDS(chi_slice_act(&slice, &load, &effect) == CHI_Closed);
-    memset(sent, 0, sizeof sent);
     memset(&taken, 0, sizeof taken);
     HOLDS(chi_slice_step(&slice, &load, &effect, sent, &count, &taken) == CHI_Closed && count == 0);
-    HOLDS(is_blank(sent, sizeof sent) && is_blank(&taken, sizeof taken));
-    memset(enabled, 255, sizeof enabled);
+    HOLDS(is_blank(&taken, sizeof taken));
     count = 255;
     HOLDS(chi_slice_enabled(&slice, 0, 0, enabled, &count) == CHI_Closed && count == 0);
-    HOLDS(enabled[0].step == 0 && enabled[0].value == 0 && enabled[CHI_MostEnabled - 1].value == 0);
     HOLDS(chi_slice_refusal(&slice, &load) == CHI_Closed && chi_slice_show(&slice, 0, &shown) == CHI_Closed);
     HOLDS(chi_slice_flits(&slice, 0, 0, &flits) == CHI_Closed && chi_slice_journal(&slice, 0, &entry) == CHI_Closed);
     HOLDS(chi_slice_close(&slice) == CHI_Closed && slice.at == NULL);
@@ -97,13 +94,13 @@ static void slice_answers(void) {
         HOLDS(effect.effect == CHI_Nothing && effect.slot == 0 && effect.value == 0);
         memset(&taken, 255, sizeof taken);
         HOLDS(chi_slice_step(&slice, &actions[place], &effect, sent, &count, &taken) == CHI_OutOfRange && count == 0);
-        HOLDS(taken.flit.message == CHI_NoMessage && taken.flit.words[7] == 0 && sent[7].flit.message == CHI_NoMessage);
+        HOLDS(taken.flit.message == CHI_NoMessage && taken.flit.words[7] == 0);
         HOLDS(chi_slice_show(&slice, 1, &same) == CHI_OK && memcmp(shown.copies, same.copies, sizeof same.copies) == 0);
     }
     memset(&shown, 0, sizeof shown);
     HOLDS(chi_slice_show(&slice, 0, &shown) == CHI_OutOfRange && is_blank(&shown, sizeof shown));
     HOLDS(chi_slice_journal(&slice, 0, &entry) == CHI_OutOfRange);
-    HOLDS(chi_slice_enabled(&slice, 0, 0, enabled, &count) == CHI_OutOfRange && count == 0 && enabled[0].step == 0);
+    HOLDS(chi_slice_enabled(&slice, 0, 0, enabled, &count) == CHI_OutOfRange && count == 0);
     HOLDS(chi_slice_enabled(&slice, 2, 1, enabled, &count) == CHI_OutOfRange && count == 0);
     HOLDS(chi_slice_enabled(&slice, 1, 1, enabled, &count) == CHI_OK && count == 3 && enabled[2].kind == CHI_ReadUnique);
     HOLDS(chi_slice_close(&slice) == CHI_OK && slice.at == NULL && chi_slice_close(&slice) == CHI_Closed);

@@ -36,6 +36,16 @@ static int is_action(const ChiAction *action, const ChiAction *wanted) {
         action->value == wanted->value;
 }
 
+/* What no call writes: an array of flits or actions is filled with it before each. */
+enum { UNWRITTEN = 0xA5 };
+
+static int is_unwritten(const void *from, size_t size) {
+    const unsigned char *bytes = from;
+    for (size_t place = 0; place < size; place++)
+        if (bytes[place] != UNWRITTEN) return 0;
+    return 1;
+}
+
 static int is_blank(const ChiSent *sent) {
     static const ChiFlit NONE;
     return sent->agent == 0 && sent->channel == 0 && is_same(&sent->flit, &NONE);
@@ -66,10 +76,12 @@ static int tell_flits(const ChiAction *action) {
     uint8_t count, line = action->line % LINES;
     read_flits(line, before);
     uint8_t answer = chi_slice_act(&one, action, &effect);
+    memset(sent, UNWRITTEN, sizeof sent);
+    memset(&taken, UNWRITTEN, sizeof taken);
     HOLDS(chi_slice_step(&other, action, &told, sent, &count, &taken) == answer);
     HOLDS(effect.effect == told.effect && effect.slot == told.slot && effect.value == told.value);
     HOLDS(count <= CHI_MostSent && (answer == CHI_OK || (count == 0 && is_blank(&taken))));
-    for (int place = count; place < CHI_MostSent; place++) HOLDS(is_blank(&sent[place]));
+    HOLDS(is_unwritten(&sent[count], (size_t)(CHI_MostSent - count) * sizeof *sent));
     read_flits(line, after);
     move_flits(before, sent, count, &taken);
     for (int agent = 0; agent < AGENTS; agent++)
@@ -94,12 +106,12 @@ static uint8_t find_enabled(uint8_t agent, uint8_t line, ChiAction *found) {
 
 static uint64_t tell_enabled(uint8_t agent, uint8_t line) {
     ChiAction actions[CHI_MostEnabled], found[CHI_MostEnabled];
-    static const ChiAction NONE;
     uint8_t count;
+    memset(actions, UNWRITTEN, sizeof actions);
     HOLDS(chi_slice_enabled(&other, agent, line, actions, &count) == CHI_OK);
     HOLDS(count == find_enabled(agent, line, found));
-    for (int place = 0; place < CHI_MostEnabled; place++)
-        HOLDS(is_action(&actions[place], place < count ? &found[place] : &NONE));
+    for (int place = 0; place < count; place++) HOLDS(is_action(&actions[place], &found[place]));
+    HOLDS(is_unwritten(&actions[count], (size_t)(CHI_MostEnabled - count) * sizeof *actions));
     return count;
 }
 
