@@ -11,3 +11,4 @@ pub mod SliceHandle
 pub mod SliceCalls
 pub mod Listed
 pub mod Enabled
+pub mod PlainSteps

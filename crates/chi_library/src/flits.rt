@@ -171,6 +171,7 @@ fn tell_dat_up(flit: &mut ChiFlit, response: &DatUp)
 }
 
 /// Tells a message: each number once, and those that stay 0, nearly all of them, all together.
+#[inline(never)]
 fn tell_flit(flit: &mut ChiFlit, message: &Msg)
     ensures { flit.new ≡ flit_told (Some message.now) }
 {

@@ -1,21 +1,23 @@
 //! An action on a slice with the flits that it took and sent, for C.
 
-ghost use Rattle.std.specs.Prelude.{◌≡◌, [], map};
+ghost use Rattle.std.specs.Prelude.{◌≡◌, ◌∷◌, [], Some, map, true};
 ghost use Rattle.chi_library.specs.Actions.{action_of, no_effect};
 ghost use Rattle.chi_library.specs.Calls.{answer_number, output_of, state_after};
-ghost use Rattle.chi_library.specs.Flits.{no_sent, sent_told};
+ghost use Rattle.chi_library.specs.Flits.{no_sent, sent_told, taken_told};
 ghost use Rattle.chi_library.specs.Listed.{IsListed};
 ghost use Rattle.chi_library.specs.Numbers.{number_if};
+ghost use Rattle.chi_library.specs.PlainSteps.{is_plain, plain_sent, plain_taken};
 ghost use Rattle.chi_library.specs.SliceCalls.{act_after, act_told, decoded_refusal, sent_shown, taken_shown};
+ghost use Rattle.chi_slice.specs.Slice.{action_refusal, slice_after_try};
 ghost use Rattle.chi_slice.specs.Traffic.{flits_in};
-ghost use Rattle.chi_slice.specs.Words.{snoop_flits};
+ghost use Rattle.chi_slice.specs.Words.{flit, flit_of, snoop_flits};
 
 use crate::actions::{ChiAction, ChiEffect, action_at, tell_effect};
 use crate::answers::{CLOSED, DONE, OUT_OF_RANGE};
 use crate::flits::{ChiSent, tell_sent, tell_snoop, tell_taken};
 use crate::slice_handle::ChiSlice;
-use chi_flit::{Agent, Snoop};
-use chi_slice::{FlitsSent, Slice};
+use chi_flit::{Action, Agent, Channel, Msg, Request, RspUp, Snoop, Step};
+use chi_slice::{Cells, FlitsSent, Slice};
 use std::alloc::Global;
 
 /// Does one action as `chi_slice_act` does it, and tells the flits that it sent, by agent, and the one that it
@@ -80,6 +82,9 @@ fn step(
     let Some(action) = action_at(action) else {
         return OUT_OF_RANGE;
     };
+    if is_plain(action.step) {
+        return step_plain(slice, action, effect, sent, count, taken);
+    }
     match slice.act_with_traffic(action) {
         Ok(traffic) => {
             tell_effect(effect, traffic.effect);
@@ -91,16 +96,103 @@ fn step(
     }
 }
 
+/// Whether what a step takes is in one cell, and what it sends is none or known by the step alone.
+fn is_plain(step: Step) -> bool
+    ensures { result ≡ is_plain step }
+{
+    match step {
+        Step::Load(_) | Step::Store(..) | Step::Drop | Step::Issue(..) => true,
+        Step::Admit | Step::RecvRetry | Step::Cancel => true,
+        Step::RecvData | Step::RecvAck | Step::RecvWrData => true,
+        _ => false,
+    }
+}
+
+/// Does a plain action as `step` does it, without a copy of its flits.
+fn step_plain(
+    slice: &mut Slice<Global>,
+    action: Action,
+    effect: &mut ChiEffect,
+    sent: &mut [ChiSent; 8],
+    count: &mut u8,
+    taken: &mut ChiSent,
+) -> u8
+    requires plain { is_plain action.step ≡ true }
+    requires effect { effect.old ≡ no_effect }
+    requires count { count.old ≡ 0 }
+    requires taken { taken.old ≡ no_sent }
+    ensures answer { result ≡ number_if (action_refusal slice.old action) }
+    ensures after { slice.new ≡ slice_after_try slice.old action }
+    ensures effect { effect.new ≡ act_told (Some action) slice.old }
+    ensures sent { IsListed (sent_shown (Some action) slice.old) sent.old sent.new count.new }
+    ensures taken { taken.new ≡ taken_shown (Some action) slice.old }
+{
+    match slice.agent_line(action.agent, action.line) {
+        Ok(at) => tell_plain(taken, action.agent, at.flits, action.step),
+        Err(reason) => return reason.number(),
+    }
+    match slice.act(action) {
+        Ok(done) => {
+            tell_effect(effect, done);
+            *count = list_plain(action.agent, action.step, sent);
+            DONE
+        }
+        Err(reason) => {
+            *taken = ChiSent::NONE;
+            reason.number()
+        }
+    }
+}
+
+/// Tells the flit that a plain step takes, if there is one.
+fn tell_plain(taken: &mut ChiSent, agent: Agent, cells: &Cells, step: Step)
+    requires plain { is_plain step ≡ true }
+    requires blank { taken.old ≡ no_sent }
+    ensures { taken.new ≡ taken_told (flit_of agent (plain_taken cells.now step)) }
+{
+    match step {
+        Step::Admit => tell_taken(taken, agent, &cells.get(Channel::Req)),
+        Step::RecvRetry => tell_taken(taken, agent, &cells.get(Channel::RspDown)),
+        Step::RecvData => tell_taken(taken, agent, &cells.get(Channel::DatDown)),
+        Step::RecvAck => tell_taken(taken, agent, &cells.get(Channel::RspUp)),
+        Step::RecvWrData => tell_taken(taken, agent, &cells.get(Channel::DatUp)),
+        _ => {}
+    }
+}
+
+/// Lists the flit that a plain step sends, if it sends one, and answers how many they are.
+fn list_plain(agent: Agent, step: Step, sent: &mut [ChiSent; 8]) -> u8
+    ensures { IsListed (map sent_told (plain_sent agent step)) sent.old sent.new result }
+{
+    match step {
+        Step::Issue(kind, slot) => {
+            let request = Request {
+                kind,
+                slot,
+                allow_retry: true,
+            };
+            list_one(agent, &Msg::Req(request), sent)
+        }
+        Step::RecvData => list_one(agent, &Msg::RspUp(RspUp::CompAck), sent),
+        _ => 0,
+    }
+}
+
+/// Lists one flit.
+fn list_one(agent: Agent, message: &Msg, sent: &mut [ChiSent; 8]) -> u8
+    ensures { IsListed (sent_told (flit agent message.now) ∷ []) sent.old sent.new result }
+{
+    tell_sent(&mut sent[0], agent, message);
+    1
+}
+
 /// Lists the flits that an action sent, and answers how many they are.
 fn list_sent(flits: &FlitsSent, sent: &mut [ChiSent; 8]) -> u8
     ensures { IsListed (map sent_told (flits_in flits.now)) sent.old sent.new result }
 {
     match flits {
         FlitsSent::Nothing => 0,
-        FlitsSent::One { agent, message } => {
-            tell_sent(&mut sent[0], *agent, message);
-            1
-        }
+        FlitsSent::One { agent, message } => list_one(*agent, message, sent),
         FlitsSent::Snoops { snoop, agents } => list_snoops(*snoop, agents, sent),
     }
 }
