@@ -85,6 +85,29 @@ fn step(
     if is_plain(action.step) {
         return step_plain(slice, action, effect, sent, count, taken);
     }
+    step_with_traffic(slice, action, effect, sent, count, taken)
+}
+
+/// Does an action as `step` does it, by a copy of its flits. It isn't inlined, so that the frame of `step` stays
+/// small.
+#[inline(never)]
+fn step_with_traffic(
+    slice: &mut Slice<Global>,
+    action: Action,
+    effect: &mut ChiEffect,
+    sent: &mut [ChiSent; 8],
+    count: &mut u8,
+    taken: &mut ChiSent,
+) -> u8
+    requires effect { effect.old ≡ no_effect }
+    requires count { count.old ≡ 0 }
+    requires taken { taken.old ≡ no_sent }
+    ensures answer { result ≡ number_if (action_refusal slice.old action) }
+    ensures after { slice.new ≡ slice_after_try slice.old action }
+    ensures effect { effect.new ≡ act_told (Some action) slice.old }
+    ensures sent { IsListed (sent_shown (Some action) slice.old) sent.old sent.new count.new }
+    ensures taken { taken.new ≡ taken_shown (Some action) slice.old }
+{
     match slice.act_with_traffic(action) {
         Ok(traffic) => {
             tell_effect(effect, traffic.effect);
