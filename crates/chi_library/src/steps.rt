@@ -17,7 +17,7 @@ use crate::answers::{CLOSED, DONE, OUT_OF_RANGE};
 use crate::flits::{ChiSent, tell_sent, tell_snoop, tell_taken};
 use crate::slice_handle::ChiSlice;
 use chi_flit::{Action, Agent, Channel, Msg, Request, RspUp, Snoop, Step};
-use chi_slice::{Cells, FlitsSent, Slice};
+use chi_slice::{Cells, FlitsSent, Slice, Terms};
 use std::alloc::Global;
 
 /// Does one action as `chi_slice_act` does it, and tells the flits that it sent, by agent, and the one that it
@@ -154,9 +154,9 @@ fn step_plain(
         Ok(at) => tell_plain(taken, action.agent, at.flits, action.step),
         Err(reason) => return reason.number(),
     }
-    match slice.act(action) {
+    match slice.act_under(action, Terms::NONE) {
         Ok(done) => {
-            tell_effect(effect, done);
+            tell_effect(effect, done.effect);
             *count = list_plain(action.agent, action.step, sent);
             DONE
         }
