@@ -14,7 +14,6 @@ use contract.Monad.{fact_use}
 use denote.RattleType.{RattleType}
 use denote.Memory.{lone}
 use denote.Param.{layout}
-use denote.Param.Laws.{Laws}
 use denote.RawPtr.{Ptr, Testable, block_ptr, null_ptr, ptr_val, in_a_block, lies_at}
 use denote.Struct.Owning.{shape}
 use base.Fraction.{full_share}

@@ -1,7 +1,7 @@
 -- A `BoxPointer` by value. Assumes `Logic`.
 --     pointer_out     it owns the value at its pointer, which isn't null, and its handle
 --     pointer_in      the other way
-use Rattle.std.proofs.Common.{◌≡◌, ℕ, List, [], ◌∷◌, subst, ap, ◌∙◌}
+use Rattle.std.proofs.Common.{◌≡◌, ℕ, List, [], ◌∷◌, subst}
 use seplogic.Ra.Ura.{Ura}
 use mir.Raw.{raw as bare}
 use mir.Val.{Val, vptr}

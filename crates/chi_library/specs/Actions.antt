@@ -8,10 +8,7 @@ use Rattle.chi_flit.specs.declared.action.Effect.TheVariants.{Nothing, Value, Co
 use Rattle.chi_flit.specs.declared.action.Step.{Step}
 use Rattle.chi_flit.specs.declared.action.Step.TheVariants.{Load, Store, Drop, Issue, Admit, Retry, RecvRetry, Resend, Cancel, Start, RecvSnp, RecvSnpResp, RecvData, RecvComp, RecvAck, RecvDbid, RecvWrData}
 use Rattle.chi_flit.specs.declared.kind.Kind.{Kind}
-use Rattle.chi_flit.specs.declared.numbers.Agent.{Agent}
-use Rattle.chi_flit.specs.declared.numbers.Line.{Line}
 use Rattle.chi_flit.specs.declared.numbers.Slot.{Slot}
-use Rattle.chi_flit.specs.declared.numbers.WordNo.{WordNo}
 use Rattle.chi_library.specs.declared.actions.ChiAction.{ChiAction}
 use Rattle.chi_library.specs.declared.actions.ChiEffect.{ChiEffect}
 use Rattle.chi_library.specs.Numbers.{kind_number, kind_of}

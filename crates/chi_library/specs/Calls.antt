@@ -1,5 +1,5 @@
 -- What a call of C on a handle answers, leaves and writes (docs/LIBRARY.md, "Answers").
-use Rattle.std.specs.Prelude.{◌≡◌, ◌⊎◌, ℕ, Option, Some, None}
+use Rattle.std.specs.Prelude.{◌≡◌, ℕ, Option, Some, None}
 use Rattle.chi_flit.specs.declared.refusal.Refusal.{Refusal}
 use Rattle.chi_library.specs.Numbers.{number_if}
 

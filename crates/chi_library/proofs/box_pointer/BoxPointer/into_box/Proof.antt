@@ -33,7 +33,6 @@ use Rattle.std_alloc.proofs.BoxSteps.Steps.{box_out, box_in}
 use Rattle.std.proofs.raw_atomic.Walks.{proved_at, leaves}
 use Rattle.chi_library.proofs.Fields.{both, both_good}
 use Rattle.chi_library.proofs.Pointers.{Pointer, pointer_out}
-use Rattle.chi_library.specs.contracts.box_pointer.BoxPointer as pointer
 use Rattle.std_alloc.specs.contracts.boxed.Box.from_raw as callee
 use Rattle.std_alloc.proofs.boxed.Box.from_raw.Met.{met}
 use Rattle.chi_library.specs.contracts.box_pointer.BoxPointer.into_box as f

@@ -19,9 +19,7 @@ use denote.Triple.Walked.{Stays, stay_dropped, walk_of, Goes-dropped}
 use Rattle.std.proofs.alloc.Global.TheLaws as heap_laws
 use Rattle.std.proofs.raw_atomic.Walks.{proved_at, leaves}
 use Rattle.std.specs.contracts.impls.GlobalAllocator.TheImpl.{ghosts}
-use Rattle.std.specs.declared.option.Option.{Option}
 use Rattle.std.specs.declared.option.Option.TheVariants.{Some}
-use Rattle.chi_slice.specs.Slice.{SliceState}
 use Rattle.chi_library.specs.SliceHandle.{slice_row}
 use Rattle.chi_library.proofs.Fields.{both, both_good}
 use Rattle.chi_library.proofs.Pointers.{Pointer, pointer_out}
