@@ -5,7 +5,10 @@ use std::test::Fail;
 
 /// Files, and their first faults.
 const FAULTS: [(&[u8], TraceFault); 9] = [
-    (b"REQ 8 40 1 Evict 0 - - 1 - -", TraceFault::MissingNewline(1)),
+    (
+        b"REQ 8 40 1 Evict 0 - - 1 - -",
+        TraceFault::MissingNewline(1),
+    ),
     (b"\nREQ 8 40 1 Evict 0 - - 1 -\n", TraceFault::FewWords(2)),
     (
         b"QER 8 40 1 Evict 0 - - 1 - -\n",
