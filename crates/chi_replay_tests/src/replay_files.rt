@@ -52,10 +52,18 @@ fn action(step: Step) -> Action
     }
 }
 
+/// The action that a command is.
+fn action_in(command: &Command) -> Option<Action> {
+    match command {
+        Command::Act(action) => Some(action.action()),
+        _ => None,
+    }
+}
+
 /// One line, which is given without its end, is read as a command that is this action.
 fn acts(rt: &impl Abort, alloc: Global, line: &[u8], wanted: Action) {
     let read = match line_two(alloc, line) {
-        Ok(Some(Command::Act(read))) => Some(read.action()),
+        Ok(Some(command)) => action_in(&command),
         _ => None,
     };
     assert!(rt; read == Some(wanted), "{line:?}");
