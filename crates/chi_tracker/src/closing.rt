@@ -9,7 +9,7 @@ ghost use Rattle.chi_tracker.specs.History.{history_outcome, Legal, ArePortsOf};
 ghost use Rattle.chi_tracker.specs.Laws.{duties};
 ghost use Rattle.chi_tracker.specs.Totals.{views_of, longest, closed_state, AreDue, AreCredits};
 
-use crate::law::{Board, Chair, Law};
+use crate::law::{Board, Law, PortSeat};
 use crate::plays::{Enter, Gather};
 use crate::port::{Port, Seated};
 use crate::shape::Shape;
@@ -26,7 +26,7 @@ pub(crate) type Dues = [u32; 32];
 
 /// A seat that stands for all ports, and what they were due.
 pub(crate) struct Gathered {
-    pub(crate) chair: Chair,
+    pub(crate) port_seat: PortSeat,
     pub(crate) dues: Dues,
 }
 
@@ -59,25 +59,25 @@ pub(crate) fn gather(board: &Board, mut ports: ArrayVec<Port, 8>) -> Gathered
     requires table { (board.now.table_id.words ≡ word_count)
         × All (λ p. p.table ≡ board.now.table_id) ports.items }
     requires few { length ports.items ≤ 8 }
-    ensures chair { (result.chair.table_id ≡ board.now.table_id)
-        × (result.chair.me.0.ports ≡ views_of ports.items) }
-    ensures history { result.chair.me.0.history ≡ longest ports.items }
+    ensures port_seat { (result.port_seat.table_id ≡ board.now.table_id)
+        × (result.port_seat.me.0.ports ≡ views_of ports.items) }
+    ensures history { result.port_seat.me.0.history ≡ longest ports.items }
     ensures idle { (n t : ℕ) → duties n t (views_of ports.items) ≡ 0 }
     ensures due { AreDue result.dues (views_of ports.items) }
 {
-    let (_, mut chair) = board.load_new_seat::<Enter>(0);
+    let (_, mut port_seat) = board.load_new_seat::<Enter>(0);
     let mut dues = [0; 32];
     while let Some(port) = ports.pop() {
         let Seated {
-            chair: own,
+            port_seat: own,
             number,
             due,
         } = port.into_seated();
         let sums = add_due(dues, number, due);
         dues = sums;
-        board.join_seat::<Gather>(&mut chair, own);
+        board.join_seat::<Gather>(&mut port_seat, own);
     }
-    Gathered { chair, dues }
+    Gathered { port_seat, dues }
 }
 
 /// The words of a closed tracker.
@@ -95,18 +95,18 @@ fn read<A: Allocator>(closed: &Closed<u8, A>) -> Words
 /// Ends the words' table with the seat that stands for all ports: what the words hold then.
 pub(crate) fn last_words<A: Allocator>(
     table: Table<u8, SeatView, Shape, Law, A>,
-    chair: Chair,
+    port_seat: PortSeat,
 ) -> Words
     requires words { (table.shared.table_id.words ≡ word_count)
         × (table.shared.table_id.slots ≡ 0) }
-    requires table { chair.table_id ≡ table.shared.table_id }
-    requires all { length chair.me.0.ports ≡ table.shared.key.agents }
-    ensures rule { TrackerRule table.shared.key (closed_state result chair.me.0.ports) }
-    ensures history { Legal table.shared.key chair.me.0.history
-        × (result ≡ (history_outcome table.shared.key chair.me.0.history).words)
-        × ArePortsOf table.shared.key chair.me.0.history [] chair.me.0.ports }
+    requires table { port_seat.table_id ≡ table.shared.table_id }
+    requires all { length port_seat.me.0.ports ≡ table.shared.key.agents }
+    ensures rule { TrackerRule table.shared.key (closed_state result port_seat.me.0.ports) }
+    ensures history { Legal table.shared.key port_seat.me.0.history
+        × (result ≡ (history_outcome table.shared.key port_seat.me.0.history).words)
+        × ArePortsOf table.shared.key port_seat.me.0.history [] port_seat.me.0.ports }
 {
-    let closed = table.close_with(chair);
+    let closed = table.close_with(port_seat);
     let words = read(&closed);
     closed.free();
     words

@@ -88,4 +88,4 @@ impl Law {
 pub(crate) type Board = Shared<u8, SeatView, Shape, Law>;
 
 /// What a port steps with.
-pub(crate) type Chair = Seat<u8, SeatView>;
+pub(crate) type PortSeat = Seat<u8, SeatView>;

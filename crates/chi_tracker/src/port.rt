@@ -10,7 +10,7 @@ ghost use Rattle.chi_tracker.specs.Conduct.{Does, FoundFree, FoundTaken, One, Th
 ghost use Rattle.chi_tracker.specs.Steps.{shown, solo, frees, spends};
 ghost use Rattle.chi_tracker.specs.Calls.{no_owner, scanned_all, owed_one, saw_all, seen_of, FoundAll, HasClaimed, IsLowestSeen, EndedAsItsType, Tended, HasReturned, HasSameCredits, HasOneLess};
 
-use crate::law::Chair;
+use crate::law::PortSeat;
 use crate::marks::others;
 use crate::paying::{owe_one, pay};
 use crate::released::Released;
@@ -39,7 +39,7 @@ use std::marker::Model;
 /// Source: `docs/PROTOCOL.md`, "Words of the tracker".
 #[derive(Drop)]
 pub struct Port {
-    chair: Option<Chair>,
+    port_seat: Option<PortSeat>,
     number: usize,
     shape: Shape,
     seen: [u64; 4],
@@ -48,7 +48,7 @@ pub struct Port {
 
 /// A port's seat, as it is given back at the end.
 pub(crate) struct Seated {
-    pub(crate) chair: Chair,
+    pub(crate) port_seat: PortSeat,
     pub(crate) number: usize,
     pub(crate) due: [u32; 4],
 }
@@ -58,9 +58,9 @@ impl Model for Port {
 
     ghost Value = { Owner };
 
-    ghost view = { λ p. owner_of p.chair };
+    ghost view = { λ p. owner_of p.port_seat };
 
-    ghost invariant = { λ p. IsPortKept p.chair p.number p.shape p.seen p.due };
+    ghost invariant = { λ p. IsPortKept p.port_seat p.number p.shape p.seen p.due };
 }
 
 impl Default for Port {
@@ -68,7 +68,7 @@ impl Default for Port {
 
     fn default() -> Port {
         Port {
-            chair: None,
+            port_seat: None,
             number: 0,
             shape: Shape {
                 sizes: [0; 4],
@@ -82,14 +82,14 @@ impl Default for Port {
 
 impl Port {
     // The port of requester `number`, which has done nothing yet.
-    pub(crate) fn on_chair(chair: Chair, number: usize, shape: Shape) -> Port
-        requires view { (shown chair.me ≡ solo (new_port shape number))
-            × (chair.me.0.history ≡ []) }
+    pub(crate) fn on_seat(port_seat: PortSeat, number: usize, shape: Shape) -> Port
+        requires view { (shown port_seat.me ≡ solo (new_port shape number))
+            × (port_seat.me.0.history ≡ []) }
         requires shape { IsShape shape × (number < shape.agents) }
-        ensures { result ≡ record { table = chair.table_id; port = new_port shape number; history = [] } }
+        ensures { result ≡ record { table = port_seat.table_id; port = new_port shape number; history = [] } }
     {
         Port {
-            chair: Some(chair),
+            port_seat: Some(port_seat),
             number,
             shape,
             seen: [0; 4],
@@ -100,24 +100,28 @@ impl Port {
     // The port's seat, with its number and the credits due.
     pub(crate) fn into_seated(self) -> Seated
         requires { 0 < self.table.words }
-        ensures chair { (result.chair.table_id ≡ self.table)
-            × (shown result.chair.me ≡ solo self.port)
-            × (result.chair.me.0.history ≡ self.history) }
+        ensures port_seat { (result.port_seat.table_id ≡ self.table)
+            × (shown result.port_seat.me ≡ solo self.port)
+            × (result.port_seat.me.0.history ≡ self.history) }
         ensures number { (result.number ≡ self.port.who) × (self.port.duty ≡ None) }
         ensures due { (t : ℕ) → t < 4 → IsDue self.port t (slice_index result.due t) }
         ensures few { (t : ℕ) → t < 4 → slice_index result.due t ≤ 8 }
     {
         let Port {
-            chair,
+            port_seat,
             number,
             shape: _,
             seen: _,
             due,
         } = self;
-        let Some(chair) = chair else {
+        let Some(port_seat) = port_seat else {
             unreachable!();
         };
-        Seated { chair, number, due }
+        Seated {
+            port_seat,
+            number,
+            due,
+        }
     }
 
     /// Tries the entries of the type from the lowest, in one scan, until one is free: it comes to hand.
@@ -144,12 +148,12 @@ impl Port {
         ensures running { IsAfter self.new.history self.new.port }
     {
         let board = tracker.board();
-        let Some(mut chair) = self.chair.take() else {
+        let Some(mut port_seat) = self.port_seat.take() else {
             unreachable!();
         };
         let (first, count) = (self.shape.first(ty), self.shape.count(ty));
-        let found = scan(board, &mut chair, ty.number() as usize, first, count);
-        self.chair = Some(chair);
+        let found = scan(board, &mut port_seat, ty.number() as usize, first, count);
+        self.port_seat = Some(port_seat);
         match found {
             Some(entry) => Some(Entry(entry as u8)),
             None => None,
@@ -169,11 +173,11 @@ impl Port {
         ensures running { IsAfter self.new.history self.new.port }
     {
         let board = tracker.board();
-        let Some(mut chair) = self.chair.take() else {
+        let Some(mut port_seat) = self.port_seat.take() else {
             unreachable!();
         };
-        free_step(board, &mut chair, usize::from(entry.0));
-        self.chair = Some(chair);
+        free_step(board, &mut port_seat, usize::from(entry.0));
+        self.port_seat = Some(port_seat);
     }
 
     /// Owes the requester one more credit of the type: it looks at its own word of owed credits and sets the
@@ -193,13 +197,13 @@ impl Port {
         ensures running { IsAfter self.new.history self.new.port }
     {
         let board = tracker.board();
-        let Some(mut chair) = self.chair.take() else {
+        let Some(mut port_seat) = self.port_seat.take() else {
             unreachable!();
         };
         let kind = ty.number() as usize;
-        owe_one(board, &mut chair, self.number, kind);
+        owe_one(board, &mut port_seat, self.number, kind);
         self.due[kind] += 1;
-        self.chair = Some(chair);
+        self.port_seat = Some(port_seat);
     }
 
     /// Looks at what is promised to the port, one step on each of its four words, and answers the seen
@@ -219,14 +223,14 @@ impl Port {
         ensures acts { Does self.old (SeeActs self.new.port.seen) self.new }
     {
         let board = tracker.board();
-        let Some(mut chair) = self.chair.take() else {
+        let Some(mut port_seat) = self.port_seat.take() else {
             unreachable!();
         };
-        self.seen[0] = see_step(board, &mut chair, self.number, 0);
-        self.seen[1] = see_step(board, &mut chair, self.number, 1);
-        self.seen[2] = see_step(board, &mut chair, self.number, 2);
-        self.seen[3] = see_step(board, &mut chair, self.number, 3);
-        self.chair = Some(chair);
+        self.seen[0] = see_step(board, &mut port_seat, self.number, 0);
+        self.seen[1] = see_step(board, &mut port_seat, self.number, 1);
+        self.seen[2] = see_step(board, &mut port_seat, self.number, 2);
+        self.seen[3] = see_step(board, &mut port_seat, self.number, 3);
+        self.port_seat = Some(port_seat);
         counts_by_type(&self.seen, &self.shape)
     }
 
@@ -267,15 +271,15 @@ impl Port {
         ensures running { IsAfter self.new.history self.new.port }
     {
         let board = tracker.board();
-        let Some(mut chair) = self.chair.take() else {
+        let Some(mut port_seat) = self.port_seat.take() else {
             unreachable!();
         };
         let kind = ty.number() as usize;
         let entry = lowest(self.seen, self.shape.first(ty), self.shape.count(ty));
-        pay(board, &mut chair, self.number, kind, entry, false);
+        pay(board, &mut port_seat, self.number, kind, entry, false);
         self.seen[entry / 64] &= others(entry % 64);
         self.due[kind] -= 1;
-        self.chair = Some(chair);
+        self.port_seat = Some(port_seat);
         Entry(entry as u8)
     }
 
@@ -303,13 +307,13 @@ impl Port {
         ensures running { IsAfter self.new.history self.new.port }
     {
         let board = tracker.board();
-        let Some(mut chair) = self.chair.take() else {
+        let Some(mut port_seat) = self.port_seat.take() else {
             unreachable!();
         };
         let entry = usize::from(entry.0);
         let kind = self.shape.kind_of(entry);
-        let released = release_entry(board, &mut chair, kind, self.shape.agents, entry);
-        self.chair = Some(chair);
+        let released = release_entry(board, &mut port_seat, kind, self.shape.agents, entry);
+        self.port_seat = Some(port_seat);
         released
     }
 
@@ -333,16 +337,16 @@ impl Port {
         ensures running { IsAfter self.new.history self.new.port }
     {
         let board = tracker.board();
-        let Some(mut chair) = self.chair.take() else {
+        let Some(mut port_seat) = self.port_seat.take() else {
             unreachable!();
         };
         let kind = ty.number() as usize;
         let entry = lowest(self.seen, self.shape.first(ty), self.shape.count(ty));
-        pay(board, &mut chair, self.number, kind, entry, true);
+        pay(board, &mut port_seat, self.number, kind, entry, true);
         self.seen[entry / 64] &= others(entry % 64);
         self.due[kind] -= 1;
-        let released = release_entry(board, &mut chair, kind, self.shape.agents, entry);
-        self.chair = Some(chair);
+        let released = release_entry(board, &mut port_seat, kind, self.shape.agents, entry);
+        self.port_seat = Some(port_seat);
         released
     }
 
@@ -369,13 +373,13 @@ impl Port {
         ensures running { IsAfter self.new.history self.new.port }
     {
         let board = tracker.board();
-        let Some(mut chair) = self.chair.take() else {
+        let Some(mut port_seat) = self.port_seat.take() else {
             unreachable!();
         };
         let (kind, agents) = (ty.number() as usize, self.shape.agents);
         let (first, count) = (self.shape.first(ty), self.shape.count(ty));
-        let released = tend_type(board, &mut chair, kind, agents, first, count);
-        self.chair = Some(chair);
+        let released = tend_type(board, &mut port_seat, kind, agents, first, count);
+        self.port_seat = Some(port_seat);
         released
     }
 }

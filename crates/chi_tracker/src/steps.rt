@@ -10,7 +10,7 @@ ghost use Rattle.chi_tracker.specs.History.{act, port_in, GoesOn};
 ghost use Rattle.chi_tracker.specs.Calls.{IsSeat};
 ghost use Rattle.chi_tracker.specs.Conduct.{HasStepped};
 
-use crate::law::{Board, Chair};
+use crate::law::{Board, PortSeat};
 use crate::marks::{bit, others};
 use crate::plays::{Atomic, Pick};
 use crate::step::Step;
@@ -19,60 +19,72 @@ use std::marker::Brand;
 
 /// A step that only loads its word. Which step it is, `step`, is for its contract alone.
 #[inline(always)]
-fn load_word<T: Pick>(board: &Board, chair: &mut Chair, step: Step, word: usize) -> u64
+fn load_word<T: Pick>(board: &Board, port_seat: &mut PortSeat, step: Step, word: usize) -> u64
     requires picked { T.step ≡ step }
-    requires seat { IsSeat board.now.table_id chair.old }
-    requires may { May step (port_in chair.old.me) }
-    requires word { (word ≡ word_of_step step (port_in chair.old.me).who) × (word < word_count) }
+    requires seat { IsSeat board.now.table_id port_seat.old }
+    requires may { May step (port_in port_seat.old.me) }
+    requires word { (word ≡ word_of_step step (port_in port_seat.old.me).who) × (word < word_count) }
     requires written { (r : ℕ) → r ≡ written step r }
-    ensures is { HasStepped step chair.old result chair.new }
-    ensures goes { let p = port_in chair.old.me in
-        GoesOn p (act p.who step result) chair.old.me.0.history chair.new.me.0.history }
+    ensures is { HasStepped step port_seat.old result port_seat.new }
+    ensures goes { let p = port_in port_seat.old.me in
+        GoesOn p (act p.who step result) port_seat.old.me.0.history port_seat.new.me.0.history }
 {
-    board.load::<Atomic<T>>(chair, word)
+    board.load::<Atomic<T>>(port_seat, word)
 }
 
 /// A step that sets bits of its word. Which step it is, `step`, is for its contract alone.
 #[inline(always)]
-fn set_bits<T: Pick>(board: &Board, chair: &mut Chair, step: Step, word: usize, mask: u64) -> u64
+fn set_bits<T: Pick>(
+    board: &Board,
+    port_seat: &mut PortSeat,
+    step: Step,
+    word: usize,
+    mask: u64,
+) -> u64
     requires picked { T.step ≡ step }
-    requires seat { IsSeat board.now.table_id chair.old }
-    requires may { May step (port_in chair.old.me) }
-    requires word { (word ≡ word_of_step step (port_in chair.old.me).who) × (word < word_count) }
+    requires seat { IsSeat board.now.table_id port_seat.old }
+    requires may { May step (port_in port_seat.old.me) }
+    requires word { (word ≡ word_of_step step (port_in port_seat.old.me).who) × (word < word_count) }
     requires written { (r : ℕ) → bit_or r mask ≡ written step r }
-    ensures is { HasStepped step chair.old result chair.new }
-    ensures goes { let p = port_in chair.old.me in
-        GoesOn p (act p.who step result) chair.old.me.0.history chair.new.me.0.history }
+    ensures is { HasStepped step port_seat.old result port_seat.new }
+    ensures goes { let p = port_in port_seat.old.me in
+        GoesOn p (act p.who step result) port_seat.old.me.0.history port_seat.new.me.0.history }
 {
-    board.fetch_or::<Atomic<T>>(chair, word, mask)
+    board.fetch_or::<Atomic<T>>(port_seat, word, mask)
 }
 
 /// A step that clears bits of its word. Which step it is, `step`, is for its contract alone.
 #[inline(always)]
-fn clear_bits<T: Pick>(board: &Board, chair: &mut Chair, step: Step, word: usize, mask: u64) -> u64
+fn clear_bits<T: Pick>(
+    board: &Board,
+    port_seat: &mut PortSeat,
+    step: Step,
+    word: usize,
+    mask: u64,
+) -> u64
     requires picked { T.step ≡ step }
-    requires seat { IsSeat board.now.table_id chair.old }
-    requires may { May step (port_in chair.old.me) }
-    requires word { (word ≡ word_of_step step (port_in chair.old.me).who) × (word < word_count) }
+    requires seat { IsSeat board.now.table_id port_seat.old }
+    requires may { May step (port_in port_seat.old.me) }
+    requires word { (word ≡ word_of_step step (port_in port_seat.old.me).who) × (word < word_count) }
     requires written { (r : ℕ) → bit_and r mask ≡ written step r }
-    ensures is { HasStepped step chair.old result chair.new }
-    ensures goes { let p = port_in chair.old.me in
-        GoesOn p (act p.who step result) chair.old.me.0.history chair.new.me.0.history }
+    ensures is { HasStepped step port_seat.old result port_seat.new }
+    ensures goes { let p = port_in port_seat.old.me in
+        GoesOn p (act p.who step result) port_seat.old.me.0.history port_seat.new.me.0.history }
 {
-    board.fetch_and::<Atomic<T>>(chair, word, mask)
+    board.fetch_and::<Atomic<T>>(port_seat, word, mask)
 }
 
 /// Claims the entry in a scan of the type, and answers the word of C as it was.
-pub(crate) fn claim_step(board: &Board, chair: &mut Chair, ty: usize, entry: usize) -> u64
-    requires seat { IsSeat board.now.table_id chair.old }
-    requires may { May (Step.Claim ty entry) (port_in chair.old.me) }
+pub(crate) fn claim_step(board: &Board, port_seat: &mut PortSeat, ty: usize, entry: usize) -> u64
+    requires seat { IsSeat board.now.table_id port_seat.old }
+    requires may { May (Step.Claim ty entry) (port_in port_seat.old.me) }
     requires entry { entry < 256 }
-    ensures is { HasStepped (Step.Claim ty entry) chair.old result chair.new }
-    ensures held { has entry (port_in chair.old.me) ≤ bit_at result (entry % 64) }
+    ensures is { HasStepped (Step.Claim ty entry) port_seat.old result port_seat.new }
+    ensures held { has entry (port_in port_seat.old.me) ≤ bit_at result (entry % 64) }
 {
     set_bits::<Brand>(
         board,
-        chair,
+        port_seat,
         Step::Claim(ty, entry),
         entry / 64,
         bit(entry % 64),
@@ -80,14 +92,14 @@ pub(crate) fn claim_step(board: &Board, chair: &mut Chair, ty: usize, entry: usi
 }
 
 /// Frees an entry in hand.
-pub(crate) fn free_step(board: &Board, chair: &mut Chair, entry: usize) -> u64
-    requires seat { IsSeat board.now.table_id chair.old }
-    requires may { May (Step.Free entry) (port_in chair.old.me) }
-    ensures { HasStepped (Step.Free entry) chair.old result chair.new }
+pub(crate) fn free_step(board: &Board, port_seat: &mut PortSeat, entry: usize) -> u64
+    requires seat { IsSeat board.now.table_id port_seat.old }
+    requires may { May (Step.Free entry) (port_in port_seat.old.me) }
+    ensures { HasStepped (Step.Free entry) port_seat.old result port_seat.new }
 {
     clear_bits::<Brand>(
         board,
-        chair,
+        port_seat,
         Step::Free(entry),
         entry / 64,
         others(entry % 64),
@@ -95,27 +107,27 @@ pub(crate) fn free_step(board: &Board, chair: &mut Chair, entry: usize) -> u64
 }
 
 /// Looks at the port's own word of owed credits for a place of the type, and answers the word.
-pub(crate) fn look_step(board: &Board, chair: &mut Chair, number: usize, ty: usize) -> u64
-    requires seat { IsSeat board.now.table_id chair.old }
-    requires may { May (Step.Note ty) (port_in chair.old.me) }
-    requires number { ((port_in chair.old.me).who ≡ number) × (number < 8) }
-    ensures is { HasStepped (Step.Note ty) chair.old result chair.new }
+pub(crate) fn look_step(board: &Board, port_seat: &mut PortSeat, number: usize, ty: usize) -> u64
+    requires seat { IsSeat board.now.table_id port_seat.old }
+    requires may { May (Step.Note ty) (port_in port_seat.old.me) }
+    requires number { ((port_in port_seat.old.me).who ≡ number) × (number < 8) }
+    ensures is { HasStepped (Step.Note ty) port_seat.old result port_seat.new }
     ensures few { (bit_at result (first_clear (8 * ty) result) ≡ 0)
         × (first_clear (8 * ty) result < 8 * ty + 8) }
 {
-    load_word::<Brand>(board, chair, Step::Note(ty), owed_word(number))
+    load_word::<Brand>(board, port_seat, Step::Note(ty), owed_word(number))
 }
 
 /// Sets the noted place: one more credit is owed.
-pub(crate) fn owe_step(board: &Board, chair: &mut Chair, number: usize, place: usize) -> u64
-    requires seat { IsSeat board.now.table_id chair.old }
-    requires may { May (Step.Owe place) (port_in chair.old.me) }
-    requires number { ((port_in chair.old.me).who ≡ number) × (number < 8) }
-    ensures { HasStepped (Step.Owe place) chair.old result chair.new }
+pub(crate) fn owe_step(board: &Board, port_seat: &mut PortSeat, number: usize, place: usize) -> u64
+    requires seat { IsSeat board.now.table_id port_seat.old }
+    requires may { May (Step.Owe place) (port_in port_seat.old.me) }
+    requires number { ((port_in port_seat.old.me).who ≡ number) × (number < 8) }
+    ensures { HasStepped (Step.Owe place) port_seat.old result port_seat.new }
 {
     set_bits::<Brand>(
         board,
-        chair,
+        port_seat,
         Step::Owe(place),
         owed_word(number),
         bit(place),
@@ -123,31 +135,31 @@ pub(crate) fn owe_step(board: &Board, chair: &mut Chair, number: usize, place: u
 }
 
 /// Looks at the credits owed to a requester in a sweep of the type, and answers the word.
-pub(crate) fn sweep_step(board: &Board, chair: &mut Chair, ty: usize, agent: usize) -> u64
-    requires seat { IsSeat board.now.table_id chair.old }
-    requires may { May (Step.Look ty agent) (port_in chair.old.me) }
+pub(crate) fn sweep_step(board: &Board, port_seat: &mut PortSeat, ty: usize, agent: usize) -> u64
+    requires seat { IsSeat board.now.table_id port_seat.old }
+    requires may { May (Step.Look ty agent) (port_in port_seat.old.me) }
     requires agent { agent < 8 }
-    ensures { HasStepped (Step.Look ty agent) chair.old result chair.new }
+    ensures { HasStepped (Step.Look ty agent) port_seat.old result port_seat.new }
 {
-    load_word::<Brand>(board, chair, Step::Look(ty, agent), owed_word(agent))
+    load_word::<Brand>(board, port_seat, Step::Look(ty, agent), owed_word(agent))
 }
 
 /// Tries to settle a place of the entry's type at a requester, and answers the word as it was.
 pub(crate) fn settle_step(
     board: &Board,
-    chair: &mut Chair,
+    port_seat: &mut PortSeat,
     agent: usize,
     place: usize,
     entry: usize,
 ) -> u64
-    requires seat { IsSeat board.now.table_id chair.old }
-    requires may { May (Step.Settle entry agent place) (port_in chair.old.me) }
+    requires seat { IsSeat board.now.table_id port_seat.old }
+    requires may { May (Step.Settle entry agent place) (port_in port_seat.old.me) }
     requires agent { agent < 8 }
-    ensures { HasStepped (Step.Settle entry agent place) chair.old result chair.new }
+    ensures { HasStepped (Step.Settle entry agent place) port_seat.old result port_seat.new }
 {
     clear_bits::<Brand>(
         board,
-        chair,
+        port_seat,
         Step::Settle(entry, agent, place),
         owed_word(agent),
         others(place),
@@ -155,15 +167,20 @@ pub(crate) fn settle_step(
 }
 
 /// Promises the entry under duty to the requester of the duty.
-pub(crate) fn promise_step(board: &Board, chair: &mut Chair, agent: usize, entry: usize) -> u64
-    requires seat { IsSeat board.now.table_id chair.old }
-    requires may { May (Step.Promise entry agent) (port_in chair.old.me) }
+pub(crate) fn promise_step(
+    board: &Board,
+    port_seat: &mut PortSeat,
+    agent: usize,
+    entry: usize,
+) -> u64
+    requires seat { IsSeat board.now.table_id port_seat.old }
+    requires may { May (Step.Promise entry agent) (port_in port_seat.old.me) }
     requires range { (agent < 8) × (entry < 256) }
-    ensures { HasStepped (Step.Promise entry agent) chair.old result chair.new }
+    ensures { HasStepped (Step.Promise entry agent) port_seat.old result port_seat.new }
 {
     set_bits::<Brand>(
         board,
-        chair,
+        port_seat,
         Step::Promise(entry, agent),
         promise_word(agent, entry / 64),
         bit(entry % 64),
@@ -171,35 +188,40 @@ pub(crate) fn promise_step(board: &Board, chair: &mut Chair, agent: usize, entry
 }
 
 /// Looks at one of the four words of what is promised to the port, and answers it.
-pub(crate) fn see_step(board: &Board, chair: &mut Chair, number: usize, part: usize) -> u64
-    requires seat { IsSeat board.now.table_id chair.old }
-    requires may { May (Step.See part) (port_in chair.old.me) }
-    requires number { ((port_in chair.old.me).who ≡ number) × (number < 8) }
-    ensures is { HasStepped (Step.See part) chair.old result chair.new }
+pub(crate) fn see_step(board: &Board, port_seat: &mut PortSeat, number: usize, part: usize) -> u64
+    requires seat { IsSeat board.now.table_id port_seat.old }
+    requires may { May (Step.See part) (port_in port_seat.old.me) }
+    requires number { ((port_in port_seat.old.me).who ≡ number) × (number < 8) }
+    ensures is { HasStepped (Step.See part) port_seat.old result port_seat.new }
     ensures more { (i : ℕ) → i < 64
-        → bit_at (slice_index (port_in chair.old.me).seen part) i ≤ bit_at result i }
+        → bit_at (slice_index (port_in port_seat.old.me).seen part) i ≤ bit_at result i }
 {
-    load_word::<Brand>(board, chair, Step::See(part), promise_word(number, part))
+    load_word::<Brand>(
+        board,
+        port_seat,
+        Step::See(part),
+        promise_word(number, part),
+    )
 }
 
 /// Spends a seen credit: its entry comes to hand.
 pub(crate) fn spend_step(
     board: &Board,
-    chair: &mut Chair,
+    port_seat: &mut PortSeat,
     number: usize,
     ty: usize,
     entry: usize,
 ) -> u64
-    requires seat { IsSeat board.now.table_id chair.old }
-    requires may { May (Step.Spend ty entry) (port_in chair.old.me) }
-    requires number { ((port_in chair.old.me).who ≡ number) × (number < 8) × (entry < 256) }
-    ensures is { HasStepped (Step.Spend ty entry) chair.old result chair.new }
-    ensures held { has entry (port_in chair.old.me) ≡ 0 }
-    ensures due { paid_of (port_in chair.old.me) ty < slice_index (port_in chair.old.me).retries ty }
+    requires seat { IsSeat board.now.table_id port_seat.old }
+    requires may { May (Step.Spend ty entry) (port_in port_seat.old.me) }
+    requires number { ((port_in port_seat.old.me).who ≡ number) × (number < 8) × (entry < 256) }
+    ensures is { HasStepped (Step.Spend ty entry) port_seat.old result port_seat.new }
+    ensures held { has entry (port_in port_seat.old.me) ≡ 0 }
+    ensures due { paid_of (port_in port_seat.old.me) ty < slice_index (port_in port_seat.old.me).retries ty }
 {
     clear_bits::<Brand>(
         board,
-        chair,
+        port_seat,
         Step::Spend(ty, entry),
         promise_word(number, entry / 64),
         others(entry % 64),
@@ -209,21 +231,21 @@ pub(crate) fn spend_step(
 /// Takes back the entry of a seen credit that is returned.
 pub(crate) fn return_step(
     board: &Board,
-    chair: &mut Chair,
+    port_seat: &mut PortSeat,
     number: usize,
     ty: usize,
     entry: usize,
 ) -> u64
-    requires seat { IsSeat board.now.table_id chair.old }
-    requires may { May (Step.Return ty entry) (port_in chair.old.me) }
-    requires number { ((port_in chair.old.me).who ≡ number) × (number < 8) × (entry < 256) }
-    ensures is { HasStepped (Step.Return ty entry) chair.old result chair.new }
-    ensures held { has entry (port_in chair.old.me) ≡ 0 }
-    ensures due { paid_of (port_in chair.old.me) ty < slice_index (port_in chair.old.me).retries ty }
+    requires seat { IsSeat board.now.table_id port_seat.old }
+    requires may { May (Step.Return ty entry) (port_in port_seat.old.me) }
+    requires number { ((port_in port_seat.old.me).who ≡ number) × (number < 8) × (entry < 256) }
+    ensures is { HasStepped (Step.Return ty entry) port_seat.old result port_seat.new }
+    ensures held { has entry (port_in port_seat.old.me) ≡ 0 }
+    ensures due { paid_of (port_in port_seat.old.me) ty < slice_index (port_in port_seat.old.me).retries ty }
 {
     clear_bits::<Brand>(
         board,
-        chair,
+        port_seat,
         Step::Return(ty, entry),
         promise_word(number, entry / 64),
         others(entry % 64),

@@ -9,7 +9,7 @@ ghost use Rattle.chi_tracker.specs.Calls.{owners, new_owners, shape_of, IsOwnerA
 ghost use Rattle.chi_tracker.specs.Totals.{views_of, longest, IsClosed, IsBalanced, IsGlance};
 
 use crate::closing::{Gathered, credits, gather, last_words};
-use crate::law::{Board, Chair, Law};
+use crate::law::{Board, Law, PortSeat};
 use crate::plays::Deal;
 use crate::port::Port;
 use crate::shape::Shape;
@@ -65,16 +65,16 @@ impl<A: Allocator> Tracker<A> {
         ensures all { IfOk result (λ made. length made.1.items ≡ agents) }
     {
         let shape = Shape::of(entries, usize::from(agents));
-        let (table, chair) = Table::of_words(alloc, &[0; WORD_COUNT], &shape)?;
+        let (table, port_seat) = Table::of_words(alloc, &[0; WORD_COUNT], &shape)?;
         let tracker = Tracker { table, shape };
-        let ports = tracker.deal(chair);
+        let ports = tracker.deal(port_seat);
         Ok((tracker, ports))
     }
 
     // Gives each port of the seat, which has all, a seat of its own.
     #[tactic(auto, using(crate::proofs::Deals::dealt_own, crate::proofs::Deals::dealt_all))]
-    fn deal(&self, mut chair: Chair) -> ArrayVec<Port, 8>
-        requires { (chair.table_id ≡ self.now.table) × (chair.me ≡ (all_new self.now.shape, [])) }
+    fn deal(&self, mut port_seat: PortSeat) -> ArrayVec<Port, 8>
+        requires { (port_seat.table_id ≡ self.now.table) × (port_seat.me ≡ (all_new self.now.shape, [])) }
         ensures ports { result.items
             ≡ owners self.now.table (new_ports self.now.shape 0 self.now.shape.agents) }
         ensures own { All (λ p. (p.table ≡ self.now.table)
@@ -84,8 +84,8 @@ impl<A: Allocator> Tracker<A> {
         let (board, shape) = (&self.table.shared, self.shape);
         let mut ports = ArrayVec::new();
         for number in 0..shape.agents {
-            let own = board.split_seat::<Deal>(&mut chair);
-            ports.push(Port::on_chair(own, number, shape));
+            let own = board.split_seat::<Deal>(&mut port_seat);
+            ports.push(Port::on_seat(own, number, shape));
         }
         ports
     }
@@ -112,8 +112,8 @@ impl<A: Allocator> Tracker<A> {
         ensures balanced { IsBalanced self.shape.agents result.requesters.items }
     {
         let Tracker { table, shape } = self;
-        let Gathered { chair, dues } = gather(&table.shared, ports);
-        let words = last_words(table, chair);
+        let Gathered { port_seat, dues } = gather(&table.shared, ports);
+        let words = last_words(table, port_seat);
         let counts = counts(&words, &shape);
         let requesters = credits(&words, &shape, &dues);
         Totals { counts, requesters }

@@ -7,8 +7,8 @@ use Rattle.chi_tracker.proofs.sweep.look_owed.Given as goal
 
 abbrev pub invariant-loop-agent : goal.invariant-loop-agent
 invariant-loop-agent l = record {
-  table : l.chair.table_id ≡ l.fn.chair.table_id;
-  view : shown l.chair.me ≡ solo (swept_by l.ty l.agent (port_in l.fn.chair.me));
-  acts : Does (owner_in l.fn.chair) (LookedInVain l.ty l.agent) (owner_in l.chair);
-  after : 0 < l.agent → IsAfter l.chair.me.0.history (port_in l.chair.me);
+  table : l.port_seat.table_id ≡ l.fn.port_seat.table_id;
+  view : shown l.port_seat.me ≡ solo (swept_by l.ty l.agent (port_in l.fn.port_seat.me));
+  acts : Does (owner_in l.fn.port_seat) (LookedInVain l.ty l.agent) (owner_in l.port_seat);
+  after : 0 < l.agent → IsAfter l.port_seat.me.0.history (port_in l.port_seat.me);
 }

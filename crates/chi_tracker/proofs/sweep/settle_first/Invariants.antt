@@ -7,7 +7,7 @@ use Rattle.chi_tracker.proofs.sweep.settle_first.Given as goal
 
 abbrev pub invariant-loop-agent : goal.invariant-loop-agent
 invariant-loop-agent l = record {
-  table : l.chair.table_id ≡ l.fn.chair.table_id;
-  view : shown l.chair.me ≡ solo (swept_by l.ty l.agent (port_in l.fn.chair.me));
-  acts : Does (owner_in l.fn.chair) (SweptFor l.ty l.entry l.agent) (owner_in l.chair);
+  table : l.port_seat.table_id ≡ l.fn.port_seat.table_id;
+  view : shown l.port_seat.me ≡ solo (swept_by l.ty l.agent (port_in l.fn.port_seat.me));
+  acts : Does (owner_in l.fn.port_seat) (SweptFor l.ty l.entry l.agent) (owner_in l.port_seat);
 }

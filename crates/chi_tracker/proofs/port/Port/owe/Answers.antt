@@ -7,17 +7,17 @@ use Rattle.chi_tracker.proofs.port.Port.owe.Goals as goal
 
 pub invariant_of-self : goal.invariant_of-self
 invariant_of-self g c =
-    let i = c.self.inside in let seat = c.in-Some.chair in let t = c.number-kind.result in
-    let held = held_of i.chair seat i.number i.shape i.seen i.due (sym c.take.ensures.value ∙ c.in-Some.is) c.self.invariant in
-    let at = ap (λ w. w.port) (owner_is i.chair seat c.args.self.now (sym c.take.ensures.value ∙ c.in-Some.is) c.self.view_is) in
+    let i = c.self.inside in let seat = c.in-Some.port_seat in let t = c.number-kind.result in
+    let held = held_of i.port_seat seat i.number i.shape i.seen i.due (sym c.take.ensures.value ∙ c.in-Some.is) c.self.invariant in
+    let at = ap (λ w. w.port) (owner_is i.port_seat seat c.args.self.now (sym c.take.ensures.value ∙ c.in-Some.is) c.self.view_is) in
     let few = rw (sym c.number-kind.ensures) at (rw at at c.requires.few) in
-    owed_held (shown seat.me) (shown c.owe_one.new.chair.me) i.number i.shape i.seen i.due t held (omega (arith, c.number-kind.ensures, credit_below c.args.ty)) (omega arith) few c.owe_one.ensures.view c.owe_one.new.chair.me.0.history c.owe_one.ensures.after
+    owed_held (shown seat.me) (shown c.owe_one.new.port_seat.me) i.number i.shape i.seen i.due t held (omega (arith, c.number-kind.ensures, credit_below c.args.ty)) (omega arith) few c.owe_one.ensures.view c.owe_one.new.port_seat.me.0.history c.owe_one.ensures.after
 
 pub returns-clause-port : goal.returns-clause-port
 returns-clause-port g c =
-    let i = c.self.inside in let seat = c.in-Some.chair in let t = c.number-kind.result in
-    let held = held_of i.chair seat i.number i.shape i.seen i.due (sym c.take.ensures.value ∙ c.in-Some.is) c.self.invariant in
-    let at = ap (λ w. w.port) (owner_is i.chair seat c.args.self.now (sym c.take.ensures.value ∙ c.in-Some.is) c.self.view_is) in
+    let i = c.self.inside in let seat = c.in-Some.port_seat in let t = c.number-kind.result in
+    let held = held_of i.port_seat seat i.number i.shape i.seen i.due (sym c.take.ensures.value ∙ c.in-Some.is) c.self.invariant in
+    let at = ap (λ w. w.port) (owner_is i.port_seat seat c.args.self.now (sym c.take.ensures.value ∙ c.in-Some.is) c.self.view_is) in
     let few = rw (sym c.number-kind.ensures) at (rw at at c.requires.few) in
-    owed_view (shown seat.me) (shown c.owe_one.new.chair.me) i.number i.shape i.seen i.due t held (omega (arith, c.number-kind.ensures, credit_below c.args.ty)) (omega arith) few c.owe_one.ensures.view c.owe_one.new.chair.me.0.history c.owe_one.ensures.after
+    owed_view (shown seat.me) (shown c.owe_one.new.port_seat.me) i.number i.shape i.seen i.due t held (omega (arith, c.number-kind.ensures, credit_below c.args.ty)) (omega arith) few c.owe_one.ensures.view c.owe_one.new.port_seat.me.0.history c.owe_one.ensures.after
     ∙ ap (λ p. owed_one t p) (sym at) ∙ ap (λ u. owed_one u c.args.self.now.port) c.number-kind.ensures
