@@ -9,6 +9,7 @@ pub mod Stepping
 pub mod Refusing
 pub mod StepCalls
 pub mod CallArrivals
+pub mod RowCalls
 pub mod OpeningAgrees
 pub mod CreditCalls
 pub mod Homes

@@ -208,9 +208,9 @@ step_kept s s' r r' action at effect released can is after place finishes =
       history = counts_step s action.agent action.line action.step r r' can.both.slice ready.here can.own follows can.agrees legal;
     })
 
-pub place_is : (s s' : SliceState) (action : Action) (index : ℕ) (profile : Profile) (slot : Option Slot) → s' ≡ slice_after s action → index ≡ s'.index → profile ≡ s'.config.profile → slot ≡ moved_by s action
-    → record { line = action.line; index = index; profile = profile; slot = slot } ≡ place_at s action
-place_is s s' action index profile slot after here of_slice moved =
+pub place_is : (s s' : SliceState) (action : Action) (l : Line) (index : ℕ) (profile : Profile) (slot : Option Slot) → s' ≡ slice_after s action → l ≡ action.line → index ≡ s'.index → profile ≡ s'.config.profile → slot ≡ moved_by s action
+    → record { line = l; index = index; profile = profile; slot = slot } ≡ place_at s action
+place_is s s' action l index profile slot after at here of_slice moved =
     let i : index ≡ s.index = here ∙ ap (λ (z : SliceState). z.index) after in
     let p : profile ≡ s.config.profile = of_slice ∙ ap (λ (z : SliceState). z.config.profile) after in
-    λ j. record { line = action.line; index = i j; profile = p j; slot = moved j }
+    λ j. record { line = at j; index = i j; profile = p j; slot = moved j }

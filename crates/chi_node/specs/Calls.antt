@@ -16,7 +16,8 @@ use Rattle.chi_flit.specs.declared.refusal.Refusal.TheVariants.{NoCredit, NotOpe
 use Rattle.chi_flit.specs.Credit.{credit_number}
 use Rattle.chi_tracker.specs.Calls.{seen_of}
 use Rattle.chi_slice.specs.Words.{cells_of, effect_of, no_flit_unless, part_of, pending_credit, record_of, rn_of, IsLegal, Pending, Record}
-use Rattle.chi_slice.specs.Slice.{IsStep, SliceKept, SliceState, slice_after, are_in_range, flits_refusal, line, moved_by, refused_under}
+use Rattle.chi_slice.specs.Slice.{CanAct, IsRow, IsStep, SliceKept, SliceState, slice_after, are_in_range, flits_refusal, line, moved_by, refused_under}
+use Rattle.chi_slice.specs.declared.agent_line.AgentRow.{AgentRow}
 use Rattle.chi_slice.specs.declared.terms.Terms.{Terms}
 use Rattle.chi_slice.specs.Index.{SlotsInRange}
 use Rattle.chi_credit.specs.declared.slot.SlotRecord.{SlotRecord}
@@ -117,6 +118,12 @@ pub record BothKept (s : SliceState) (r : RequesterState) : Type 0 where
   pub slots : SlotsInRange s
   pub within : length s.journal.entries ≤ s.journal.limit
   pub requester : RequesterKept r.port.shape.sizes r
+
+-- a row of a slice in which agent n acts
+pub record IsRowOf (s : SliceState) (n : ℕ) (at : AgentRow) : Type 0 where
+  pub agent : at.agent.0 ≡ n
+  pub row : IsRow s at
+  pub inside : CanAct s at
 
 -- what is known where the request of an arrival isn't refused
 pub record CanArriveOn (s : SliceState) (r : RequesterState) (l : Line) (request : Request) : Type 0 where

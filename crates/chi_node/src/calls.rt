@@ -2,10 +2,10 @@
 
 ghost use Rattle.std.specs.Prelude.{◌≡◌, true, IfOk};
 ghost use Rattle.chi_flit.specs.Refusal.{refusal_of};
-ghost use Rattle.chi_slice.specs.Slice.{CanAct, IsRow};
+ghost use Rattle.chi_slice.specs.Slice.{action_in};
 ghost use Rattle.chi_node.specs.Agree.{Agree};
 ghost use Rattle.chi_node.specs.Calls.{arrival_refusal, arrival_step, call_refusal, is_own_step};
-ghost use Rattle.chi_node.specs.Calls.{BothKept, CanArriveOn, DoesArrival, DoesStep, IsArrivalRefusal, IsStepRefusal};
+ghost use Rattle.chi_node.specs.Calls.{BothKept, CanArriveOn, DoesArrival, DoesStep, IsArrivalRefusal, IsRowOf, IsStepRefusal};
 ghost use Rattle.chi_node.specs.Parts.{HasTypes};
 
 use crate::agree::agrees;
@@ -13,7 +13,7 @@ use crate::answers::{Arrived, Stepped};
 use crate::requester::Requester;
 use crate::steps::StepPlace;
 use chi_flit::{Action, Line, Refusal, Request, Step};
-use chi_slice::{AgentRow, Slice, Terms};
+use chi_slice::{AgentRow, Slice, Terms, is_step_in_range};
 use chi_tracker::Tracker;
 use std::alloc::Allocator;
 
@@ -39,32 +39,34 @@ pub fn arrive_on<A: Allocator, B: Allocator>(
     ensures refusal { IsArrivalRefusal slice.old requester.old line.0 (refusal_of result) }
     ensures call { DoesArrival slice.old slice.new line requester.old requester.new result }
 {
+    let at = slice.row_for(requester.number(), line)?;
     if agrees(slice, requester) {
-        return arrive_agreed(slice, tracker, requester, line);
+        return arrive_agreed(slice, tracker, requester, at);
     }
-    arrival(slice, requester, line)?;
+    arrival(slice, requester, at)?;
     Err(Refusal::NotOpen)
 }
 
-/// As `arrive_on`, of a requester that agrees with the slice: that isn't asked again.
+/// As `arrive_on`, of a requester that agrees with the slice, at a line that is there: neither is asked again.
 ///
-/// Refused 10 (OutOfRange) for a requester whose number is none of the node's, or a line outside the node or
-/// of another slice, and then 7 (NoFlit) where no request of the requester is in flight there; nothing
-/// changes then. Conditions: those of `arrive_on`, and that the requester agrees with the slice.
+/// Refused 7 (NoFlit) exactly where no request of the requester is in flight there; nothing changes then.
+/// Conditions: those of `arrive_on`, that the requester agrees with the slice, and that the row is one that
+/// `row_for` of this slice answered for the requester.
 /// Source: `docs/PROTOCOL.md`, "A requester and its calls".
 pub fn arrive_agreed<A: Allocator, B: Allocator>(
     slice: &mut Slice<A>,
     tracker: &Tracker<B>,
     requester: &mut Requester,
-    line: Line,
+    at: AgentRow,
 ) -> Result<Arrived, Refusal>
     requires table { requester.old.table ≡ tracker.now.table }
     requires types { HasTypes slice.old.config requester.old.port.shape }
+    requires row { IsRowOf slice.old requester.old.number at }
     requires agrees { Agree slice.old requester.old }
-    ensures refusal { refusal_of result ≡ arrival_refusal slice.old requester.old.number line.0 }
-    ensures call { DoesArrival slice.old slice.new line requester.old requester.new result }
+    ensures refusal { refusal_of result ≡ arrival_refusal slice.old requester.old.number at.line.0 }
+    ensures call { DoesArrival slice.old slice.new at.line requester.old requester.new result }
 {
-    let (at, request) = arrival(slice, requester, line)?;
+    let request = arrival(slice, requester, at)?;
     let arrived = requester.arrive(tracker, request.slot, request.allow_retry);
     let step = arrival_step(arrived);
     let Ok(_) = slice.act_in(at, step, Terms::NONE) else {
@@ -73,24 +75,21 @@ pub fn arrive_agreed<A: Allocator, B: Allocator>(
     Ok(arrived)
 }
 
-/// The requester's request that is in flight at the line, and the row of the two there, which is asked for once.
+/// The requester's request that is in flight at the line of its row.
 fn arrival<A: Allocator>(
     slice: &Slice<A>,
     requester: &Requester,
-    line: Line,
-) -> Result<(AgentRow, Request), Refusal>
-    ensures refusal { refusal_of result ≡ arrival_refusal slice.now requester.now.number line.0 }
-    ensures ok { IfOk result (λ found. CanArriveOn slice.now requester.now line found.1) }
-    ensures row { IfOk result (λ found. IsRow slice.now found.0) }
-    ensures inside { IfOk result (λ found. CanAct slice.now found.0) }
-    ensures agent { IfOk result (λ found. found.0.agent.0 ≡ requester.now.number) }
-    ensures line { IfOk result (λ found. found.0.line ≡ line) }
+    at: AgentRow,
+) -> Result<Request, Refusal>
+    requires row { IsRowOf slice.now requester.now.number at }
+    ensures refusal { refusal_of result ≡ arrival_refusal slice.now requester.now.number at.line.0 }
+    ensures ok { IfOk result (λ request. CanArriveOn slice.now requester.now at.line request) }
 {
-    let at = slice.row_for(requester.number(), line)?;
+    keeps(slice, requester);
     let Some(request) = slice.flits_in(at).req else {
         return Err(Refusal::NoFlit);
     };
-    Ok((at, request))
+    Ok(request)
 }
 
 /// What the slice does where a request arrived so.
@@ -127,42 +126,49 @@ pub fn step_on<A: Allocator, B: Allocator>(
     ensures call { DoesStep slice.old slice.new action requester.old requester.new result }
 {
     if agrees(slice, requester) {
-        return step_agreed(slice, tracker, requester, action);
+        let at = slice.row_for(action.agent, action.line)?;
+        return step_agreed(slice, tracker, requester, at, action.step);
     }
     may_step(slice, requester, action)?;
     Err(Refusal::NotOpen)
 }
 
-/// As `step_on`, of a requester that agrees with the slice: that isn't asked again.
+/// As `step_on`, of a requester that agrees with the slice, at a line that is there: neither is asked again.
 ///
-/// Refused as `Slice::act` refuses the action, with 3 (Pending) also where an Issue's slot isn't Idle in the
-/// account, and then 12 (NoCredit) for a Resend without a seen credit of the pending request's type beyond
-/// those for Riding slots; nothing changes then. Conditions: those of `step_on`, and that the requester agrees
-/// with the slice.
+/// Refused as `Slice::act` refuses the action, but 10 (OutOfRange) only for a number of the step, with 3
+/// (Pending) also where an Issue's slot isn't Idle in the account, and then 12 (NoCredit) for a Resend without
+/// a seen credit of the pending request's type beyond those for Riding slots; nothing changes then.
+/// Conditions: those of `step_on`, that the requester agrees with the slice, and that the row is one that
+/// `row_for` of this slice answered for the requester.
 /// Source: `docs/PROTOCOL.md`, "A requester and its calls".
 pub fn step_agreed<A: Allocator, B: Allocator>(
     slice: &mut Slice<A>,
     tracker: &Tracker<B>,
     requester: &mut Requester,
-    action: Action,
+    at: AgentRow,
+    step: Step,
 ) -> Result<Stepped, Refusal>
     requires table { requester.old.table ≡ tracker.now.table }
-    requires agent { action.agent.0 ≡ requester.old.number }
-    requires step { is_own_step action.step ≡ true }
+    requires row { IsRowOf slice.old requester.old.number at }
+    requires step { is_own_step step ≡ true }
     requires agrees { Agree slice.old requester.old }
-    ensures refusal { refusal_of result ≡ call_refusal slice.old requester.old action }
-    ensures call { DoesStep slice.old slice.new action requester.old requester.new result }
+    ensures refusal { refusal_of result ≡ call_refusal slice.old requester.old (action_in at step) }
+    ensures call { DoesStep slice.old slice.new (action_in at step)
+        requester.old requester.new result }
 {
-    let terms = requester.terms(action.step);
+    if !is_step_in_range(step) {
+        return Err(Refusal::OutOfRange);
+    }
+    let terms = requester.terms(step);
     keeps(slice, requester);
-    let done = slice.act_under(action, terms)?;
-    let at = StepPlace {
-        line: action.line,
+    let done = slice.act_in(at, step, terms)?;
+    let place = StepPlace {
+        line: at.line(),
         index: slice.index(),
         profile: slice.config().profile(),
         slot: done.slot,
     };
-    let released = requester.finish(tracker, at, action.step, done.effect);
+    let released = requester.finish(tracker, place, step, done.effect);
     Ok(Stepped {
         effect: done.effect,
         released,

@@ -7,7 +7,7 @@ ghost use Rattle.atomic_table.specs.Seated.{TableId};
 ghost use Rattle.chi_flit.specs.Credit.{credit_number};
 ghost use Rattle.chi_flit.specs.Refusal.{refusal_of};
 ghost use Rattle.chi_slice.specs.Words.{cells_of, line_view};
-ghost use Rattle.chi_node.specs.Calls.{is_own_step};
+ghost use Rattle.chi_node.specs.Calls.{is_own_step, IsRowOf};
 ghost use Rattle.chi_node.specs.Requester.{RequesterState, no_requester};
 ghost use Rattle.chi_slice.specs.Audits.{IsAudited};
 ghost use Rattle.chi_node.specs.Headline.{Headline};
@@ -24,7 +24,7 @@ use crate::opening::parts;
 use crate::requester::Requester;
 use arrayvec::ArrayVec;
 use chi_flit::{Action, Agent, CreditType, Line, NoMemory, Refusal};
-use chi_slice::{Audit, Cells, Config, LineView, Slice, audit_of};
+use chi_slice::{AgentRow, Audit, Cells, Config, LineView, Slice, audit_of};
 use chi_tracker::{Counts, Law, Released, Tracker};
 use std::alloc::Allocator;
 use std::marker::Model;
@@ -86,13 +86,13 @@ impl<A: Allocator> System<A> {
         ensures err { OnErr result (self.new ≡ self.old) }
         ensures kept { IsSystem self.old }
     {
-        let place = self.place_for(agent, line)?;
+        let (place, at) = self.row_for(agent, line)?;
         let requesters = self.requesters.as_mut_slice();
         arrive_agreed(
             &mut self.slices[place],
             &self.tracker,
             &mut requesters[usize::from(agent.0)],
-            line,
+            at,
         )
     }
 
@@ -110,13 +110,14 @@ impl<A: Allocator> System<A> {
         ensures err { OnErr result (self.new ≡ self.old) }
         ensures kept { IsSystem self.old }
     {
-        let place = self.place_for(action.agent, action.line)?;
+        let (place, at) = self.row_for(action.agent, action.line)?;
         let requesters = self.requesters.as_mut_slice();
         step_agreed(
             &mut self.slices[place],
             &self.tracker,
             &mut requesters[usize::from(action.agent.0)],
-            action,
+            at,
+            action.step,
         )
     }
 
@@ -191,18 +192,19 @@ impl<A: Allocator> System<A> {
         usize::from(self.config.slice_of(line))
     }
 
-    /// The place of a line's slice, for a call of an agent. Refused 10 (OutOfRange) exactly where the agent
-    /// is none of the node's.
-    fn place_for(&self, agent: Agent, line: Line) -> Result<usize, Refusal>
-        ensures refusal { refusal_of result ≡ agent_refusal self.now agent.0 }
-        ensures place { IfOk result (λ place. place ≡ index_of self.now.home line.0) }
-        ensures agent { OnOk result (agent.0 < self.now.home.config.agents) }
+    /// The place of a line's slice, and the agent's row there: whether both are in the node is asked of the
+    /// slice alone. Refused 10 (OutOfRange) exactly where not.
+    fn row_for(&self, agent: Agent, line: Line) -> Result<(usize, AgentRow), Refusal>
+        ensures refusal { refusal_of result ≡ node_flits_refusal self.now.home agent.0 line.0 }
+        ensures place { IfOk result (λ found. found.0 ≡ index_of self.now.home line.0) }
+        ensures row { IfOk result (λ found. IsRowOf (slice_of self.now.home line.0) agent.0 found.1) }
+        ensures line { IfOk result (λ found. found.1.line ≡ line) }
+        ensures near { OnOk result (agent.0 < self.now.home.config.agents) }
         ensures kept { IsSystem self.now }
     {
-        if !self.has_agent(agent) {
-            return Err(Refusal::OutOfRange);
-        }
-        Ok(self.place_of(line))
+        let place = self.place_of(line);
+        let at = self.slices[place].row_for(agent, line)?;
+        Ok((place, at))
     }
 
     /// The slice of a line.

@@ -1,5 +1,7 @@
 //! What one agent and the home have of a line.
 
+ghost use Rattle.std.specs.Prelude.{◌≡◌};
+
 use chi_flit::{Agent, Line};
 use chi_homeline::HomeLine;
 use chi_rnline::RnLine;
@@ -23,4 +25,14 @@ pub struct AgentRow {
     pub(crate) agent: Agent,
     pub(crate) line: Line,
     pub(crate) row: u8,
+}
+
+impl AgentRow {
+    /// The line that the row is of.
+    /// Source: `docs/PROTOCOL.md`, "Limits".
+    pub fn line(self) -> Line
+        ensures { result ≡ self.line }
+    {
+        self.line
+    }
 }

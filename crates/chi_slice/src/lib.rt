@@ -23,6 +23,7 @@ pub use chi_rnline::{Pending, Phase, RnLine};
 pub use chi_wires::{Cells, cells_of};
 pub use laws::{an_action_leaves_one_slice, only_room_and_slots_join_lines};
 pub use places::Place;
+pub use records::is_step_in_range;
 pub use slice::Slice;
 pub use terms::{Done, Terms};
 pub use traffic::{FlitsSent, Traffic};

@@ -54,7 +54,8 @@ fn load_record(agent: Agent, line: Line, word: WordNo, effect: Effect) -> Option
     }
 }
 
-/// Whether the numbers of a step are in their ranges.
+/// Whether the numbers of a step are in their ranges: a word and a slot are below 8.
+/// Source: `docs/PROTOCOL.md`, "Limits".
 pub fn is_step_in_range(step: Step) -> bool
     ensures { result ≡ is_step_in_range step }
 {

@@ -1,7 +1,6 @@
 -- The slot is as the arrival needs it, and agreement is kept.
 use Rattle.std.proofs.Common.{◌≡◌, ℕ, ◌∙◌, ap, rules}
 use Rattle.chi_flit.specs.declared.action.Step.{Step}
-use Rattle.chi_flit.specs.declared.numbers.Line.{Line}
 use Rattle.chi_slice.specs.Words.{is_step_in_range}
 use Rattle.chi_slice.specs.Slice.{slice_after}
 use Rattle.chi_node.specs.Calls.{arrival_action}
@@ -10,23 +9,22 @@ use Rattle.chi_node.proofs.CallArrivals.{arrival_slot, can_arrive, keeps_arrival
 use Rattle.chi_node.proofs.calls.arrive_agreed.Goals as goal
 
 pub arrive-arrived-requires-clause-slot : goal.arrive-arrived-requires-clause-slot
-arrive-arrived-requires-clause-slot g c = arrival_slot c.args.slice.now c.args.requester.now c.args.line c.in_ok-at.request c.in_ok-at.ensures.ok c.requires.agrees
+arrive-arrived-requires-clause-slot g c = arrival_slot c.args.slice.now c.args.requester.now c.args.at.line c.in_ok-request.request c.in_ok-request.ensures.ok c.requires.agrees
 
 pub arrive-arrived-requires-clause-fits : goal.arrive-arrived-requires-clause-fits
-arrive-arrived-requires-clause-fits g c = can_arrive c.args.slice.now c.args.requester.now c.args.line c.in_ok-at.request c.in_ok-at.ensures.ok c.requires.agrees c.requires.types
+arrive-arrived-requires-clause-fits g c = can_arrive c.args.slice.now c.args.requester.now c.args.at.line c.in_ok-request.request c.in_ok-request.ensures.ok c.requires.agrees c.requires.types
 
 pub act_in-requires-clause-inside : goal.act_in-requires-clause-inside
-act_in-requires-clause-inside g c = c.in_ok-at.ensures.inside c.arrival_step-step.result (ap is_step_in_range c.arrival_step-step.ensures ∙ step_fits c.arrive-arrived.result)
+act_in-requires-clause-inside g c = c.requires.row.inside c.arrival_step-step.result (ap is_step_in_range c.arrival_step-step.ensures ∙ step_fits c.arrive-arrived.result)
 
 pub returns-clause-call : goal.returns-clause-call
 returns-clause-call g c =
-    let after : c.act_in.new.self ≡ slice_after c.args.slice.now (arrival_action c.args.requester.now.number c.args.line c.arrive-arrived.result) =
-    c.in-Ok.ensures.after ∙ (ap (λ (n : ℕ). slice_after c.args.slice.now (record { agent = record { 0 = n }; line = c.in_ok-at.at.line; step = c.arrival_step-step.result })) c.in_ok-at.ensures.agent
-    ∙ (ap (λ (l : Line). slice_after c.args.slice.now (record { agent = record { 0 = c.args.requester.now.number }; line = l; step = c.arrival_step-step.result })) c.in_ok-at.ensures.line
-    ∙ ap (λ (z : Step). slice_after c.args.slice.now (record { agent = record { 0 = c.args.requester.now.number }; line = c.args.line; step = z })) c.arrival_step-step.ensures)) in
-    let agreement = keeps_arrival c.args.slice.now c.act_in.new.self c.args.requester.now c.arrive-arrived.new.self c.args.line c.in_ok-at.request c.arrive-arrived.result c.in_ok-at.ensures.ok c.requires.agrees c.arrive-arrived.ensures after in
+    let after : c.act_in.new.self ≡ slice_after c.args.slice.now (arrival_action c.args.requester.now.number c.args.at.line c.arrive-arrived.result) =
+    c.in-Ok.ensures.after ∙ (ap (λ (n : ℕ). slice_after c.args.slice.now (record { agent = record { 0 = n }; line = c.args.at.line; step = c.arrival_step-step.result })) c.requires.row.agent
+    ∙ ap (λ (z : Step). slice_after c.args.slice.now (record { agent = record { 0 = c.args.requester.now.number }; line = c.args.at.line; step = z })) c.arrival_step-step.ensures) in
+    let agreement = keeps_arrival c.args.slice.now c.act_in.new.self c.args.requester.now c.arrive-arrived.new.self c.args.at.line c.in_ok-request.request c.arrive-arrived.result c.in_ok-request.ensures.ok c.requires.agrees c.arrive-arrived.ensures after in
     record {
       ok = record { slice = after; step = search (rules); requester = search (rules) };
       err = search (rules);
-      kept = record { agreement = agreement; same = arrival_same c.in_ok-at.request.allow_retry c.in_ok-at.request.slot.0 c.arrive-arrived.result c.args.requester.now c.arrive-arrived.new.self c.arrive-arrived.ensures; slice = search (rules); running = λ _. arrival_running c.in_ok-at.request.allow_retry c.in_ok-at.request.slot.0 c.arrive-arrived.result c.args.requester.now c.arrive-arrived.new.self c.arrive-arrived.ensures };
+      kept = record { agreement = agreement; same = arrival_same c.in_ok-request.request.allow_retry c.in_ok-request.request.slot.0 c.arrive-arrived.result c.args.requester.now c.arrive-arrived.new.self c.arrive-arrived.ensures; slice = search (rules); running = λ _. arrival_running c.in_ok-request.request.allow_retry c.in_ok-request.request.slot.0 c.arrive-arrived.result c.args.requester.now c.arrive-arrived.new.self c.arrive-arrived.ensures };
     }
