@@ -88,9 +88,9 @@ store_in SD rn slots place word value = issue rn slots place kinds.CleanUnique
 
 -- a copy-back or an Evict: in another state than the needed one it is skipped, and once it is issued it is
 -- finished when nothing is pending
-abbrev pub hand_back : Bool → Rn → List SlotRecord → OperationPlace → Kind → Option Choice
-hand_back true rn slots place kind = if is_some rn.pending then None else Some (Finish place)
-hand_back false rn slots place kind = if is_needed kind rn.state then issue rn slots place kind else Some (Finish place)
+abbrev pub write_or_evict : Bool → Rn → List SlotRecord → OperationPlace → Kind → Option Choice
+write_or_evict true rn slots place kind = if is_some rn.pending then None else Some (Finish place)
+write_or_evict false rn slots place kind = if is_needed kind rn.state then issue rn slots place kind else Some (Finish place)
 
 abbrev pub drop_or_skip : Rn → OperationPlace → Option Choice
 drop_or_skip rn place = if is_clean_copy rn.state then Some (Try place steps.Drop) else Some (Finish place)
@@ -99,10 +99,10 @@ abbrev pub by_task : Task → Bool → Rn → List SlotRecord → OperationPlace
 by_task (tasks.Load word) issued rn slots place = load rn slots place word kinds.ReadNotSharedDirty
 by_task (tasks.Share word) issued rn slots place = load rn slots place word kinds.ReadShared
 by_task (tasks.Store word value) issued rn slots place = store_in rn.state rn slots place word value
-by_task tasks.WriteBack issued rn slots place = hand_back issued rn slots place kinds.WriteBackFull
-by_task tasks.WriteClean issued rn slots place = hand_back issued rn slots place kinds.WriteCleanFull
-by_task tasks.WriteEvict issued rn slots place = hand_back issued rn slots place kinds.WriteEvictFull
-by_task tasks.Evict issued rn slots place = hand_back issued rn slots place kinds.Evict
+by_task tasks.WriteBack issued rn slots place = write_or_evict issued rn slots place kinds.WriteBackFull
+by_task tasks.WriteClean issued rn slots place = write_or_evict issued rn slots place kinds.WriteCleanFull
+by_task tasks.WriteEvict issued rn slots place = write_or_evict issued rn slots place kinds.WriteEvictFull
+by_task tasks.Evict issued rn slots place = write_or_evict issued rn slots place kinds.Evict
 by_task tasks.Drop issued rn slots place = drop_or_skip rn place
 
 abbrev pub try_at : Option OperationPlace → List Unfinished → Rn → List SlotRecord → Option Choice

@@ -1,5 +1,5 @@
 -- What an agent does in its turns, from the first to its report (docs/FORMATS.md, "A turn").
-use Rattle.std.specs.Prelude.{◌≡◌, ℕ, zero, suc, ◌<◌, ◌≤◌, ◌%◌, Bool, true, false, List, map, slice_index, Option, Some, None, ◌⊎◌, ◌↔◌, IsTrue}
+use Rattle.std.specs.Prelude.{◌≡◌, ℕ, zero, suc, ◌≤◌, ◌%◌, Bool, true, false, List, map, slice_index, Option, Some, None, ◌⊎◌, ◌↔◌, IsTrue}
 use Rattle.chi_flit.specs.declared.credit.Profile.{Profile}
 use Rattle.chi_flit.specs.declared.credit.Profile.TheVariants.{Two, Four}
 use Rattle.chi_flit.specs.declared.operation.Operation.{Operation}

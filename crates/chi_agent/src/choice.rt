@@ -6,8 +6,8 @@ ghost use Rattle.chi_agent.specs.Choice.{choice, choice_at, drawn_line, IsOwnCho
 use crate::deliveries::delivery_at;
 use crate::operations::{OperationPlace, Operations};
 use crate::retries::retry;
-use crate::sight::Sight;
 use crate::tries::operation;
+use crate::turn_line::TurnLine;
 use chi_flit::{Line, Step};
 use chi_node::Requester;
 use chi_slice::{Config, Slice};
@@ -59,23 +59,23 @@ fn number_of(config: &Config, x: u32) -> u32
 
 /// What is done at a line of the slice: the first of the three parts that has a choice.
 fn choose_at<A: Allocator, B: Allocator>(
-    sight: &Sight<'_, B>,
+    here: &TurnLine<'_, B>,
     operations: &Operations<A>,
     stopped: bool,
     number: u32,
 ) -> Option<Choice>
     ensures is { result
-        ≡ choice_at sight.now.slice.now sight.now.requester.now operations.now stopped sight.now.line number }
+        ≡ choice_at here.now.slice.now here.now.requester.now operations.now stopped here.now.line number }
     ensures own { IfSome result (IsOwnChoice operations.now) }
 {
-    let (requester, copy) = (sight.requester, sight.at.copy);
-    if let Some(choice) = retry(sight.slice.config().profile(), copy, requester) {
+    let (requester, copy) = (here.requester, here.at.copy);
+    if let Some(choice) = retry(here.slice.config().profile(), copy, requester) {
         return Some(choice);
     }
-    if let Some(choice) = operation(stopped, operations, copy, requester, sight.line) {
+    if let Some(choice) = operation(stopped, operations, copy, requester, here.line) {
         return Some(choice);
     }
-    delivery_at(sight, number)
+    delivery_at(here, number)
 }
 
 /// What is done for the word of the draw, which drew the line; `None` where nothing is, and of a slice that
@@ -93,6 +93,6 @@ pub(crate) fn choose<A: Allocator, B: Allocator>(
     ensures own { IfSome result (IsOwnChoice operations.now) }
 {
     let number = number_of(slice.config(), x);
-    let sight = Sight::of(slice, requester, line)?;
-    choose_at(&sight, operations, stopped, number)
+    let here = TurnLine::of(slice, requester, line)?;
+    choose_at(&here, operations, stopped, number)
 }

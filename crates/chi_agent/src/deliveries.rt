@@ -8,7 +8,7 @@ ghost use Rattle.chi_agent.specs.declared.deliveries.Delivery.{Delivery as Kind}
 ghost use Rattle.chi_agent.specs.declared.deliveries.Delivery.TheVariants as variants;
 
 use crate::choice::{Call, Choice};
-use crate::sight::Sight;
+use crate::turn_line::TurnLine;
 use arrayvec::ArrayVec;
 use chi_flit::{DatUp, RspDown, RspUp, Step};
 use chi_slice::Cells;
@@ -100,10 +100,10 @@ fn is_answer_data(sent: Option<DatUp>) -> bool
 }
 
 /// Whether the delivery wouldn't be refused.
-fn is_enabled<A: Allocator>(sight: &Sight<'_, A>, delivery: Delivery) -> bool
-    ensures { result ≡ is_enabled sight.now.slice.now sight.now.agent.0 sight.now.line delivery }
+fn is_enabled<A: Allocator>(here: &TurnLine<'_, A>, delivery: Delivery) -> bool
+    ensures { result ≡ is_enabled here.now.slice.now here.now.agent.0 here.now.line delivery }
 {
-    let flits = sight.at.flits;
+    let flits = here.at.flits;
     match delivery {
         Delivery::RecvSnp => flits.snp.is_some(),
         Delivery::RecvRetry => matches!(flits.rsp_down, Some(RspDown::RetryAck(_))),
@@ -111,7 +111,7 @@ fn is_enabled<A: Allocator>(sight: &Sight<'_, A>, delivery: Delivery) -> bool
         Delivery::RecvComp => matches!(flits.rsp_down, Some(RspDown::CompUC | RspDown::CompI)),
         Delivery::RecvDbid => matches!(flits.rsp_down, Some(RspDown::CompDBIDResp)),
         Delivery::Arrival => flits.req.is_some(),
-        Delivery::Start => sight.at.home.why_no_start(sight.agent).is_none(),
+        Delivery::Start => here.at.home.why_no_start(here.agent).is_none(),
         Delivery::RecvSnpResp => is_answer(flits),
         Delivery::RecvAck => matches!(flits.rsp_up, Some(RspUp::CompAck)),
         Delivery::RecvWrData => matches!(flits.dat_up, Some(DatUp::CopyBackWrData(..))),
@@ -119,21 +119,21 @@ fn is_enabled<A: Allocator>(sight: &Sight<'_, A>, delivery: Delivery) -> bool
 }
 
 /// Of each delivery, in their order, whether it is enabled.
-fn delivery_marks<A: Allocator>(sight: &Sight<'_, A>) -> [bool; 10]
-    ensures { result ≡ map (is_enabled sight.now.slice.now sight.now.agent.0 sight.now.line) deliveries }
+fn delivery_marks<A: Allocator>(here: &TurnLine<'_, A>) -> [bool; 10]
+    ensures { result ≡ map (is_enabled here.now.slice.now here.now.agent.0 here.now.line) deliveries }
 {
     // (each with a delivery that the compiler knows: so no question is a jump by a table)
     [
-        is_enabled(sight, Delivery::RecvSnp),
-        is_enabled(sight, Delivery::RecvRetry),
-        is_enabled(sight, Delivery::RecvData),
-        is_enabled(sight, Delivery::RecvComp),
-        is_enabled(sight, Delivery::RecvDbid),
-        is_enabled(sight, Delivery::Arrival),
-        is_enabled(sight, Delivery::Start),
-        is_enabled(sight, Delivery::RecvSnpResp),
-        is_enabled(sight, Delivery::RecvAck),
-        is_enabled(sight, Delivery::RecvWrData),
+        is_enabled(here, Delivery::RecvSnp),
+        is_enabled(here, Delivery::RecvRetry),
+        is_enabled(here, Delivery::RecvData),
+        is_enabled(here, Delivery::RecvComp),
+        is_enabled(here, Delivery::RecvDbid),
+        is_enabled(here, Delivery::Arrival),
+        is_enabled(here, Delivery::Start),
+        is_enabled(here, Delivery::RecvSnpResp),
+        is_enabled(here, Delivery::RecvAck),
+        is_enabled(here, Delivery::RecvWrData),
     ]
 }
 
@@ -165,11 +165,11 @@ fn pick(deliveries: &[Delivery], number: u32) -> Option<Delivery>
 
 /// Of the deliveries that are enabled, the one at the place `number` modulo their count; `None` where none
 /// is.
-pub(crate) fn delivery_at<A: Allocator>(sight: &Sight<'_, A>, number: u32) -> Option<Choice>
-    ensures is { result ≡ delivery sight.now.slice.now sight.now.agent.0 sight.now.line number }
+pub(crate) fn delivery_at<A: Allocator>(here: &TurnLine<'_, A>, number: u32) -> Option<Choice>
+    ensures is { result ≡ delivery here.now.slice.now here.now.agent.0 here.now.line number }
     ensures own { IfSome result IsCall }
 {
-    let marks = delivery_marks(sight);
+    let marks = delivery_marks(here);
     if marks == [false; 10] {
         return None;
     }

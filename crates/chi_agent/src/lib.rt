@@ -25,9 +25,9 @@ mod retries;
 mod runner;
 mod scripts;
 mod seats;
-mod sight;
 mod threads;
 mod tries;
+mod turn_line;
 
 pub use agents::run_agents;
 pub use choice::{Call, Choice, line_of};

@@ -1,7 +1,7 @@
 //! The eligible operation of a script: what is tried of it.
 
 ghost use Rattle.std.specs.Prelude.{◌≡◌, IfSome, length};
-ghost use Rattle.chi_agent.specs.Choice.{by_task, drop_or_skip, hand_back, issue, issue_into, load, lowest_idle_slot, operation, store_in, IsChosenAt, IsOwnChoice};
+ghost use Rattle.chi_agent.specs.Choice.{by_task, drop_or_skip, issue, issue_into, load, lowest_idle_slot, operation, store_in, write_or_evict, IsChosenAt, IsOwnChoice};
 
 use crate::choice::Choice;
 use crate::operations::{OperationPlace, Operations, Unfinished};
@@ -71,7 +71,7 @@ fn store(
 
 /// A copy-back or an Evict, which is finished where it was issued and nothing is pending, or where the copy
 /// is in another state than the needed one.
-fn hand_back(
+fn write_or_evict(
     issued: bool,
     copy: &RnLine,
     requester: &Requester,
@@ -79,7 +79,7 @@ fn hand_back(
     kind: Kind,
 ) -> Option<Choice>
     requires { length requester.now.slots ≡ 8 }
-    ensures is { result ≡ hand_back issued copy.now requester.now.slots place kind }
+    ensures is { result ≡ write_or_evict issued copy.now requester.now.slots place kind }
     ensures own { IfSome result (IsChosenAt place) }
 {
     if issued {
@@ -116,14 +116,15 @@ fn by_task(
     ensures is { result ≡ by_task found.operation.task found.issued copy.now requester.now.slots place }
     ensures own { IfSome result (IsChosenAt place) }
 {
+    let issued = found.issued;
     match found.operation.task {
         Task::Load(word) => load(copy, requester, place, word, Kind::ReadNotSharedDirty),
         Task::Share(word) => load(copy, requester, place, word, Kind::ReadShared),
         Task::Store(word, value) => store(copy, requester, place, word, value),
-        Task::WriteBack => hand_back(found.issued, copy, requester, place, Kind::WriteBackFull),
-        Task::WriteClean => hand_back(found.issued, copy, requester, place, Kind::WriteCleanFull),
-        Task::WriteEvict => hand_back(found.issued, copy, requester, place, Kind::WriteEvictFull),
-        Task::Evict => hand_back(found.issued, copy, requester, place, Kind::Evict),
+        Task::WriteBack => write_or_evict(issued, copy, requester, place, Kind::WriteBackFull),
+        Task::WriteClean => write_or_evict(issued, copy, requester, place, Kind::WriteCleanFull),
+        Task::WriteEvict => write_or_evict(issued, copy, requester, place, Kind::WriteEvictFull),
+        Task::Evict => write_or_evict(issued, copy, requester, place, Kind::Evict),
         Task::Drop => drop_or_skip(copy, place),
     }
 }

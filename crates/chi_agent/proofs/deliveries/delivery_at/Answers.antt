@@ -5,12 +5,12 @@ use Rattle.chi_agent.proofs.deliveries.delivery_at.Goals as goal
 
 pub returns-in_err-found-clause-is : goal.returns-in_err-found-clause-is
 returns-in_err-found-clause-is g c =
-    let f = is_enabled c.args.sight.now.slice.now c.args.sight.now.agent.0 c.args.sight.now.line in
-    let these : c.deref.result.now ≡ enabled_deliveries c.args.sight.now.slice.now c.args.sight.now.agent.0 c.args.sight.now.line = c.deref.ensures.0 ∙ c.deliveries_of.ensures f c.delivery_marks-marks.ensures in
+    let f = is_enabled c.args.here.now.slice.now c.args.here.now.agent.0 c.args.here.now.line in
+    let these : c.deref.result.now ≡ enabled_deliveries c.args.here.now.slice.now c.args.here.now.agent.0 c.args.here.now.line = c.deref.ensures.0 ∙ c.deliveries_of.ensures f c.delivery_marks-marks.ensures in
     search (rules, these)
 
 pub returns-clause-is : goal.returns-clause-is
 returns-clause-is g c =
-    let f = is_enabled c.args.sight.now.slice.now c.args.sight.now.agent.0 c.args.sight.now.line in
-    let these : c.deref.result.now ≡ enabled_deliveries c.args.sight.now.slice.now c.args.sight.now.agent.0 c.args.sight.now.line = c.deref.ensures.0 ∙ c.deliveries_of.ensures f c.delivery_marks-marks.ensures in
+    let f = is_enabled c.args.here.now.slice.now c.args.here.now.agent.0 c.args.here.now.line in
+    let these : c.deref.result.now ≡ enabled_deliveries c.args.here.now.slice.now c.args.here.now.agent.0 c.args.here.now.line = c.deref.ensures.0 ∙ c.deliveries_of.ensures f c.delivery_marks-marks.ensures in
     search (rules, these)

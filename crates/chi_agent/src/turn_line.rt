@@ -11,7 +11,7 @@ use std::alloc::Allocator;
 
 /// A requester, a slice that has the line, and what the two have of it.
 #[derive(Drop)]
-pub(crate) struct Sight<'s, A: Allocator> {
+pub(crate) struct TurnLine<'s, A: Allocator> {
     pub(crate) slice: &'s Slice<A>,
     pub(crate) requester: &'s Requester,
     pub(crate) agent: Agent,
@@ -26,16 +26,16 @@ pub(crate) struct Sight<'s, A: Allocator> {
     ghost home: { at.home.now ≡ (line_of_slice slice.now line.0).home },
 }
 
-impl<'s, A: Allocator> Sight<'s, A> {
-    // What the requester sees of the line; `None` where the slice hasn't the line.
+impl<'s, A: Allocator> TurnLine<'s, A> {
+    // What the two have of the line; `None` where the slice hasn't the line.
     pub(crate) fn of(
         slice: &'s Slice<A>,
         requester: &'s Requester,
         line: Line,
-    ) -> Option<Sight<'s, A>>
-        ensures slice { IfSome result (λ sight. sight.slice.now ≡ slice.now) }
-        ensures requester { IfSome result (λ sight. sight.requester.now ≡ requester.now) }
-        ensures line { IfSome result (λ sight. sight.line ≡ line) }
+    ) -> Option<TurnLine<'s, A>>
+        ensures slice { IfSome result (λ here. here.slice.now ≡ slice.now) }
+        ensures requester { IfSome result (λ here. here.requester.now ≡ requester.now) }
+        ensures line { IfSome result (λ here. here.line ≡ line) }
         ensures inside { IfSome result (λ _. are_in_range slice.now requester.now.number line.0
             ≡ true) }
         ensures outside { IfNone result (are_in_range slice.now requester.now.number line.0
@@ -43,7 +43,7 @@ impl<'s, A: Allocator> Sight<'s, A> {
     {
         let agent = requester.number();
         let at = slice.agent_line(agent, line).ok()?;
-        Some(Sight {
+        Some(TurnLine {
             slice,
             requester,
             agent,
