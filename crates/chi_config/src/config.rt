@@ -11,6 +11,7 @@ use std::marker::Model;
 /// The size of a node and its profile of credit types. Contracts see it as `Sizes`, which are always in
 /// the limits.
 /// Source: `docs/PROTOCOL.md`, "Limits".
+#[derive(PartialEq, Eq)]
 pub struct Config {
     agents: u8,
     lines: u8,

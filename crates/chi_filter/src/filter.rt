@@ -1,10 +1,11 @@
 //! The agents that may hold one line.
 
-ghost use Rattle.std.specs.Prelude.{◌≡◌, ◌<◌, true};
+ghost use Rattle.std.specs.Prelude.{◌≡◌, ◌<◌, true, ⊤};
 ghost use Rattle.chi_filter.specs.Filter.{FilterState, IsFilter, filter_with, empty_filter, has_any, is_named, only_named, others_than, owner_ended, owner_made, owner_set, owner_without, filter_without, filter_without_flag};
 
 use crate::sets::{only_set, others_than};
 use chi_flit::Agent;
+use std::alloc::AllocError;
 use std::marker::Model;
 
 /// Whether anybody is in a set of agents, given as a mark for each agent number.
@@ -40,7 +41,7 @@ fn owner_set(owner: Option<Agent>) -> [bool; 8]
 /// alone is named, and the owner, who answers for dirty shared data. A named agent may hold nothing.
 /// Contracts see it as a `FilterState`. No call is refused; each agent's number is below 8.
 /// Source: `docs/PROTOCOL.md`, "The filter".
-#[derive(Drop)]
+#[derive(Drop, PartialEq, Eq)]
 pub struct Filter {
     named: [bool; 8],
     unique: bool,
@@ -54,7 +55,23 @@ impl Model for Filter {
 
     ghost view = { λ filter. record { named = filter.named; unique = filter.unique; owner = filter.owner } };
 
+    ghost inverse = { λ filter. record { named = filter.named; unique = filter.unique; owner = filter.owner } };
+
     ghost invariant = { λ filter. IsFilter (record { named = filter.named; unique = filter.unique; owner = filter.owner }) };
+}
+
+impl Clone for Filter {
+    ghost is_clone = { λ filter copy. copy ≡ filter };
+
+    ghost is_infallible = { λ _. ⊤ };
+
+    fn clone(&self) -> Result<Self, AllocError> {
+        Ok(Filter {
+            named: self.named,
+            unique: self.unique,
+            owner: self.owner,
+        })
+    }
 }
 
 impl Filter {

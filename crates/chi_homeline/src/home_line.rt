@@ -1,6 +1,6 @@
 //! One line at the home.
 
-ghost use Rattle.std.specs.Prelude.{◌≡◌, ◌<◌, ℕ, List, IfOk, OnErr, None, Some, false, is_some, true};
+ghost use Rattle.std.specs.Prelude.{◌≡◌, ◌<◌, ℕ, List, IfOk, OnErr, None, Some, false, is_some, true, ⊤};
 ghost use Rattle.chi_flit.specs.Refusal.{refusal_of};
 ghost use Rattle.chi_filter.specs.Filter.{is_named};
 ghost use Rattle.chi_homeline.specs.Home.{Home, home_after_ack, acks_for, home_after_admit, answer_taken, asks, home_after_completion, completes_unique, completion_form, data_to_send, finished_home, finished_sends, idle_home, leaves, home_after_service, served_kind, served_sends, served_slot, snoop_answered, snoop_answered_sends, start_refusal, home_after_start, started_as, started_sends, started_with, waiting_of, writes_for, home_after_write};
@@ -13,11 +13,12 @@ ghost use Rattle.chi_homeline.specs.declared.serving.Started.TheVariants.{Sends}
 use crate::serving::{Begun, Completion, CompletionForm, Serving, SnoopAnswer, Waiting};
 use chi_filter::{Filter, has_any};
 use chi_flit::{Agent, Data, Kind, NO_DATA, Refusal, Slot, Snoop, State};
+use std::alloc::AllocError;
 use std::marker::Model;
 
 /// What the home keeps of one line. Contracts see it as a `Home`. Each agent's number is below 8.
 /// Source: `docs/PROTOCOL.md`, "One line".
-#[derive(Drop)]
+#[derive(Drop, PartialEq, Eq)]
 pub struct HomeLine {
     memory: Data,
     filter: Filter,
@@ -33,7 +34,25 @@ impl Model for HomeLine {
 
     ghost view = { λ home. record { memory = home.memory; filter = home.filter; serving = home.serving; awaited = home.awaited; waiting = home.waiting } };
 
+    ghost inverse = { λ home. record { memory = home.memory; filter = home.filter; serving = home.serving; awaited = home.awaited; waiting = home.waiting } };
+
     ghost invariant = { λ home. IsServedInRange home.serving };
+}
+
+impl Clone for HomeLine {
+    ghost is_clone = { λ home copy. copy ≡ home };
+
+    ghost is_infallible = { λ _. ⊤ };
+
+    fn clone(&self) -> Result<Self, AllocError> {
+        Ok(HomeLine {
+            memory: self.memory,
+            filter: self.filter.clone()?,
+            serving: self.serving,
+            awaited: self.awaited,
+            waiting: self.waiting,
+        })
+    }
 }
 
 impl HomeLine {

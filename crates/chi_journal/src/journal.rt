@@ -53,6 +53,23 @@ impl<A: Allocator + Copy> Journal<A> {
             totals: JournalTotals::new(),
         })
     }
+
+    /// A journal that is the same, in memory of this allocator: all memory that it ever needs is found
+    /// here. Refused where it runs out.
+    /// Source: `docs/PROTOCOL.md`, "The journal and last values".
+    pub fn clone_in(&self, alloc: A) -> Result<Journal<A>, NoMemory>
+        ensures { IfOk result (λ journal. journal ≡ self.now) }
+    {
+        let mut records = Vec::with_capacity(alloc, self.limit as usize)?;
+        records.extend_from_slice(&self.records)?;
+        let last = self.last.clone_in(alloc)?;
+        Ok(Journal {
+            records,
+            limit: self.limit,
+            last,
+            totals: self.totals,
+        })
+    }
 }
 
 impl<A: Allocator> Journal<A> {
@@ -169,6 +186,18 @@ impl<A: Allocator> Journal<A> {
         ensures { result ≡ self.now.lines }
     {
         self.last.lines()
+    }
+
+    /// Whether the journals are the same: their records in their order, their limits, and their numbers of
+    /// lines.
+    /// Source: `docs/PROTOCOL.md`, "The journal and last values".
+    #[tactic(auto, using(crate::proofs::Equal::all_entries))]
+    pub fn equals(&self, other: &Journal<A>) -> bool
+        ensures { IsTrue result ↔ (self.now ≡ other.now) }
+    {
+        self.limit == other.limit
+            && self.lines() == other.lines()
+            && self.records() == other.records()
     }
 
     /// The records, in their order.

@@ -37,6 +37,15 @@ impl<A: Allocator> LastValues<A> {
         Ok(LastValues { rows })
     }
 
+    /// The same words, in memory of this allocator. Refused where it runs out.
+    pub fn clone_in(&self, alloc: A) -> Result<LastValues<A>, NoMemory>
+        ensures { IfOk result (λ last. last ≡ self.now) }
+    {
+        let mut rows = Vec::with_capacity(alloc, self.rows.len())?;
+        rows.extend_from_slice(&self.rows)?;
+        Ok(LastValues { rows })
+    }
+
     /// The number of lines.
     pub fn lines(&self) -> usize
         ensures { result ≡ length self.now }

@@ -1,3 +1,4 @@
+pub mod Equal
 pub mod Frame
 pub mod Lanes
 pub mod Facts

@@ -1,7 +1,7 @@
 //! A line: the requesters' sides of it, the home's, and what is in flight between them.
 
 ghost use Rattle.std.specs.List.{filter};
-ghost use Rattle.std.specs.Prelude.{◌≡◌, ◌<◌, []};
+ghost use Rattle.std.specs.Prelude.{◌≡◌, ◌<◌, [], ⊤};
 ghost use Rattle.chi_flit.specs.declared.message.Channel.{Channel};
 ghost use Rattle.chi_wires.specs.Cell.{cell_of};
 ghost use Rattle.chi_wires.specs.Flight.{flit_of, in_flight, is_at};
@@ -11,12 +11,13 @@ use chi_flit::Agent;
 use chi_homeline::HomeLine;
 use chi_rnline::RnLine;
 use chi_wires::{Cells, Wires};
+use std::alloc::AllocError;
 use std::marker::Model;
 
 /// One line: what each of the eight requesters and the home keep of it, and what is in flight between them.
 /// Contracts see it as a `LineState`.
 /// Source: `docs/PROTOCOL.md`, "One line".
-#[derive(Drop)]
+#[derive(Drop, PartialEq, Eq)]
 pub struct CoherentLine {
     pub(crate) requesters: [RnLine; 8],
     pub(crate) home: HomeLine,
@@ -29,6 +30,22 @@ impl Model for CoherentLine {
     ghost Value = { LineState };
 
     ghost view = { λ line. record { requesters = line.requesters; home = line.home; flits = line.flits } };
+
+    ghost inverse = { λ line. record { requesters = line.requesters; home = line.home; flits = line.flits } };
+}
+
+impl Clone for CoherentLine {
+    ghost is_clone = { λ line copy. copy ≡ line };
+
+    ghost is_infallible = { λ _. ⊤ };
+
+    fn clone(&self) -> Result<Self, AllocError> {
+        Ok(CoherentLine {
+            requesters: self.requesters,
+            home: self.home.clone()?,
+            flits: self.flits.clone()?,
+        })
+    }
 }
 
 impl CoherentLine {

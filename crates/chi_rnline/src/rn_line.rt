@@ -20,6 +20,7 @@ use std::marker::Model;
 /// One requester's side of one line. Contracts see it as an `Rn`: the copy's state and data, and the
 /// pending request.
 /// Source: `docs/PROTOCOL.md`, "One line".
+#[derive(PartialEq, Eq)]
 pub struct RnLine {
     state: State,
     words: Data,

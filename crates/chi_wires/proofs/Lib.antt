@@ -1,3 +1,4 @@
+pub mod Equal
 pub mod Marked
 pub mod Moved
 pub mod Once

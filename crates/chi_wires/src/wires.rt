@@ -1,6 +1,6 @@
 //! What is in flight at one line: the cells of its agents, by their numbers.
 
-ghost use Rattle.std.specs.Prelude.{◌≡◌, ℕ, ◌<◌, ◌≤◌, true, false, length, None, Some, ◌∷◌, ◌++◌, IfOk, OnErr, OnOk, slice_index_or, slice_set};
+ghost use Rattle.std.specs.Prelude.{◌≡◌, ℕ, ◌<◌, ◌≤◌, true, false, length, None, Some, ◌∷◌, ◌++◌, IfOk, OnErr, OnOk, slice_index_or, slice_set, ⊤};
 ghost use Rattle.std.specs.List.{filter};
 ghost use Rattle.std.specs.List.Sorted.{IsPermutation};
 ghost use Rattle.chi_flit.specs.Message.{channel_of};
@@ -13,12 +13,13 @@ ghost use Rattle.chi_wires.specs.Flits.{cells_at, no_wires, take_refusal, with_s
 
 use crate::cells::Cells;
 use chi_flit::{Agent, Channel, CompData, Msg, Refusal, Snoop};
+use std::alloc::AllocError;
 use std::marker::Model;
 
 /// What is in flight at one line: for each of the eight agents at most one flit on each channel. Contracts see
 /// it as the list of the agents' cells; its multiset of flits is `in_flight` of that.
 /// Source: `docs/PROTOCOL.md`, "Messages".
-#[derive(Drop)]
+#[derive(Drop, PartialEq, Eq)]
 pub struct Wires {
     cells: [Cells; 8],
 }
@@ -30,6 +31,18 @@ impl Model for Wires {
     ghost Value = { List Cells };
 
     ghost view = { λ wires. wires.cells };
+
+    ghost inverse = { λ cells. record { cells = cells } };
+}
+
+impl Clone for Wires {
+    ghost is_clone = { λ wires copy. copy ≡ wires };
+
+    ghost is_infallible = { λ _. ⊤ };
+
+    fn clone(&self) -> Result<Self, AllocError> {
+        Ok(Wires { cells: self.cells })
+    }
 }
 
 impl Wires {
