@@ -1,7 +1,7 @@
 //! The search for an explanation of what a monitor saw of a line: without backtracking and without a
-//! look ahead.
+//! look ahead; and a monitor that searches flit by flit.
 //!
-//! Source: `docs/TRACES.md`, "Explanations".
+//! Source: `docs/TRACES.md`, "Explanations" and "A monitor".
 #![tactic(auto)]
 
 mod choices;
@@ -9,6 +9,9 @@ mod explained;
 mod faults;
 mod filter;
 mod line;
+mod line_monitor;
+mod monitor;
+mod open_flits;
 mod requester;
 mod search;
 mod values;
@@ -16,5 +19,7 @@ mod values;
 pub use choices::allowed;
 pub use explained::{NoExplanation, explain_flits, first_fault};
 pub use faults::{LineFault, Reach};
+pub use monitor::{FirstFault, Monitor, NotExplained, NotTaken};
+pub use open_flits::OpenFlits;
 pub use search::Witness;
 pub use values::Known;

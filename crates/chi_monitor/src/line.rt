@@ -733,3 +733,38 @@ impl<A: Allocator> Search<A> {
         Ok(())
     }
 }
+
+impl<A: Allocator> Search<A> {
+    /// Forgets the items that no flit can change any more, and the words that the line hasn't.
+    pub fn forget(&mut self) -> Result<(), LineFault> {
+        if !matches!(self.service, Service::Snooping(_)) {
+            self.items.clear();
+        }
+        if self.values.are_many() {
+            self.forget_words()?;
+        }
+        Ok(())
+    }
+
+    /// Forgets the words that the line hasn't.
+    fn forget_words(&mut self) -> Result<(), LineFault> {
+        self.values.keep(&mut self.opening)?;
+        self.values.keep(&mut self.memory)?;
+        for side in self.requesters.iter_mut() {
+            self.values.keep(&mut side.words)?;
+            if let Some(Given::Data(_, words)) = &mut side.given {
+                self.values.keep(words)?;
+            }
+        }
+        for answer in self.answers.iter_mut() {
+            if let Some(
+                Answer::InvalidPassed(words) | Answer::CleanPassed(words) | Answer::Shared(words),
+            ) = answer
+            {
+                self.values.keep(words)?;
+            }
+        }
+        self.values.forget_others()?;
+        Ok(())
+    }
+}

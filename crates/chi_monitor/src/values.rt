@@ -8,6 +8,9 @@ use std::fmt;
 #[derive(Clone, Copy, Debug, PartialEq, Eq)]
 pub(crate) struct Unknown(pub usize);
 
+/// From how many words on those that no line has are forgotten: a line has 208 at most.
+const MANY: usize = 512;
+
 /// The words of a line.
 pub(crate) type UnknownWords = [Unknown; 8];
 
@@ -34,14 +37,65 @@ impl fmt::Display for Known {
 #[derive(Drop)]
 pub(crate) struct Values<A: Allocator> {
     shown: Vec<Option<u64>, A>,
+    /// The words that are kept while the others are forgotten.
+    kept: Vec<KeptWord, A>,
 }
 
-impl<A: Allocator> Values<A> {
+/// A word that is kept, by its number before the others are forgotten.
+#[derive(Clone, Copy)]
+struct KeptWord {
+    number: usize,
+    shown: Option<u64>,
+}
+
+impl<A: Allocator + Copy> Values<A> {
     /// None yet.
     pub fn new(alloc: A) -> Values<A> {
         Values {
             shown: Vec::new(alloc),
+            kept: Vec::new(alloc),
         }
+    }
+}
+
+impl<A: Allocator> Values<A> {
+    /// Whether there are so many words that those that no line has should be forgotten.
+    pub fn are_many(&self) -> bool {
+        self.shown.len() >= MANY
+    }
+
+    /// Keeps the words of a line, whose numbers are others from now on.
+    pub fn keep(&mut self, words: &mut UnknownWords) -> Result<(), AllocError> {
+        for word in words.iter_mut() {
+            *word = self.keep_one(*word)?;
+        }
+        Ok(())
+    }
+
+    /// The number that a word has among those that are kept.
+    fn keep_one(&mut self, word: Unknown) -> Result<Unknown, AllocError> {
+        for (at, kept) in self.kept.iter().enumerate() {
+            if kept.number == word.0 {
+                return Ok(Unknown(at));
+            }
+        }
+        let at = self.kept.len();
+        let shown = self.known_word(word);
+        self.kept.push(KeptWord {
+            number: word.0,
+            shown,
+        })?;
+        Ok(Unknown(at))
+    }
+
+    /// Forgets all words but those that were kept.
+    pub fn forget_others(&mut self) -> Result<(), AllocError> {
+        self.shown.clear();
+        for kept in self.kept.iter() {
+            self.shown.push(kept.shown)?;
+        }
+        self.kept.clear();
+        Ok(())
     }
 
     /// One more word, with this value if it is known.
