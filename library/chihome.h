@@ -1,7 +1,8 @@
 /* chihome: a proved reference model of an AMBA CHI coherent system in miniature.
  *
- * Two things can be opened: a slice, whose lines are stepped action by action, and a whole node on one thread, with
- * its tracker and its requesters. What each call does is in docs/PROTOCOL.md, and proved of every call in the
+ * Three things can be opened: a slice, whose lines are stepped action by action; a whole node on one thread, with its
+ * tracker and its requesters; and a monitor, which is given flits and finds the first that no run of the model sends.
+ * What each call does is in docs/PROTOCOL.md, and proved of every call in the
  * contracts of crates/chi_library; docs/LIBRARY.md says what is proved up to this header, and what C must uphold:
  *
  * - A handle is a variable of the caller's, set to zero before its first use: `ChiSlice slice = {0};`. It is opened
@@ -13,7 +14,7 @@
  *
  * Each call answers CHI_OK, or the number of a refusal, after which nothing has changed; CHI_Closed of a closed
  * handle, which is not touched; and an opening of an open handle CHI_AlreadyOpen, which stays. Where a call is not
- * done, all numbers of what it tells are 0, so also such a count. Only the two openings take memory.
+ * done, all numbers of what it tells are 0, so also such a count. Only the openings take memory, and a monitor's calls.
  */
 #ifndef CHIHOME_H
 #define CHIHOME_H
@@ -42,6 +43,8 @@ enum ChiAnswer {
     CHI_OutOfRange = 10, /* also of a number that is none of an enum's */
     CHI_NotOpen = 11,    /* never answered: the requesters of a node agree with its slices */
     CHI_NoCredit = 12,
+    CHI_NotKept = 252, /* of a monitor: no flits are kept */
+    CHI_Fault = 253,   /* of a monitor: no run of the model sends the flit */
     CHI_AlreadyOpen = 254,
     CHI_Closed = 255
 };
@@ -113,6 +116,30 @@ enum ChiMessage {
     CHI_CopyBackWrData_UC = 20,
     CHI_CopyBackWrData_UD_PD = 21,
     CHI_CopyBackWrData_SD_PD = 22
+};
+
+/* Why no run of the model sends a flit (docs/LIBRARY.md, "A monitor"). */
+enum ChiReason {
+    CHI_NoReason = 0, /* there is no fault */
+    CHI_MemoryRanOut = 1,
+    CHI_NoAgent = 2,
+    CHI_EarlierRequest = 3,
+    CHI_CopyNotNeeded = 4,
+    CHI_NotRetried = 5,
+    CHI_NothingToRetry = 6,
+    CHI_ServedRetry = 7,
+    CHI_NobodyAsks = 8,
+    CHI_HomeAwaits = 9,
+    CHI_SnoopedTwice = 10,
+    CHI_NothingToAnswer = 11,
+    CHI_AnswerOfCopy = 12,
+    CHI_OtherWords = 13,
+    CHI_NothingToComplete = 14,
+    CHI_SnoopsBefore = 15,
+    CHI_FormOfFilter = 16,
+    CHI_NotAwaited = 17,
+    CHI_FormOfCopy = 18,
+    CHI_OtherReason = 19
 };
 
 /* What an action gives, how far a request has come, what a line serves, what an arrival came to, and where a released
@@ -339,6 +366,53 @@ uint8_t chi_node_audit(ChiNode *node, ChiAudit *audit);
 /* Closes the handle, and frees the node. */
 uint8_t chi_node_close(ChiNode *node);
 
+/* The first flit that no run of the model sends. */
+typedef struct {
+    uint8_t reason; /* ChiReason, CHI_NoReason where there is no fault */
+    uint8_t line;
+    uint64_t number; /* how many flits were taken before it, of all lines */
+    ChiSent sent;    /* the flit */
+} ChiFault;
+
+/* What is open of an agent at a line: 1 where it is. */
+typedef struct {
+    uint8_t request;    /* a request that was neither completed nor retried */
+    uint8_t retried;    /* a retried one that was not sent again */
+    uint8_t snoop;      /* a snoop without its answer */
+    uint8_t completion; /* a completion without its CompAck */
+    uint8_t write_data; /* a CompDBIDResp without its write data */
+} ChiOpen;
+
+/* A monitor of the lines of a node. */
+typedef struct {
+    void *at;
+} ChiMonitor;
+
+/* Opens a monitor of so many agents, 1 to 8, and lines, 1 to 64, which keeps so many flits of each line, up to 65,536,
+ * for chi_monitor_explain; with 0 it keeps none, and takes flits without an end. CHI_AlreadyOpen of an open handle;
+ * CHI_OutOfRange; CHI_NoMemory. */
+uint8_t chi_monitor_open(ChiMonitor *monitor, uint8_t agents, uint8_t lines, uint32_t kept);
+
+/* Takes the next flit of a line, in the order in which senders put them on their ports. Its channel and slot are not
+ * read. CHI_Fault where no run of the model sends it behind those before: it is kept as the first fault, and each flit
+ * behind it is answered so too. CHI_OutOfRange where the agent or the line is outside the node, or a number names no
+ * message, kind or credit type; CHI_JournalFull where so many flits of the line are kept; then nothing changes.
+ * CHI_NoMemory, which is kept as a fault is. */
+uint8_t chi_monitor_flit(ChiMonitor *monitor, uint8_t line, const ChiSent *sent);
+
+/* Tells the first fault. */
+uint8_t chi_monitor_fault(ChiMonitor *monitor, ChiFault *fault);
+
+/* Tells what is open of each agent at a line behind the flits that were taken. CHI_OutOfRange of the line. */
+uint8_t chi_monitor_end(ChiMonitor *monitor, uint8_t line, ChiOpen agents[8]);
+
+/* Explains the flits that were kept of a line: CHI_OK where actions of the model are found, and done, and send just
+ * these. CHI_OutOfRange of the line; CHI_NotKept; CHI_Fault where none are found; CHI_NoMemory. Nothing changes. */
+uint8_t chi_monitor_explain(ChiMonitor *monitor, uint8_t line);
+
+/* Closes the handle, and frees the monitor. */
+uint8_t chi_monitor_close(ChiMonitor *monitor);
+
 /* The version of the library, as CHI_VERSION. */
 const char *chi_version(void);
 
@@ -349,6 +423,10 @@ const char *chi_kind_name(uint8_t kind);       /* ChiKind: "ReadShared" */
 const char *chi_message_name(uint8_t message); /* ChiMessage: "CompData_UC" */
 const char *chi_state_name(uint8_t state);     /* ChiState: "UC" */
 const char *chi_refusal_name(uint8_t answer);  /* ChiAnswer: "NoFlit", and "OK", "AlreadyOpen" and "Closed" */
+const char *chi_reason_name(uint8_t reason);   /* ChiReason: "NobodyAsks" */
+
+/* Why no run of the model sends a flit, in words: a ChiReason's text, and "?" of another number. */
+const char *chi_reason_text(uint8_t reason);
 
 /* The layouts that the library was proved and built with. */
 #ifdef __cplusplus
@@ -357,7 +435,7 @@ const char *chi_refusal_name(uint8_t answer);  /* ChiAnswer: "NoFlit", and "OK",
 #define CHI_LAYOUT(it) _Static_assert(it, #it)
 #endif
 #include <stddef.h>
-CHI_LAYOUT(sizeof(ChiSlice) == 8 && sizeof(ChiNode) == 8);
+CHI_LAYOUT(sizeof(ChiSlice) == 8 && sizeof(ChiNode) == 8 && sizeof(ChiMonitor) == 8);
 CHI_LAYOUT(sizeof(ChiConfig) == 16 && offsetof(ChiConfig, entries) == 4 && offsetof(ChiConfig, journal) == 12);
 CHI_LAYOUT(sizeof(ChiAction) == 16 && offsetof(ChiAction, word) == 5 && offsetof(ChiAction, value) == 8);
 CHI_LAYOUT(sizeof(ChiEffect) == 16 && offsetof(ChiEffect, slot) == 1 && offsetof(ChiEffect, value) == 8);
@@ -373,6 +451,8 @@ CHI_LAYOUT(sizeof(ChiRecord) == 16 && offsetof(ChiRecord, word) == 3 && offsetof
 CHI_LAYOUT(sizeof(ChiArrival) == 3 && sizeof(ChiRelease) == 2);
 CHI_LAYOUT(sizeof(ChiCredits) == 16 && sizeof(ChiTotals) == 64 && offsetof(ChiTotals, owed) == 48);
 CHI_LAYOUT(sizeof(ChiAudit) == 24 && offsetof(ChiAudit, coherent) == 16);
+CHI_LAYOUT(sizeof(ChiFault) == 96 && offsetof(ChiFault, number) == 8 && offsetof(ChiFault, sent) == 16);
+CHI_LAYOUT(sizeof(ChiOpen) == 5 && offsetof(ChiOpen, snoop) == 2 && offsetof(ChiOpen, write_data) == 4);
 #undef CHI_LAYOUT
 
 #ifdef __cplusplus

@@ -19,6 +19,21 @@ static const char *const STATES[] = {"I", "SC", "UC", "UD", "SD"};
 static const char *const ANSWERS[] = {"OK", "JournalFull", "WrongState", "Pending", "NothingPending", "LineBusy",
     "NotWaiting", "NoFlit", "NoMemory", "MustAccept", "OutOfRange", "NotOpen", "NoCredit"};
 
+static const char *const REASONS[] = {"NoReason", "MemoryRanOut", "NoAgent", "EarlierRequest", "CopyNotNeeded",
+    "NotRetried", "NothingToRetry", "ServedRetry", "NobodyAsks", "HomeAwaits", "SnoopedTwice", "NothingToAnswer",
+    "AnswerOfCopy", "OtherWords", "NothingToComplete", "SnoopsBefore", "FormOfFilter", "NotAwaited", "FormOfCopy",
+    "OtherReason"};
+
+static const char *const REASON_TEXTS[] = {"there is no fault", "memory ran out", "it is none of eight requesters",
+    "an earlier request of it to the line isn't over", "its copy isn't in a state from which this is issued",
+    "no request of this kind of it was retried", "no first attempt of it is under way",
+    "the snoops that were sent are for its request", "no request that waits asks for this snoop of it now",
+    "the home awaits a CompAck or write data there", "it was snooped for this request already",
+    "no snoop to it is unanswered", "its copy answers this snoop otherwise", "its sender has other words",
+    "no request of it that it completes waits",
+    "other agents are to be snooped and to answer first, or fewer were to be", "the home's filter says the other form",
+    "the home doesn't await it", "its copy has another form", "it isn't in the profile"};
+
 static const char *name_in(const char *const *names, size_t count, uint8_t number) {
     return number < count ? names[number] : "?";
 }
@@ -36,7 +51,13 @@ const char *chi_message_name(uint8_t message) { return NAME_IN(MESSAGES, message
 const char *chi_state_name(uint8_t state) { return NAME_IN(STATES, state); }
 
 const char *chi_refusal_name(uint8_t answer) {
+    if (answer == CHI_NotKept) return "NotKept";
+    if (answer == CHI_Fault) return "Fault";
     if (answer == CHI_AlreadyOpen) return "AlreadyOpen";
     if (answer == CHI_Closed) return "Closed";
     return NAME_IN(ANSWERS, answer);
 }
+
+const char *chi_reason_name(uint8_t reason) { return NAME_IN(REASONS, reason); }
+
+const char *chi_reason_text(uint8_t reason) { return NAME_IN(REASON_TEXTS, reason); }

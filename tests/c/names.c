@@ -18,5 +18,6 @@ int main(void) {
     print_names("Kind", chi_kind_name);
     print_names("State", chi_state_name);
     print_names("Message", chi_message_name);
+    print_names("Reason", chi_reason_name);
     return 0;
 }

@@ -1,4 +1,4 @@
-/* Opens a slice and a node while each allocation in turn is refused: the answer is CHI_NoMemory, the handle is closed,
+/* Opens a slice, a node and a monitor while each allocation in turn is refused: the answer is CHI_NoMemory, the handle is closed,
  * nothing leaks (valgrind looks), and the next try with ample memory opens it. Then what a handle answers in each of
  * its states, and numbers outside an enum. */
 #include "chihome.h"
@@ -52,6 +52,31 @@ static int node_allocations(void) {
         granted = -1;
         HOLDS(answer == (spent ? CHI_NoMemory : CHI_OK));
         HOLDS(chi_node_close(&node) == (spent ? CHI_Closed : CHI_OK));
+        if (!spent) return count;
+    }
+}
+
+/* Gives a monitor a read, and asks for its explanation: with one allocation refused, what asked for it is answered so. */
+static int monitor_allocations(void) {
+    static const ChiSent READ[] = {{.flit = {.message = CHI_Request, .kind = CHI_ReadUnique, .allow_retry = 1}},
+        {.flit = {.message = CHI_CompData_UC, .words = {7}}}, {.flit = {.message = CHI_CompAck}}};
+    for (int count = 0;; count++) {
+        ChiMonitor monitor = {0};
+        ChiFault fault;
+        granted = count;
+        uint8_t answer = chi_monitor_open(&monitor, 2, 2, 8), opened = answer;
+        for (int place = 0; place < 3 && answer == CHI_OK; place++) answer = chi_monitor_flit(&monitor, 1, &READ[place]);
+        uint8_t taken = answer;
+        if (answer == CHI_OK) answer = chi_monitor_explain(&monitor, 1);
+        int spent = granted < 0;
+        granted = -1;
+        HOLDS(answer == (spent ? CHI_NoMemory : CHI_OK));
+        if (opened == CHI_OK && taken == CHI_NoMemory) {
+            HOLDS(chi_monitor_fault(&monitor, &fault) == CHI_OK && fault.reason == CHI_MemoryRanOut);
+            HOLDS(chi_monitor_flit(&monitor, 0, &READ[0]) == CHI_NoMemory);
+        }
+        if (taken == CHI_OK) HOLDS(chi_monitor_explain(&monitor, 1) == CHI_OK);
+        HOLDS(chi_monitor_close(&monitor) == (opened == CHI_OK ? CHI_OK : CHI_Closed));
         if (!spent) return count;
     }
 }
@@ -138,9 +163,10 @@ static void node_answers(void) {
 int main(void) {
     int slice = slice_allocations();
     int node = node_allocations();
-    HOLDS(slice > 0 && node > slice);
+    int monitor = monitor_allocations();
+    HOLDS(slice > 0 && node > slice && monitor > 0);
     slice_answers();
     node_answers();
-    printf("%d allocations of a slice and %d of a node, each refused in turn\n", slice, node);
+    printf("%d allocations of a slice, %d of a node and %d of a monitor, each refused in turn\n", slice, node, monitor);
     return failures == 0 ? 0 : 1;
 }

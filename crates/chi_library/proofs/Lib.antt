@@ -5,3 +5,4 @@ mod NodeHandles
 mod Listings
 mod EnabledLists
 mod SentLists
+mod MonitorHandles

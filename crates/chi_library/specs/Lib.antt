@@ -12,3 +12,6 @@ pub mod SliceCalls
 pub mod Listed
 pub mod Enabled
 pub mod PlainSteps
+pub mod Observed
+pub mod MonitorHandle
+pub mod MonitorCalls

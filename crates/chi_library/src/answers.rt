@@ -8,6 +8,9 @@ use chi_flit::Refusal;
 /// It was done.
 pub(crate) const DONE: u8 = 0;
 
+/// There is no room for one more: the number of the refusal `JournalFull`.
+pub(crate) const NO_ROOM: u8 = 1;
+
 /// Memory ran out: the number of the refusal `NoMemory`.
 pub(crate) const NO_MEMORY: u8 = 8;
 
@@ -16,6 +19,12 @@ pub(crate) const OUT_OF_RANGE: u8 = 10;
 
 /// A requester doesn't agree with a slice: the number of the refusal `NotOpen`.
 pub(crate) const NOT_OPEN: u8 = 11;
+
+/// A monitor keeps no flits.
+pub(crate) const NOT_KEPT: u8 = 252;
+
+/// No run of the model sends it.
+pub(crate) const FAULT: u8 = 253;
 
 /// The handle is open already.
 pub(crate) const ALREADY_OPEN: u8 = 254;

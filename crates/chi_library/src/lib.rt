@@ -1,4 +1,5 @@
-//! The model as a library for C and SystemVerilog: a slice, and a whole node on one thread.
+//! The model as a library for C and SystemVerilog: a slice, a whole node on one thread, and a
+//! monitor.
 //!
 //! Source: `docs/LIBRARY.md`.
 #![tactic(auto)]
@@ -9,10 +10,14 @@ mod box_pointer;
 mod enabled;
 mod flits;
 mod lines;
+mod monitor_calls;
+mod monitor_handle;
+mod monitor_told;
 mod node_calls;
 mod node_handle;
 mod node_told;
 mod numbers;
+mod observed;
 mod records;
 mod sizes;
 mod slice_calls;
@@ -22,6 +27,8 @@ mod steps;
 pub use actions::{ChiAction, ChiEffect};
 pub use flits::{ChiFlit, ChiFlits, ChiSent};
 pub use lines::{ChiCopy, ChiLine, ChiRequest, ChiServing};
+pub use monitor_handle::ChiMonitor;
+pub use monitor_told::{ChiFault, ChiOpen};
 pub use node_handle::ChiNode;
 pub use node_told::{ChiArrival, ChiAudit, ChiCredits, ChiRelease, ChiTotals};
 pub use records::ChiRecord;

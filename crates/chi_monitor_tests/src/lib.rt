@@ -1,6 +1,8 @@
-//! Tests of the search for explanations through the public call of `chi_monitor` alone.
+//! Tests of the search for explanations and of the monitor, through the public calls of `chi_monitor` alone.
 #![tactic(auto)]
 
+#[cfg(test)]
+mod monitors;
 #[cfg(test)]
 mod round_trips;
 #[cfg(test)]

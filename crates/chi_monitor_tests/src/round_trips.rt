@@ -16,7 +16,7 @@ const RUNS: u64 = 300;
 const CHANGED: u64 = 30;
 
 /// The flits but for the one at this place, or with that one twice.
-fn changed(
+pub(crate) fn changed(
     alloc: Global,
     flits: &[Observed],
     place: usize,
