@@ -37,6 +37,8 @@ enum class Answer : std::uint8_t {
     OutOfRange = CHI_OutOfRange,
     NotOpen = CHI_NotOpen,
     NoCredit = CHI_NoCredit,
+    NotKept = CHI_NotKept,
+    Fault = CHI_Fault,
     AlreadyOpen = CHI_AlreadyOpen,
     Closed = CHI_Closed
 };
@@ -115,6 +117,30 @@ enum class Message : std::uint8_t {
     CopyBackWrData_UC = CHI_CopyBackWrData_UC,
     CopyBackWrData_UD_PD = CHI_CopyBackWrData_UD_PD,
     CopyBackWrData_SD_PD = CHI_CopyBackWrData_SD_PD
+};
+
+/* Why no run of the model sends a flit (docs/LIBRARY.md, "A monitor"). */
+enum class Reason : std::uint8_t {
+    NoReason = CHI_NoReason,
+    MemoryRanOut = CHI_MemoryRanOut,
+    NoAgent = CHI_NoAgent,
+    EarlierRequest = CHI_EarlierRequest,
+    CopyNotNeeded = CHI_CopyNotNeeded,
+    NotRetried = CHI_NotRetried,
+    NothingToRetry = CHI_NothingToRetry,
+    ServedRetry = CHI_ServedRetry,
+    NobodyAsks = CHI_NobodyAsks,
+    HomeAwaits = CHI_HomeAwaits,
+    SnoopedTwice = CHI_SnoopedTwice,
+    NothingToAnswer = CHI_NothingToAnswer,
+    AnswerOfCopy = CHI_AnswerOfCopy,
+    OtherWords = CHI_OtherWords,
+    NothingToComplete = CHI_NothingToComplete,
+    SnoopsBefore = CHI_SnoopsBefore,
+    FormOfFilter = CHI_FormOfFilter,
+    NotAwaited = CHI_NotAwaited,
+    FormOfCopy = CHI_FormOfCopy,
+    OtherReason = CHI_OtherReason
 };
 
 /* What an action gives, how far a request has come, what a line serves, what an arrival came to, and where a released
@@ -218,6 +244,25 @@ struct Stepped {
     Effect effect;
     Some<Sent, CHI_MostSent> sent;
     std::optional<Sent> taken;
+};
+
+/* The first flit that no run of the model sends: why, of which line, and how many were taken before it, of all lines. */
+struct FirstFault {
+    Reason reason = Reason::NoReason;
+    std::uint8_t line = 0;
+    std::uint64_t number = 0;
+    Sent sent;
+    const char *text() const { return chi_reason_text(static_cast<std::uint8_t>(reason)); }
+};
+
+/* What is open of an agent at a line: a request that was neither completed nor retried, a retried one that was not sent
+ * again, a snoop without its answer, a completion without its CompAck, a CompDBIDResp without its write data. */
+struct Open {
+    bool request = false;
+    bool retried = false;
+    bool snoop = false;
+    bool completion = false;
+    bool write_data = false;
 };
 
 /* An agent's copy of a line. */
@@ -382,6 +427,18 @@ inline std::optional<Flit> flit(const ChiFlit &from) {
     }
     if (from.message == CHI_RetryAck) to.credit = from.credit;
     if (has_data(from.message)) to.words = words(from.words);
+    return to;
+}
+
+inline ChiSent sent(std::uint8_t agent, const Flit &from) {
+    ChiSent to = {};
+    to.agent = agent;
+    to.flit.message = number(from.message);
+    to.flit.kind = from.kind ? number(*from.kind) : std::uint8_t{0};
+    to.flit.slot = from.slot.value_or(0);
+    to.flit.allow_retry = from.allow_retry.value_or(false);
+    to.flit.credit = from.credit.value_or(0);
+    for (std::size_t word = 0; from.words && word < 8; word++) to.flit.words[word] = (*from.words)[word];
     return to;
 }
 
@@ -646,12 +703,78 @@ class Node {
     ChiNode handle_ = {nullptr};
 };
 
+/* A monitor of the lines of a node, which is given the flits that were observed, in the order in which their senders put
+ * them on their ports, and finds the first that no run of the model sends. Closed until it is opened or moved to, and after
+ * it was moved from; each call on a closed one is answered Answer::Closed. */
+class Monitor {
+  public:
+    Monitor() = default;
+    Monitor(Monitor &&other) noexcept : handle_(std::exchange(other.handle_, ChiMonitor{nullptr})) {}
+    Monitor &operator=(Monitor &&other) noexcept {
+        if (this != &other) {
+            close();
+            handle_ = std::exchange(other.handle_, ChiMonitor{nullptr});
+        }
+        return *this;
+    }
+    ~Monitor() { close(); }
+
+    /* A monitor of so many agents and lines, which keeps so many flits of each line to be explained; with 0 it keeps none,
+     * and takes flits without an end. OutOfRange; NoMemory. */
+    static Outcome<Monitor> open(std::uint8_t agents, std::uint8_t lines, std::uint32_t kept = 0) {
+        Monitor opened;
+        const std::uint8_t answer = chi_monitor_open(&opened.handle_, agents, lines, kept);
+        return layout::outcome(answer, std::move(opened));
+    }
+
+    /* Takes the next flit of the line, between the agent and the home. Fault where no run of the model sends it behind those
+     * before, and of each behind that; OutOfRange; JournalFull; NoMemory. */
+    Answer flit(std::uint8_t line, std::uint8_t agent, const Flit &flit) {
+        const ChiSent told = layout::sent(agent, flit);
+        return Answer(chi_monitor_flit(&handle_, line, &told));
+    }
+
+    /* The first fault, if there is one. */
+    Outcome<std::optional<FirstFault>> fault() {
+        ChiFault told;
+        const std::uint8_t answer = chi_monitor_fault(&handle_, &told);
+        std::optional<FirstFault> first;
+        if (told.reason != CHI_NoReason)
+            first = FirstFault{Reason(told.reason), told.line, told.number, *layout::sent(told.sent)};
+        return layout::outcome(answer, std::move(first));
+    }
+
+    /* What is open of each agent at the line, behind the flits that were taken. OutOfRange. */
+    Outcome<std::array<Open, 8>> end(std::uint8_t line) {
+        ChiOpen told[8];
+        const std::uint8_t answer = chi_monitor_end(&handle_, line, told);
+        std::array<Open, 8> agents;
+        for (std::size_t agent = 0; agent < 8; agent++)
+            agents[agent] = {told[agent].request != 0, told[agent].retried != 0, told[agent].snoop != 0,
+                             told[agent].completion != 0, told[agent].write_data != 0};
+        return layout::outcome(answer, std::move(agents));
+    }
+
+    /* Explains the flits that were kept of the line: OK where actions of the model are found, and done, and send just these.
+     * Fault where none are found; NotKept; OutOfRange; NoMemory. */
+    Answer explain(std::uint8_t line) { return Answer(chi_monitor_explain(&handle_, line)); }
+
+    bool is_open() const { return handle_.at != nullptr; }
+
+    /* Frees what is open. Closed where nothing is. */
+    Answer close() noexcept { return is_open() ? Answer(chi_monitor_close(&handle_)) : Answer::Closed; }
+
+  private:
+    ChiMonitor handle_ = {nullptr};
+};
+
 /* The version of the library, and the names of numbers, as chihome prints them. */
 inline const char *version() { return chi_version(); }
 inline const char *name(Step it) { return chi_step_name(layout::number(it)); }
 inline const char *name(Kind it) { return chi_kind_name(layout::number(it)); }
 inline const char *name(Message it) { return chi_message_name(layout::number(it)); }
 inline const char *name(State it) { return chi_state_name(layout::number(it)); }
+inline const char *name(Reason it) { return chi_reason_name(layout::number(it)); }
 inline const char *name(Answer it) { return chi_refusal_name(layout::number(it)); }
 
 }  // namespace chihome

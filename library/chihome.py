@@ -1,7 +1,8 @@
 """chihome: a proved reference model of an AMBA CHI coherent system in miniature, from Python.
 
-Two things can be opened: a `Slice`, whose lines are stepped action by action, and a whole `Node` on one thread, with its
-tracker and its requesters. Each closes itself at the end of its `with`:
+Three things can be opened: a `Slice`, whose lines are stepped action by action; a whole `Node` on one thread, with its
+tracker and its requesters; and a `Monitor`, which is given flits and finds the first that no run of the model sends. Each
+closes itself at the end of its `with`:
 
     import chihome
     from chihome import Kind, Step
@@ -52,6 +53,8 @@ class Answer(enum.IntEnum):
     OutOfRange = 10
     NotOpen = 11
     NoCredit = 12
+    NotKept = 252
+    Fault = 253
     AlreadyOpen = 254
     Closed = 255
 
@@ -145,6 +148,31 @@ class Message(enum.IntEnum):
     CopyBackWrData_UC = 20
     CopyBackWrData_UD_PD = 21
     CopyBackWrData_SD_PD = 22
+
+
+class Reason(enum.IntEnum):
+    """Why no run of the model sends a flit (docs/LIBRARY.md, "A monitor")."""
+
+    NoReason = 0
+    MemoryRanOut = 1
+    NoAgent = 2
+    EarlierRequest = 3
+    CopyNotNeeded = 4
+    NotRetried = 5
+    NothingToRetry = 6
+    ServedRetry = 7
+    NobodyAsks = 8
+    HomeAwaits = 9
+    SnoopedTwice = 10
+    NothingToAnswer = 11
+    AnswerOfCopy = 12
+    OtherWords = 13
+    NothingToComplete = 14
+    SnoopsBefore = 15
+    FormOfFilter = 16
+    NotAwaited = 17
+    FormOfCopy = 18
+    OtherReason = 19
 
 
 class EffectForm(enum.IntEnum):
@@ -279,6 +307,18 @@ class NoCredit(Refused):
     number, name = Answer.NoCredit, "NoCredit"
 
 
+class NotKept(Refused):
+    """the monitor keeps no flits"""
+
+    number, name = Answer.NotKept, "NotKept"
+
+
+class Fault(Refused):
+    """no run of the model sends the flit, or one before it"""
+
+    number, name = Answer.Fault, "Fault"
+
+
 class AlreadyOpen(Refused):
     """the handle is open"""
 
@@ -382,11 +422,24 @@ class _ChiNode(ctypes.Structure):
     _fields_ = [("at", c_void_p)]
 
 
+class _ChiFault(ctypes.Structure):
+    _fields_ = [("reason", c_uint8), ("line", c_uint8), ("number", c_uint64), ("sent", _ChiSent)]
+
+
+class _ChiOpen(ctypes.Structure):
+    _fields_ = [(it, c_uint8) for it in ("request", "retried", "snoop", "completion", "write_data")]
+
+
+class _ChiMonitor(ctypes.Structure):
+    _fields_ = [("at", c_void_p)]
+
+
 # The calls of chihome.h: what each returns and takes.
 
 _slice, _node, _action, _count = POINTER(_ChiSlice), POINTER(_ChiNode), POINTER(_ChiAction), POINTER(c_uint8)
 _effect, _sent, _release = POINTER(_ChiEffect), POINTER(_ChiSent), POINTER(_ChiRelease)
 _arrival, _line, _flits = POINTER(_ChiArrival), POINTER(_ChiLine), POINTER(_ChiFlits)
+_monitor = POINTER(_ChiMonitor)
 
 _CALLS = {
     "chi_slice_open": (c_uint8, [_slice, POINTER(_ChiConfig), c_uint8]),
@@ -410,12 +463,20 @@ _CALLS = {
     "chi_node_agrees": (c_uint8, [_node]),
     "chi_node_audit": (c_uint8, [_node, POINTER(_ChiAudit)]),
     "chi_node_close": (c_uint8, [_node]),
+    "chi_monitor_open": (c_uint8, [_monitor, c_uint8, c_uint8, c_uint32]),
+    "chi_monitor_flit": (c_uint8, [_monitor, c_uint8, _sent]),
+    "chi_monitor_fault": (c_uint8, [_monitor, POINTER(_ChiFault)]),
+    "chi_monitor_end": (c_uint8, [_monitor, c_uint8, POINTER(_ChiOpen)]),
+    "chi_monitor_explain": (c_uint8, [_monitor, c_uint8]),
+    "chi_monitor_close": (c_uint8, [_monitor]),
     "chi_version": (c_char_p, []),
     "chi_step_name": (c_char_p, [c_uint8]),
     "chi_kind_name": (c_char_p, [c_uint8]),
     "chi_message_name": (c_char_p, [c_uint8]),
     "chi_state_name": (c_char_p, [c_uint8]),
     "chi_refusal_name": (c_char_p, [c_uint8]),
+    "chi_reason_name": (c_char_p, [c_uint8]),
+    "chi_reason_text": (c_char_p, [c_uint8]),
 }
 
 
@@ -534,6 +595,27 @@ class Stepped(NamedTuple):
     effect: Effect
     sent: Tuple[Sent, ...]
     taken: Optional[Sent]
+
+
+class FirstFault(NamedTuple):
+    """The first flit that no run of the model sends: of which line, how many were taken before it, and why, also as text."""
+
+    reason: Reason
+    line: int
+    number: int
+    sent: Sent
+    text: str
+
+
+class Open(NamedTuple):
+    """What is open of an agent at a line: a request that was neither completed nor retried, a retried one that wasn't sent
+    again, a snoop without its answer, a completion without its CompAck, a CompDBIDResp without its write data."""
+
+    request: bool
+    retried: bool
+    snoop: bool
+    completion: bool
+    write_data: bool
 
 
 class Copy(NamedTuple):
@@ -669,6 +751,15 @@ def _sent_in(told: _ChiSent) -> Optional[Sent]:
     return flit and Sent(told.agent, Channel(told.channel), flit)
 
 
+def _flit_of(flit: Flit) -> _ChiFlit:
+    words = (0,) * 8 if flit.words is None else tuple(flit.words)
+    if len(words) != 8 or not all(0 <= it < 1 << 64 for it in words):
+        raise ValueError("data are eight words of 64 bits")
+    kind, slot, credit = (_byte(it or 0) for it in (flit.kind, flit.slot, flit.credit))
+    return _ChiFlit(message=_byte(flit.message), kind=kind, slot=slot, allow_retry=bool(flit.allow_retry), credit=credit,
+                    words=words)
+
+
 def _request_in(told: _ChiRequest) -> Optional[Request]:
     phase = Phase(told.phase)
     return Request(phase, Kind(told.kind), told.slot) if phase else None
@@ -716,7 +807,7 @@ def _arrival_in(told: _ChiArrival) -> Arrival:
 
 
 class _Handle:
-    """What a slice and a node have in common: a handle of the library, which is closed once."""
+    """What slices, nodes and monitors have in common: a handle of the library, which is closed once."""
 
     def __init__(self, handle: ctypes.Structure, config: Config):
         self._calls = _library()
@@ -910,3 +1001,44 @@ class Node(_Handle):
         audit = _ChiAudit()
         _check(self._calls.chi_node_audit(byref(self._handle), byref(audit)))
         return Audit(audit.loads, audit.stores, bool(audit.coherent))
+
+
+class Monitor(_Handle):
+    """A monitor of the lines of a node, which is given the flits that were observed, in the order in which their senders put
+    them on their ports, and finds the first that no run of the model sends.
+
+    `kept` flits of each line are kept, to be explained; with 0 none are, and it takes flits without an end. OutOfRange where
+    there aren't 1 to 8 agents and 1 to 64 lines, or more than 65,536 are to be kept; NoMemory."""
+
+    def __init__(self, agents: int = 1, lines: int = 1, kept: int = 0):
+        super().__init__(_ChiMonitor(), Config(agents, lines, 1, (1, 1), 65536))
+        most = _within(kept, 0xFFFFFFFF)
+        _check(self._calls.chi_monitor_open(byref(self._handle), _byte(agents), _byte(lines), most))
+
+    def _close(self) -> int:
+        return self._calls.chi_monitor_close(byref(self._handle))
+
+    def flit(self, line: int, agent: int, flit: Flit) -> None:
+        """Takes the next flit of the line, between the agent and the home. Fault where no run of the model sends it behind
+        those before, and of each behind that; OutOfRange of the line, the agent and a number of no enum; JournalFull where
+        as many flits of the line are kept as may be; NoMemory, behind which nothing is taken."""
+        sent = _ChiSent(agent=_byte(agent), flit=_flit_of(flit))
+        _check(self._calls.chi_monitor_flit(byref(self._handle), _byte(line), byref(sent)))
+
+    def fault(self) -> Optional[FirstFault]:
+        """The first fault, if there is one."""
+        told = _ChiFault()
+        _check(self._calls.chi_monitor_fault(byref(self._handle), byref(told)))
+        text = self._calls.chi_reason_text(told.reason).decode()
+        return FirstFault(Reason(told.reason), told.line, told.number, _sent_in(told.sent), text) if told.reason else None
+
+    def end(self, line: int) -> Tuple[Open, ...]:
+        """What is open of each agent at the line, behind the flits that were taken. OutOfRange of the line."""
+        agents = (_ChiOpen * 8)()
+        _check(self._calls.chi_monitor_end(byref(self._handle), _byte(line), agents))
+        return tuple(Open(*(bool(getattr(it, name)) for name in Open._fields)) for it in agents[:self.config.agents])
+
+    def explain(self, line: int) -> None:
+        """Explains the flits that were kept of the line: actions of the model are found, and done, and send just these. Fault
+        where none are found; NotKept where no flits are kept; OutOfRange; NoMemory."""
+        _check(self._calls.chi_monitor_explain(byref(self._handle), _byte(line)))

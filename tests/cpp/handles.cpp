@@ -1,4 +1,5 @@
-/* What the handles of chihome.hpp answer: opened, moved and closed, and what the calls of a slice and of a node give. With
+/* What the handles of chihome.hpp answer: opened, moved and closed, and what the calls of a slice, of a node and of a
+ * monitor give. With
  * -DNEW_CALLS also what a step sent, enabled actions, and names. The status is 0 where all holds. */
 #include "chihome.hpp"
 
@@ -110,10 +111,34 @@ static void new_calls() {
 }
 #endif
 
+static void monitor() {
+    Monitor closed, watched = *Monitor::open(2, 1, 8);
+    HOLDS(!closed.is_open() && closed.explain(0) == Answer::Closed && closed.fault().answer() == Answer::Closed);
+    HOLDS(Monitor::open(9, 1).answer() == Answer::OutOfRange);
+    Slice model = *Slice::open(sizes(2, 1));
+    for (Step step : {Step::Issue, Step::Admit, Step::Start, Step::RecvData}) {
+        HOLDS(model.act(action(0, step)));
+        const auto flits = *model.flits(0, 0);
+        for (const auto &flit : flits.channels) HOLDS(!flit || watched.flit(0, 0, *flit) == Answer::OK);
+    }
+    const auto open = *watched.end(0);
+    HOLDS(!open[0].request && !open[0].completion && !open[1].snoop && watched.explain(0) == Answer::OK);
+    HOLDS(watched.fault() && !*watched.fault() && watched.end(1).answer() == Answer::OutOfRange);
+    Flit snoop;
+    snoop.message = Message::SnpShared;
+    HOLDS(watched.flit(0, 1, snoop) == Answer::Fault);
+    const auto fault = **watched.fault();
+    HOLDS(fault.reason == Reason::NobodyAsks && fault.number == 3 && fault.sent.agent == 1 && fault.text()[0] == 'n');
+    HOLDS(fault.sent.flit.message == Message::SnpShared && fault.sent.channel == Channel::Snp);
+    closed = std::move(watched);
+    HOLDS(closed.is_open() && !watched.is_open() && closed.close() == Answer::OK);
+}
+
 int main() {
     moves();
     slice();
     node();
+    monitor();
 #ifdef NEW_CALLS
     new_calls();
 #endif

@@ -38,6 +38,43 @@ def read(model, agent, kind=Kind.ReadShared, slot=0):
     model.act(Step.Start, agent, 0)
 
 
+class Monitors(unittest.TestCase):
+    def watch(self, monitor, model, *steps):
+        """Does the steps of agent 0 on line 0, and gives the monitor what they send."""
+        for step in steps:
+            for sent in model.step(step, 0, 0, kind=Kind.ReadUnique).sent:
+                monitor.flit(0, sent.agent, sent.flit)
+
+    def test_first_fault(self):
+        with chihome.Slice(agents=2, lines=1) as model, chihome.Monitor(agents=2, lines=1, kept=16) as monitor:
+            self.watch(monitor, model, Step.Issue, Step.Admit, Step.Start)
+            self.assertTrue(monitor.end(0)[0].completion and not monitor.end(0)[0].request and not any(monitor.end(0)[1]))
+            self.watch(monitor, model, Step.RecvData, Step.RecvAck)
+            self.assertEqual((monitor.fault(), any(monitor.end(0)[0]), monitor.explain(0)), (None, False, None))
+            wrong = chihome.Flit(Message.SnpRespData_SD, words=(1,) * 8)
+            for _ in range(2):
+                self.assertRaises(chihome.Fault, monitor.flit, 0, 1, wrong)
+            fault = monitor.fault()
+            self.assertEqual((fault.reason, fault.line, fault.number), (chihome.Reason.NothingToAnswer, 0, 3))
+            self.assertEqual(fault.sent, chihome.Sent(1, Channel.DatUp, wrong))
+            self.assertEqual(fault.text, "no snoop to it is unanswered")
+            self.assertIsNone(monitor.explain(0))
+
+    def test_refusals(self):
+        request = chihome.Flit(Message.Request, Kind.Evict, 0, True)
+        self.assertRaises(chihome.OutOfRange, chihome.Monitor, agents=9)
+        self.assertRaises(chihome.OutOfRange, chihome.Monitor, kept=1 << 40)
+        with chihome.Monitor(agents=1, lines=1) as monitor:
+            self.assertRaises(chihome.OutOfRange, monitor.flit, 1, 0, request)
+            self.assertRaises(chihome.OutOfRange, monitor.flit, 0, -1, request)
+            self.assertRaises(chihome.OutOfRange, monitor.flit, 0, 0, chihome.Flit(Message.NoMessage))
+            self.assertRaises(chihome.OutOfRange, monitor.end, 1)
+            self.assertRaises(ValueError, monitor.flit, 0, 0, chihome.Flit(Message.CompData_UC, words=(1 << 64,) * 8))
+            self.assertRaises(chihome.NotKept, monitor.explain, 0)
+            self.assertRaises(chihome.Fault, monitor.flit, 0, 0, request)
+        self.assertRaises(chihome.Closed, monitor.fault)
+
+
 class Slices(unittest.TestCase):
     def test_cold_read(self):
         with chihome.Slice(agents=2, lines=1) as model:
