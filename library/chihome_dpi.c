@@ -12,6 +12,7 @@ typedef unsigned long long u64;
 
 /* A null chandle is a closed handle. */
 #define SLICE(handle) ((handle) == NULL ? &(ChiSlice){0} : (ChiSlice *)(handle))
+#define MONITOR(handle) ((handle) == NULL ? &(ChiMonitor){0} : (ChiMonitor *)(handle))
 #define NODE(handle) ((handle) == NULL ? &(ChiNode){0} : (ChiNode *)(handle))
 
 static ChiConfig sizes(u8 agents, u8 lines, u8 slices, u8 profile, u64 entries, u32 journal) {
@@ -346,5 +347,56 @@ u8 chi_dpi_node_audit(void *node, u64 *loads, u64 *stores, u8 *coherent) {
 u8 chi_dpi_node_close(void *node) {
     u8 answer = chi_node_close(NODE(node));
     free(node);
+    return answer;
+}
+
+void *chi_dpi_monitor_open(u8 agents, u8 lines, u32 kept, u8 *answer) {
+    ChiMonitor *monitor = calloc(1, sizeof *monitor);
+    *answer = monitor == NULL ? CHI_NoMemory : chi_monitor_open(monitor, agents, lines, kept);
+    if (*answer == CHI_OK) return monitor;
+    free(monitor);
+    return NULL;
+}
+
+u8 chi_dpi_monitor_flit(void *monitor, u8 line, u8 agent, u8 message, u8 kind, u8 allow_retry, u8 credit, const u32 *data) {
+    ChiSent sent = {.agent = agent,
+        .flit = {.message = message, .kind = kind, .allow_retry = allow_retry, .credit = credit}};
+    for (int word = 0; word < 8; word++)
+        sent.flit.words[word] = (uint64_t)data[2 * word + 1] << 32 | data[2 * word];
+    return chi_monitor_flit(MONITOR(monitor), line, &sent);
+}
+
+u8 chi_dpi_monitor_fault(void *monitor, u8 *reason, u64 *number, u8 *line, u8 *agent, u8 *message, u8 *kind,
+                         u8 *allow_retry, u8 *credit, u32 *data) {
+    u8 slot;
+    ChiFault fault;
+    u8 answer = chi_monitor_fault(MONITOR(monitor), &fault);
+    *reason = fault.reason;
+    *number = fault.number;
+    *line = fault.line;
+    *agent = fault.sent.agent;
+    tell_flit(&fault.sent.flit, message, kind, &slot, allow_retry, credit, data);
+    return answer;
+}
+
+u8 chi_dpi_monitor_end(void *monitor, u8 line, u8 *requests, u8 *retried, u8 *snoops, u8 *completions, u8 *write_data) {
+    ChiOpen agents[8];
+    u8 answer = chi_monitor_end(MONITOR(monitor), line, agents);
+    *requests = *retried = *snoops = *completions = *write_data = 0;
+    for (int agent = 0; agent < 8; agent++) {
+        *requests |= (u8)(agents[agent].request << agent);
+        *retried |= (u8)(agents[agent].retried << agent);
+        *snoops |= (u8)(agents[agent].snoop << agent);
+        *completions |= (u8)(agents[agent].completion << agent);
+        *write_data |= (u8)(agents[agent].write_data << agent);
+    }
+    return answer;
+}
+
+u8 chi_dpi_monitor_explain(void *monitor, u8 line) { return chi_monitor_explain(MONITOR(monitor), line); }
+
+u8 chi_dpi_monitor_close(void *monitor) {
+    u8 answer = chi_monitor_close(MONITOR(monitor));
+    free(monitor);
     return answer;
 }
