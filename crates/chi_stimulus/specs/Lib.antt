@@ -1,0 +1,3 @@
+pub mod SecondPass
+pub mod Shortages
+pub mod Stimulus

@@ -1,0 +1,103 @@
+//! From a header and options to the file that is written.
+
+ghost use Rattle.std.specs.Prelude.{◌≡◌, ◌≢◌, ◌+◌, ◌^◌, ◌<◌, ◌⊎◌, IfErr, IfOk, Err, None, true};
+ghost use Rattle.std.specs.Io.KnownBytes.{Keeps};
+ghost use Rattle.chi_script.specs.Headers.{is_in_limits, line_header};
+ghost use Rattle.chi_script.specs.declared.faults.Fault.TheVariants.{BadHeader, NoMemory};
+ghost use Rattle.chi_replay.specs.Replays.{AtWrite};
+ghost use Rattle.chi_stimulus.specs.SecondPass.{IsLate, WritesDrawn, WritesDrawnFront};
+ghost use Rattle.chi_stimulus.specs.Stimulus.{NoStimulus, WritesStimulus, WritesStimulusFront};
+
+use crate::drawing::Drawing;
+use crate::options::DrawOptions;
+use crate::second_pass::is_good;
+use crate::shortage::Shortage;
+use chi_devices::{Failed, Output};
+use chi_replay::config_of;
+use chi_script::{Fault, Header, header_in};
+use std::alloc::Allocator;
+
+/// The header, and commands that are drawn, each with its answer. That they are as they should be is found by the
+/// second pass.
+fn drawn_text<A: Allocator + Copy>(
+    alloc: A,
+    line: &str,
+    header: &Header,
+    options: &DrawOptions,
+) -> Result<String<A>, Shortage>
+    requires { is_in_limits header.now ≡ true }
+{
+    let config = config_of(header);
+    let mut drawing = Drawing::new(alloc, line, &config, options.seed)?;
+    for _ in 0..options.commands {
+        drawing.add(options.wild)?;
+    }
+    if options.drain {
+        drawing.settle()?;
+    }
+    Ok(drawing.text)
+}
+
+/// Writes the text where the second pass finds it good, and answers whether it does.
+fn hand_out<A: Allocator + Copy, O: Output>(
+    alloc: A,
+    sizes: &Header,
+    options: &DrawOptions,
+    text: &[u8],
+    output: &mut O,
+) -> Result<bool, Fault>
+    requires { O.failures output.old + 1 < 2 ^ 64 }
+    ensures ok { IfOk result (WritesDrawn sizes.now options.now (O.written output.old) (O.written output.new)) }
+    ensures write { AtWrite result (O.failures output.new ≡ O.failures output.old + 1) }
+    ensures front { AtWrite result
+        (WritesDrawnFront sizes.now options.now (O.written output.old) (O.written output.new)) }
+    ensures kept { IfErr result
+        (λ fault. fault ≢ Fault.Write → Keeps (O.written output.old) (O.written output.new)) }
+    ensures err { IfErr result IsLate }
+{
+    if !is_good(alloc, sizes, options, text)? {
+        return Ok(false);
+    }
+    match output.write_all(text) {
+        Ok(()) => Ok(true),
+        Err(Failed) => Err(Fault::Write),
+    }
+}
+
+/// Draws a check file by the seed, and writes it: the header as it is given, and so many commands, each with its
+/// answer behind the arrow. Each is enabled where it stands, but for those that may be any command: so many in a
+/// hundred, with the refusals that they get. With `drain` commands follow until nothing is in flight and every
+/// entry is free, or, where that isn't reached, a comment that says so.
+///
+/// At `Ok(true)` a good check file with that header was written, no more: it has so many commands, or at least so
+/// many with `drain`; on a new node of that size each gives the answer that stands behind it, under answers that
+/// the tracker may give; and where `wild` is 0 none of them is refused. At `Ok(false)` the text that was made is no
+/// such file, and nothing was written: it is never seen. `BadHeader` of line 1 where the line is no header within the
+/// limits, `TooLarge` where the file would have more bytes than a check file may have, and `NoMemory` where
+/// memory runs out; nothing is written then. `Write` comes only where the output counted a failure, and a beginning
+/// of such a file was written then. That the file is a function of the arguments is tested.
+///
+/// Condition: the output's count of failures is below 2 ^ 64 - 1.
+/// Source: `docs/FORMATS.md`, "Drawn files".
+pub fn draw<A: Allocator + Copy, O: Output>(
+    alloc: A,
+    header: &str,
+    options: &DrawOptions,
+    output: &mut O,
+) -> Result<bool, Fault>
+    requires { O.failures output.old + 1 < 2 ^ 64 }
+    ensures ok { IfOk result
+        (WritesStimulus header.now options.now (O.written output.old) (O.written output.new)) }
+    ensures write { AtWrite result (O.failures output.new ≡ O.failures output.old + 1) }
+    ensures front { AtWrite result
+        (WritesStimulusFront header.now options.now (O.written output.old) (O.written output.new)) }
+    ensures kept { IfErr result
+        (λ fault. fault ≢ Fault.Write → Keeps (O.written output.old) (O.written output.new)) }
+    ensures err { IfErr result (NoStimulus header.now) }
+    ensures faulty { line_header header.now ≡ None
+        → (result ≡ Err (BadHeader 1)) ⊎ (result ≡ Err NoMemory) }
+{
+    let sizes = header_in(alloc, header.as_bytes(), 1)?;
+    let text = drawn_text(alloc, header, &sizes, options)?;
+    hand_out(alloc, &sizes, options, text.as_bytes(), output)
+}
