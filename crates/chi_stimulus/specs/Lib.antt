@@ -1,3 +1,2 @@
 pub mod SecondPass
-pub mod Shortages
 pub mod Stimulus

@@ -1,27 +1,23 @@
 -- Of the code alone, no public promise cites it: what the second pass finds (docs/FORMATS.md, "Drawn files").
-use Rattle.std.specs.Prelude.{◌≡◌, ℕ, All, Bool, true, false, nat_lt, List, Option, Some, None, length}
+use Rattle.std.specs.Prelude.{◌≡◌, ℕ, ◌==◌, ◌||◌, Bool, true, false, List, [], ◌∷◌, Option, Some, None}
 use Rattle.std.specs.Io.KnownBytes.{Appends, Keeps}
 use Rattle.chi_devices.specs.Devices.{AppendsFront}
 use Rattle.chi_script.specs.declared.faults.Fault.{Fault}
 use Rattle.chi_script.specs.declared.faults.Fault.TheVariants as faults
 use Rattle.chi_script.specs.declared.headers.Header.{Header}
-use Rattle.chi_script.specs.declared.checks.Check.{Check}
-use Rattle.chi_script.specs.Checks.{line_of_check}
 use Rattle.chi_script.specs.Headers.{line_header}
 use Rattle.chi_stimulus.specs.declared.options.DrawOptions.{DrawOptions}
-use Rattle.chi_stimulus.specs.Stimulus.{HasCommands, IsNoRefusal, IsStimulus}
+use Rattle.chi_stimulus.specs.Stimulus.{IsStimulus}
 
--- an answer is wanted, and it tells no refusal, unless the command may be any
-abbrev pub IsTold : Bool → Option (List ℕ) → Type 0
-IsTold wild None = ⊥
-IsTold true (Some answer) = Unit {0}
-IsTold false (Some answer) = IsNoRefusal answer
+-- an answer that begins with o, as no refusal does
+abbrev pub is_plain : List ℕ → Bool
+is_plain [] = false
+is_plain (byte ∷ bytes) = byte == 111
 
--- a file with this header and these checks is as it was asked for
-pub record Fits (header : Header) (options : DrawOptions) (read : Header) (checks : List Check) : Type 0 where
-  pub same : read ≡ header
-  pub count : HasCommands options (length checks)
-  pub told : All (λ check. IsTold (nat_lt 0 options.wild) (line_of_check check).wanted) checks
+-- an answer is wanted, and it begins as no refusal does, unless the command may be any
+abbrev pub is_told : Bool → Option (List ℕ) → Bool
+is_told wild None = false
+is_told wild (Some answer) = wild || is_plain answer
 
 -- what was drawn, for each line that says these sizes
 abbrev pub IsDrawn : Header → DrawOptions → List ℕ → Type 0
@@ -36,12 +32,22 @@ WritesDrawn header options old new false = Keeps old new
 abbrev pub WritesDrawnFront : Header → DrawOptions → Option (List ℕ) → Option (List ℕ) → Type 0
 WritesDrawnFront header options old new = (file : List ℕ) × IsDrawn header options file × AppendsFront old new file
 
--- a fault that comes once the text is made
-abbrev pub IsLate : Fault → Type 0
-IsLate faults.NoMemory = Unit {0}
-IsLate faults.Write = Unit {0}
-IsLate (faults.BadHeader number) = ⊥
-IsLate (faults.BadCommand number) = ⊥
-IsLate (faults.MissingNewline number) = ⊥
-IsLate faults.TooLarge = ⊥
-IsLate faults.Read = ⊥
+-- a fault of drawing for a good header, and of writing
+abbrev pub IsDrawFault : Fault → Type 0
+IsDrawFault faults.NoMemory = Unit {0}
+IsDrawFault faults.TooLarge = Unit {0}
+IsDrawFault faults.Write = Unit {0}
+IsDrawFault (faults.BadHeader number) = ⊥
+IsDrawFault (faults.BadCommand number) = ⊥
+IsDrawFault (faults.MissingNewline number) = ⊥
+IsDrawFault faults.Read = ⊥
+
+-- a fault of reading the header
+abbrev pub NoHeader : List ℕ → Fault → Type 0
+NoHeader line (faults.BadHeader number) = (line_header line ≡ None) × (number ≡ 1)
+NoHeader line faults.NoMemory = Unit {0}
+NoHeader line faults.TooLarge = ⊥
+NoHeader line faults.Write = ⊥
+NoHeader line (faults.BadCommand number) = ⊥
+NoHeader line (faults.MissingNewline number) = ⊥
+NoHeader line faults.Read = ⊥

@@ -56,16 +56,16 @@ impl<A: Allocator + Copy> Drawing<A> {
 
 impl<A: Allocator> Drawing<A> {
     /// Does the command, which then stands in the text with its answer.
-    pub(crate) fn put(&mut self, command: Command) -> Result<(), Shortage> {
+    pub(crate) fn put(&mut self, command: &Command) -> Result<(), Shortage> {
         self.said.clear();
-        answer(&mut self.system, command, &mut self.said)?;
+        answer(&mut self.system, *command, &mut self.said)?;
         self.write(command)
     }
 
     /// The same where it isn't refused; else nothing. Answers whether it was done.
-    pub(crate) fn tries(&mut self, command: Command) -> Result<bool, Shortage> {
+    pub(crate) fn tries(&mut self, command: &Command) -> Result<bool, Shortage> {
         self.said.clear();
-        answer(&mut self.system, command, &mut self.said)?;
+        answer(&mut self.system, *command, &mut self.said)?;
         if self.said.as_bytes().starts_with(b"refused") {
             return Ok(false);
         }
@@ -74,7 +74,7 @@ impl<A: Allocator> Drawing<A> {
     }
 
     /// Puts the command behind the text, with the answer that it was given.
-    fn write(&mut self, command: Command) -> Result<(), Shortage> {
+    fn write(&mut self, command: &Command) -> Result<(), Shortage> {
         let command = Spelled(command);
         write!(self.text, "{command} -> ")?;
         self.text.push_str(self.said.as_str())?;
@@ -119,7 +119,7 @@ impl<A: Allocator> Drawing<A> {
         }
         // (a look is never refused)
         let agent = self.agent();
-        self.put(Command::See { agent })
+        self.put(&Command::See { agent })
     }
 
     /// Does something that a line waits for, of the first line from a random one on where that is enabled.
@@ -146,7 +146,7 @@ impl<A: Allocator> Drawing<A> {
         for more in 0..count {
             let place = (first + more) % count;
             if let Some(command) = self.found.get(place).copied()
-                && self.tries(command)?
+                && self.tries(&command)?
             {
                 return Ok(true);
             }
@@ -171,7 +171,8 @@ impl<A: Allocator> Drawing<A> {
             let (agent, line) = (self.agent(), self.line());
             let kind = self.words.kind();
             let slot = Slot(self.words.below(8));
-            if self.tries(act(agent, line, Step::Issue(kind, slot)))? {
+            let command = act(agent, line, Step::Issue(kind, slot));
+            if self.tries(&command)? {
                 return Ok(true);
             }
         }
@@ -188,7 +189,7 @@ impl<A: Allocator> Drawing<A> {
                 4..=6 => act(agent, line, Step::Store(word, self.count)),
                 _ => act(agent, line, Step::Drop),
             };
-            if self.tries(command)? {
+            if self.tries(&command)? {
                 return Ok(true);
             }
         }
@@ -204,7 +205,7 @@ impl<A: Allocator> Drawing<A> {
             5..=6 => Command::GiveBack { agent, credit },
             _ => Command::Tend { agent, credit },
         };
-        self.tries(command)
+        self.tries(&command)
     }
 
     /// One of the agents.

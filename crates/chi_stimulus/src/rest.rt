@@ -26,8 +26,8 @@ impl<A: Allocator> Drawing<A> {
     /// Puts commands behind the text that bring the node to rest. Where they are too many, or don't get there,
     /// a comment says so.
     pub(crate) fn settle(&mut self) -> Result<(), Shortage> {
-        let places =
-            u32::from(self.system.config().agents()) * u32::from(self.system.config().lines());
+        let places = u32::from(self.system.config().agents())
+            * u32::from(self.system.config().lines());
         for _ in 0..places * MOST_EACH {
             if !self.settle_more()? {
                 break;
@@ -50,7 +50,7 @@ impl<A: Allocator> Drawing<A> {
             let agent = Agent(number);
             for ty in TYPES {
                 let credit = Some(ty);
-                if self.tries(Command::GiveBack { agent, credit })? {
+                if self.tries(&Command::GiveBack { agent, credit })? {
                     return Ok(true);
                 }
             }
@@ -65,7 +65,7 @@ impl<A: Allocator> Drawing<A> {
         }
         let agents = self.system.config().agents();
         let agent = Agent(self.words.below(agents));
-        self.tries(Command::See { agent })
+        self.tries(&Command::See { agent })
     }
 
     /// Tends a type, where a credit is owed and an entry free.
@@ -74,7 +74,7 @@ impl<A: Allocator> Drawing<A> {
         let agent = Agent(0);
         for (ty, (owed, free)) in TYPES.iter().zip(counts.owed.iter().zip(counts.free)) {
             let credit = Some(*ty);
-            if *owed > 0 && free > 0 && self.tries(Command::Tend { agent, credit })? {
+            if *owed > 0 && free > 0 && self.tries(&Command::Tend { agent, credit })? {
                 return Ok(true);
             }
         }

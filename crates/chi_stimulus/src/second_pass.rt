@@ -1,12 +1,11 @@
 //! The second pass: whether a text is what is promised of a drawn file.
 
-ghost use Rattle.std.specs.Prelude.{◌≡◌, List, ℕ, All, IfOk, IsTrue, Ok, map, true};
-ghost use Rattle.std.specs.Option.{option_map};
+ghost use Rattle.std.specs.Prelude.{◌≡◌, ℕ, All, List, IfOk, IsTrue, Ok, length, map, nat_lt, true};
 ghost use Rattle.chi_script.specs.Checks.{line_of_check};
 ghost use Rattle.chi_script.specs.CheckFiles.{check_file_of};
 ghost use Rattle.chi_replay.specs.Checks.{IsCheckReport};
-ghost use Rattle.chi_stimulus.specs.Stimulus.{HasCommands, IsNoRefusal};
-ghost use Rattle.chi_stimulus.specs.SecondPass.{Fits, IsDrawn, IsTold};
+ghost use Rattle.chi_stimulus.specs.Stimulus.{HasCommands};
+ghost use Rattle.chi_stimulus.specs.SecondPass.{IsDrawn, is_plain, is_told};
 
 use crate::options::DrawOptions;
 use chi_devices::{MemoryInput, MemoryOutput};
@@ -15,42 +14,42 @@ use chi_replay::check;
 use chi_script::{Check, CheckFile, Fault, Header, read_checks};
 use std::alloc::Allocator;
 
-/// Whether the text is a good check file, all of whose wanted answers its commands give.
+/// Whether all wanted answers of a text are those that its commands give. It was read as a check file before, so only
+/// want of memory is left as a fault.
 fn holds<A: Allocator + Copy>(alloc: A, text: &[u8]) -> Result<bool, NoMemory>
-    ensures { IfOk result (λ hold. IsTrue hold → (report : List ℕ) × IsCheckReport text.now true report) }
+    ensures { IfOk result (λ hold. (report : List ℕ) × IsCheckReport text.now hold report) }
 {
     let mut input = MemoryInput::new(text, u64::MAX);
     let mut output = MemoryOutput::new(alloc, usize::MAX);
     match check(alloc, &mut input, &mut output) {
         Ok(hold) => Ok(hold),
-        Err(Fault::NoMemory | Fault::Write) => Err(NoMemory),
-        Err(_) => Ok(false),
+        Err(_) => Err(NoMemory),
     }
 }
 
-/// Whether an answer surely tells no refusal.
-fn is_no_refusal(answer: &[u8]) -> bool
-    ensures { IsTrue result → IsNoRefusal answer.now }
+/// Whether an answer begins as no refusal does.
+fn is_plain(answer: &[u8]) -> bool
+    ensures { result ≡ is_plain answer.now }
 {
     match answer {
-        [first, ..] => *first == b'o',
         [] => false,
+        [first, ..] => *first == b'o',
     }
 }
 
 /// Whether an answer is wanted of a command, and it is none that tells a refusal, unless it may be any command.
 fn is_told(check: &Check, wild: bool) -> bool
-    ensures { IsTrue result → IsTold wild (option_map (λ text. text.now) check.now.wanted) }
+    ensures { result ≡ is_told wild (line_of_check check.now).wanted }
 {
     match check.wanted {
-        Some(wanted) => wild || is_no_refusal(wanted),
         None => false,
+        Some(wanted) => wild || is_plain(wanted),
     }
 }
 
 /// Whether this is so of all commands.
 fn are_told(checks: &[Check], wild: bool) -> bool
-    ensures { IsTrue result → All (λ check. IsTold wild (line_of_check check).wanted) checks.now }
+    ensures { IsTrue result → All (λ check. is_told wild (line_of_check check).wanted ≡ true) checks.now }
 {
     checks.iter().all(|check| is_told(check, wild))
 }
@@ -67,14 +66,28 @@ fn is_count(options: &DrawOptions, count: usize) -> bool
     }
 }
 
+/// Whether two headers are the same.
+fn is_same(read: &Header, wanted: &Header) -> bool
+    ensures { IsTrue result → read.now ≡ wanted.now }
+{
+    *read == *wanted
+}
+
 /// Whether a file that was read has this header, and commands as they were asked for.
 fn fits<A: Allocator>(script: &CheckFile<'_, A>, header: &Header, options: &DrawOptions) -> bool
-    ensures { IsTrue result → Fits header.now options.now script.now.header script.now.checks.items }
+    ensures same { IsTrue result → script.now.header ≡ header.now }
+    ensures count { IsTrue result → HasCommands options.now (length script.now.checks.items) }
+    ensures told { IsTrue result
+        → All (λ check. is_told (nat_lt 0 options.now.wild) (line_of_check check).wanted ≡ true)
+        script.now.checks.items }
 {
-    let same = script.header == *header;
-    let counted = is_count(options, script.checks.len());
-    let told = are_told(&script.checks, options.wild > 0);
-    same && counted && told
+    if !is_same(&script.header, header) {
+        return false;
+    }
+    if !is_count(options, script.checks.len()) {
+        return false;
+    }
+    are_told(&script.checks, options.wild > 0)
 }
 
 /// Whether the text, whose lines are these, is what was drawn for that header, by the options.
@@ -88,11 +101,10 @@ fn is_good_script<A: Allocator + Copy>(
     requires { check_file_of text.now ≡ Ok (script.now.header, map line_of_check script.now.checks.items) }
     ensures { IfOk result (λ good. IsTrue good → IsDrawn header.now options.now text.now) }
 {
-    if fits(script, header, options) {
-        holds(alloc, text)
-    } else {
-        Ok(false)
+    if !fits(script, header, options) {
+        return Ok(false);
     }
+    holds(alloc, text)
 }
 
 /// Whether the text is what was drawn for that header, by the options.

@@ -6,11 +6,11 @@ use std::fmt;
 
 /// A command. It prints as a file has it; a credit type that is none is 4.
 #[derive(Clone, Copy)]
-pub(crate) struct Spelled(pub(crate) Command);
+pub(crate) struct Spelled<'a>(pub(crate) &'a Command);
 
-impl fmt::Display for Spelled {
+impl fmt::Display for Spelled<'_> {
     fn fmt<W: fmt::Write>(&self, f: &mut fmt::Formatter<W>) -> fmt::Result {
-        match self.0 {
+        match *self.0 {
             Command::Totals => f.write_str("totals"),
             Command::Audit => f.write_str("audit"),
             Command::Show { line } => write!(f, "show {line}"),

@@ -1,11 +1,11 @@
 //! From a header and options to the file that is written.
 
-ghost use Rattle.std.specs.Prelude.{◌≡◌, ◌≢◌, ◌+◌, ◌^◌, ◌<◌, ◌⊎◌, IfErr, IfOk, Err, None, true};
+ghost use Rattle.std.specs.Prelude.{◌≡◌, ◌≢◌, ◌+◌, ◌^◌, ◌<◌, ◌⊎◌, IfErr, IfOk, Err, None, Some, true};
 ghost use Rattle.std.specs.Io.KnownBytes.{Keeps};
 ghost use Rattle.chi_script.specs.Headers.{is_in_limits, line_header};
 ghost use Rattle.chi_script.specs.declared.faults.Fault.TheVariants.{BadHeader, NoMemory};
 ghost use Rattle.chi_replay.specs.Replays.{AtWrite};
-ghost use Rattle.chi_stimulus.specs.SecondPass.{IsLate, WritesDrawn, WritesDrawnFront};
+ghost use Rattle.chi_stimulus.specs.SecondPass.{IsDrawFault, NoHeader, WritesDrawn, WritesDrawnFront};
 ghost use Rattle.chi_stimulus.specs.Stimulus.{NoStimulus, WritesStimulus, WritesStimulusFront};
 
 use crate::drawing::Drawing;
@@ -53,15 +53,51 @@ fn hand_out<A: Allocator + Copy, O: Output>(
         (WritesDrawnFront sizes.now options.now (O.written output.old) (O.written output.new)) }
     ensures kept { IfErr result
         (λ fault. fault ≢ Fault.Write → Keeps (O.written output.old) (O.written output.new)) }
-    ensures err { IfErr result IsLate }
+    ensures err { IfErr result IsDrawFault }
 {
-    if !is_good(alloc, sizes, options, text)? {
+    let good = is_good(alloc, sizes, options, text)?;
+    if !good {
         return Ok(false);
     }
     match output.write_all(text) {
         Ok(()) => Ok(true),
         Err(Failed) => Err(Fault::Write),
     }
+}
+
+/// Draws a file for the sizes that the line says, and writes it.
+fn draw_for<A: Allocator + Copy, O: Output>(
+    alloc: A,
+    line: &str,
+    sizes: &Header,
+    options: &DrawOptions,
+    output: &mut O,
+) -> Result<bool, Fault>
+    requires writes { O.failures output.old + 1 < 2 ^ 64 }
+    requires limits { is_in_limits sizes.now ≡ true }
+    ensures ok { IfOk result (WritesDrawn sizes.now options.now (O.written output.old) (O.written output.new)) }
+    ensures write { AtWrite result (O.failures output.new ≡ O.failures output.old + 1) }
+    ensures front { AtWrite result
+        (WritesDrawnFront sizes.now options.now (O.written output.old) (O.written output.new)) }
+    ensures kept { IfErr result
+        (λ fault. fault ≢ Fault.Write → Keeps (O.written output.old) (O.written output.new)) }
+    ensures err { IfErr result IsDrawFault }
+{
+    match drawn_text(alloc, line, sizes, options) {
+        Ok(text) => hand_out(alloc, sizes, options, text.as_bytes(), output),
+        Err(Shortage::Memory) => Err(Fault::NoMemory),
+        Err(Shortage::Room) => Err(Fault::TooLarge),
+    }
+}
+
+/// The sizes that a header says; `BadHeader` of line 1 where it says none within the limits.
+#[tactic(auto, using(crate::proofs::Headlines::header_is, crate::proofs::Headlines::no_header))]
+fn sizes_of<A: Allocator>(alloc: A, header: &str) -> Result<Header, Fault>
+    ensures ok { IfOk result (λ sizes. line_header header.now ≡ Some sizes) }
+    ensures limits { IfOk result (λ sizes. is_in_limits sizes ≡ true) }
+    ensures err { IfErr result (NoHeader header.now) }
+{
+    header_in(alloc, header.as_bytes(), 1)
 }
 
 /// Draws a check file by the seed, and writes it: the header as it is given, and so many commands, each with its
@@ -79,6 +115,7 @@ fn hand_out<A: Allocator + Copy, O: Output>(
 ///
 /// Condition: the output's count of failures is below 2 ^ 64 - 1.
 /// Source: `docs/FORMATS.md`, "Drawn files".
+#[tactic(auto, using(crate::proofs::Headlines::drawn_ok, crate::proofs::Headlines::drawn_front, crate::proofs::Headlines::drawn_err, crate::proofs::Headlines::header_err))]
 pub fn draw<A: Allocator + Copy, O: Output>(
     alloc: A,
     header: &str,
@@ -97,7 +134,8 @@ pub fn draw<A: Allocator + Copy, O: Output>(
     ensures faulty { line_header header.now ≡ None
         → (result ≡ Err (BadHeader 1)) ⊎ (result ≡ Err NoMemory) }
 {
-    let sizes = header_in(alloc, header.as_bytes(), 1)?;
-    let text = drawn_text(alloc, header, &sizes, options)?;
-    hand_out(alloc, &sizes, options, text.as_bytes(), output)
+    match sizes_of(alloc, header) {
+        Ok(sizes) => draw_for(alloc, header, &sizes, options, output),
+        Err(fault) => Err(fault),
+    }
 }

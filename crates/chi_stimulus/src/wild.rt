@@ -18,7 +18,7 @@ impl<A: Allocator> Drawing<A> {
             3..=5 => self.any_with_word(agent, line),
             _ => self.any_step(agent, line),
         };
-        self.put(command)
+        self.put(&command)
     }
 
     /// A command that only asks.
@@ -47,11 +47,7 @@ impl<A: Allocator> Drawing<A> {
         match self.words.below(3) {
             0 => act(agent, line, Step::Load(WordNo(number))),
             1 => act(agent, line, Step::Store(WordNo(number), self.count)),
-            _ => act(
-                agent,
-                line,
-                Step::Issue(self.words.kind(), Slot(number)),
-            ),
+            _ => act(agent, line, Step::Issue(self.words.kind(), Slot(number))),
         }
     }
 
