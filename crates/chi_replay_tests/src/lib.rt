@@ -17,6 +17,8 @@ mod check_files;
 #[cfg(test)]
 mod comparison;
 #[cfg(test)]
+mod coverage;
+#[cfg(test)]
 mod credits;
 #[cfg(test)]
 mod flights;

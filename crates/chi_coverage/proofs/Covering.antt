@@ -1,0 +1,202 @@
+-- What was counted and told of the files so far, and of one file more.
+use Rattle.std.proofs.Common.{◌≡◌, ℕ, ◌+◌, All, Bool, cond, List, [], ◌∷◌, ◌++◌, Option, Some, None, Ok, Err, Result, IfOk, OnOk, ◌≢◌, ◌<◌, ◌≤◌, refl, sym, ap, ◌∙◌, subst, append-nil, get_or, length, map, replicate, take, take_all}
+use Rattle.std.specs.List.{filter, flat_map}
+use Rattle.std.specs.Prelude.{◌&&◌, nat_lt}
+use Rattle.std.proofs.lemmas.List.{length-replicate, map-append, take_more}
+use Rattle.std.proofs.lemmas.List.Concat.{flat_map-append}
+use Rattle.std.proofs.lemmas.List.Elements.{All-nil, All-push}
+use Rattle.chi_script.specs.declared.faults.Fault.{Fault}
+use Rattle.chi_script.specs.declared.faults.Fault.TheVariants as faults
+use Rattle.chi_script.specs.Faults.{Fails}
+use Rattle.chi_script.specs.CheckFiles.{check_file_of}
+use Rattle.chi_replay.specs.declared.suites.SuiteFile.{SuiteFile}
+use Rattle.chi_replay.specs.Suites.{GivenFile, faulty_line, first_of, given, given_of}
+use Rattle.chi_coverage.specs.declared.cells.Cell.{Cell}
+use Rattle.chi_coverage.specs.Counts.{CoverGoesOn, CoverState, IsCountedFile, count_at, counted, cover_with}
+use Rattle.chi_coverage.specs.Coverage.{CoverCame, covered, unread, FileCover, IsCoverReport, IsFileCover, MayCover, cells_covered, cover_fault, cover_fault_line, cover_lines, cover_summary, cover_text, first_cover_fault, is_reachable, is_reached, line_of_cell, times_met}
+use Rattle.chi_coverage.specs.Lists.{all_cells}
+use Rattle.chi_coverage.specs.Places.{place_count}
+use Rattle.chi_coverage.proofs.Counting.{counted_append}
+use Rattle.chi_coverage.proofs.Placing.{counted_length, counted_times}
+
+abbrev pub cover_state : List ℕ → List ℕ → Option Fault → CoverState
+cover_state counts faults fault = record { counts = counts; faults = faults; fault = fault }
+
+state_same : (a a' b b' : List ℕ) (c c' : Option Fault) → a ≡ a' → b ≡ b' → c ≡ c' → cover_state a b c ≡ cover_state a' b' c'
+state_same a a' b b' c c' e f g = cc (e, f, g)
+
+first_none : (f : Option Fault) → first_of f None ≡ f
+first_none None = refl
+first_none (Some fault) = refl
+
+first_assoc : (f g h : Option Fault) → first_of f (first_of g h) ≡ first_of (first_of f g) h
+first_assoc None g h = refl
+first_assoc (Some fault) g h = refl
+
+first_more : (told : List FileCover) (it : FileCover) → first_cover_fault (told ++ it ∷ []) ≡ first_of (first_cover_fault told) (cover_fault it.came)
+first_more [] it = first_none (cover_fault it.came)
+first_more (x ∷ told) it = ap (first_of (cover_fault x.came)) (first_more told it) ∙ first_assoc (cover_fault x.came) (first_cover_fault told) (cover_fault it.came)
+
+abbrev pub all_told : List FileCover → List Cell
+all_told told = flat_map (λ it. cells_covered it.came) told
+
+abbrev pub lines_told : List FileCover → List ℕ
+lines_told told = flat_map (λ it. cover_fault_line it.file.name it.came) told
+
+cells_more : (told : List FileCover) (it : FileCover) → all_told (told ++ it ∷ []) ≡ all_told told ++ cells_covered it.came
+cells_more told it = flat_map-append (λ x. cells_covered x.came) told (it ∷ []) ∙ ap (λ (l : List Cell). all_told told ++ l) (append-nil (cells_covered it.came))
+
+lines_more : (told : List FileCover) (it : FileCover) → lines_told (told ++ it ∷ []) ≡ lines_told told ++ cover_fault_line it.file.name it.came
+lines_more told it = flat_map-append (λ x. cover_fault_line x.file.name x.came) told (it ∷ []) ∙ ap (λ (l : List ℕ). lines_told told ++ l) (append-nil (cover_fault_line it.file.name it.came))
+
+-- what was counted from these counts on, and told, of so many files
+abbrev pub state_told : List ℕ → List FileCover → CoverState
+state_told start told = cover_state (counted start (all_told told)) (lines_told told) (first_cover_fault told)
+
+state_more : (start : List ℕ) (told : List FileCover) (file : GivenFile) (came : CoverCame)
+    → cover_with file.name (state_told start told) came ≡ state_told start (told ++ record { file = file; came = came } ∷ [])
+state_more start told file came =
+    let it : FileCover = record { file = file; came = came } in
+    state_same _ _ _ _ _ _
+    (sym (counted_append start (all_told told) (cells_covered came)) ∙ ap (counted start) (sym (cells_more told it)))
+    (sym (lines_more told it))
+    (sym (first_more told it))
+
+-- a faulty file was told
+pub goes_unread : {T E : Type 0} (result : Result T E) (file : GivenFile) (fault : Fault) (old new : CoverState) → OnOk result (MayCover file.bytes (unread fault))
+    → OnOk result (new.counts ≡ old.counts) → OnOk result (new.faults ≡ old.faults ++ faulty_line file.name fault) → OnOk result (new.fault ≡ first_of old.fault (Some fault))
+    → OnOk result (CoverGoesOn file old new)
+goes_unread (Ok done) file fault old new may e f g = (unread fault, may, state_same _ _ _ _ _ _ e f g)
+goes_unread (Err lack) file fault old new may e f g = may
+
+-- the fault is that of the file, where memory didn't run out
+pub may_be_faulty : {T E : Type 0} (result : Result T E) (bytes : List ℕ) (fault : Fault) → Fails fault (check_file_of bytes) → OnOk result (fault ≢ faults.NoMemory) → OnOk result (MayCover (Some bytes) (unread fault))
+may_be_faulty (Err lack) bytes fault fails other = other
+may_be_faulty (Ok done) bytes faults.NoMemory fails other = absurd (other refl)
+may_be_faulty (Ok done) bytes (faults.BadHeader line) fails other = fails
+may_be_faulty (Ok done) bytes (faults.BadCommand line) fails other = fails
+may_be_faulty (Ok done) bytes (faults.MissingNewline line) fails other = fails
+may_be_faulty (Ok done) bytes faults.TooLarge fails other = fails
+may_be_faulty (Ok done) bytes faults.Read fails other = absurd fails
+may_be_faulty (Ok done) bytes faults.Write fails other = absurd fails
+
+-- of a faulty file nothing was counted
+pub keeps_counts : {T E : Type 0} (result : Result T E) (fault : Fault) (old mid new : List ℕ) → (fault ≢ faults.NoMemory → mid ≡ old) → OnOk result (fault ≢ faults.NoMemory) → OnOk result (new ≡ mid) → OnOk result (new ≡ old)
+keeps_counts (Ok done) fault old mid new kept other same = same ∙ kept other
+keeps_counts (Err lack) fault old mid new kept other same = same
+
+-- a file that couldn't be read
+pub may_be_unread : {T E : Type 0} (result : Result T E) (bytes : Option (List ℕ)) → bytes ≡ None → OnOk result (MayCover bytes (unread faults.Read))
+may_be_unread (Err lack) bytes e = tt
+may_be_unread (Ok done) None e = refl
+may_be_unread (Ok done) (Some bytes) e = absurd (cc (e))
+
+-- a good file was counted
+pub goes_counted : (name bytes : List ℕ) (old new : CoverState) → IsCountedFile bytes old.counts new.counts → new.faults ≡ old.faults → new.fault ≡ old.fault
+    → CoverGoesOn (given name (Some bytes)) old new
+goes_counted name bytes old new file f g =
+    let run = file.run in (
+      covered _,
+      record { header = file.header; checks = file.checks; good = file.good; answers = run.answers; allowed = run.allowed; are = refl },
+      state_same _ _ _ _ _ _ run.is (f ∙ sym (append-nil old.faults)) (g ∙ sym (first_none old.fault)),
+    )
+
+-- what was counted and told so far is of these files, each in its turn
+pub record CoversAt (files : List GivenFile) (state : CoverState) : Type 0 where
+  pub start : List ℕ
+  pub empty : start ≡ replicate place_count 0
+  pub long : length start ≡ place_count
+  pub told : List FileCover
+  pub in_turn : map (λ it. it.file) told ≡ files
+  pub each : All IsFileCover told
+  pub stands : state ≡ state_told start told
+
+replicated_long : (n : ℕ) (counts : List ℕ) → counts ≡ replicate n 0 → length counts ≡ n
+replicated_long n counts e = ap length e ∙ length-replicate n 0
+
+nothing_long : (counts : List ℕ) → counts ≡ replicate place_count 0 → length counts ≡ place_count
+nothing_long counts e = replicated_long place_count counts e
+
+pub covers_first : (counts faults : List ℕ) (fault : Option Fault) → counts ≡ replicate place_count 0 → faults ≡ [] → fault ≡ None → CoversAt [] (cover_state counts faults fault)
+covers_first counts faults fault e f g = record {
+  start = counts;
+  empty = e;
+  long = nothing_long counts e;
+  told = [];
+  in_turn = refl;
+  each = All-nil IsFileCover;
+  stands = state_same _ _ _ _ _ _ refl f g;
+}
+
+covers_more : (files : List GivenFile) (file : GivenFile) (old new : CoverState) → CoversAt files old → CoverGoesOn file old new → CoversAt (files ++ file ∷ []) new
+covers_more files file old new stands goes =
+    let came = goes.0 in
+    let it : FileCover = record { file = file; came = came } in
+    record {
+      start = stands.start;
+      empty = stands.empty;
+      long = stands.long;
+      told = stands.told ++ it ∷ [];
+      in_turn = map-append (λ x. x.file) stands.told (it ∷ []) ∙ ap (λ (fs : List GivenFile). fs ++ file ∷ []) stands.in_turn;
+      each = All-push IsFileCover stands.told it stands.each goes.1;
+      stands = goes.2 ∙ (ap (λ (s : CoverState). cover_with file.name s came) stands.stands ∙ state_more stands.start stands.told file came);
+    }
+
+-- one more of the files that were lent
+pub covers_next : (files : List SuiteFile) (i : ℕ) (d : SuiteFile) (old new : CoverState) → i < length files → CoversAt (map given_of (take i files)) old
+    → CoverGoesOn (given_of (get_or files i d)) old new → CoversAt (map given_of (take (i + 1) files)) new
+covers_next files i d old new low stands goes =
+    let more : map given_of (take (i + 1) files) ≡ map given_of (take i files) ++ given_of (get_or files i d) ∷ [] =
+    ap (map given_of) (take_more files i d low) ∙ map-append given_of (take i files) (get_or files i d ∷ []) in
+    subst (λ (fs : List GivenFile). CoversAt fs new) (sym more) (covers_more (map given_of (take i files)) (given_of (get_or files i d)) old new stands goes)
+
+-- there are as many counts as places
+pub covers_length : (files : List GivenFile) (state : CoverState) → CoversAt files state → length state.counts ≡ place_count
+covers_length files state stands = ap (λ (s : CoverState). length s.counts) stands.stands ∙ (counted_length stands.start (all_told stands.told) ∙ stands.long)
+
+-- what is printed goes by the counts alone
+lines_same : (only : Bool) (f g : Cell → ℕ) → ((c : Cell) → f c ≡ g c) → (cells : List Cell) → cover_lines only f cells ≡ cover_lines only g cells
+lines_same only f g same [] = refl
+lines_same only f g same (c ∷ cells) =
+    ap (λ (n : ℕ). line_of_cell only n c ++ cover_lines only f cells) (same c) ∙ ap (λ (l : List ℕ). line_of_cell only (g c) c ++ l) (lines_same only f g same cells)
+
+reached_same : (f g : Cell → ℕ) → ((c : Cell) → f c ≡ g c) → (cells : List Cell) → filter (is_reached f) cells ≡ filter (is_reached g) cells
+reached_same f g same [] = refl
+reached_same f g same (c ∷ cells) =
+    ap (λ (n : ℕ). cond (is_reachable c && nat_lt 0 n) (c ∷ filter (is_reached f) cells) (filter (is_reached f) cells)) (same c)
+    ∙ ap (λ (l : List Cell). cond (is_reached g c) (c ∷ l) l) (reached_same f g same cells)
+
+abbrev pub text_on : (only : Bool) → (Cell → ℕ) → List Cell → List ℕ
+text_on only count cells = cover_lines only count cells ++ cover_summary (length (filter (is_reached count) cells)) (length (filter is_reachable cells))
+
+text_same : (only : Bool) (f g : Cell → ℕ) → ((c : Cell) → f c ≡ g c) → (cells : List Cell) → text_on only f cells ≡ text_on only g cells
+text_same only f g same cells =
+    ap (λ (l : List ℕ). l ++ cover_summary (length (filter (is_reached f) cells)) (length (filter is_reachable cells))) (lines_same only f g same cells)
+    ∙ ap (λ (l : List Cell). cover_lines only g cells ++ cover_summary (length l) (length (filter is_reachable cells))) (reached_same f g same cells)
+
+covered_all : (only : Bool) (files : List GivenFile) (state : CoverState) (text faults : List ℕ) (fault : Option Fault) → CoversAt files state → text ≡ cover_text only (count_at state.counts)
+    → faults ≡ state.faults → fault ≡ state.fault → IsCoverReport only files text faults fault
+covered_all only files state text faults fault stands printed lines first = record {
+  told = stands.told;
+  in_turn = stands.in_turn;
+  each = stands.each;
+  printed = printed ∙ (ap (λ (s : CoverState). cover_text only (count_at s.counts)) stands.stands
+      ∙ text_same only (count_at (counted stands.start (all_told stands.told))) (λ cell. times_met cell (all_told stands.told)) (counted_times stands.start stands.empty stands.long (all_told stands.told)) all_cells);
+  lines = lines ∙ ap (λ (s : CoverState). s.faults) stands.stands;
+  first = first ∙ ap (λ (s : CoverState). s.fault) stands.stands;
+}
+
+-- at the end the report is on all files
+pub covered_on : {T E : Type 0} (result : Result T E) (text_in faults_in : T → List ℕ) (fault_in : T → Option Fault) (only : Bool) (files : List SuiteFile) (i : ℕ) (state : CoverState)
+    → length files ≤ i → CoversAt (map given_of (take i files)) state
+    → IfOk result (λ report. text_in report ≡ cover_text only (count_at state.counts)) → IfOk result (λ report. faults_in report ≡ state.faults) → IfOk result (λ report. fault_in report ≡ state.fault)
+    → IfOk result (λ report. IsCoverReport only (map given_of files) (text_in report) (faults_in report) (fault_in report))
+covered_on (Err lack) text_in faults_in fault_in only files i state past stands e f g = e
+covered_on (Ok report) text_in faults_in fault_in only files i state past stands e f g =
+    let all : CoversAt (map given_of files) state = subst (λ (fs : List SuiteFile). CoversAt (map given_of fs) state) (take_all i files past) stands in
+    covered_all only (map given_of files) state (text_in report) (faults_in report) (fault_in report) all e f g
+
+-- the text on the whole list
+pub told_of_all : (only : Bool) (counts counts' : List ℕ) (cells : List Cell) (text : List ℕ) → cells ≡ all_cells → counts ≡ counts' → text ≡ text_on only (count_at counts) cells → text ≡ cover_text only (count_at counts')
+told_of_all only counts counts' cells text e f told =
+    told ∙ (ap (λ (l : List ℕ). text_on only (count_at l) cells) f ∙ ap (λ (l : List Cell). text_on only (count_at counts') l) e)

@@ -1,0 +1,4 @@
+pub mod Counting
+pub mod Leading
+pub mod Placing
+pub mod Covering

@@ -1,0 +1,67 @@
+-- Of the code alone, no public promise cites it: counts by place, as cells are counted (docs/FORMATS.md, "Coverage").
+use Rattle.std.specs.Prelude.{◌≡◌, ℕ, ◌+◌, ◌++◌, List, [], ◌∷◌, Ok, Option, slice_index, slice_set}
+use Rattle.std.specs.List.{flat_map}
+use Rattle.chi_script.specs.declared.commands.Command.{Command}
+use Rattle.chi_script.specs.declared.faults.Fault.{Fault}
+use Rattle.chi_script.specs.declared.headers.Header.{Header}
+use Rattle.chi_script.specs.Checks.{CheckLine}
+use Rattle.chi_script.specs.CheckFiles.{check_file_of}
+use Rattle.chi_script.specs.Headers.{node_sizes}
+use Rattle.chi_replay.specs.Checks.{commands_in}
+use Rattle.chi_node.specs.System.{SystemState}
+use Rattle.chi_replay.specs.Session.{machine_of, ports_of}
+use Rattle.chi_replay.specs.Suites.{GivenFile, first_of}
+use Rattle.chi_replay.specs.Texts.{Allowed, Plays, opening_ports}
+use Rattle.chi_replay.specs.Turns.{Answer, machine_at_start, turn}
+use Rattle.chi_slice.specs.Words.{Sizes}
+use Rattle.chi_coverage.specs.declared.cells.Cell.{Cell}
+use Rattle.chi_coverage.specs.Coverage.{CoverCame, MayCover, cells_covered, cells_of_step, cover_fault, cover_fault_line, played_steps}
+use Rattle.chi_coverage.specs.Places.{cell_place}
+
+-- one more in the place of each of the cells
+abbrev pub counted : List ℕ → List Cell → List ℕ
+counted counts [] = counts
+counted counts (cell ∷ cells) = counted (slice_set counts (cell_place cell) (slice_index counts (cell_place cell) + 1)) cells
+
+abbrev pub count_at : List ℕ → Cell → ℕ
+count_at counts cell = slice_index counts (cell_place cell)
+
+-- a command was played on a node, which went on so, and the cells of its step were counted
+pub record IsCountedStep (config : Sizes) (old new : SystemState) (command : Command) (before after : List ℕ) : Type 0 where
+  pub answers : List Answer
+  pub said : List ℕ
+  pub plays : Plays (turn (machine_of old) command) (ports_of old) answers said (machine_of new) (ports_of new)
+  pub is : after ≡ counted before (cells_of_step config (record { command = command; answer = said ++ (10 ∷ []); before = old.home; after = new.home }))
+
+-- all commands were played on a new node, and the cells of the run were counted
+pub record IsCountedRun (config : Sizes) (all : List Command) (before after : List ℕ) : Type 0 where
+  pub answers : List Answer
+  pub allowed : Allowed (machine_at_start config) (opening_ports config) all answers
+  pub is : after ≡ counted before (flat_map (cells_of_step config) (played_steps (machine_at_start config) all answers))
+
+-- so of the commands of a header and checks, and of a good file
+abbrev pub IsCountedScript : Header → List CheckLine → List ℕ → List ℕ → Type 0
+IsCountedScript header checks before after = IsCountedRun (node_sizes header) (commands_in checks) before after
+
+pub record IsCountedFile (file : List ℕ) (before after : List ℕ) : Type 0 where
+  pub header : Header
+  pub checks : List CheckLine
+  pub good : check_file_of file ≡ Ok (header, checks)
+  pub run : IsCountedScript header checks before after
+
+-- what was counted and told of the files so far
+pub record CoverState : Type 0 where
+  pub counts : List ℕ
+  pub faults : List ℕ
+  pub fault : Option Fault
+
+-- one file more
+abbrev pub cover_with : List ℕ → CoverState → CoverCame → CoverState
+cover_with name old came = record {
+  counts = counted old.counts (cells_covered came);
+  faults = old.faults ++ cover_fault_line name came;
+  fault = first_of old.fault (cover_fault came);
+}
+
+abbrev pub CoverGoesOn : GivenFile → CoverState → CoverState → Type 0
+CoverGoesOn file old new = (came : CoverCame) × MayCover file.bytes came × (new ≡ cover_with file.name old came)

@@ -1,0 +1,152 @@
+-- What files cover: the cells of the steps of their runs, and what is told of them (docs/FORMATS.md, "Coverage").
+use Rattle.std.specs.Prelude.{◌≡◌, ℕ, nat_lt, All, Bool, ◌&&◌, not, List, [], ◌∷◌, ◌++◌, Option, Some, None, Ok, Err, codes, length, map, option_to_list, if◌then◌else◌}
+use Rattle.std.specs.Fmt.{decimal}
+use Rattle.std.specs.List.{filter, flat_map}
+use Rattle.chi_flit.specs.declared.numbers.Line.{Line}
+use Rattle.chi_flit.specs.declared.refusal.Refusal.{Refusal}
+use Rattle.chi_script.specs.declared.commands.Command.{Command}
+use Rattle.chi_script.specs.declared.faults.Fault.{Fault}
+use Rattle.chi_script.specs.declared.faults.Fault.TheVariants as faults
+use Rattle.chi_script.specs.declared.headers.Header.{Header}
+use Rattle.chi_script.specs.Checks.{CheckLine}
+use Rattle.chi_script.specs.CheckFiles.{check_file_of}
+use Rattle.chi_script.specs.Headers.{node_sizes}
+use Rattle.chi_slice.specs.Words.{line_view, LineView, Sizes}
+use Rattle.chi_node.specs.Home.{HomeState, node_last, node_line, node_view_refusal}
+use Rattle.chi_replay.specs.Checks.{commands_in}
+use Rattle.chi_replay.specs.Suites.{GivenFile, faulty_line, first_of}
+use Rattle.chi_replay.specs.Texts.{Allowed, ending, opening_ports}
+use Rattle.chi_replay.specs.Turns.{Answer, Machine, machine_at_start, turn}
+use Rattle.chi_coverage.specs.declared.cells.Cell.{Cell}
+use Rattle.chi_coverage.specs.Cells.{cell_text, is_unreachable, section_text}
+use Rattle.chi_coverage.specs.Lists.{all_cells}
+use Rattle.chi_coverage.specs.Places.{is_cell}
+use Rattle.chi_coverage.specs.Steps.{cells_seen, named_of, scene_named}
+
+-- a step of a run: a command, the line that answers it, with its end, and the home before and after
+pub record PlayedStep : Type 0 where
+  pub command : Command
+  pub answer : List ℕ
+  pub before : HomeState
+  pub after : HomeState
+
+-- the steps of commands one after the other, where the tracker answers so
+abbrev pub played_steps : Machine → List Command → List Answer → List PlayedStep
+played_steps m [] answers = []
+played_steps m (command ∷ rest) answers =
+    record {
+      command = command;
+      answer = (ending (turn m command) answers).said ++ (10 ∷ []);
+      before = m.home;
+      after = (ending (turn m command) answers).state.home;
+    }
+    ∷ played_steps (ending (turn m command) answers).state rest (ending (turn m command) answers).left
+
+-- a line as it is shown, where one is named, and there is one of that number
+abbrev pub view_unless : Option Refusal → LineView → Option LineView
+view_unless None view = Some view
+view_unless (Some refusal) view = None
+
+abbrev pub view_in : HomeState → Option Line → Option LineView
+view_in home None = None
+view_in home (Some l) = view_unless (node_view_refusal home l.0) (line_view (node_line home l.0) (node_last home l.0))
+
+-- the cells that a step is in, on a node of these sizes
+abbrev pub listed : List (Option Cell) → List Cell
+listed cells = flat_map (λ cell. option_to_list cell) cells
+
+abbrev pub cells_shown : Sizes → Command → Option LineView → List ℕ → Option LineView → List Cell
+cells_shown sizes command before answer after =
+    listed (cells_seen sizes (named_of command) (scene_named before (named_of command).agent) answer after)
+
+abbrev pub cells_of_step : Sizes → PlayedStep → List Cell
+cells_of_step sizes step =
+    cells_shown sizes step.command (view_in step.before (named_of step.command).line) step.answer (view_in step.after (named_of step.command).line)
+
+-- how often a cell stands among cells
+abbrev pub times_met : Cell → List Cell → ℕ
+times_met cell cells = length (filter (is_cell cell) cells)
+
+-- the cells of a good file's steps: its commands were played on a new node of its header's size, under answers that the
+-- tracker may give
+pub record IsCovered (file : List ℕ) (cells : List Cell) : Type 0 where
+  pub header : Header
+  pub checks : List CheckLine
+  pub good : check_file_of file ≡ Ok (header, checks)
+  pub answers : List Answer
+  pub allowed : Allowed (machine_at_start (node_sizes header)) (opening_ports (node_sizes header)) (commands_in checks) answers
+  pub are : cells ≡ flat_map (cells_of_step (node_sizes header)) (played_steps (machine_at_start (node_sizes header)) (commands_in checks) answers)
+
+-- what comes of a file: the cells of its steps, or its fault
+pub data CoverCame : Type 0 where
+  covered : List Cell → CoverCame
+  unread : Fault → CoverCame
+
+abbrev pub MayCover : Option (List ℕ) → CoverCame → Type 0
+MayCover None (covered cells) = ⊥
+MayCover None (unread fault) = fault ≡ faults.Read
+MayCover (Some bytes) (covered cells) = IsCovered bytes cells
+MayCover (Some bytes) (unread fault) = check_file_of bytes ≡ Err fault
+
+-- a file, and what came of it
+pub record FileCover : Type 0 where
+  pub file : GivenFile
+  pub came : CoverCame
+
+abbrev pub IsFileCover : FileCover → Type 0
+IsFileCover told = MayCover told.file.bytes told.came
+
+abbrev pub cells_covered : CoverCame → List Cell
+cells_covered (covered cells) = cells
+cells_covered (unread fault) = []
+
+abbrev pub cover_fault : CoverCame → Option Fault
+cover_fault (covered cells) = None
+cover_fault (unread fault) = Some fault
+
+abbrev pub first_cover_fault : List FileCover → Option Fault
+first_cover_fault [] = None
+first_cover_fault (it ∷ rest) = first_of (cover_fault it.came) (first_cover_fault rest)
+
+-- the line on a faulty file, for standard error
+abbrev pub cover_fault_line : List ℕ → CoverCame → List ℕ
+cover_fault_line name (covered cells) = []
+cover_fault_line name (unread fault) = faulty_line name fault
+
+-- a cell's line, where it was done so often
+abbrev pub cell_line : Cell → List ℕ → List ℕ
+cell_line cell count = section_text cell ++ (codes ": " ++ (cell_text cell ++ (codes ": " ++ (count ++ (10 ∷ [])))))
+
+abbrev pub line_of_cell : (only_missing : Bool) → (count : ℕ) → Cell → List ℕ
+line_of_cell only_missing count cell =
+    if is_unreachable cell then (if only_missing then [] else cell_line cell (codes "unreachable")) else (
+    if only_missing && nat_lt 0 count then [] else cell_line cell (decimal count))
+
+-- the cells that a run may reach, and those of them that were
+abbrev pub is_reachable : Cell → Bool
+is_reachable cell = not (is_unreachable cell)
+
+abbrev pub is_reached : (Cell → ℕ) → Cell → Bool
+is_reached count cell = is_reachable cell && nat_lt 0 (count cell)
+
+-- what is printed of some cells, and of all of them
+abbrev pub cover_lines : (only_missing : Bool) → (Cell → ℕ) → List Cell → List ℕ
+cover_lines only_missing count cells = flat_map (λ cell. line_of_cell only_missing (count cell) cell) cells
+
+abbrev pub cover_summary : ℕ → ℕ → List ℕ
+cover_summary reached reachable = codes "covered " ++ (decimal reached ++ (codes " of " ++ (decimal reachable ++ (codes " cells" ++ (10 ∷ [])))))
+
+abbrev pub cover_text : (only_missing : Bool) → (Cell → ℕ) → List ℕ
+cover_text only_missing count =
+    cover_lines only_missing count all_cells
+    ++ cover_summary (length (filter (is_reached count) all_cells)) (length (filter is_reachable all_cells))
+
+-- what was told of files, each in its turn and none left out: a count is the number of times that the cell stands among
+-- the cells of the steps of all files
+pub record IsCoverReport (only_missing : Bool) (files : List GivenFile) (text faults : List ℕ) (fault : Option Fault) : Type 0 where
+  pub told : List FileCover
+  pub in_turn : map (λ it. it.file) told ≡ files
+  pub each : All IsFileCover told
+  pub printed : text ≡ cover_text only_missing (λ cell. times_met cell (flat_map (λ it. cells_covered it.came) told))
+  pub lines : faults ≡ flat_map (λ it. cover_fault_line it.file.name it.came) told
+  pub first : fault ≡ first_cover_fault told

@@ -1,0 +1,43 @@
+-- What stands of one agent and one line (docs/PROTOCOL.md, "One line").
+use Rattle.std.specs.Prelude.{ℕ, ◌==◌, nat_lt, List, Bool, ◌&&◌, ◌||◌, not, Option, Some, None, if◌then◌else◌}
+use Rattle.std.specs.List.{slice_index_or}
+use Rattle.chi_flit.specs.declared.numbers.Agent.{Agent}
+use Rattle.chi_slice.specs.Words.{is_in, no_flits, LineView}
+use Rattle.chi_slice.specs.Verdict.{no_copy}
+use Rattle.chi_coverage.specs.declared.scenes.OwnerSeen.{OwnerSeen}
+use Rattle.chi_coverage.specs.declared.scenes.OwnerSeen.TheVariants.{Nobody, Itself, Another}
+use Rattle.chi_coverage.specs.declared.scenes.Scene.{Scene}
+
+-- who the owner is, as the agent sees it
+abbrev pub owner_seen : Option Agent → Agent → OwnerSeen
+owner_seen None agent = Nobody
+owner_seen (Some owner) agent = if owner.0 == agent.0 then Itself else Another
+
+-- the agent of this number has a mark, and is another one
+abbrev pub is_other : List Bool → Agent → ℕ → Bool
+is_other marks agent n = is_in marks n && not (agent.0 == n)
+
+-- one of them has
+abbrev pub any_other : List Bool → Agent → Bool
+any_other marks agent =
+    is_other marks agent 0 || (is_other marks agent 1 || (is_other marks agent 2 || (is_other marks agent 3
+    || (is_other marks agent 4 || (is_other marks agent 5 || (is_other marks agent 6 || is_other marks agent 7))))))
+
+abbrev pub scene_of : LineView → Agent → Scene
+scene_of view agent = record {
+  state = (slice_index_or view.copies agent.0 no_copy).state;
+  pending = slice_index_or view.pending agent.0 None;
+  waiting = slice_index_or view.waiting agent.0 None;
+  flits = slice_index_or view.flits agent.0 no_flits;
+  named = is_in view.named agent.0;
+  others = any_other view.named agent;
+  unique = view.unique;
+  owner = owner_seen view.owner agent;
+  serving = view.serving;
+  awaits_others = any_other view.awaited agent;
+}
+
+-- where the line is there, and the agent is one of eight
+abbrev pub scene_at : Option LineView → Agent → Option Scene
+scene_at None agent = None
+scene_at (Some view) agent = if nat_lt agent.0 8 then Some (scene_of view agent) else None

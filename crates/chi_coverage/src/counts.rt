@@ -1,0 +1,69 @@
+//! The counts of cells.
+
+ghost use Rattle.std.specs.Prelude.{◌≡◌, [], ◌∷◌, OnOk, length};
+ghost use Rattle.chi_coverage.specs.Coverage.{cells_shown, listed};
+ghost use Rattle.chi_coverage.specs.Counts.{counted};
+ghost use Rattle.chi_coverage.specs.Places.{place_count};
+ghost use Rattle.chi_coverage.specs.Steps.{scene_named};
+
+use crate::cells::Cell;
+use crate::scenes::{Scene, scene_at};
+use crate::tables::{limit_cells, message_cells, named_of, outcome_cells, scene_cells};
+use chi_flit::{Agent, NoMemory};
+use chi_script::Command;
+use chi_slice::{Config, LineView};
+
+/// One more of the cell. Refused where a number is too large, as only endless memory could have it.
+fn count_cell(counts: &mut [u64], cell: Cell) -> Result<(), NoMemory>
+    requires { length counts.old ≡ place_count }
+    ensures { OnOk result (counts.new ≡ counted counts.old (cell ∷ [])) }
+{
+    let place = cell.place();
+    counts[place] = counts[place].checked_add(1).ok_or(NoMemory)?;
+    Ok(())
+}
+
+/// One more of each of the cells.
+fn count_cells(counts: &mut [u64], cells: &[Option<Cell>]) -> Result<(), NoMemory>
+    requires { length counts.old ≡ place_count }
+    ensures { OnOk result (counts.new ≡ counted counts.old (listed cells.now)) }
+{
+    for cell in cells {
+        if let Some(cell) = cell {
+            count_cell(counts, *cell)?;
+        }
+    }
+    Ok(())
+}
+
+/// What stands of the agent that a command names, where it names one.
+fn scene_named(view: &Option<LineView>, agent: Option<Agent>) -> Option<Scene>
+    ensures { result ≡ scene_named view.now agent }
+{
+    match agent {
+        Some(agent) => scene_at(view, agent),
+        None => None,
+    }
+}
+
+/// One more of each cell of a step.
+pub(crate) fn count_step(
+    counts: &mut [u64],
+    config: &Config,
+    command: Command,
+    before: &Option<LineView>,
+    line: &[u8],
+    after: &Option<LineView>,
+) -> Result<(), NoMemory>
+    requires { length counts.old ≡ place_count }
+    ensures { OnOk result (counts.new
+        ≡ counted counts.old (cells_shown config.now command before.now line.now after.now)) }
+{
+    let named = named_of(command);
+    let scene = scene_named(before, named.agent);
+    let profile = config.profile();
+    count_cells(counts, &outcome_cells(config, &named, &scene, line))?;
+    count_cells(counts, &limit_cells(config, &named, line))?;
+    count_cells(counts, &scene_cells(profile, &named, &scene, line, after))?;
+    count_cells(counts, &message_cells(&named, &scene, line))
+}
