@@ -10,11 +10,12 @@ use Rattle.chi_flit.specs.declared.numbers.Line.{Line}
 use Rattle.chi_resolution.specs.declared.ledger.Types.{Types}
 use Rattle.chi_script.specs.Words.{◌>>=◌}
 use Rattle.chi_trace.specs.declared.fields.Address.{Address}
-use Rattle.chi_arguments.specs.Options.{asked_address_of, is_given, line_option, seed_of, stores_option, turns_of, types_option}
+use Rattle.chi_arguments.specs.Options.{asked_address_of, is_given, line_option, rows_option, seed_of, stores_option, turns_of, types_option}
 use Rattle.chi_arguments.specs.declared.faults.ArgFault.{ArgFault}
 use Rattle.chi_arguments.specs.declared.faults.ArgFault.TheVariants.{Bad, NoMemory}
 use Rattle.chi_arguments.specs.declared.jobs.Job.{Job}
 use Rattle.chi_arguments.specs.declared.jobs.Job.TheVariants.{Chart, Check, Explain, Replay, Storm}
+use Rattle.chi_arguments.specs.declared.options.RowRange.{RowRange}
 
 -- FILE: the file is one word, and has to be there
 abbrev pub file_rule : Rule
@@ -40,9 +41,9 @@ replay_line = with_rule (new_app (codes "replay")) file_rule
 abbrev pub check_line : App
 check_line = with_rule (with_rule (new_app (codes "check")) files_rule) (flag_rule (codes "tap"))
 
--- `chart FILE [--line L]`
+-- `chart FILE [--line L] [--rows A-B]`
 abbrev pub chart_line : App
-chart_line = with_rule (with_rule (new_app (codes "chart")) file_rule) (option_rule (codes "line"))
+chart_line = with_rule (with_rule (with_rule (new_app (codes "chart")) file_rule) (option_rule (codes "line"))) (option_rule (codes "rows"))
 
 -- `explain FILE [--types T] [--stores S] [--early-grants] [--line ADDR]`
 abbrev pub explain_line : App
@@ -62,12 +63,12 @@ command_lines =
     with_subcommand (with_subcommand (with_subcommand (with_subcommand (with_subcommand program_line replay_line.top) check_line.top) chart_line.top) explain_line.top) storm_line.top
 
 -- what a command line asks for: the replay of a file, the check of files, as TAP or not, a chart, of one line alone where one is
--- given, the explanation of a trace, with its types of credit, the stores that it lists, whether grants may come early, and the one line
+-- given, and of these rows, the explanation of a trace, with its types of credit, the stores that it lists, whether grants may come early, and the one line
 -- that is written where one is given, or a storm with its seed and its turns
 pub data Asked : Type 0 where
   replay : Text → Asked
   check : List Text → Bool → Asked
-  chart : Text → Option Line → Asked
+  chart : Text → Option Line → RowRange → Asked
   explain : Text → Types → StoreListing → Bool → Option Address → Asked
   storm : Text → ℕ → ℕ → Asked
 
@@ -79,12 +80,13 @@ replay_in rows = option_map replay (first_of (codes "FILE") rows)
 abbrev pub check_in : List Row → Option Asked
 check_in rows = option_map (λ paths. check paths (is_given (first_of (codes "tap") rows))) (all_of (codes "FILE") rows)
 
--- behind `chart` stand the path and the option
+-- behind `chart` stand the path and the options
 abbrev pub chart_in : List Row → Option Asked
 chart_in rows = do
   path ← first_of (codes "FILE") rows
   only ← line_option (first_of (codes "line") rows)
-  Some (chart path only)
+  range ← rows_option (first_of (codes "rows") rows)
+  Some (chart path only range)
 
 -- behind `explain` stand the path and the options
 abbrev pub explain_in : List Row → Option Asked
@@ -125,7 +127,7 @@ asked_in words = asked_if (fault_of command_lines words) (subcommand_of command_
 abbrev pub asked_by : Job → Asked
 asked_by (Replay path) = replay path.now
 asked_by (Check paths tap) = check (map (λ path. path.now) paths.items) tap
-asked_by (Chart path only) = chart path.now only
+asked_by (Chart path only rows) = chart path.now only rows
 asked_by (Explain path types stores early only) = explain path.now types stores early only
 asked_by (Storm path seed turns) = storm path.now seed turns
 

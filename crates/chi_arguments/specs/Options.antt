@@ -1,5 +1,6 @@
 -- The values of options (docs/FORMATS.md, "The program").
-use Rattle.std.specs.Prelude.{ℕ, Bool, false, List, Option, Some, None, codes, if◌then◌else◌}
+use Rattle.std.specs.Prelude.{ℕ, ◌+◌, ◌==◌, Bool, false, List, Option, Some, None, codes, drop, take, if◌then◌else◌}
+use Rattle.std.specs.List.{position}
 use Rattle.chi_explain.specs.declared.observed.StoreListing.{StoreListing}
 use Rattle.chi_explain.specs.declared.observed.StoreListing.TheVariants.{Partial, Complete}
 use Rattle.chi_flit.specs.declared.numbers.Line.{Line}
@@ -9,6 +10,7 @@ use Rattle.chi_script.specs.Headers.{is_from}
 use Rattle.chi_script.specs.Words.{◌>>=◌, is_text, number_of}
 use Rattle.chi_trace.specs.Fields.{address_of}
 use Rattle.chi_trace.specs.declared.fields.Address.{Address}
+use Rattle.chi_arguments.specs.declared.options.RowRange.{RowRange}
 
 -- the seed is any number of a replay file, and 1 where none is given
 abbrev pub seed_of : Option (List ℕ) → Option ℕ
@@ -25,6 +27,18 @@ turns_of (Some word) = number_of word >>= λ n. if is_from 1 4000000000 n then S
 abbrev pub line_option : Option (List ℕ) → Option (Option Line)
 line_option None = Some None
 line_option (Some word) = number_of word >>= λ n. if is_from 0 63 n then Some (Some (record { 0 = n })) else None
+
+-- the rows of a chart, from the first to the last: numbers of a replay file from 1 on, of which none is below the other
+abbrev pub range_of : List ℕ → List ℕ → Option RowRange
+range_of low high = do
+  first ← number_of low
+  last ← number_of high
+  if is_from 1 last first then Some (record { first = first; last = last }) else None
+
+-- they are written round the first `-`, and all rows are drawn where none are given
+abbrev pub rows_option : Option (List ℕ) → Option RowRange
+rows_option None = Some (record { first = 1; last = 18446744073709551615 })
+rows_option (Some word) = position (λ b. b == 45) word >>= λ dash. range_of (take dash word) (drop (dash + 1) word)
 
 -- the types of credit of a trace, and those of two types where none are given
 abbrev pub types_option : Option (List ℕ) → Option Types

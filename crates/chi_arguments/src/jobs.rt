@@ -6,7 +6,7 @@ ghost use Rattle.clap.specs.Words.{all_of, app_of, first_of, found_of, rows_of, 
 ghost use Rattle.chi_arguments.specs.CommandLines.{IsAsked, asked_behind, asked_by, asked_in, chart_in, check_in, command_lines, explain_in, file_rule, files_rule, flag_rule, option_rule, replay_in, storm_asked};
 
 use crate::faults::ArgFault;
-use crate::options::{address, is_given, only, seed, stores, turns, types};
+use crate::options::{RowRange, address, is_given, only, rows, seed, stores, turns, types};
 use chi_explain::StoreListing;
 use chi_flit::Line;
 use chi_resolution::Types;
@@ -28,11 +28,13 @@ pub enum Job<'a> {
         /// Whether TAP is printed.
         tap: bool,
     },
-    /// `chart FILE [--line L]`: draws the chart of the file at this path.
+    /// `chart FILE [--line L] [--rows A-B]`: draws the chart of the file at this path.
     Chart {
         path: &'a str,
         /// The line alone that is shown, 0 to 63; all lines where it isn't given.
         only: Option<Line>,
+        /// The rows that are shown; all where they aren't given.
+        rows: RowRange,
     },
     /// `explain FILE [--types two|four|any] [--stores hidden|listed] [--early-grants] [--line ADDR]`: holds the trace at
     /// this path against the model.
@@ -92,6 +94,9 @@ const FILE: &str = "FILE";
 /// The option that is the line alone that a chart shows, or the address of the line alone that is explained.
 const LINE: &str = "line";
 
+/// The option that says which rows of a chart are shown.
+const ROWS: &str = "rows";
+
 /// The option that says which types of credit a trace has.
 const TYPES: &str = "types";
 
@@ -120,7 +125,8 @@ fn command_line<'a>(alloc: Global) -> Result<Command<'a>, AllocError>
         .arg(flag(alloc, TAP))?;
     let chart = Command::new(alloc, CHART)
         .arg(file(alloc))?
-        .arg(option(alloc, LINE))?;
+        .arg(option(alloc, LINE))?
+        .arg(option(alloc, ROWS))?;
     let explain = Command::new(alloc, EXPLAIN)
         .arg(file(alloc))?
         .arg(option(alloc, TYPES))?
@@ -211,13 +217,14 @@ fn read_check<'a>(alloc: Global, matches: &ArgMatches<'a>) -> Result<Job<'a>, Ar
     Ok(Job::Check { paths, tap })
 }
 
-/// The job of `chart FILE` and its option.
+/// The job of `chart FILE` and its options.
 fn read_chart<'a>(matches: &ArgMatches<'a>) -> Option<Job<'a>>
     ensures { option_map asked_by result ≡ chart_in (rows_of (found_of matches.now)) }
 {
     let path = text_of(matches, FILE)?;
     let only = only(text_of(matches, LINE))?;
-    Some(Job::Chart { path, only })
+    let rows = rows(text_of(matches, ROWS))?;
+    Some(Job::Chart { path, only, rows })
 }
 
 /// The job of `explain FILE` and its options.

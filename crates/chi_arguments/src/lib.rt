@@ -9,3 +9,4 @@ mod options;
 
 pub use faults::ArgFault;
 pub use jobs::{Job, arguments};
+pub use options::RowRange;

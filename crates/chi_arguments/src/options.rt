@@ -1,7 +1,8 @@
 //! The values of options.
 
-ghost use Rattle.std.specs.Prelude.{◌≡◌, Some, option_map};
-ghost use Rattle.chi_arguments.specs.Options.{asked_address_of, is_given, line_option, seed_of, stores_option, turns_of, types_option};
+ghost use Rattle.std.specs.Prelude.{◌≡◌, ◌==◌, Some, option_map};
+ghost use Rattle.std.specs.List.{position};
+ghost use Rattle.chi_arguments.specs.Options.{asked_address_of, is_given, line_option, range_of, rows_option, seed_of, stores_option, turns_of, types_option};
 
 use chi_explain::StoreListing;
 use chi_flit::Line;
@@ -49,6 +50,52 @@ pub fn only(value: Option<&str>) -> Option<Option<Line>>
             _ => None,
         },
     }
+}
+
+/// The rows of a chart that are drawn: those of the first to the last of these commands, counted from 1.
+/// Source: `docs/FORMATS.md`, "The program".
+#[derive(Clone, Copy, Debug, PartialEq, Eq)]
+pub struct RowRange {
+    /// At least 1.
+    pub first: u64,
+    /// No less than the first.
+    pub last: u64,
+}
+
+/// The rows that a chart shows whose `--rows` has this value: all where it isn't given, and `None` where the value
+/// isn't `A-B` with numbers of a replay file, of which A is at least 1 and B no less than A.
+/// Source: `docs/FORMATS.md`, "The program".
+pub fn rows(value: Option<&str>) -> Option<RowRange>
+    ensures { result ≡ rows_option (option_map (λ word. word.now) value.entry) }
+{
+    match value {
+        None => Some(RowRange {
+            first: 1,
+            last: u64::MAX,
+        }),
+        Some(word) => {
+            let word = word.as_bytes();
+            let dash = dash(word)?;
+            range(&word[..dash], &word[dash + 1..])
+        }
+    }
+}
+
+/// Where the first `-` stands.
+fn dash(word: &[u8]) -> Option<usize>
+    ensures { result ≡ position (λ byte. byte == 45) word.now }
+{
+    word.iter().position(|byte| *byte == b'-')
+}
+
+/// The range from this number to that one.
+fn range(first: &[u8], last: &[u8]) -> Option<RowRange>
+    ensures { result ≡ range_of first.now last.now }
+{
+    let (first, last) = (number(first)?, number(last)?);
+    (1..=last)
+        .contains(&first)
+        .then_some(RowRange { first, last })
 }
 
 /// Which types of credit a trace has whose `--types` has this value: those of profile `Two` where it isn't given, and

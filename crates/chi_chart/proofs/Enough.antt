@@ -1,47 +1,79 @@
 -- From a run to the chart of its checks, and from what was read to the input's file.
-use Rattle.std.proofs.Common.{◌≡◌, ℕ, List, [], ◌∷◌, Option, Some, None, Result, Ok, Err, IfOk, IfSome, map, refl, sym, ap, subst, ◌∙◌, take}
-use Rattle.chi_flit.specs.declared.numbers.Line.{Line}
+use Rattle.std.proofs.Common.{◌≡◌, ℕ, ◌<◌, ◌≤◌, nat_lt, Bool, true, false, List, [], ◌∷◌, Option, Some, None, Result, Ok, Err, IfOk, IfSome, length, map, refl, sym, ap, subst, ◌∙◌, take, arith}
+use Rattle.std.proofs.lemmas.Bool.Decides.{nat_tests}
+use Rattle.std.proofs.lemmas.List.{length-map, take_all}
 use Rattle.chi_flit.specs.declared.refusal.NoMemory.{NoMemory}
-use Rattle.chi_script.specs.declared.commands.Command.{Command}
 use Rattle.chi_script.specs.declared.faults.Fault.{Fault}
+use Rattle.chi_script.specs.declared.faults.Fault.TheVariants.{TooLarge}
 use Rattle.chi_script.specs.declared.headers.Header.{Header}
+use Rattle.chi_script.specs.Files.{lines_of}
 use Rattle.chi_script.specs.Headers.{node_sizes}
 use Rattle.chi_slice.specs.Words.{Sizes}
-use Rattle.chi_script.specs.declared.checks.Check.{Check}
-use Rattle.chi_script.specs.Checks.{CheckLine, line_of_check}
+use Rattle.chi_script.specs.Checks.{CheckLine}
 use Rattle.chi_script.specs.CheckFiles.{check_file_of}
 use Rattle.chi_script.proofs.CheckFileLemmas.{front_enough}
 use Rattle.chi_chart.specs.declared.frame.Layout.{Layout}
-use Rattle.chi_chart.specs.Charts.{IsChart, IsChartOf, IsLayout}
+use Rattle.chi_chart.specs.declared.rows.ChartPart.{ChartPart}
+use Rattle.chi_chart.specs.Charts.{IsChart, IsChartOf, IsLayout, title_of}
+use Rattle.chi_chart.specs.Headings.{lines_behind}
 use Rattle.chi_chart.specs.Picture.{svg_of}
-use Rattle.chi_chart.specs.Played.{IsRun}
-use Rattle.chi_chart.specs.Rows.{ChartRow, bottom_of, top}
-use Rattle.chi_replay.specs.Checks.{commands_in}
+use Rattle.chi_chart.specs.Played.{Drawing, IsRun}
+use Rattle.chi_chart.specs.Rows.{ChartRow, below_headings, bottom_of, top}
+
+-- what is drawn of a file with this header and these checks
+abbrev pub drawing_of : List ℕ → Header → List CheckLine → ChartPart → Drawing
+drawing_of file header checks part = record { config = node_sizes header; checks = checks; part = part; lines = lines_behind (lines_of file); top = top (title_of file) }
+
+pub same_drawing : (file : List ℕ) (header : Header) (checks : List CheckLine) (part : ChartPart) (d : Drawing) → d.config ≡ node_sizes header → d.checks ≡ checks → d.part ≡ part → d.lines ≡ lines_behind (lines_of file) → d.top ≡ top (title_of file)
+    → d ≡ drawing_of file header checks part
+same_drawing file header checks part d config same_checks same_part lines high =
+    ap (λ (x : Sizes). record { config = x; checks = d.checks; part = d.part; lines = d.lines; top = d.top }) config
+    ∙ (ap (λ (x : List CheckLine). record { config = node_sizes header; checks = x; part = d.part; lines = d.lines; top = d.top }) same_checks
+    ∙ (ap (λ (x : ChartPart). record { config = node_sizes header; checks = checks; part = x; lines = d.lines; top = d.top }) same_part
+    ∙ (ap (λ (x : List (List ℕ)). record { config = node_sizes header; checks = checks; part = part; lines = x; top = d.top }) lines
+    ∙ ap (λ (x : ℕ). record { config = node_sizes header; checks = checks; part = part; lines = lines_behind (lines_of file); top = x }) high)))
+
+pub top_by : {T : Type 0} (f : T → List ℕ) (items : List T) (n y : ℕ) → y ≡ below_headings 70 false n → n ≡ length items → y ≡ top (map f items)
+top_by f items n y is all = is ∙ ap (below_headings 70 false) (all ∙ sym (length-map items f))
 
 -- the rows of a run of the commands, drawn, are the chart
-chart_of_run : (header : Header) (config : Sizes) (checks : List CheckLine) (commands lent : List Command) (only : Option Line) (rows lent_rows : List ChartRow) (bottom : ℕ) (layout : Layout) (bytes : List ℕ)
-    → config ≡ node_sizes header → commands ≡ commands_in checks → lent ≡ commands → IsRun config lent only rows bottom → lent_rows ≡ rows → IsLayout header layout → bytes ≡ svg_of layout bottom lent_rows
-    → IsChart header checks only bytes
-chart_of_run header config checks commands lent only rows lent_rows bottom layout bytes sizes are same run same_rows laid drawn =
-    let runs : IsRun (node_sizes header) (commands_in checks) only rows bottom = subst (λ (s : Sizes). IsRun s (commands_in checks) only rows bottom) sizes (subst (λ (cs : List Command). IsRun config cs only rows bottom) (same ∙ are) run) in
+chart_of_run : (file : List ℕ) (header : Header) (checks : List CheckLine) (part : ChartPart) (d : Drawing) (title : List (List ℕ)) (rows : List ChartRow) (bottom : ℕ) (layout : Layout) (bytes : List ℕ)
+    → d ≡ drawing_of file header checks part → title ≡ title_of file → IsRun d rows bottom → IsLayout header layout → bytes ≡ svg_of layout title bottom rows → IsChart file header checks part bytes
+chart_of_run file header checks part d title rows bottom layout bytes is named run laid drawn =
+    let runs : IsRun (drawing_of file header checks part) rows bottom = subst (λ (x : Drawing). IsRun x rows bottom) is run in
     record {
       answers = runs.rows_are.answers;
       allowed = runs.rows_are.allowed;
       layout = layout;
       sizes = laid;
-      same = drawn ∙ (ap (svg_of layout bottom) same_rows ∙ (ap (λ (y : ℕ). svg_of layout y rows) runs.ends ∙ ap (λ (all : List ChartRow). svg_of layout (bottom_of top all) all) runs.rows_are.same));
+      same = drawn ∙ (ap (λ (t : List (List ℕ)). svg_of layout t bottom rows) named ∙ (ap (λ (y : ℕ). svg_of layout (title_of file) y rows) runs.ends ∙ ap (λ (all : List ChartRow). svg_of layout (title_of file) (bottom_of (top (title_of file)) all) all) runs.rows_are.same));
     }
 
-pub chart_if_drawn : {T : Type 0} (bytes_of : T → List ℕ) (result : Result T NoMemory) (header : Header) (config : Sizes) (checks : List CheckLine) (commands lent : List Command) (only : Option Line)
-    (rows lent_rows : List ChartRow) (bottom : ℕ) (layout : Layout) → config ≡ node_sizes header → commands ≡ commands_in checks → lent ≡ commands → IsRun config lent only rows bottom → lent_rows ≡ rows → IsLayout header layout
-    → IfOk result (λ text. bytes_of text ≡ svg_of layout bottom lent_rows) → IfOk result (λ text. IsChart header checks only (bytes_of text))
-chart_if_drawn bytes_of (Ok text) header config checks commands lent only rows lent_rows bottom layout sizes are same run same_rows laid drawn =
-    chart_of_run header config checks commands lent only rows lent_rows bottom layout (bytes_of text) sizes are same run same_rows laid drawn
-chart_if_drawn bytes_of (Err fault) header config checks commands lent only rows lent_rows bottom layout sizes are same run same_rows laid drawn = drawn
+pub chart_if_drawn : {T : Type 0} (bytes_of : T → List ℕ) (result : Result T NoMemory) (file : List ℕ) (header : Header) (checks : List CheckLine) (part : ChartPart) (d : Drawing) (title : List (List ℕ)) (rows : List ChartRow) (bottom : ℕ) (layout : Layout)
+    → d ≡ drawing_of file header checks part → title ≡ title_of file → IsRun d rows bottom → IsLayout header layout → IfOk result (λ text. bytes_of text ≡ svg_of layout title bottom rows) → IfOk result (λ text. IsChart file header checks part (bytes_of text))
+chart_if_drawn bytes_of (Ok text) file header checks part d title rows bottom layout is named run laid drawn = chart_of_run file header checks part d title rows bottom layout (bytes_of text) is named run laid drawn
+chart_if_drawn bytes_of (Err fault) file header checks part d title rows bottom layout is named run laid drawn = drawn
+
+-- of a good file all was read
+large : (n : ℕ) → 1048576 < n → nat_lt 1048576 n ≡ true
+large n more = grind (arith, nat_tests)
+
+too_large : (file : List ℕ) → 1048576 < length file → check_file_of file ≡ Err TooLarge
+unfolding check_file_of
+too_large file more = rw (large (length file) more) refl
+
+whole_if : (file : List ℕ) (b : Bool) (read : Header × List CheckLine) → nat_lt 1048576 (length file) ≡ b → check_file_of file ≡ Ok read → take 1048577 file ≡ file
+whole_if file false read is good = let small : length file ≤ 1048577 = grind (arith, nat_tests) in take_all 1048577 file small
+whole_if file true read is good =
+    let more : 1048576 < length file = grind (arith, nat_tests) in
+    let bad = too_large file more in absurd (cc (good, bad))
 
 -- the chart of what was read is that of the input's file
-pub chart_of_known : {T : Type 0} (left : Option (List ℕ)) (bytes : List ℕ) (only : Option Line) (bytes_of : T → List ℕ) (result : Result T Fault) → IfSome left (λ file. bytes ≡ take 1048577 file)
-    → IfOk result (λ text. IsChartOf only bytes (bytes_of text)) → IfOk result (λ text. IfSome left (λ file. IsChartOf only file (bytes_of text)))
-chart_of_known None bytes only bytes_of (Ok text) front ok = tt
-chart_of_known (Some file) bytes only bytes_of (Ok text) front ok = record { header = ok.header; checks = ok.checks; good = sym (front_enough file) ∙ (sym (ap check_file_of front) ∙ ok.good); chart = ok.chart }
-chart_of_known left bytes only bytes_of (Err fault) front ok = ok
+pub chart_of_known : {T : Type 0} (left : Option (List ℕ)) (bytes : List ℕ) (part : ChartPart) (bytes_of : T → List ℕ) (result : Result T Fault) → IfSome left (λ file. bytes ≡ take 1048577 file)
+    → IfOk result (λ text. IsChartOf part bytes (bytes_of text)) → IfOk result (λ text. IfSome left (λ file. IsChartOf part file (bytes_of text)))
+chart_of_known None bytes part bytes_of (Ok text) front ok = tt
+chart_of_known (Some file) bytes part bytes_of (Ok text) front ok =
+    let good = sym (front_enough file) ∙ (sym (ap check_file_of front) ∙ ok.good) in
+    let whole = whole_if file (nat_lt 1048576 (length file)) (ok.header, ok.checks) refl good in
+    subst (λ (b : List ℕ). IsChartOf part b (bytes_of text)) (front ∙ whole) ok
+chart_of_known left bytes part bytes_of (Err fault) front ok = ok

@@ -1,3 +1,4 @@
 pub mod Leads
 pub mod Enough
 pub mod Ranges
+pub mod HeadingLemmas

@@ -2,22 +2,29 @@
 use Rattle.std.specs.Prelude.{◌≡◌, ℕ, List, Option, Ok, IfSome}
 use Rattle.std.specs.Io.KnownBytes.{Appends}
 use Rattle.chi_devices.specs.Devices.{AppendsFront}
-use Rattle.chi_flit.specs.declared.numbers.Line.{Line}
 use Rattle.chi_script.specs.Headers.{node_sizes}
 use Rattle.chi_script.specs.declared.headers.Header.{Header}
 use Rattle.chi_replay.specs.Texts.{Allowed, opening_ports}
 use Rattle.chi_replay.specs.Turns.{Answer, machine_at_start}
 use Rattle.chi_script.specs.Checks.{CheckLine}
 use Rattle.chi_script.specs.CheckFiles.{check_file_of}
+use Rattle.chi_script.specs.Files.{lines_of}
 use Rattle.chi_chart.specs.declared.frame.Layout.{Layout}
+use Rattle.chi_chart.specs.declared.rows.ChartPart.{ChartPart}
+use Rattle.chi_chart.specs.Headings.{headings_in, lines_behind}
 use Rattle.chi_chart.specs.Picture.{svg_of}
-use Rattle.chi_chart.specs.Rows.{ChartRow, bottom_of, rows_of, top}
+use Rattle.chi_chart.specs.Rows.{ChartRow, bottom_of, first_place, rows_of, top}
 use Rattle.chi_chart.specs.Steps.{steps_of}
 use Rattle.chi_replay.specs.Checks.{commands_in}
 
--- the rows of the commands of a header and checks, where the tracker answers so
-abbrev pub rows_in : Header → List CheckLine → Option Line → List Answer → List ChartRow
-rows_in header checks only tracked = rows_of only top (steps_of (machine_at_start (node_sizes header)) (commands_in checks) tracked)
+-- the headings of the whole chart: the comments before the header
+abbrev pub title_of : List ℕ → List (List ℕ)
+title_of file = headings_in (lines_of file)
+
+-- the rows of the commands of a file with this header and these checks, where the tracker answers so
+abbrev pub rows_in : List ℕ → Header → List CheckLine → ChartPart → List Answer → List ChartRow
+rows_in file header checks part tracked =
+    rows_of part (first_place (top (title_of file))) (lines_behind (lines_of file)) (steps_of (machine_at_start (node_sizes header)) checks tracked)
 
 -- the layout of a node of the header's size
 pub record IsLayout (header : Header) (layout : Layout) : Type 0 where
@@ -26,24 +33,24 @@ pub record IsLayout (header : Header) (layout : Layout) : Type 0 where
   pub slices : layout.slices ≡ header.slices
 
 -- the bytes are the chart of the steps of the commands, under answers that the tracker may give
-pub record IsChart (header : Header) (checks : List CheckLine) (only : Option Line) (bytes : List ℕ) : Type 0 where
+pub record IsChart (file : List ℕ) (header : Header) (checks : List CheckLine) (part : ChartPart) (bytes : List ℕ) : Type 0 where
   pub answers : List Answer
   pub allowed : Allowed (machine_at_start (node_sizes header)) (opening_ports (node_sizes header)) (commands_in checks) answers
   pub layout : Layout
   pub sizes : IsLayout header layout
-  pub same : bytes ≡ svg_of layout (bottom_of top (rows_in header checks only answers)) (rows_in header checks only answers)
+  pub same : bytes ≡ svg_of layout (title_of file) (bottom_of (top (title_of file)) (rows_in file header checks part answers)) (rows_in file header checks part answers)
 
 -- the chart of a good file
-pub record IsChartOf (only : Option Line) (file bytes : List ℕ) : Type 0 where
+pub record IsChartOf (part : ChartPart) (file bytes : List ℕ) : Type 0 where
   pub header : Header
   pub checks : List CheckLine
   pub good : check_file_of file ≡ Ok (header, checks)
-  pub chart : IsChart header checks only bytes
+  pub chart : IsChart file header checks part bytes
 
 -- the chart of the file that an input had was written, no more
-abbrev pub Draws : Option Line → Option (List ℕ) → Option (List ℕ) → Option (List ℕ) → Type 0
-Draws only left old new = IfSome left (λ file. (bytes : List ℕ) × IsChartOf only file bytes × Appends old new bytes)
+abbrev pub Draws : ChartPart → Option (List ℕ) → Option (List ℕ) → Option (List ℕ) → Type 0
+Draws part left old new = IfSome left (λ file. (bytes : List ℕ) × IsChartOf part file bytes × Appends old new bytes)
 
 -- a beginning of it was written
-abbrev pub Begins : Option Line → Option (List ℕ) → Option (List ℕ) → Option (List ℕ) → Type 0
-Begins only left old new = IfSome left (λ file. (bytes : List ℕ) × IsChartOf only file bytes × AppendsFront old new bytes)
+abbrev pub Begins : ChartPart → Option (List ℕ) → Option (List ℕ) → Option (List ℕ) → Type 0
+Begins part left old new = IfSome left (λ file. (bytes : List ℕ) × IsChartOf part file bytes × AppendsFront old new bytes)

@@ -9,10 +9,12 @@ use Rattle.chi_flit.specs.Message.{channel_text, message_text}
 use Rattle.chi_flit.specs.State.{state_text}
 use Rattle.chi_slice.specs.Words.{Serving}
 use Rattle.chi_reply.specs.Replies.{serving_text}
+use Rattle.chi_script.specs.Headers.{is_from}
 use Rattle.chi_chart.specs.declared.drawn.Sheet.{Sheet}
 use Rattle.chi_chart.specs.declared.drawn.SliceBox.{SliceBox}
 use Rattle.chi_chart.specs.declared.drawn.Lifeline.{Lifeline}
 use Rattle.chi_chart.specs.declared.drawn.Caption.{Caption}
+use Rattle.chi_chart.specs.declared.drawn.RowArea.{RowArea}
 use Rattle.chi_chart.specs.declared.drawn.StateMark.{StateMark}
 use Rattle.chi_chart.specs.declared.drawn.Bar.{Bar}
 use Rattle.chi_chart.specs.declared.drawn.Arrow.{Arrow}
@@ -54,11 +56,15 @@ lifeline_text life =
     codes "<path class='life' d='M" ++ (decimal life.x ++ (codes " 64V" ++ (decimal life.bottom
     ++ (codes "'/>\n" ++ (title_text life.agent life.x 40 ++ title_text life.agent life.x life.name_y)))))
 
+-- the number of a row's command
+unfoldable pub number_text : ℕ → ℕ → List ℕ
+number_text number y = codes "<text class='number' x='44' y='" ++ (decimal y ++ (codes "'>" ++ (decimal number ++ codes "</text>\n")))
+
 -- a rule above a row, and its command
 unfoldable pub caption_text : Caption → List ℕ
 caption_text caption =
     codes "<path class='rule' d='M0 " ++ (decimal caption.rule ++ (codes "H" ++ (decimal caption.right
-    ++ (codes "'/>\n<text class='command' x='10' y='" ++ (decimal caption.y ++ (codes "'>" ++ (command_text caption.command.0 ++ codes "</text>\n")))))))
+    ++ (codes "'/>\n<text class='command' x='50' y='" ++ (decimal caption.y ++ (codes "'>" ++ (command_text caption.command.0 ++ (codes "</text>\n" ++ number_text caption.number caption.y))))))))
 
 -- the state that a copy turns to, left of its agent's lifeline
 unfoldable pub turned_text : StateMark → List ℕ
@@ -96,3 +102,24 @@ escaped_byte byte = if byte == 38 then codes "&amp;" else (if byte == 60 then co
 
 abbrev pub escaped_text : List ℕ → List ℕ
 escaped_text bytes = flat_map escaped_byte bytes
+
+-- what a file has in words of its own is written in bytes that every reader shows: others are ?
+abbrev pub legible_byte : ℕ → ℕ
+legible_byte byte = if is_from 32 126 byte then byte else 63
+
+abbrev pub legible_text : List ℕ → List ℕ
+legible_text bytes = flat_map (λ byte. escaped_byte (legible_byte byte)) bytes
+
+-- a heading, and where its letters stand
+unfoldable pub heading_text : ℕ → List ℕ → List ℕ
+heading_text y heading = codes "<text class='heading' x='10' y='" ++ (decimal y ++ (codes "'>" ++ (legible_text heading ++ codes "</text>\n")))
+
+-- the area of a row whose answer is another than the wanted one
+unfoldable pub differs_text : RowArea → List ℕ
+differs_text area =
+    codes "<path class='differs' d='M0 " ++ (decimal area.y ++ (codes "H" ++ (decimal area.right ++ (codes "V" ++ (decimal area.end ++ codes "H0z'/>\n")))))
+
+-- both answers
+unfoldable pub wanted_text : ℕ → List ℕ → List ℕ → List ℕ
+wanted_text y wanted answer =
+    codes "<text class='wanted' x='50' y='" ++ (decimal y ++ (codes "'>wanted " ++ (legible_text wanted ++ (codes ", is " ++ (legible_text answer ++ codes "</text>\n")))))

@@ -1,4 +1,5 @@
 pub mod Steps
+pub mod Headings
 pub mod Marks
 pub mod Rows
 pub mod Layout

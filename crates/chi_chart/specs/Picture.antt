@@ -12,11 +12,11 @@ use Rattle.chi_chart.specs.declared.frame.Layout.{Layout}
 use Rattle.chi_chart.specs.declared.marks.ChannelCell.{ChannelCell}
 use Rattle.chi_chart.specs.declared.marks.Mark.{Mark}
 use Rattle.chi_chart.specs.declared.marks.Mark.TheVariants.{Turned, Taken, Sent, Serves}
-use Rattle.chi_chart.specs.Drawn.{arrow_text, bar_text, caption_text, lifeline_text, sheet_text, slice_text, turned_text}
+use Rattle.chi_chart.specs.Drawn.{arrow_text, bar_text, caption_text, differs_text, heading_text, lifeline_text, sheet_text, slice_text, title_text, turned_text, wanted_text}
 use Rattle.chi_chart.specs.Layout.{agent_x, home_x, lane_x, serving_x, slice_x, state_x, strip_x, width, words_x}
 use Rattle.chi_chart.specs.Marks.{is_same_cell}
 use Rattle.chi_chart.specs.Notes.{note_text}
-use Rattle.chi_chart.specs.Rows.{ChartRow, below_mark}
+use Rattle.chi_chart.specs.Rows.{ChartRow, below_mark, below_marks, names_height, said_in}
 use Rattle.chi_chart.specs.Style.{style}
 
 abbrev pub is_cell_taken : ChannelCell → Mark → Bool
@@ -99,11 +99,44 @@ abbrev pub marks_text : Layout → ℕ → ℕ → List ChartRow → ℕ → Lis
 marks_text layout bottom top later y [] = []
 marks_text layout bottom top later y (mark ∷ marks) = mark_text layout bottom top later y mark ++ marks_text layout bottom top later (below_mark y mark) marks
 
--- a row: its command, what is told of the answer, and its marks
-abbrev pub row_text : Layout → ℕ → ChartRow → List ChartRow → List ℕ
-row_text layout bottom row later =
-    caption_text (record { rule = row.y; right = home_x layout; y = row.y + 14; command = record { 0 = row.command } })
-    ++ (note_text layout (row.y + 14) row.command row.answer ++ marks_text layout bottom row.y later row.y row.marks)
+-- headings, one below the other
+abbrev pub headings_text : ℕ → List (List ℕ) → List ℕ
+headings_text y [] = []
+headings_text y (heading ∷ headings) = heading_text (y + 13) heading ++ headings_text (y + 18) headings
+
+-- the names of the home and of the agents once more
+abbrev pub title_at : ℕ → ℕ → List ℕ
+title_at y n = title_text (Some (record { 0 = n })) (agent_x n) y
+
+abbrev pub names_text : Layout → ℕ → List ℕ
+names_text layout y = title_text None (home_x layout) y ++ flat_map (title_at y) (range_with_len 0 layout.agents)
+
+abbrev pub names_if : Layout → Bool → ℕ → List ℕ
+names_if layout true y = names_text layout (y + 17)
+names_if layout false y = []
+
+-- a row whose answer is another than the wanted one has an area of its own, and tells both
+abbrev pub difference_text : Layout → ℕ → ℕ → Option (List ℕ) → List ℕ → List ℕ
+difference_text layout y band None answer = []
+difference_text layout y band (Some wanted) answer =
+    differs_text (record { y = y; right = width layout; end = band + 16 }) ++ wanted_text (band + 10) wanted (said_in answer)
+
+-- the head of a row: the names where they are repeated, its headings and its command
+unfoldable pub row_head : Layout → ChartRow → List ℕ
+row_head layout row =
+    names_if layout row.names row.start
+    ++ (headings_text (row.start + names_height row.names) row.headings
+    ++ caption_text (record { rule = row.start; right = home_x layout; y = row.y + 14; command = record { 0 = row.command }; number = row.number }))
+
+-- below it what is told of the answer, its marks, and the answer that was wanted
+unfoldable pub row_told : Layout → ℕ → ChartRow → List ChartRow → List ℕ
+row_told layout bottom row later =
+    note_text layout (row.y + 14) row.command row.answer
+    ++ (marks_text layout bottom row.y later row.y row.marks
+    ++ difference_text layout row.y (below_marks row.y row.marks + 20) row.wanted row.answer)
+
+unfoldable pub row_text : Layout → ℕ → ChartRow → List ChartRow → List ℕ
+row_text layout bottom row later = row_head layout row ++ row_told layout bottom row later
 
 -- each row, before those that are below it
 abbrev pub rows_text : Layout → ℕ → List ChartRow → List ℕ
@@ -130,6 +163,7 @@ frame_text layout bottom =
 abbrev pub head_text : Layout → ℕ → List ℕ
 head_text layout bottom = sheet_text (record { width = width layout; height = bottom + 40 }) ++ style
 
--- the whole chart
-abbrev pub svg_of : Layout → ℕ → List ChartRow → List ℕ
-svg_of layout bottom rows = head_text layout bottom ++ (frame_text layout bottom ++ (rows_text layout bottom rows ++ codes "</svg>\n"))
+-- the whole chart, below its own headings
+abbrev pub svg_of : Layout → List (List ℕ) → ℕ → List ChartRow → List ℕ
+svg_of layout title bottom rows =
+    head_text layout bottom ++ (frame_text layout bottom ++ (headings_text 70 title ++ (rows_text layout bottom rows ++ codes "</svg>\n")))

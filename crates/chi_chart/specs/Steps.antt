@@ -6,28 +6,30 @@ use Rattle.chi_flit.specs.declared.refusal.Refusal.{Refusal}
 use Rattle.chi_slice.specs.Words.{line_view, LineView}
 use Rattle.chi_script.specs.declared.commands.Command.{Command}
 use Rattle.chi_script.specs.declared.commands.Command.TheVariants as commands
+use Rattle.chi_script.specs.Checks.{CheckLine}
 use Rattle.chi_node.specs.Home.{HomeState, node_last, node_line, node_view_refusal}
 use Rattle.chi_replay.specs.Texts.{ending}
 use Rattle.chi_replay.specs.Turns.{Answer, Machine, turn}
 
--- a command, the line that a replay prints for it, with its end, and the home before and after
+-- a command with the answer that is wanted of it, the line that a replay prints for it, with its end, and the home
+-- before and after
 pub record Step : Type 0 where
-  pub command : Command
+  pub check : CheckLine
   pub answer : List ℕ
   pub before : HomeState
   pub after : HomeState
 
 -- the steps of commands one after the other, where the tracker answers so
-abbrev pub steps_of : Machine → List Command → List Answer → List Step
+abbrev pub steps_of : Machine → List CheckLine → List Answer → List Step
 steps_of m [] answers = []
-steps_of m (command ∷ rest) answers =
+steps_of m (check ∷ rest) answers =
     record {
-      command = command;
-      answer = (ending (turn m command) answers).said ++ (10 ∷ []);
+      check = check;
+      answer = (ending (turn m check.command) answers).said ++ (10 ∷ []);
       before = m.home;
-      after = (ending (turn m command) answers).state.home;
+      after = (ending (turn m check.command) answers).state.home;
     }
-    ∷ steps_of (ending (turn m command) answers).state rest (ending (turn m command) answers).left
+    ∷ steps_of (ending (turn m check.command) answers).state rest (ending (turn m check.command) answers).left
 
 -- the line that a command names
 abbrev pub line_of_command : Command → Option Line

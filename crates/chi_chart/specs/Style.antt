@@ -28,8 +28,12 @@ style =
     ++ (codes ".refused{fill:var(--bad);font-weight:bold}\n"
     ++ (codes ".bar{stroke:var(--bar);stroke-width:10}.compack{stroke-opacity:.6}.wrdata{stroke-opacity:.35}\n"
     ++ (codes ".serving{fill:var(--bar)}\n"
+    ++ (codes ".number{text-anchor:end;fill:var(--life)}\n"
+    ++ (codes ".heading{font:12px system-ui,'Segoe UI',Arial,'DejaVu Sans','Liberation Sans',sans-serif}\n"
+    ++ (codes ".title,.heading,.wanted{paint-order:stroke;stroke:var(--paper);stroke-width:3px}\n"
+    ++ (codes ".wanted{fill:var(--bad);font-weight:bold}.differs{fill:var(--bad);fill-opacity:.12}\n"
     ++ (codes "</style>\n"
     ++ (codes "<defs><marker id='head' viewBox='0 0 8 8' refX='8' refY='4' markerWidth='8' markerHeight='8' "
     ++ (codes "orient='auto'><path d='M0 0L8 4L0 8z' style='fill:context-stroke'/></marker>\n"
     ++ (codes "<marker id='open' viewBox='0 0 8 8' refX='4' refY='4' markerWidth='8' markerHeight='8'>"
-    ++ codes "<circle cx='4' cy='4' r='3' style='fill:var(--paper);stroke:context-stroke'/></marker></defs>\n")))))))))))))))))))))))))))
+    ++ codes "<circle cx='4' cy='4' r='3' style='fill:var(--paper);stroke:context-stroke'/></marker></defs>\n")))))))))))))))))))))))))))))))

@@ -10,11 +10,12 @@ ghost use Rattle.chi_script.specs.CheckFiles.{check_file_of};
 ghost use Rattle.chi_chart.specs.Charts.{Begins, Draws, IsChart, IsChartOf, IsLayout};
 
 use crate::frame::Layout;
+use crate::headings::LeftLines;
 use crate::picture::svg_of;
-use crate::rows::rows_of;
+use crate::rows::{ChartPart, below_headings, rows_of};
 use chi_devices::{Failed, Input, Output, read_all};
-use chi_flit::{Line, NoMemory};
-use chi_replay::{commands_of, config_of};
+use chi_flit::NoMemory;
+use chi_replay::config_of;
 use chi_script::{CheckFile, Fault, Header, read_checks};
 use std::alloc::Allocator;
 
@@ -30,34 +31,40 @@ fn layout_of(header: &Header) -> Layout
     }
 }
 
-/// The chart of a good file. Refused where memory runs out.
+/// Where the frame of a chart ends.
+const TOP: u32 = 70;
+
+/// The chart of a good file, whose bytes these are. Refused where memory runs out.
 fn chart_on<A: Allocator + Copy>(
     alloc: A,
+    bytes: &[u8],
     script: &CheckFile<'_, A>,
-    only: Option<Line>,
+    part: &ChartPart,
 ) -> Result<Vec<u8, A>, NoMemory>
     ensures { IfOk result
-        (λ text. IsChart script.now.header
-        (map line_of_check script.now.checks.items) only text.items) }
+        (λ text. IsChart bytes.now script.now.header
+        (map line_of_check script.now.checks.items) part.now text.items) }
 {
     let config = config_of(&script.header);
-    let commands = commands_of(alloc, &script.checks)?;
-    let run = rows_of(alloc, &config, &commands, only)?;
+    let mut lines = LeftLines { bytes };
+    let title = lines.headings(alloc)?;
+    let top = below_headings(TOP, false, title.len())?;
+    let run = rows_of(alloc, &config, &script.checks, part, lines.bytes, top)?;
     let layout = layout_of(&script.header);
-    svg_of(alloc, layout, run.bottom, &run.rows)
+    svg_of(alloc, layout, &title, run.place.y, &run.rows)
 }
 
 /// The chart of a file, whose bytes these are; else its first fault, or want of memory.
 fn chart_of<A: Allocator + Copy>(
     alloc: A,
     bytes: &[u8],
-    only: Option<Line>,
+    part: &ChartPart,
 ) -> Result<Vec<u8, A>, Fault>
-    ensures ok { IfOk result (λ text. IsChartOf only bytes.now text.items) }
+    ensures ok { IfOk result (λ text. IsChartOf part.now bytes.now text.items) }
     ensures err { IfErr result (λ fault. Fails fault (check_file_of bytes.now)) }
 {
     let script = read_checks(alloc, bytes)?;
-    match chart_on(alloc, &script, only) {
+    match chart_on(alloc, bytes, &script, part) {
         Ok(text) => Ok(text),
         Err(_) => Err(Fault::NoMemory),
     }
@@ -67,20 +74,21 @@ fn chart_of<A: Allocator + Copy>(
 fn chart_of_input<A: Allocator + Copy, I: Input>(
     alloc: A,
     input: &mut I,
-    only: Option<Line>,
+    part: &ChartPart,
 ) -> Result<Vec<u8, A>, Fault>
     requires { I.failures input.old + 1 < 2 ^ 64 }
     ensures ok { IfOk result
-        (λ text. IfSome (I.left input.old) (λ file. IsChartOf only file text.items)) }
+        (λ text. IfSome (I.left input.old) (λ file. IsChartOf part.now file text.items)) }
     ensures err { IfErr result
         (NoText check_file_of (I.left input.old) (I.failures input.old) (I.failures input.new)) }
 {
     let bytes = read_all(alloc, input)?;
-    chart_of(alloc, &bytes, only)
+    chart_of(alloc, &bytes, part)
 }
 
-/// Runs the commands of the replay or check file that the input has, on one thread, and writes their message
-/// sequence chart, an SVG: of one line alone, and of commands that name none, where one is wanted.
+/// Runs the commands of the replay or check file that the input has, on one thread, and writes the message
+/// sequence chart of the part of them that is asked for, an SVG. Comments are its headings, and where an answer is
+/// another than the wanted one both are told.
 ///
 /// At `Ok` the input was a good file, and the chart of the steps of its commands, under answers that the
 /// tracker may give, was written, no more. Where the file is faulty nothing is written, and the fault is that
@@ -94,15 +102,15 @@ pub fn chart<A: Allocator + Copy, I: Input, O: Output>(
     alloc: A,
     input: &mut I,
     output: &mut O,
-    only: Option<Line>,
+    part: &ChartPart,
 ) -> Result<(), Fault>
     requires reads { I.failures input.old + 1 < 2 ^ 64 }
     requires writes { O.failures output.old + 1 < 2 ^ 64 }
     ensures ok { OnOk result
-        (Draws only (I.left input.old) (O.written output.old) (O.written output.new)) }
+        (Draws part.now (I.left input.old) (O.written output.old) (O.written output.new)) }
     ensures write { AtWrite result (O.failures output.new ≡ O.failures output.old + 1) }
     ensures front { AtWrite result
-        (Begins only (I.left input.old) (O.written output.old) (O.written output.new)) }
+        (Begins part.now (I.left input.old) (O.written output.old) (O.written output.new)) }
     ensures err { NoTextAt result check_file_of (I.left input.old) (I.failures input.old)
         (I.failures input.new) }
     ensures kept { IfErr result
@@ -111,7 +119,7 @@ pub fn chart<A: Allocator + Copy, I: Input, O: Output>(
     ensures silent { KeepsAtFault check_file_of (I.left input.old) (O.written output.old)
         (O.written output.new) }
 {
-    let text = chart_of_input(alloc, input, only)?;
+    let text = chart_of_input(alloc, input, part)?;
     match output.write_all(&text) {
         Ok(()) => Ok(()),
         Err(Failed) => Err(Fault::Write),

@@ -2,13 +2,14 @@
 
 ghost use Rattle.std.specs.Prelude.{◌≡◌, ◌++◌, OnOk, Some};
 ghost use Rattle.chi_reply.specs.Replies.{serving_text};
-ghost use Rattle.chi_chart.specs.Drawn.{arrow_text, bar_text, caption_text, end_text, escaped_text, escaped_byte, lifeline_text, name_text, paper_text, serving_title_text, sheet_text, slice_text, slice_title_text, title_text, turned_text};
+ghost use Rattle.chi_chart.specs.Drawn.{arrow_text, bar_text, caption_text, differs_text, end_text, escaped_text, escaped_byte, heading_text, legible_byte, legible_text, lifeline_text, name_text, number_text, paper_text, serving_title_text, sheet_text, slice_text, slice_title_text, title_text, turned_text, wanted_text};
 
 use crate::commands::Spelled;
 use chi_flit::{Agent, Channel, Msg, NoMemory, State};
 use chi_slice::Serving;
 use std::alloc::Allocator;
 use std::fmt;
+use std::io::Write;
 
 /// The sheet: how large the chart is, and its paper.
 #[derive(Drop)]
@@ -35,13 +36,22 @@ pub(crate) struct Lifeline {
     pub(crate) name_y: u64,
 }
 
-/// A rule above a row, and its command.
+/// A rule above a row, and its command with its number.
 #[derive(Drop)]
 pub(crate) struct Caption {
     pub(crate) rule: u64,
     pub(crate) right: u64,
     pub(crate) y: u64,
     pub(crate) command: Spelled,
+    pub(crate) number: u64,
+}
+
+/// The area of a row whose answer is another than the wanted one.
+#[derive(Drop)]
+pub(crate) struct RowArea {
+    pub(crate) y: u64,
+    pub(crate) right: u64,
+    pub(crate) end: u64,
 }
 
 /// The state that a copy turns to.
@@ -93,11 +103,18 @@ struct SliceTitle {
     x: u64,
 }
 
-/// A name above or below a lifeline.
+/// A name on a lifeline.
 #[derive(Drop)]
-struct Title {
-    agent: Option<Agent>,
-    x: u64,
+pub(crate) struct Title {
+    pub(crate) agent: Option<Agent>,
+    pub(crate) x: u64,
+    pub(crate) y: u64,
+}
+
+/// The number of a row's command.
+#[derive(Drop)]
+struct RowNumber {
+    number: u64,
     y: u64,
 }
 
@@ -227,10 +244,34 @@ impl fmt::Display for Caption {
     fn fmt<W: fmt::Write>(&self, f: &mut fmt::Formatter<W>) -> fmt::Result {
         let (rule, right, y) = (self.rule, self.right, self.y);
         let command = &self.command;
+        let number = RowNumber {
+            number: self.number,
+            y,
+        };
         write!(
             f,
-            "<path class='rule' d='M0 {rule}H{right}'/>\n<text class='command' x='10' y='{y}'>{command}</text>\n"
+            "<path class='rule' d='M0 {rule}H{right}'/>\n<text class='command' x='50' y='{y}'>{command}</text>\n{number}"
         )
+    }
+}
+
+impl fmt::Display for RowNumber {
+    ghost output = { λ row. Some (number_text row.number row.y) };
+
+    #[tactic(auto, unfolding(crate::specs::Drawn::number_text))]
+    fn fmt<W: fmt::Write>(&self, f: &mut fmt::Formatter<W>) -> fmt::Result {
+        let (number, y) = (self.number, self.y);
+        write!(f, "<text class='number' x='44' y='{y}'>{number}</text>\n")
+    }
+}
+
+impl fmt::Display for RowArea {
+    ghost output = { λ area. Some (differs_text area) };
+
+    #[tactic(auto, unfolding(crate::specs::Drawn::differs_text))]
+    fn fmt<W: fmt::Write>(&self, f: &mut fmt::Formatter<W>) -> fmt::Result {
+        let (y, right, end) = (self.y, self.right, self.end);
+        write!(f, "<path class='differs' d='M0 {y}H{right}V{end}H0z'/>\n")
     }
 }
 
@@ -345,5 +386,59 @@ fn add_byte<A: Allocator>(text: &mut Vec<u8, A>, byte: u8) -> Result<(), NoMemor
         b'>' => text.extend_from_slice(b"&gt;")?,
         _ => text.push(byte)?,
     }
+    Ok(())
+}
+
+/// Puts what a file has in words of its own behind the text: bytes that not every reader shows are `?`.
+fn add_legible<A: Allocator>(text: &mut Vec<u8, A>, bytes: &[u8]) -> Result<(), NoMemory>
+    ensures { OnOk result (text.new.items ≡ text.old.items ++ legible_text bytes.now) }
+{
+    for byte in bytes {
+        add_byte(text, legible(*byte))?;
+    }
+    Ok(())
+}
+
+/// The same of one byte.
+fn legible(byte: u8) -> u8
+    ensures { result ≡ legible_byte byte }
+{
+    match byte {
+        32..=126 => byte,
+        _ => b'?',
+    }
+}
+
+/// Puts a heading behind the text.
+#[tactic(auto, unfolding(crate::specs::Drawn::heading_text))]
+pub(crate) fn add_heading<A: Allocator>(
+    text: &mut Vec<u8, A>,
+    y: u64,
+    heading: &[u8],
+) -> Result<(), NoMemory>
+    ensures { OnOk result (text.new.items ≡ text.old.items ++ heading_text y heading.now) }
+{
+    write!(text, "<text class='heading' x='10' y='{y}'>").map_err(|_| NoMemory)?;
+    add_legible(text, heading)?;
+    text.extend_from_slice(b"</text>\n")?;
+    Ok(())
+}
+
+/// Puts the wanted answer and the one that was given behind the text.
+#[tactic(auto, unfolding(crate::specs::Drawn::wanted_text))]
+pub(crate) fn add_wanted<A: Allocator>(
+    text: &mut Vec<u8, A>,
+    y: u64,
+    wanted: &[u8],
+    answer: &[u8],
+) -> Result<(), NoMemory>
+    ensures { OnOk result
+        (text.new.items ≡ text.old.items ++ wanted_text y wanted.now answer.now) }
+{
+    write!(text, "<text class='wanted' x='50' y='{y}'>wanted ").map_err(|_| NoMemory)?;
+    add_legible(text, wanted)?;
+    text.extend_from_slice(b", is ")?;
+    add_legible(text, answer)?;
+    text.extend_from_slice(b"</text>\n")?;
     Ok(())
 }

@@ -7,6 +7,7 @@ mod charts;
 mod commands;
 mod drawn;
 mod frame;
+mod headings;
 mod layout;
 mod marks;
 mod notes;
@@ -15,3 +16,4 @@ mod rows;
 mod style;
 
 pub use charts::chart;
+pub use rows::ChartPart;

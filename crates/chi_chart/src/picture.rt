@@ -1,17 +1,21 @@
 //! A chart as SVG.
 
-ghost use Rattle.std.specs.Prelude.{◌≡◌, ◌++◌, ◌<◌, IfOk, OnOk, length, map};
+ghost use Rattle.std.specs.Prelude.{◌≡◌, ◌+◌, ◌++◌, ◌<◌, IfOk, OnOk, length, map};
 ghost use Rattle.std.specs.List.{flat_map, list_any, range_with_len};
-ghost use Rattle.chi_chart.specs.Picture.{frame_text, head_text, is_down, is_served, is_cell_taken, lifeline_at, lifeline_of, mark_text, marks_text, middle, or_bottom, row_text, rows_text, sent_text, served_until, serves_text, slice_heading, svg_of, taken_at};
+ghost use Rattle.chi_chart.specs.Picture.{difference_text, frame_text, head_text, headings_text, is_down, is_served, is_cell_taken, lifeline_at, lifeline_of, mark_text, marks_text, middle, names_if, names_text, or_bottom, row_head, row_text, row_told, rows_text, sent_text, served_until, serves_text, slice_heading, svg_of, taken_at, title_at};
+ghost use Rattle.chi_chart.specs.Drawn.{title_text};
 ghost use Rattle.chi_chart.specs.Played.{row_seen};
 
 use crate::commands::Spelled;
-use crate::drawn::{Arrow, Bar, Caption, Lifeline, Sheet, SliceBox, StateMark};
+use crate::drawn::{
+    Arrow, Bar, Caption, Lifeline, RowArea, Sheet, SliceBox, StateMark, Title, add_heading,
+    add_wanted,
+};
 use crate::frame::Layout;
 use crate::layout::{agent_x, state_x, words_x};
 use crate::marks::{ChannelCell, Mark};
 use crate::notes::add_note;
-use crate::rows::{Row, below_mark};
+use crate::rows::{Row, below_mark, below_marks, lower, names_height, said_in};
 use crate::style::style;
 use chi_flit::{Agent, Channel, Line, Msg, NoMemory};
 use chi_slice::Serving;
@@ -94,6 +98,13 @@ fn middle(y: Option<u32>) -> Option<u64>
         Some(y) => Some(u64::from(y) + 10),
         None => None,
     }
+}
+
+/// Where the letters of a heading stand whose band begins there.
+fn heading_y(y: u32) -> u64
+    ensures { result ≡ y + 13 }
+{
+    u64::from(y) + 13
 }
 
 /// Whether a message goes to a requester.
@@ -219,22 +230,119 @@ impl<A: Allocator> Picture<A> {
         Ok(())
     }
 
-    /// A row, with the rows below it.
-    fn add_row(&mut self, row: &Row<A>, later: &[Row<A>]) -> Result<(), NoMemory>
+    /// Headings, one below the other.
+    fn add_headings(&mut self, top: u32, headings: &[Vec<u8, A>]) -> Result<(), NoMemory>
         ensures text { OnOk result
             (self.new.text.items
             ≡ self.old.text.items
-            ++ row_text self.old.layout self.old.bottom (row_seen row.now) (map row_seen later.now)) }
+            ++ headings_text top (map (λ heading. heading.items) headings.now)) }
         ensures layout { self.new.layout ≡ self.old.layout }
         ensures bottom { self.new.bottom ≡ self.old.bottom }
     {
+        let mut y = top;
+        for heading in headings {
+            add_heading(&mut self.text, heading_y(y), heading)?;
+            y = lower(y, 18)?;
+        }
+        Ok(())
+    }
+
+    /// A name on a lifeline.
+    fn add_title(&mut self, agent: Option<Agent>, x: u64, y: u64) -> Result<(), NoMemory>
+        ensures text { OnOk result
+            (self.new.text.items ≡ self.old.text.items ++ title_text agent x y) }
+        ensures layout { self.new.layout ≡ self.old.layout }
+        ensures bottom { self.new.bottom ≡ self.old.bottom }
+    {
+        let title = Title { agent, x, y };
+        write!(self.text, "{title}").map_err(|_| NoMemory)
+    }
+
+    /// The names of the agents.
+    fn add_agent_names(&mut self, y: u64) -> Result<(), NoMemory>
+        ensures text { OnOk result
+            (self.new.text.items
+            ≡ self.old.text.items
+            ++ flat_map (title_at y) (range_with_len 0 self.old.layout.agents)) }
+        ensures layout { self.new.layout ≡ self.old.layout }
+        ensures bottom { self.new.bottom ≡ self.old.bottom }
+    {
+        for agent in 0..self.layout.agents {
+            self.add_title(Some(Agent(agent)), agent_x(Agent(agent)), y)?;
+        }
+        Ok(())
+    }
+
+    /// The names of the home and of the agents, where they are repeated.
+    fn add_names_if(&mut self, names: bool, top: u32) -> Result<(), NoMemory>
+        ensures text { OnOk result
+            (self.new.text.items ≡ self.old.text.items ++ names_if self.old.layout names top) }
+        ensures layout { self.new.layout ≡ self.old.layout }
+        ensures bottom { self.new.bottom ≡ self.old.bottom }
+    {
+        if !names {
+            return Ok(());
+        }
+        let (home, y) = (self.layout.home_x(), u64::from(top) + 17);
+        self.add_title(None, home, y)?;
+        self.add_agent_names(y)
+    }
+
+    /// The area of a row whose answer is another than the wanted one, and both answers in the band that begins there.
+    fn add_difference(&mut self, row: &Row<A>, band: u32) -> Result<(), NoMemory>
+        ensures text { OnOk result
+            (self.new.text.items
+            ≡ self.old.text.items
+            ++ difference_text self.old.layout (row_seen row.now).y band (row_seen row.now).wanted
+            (row_seen row.now).answer) }
+        ensures layout { self.new.layout ≡ self.old.layout }
+        ensures bottom { self.new.bottom ≡ self.old.bottom }
+    {
+        let Some(wanted) = &row.wanted else {
+            return Ok(());
+        };
+        let area = RowArea {
+            y: u64::from(row.y),
+            right: self.layout.width(),
+            end: u64::from(band) + 16,
+        };
+        write!(self.text, "{area}").map_err(|_| NoMemory)?;
+        let y = u64::from(band) + 10;
+        add_wanted(&mut self.text, y, wanted, said_in(row.answer.as_bytes()))
+    }
+
+    /// The head of a row: the names where they are repeated, its headings and its command.
+    #[tactic(auto, unfolding(crate::specs::Picture::row_head))]
+    fn add_row_head(&mut self, row: &Row<A>) -> Result<(), NoMemory>
+        ensures text { OnOk result
+            (self.new.text.items
+            ≡ self.old.text.items ++ row_head self.old.layout (row_seen row.now)) }
+        ensures layout { self.new.layout ≡ self.old.layout }
+        ensures bottom { self.new.bottom ≡ self.old.bottom }
+    {
+        self.add_names_if(row.names, row.start)?;
+        let headings = lower(row.start, names_height(row.names))?;
+        self.add_headings(headings, &row.headings)?;
         let caption = Caption {
-            rule: u64::from(row.y),
+            rule: u64::from(row.start),
             right: self.layout.home_x(),
             y: u64::from(row.y) + 14,
             command: Spelled(row.command),
+            number: row.number,
         };
-        write!(self.text, "{caption}").map_err(|_| NoMemory)?;
+        write!(self.text, "{caption}").map_err(|_| NoMemory)
+    }
+
+    /// What is told of a row's answer, its marks, with the rows below it, and the answer that was wanted.
+    #[tactic(auto, unfolding(crate::specs::Picture::row_told))]
+    fn add_row_told(&mut self, row: &Row<A>, later: &[Row<A>]) -> Result<(), NoMemory>
+        ensures text { OnOk result
+            (self.new.text.items
+            ≡ self.old.text.items
+            ++ row_told self.old.layout self.old.bottom (row_seen row.now) (map row_seen later.now)) }
+        ensures layout { self.new.layout ≡ self.old.layout }
+        ensures bottom { self.new.bottom ≡ self.old.bottom }
+    {
         let words_y = u64::from(row.y) + 14;
         add_note(
             &mut self.text,
@@ -243,7 +351,23 @@ impl<A: Allocator> Picture<A> {
             &row.command,
             row.answer.as_bytes(),
         )?;
-        self.add_marks(row.y, later, &row.marks)
+        self.add_marks(row.y, later, &row.marks)?;
+        let band = lower(below_marks(row.y, &row.marks)?, 20)?;
+        self.add_difference(row, band)
+    }
+
+    /// A row, with the rows below it.
+    #[tactic(auto, unfolding(crate::specs::Picture::row_text))]
+    fn add_row(&mut self, row: &Row<A>, later: &[Row<A>]) -> Result<(), NoMemory>
+        ensures text { OnOk result
+            (self.new.text.items
+            ≡ self.old.text.items
+            ++ row_text self.old.layout self.old.bottom (row_seen row.now) (map row_seen later.now)) }
+        ensures layout { self.new.layout ≡ self.old.layout }
+        ensures bottom { self.new.bottom ≡ self.old.bottom }
+    {
+        self.add_row_head(row)?;
+        self.add_row_told(row, later)
     }
 
     /// All rows.
@@ -358,15 +482,18 @@ impl<A: Allocator> Picture<A> {
     }
 }
 
-/// The SVG of rows. Refused where memory runs out.
+/// The SVG of rows, below the headings of the whole chart. Refused where memory runs out.
 /// Source: `docs/FORMATS.md`, "Charts".
 pub(crate) fn svg_of<A: Allocator>(
     alloc: A,
     layout: Layout,
+    title: &[Vec<u8, A>],
     bottom: u32,
     rows: &[Row<A>],
 ) -> Result<Vec<u8, A>, NoMemory>
-    ensures { IfOk result (λ text. text.items ≡ svg_of layout bottom (map row_seen rows.now)) }
+    ensures { IfOk result
+        (λ text. text.items
+        ≡ svg_of layout (map (λ heading. heading.items) title.now) bottom (map row_seen rows.now)) }
 {
     let mut picture = Picture {
         layout,
@@ -375,6 +502,7 @@ pub(crate) fn svg_of<A: Allocator>(
     };
     picture.add_head()?;
     picture.add_frame()?;
+    picture.add_headings(70, title)?;
     picture.add_rows(rows)?;
     picture.text.extend_from_slice(b"</svg>\n")?;
     let Picture { text, .. } = picture;

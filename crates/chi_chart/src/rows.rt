@@ -1,40 +1,76 @@
 //! The rows of a chart: its commands, played one after the other.
 
-ghost use Rattle.std.specs.Prelude.{◌≡◌, ◌+◌, ◌++◌, IfOk, OnOk, map};
+ghost use Rattle.std.specs.Prelude.{◌≡◌, ◌+◌, ◌*◌, ◌++◌, IfOk, OnOk, map};
+ghost use Rattle.std.specs.Option.{option_map};
+ghost use Rattle.chi_script.specs.Checks.{line_of_check};
+ghost use Rattle.chi_script.specs.Files.{lines_of};
+ghost use Rattle.chi_chart.specs.Headings.{headings_in, lines_behind};
 ghost use Rattle.chi_chart.specs.Steps.{line_of_command, seen_line};
-ghost use Rattle.chi_chart.specs.Rows.{below_row, below_mark, below_marks, is_line, next_y, shown_rows};
-ghost use Rattle.chi_chart.specs.Played.{IsPlayed, IsRun, row_seen};
+ghost use Rattle.chi_chart.specs.Rows.{below_headings, below_row, below_mark, below_marks, below_wanted, is_in_part, is_line, is_repeated, names_height, next_place, other_wanted, said_in, shown_rows};
+ghost use Rattle.chi_chart.specs.Played.{Drawing, IsPlayed, IsRun, row_seen};
 
+use crate::headings::LeftLines;
 use crate::marks::{Mark, marks_between};
 use chi_flit::{Line, NoMemory};
 use chi_node::System;
 use chi_replay::answer;
-use chi_script::Command;
+use chi_script::{Check, Command};
 use chi_slice::{Config, LineView};
 use std::alloc::Allocator;
 
-/// A command, the line that a replay prints for it, and what it changed.
+/// Which of the commands of a file a chart shows: those from the first to the last, counted from 1, and of these the ones
+/// that name this line, or none, where one is given.
+/// Source: `docs/FORMATS.md`, "Charts".
+#[derive(Clone, Copy, Debug, PartialEq, Eq)]
+pub struct ChartPart {
+    /// The line alone that is shown; all where there is none.
+    pub line: Option<Line>,
+    /// The number of the first command that is shown, counted from 1.
+    pub first: u64,
+    /// The number of the last.
+    pub last: u64,
+}
+
+/// A command, the line that a replay prints for it, and what it changed. Places are in pixels from the top.
 #[derive(Drop)]
 pub(crate) struct Row<A: Allocator> {
-    /// Where it begins, in pixels from the top.
+    /// The number of the command, counted from 1.
+    pub(crate) number: u64,
+    /// Where it begins, with the names and the headings above the command.
+    pub(crate) start: u32,
+    /// Whether the names of the home and the agents are repeated.
+    pub(crate) names: bool,
+    /// The comments before the command.
+    pub(crate) headings: Vec<Vec<u8, A>, A>,
+    /// Where its command begins.
     pub(crate) y: u32,
     pub(crate) command: Command,
     pub(crate) answer: String<A>,
+    /// The wanted answer, where it is another.
+    pub(crate) wanted: Option<Vec<u8, A>>,
     pub(crate) marks: Vec<Mark, A>,
 }
 
-/// The rows, and where the last one ends.
+/// Where the next command stands.
+#[derive(Clone, Copy)]
+pub(crate) struct RowPlace {
+    /// Its number, counted from 1.
+    pub(crate) number: u64,
+    /// How many rows are above its own.
+    pub(crate) drawn: u64,
+    /// Where its row begins.
+    pub(crate) y: u32,
+}
+
+/// The rows, and where the next one stands.
 #[derive(Drop)]
 pub(crate) struct Rows<A: Allocator> {
     pub(crate) rows: Vec<Row<A>, A>,
-    pub(crate) bottom: u32,
+    pub(crate) place: RowPlace,
 }
 
-/// Where the first row begins.
-const TOP: u32 = 70;
-
 /// So much lower. Refused where no number says it.
-fn lower(y: u32, by: u32) -> Result<u32, NoMemory>
+pub(crate) fn lower(y: u32, by: u32) -> Result<u32, NoMemory>
     ensures { IfOk result (λ low. low ≡ y + by) }
 {
     y.checked_add(by).ok_or(NoMemory)
@@ -50,8 +86,27 @@ pub(crate) fn below_mark(y: u32, mark: &Mark) -> Result<u32, NoMemory>
     }
 }
 
+/// How high the names are, where they are repeated.
+pub(crate) fn names_height(names: bool) -> u32
+    ensures { result ≡ names_height names }
+{
+    if names { 24 } else { 0 }
+}
+
+/// Where a command begins, below the names and so many headings.
+pub(crate) fn below_headings(y: u32, names: bool, count: usize) -> Result<u32, NoMemory>
+    ensures { IfOk result (λ low. low ≡ below_headings y names count) }
+{
+    let names = lower(y, names_height(names))?;
+    let high = count.checked_mul(18).ok_or(NoMemory)?;
+    match u32::try_from(high) {
+        Ok(high) => lower(names, high),
+        Err(_) => Err(NoMemory),
+    }
+}
+
 /// Where they begin behind all marks.
-fn below_marks(y: u32, marks: &[Mark]) -> Result<u32, NoMemory>
+pub(crate) fn below_marks(y: u32, marks: &[Mark]) -> Result<u32, NoMemory>
     ensures { IfOk result (λ low. low ≡ below_marks y marks.now) }
 {
     let mut low = y;
@@ -88,6 +143,43 @@ fn is_line(only: Option<Line>, named: Option<Line>) -> bool
     }
 }
 
+impl ChartPart {
+    /// Whether the command of this number, which names this line, or none, is shown.
+    fn has(&self, number: u64, named: Option<Line>) -> bool
+        ensures { result ≡ is_in_part self.now number named }
+    {
+        is_line(self.line, named) && number >= self.first && number <= self.last
+    }
+}
+
+/// An answer without its line end.
+pub(crate) fn said_in(answer: &[u8]) -> &[u8]
+    ensures { result.now ≡ said_in answer.now }
+{
+    &answer[..answer.len().saturating_sub(1)]
+}
+
+/// The wanted answer, where it is another. Refused where memory runs out.
+fn other_wanted<A: Allocator>(
+    alloc: A,
+    wanted: Option<&[u8]>,
+    answer: &[u8],
+) -> Result<Option<Vec<u8, A>>, NoMemory>
+    ensures { IfOk result
+        (λ other. option_map (λ text. text.items) other
+        ≡ other_wanted (option_map (λ text. text.now) wanted.entry) answer.now) }
+{
+    let Some(wanted) = wanted else {
+        return Ok(None);
+    };
+    if said_in(answer) == wanted {
+        return Ok(None);
+    }
+    let mut other = Vec::new(alloc);
+    other.extend_from_slice(wanted)?;
+    Ok(Some(other))
+}
+
 /// The line as it is shown, where there is one of that number.
 fn seen_line<A: Allocator>(system: &System<A>, line: Option<Line>) -> Option<LineView>
     ensures { result ≡ seen_line system.now.home line }
@@ -98,34 +190,72 @@ fn seen_line<A: Allocator>(system: &System<A>, line: Option<Line>) -> Option<Lin
     }
 }
 
-/// Plays a command, and answers its row.
+impl RowPlace {
+    /// Whether the names are repeated above the row.
+    fn is_repeated(self) -> bool
+        ensures { result ≡ is_repeated self.drawn }
+    {
+        self.drawn != 0 && self.drawn % 40 == 0
+    }
+}
+
+/// Plays a command with these headings, and answers its row at this place.
 fn play<A: Allocator, B: Allocator + Copy>(
     alloc: B,
     system: &mut System<A>,
-    command: &Command,
-    y: u32,
+    check: &Check,
+    place: RowPlace,
+    headings: Vec<Vec<u8, B>, B>,
 ) -> Result<Row<B>, NoMemory>
-    ensures { IfOk result (λ row. IsPlayed system.old system.new command.now y (row_seen row)) }
+    ensures { IfOk result (λ row. IsPlayed system.old system.new (line_of_check check.now) place
+        (map (λ heading. heading.items) headings.items) (row_seen row)) }
 {
-    let line = line_of(*command);
+    let line = line_of(check.command);
     let before = seen_line(system, line);
     let mut text = String::new(alloc);
-    answer(system, *command, &mut text)?;
+    answer(system, check.command, &mut text)?;
     let after = seen_line(system, line);
     let marks = marks_between(alloc, line, &before, &after)?;
+    let wanted = other_wanted(alloc, check.wanted, text.as_bytes())?;
+    let names = place.is_repeated();
+    let y = below_headings(place.y, names, headings.len())?;
     Ok(Row {
+        number: place.number,
+        start: place.y,
+        names,
+        headings,
         y,
-        command: *command,
+        command: check.command,
         answer: text,
+        wanted,
         marks,
     })
+}
+
+/// Where what tells the wanted answer ends, where it is told.
+fn below_wanted<A: Allocator>(y: u32, wanted: &Option<Vec<u8, A>>) -> Result<u32, NoMemory>
+    ensures { IfOk result
+        (λ low. low ≡ below_wanted y (option_map (λ text. text.items) wanted.now)) }
+{
+    match wanted {
+        None => Ok(y),
+        Some(_) => lower(y, 16),
+    }
 }
 
 /// Where the next row begins.
 fn below_row<A: Allocator>(row: &Row<A>) -> Result<u32, NoMemory>
     ensures { IfOk result (λ low. low ≡ below_row (row_seen row.now)) }
 {
-    lower(below_marks(row.y, &row.marks)?, 20)
+    let band = lower(below_marks(row.y, &row.marks)?, 20)?;
+    below_wanted(band, &row.wanted)
+}
+
+/// One more. Refused where no number says it.
+fn next(number: u64) -> Result<u64, NoMemory>
+    ensures { IfOk result (λ more. more ≡ number + 1) }
+{
+    number.checked_add(1).ok_or(NoMemory)
 }
 
 impl<A: Allocator> Rows<A> {
@@ -134,38 +264,54 @@ impl<A: Allocator> Rows<A> {
         ensures rows { OnOk result
             (map row_seen self.new.rows.items
             ≡ map row_seen self.old.rows.items ++ shown_rows shown (row_seen row)) }
-        ensures bottom { OnOk result
-            (row.y ≡ self.old.bottom → self.new.bottom ≡ next_y shown (row_seen row)) }
+        ensures place { OnOk result
+            (self.new.place ≡ next_place shown self.old.place (row_seen row)) }
     {
+        self.place.number = next(self.place.number)?;
         if shown {
-            self.bottom = below_row(&row)?;
+            self.place.drawn = next(self.place.drawn)?;
+            self.place.y = below_row(&row)?;
             self.rows.push(row)?;
         }
         Ok(())
     }
 }
 
-/// Plays the commands on a new node of that size, and answers their rows; those of one line alone, and of
-/// commands that name none, where one is wanted. Refused where memory runs out, or the rows are higher than
-/// a number of 32 bits.
+/// Plays the commands on a new node of that size, and answers the rows of the part that is shown, the first at the top;
+/// their headings are found in the lines that are left. Refused where memory runs out, or the rows are higher than a
+/// number of 32 bits.
 /// Source: `docs/FORMATS.md`, "Charts".
 pub(crate) fn rows_of<A: Allocator + Copy>(
     alloc: A,
     config: &Config,
-    commands: &[Command],
-    only: Option<Line>,
+    checks: &[Check],
+    part: &ChartPart,
+    lines: &[u8],
+    top: u32,
 ) -> Result<Rows<A>, NoMemory>
     ensures { IfOk result
-        (λ rows. IsRun config.now commands.now only (map row_seen rows.rows.items) rows.bottom) }
+        (λ rows. IsRun (record {
+          config = config.now;
+          checks = map line_of_check checks.now;
+          part = part.now;
+          lines = lines_of lines.now;
+          top = top;
+        }) (map row_seen rows.rows.items) rows.place.y) }
 {
     let mut system = System::new(alloc, config)?;
+    let mut left = LeftLines { bytes: lines };
     let mut rows = Rows {
         rows: Vec::new(alloc),
-        bottom: TOP,
+        place: RowPlace {
+            number: 1,
+            drawn: 0,
+            y: top,
+        },
     };
-    for command in commands {
-        let row = play(alloc, &mut system, command, rows.bottom)?;
-        let shown = is_line(only, line_of(*command));
+    for check in checks {
+        let headings = left.headings(alloc)?;
+        let shown = part.has(rows.place.number, line_of(check.command));
+        let row = play(alloc, &mut system, check, rows.place, headings)?;
         rows.add(shown, row)?;
     }
     Ok(rows)

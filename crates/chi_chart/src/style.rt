@@ -29,6 +29,10 @@ const STYLE: &str = "<style>\n\
     .refused{fill:var(--bad);font-weight:bold}\n\
     .bar{stroke:var(--bar);stroke-width:10}.compack{stroke-opacity:.6}.wrdata{stroke-opacity:.35}\n\
     .serving{fill:var(--bar)}\n\
+    .number{text-anchor:end;fill:var(--life)}\n\
+    .heading{font:12px system-ui,'Segoe UI',Arial,'DejaVu Sans','Liberation Sans',sans-serif}\n\
+    .title,.heading,.wanted{paint-order:stroke;stroke:var(--paper);stroke-width:3px}\n\
+    .wanted{fill:var(--bad);font-weight:bold}.differs{fill:var(--bad);fill-opacity:.12}\n\
     </style>\n\
     <defs><marker id='head' viewBox='0 0 8 8' refX='8' refY='4' markerWidth='8' markerHeight='8' \
     orient='auto'><path d='M0 0L8 4L0 8z' style='fill:context-stroke'/></marker>\n\

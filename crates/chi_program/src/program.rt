@@ -5,11 +5,12 @@ ghost use Rattle.std.specs.Vec.Iter.{into_iter_items};
 ghost use Rattle.chi_arguments.specs.declared.faults.ArgFault.{ArgFault};
 ghost use Rattle.chi_program.specs.declared.program.Stop.TheVariants.{Arguments, Run};
 ghost use Rattle.chi_program.specs.Stops.{check_end, end_status, explain_end, run_status, statuses, stop_status, stop_text, storm_end, suite_stop, words_fault};
+ghost use Rattle.chi_program.specs.Charts.{part_asked};
 ghost use Rattle.chi_program.specs.Suites.{given_in};
 ghost use Rattle.chi_replay.specs.Suites.{given_of};
 
-use chi_arguments::{ArgFault, Job, arguments};
-use chi_chart::chart;
+use chi_arguments::{ArgFault, Job, RowRange, arguments};
+use chi_chart::{ChartPart, chart};
 use chi_devices::{FileInput, Output, StandardOutput, read_all};
 use chi_flit::Line;
 use chi_replay::{SuiteFile, SuiteForm, check, check_suite, replay};
@@ -146,7 +147,7 @@ fn follow<R: Env + Files + AllocGlobal + Print + Eprint + Threads + Wait + Clock
     match arguments(rt.alloc(), &words)? {
         Job::Replay(path) => Ok(replay_file(rt, path)?),
         Job::Check { paths, tap } => Ok(check_files(rt, &paths, tap)?),
-        Job::Chart { path, only } => Ok(chart_file(rt, path, only)?),
+        Job::Chart { path, only, rows } => Ok(chart_file(rt, path, part_of(only, rows))?),
         Job::Explain {
             path,
             types,
@@ -319,15 +320,26 @@ fn check_end(hold: bool) -> End
     if hold { End::Done } else { End::Differs }
 }
 
-/// Writes the chart of the file at the path to standard output.
+/// The part of a chart that is asked for.
+fn part_of(line: Option<Line>, rows: RowRange) -> ChartPart
+    ensures { result ≡ part_asked line rows }
+{
+    ChartPart {
+        line,
+        first: rows.first,
+        last: rows.last,
+    }
+}
+
+/// Writes this part of the chart of the file at the path to standard output.
 fn chart_file<R: Files + AllocGlobal + Print>(
     rt: &R,
     path: &str,
-    only: Option<Line>,
+    part: ChartPart,
 ) -> Result<End, Fault> {
     let mut input = FileInput::open(rt, path)?;
     let mut output = StandardOutput::new(io::writer(rt));
-    chart(rt.alloc(), &mut input, &mut output, only)?;
+    chart(rt.alloc(), &mut input, &mut output, &part)?;
     Ok(End::Done)
 }
 

@@ -1,6 +1,6 @@
 //! Command lines, good and bad, by `docs/FORMATS.md`, "The program".
 
-use chi_arguments::{ArgFault, Job, arguments};
+use chi_arguments::{ArgFault, Job, RowRange, arguments};
 use chi_flit::Line;
 use std::alloc::Global;
 use std::process::Abort;
@@ -64,35 +64,82 @@ fn a_check_with_other_words_is_bad(rt: HostRuntime) {
     are_bad(&rt, &BAD_CHECKS);
 }
 
-/// Command lines of a chart, each with the line alone that it shows.
-const CHARTS: [(&[&str], Option<u8>); 5] = [
-    (&["chihome", "chart", "a.chi"], None),
-    (&["chihome", "chart", "a.chi", "--line", "0"], Some(0)),
-    (&["chihome", "chart", "a.chi", "--line", "63"], Some(63)),
-    (&["chihome", "chart", "--line", "7", "a.chi"], Some(7)),
-    (&["chihome", "chart", "--line=7", "a.chi"], Some(7)),
+/// Command lines of a chart, each with the line alone that it shows, and with its first and its last row.
+const CHARTS: [(&[&str], Option<u8>, u64, u64); 9] = [
+    (&["chihome", "chart", "a.chi"], None, 1, u64::MAX),
+    (
+        &["chihome", "chart", "a.chi", "--line", "0"],
+        Some(0),
+        1,
+        u64::MAX,
+    ),
+    (
+        &["chihome", "chart", "a.chi", "--line", "63"],
+        Some(63),
+        1,
+        u64::MAX,
+    ),
+    (
+        &["chihome", "chart", "--line", "7", "a.chi"],
+        Some(7),
+        1,
+        u64::MAX,
+    ),
+    (
+        &["chihome", "chart", "--line=7", "a.chi"],
+        Some(7),
+        1,
+        u64::MAX,
+    ),
+    (&["chihome", "chart", "a.chi", "--rows", "1-1"], None, 1, 1),
+    (&["chihome", "chart", "--rows=2-40", "a.chi"], None, 2, 40),
+    (
+        &[
+            "chihome",
+            "chart",
+            "a.chi",
+            "--rows",
+            "7-18446744073709551615",
+        ],
+        None,
+        7,
+        u64::MAX,
+    ),
+    (
+        &["chihome", "chart", "--rows", "2-40", "a.chi", "--line", "7"],
+        Some(7),
+        2,
+        40,
+    ),
 ];
 
 #[test]
-fn a_chart_has_its_path_and_its_line(rt: HostRuntime) {
-    for (words, line) in &CHARTS {
-        draws(&rt, words, *line);
+fn a_chart_has_its_path_and_its_part(rt: HostRuntime) {
+    for (words, line, first, last) in &CHARTS {
+        draws(&rt, words, *line, *first, *last);
     }
 }
 
-/// The words ask for a chart of `a.chi`, of this line alone.
-fn draws<'a>(rt: &(impl Abort + AllocGlobal), words: &'a [&'a str], line: Option<u8>) {
+/// The words ask for a chart of `a.chi`, of this line alone and of these rows.
+fn draws<'a>(
+    rt: &(impl Abort + AllocGlobal),
+    words: &'a [&'a str],
+    line: Option<u8>,
+    first: u64,
+    last: u64,
+) {
     let path = "a.chi";
     let only = match line {
         Some(line) => Some(Line(line)),
         None => None,
     };
-    let job = Job::Chart { path, only };
+    let rows = RowRange { first, last };
+    let job = Job::Chart { path, only, rows };
     assert!(rt; arguments(rt.alloc(), words) == Ok(job), "{words:?}");
 }
 
-/// Other command lines than `chart FILE [--line L]`.
-const BAD_CHARTS: [&[&str]; 13] = [
+/// Other command lines than `chart FILE [--line L] [--rows A-B]`.
+const BAD_CHARTS: [&[&str]; 26] = [
     &["chihome", "chart"],
     &["chihome", "charts", "a"],
     &["chihome", "chart", "a", "b"],
@@ -104,6 +151,19 @@ const BAD_CHARTS: [&[&str]; 13] = [
     &["chihome", "chart", "a", "--line", "-1"],
     &["chihome", "chart", "a", "--line", "64"],
     &["chihome", "chart", "a", "--line", "1", "--line", "1"],
+    &["chihome", "chart", "a", "--rows"],
+    &["chihome", "chart", "a", "--rows", ""],
+    &["chihome", "chart", "a", "--rows", "7"],
+    &["chihome", "chart", "a", "--rows", "-"],
+    &["chihome", "chart", "a", "--rows", "1-"],
+    &["chihome", "chart", "a", "--rows=-1"],
+    &["chihome", "chart", "a", "--rows", "0-1"],
+    &["chihome", "chart", "a", "--rows", "3-2"],
+    &["chihome", "chart", "a", "--rows", "1-2-3"],
+    &["chihome", "chart", "a", "--rows", "01-2"],
+    &["chihome", "chart", "a", "--rows", "1-18446744073709551616"],
+    &["chihome", "chart", "a", "--rows", "1 2"],
+    &["chihome", "chart", "a", "--rows", "1-2", "--rows", "1-2"],
     &["chihome", "chart", "a", "--seed", "1"],
     &["chihome", "chart", "--help"],
 ];

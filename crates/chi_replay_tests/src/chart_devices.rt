@@ -1,16 +1,23 @@
 //! Charts from inputs and to outputs that fail, of faulty files, and with too little memory.
 
 use crate::comparison::same;
-use chi_chart::chart;
+use chi_chart::{ChartPart, chart};
 use chi_devices::{MemoryInput, MemoryOutput};
 use chi_script::Fault;
 use linked_list_allocator::LocalHeap;
 use std::alloc::{AllocError, Allocator};
 use std::process::Abort;
 
+/// All of a chart.
+const ALL: ChartPart = ChartPart {
+    line: None,
+    first: 1,
+    last: u64::MAX,
+};
+
 /// A file with a flit in flight and a refusal.
 const FILE: &[u8] =
-    b"node 1 1 1 1 1 4\nissue 0 0 ReadUnique 0 -> ok\n\nload 0 0 0 -> refused 2 WrongState\n";
+    b"# Title\nnode 1 1 1 1 1 4\nissue 0 0 ReadUnique 0 -> other\n# Heading\n\nload 0 0 0 -> refused 2 WrongState\n";
 
 /// How many bytes are written where the input fails after so many reads and the output has so much room, and
 /// the fault.
@@ -22,7 +29,7 @@ fn stops(
 ) -> (usize, Option<Fault>) {
     let mut input = MemoryInput::new(file, good_reads);
     let mut output = MemoryOutput::new(rt.alloc(), room);
-    let fault = chart(rt.alloc(), &mut input, &mut output, None).err();
+    let fault = chart(rt.alloc(), &mut input, &mut output, &ALL).err();
     (output.bytes().len(), fault)
 }
 
@@ -66,7 +73,7 @@ fn a_faulty_file_is_told_and_nothing_written(rt: HostRuntime) {
 fn is_drawn<A: Allocator + Copy>(rt: &(impl Abort + AllocGlobal), alloc: A) -> bool {
     let mut input = MemoryInput::new(FILE, 10);
     let mut output = MemoryOutput::new(rt.alloc(), 100_000);
-    match chart(alloc, &mut input, &mut output, None) {
+    match chart(alloc, &mut input, &mut output, &ALL) {
         Ok(()) => {
             assert!(rt; output.bytes().ends_with(b"</svg>\n"));
             true

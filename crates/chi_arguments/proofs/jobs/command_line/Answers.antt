@@ -11,15 +11,16 @@ returns c =
     let several : IsLine (with_rule (new_app (codes "check")) files_rule) c.in_ok-arg.field-0 = with_one (new_app (codes "check")) files_rule c.new-2.result c.files.result _ (record { words = c.new-2.ensures.app; local = c.new-2.ensures.local }) c.files.ensures.rule c.files.ensures.local c.in_ok-arg.ensures in
     let check : IsLine check_line c.in_ok-check.check = with_one _ _ c.in_ok-arg.field-0 c.flag.result _ several c.flag.ensures.rule c.flag.ensures.local c.in_ok-check.ensures in
     let path : IsLine (with_rule (new_app (codes "chart")) file_rule) c.in_ok-arg-2.field-0 = with_one (new_app (codes "chart")) file_rule c.new-3.result c.file-2.result _ (record { words = c.new-3.ensures.app; local = c.new-3.ensures.local }) c.file-2.ensures.rule c.file-2.ensures.local c.in_ok-arg-2.ensures in
-    let chart : IsLine chart_line c.in_ok-chart.chart = with_one _ _ c.in_ok-arg-2.field-0 c.option.result _ path c.option.ensures.rule c.option.ensures.local c.in_ok-chart.ensures in
-    let trace : IsLine (with_rule (new_app (codes "explain")) file_rule) c.in_ok-arg-3.field-0 = with_one (new_app (codes "explain")) file_rule c.new-4.result c.file-3.result _ (record { words = c.new-4.ensures.app; local = c.new-4.ensures.local }) c.file-3.ensures.rule c.file-3.ensures.local c.in_ok-arg-3.ensures in
-    let types : IsLine (with_rule (with_rule (new_app (codes "explain")) file_rule) (option_rule (codes "types"))) c.in_ok-arg-4.field-0 = with_one _ _ c.in_ok-arg-3.field-0 c.option-2.result _ trace c.option-2.ensures.rule c.option-2.ensures.local c.in_ok-arg-4.ensures in
-    let stores : IsLine (with_rule (with_rule (with_rule (new_app (codes "explain")) file_rule) (option_rule (codes "types"))) (option_rule (codes "stores"))) c.in_ok-arg-5.field-0 = with_one _ _ c.in_ok-arg-4.field-0 c.option-3.result _ types c.option-3.ensures.rule c.option-3.ensures.local c.in_ok-arg-5.ensures in
-    let early : IsLine (with_rule (with_rule (with_rule (with_rule (new_app (codes "explain")) file_rule) (option_rule (codes "types"))) (option_rule (codes "stores"))) (flag_rule (codes "early-grants"))) c.in_ok-arg-6.field-0 = with_one _ _ c.in_ok-arg-5.field-0 c.flag-2.result _ stores c.flag-2.ensures.rule c.flag-2.ensures.local c.in_ok-arg-6.ensures in
-    let explain : IsLine explain_line c.in_ok-explain.explain = with_one _ _ c.in_ok-arg-6.field-0 c.option-4.result _ early c.option-4.ensures.rule c.option-4.ensures.local c.in_ok-explain.ensures in
-    let first : IsLine (with_rule (new_app (codes "storm")) file_rule) c.in_ok-arg-7.field-0 = with_one (new_app (codes "storm")) file_rule c.new-5.result c.file-4.result _ (record { words = c.new-5.ensures.app; local = c.new-5.ensures.local }) c.file-4.ensures.rule c.file-4.ensures.local c.in_ok-arg-7.ensures in
-    let second : IsLine (with_rule (with_rule (new_app (codes "storm")) file_rule) (option_rule (codes "seed"))) c.in_ok-arg-8.field-0 = with_one _ _ c.in_ok-arg-7.field-0 c.option-5.result _ first c.option-5.ensures.rule c.option-5.ensures.local c.in_ok-arg-8.ensures in
-    let storm : IsLine storm_line c.in_ok-storm.storm = with_one _ _ c.in_ok-arg-8.field-0 c.option-6.result _ second c.option-6.ensures.rule c.option-6.ensures.local c.in_ok-storm.ensures in
+    let alone : IsLine (with_rule (with_rule (new_app (codes "chart")) file_rule) (option_rule (codes "line"))) c.in_ok-arg-3.field-0 = with_one _ _ c.in_ok-arg-2.field-0 c.option.result _ path c.option.ensures.rule c.option.ensures.local c.in_ok-arg-3.ensures in
+    let chart : IsLine chart_line c.in_ok-chart.chart = with_one _ _ c.in_ok-arg-3.field-0 c.option-2.result _ alone c.option-2.ensures.rule c.option-2.ensures.local c.in_ok-chart.ensures in
+    let trace : IsLine (with_rule (new_app (codes "explain")) file_rule) c.in_ok-arg-4.field-0 = with_one (new_app (codes "explain")) file_rule c.new-4.result c.file-3.result _ (record { words = c.new-4.ensures.app; local = c.new-4.ensures.local }) c.file-3.ensures.rule c.file-3.ensures.local c.in_ok-arg-4.ensures in
+    let types : IsLine (with_rule (with_rule (new_app (codes "explain")) file_rule) (option_rule (codes "types"))) c.in_ok-arg-5.field-0 = with_one _ _ c.in_ok-arg-4.field-0 c.option-3.result _ trace c.option-3.ensures.rule c.option-3.ensures.local c.in_ok-arg-5.ensures in
+    let stores : IsLine (with_rule (with_rule (with_rule (new_app (codes "explain")) file_rule) (option_rule (codes "types"))) (option_rule (codes "stores"))) c.in_ok-arg-6.field-0 = with_one _ _ c.in_ok-arg-5.field-0 c.option-4.result _ types c.option-4.ensures.rule c.option-4.ensures.local c.in_ok-arg-6.ensures in
+    let early : IsLine (with_rule (with_rule (with_rule (with_rule (new_app (codes "explain")) file_rule) (option_rule (codes "types"))) (option_rule (codes "stores"))) (flag_rule (codes "early-grants"))) c.in_ok-arg-7.field-0 = with_one _ _ c.in_ok-arg-6.field-0 c.flag-2.result _ stores c.flag-2.ensures.rule c.flag-2.ensures.local c.in_ok-arg-7.ensures in
+    let explain : IsLine explain_line c.in_ok-explain.explain = with_one _ _ c.in_ok-arg-7.field-0 c.option-5.result _ early c.option-5.ensures.rule c.option-5.ensures.local c.in_ok-explain.ensures in
+    let first : IsLine (with_rule (new_app (codes "storm")) file_rule) c.in_ok-arg-8.field-0 = with_one (new_app (codes "storm")) file_rule c.new-5.result c.file-4.result _ (record { words = c.new-5.ensures.app; local = c.new-5.ensures.local }) c.file-4.ensures.rule c.file-4.ensures.local c.in_ok-arg-8.ensures in
+    let second : IsLine (with_rule (with_rule (new_app (codes "storm")) file_rule) (option_rule (codes "seed"))) c.in_ok-arg-9.field-0 = with_one _ _ c.in_ok-arg-8.field-0 c.option-6.result _ first c.option-6.ensures.rule c.option-6.ensures.local c.in_ok-arg-9.ensures in
+    let storm : IsLine storm_line c.in_ok-storm.storm = with_one _ _ c.in_ok-arg-9.field-0 c.option-7.result _ second c.option-7.ensures.rule c.option-7.ensures.local c.in_ok-storm.ensures in
     let above : app_of c.subcommand_required.result ≡ program_line = search (rules, c.subcommand_required.ensures) in
     let one : app_of c.in_ok-subcommand.field-0 ≡ with_subcommand program_line replay_line.top = with_line program_line replay_line c.subcommand_required.result c.in_ok-replay.replay _ above replay c.in_ok-subcommand.ensures in
     let two : app_of c.in_ok-subcommand-2.field-0 ≡ with_subcommand (with_subcommand program_line replay_line.top) check_line.top = with_line _ check_line c.in_ok-subcommand.field-0 c.in_ok-check.check _ one check c.in_ok-subcommand-2.ensures in

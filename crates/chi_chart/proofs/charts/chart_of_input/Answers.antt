@@ -6,7 +6,7 @@ use Rattle.chi_chart.proofs.Enough.{chart_of_known}
 use Rattle.chi_chart.proofs.charts.chart_of_input.Goals as goal
 
 pub returns-clause-ok : goal.returns-clause-ok
-returns-clause-ok g c = chart_of_known (g.I.Input.left c.args.input.now) c.in_ok-bytes.bytes.items c.args.only (λ text. text.items) c.chart_of.result c.in_ok-bytes.ensures.front (rw (← c.deref.ensures.value) c.chart_of.ensures.ok)
+returns-clause-ok g c = chart_of_known (g.I.Input.left c.args.input.now) c.in_ok-bytes.bytes.items c.args.part.now (λ text. text.items) c.chart_of.result c.in_ok-bytes.ensures.front (rw (← c.deref.ensures.value) c.chart_of.ensures.ok)
 
 pub returns-clause-err : goal.returns-clause-err
 returns-clause-err g c = fault_of_known check_file_of front_enough (g.I.Input.left c.args.input.now) _ _ c.in_ok-bytes.bytes.items c.chart_of.result c.in_ok-bytes.ensures.front (rw (← c.deref.ensures.value) c.chart_of.ensures.err)
