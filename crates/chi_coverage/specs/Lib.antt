@@ -6,3 +6,4 @@ pub mod Said
 pub mod Steps
 pub mod Coverage
 pub mod Counts
+pub mod Apart

@@ -7,6 +7,7 @@ mod answers;
 mod cells;
 mod counts;
 mod coverage;
+mod laws;
 mod lists;
 mod places;
 mod runs;
@@ -14,3 +15,4 @@ mod scenes;
 mod tables;
 
 pub use coverage::{CoverReport, cover};
+pub use laws::cells_are_apart;
