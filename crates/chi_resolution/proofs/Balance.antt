@@ -86,3 +86,8 @@ booked_balanced early booking accounts is all = put_balanced early booking.held.
 pub booked_all_balanced : (early : Bool) (books : Option Booking) (accounts : List CreditLedger) → IfSome books (IsKept early) → All (IsBalanced early) accounts → All (IsBalanced early) (booked_all books accounts)
 booked_all_balanced early None accounts is all = all
 booked_all_balanced early (Some booking) accounts is all = booked_balanced early booking accounts is all
+
+-- accounts that are known to be these
+pub balanced_where : {R E : Type 0} (early : Bool) (result : Result R E) (of : R → List CreditLedger) (accounts : List CreditLedger) → IfOk result (λ r. of r ≡ accounts) → All (IsBalanced early) accounts → IfOk result (λ r. All (IsBalanced early) (of r))
+balanced_where early (Ok r) of accounts same all = subst (All (IsBalanced early)) (sym same) all
+balanced_where early (Err e) of accounts same all = tt

@@ -14,12 +14,10 @@ use Rattle.chi_trace.specs.declared.fields.Resp.{Resp}
 use Rattle.chi_trace.specs.declared.flits.Seen.{Seen}
 use Rattle.chi_trace.specs.declared.opcodes.Opcode.{Opcode}
 use Rattle.chi_trace.specs.declared.opcodes.Opcode.TheVariants as opcodes
-use Rattle.chi_resolution.specs.declared.beats.FoundData.{FoundData}
 use Rattle.chi_resolution.specs.declared.beats.OpenData.{OpenData}
 use Rattle.chi_resolution.specs.declared.changes.Change.{Change}
 use Rattle.chi_resolution.specs.declared.changes.Change.TheVariants.{Flit, Credit, Beat}
 use Rattle.chi_resolution.specs.declared.changes.LineFlit.{LineFlit}
-use Rattle.chi_resolution.specs.declared.ids.Found.{Found}
 use Rattle.chi_resolution.specs.declared.ids.OpenId.{OpenId}
 use Rattle.chi_resolution.specs.declared.ids.OpenKey.{OpenKey}
 use Rattle.chi_resolution.specs.declared.ids.OpenKey.TheVariants as keys
@@ -56,7 +54,7 @@ ChangeKept early (Beat further) = Unit {0}
 abbrev pub TableKept : Bool → Open → Type 0
 TableKept early table = All (IsBalanced early) table.accounts
 
-credit_kept : (early : Bool) (ends : Ends) (pcrd : PcrdType) (id : OpenId) (flit : Observed) (retried : Found) (table : Open) → TableKept early table
+credit_kept : (early : Bool) (ends : Ends) (pcrd : PcrdType) (id : OpenId) (flit : Observed) (retried : OpenId) (table : Open) → TableKept early table
     → IfOk (with_credit ends pcrd id flit retried (booking_of table ends.requester pcrd events.Resent)) (FlitKept early)
 credit_kept early ends pcrd id flit retried table all =
     if_not _ _ _ (FlitKept early) (λ some. more_resent early _ (held_balanced early ends.requester pcrd table.accounts all) some)
@@ -66,7 +64,7 @@ unfolding sent_again
 again_kept early table ends seen id flit all =
     each (needed_pcrd seen) _ (FlitKept early) (λ pcrd.
     each (ok_or (id_of (keys.Retried ends.requester id.line) table.ids) (reasons.NotOpen (keys.Retried ends.requester id.line))) _ (FlitKept early) (λ retried.
-    each (right_type pcrd retried.id.waits_for) _ (FlitKept early) (λ type.
+    each (right_type pcrd retried.waits_for) _ (FlitKept early) (λ type.
     credit_kept early ends type id flit retried table all)))
 
 request_by_kept : (early allow : Bool) (table : Open) (ends : Ends) (seen : Seen) (kind : Kind) (id : OpenId) (flit : Observed) → TableKept early table → IfOk (request_by allow table ends seen kind id flit) (FlitKept early)
@@ -95,9 +93,9 @@ retry_kept early options table ends seen all =
     each (needed_txn seen) _ (FlitKept early) (λ txn.
     each (needed_pcrd seen) _ (FlitKept early) (λ pcrd.
     each (freed table (keys.Request ends.requester txn) seen) _ (FlitKept early) (λ found.
-    each (ok_or found.id.may_retry (reasons.NotRetryable ends.requester txn)) _ (FlitKept early) (λ kind.
+    each (ok_or found.may_retry (reasons.NotRetryable ends.requester txn)) _ (FlitKept early) (λ kind.
     each (right_type pcrd (wanted_of options.types kind)) _ (FlitKept early) (λ type.
-    each (new_id table (keys.Retried ends.requester found.id.line)) _ (FlitKept early) (λ key.
+    each (new_id table (keys.Retried ends.requester found.line)) _ (FlitKept early) (λ key.
     more_retried early _ (held_balanced early ends.requester type table.accounts all)))))))
 
 respond_kept : (early : Bool) (table : Open) (ends : Ends) (seen : Seen) (response : RspDown) → IfOk (responded table ends seen response) (FlitKept early)
@@ -136,19 +134,19 @@ answer_kept early table ends seen =
     each (ok_or (answer_form resp) (reasons.Form resp)) _ (FlitKept early) (λ response.
     reply_kept early table ends seen (keys.Snoop ends.requester txn) response)))
 
-begun_kept : (early whole : Bool) (table : Open) (found : Found) (begun : OpenData) (flit : LineFlit) → FlitKept early flit → FlitKept early (begun_or_freed whole table found begun flit)
+begun_kept : (early whole : Bool) (table : Open) (found : OpenId) (begun : OpenData) (flit : LineFlit) → FlitKept early flit → FlitKept early (begun_or_freed whole table found begun flit)
 begun_kept early true table found begun flit is = is
 begun_kept early false table found begun flit is = is
 
-first_kept : (early : Bool) (table : Open) (ends : Ends) (seen : Seen) (found : Found) (words : List (Option ℕ)) → IfOk (first_beat table ends seen found words) (FlitKept early)
+first_kept : (early : Bool) (table : Open) (ends : Ends) (seen : Seen) (found : OpenId) (words : List (Option ℕ)) → IfOk (first_beat table ends seen found words) (FlitKept early)
 unfolding first_beat
 first_kept early table ends seen found words =
     each (needed_resp seen) _ (FlitKept early) (λ resp.
     each (ok_or (message_of seen.opcode resp (filled words)) (reasons.Form resp)) _ (FlitKept early) (λ message.
-    each (opened table ends seen found.id.line seen.opcode) _ (FlitKept early) (λ opens.
+    each (opened table ends seen found.line seen.opcode) _ (FlitKept early) (λ opens.
     begun_kept early (is_whole words) table found _ _ tt)))
 
-beat_by_kept : (early : Bool) (table : Open) (ends : Ends) (seen : Seen) (found : Found) (words : List (Option ℕ)) (begun : Option FoundData) → IfOk (beat_by table ends seen found words begun) (ChangeKept early)
+beat_by_kept : (early : Bool) (table : Open) (ends : Ends) (seen : Seen) (found : OpenId) (words : List (Option ℕ)) (begun : Option OpenData) → IfOk (beat_by table ends seen found words begun) (ChangeKept early)
 beat_by_kept early table ends seen found words None = each_of (first_beat table ends seen found words) _ (FlitKept early) (ChangeKept early) (first_kept early table ends seen found words) (λ flit is. is)
 beat_by_kept early table ends seen found words (Some begun) = each (later_beat ends seen found begun words) _ (ChangeKept early) (λ further. tt)
 
@@ -208,7 +206,7 @@ by_opcode opcodes.CopyBackWrData options table ends seen all = each (buffer_of s
 by_opcode opcodes.Load options table ends seen all = as_flit options.early_grants _ (access_kept options.early_grants table ends seen)
 by_opcode opcodes.Store options table ends seen all = as_flit options.early_grants _ (access_kept options.early_grants table ends seen)
 
-unless_lacking_kept : (early : Bool) (flit : LineFlit) (begun : Option FoundData) → FlitKept early flit → IfOk (unless_lacking flit begun) (ChangeKept early)
+unless_lacking_kept : (early : Bool) (flit : LineFlit) (begun : Option OpenData) → FlitKept early flit → IfOk (unless_lacking flit begun) (ChangeKept early)
 unless_lacking_kept early flit None is = is
 unless_lacking_kept early flit (Some begun) is = tt
 

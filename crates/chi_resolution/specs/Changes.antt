@@ -1,7 +1,6 @@
 -- What each flit does to what is open: which id it names and frees, which it opens, and what it books (docs/TRACES.md,
 -- "Nodes, ids and credits").
 use Rattle.std.specs.Prelude.{ℕ, ◌+◌, ◌/◌, ◌%◌, ◌==◌, ◌&&◌, nat_lt, Bool, true, false, List, Option, Some, None, Result, Ok, Err, if◌then◌else◌, length, ok_or}
-use Rattle.std.specs.Option.{option_map}
 use Rattle.chi_flit.specs.declared.kind.Kind.{Kind}
 use Rattle.chi_flit.specs.declared.message.Msg.{Msg}
 use Rattle.chi_flit.specs.declared.message.Msg.TheVariants as messages
@@ -18,14 +17,13 @@ use Rattle.chi_trace.specs.declared.fields.Resp.{Resp}
 use Rattle.chi_trace.specs.declared.flits.Seen.{Seen}
 use Rattle.chi_trace.specs.declared.opcodes.Opcode.{Opcode}
 use Rattle.chi_trace.specs.declared.opcodes.Opcode.TheVariants as opcodes
-use Rattle.chi_resolution.specs.declared.beats.FoundData.{FoundData}
 use Rattle.chi_resolution.specs.declared.beats.OpenData.{OpenData}
 use Rattle.chi_resolution.specs.declared.changes.Change.{Change}
 use Rattle.chi_resolution.specs.declared.changes.Change.TheVariants.{Flit, Credit, Beat}
 use Rattle.chi_resolution.specs.declared.changes.Further.{Further}
 use Rattle.chi_resolution.specs.declared.changes.LineFlit.{LineFlit}
 use Rattle.chi_resolution.specs.declared.changes.Tables.{Tables}
-use Rattle.chi_resolution.specs.declared.ids.Found.{Found}
+use Rattle.chi_resolution.specs.declared.ids.KeyNumbers.{KeyNumbers}
 use Rattle.chi_resolution.specs.declared.ids.OpenId.{OpenId}
 use Rattle.chi_resolution.specs.declared.ids.OpenKey.{OpenKey}
 use Rattle.chi_resolution.specs.declared.ids.OpenKey.TheVariants as keys
@@ -50,15 +48,15 @@ use Rattle.chi_resolution.specs.Reasons.{◌>>=◌, needed_address, needed_allow
 
 -- what is open, the flits that are resolved, and the loads and stores that wait for a CompAck
 pub record Open : Type 0 where
-  pub ids : List OpenId
-  pub unfinished : List OpenData
+  pub ids : List (KeyNumbers × OpenId)
+  pub unfinished : List (KeyNumbers × OpenData)
   pub accounts : List CreditLedger
   pub flits : List Resolved
   pub waiting : List Resolved
 
 -- what references to the tables point to
-abbrev pub table_of : Tables → Open
-table_of tables = record { ids = tables.ids.now; unfinished = tables.unfinished.now; accounts = tables.accounts.now; flits = tables.flits.now; waiting = tables.waiting.now }
+abbrev pub table_of : {Y : Type 0} → Tables Y → Open
+table_of tables = record { ids = tables.ids.now.entries; unfinished = tables.unfinished.now.entries; accounts = tables.accounts.now; flits = tables.flits.now; waiting = tables.waiting.now }
 
 -- a flit that neither frees, opens nor books
 abbrev pub plain_flit : CacheLine → Observed → LineFlit
@@ -68,7 +66,7 @@ abbrev pub sent : Ends → Msg → Observed
 sent ends message = observed.Flit (record { agent = ends.agent; message = message })
 
 -- an id is opened that isn't in use
-abbrev pub unless_used : OpenKey → Option Found → Result OpenKey IdReason
+abbrev pub unless_used : OpenKey → Option OpenId → Result OpenKey IdReason
 unless_used key None = Ok key
 unless_used key (Some found) = Err (reasons.InUse key)
 
@@ -76,20 +74,20 @@ abbrev pub new_id : Open → OpenKey → Result OpenKey IdReason
 new_id table key = unless_used key (id_of key table.ids)
 
 -- an address, where a flit has one, is in the line of its id
-abbrev pub in_line : Option Address → Found → Result Found IdReason
+abbrev pub in_line : Option Address → OpenId → Result OpenId IdReason
 in_line None found = Ok found
-in_line (Some address) found = if (line_of address).0 == found.id.line.0 then Ok found else Err (reasons.WrongAddress address found.id.line)
+in_line (Some address) found = if (line_of address).0 == found.line.0 then Ok found else Err (reasons.WrongAddress address found.line)
 
 -- the open id that a flit names
-abbrev pub named : Open → OpenKey → Seen → Result Found IdReason
+abbrev pub named : Open → OpenKey → Seen → Result OpenId IdReason
 named table key seen = ok_or (id_of key table.ids) (reasons.NotOpen key) >>= in_line seen.address
 
 -- the id that a flit without data frees: no data that frees it lacks words
-abbrev pub unless_begun : OpenKey → Found → Option FoundData → Result Found IdReason
+abbrev pub unless_begun : OpenKey → OpenId → Option OpenData → Result OpenId IdReason
 unless_begun key found None = Ok found
 unless_begun key found (Some begun) = Err (reasons.Unfinished key)
 
-abbrev pub freed : Open → OpenKey → Seen → Result Found IdReason
+abbrev pub freed : Open → OpenKey → Seen → Result OpenId IdReason
 freed table key seen = named table key seen >>= λ found. unless_begun key found (data_of key table.unfinished)
 
 -- a credit is of the type that is wanted, if that isn't open
@@ -98,17 +96,17 @@ right_type pcrd None = Ok pcrd
 right_type pcrd (Some wanted) = if wanted.0 == pcrd.0 then Ok pcrd else Err (reasons.OtherType pcrd wanted)
 
 -- a first attempt opens an id; it shows that a request to the line that was retried is cancelled
-abbrev pub attempted : Open → Ends → Kind → OpenId → Observed → LineFlit
-attempted table ends kind id flit = record (plain_flit id.line flit) {
-  frees = option_map (λ found. found.place) (id_of (keys.Retried ends.requester id.line) table.ids);
+abbrev pub attempted : Ends → Kind → OpenId → Observed → LineFlit
+attempted ends kind id flit = record (plain_flit id.line flit) {
+  frees = Some (keys.Retried ends.requester id.line);
   opens = Some (record id { may_retry = Some kind });
 }
 
 -- a request without AllowRetry takes a credit: G - S - B > 0, in the type that the RetryAck of the node to the line named
-abbrev pub with_credit : Ends → PcrdType → OpenId → Observed → Found → Booking → Result LineFlit IdReason
+abbrev pub with_credit : Ends → PcrdType → OpenId → Observed → OpenId → Booking → Result LineFlit IdReason
 with_credit ends pcrd id flit retried booking =
     if unused_of booking.held.account == 0 then Err (reasons.NoCredit ends.requester pcrd) else Ok (record (plain_flit id.line flit) {
-      frees = Some retried.place;
+      frees = Some retried.key;
       opens = Some id;
       books = Some booking;
     })
@@ -120,11 +118,11 @@ unfoldable pub sent_again : Open → Ends → Seen → OpenId → Observed → R
 sent_again table ends seen id flit = do
   pcrd ← needed_pcrd seen
   retried ← ok_or (id_of (keys.Retried ends.requester id.line) table.ids) (reasons.NotOpen (keys.Retried ends.requester id.line))
-  type ← right_type pcrd retried.id.waits_for
+  type ← right_type pcrd retried.waits_for
   with_credit ends type id flit retried (booking_of table ends.requester type events.Resent)
 
 abbrev pub request_by : Bool → Open → Ends → Seen → Kind → OpenId → Observed → Result LineFlit IdReason
-request_by true table ends seen kind id flit = Ok (attempted table ends kind id flit)
+request_by true table ends seen kind id flit = Ok (attempted ends kind id flit)
 request_by false table ends seen kind id flit = sent_again table ends seen id flit
 
 -- a request opens its id
@@ -134,7 +132,7 @@ requested table ends seen kind = do
   txn ← needed_txn seen
   allow ← needed_allow_retry seen
   key ← new_id table (keys.Request ends.requester txn)
-  request_by allow table ends seen kind (plain_id key (line_of address))
+  request_by allow table ends seen kind (plain_id key (line_of address) (length table.flits))
       (sent ends (messages.Req (record { kind = kind; slot = record { 0 = 0 }; allow_retry = allow })))
 
 -- a snoop opens its id
@@ -143,7 +141,7 @@ snooped table ends seen snoop = do
   address ← needed_address seen
   txn ← needed_txn seen
   key ← new_id table (keys.Snoop ends.requester txn)
-  Ok (record (plain_flit (line_of address) (sent ends (messages.Snp snoop))) { opens = Some (plain_id key (line_of address)) })
+  Ok (record (plain_flit (line_of address) (sent ends (messages.Snp snoop))) { opens = Some (plain_id key (line_of address) (length table.flits)) })
 
 -- a RetryAck frees a first attempt, which then waits for a credit
 unfoldable pub retried : Options → Open → Ends → Seen → Result LineFlit IdReason
@@ -151,12 +149,12 @@ retried options table ends seen = do
   txn ← needed_txn seen
   pcrd ← needed_pcrd seen
   found ← freed table (keys.Request ends.requester txn) seen
-  kind ← ok_or found.id.may_retry (reasons.NotRetryable ends.requester txn)
+  kind ← ok_or found.may_retry (reasons.NotRetryable ends.requester txn)
   type ← right_type pcrd (wanted_of options.types kind)
-  key ← new_id table (keys.Retried ends.requester found.id.line)
-  Ok (record (plain_flit found.id.line (sent ends (messages.RspDown (downs.RetryAck (booked_type options.types kind))))) {
-    frees = Some found.place;
-    opens = Some (record (plain_id key found.id.line) { waits_for = Some type });
+  key ← new_id table (keys.Retried ends.requester found.line)
+  Ok (record (plain_flit found.line (sent ends (messages.RspDown (downs.RetryAck (booked_type options.types kind))))) {
+    frees = Some found.key;
+    opens = Some (record (plain_id key found.line (length table.flits)) { waits_for = Some type });
     books = Some (booking_of table ends.requester type events.Retried);
   })
 
@@ -172,9 +170,9 @@ responded table ends seen response = do
   dbid ← needed_dbid seen
   found ← freed table (keys.Request ends.requester txn) seen
   key ← new_id table (keys.Buffer ends.requester dbid)
-  Ok (record (plain_flit found.id.line (sent ends (messages.RspDown response))) {
-    frees = Some found.place;
-    opens = Some (record (plain_id key found.id.line) { awaits_ack = is_acknowledged response });
+  Ok (record (plain_flit found.line (sent ends (messages.RspDown response))) {
+    frees = Some found.key;
+    opens = Some (record (plain_id key found.line (length table.flits)) { awaits_ack = is_acknowledged response });
   })
 
 -- Comp_I frees a request
@@ -182,7 +180,7 @@ abbrev pub request_completion : Open → Ends → Seen → RspDown → Result Li
 request_completion table ends seen response = do
   txn ← needed_txn seen
   found ← freed table (keys.Request ends.requester txn) seen
-  Ok (record (plain_flit found.id.line (sent ends (messages.RspDown response))) { frees = Some found.place })
+  Ok (record (plain_flit found.line (sent ends (messages.RspDown response))) { frees = Some found.key })
 
 abbrev pub completed_with : Open → Ends → Seen → Resp → Option RspDown → Result LineFlit IdReason
 completed_with table ends seen resp None = Err (reasons.Form resp)
@@ -196,7 +194,7 @@ completed table ends seen = needed_resp seen >>= λ resp. completed_with table e
 unfoldable pub replied : Open → Ends → Seen → OpenKey → RspUp → Result LineFlit IdReason
 replied table ends seen key response = do
   found ← freed table key seen
-  Ok (record (plain_flit found.id.line (sent ends (messages.RspUp response))) { frees = Some found.place })
+  Ok (record (plain_flit found.line (sent ends (messages.RspUp response))) { frees = Some found.key })
 
 unfoldable pub answered : Open → Ends → Seen → Result LineFlit IdReason
 answered table ends seen = do
@@ -210,22 +208,22 @@ abbrev pub opened : Open → Ends → Seen → CacheLine → Opcode → Result (
 opened table ends seen line opcodes.CompData = do
   dbid ← needed_dbid seen
   key ← new_id table (keys.Buffer ends.requester dbid)
-  Ok (Some (record (plain_id key line) { awaits_ack = true }))
+  Ok (Some (record (plain_id key line (length table.flits)) { awaits_ack = true }))
 opened table ends seen line other = Ok None
 
 -- data frees its id, once no word lacks
-abbrev pub begun_or_freed : Bool → Open → Found → OpenData → LineFlit → LineFlit
-begun_or_freed true table found begun flit = record flit { frees = Some found.place }
+abbrev pub begun_or_freed : Bool → Open → OpenId → OpenData → LineFlit → LineFlit
+begun_or_freed true table found begun flit = record flit { frees = Some found.key }
 begun_or_freed false table found begun flit = record flit { begins = Some begun }
 
-unfoldable pub first_beat : Open → Ends → Seen → Found → List (Option ℕ) → Result LineFlit IdReason
+unfoldable pub first_beat : Open → Ends → Seen → OpenId → List (Option ℕ) → Result LineFlit IdReason
 first_beat table ends seen found words = do
   resp ← needed_resp seen
   message ← ok_or (message_of seen.opcode resp (filled words)) (reasons.Form resp)
-  opens ← opened table ends seen found.id.line seen.opcode
+  opens ← opened table ends seen found.line seen.opcode
   Ok (begun_or_freed (is_whole words) table found
-      (record { key = found.id.key; line = found.id.line; place = length table.flits; resp = resp; dbid = seen.dbid; words = words })
-      (record (plain_flit found.id.line (sent ends message)) { opens = opens }))
+      (record { key = found.key; line = found.line; place = length table.flits; resp = resp; dbid = seen.dbid; words = words })
+      (record (plain_flit found.line (sent ends message)) { opens = opens }))
 
 -- a further beat has the RESP and the DBID of the first
 abbrev pub is_same_dbid : Option DbId → Option DbId → Bool
@@ -233,9 +231,9 @@ is_same_dbid None None = true
 is_same_dbid (Some dbid) (Some other) = dbid.0 == other.0
 is_same_dbid one other = false
 
-abbrev pub place_if : Bool → ℕ → Option ℕ
-place_if true place = Some place
-place_if false place = None
+abbrev pub key_if : Bool → OpenKey → Option OpenKey
+key_if true key = Some key
+key_if false key = None
 
 abbrev pub is_form : OpenData → Option Resp → Option DbId → Bool
 is_form begun None dbid = false
@@ -244,18 +242,17 @@ is_form begun (Some resp) dbid = is_same_resp resp begun.resp && is_same_dbid db
 abbrev pub joined_as : OpenData → Seen → List (Option ℕ) → Result (List (Option ℕ)) IdReason
 joined_as begun seen more = if is_form begun seen.resp seen.dbid then joined begun.key begun.words more else Err (reasons.OtherBeat begun.key)
 
-unfoldable pub later_beat : Ends → Seen → Found → FoundData → List (Option ℕ) → Result Further IdReason
+unfoldable pub later_beat : Ends → Seen → OpenId → OpenData → List (Option ℕ) → Result Further IdReason
 later_beat ends seen found begun more = do
-  words ← joined_as begun.so_far seen more
-  message ← ok_or (message_of seen.opcode begun.so_far.resp (filled words)) (reasons.Form begun.so_far.resp)
+  words ← joined_as begun seen more
+  message ← ok_or (message_of seen.opcode begun.resp (filled words)) (reasons.Form begun.resp)
   Ok (record {
-    place = begun.place;
-    joined = record begun.so_far { words = words };
+    joined = record begun { words = words };
     flit = sent ends message;
-    frees = place_if (is_whole words) found.place;
+    frees = key_if (is_whole words) found.key;
   })
 
-abbrev pub beat_by : Open → Ends → Seen → Found → List (Option ℕ) → Option FoundData → Result Change IdReason
+abbrev pub beat_by : Open → Ends → Seen → OpenId → List (Option ℕ) → Option OpenData → Result Change IdReason
 beat_by table ends seen found words None = first_beat table ends seen found words >>= λ flit. Ok (Flit flit)
 beat_by table ends seen found words (Some begun) = later_beat ends seen found begun words >>= λ further. Ok (Beat further)
 
@@ -328,9 +325,9 @@ change_by opcodes.Load options table ends seen = flit_change (access_of table en
 change_by opcodes.Store options table ends seen = flit_change (access_of table ends seen)
 
 -- the home sends a flit only once it has all words of the data that comes before it
-abbrev pub unless_lacking : LineFlit → Option FoundData → Result Change IdReason
+abbrev pub unless_lacking : LineFlit → Option OpenData → Result Change IdReason
 unless_lacking flit None = Ok (Flit flit)
-unless_lacking flit (Some begun) = Err (reasons.Lacking begun.so_far.key)
+unless_lacking flit (Some begun) = Err (reasons.Lacking begun.key)
 
 abbrev pub once_received : Open → Opcode → LineFlit → Result Change IdReason
 once_received table opcode flit = unless_lacking flit (data_before opcode flit.line table.unfinished)

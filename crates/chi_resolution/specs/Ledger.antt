@@ -2,12 +2,14 @@
 -- returned (B) (docs/TRACES.md, "Nodes, ids and credits").
 use Rattle.std.specs.Prelude.{◌≡◌, ℕ, ◌+◌, ◌-◌, ◌≤◌, ◌==◌, ◌&&◌, Bool, true, false, List, [], ◌∷◌, ◌++◌, Option, Some, None, count_by, slice_set}
 use Rattle.std.specs.List.{position, slice_get}
+use Rattle.std.specs.Map.{values_of}
 use Rattle.chi_flit.specs.Credit.{credit_number, credit_type_of}
 use Rattle.chi_flit.specs.declared.credit.CreditType.{CreditType}
 use Rattle.chi_flit.specs.declared.credit.Profile.TheVariants as profiles
 use Rattle.chi_flit.specs.declared.kind.Kind.{Kind}
 use Rattle.chi_trace.specs.declared.fields.NodeId.{NodeId}
 use Rattle.chi_trace.specs.declared.fields.PcrdType.{PcrdType}
+use Rattle.chi_resolution.specs.declared.ids.KeyNumbers.{KeyNumbers}
 use Rattle.chi_resolution.specs.declared.ids.OpenId.{OpenId}
 use Rattle.chi_resolution.specs.declared.ids.OpenKey.{OpenKey}
 use Rattle.chi_resolution.specs.declared.ids.OpenKey.TheVariants.{Request}
@@ -47,8 +49,8 @@ abbrev pub is_attempt : Types → NodeId → PcrdType → OpenId → Bool
 is_attempt types node pcrd id = attempt_of types node pcrd id.key id.may_retry
 
 -- how many of them are open
-abbrev pub attempts : Types → NodeId → PcrdType → List OpenId → ℕ
-attempts types node pcrd ids = count_by (is_attempt types node pcrd) ids
+abbrev pub attempts : Types → NodeId → PcrdType → List (KeyNumbers × OpenId) → ℕ
+attempts types node pcrd ids = count_by (is_attempt types node pcrd) (values_of ids)
 
 abbrev pub opened_account : NodeId → PcrdType → CreditLedger
 opened_account node pcrd = record { node = node; pcrd = pcrd; retried = 0; granted = 0; resent = 0; returned = 0 }

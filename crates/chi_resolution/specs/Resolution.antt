@@ -1,8 +1,8 @@
 -- What a trace resolves to: each flit is taken with what those before it have left open, up to the first that isn't
 -- allowed (docs/TRACES.md, "Nodes, ids and credits").
 use Rattle.std.specs.Prelude.{ℕ, ◌+◌, ◌==◌, ◌&&◌, not, Bool, true, false, List, [], ◌∷◌, ◌++◌, Option, Some, None, Result, Ok, Err, if◌then◌else◌, is_some, slice_set}
-use Rattle.std.specs.List.{filter, remove, slice_get}
-use Rattle.std.specs.Option.{option_to_list}
+use Rattle.std.specs.List.{filter, slice_get}
+use Rattle.indexmap.specs.IndexMap.{insert_entry, swap_remove_entry}
 use Rattle.chi_trace.specs.declared.fields.NodeId.{NodeId}
 use Rattle.chi_trace.specs.declared.flits.Seen.{Seen}
 use Rattle.chi_resolution.specs.declared.beats.OpenData.{OpenData}
@@ -10,7 +10,9 @@ use Rattle.chi_resolution.specs.declared.changes.Change.{Change}
 use Rattle.chi_resolution.specs.declared.changes.Change.TheVariants.{Flit, Credit, Beat}
 use Rattle.chi_resolution.specs.declared.changes.Further.{Further}
 use Rattle.chi_resolution.specs.declared.changes.LineFlit.{LineFlit}
+use Rattle.chi_resolution.specs.declared.ids.KeyNumbers.{KeyNumbers}
 use Rattle.chi_resolution.specs.declared.ids.OpenId.{OpenId}
+use Rattle.chi_resolution.specs.declared.ids.OpenKey.{OpenKey}
 use Rattle.chi_resolution.specs.declared.ledger.CreditLedger.{CreditLedger}
 use Rattle.chi_explain.specs.declared.observed.Observed.{Observed}
 use Rattle.chi_explain.specs.declared.observed.Observed.TheVariants as observed
@@ -24,7 +26,7 @@ use Rattle.chi_resolution.specs.declared.reasons.IdReason.{IdReason}
 use Rattle.chi_resolution.specs.declared.resolution.Options.{Options}
 use Rattle.chi_resolution.specs.declared.resolution.Allowed.{Allowed}
 use Rattle.chi_resolution.specs.Changes.{Open, change_of}
-use Rattle.chi_resolution.specs.Ids.{without}
+use Rattle.chi_resolution.specs.Ids.{has_numbers_of, is_same_numbers, numbers_of, with_id, without}
 use Rattle.chi_resolution.specs.Ledger.{booked, booked_all}
 use Rattle.chi_resolution.specs.Nodes.{ends_of, with_home, with_requester}
 use Rattle.chi_resolution.specs.Reasons.{◌>>=◌}
@@ -35,7 +37,7 @@ pub record Progress : Type 0 where
   pub requesters : List NodeId
   pub table : Open
 
-abbrev pub progress_of : Option NodeId → List NodeId → List OpenId → List OpenData → List CreditLedger → List Resolved → List Resolved → Progress
+abbrev pub progress_of : Option NodeId → List NodeId → List (KeyNumbers × OpenId) → List (KeyNumbers × OpenData) → List CreditLedger → List Resolved → List Resolved → Progress
 progress_of home requesters ids unfinished accounts flits waiting = record {
   home = home;
   requesters = requesters;
@@ -45,9 +47,14 @@ progress_of home requesters ids unfinished accounts flits waiting = record {
 abbrev pub nothing : Progress
 nothing = progress_of None [] [] [] [] [] []
 
--- the id at a place is free, if one is, and another one open behind the others
-abbrev pub ids_after : Option ℕ → Option OpenId → List OpenId → List OpenId
-ids_after frees opens ids = without frees ids ++ option_to_list opens
+-- the id of a key is free, if one is, and another one open
+abbrev pub ids_after : Option OpenKey → Option OpenId → List (KeyNumbers × OpenId) → List (KeyNumbers × OpenId)
+ids_after frees opens ids = with_id opens (without frees ids)
+
+-- data that lacks words is kept under its key
+abbrev pub with_data : Option OpenData → List (KeyNumbers × OpenData) → List (KeyNumbers × OpenData)
+with_data None unfinished = unfinished
+with_data (Some begun) unfinished = insert_entry is_same_numbers unfinished (numbers_of begun.key) begun
 
 -- a load or a store waits for the CompAck of its requester, behind which it then stands
 abbrev pub is_acknowledged_by : Msg → Bool
@@ -78,15 +85,15 @@ waiting_after at flit waiting = if flit.waits then waiting ++ item_of at flit �
 abbrev pub after_flit : ℕ → LineFlit → Open → Open
 after_flit at flit table = record {
   ids = ids_after flit.frees flit.opens table.ids;
-  unfinished = table.unfinished ++ option_to_list flit.begins;
+  unfinished = with_data flit.begins table.unfinished;
   accounts = booked_all flit.books table.accounts;
   flits = table.flits ++ placed at flit table.waiting;
   waiting = waiting_after at flit table.waiting;
 }
 
 -- data with the words of a further beat; it is finished where it frees its id
-abbrev pub data_after : Further → List OpenData → List OpenData
-data_after further unfinished = if is_some further.frees then remove unfinished further.place else slice_set unfinished further.place further.joined
+abbrev pub data_after : Further → List (KeyNumbers × OpenData) → List (KeyNumbers × OpenData)
+data_after further unfinished = if is_some further.frees then swap_remove_entry (has_numbers_of further.joined.key) unfinished else with_data (Some further.joined) unfinished
 
 -- a flit of data stands at the place of its first beat
 abbrev pub refilled_by : ℕ → Observed → List Resolved → Option Resolved → List Resolved

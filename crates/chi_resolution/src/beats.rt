@@ -1,13 +1,14 @@
 //! Data in more than one beat.
 
-ghost use Rattle.std.specs.Prelude.{◌≡◌, position, slice_get};
-ghost use Rattle.chi_resolution.specs.Beats.{begun_at, completes_data, data_before, data_of, filled, is_before, is_of_key, is_whole, joined, merged_one, waits_for};
+ghost use Rattle.std.specs.Prelude.{◌≡◌, position};
+ghost use Rattle.chi_resolution.specs.Beats.{completes_data, data_at, data_before, data_of, filled, is_before, is_whole, joined, merged_one, waits_for};
 
-use crate::ids::{OpenKey, is_same_key};
+use crate::ids::{KeyTable, OpenKey, numbers_of};
 use crate::lines::CacheLine;
 use crate::reasons::IdReason;
 use chi_flit::{Data, WordNo};
 use chi_trace::{DbId, Opcode, Resp};
+use std::alloc::Allocator;
 
 /// The words of a line that a beat, or some beats, have.
 pub(crate) type BeatWords = [Option<u64>; 8];
@@ -28,46 +29,15 @@ pub struct OpenData {
     pub words: [Option<u64>; 8],
 }
 
-/// Unfinished data, and its place among that which is unfinished.
-#[derive(Clone, Copy)]
-pub(crate) struct FoundData {
-    pub place: usize,
-    pub so_far: OpenData,
-}
-
-/// Whether it is the data that frees the id.
-fn is_of(begun: &OpenData, key: OpenKey) -> bool
-    ensures { result ≡ is_of_key key begun.now }
-{
-    is_same_key(begun.key, key)
-}
-
-/// The place of the unfinished data that frees an id.
-fn place_of(unfinished: &[OpenData], key: OpenKey) -> Option<usize>
-    ensures { result ≡ position (is_of_key key) unfinished.now }
-{
-    unfinished.iter().position(|begun| is_of(begun, key))
-}
-
-/// The unfinished data at a place.
-fn begun_at(unfinished: &[OpenData], place: usize) -> Option<FoundData>
-    ensures { result ≡ begun_at place (slice_get unfinished.now place) }
-{
-    match unfinished.get(place) {
-        Some(so_far) => Some(FoundData {
-            place,
-            so_far: *so_far,
-        }),
-        None => None,
-    }
-}
-
 /// The unfinished data that frees an id.
-pub(crate) fn find_data(unfinished: &[OpenData], key: OpenKey) -> Option<FoundData>
-    ensures { result ≡ data_of key unfinished.now }
+pub(crate) fn find_data<A: Allocator>(
+    unfinished: &KeyTable<OpenData, A>,
+    key: OpenKey,
+) -> Option<OpenData>
+    ensures { result ≡ data_of key unfinished.now.entries }
 {
-    match place_of(unfinished, key) {
-        Some(place) => begun_at(unfinished, place),
+    match unfinished.get(&numbers_of(key)) {
+        Some(begun) => Some(*begun),
         None => None,
     }
 }
@@ -101,7 +71,7 @@ fn is_before(begun: &OpenData, opcode: Opcode, line: CacheLine) -> bool
     begun.line.0 == line.0 && waits_for(opcode, begun.key)
 }
 
-/// The place of the unfinished data that comes before a flit of this opcode at the line.
+/// The place of the data, among that which is unfinished, that comes before a flit of this opcode at the line.
 fn place_before(unfinished: &[OpenData], opcode: Opcode, line: CacheLine) -> Option<usize>
     ensures { result ≡ position (is_before opcode line) unfinished.now }
 {
@@ -110,18 +80,26 @@ fn place_before(unfinished: &[OpenData], opcode: Opcode, line: CacheLine) -> Opt
         .position(|data| is_before(data, opcode, line))
 }
 
-/// The unfinished data that comes before a flit of this opcode at the line.
-pub(crate) fn find_before(
-    unfinished: &[OpenData],
-    opcode: Opcode,
-    line: CacheLine,
-) -> Option<FoundData>
-    ensures { result ≡ data_before opcode line unfinished.now }
+/// The unfinished data at a place.
+fn data_at(unfinished: &[OpenData], place: Option<usize>) -> Option<OpenData>
+    ensures { result ≡ data_at unfinished.now place }
 {
-    match place_before(unfinished, opcode, line) {
-        Some(place) => begun_at(unfinished, place),
+    match unfinished.get(place?) {
+        Some(begun) => Some(*begun),
         None => None,
     }
+}
+
+/// The unfinished data that comes before a flit of this opcode at the line.
+pub(crate) fn find_before<A: Allocator>(
+    unfinished: &KeyTable<OpenData, A>,
+    opcode: Opcode,
+    line: CacheLine,
+) -> Option<OpenData>
+    ensures { result ≡ data_before opcode line unfinished.now.entries }
+{
+    let unfinished = unfinished.values().as_slice();
+    data_at(unfinished, place_before(unfinished, opcode, line))
 }
 
 /// Whether no word lacks.

@@ -1,13 +1,12 @@
 //! What each flit does to what is open.
 
-ghost use Rattle.std.specs.Prelude.{◌≡◌};
+ghost use Rattle.std.specs.Prelude.{◌≡◌, length};
+ghost use Rattle.chi_resolution.specs.Ids.{plain_id};
 ghost use Rattle.chi_resolution.specs.Reasons.{needed_address, needed_allow_retry, buffer_of, needed_dbid, needed_pcrd, needed_resp, needed_txn, value_in, words_in};
 ghost use Rattle.chi_resolution.specs.Changes.{access_of, change_by, is_acknowledged, once_received, access_with, answered, attempted, beat_of, booking_of, change_of, completed, credit_change, early_of, first_beat, flit_change, freed, given_back, granted, is_form, is_same_dbid, later_beat, may_grant, named, new_id, opened, plain_flit, replied, requested, responded, retried, right_type, sent, sent_again, snooped, table_of};
 
-use crate::beats::{
-    BeatWords, FoundData, OpenData, filled, find_before, find_data, is_whole, joined,
-};
-use crate::ids::{Found, OpenId, OpenKey, find_id, is_completed, plain_id};
+use crate::beats::{BeatWords, OpenData, filled, find_before, find_data, is_whole, joined};
+use crate::ids::{KeyTable, OpenId, OpenKey, find_id, is_completed, plain_id};
 use crate::ledger::{Booking, CreditEvent, CreditLedger, find_account};
 use crate::lines::{CacheLine, Resolved, line_of, word_of};
 use crate::messages::{answer, completion, is_same_resp, message_with};
@@ -17,6 +16,7 @@ use crate::resolution::Options;
 use chi_explain::{Observed, SentFlit};
 use chi_flit::{Kind, Msg, Request, RspDown, RspUp, Slot, Snoop};
 use chi_trace::{Address, Column, DbId, NodeId, Opcode, Payload, PcrdType, Resp, Seen, TxnId};
+use std::alloc::Allocator;
 
 /// What a flit does to what is open.
 #[derive(Clone, Copy)]
@@ -34,8 +34,8 @@ pub(crate) enum Change {
 pub(crate) struct LineFlit {
     pub line: CacheLine,
     pub flit: Observed,
-    /// The place of the id that it frees.
-    pub frees: Option<usize>,
+    /// The key of the id that it frees.
+    pub frees: Option<OpenKey>,
     pub opens: Option<OpenId>,
     pub books: Option<Booking>,
     /// Its data, where words lack.
@@ -47,21 +47,19 @@ pub(crate) struct LineFlit {
 /// What a further beat does.
 #[derive(Clone, Copy)]
 pub(crate) struct Further {
-    /// The place of the data among that which is unfinished.
-    pub place: usize,
     /// The data with the words of the beat.
     pub joined: OpenData,
     pub flit: Observed,
-    /// The place of the id that the data frees, where no word lacks any more.
-    pub frees: Option<usize>,
+    /// The key of the id that the data frees, where no word lacks any more.
+    pub frees: Option<OpenKey>,
 }
 
 /// What is open, and the flits that are resolved.
-#[derive(Clone, Copy)]
-pub(crate) struct Tables<'a> {
+#[derive(Drop)]
+pub(crate) struct Tables<'a, A: Allocator> {
     pub options: Options,
-    pub ids: &'a [OpenId],
-    pub unfinished: &'a [OpenData],
+    pub ids: &'a KeyTable<OpenId, A>,
+    pub unfinished: &'a KeyTable<OpenData, A>,
     pub accounts: &'a [CreditLedger],
     pub flits: &'a [Resolved],
     pub waiting: &'a [Resolved],
@@ -194,7 +192,28 @@ fn is_form(begun: &OpenData, resp: Option<Resp>, dbid: Option<DbId>) -> bool
     }
 }
 
-impl Tables<'_> {
+/// A first attempt of this kind, which opens the id, and frees that of a request that was retried.
+fn first_attempt(ends: &Ends, kind: Kind, id: OpenId, flit: Observed) -> LineFlit
+    ensures { result ≡ attempted ends.now kind id flit }
+{
+    LineFlit {
+        frees: Some(OpenKey::Retried(ends.requester, id.line)),
+        opens: Some(OpenId {
+            may_retry: Some(kind),
+            ..id
+        }),
+        ..plain_flit(id.line, flit)
+    }
+}
+
+impl<A: Allocator> Tables<'_, A> {
+    /// An id that is opened behind the flits that are resolved.
+    fn plain_id(&self, key: OpenKey, line: CacheLine) -> OpenId
+        ensures { result ≡ plain_id key line (length self.now.flits.now) }
+    {
+        plain_id(key, line, self.flits.len())
+    }
+
     /// The key, which no open id has.
     fn new_id(&self, key: OpenKey) -> Result<OpenKey, IdReason>
         ensures { result ≡ new_id (table_of self.now) key }
@@ -206,21 +225,21 @@ impl Tables<'_> {
     }
 
     /// The open id that a flit names, whose line the flit's address is in, if it has one.
-    fn named(&self, key: OpenKey, seen: &Seen) -> Result<Found, IdReason>
+    fn named(&self, key: OpenKey, seen: &Seen) -> Result<OpenId, IdReason>
         ensures { result ≡ named (table_of self.now) key seen.now }
     {
         let found = find_id(self.ids, key).ok_or(IdReason::NotOpen(key))?;
         match seen.address {
-            Some(named) if line_of(named).0 != found.id.line.0 => Err(IdReason::WrongAddress {
+            Some(named) if line_of(named).0 != found.line.0 => Err(IdReason::WrongAddress {
                 named,
-                line: found.id.line,
+                line: found.line,
             }),
             Some(_) | None => Ok(found),
         }
     }
 
     /// The open id that a flit without data frees.
-    fn freed(&self, key: OpenKey, seen: &Seen) -> Result<Found, IdReason>
+    fn freed(&self, key: OpenKey, seen: &Seen) -> Result<OpenId, IdReason>
         ensures { result ≡ freed (table_of self.now) key seen.now }
     {
         let found = self.named(key, seen)?;
@@ -248,24 +267,9 @@ impl Tables<'_> {
         };
         let flit = sent(ends, Msg::Req(request));
         if allow_retry {
-            Ok(self.first_attempt(ends, kind, plain_id(key, line), flit))
+            Ok(first_attempt(ends, kind, self.plain_id(key, line), flit))
         } else {
-            self.again(ends, seen, plain_id(key, line), flit)
-        }
-    }
-
-    /// A first attempt of this kind, which opens the id.
-    fn first_attempt(&self, ends: &Ends, kind: Kind, id: OpenId, flit: Observed) -> LineFlit
-        ensures { result ≡ attempted (table_of self.now) ends.now kind id flit }
-    {
-        let retried = find_id(self.ids, OpenKey::Retried(ends.requester, id.line));
-        LineFlit {
-            frees: retried.map(|found| found.place),
-            opens: Some(OpenId {
-                may_retry: Some(kind),
-                ..id
-            }),
-            ..plain_flit(id.line, flit)
+            self.again(ends, seen, self.plain_id(key, line), flit)
         }
     }
 
@@ -284,13 +288,13 @@ impl Tables<'_> {
         let node = ends.requester;
         let key = OpenKey::Retried(node, id.line);
         let retried = find_id(self.ids, key).ok_or(IdReason::NotOpen(key))?;
-        let named = right_type(named, retried.id.waits_for)?;
+        let named = right_type(named, retried.waits_for)?;
         let booking = self.booking(node, named, CreditEvent::Resent);
         if booking.held.account.unused() == 0 {
             return Err(IdReason::NoCredit(node, named));
         }
         Ok(LineFlit {
-            frees: Some(retried.place),
+            frees: Some(retried.key),
             opens: Some(id),
             books: Some(booking),
             ..plain_flit(id.line, flit)
@@ -307,7 +311,7 @@ impl Tables<'_> {
         let line = line_of(address);
         let key = self.new_id(OpenKey::Snoop(ends.requester, txn))?;
         Ok(LineFlit {
-            opens: Some(plain_id(key, line)),
+            opens: Some(self.plain_id(key, line)),
             ..plain_flit(line, sent(ends, Msg::Snp(snoop)))
         })
     }
@@ -321,17 +325,17 @@ impl Tables<'_> {
         let txn = txn_of(seen)?;
         let named = pcrd_of(seen)?;
         let found = self.freed(OpenKey::Request(node, txn), seen)?;
-        let kind = found.id.may_retry.ok_or(IdReason::NotRetryable(node, txn))?;
+        let kind = found.may_retry.ok_or(IdReason::NotRetryable(node, txn))?;
         let types = self.options.types;
         let named = right_type(named, types.wanted(kind))?;
-        let line = found.id.line;
+        let line = found.line;
         let key = self.new_id(OpenKey::Retried(node, line))?;
         let message = Msg::RspDown(RspDown::RetryAck(types.credit(kind)));
         Ok(LineFlit {
-            frees: Some(found.place),
+            frees: Some(found.key),
             opens: Some(OpenId {
                 waits_for: Some(named),
-                ..plain_id(key, line)
+                ..self.plain_id(key, line)
             }),
             books: Some(self.booking(node, named, CreditEvent::Retried)),
             ..plain_flit(line, sent(ends, message))
@@ -350,8 +354,8 @@ impl Tables<'_> {
                 let txn = txn_of(seen)?;
                 let found = self.freed(OpenKey::Request(ends.requester, txn), seen)?;
                 Ok(LineFlit {
-                    frees: Some(found.place),
-                    ..plain_flit(found.id.line, sent(ends, Msg::RspDown(response)))
+                    frees: Some(found.key),
+                    ..plain_flit(found.line, sent(ends, Msg::RspDown(response)))
                 })
             }
             None => Err(IdReason::Form(resp)),
@@ -368,12 +372,12 @@ impl Tables<'_> {
         let found = self.freed(OpenKey::Request(ends.requester, txn), seen)?;
         let buffer = self.new_id(OpenKey::Buffer(ends.requester, dbid))?;
         Ok(LineFlit {
-            frees: Some(found.place),
+            frees: Some(found.key),
             opens: Some(OpenId {
                 awaits_ack: is_acknowledged(response),
-                ..plain_id(buffer, found.id.line)
+                ..self.plain_id(buffer, found.line)
             }),
-            ..plain_flit(found.id.line, sent(ends, Msg::RspDown(response)))
+            ..plain_flit(found.line, sent(ends, Msg::RspDown(response)))
         })
     }
 
@@ -390,8 +394,8 @@ impl Tables<'_> {
     {
         let found = self.freed(key, seen)?;
         Ok(LineFlit {
-            frees: Some(found.place),
-            ..plain_flit(found.id.line, sent(ends, Msg::RspUp(response)))
+            frees: Some(found.key),
+            ..plain_flit(found.line, sent(ends, Msg::RspUp(response)))
         })
     }
 
@@ -431,28 +435,28 @@ impl Tables<'_> {
         &self,
         ends: &Ends,
         seen: &Seen,
-        found: &Found,
+        found: &OpenId,
         words: &BeatWords,
     ) -> Result<LineFlit, IdReason>
         ensures { result ≡ first_beat (table_of self.now) ends.now seen.now found.now words.now }
     {
         let resp = resp_of(seen)?;
         let message = message_with(seen.opcode, resp, filled(words)).ok_or(IdReason::Form(resp))?;
-        let opens = self.opened(ends, seen, found.id.line)?;
+        let opens = self.opened(ends, seen, found.line)?;
         let flit = LineFlit {
             opens,
-            ..plain_flit(found.id.line, sent(ends, message))
+            ..plain_flit(found.line, sent(ends, message))
         };
         if is_whole(words) {
             return Ok(LineFlit {
-                frees: Some(found.place),
+                frees: Some(found.key),
                 ..flit
             });
         }
         Ok(LineFlit {
             begins: Some(OpenData {
-                key: found.id.key,
-                line: found.id.line,
+                key: found.key,
+                line: found.line,
                 place: self.flits.len(),
                 resp,
                 dbid: seen.dbid,
@@ -472,7 +476,7 @@ impl Tables<'_> {
                 let buffer = self.new_id(OpenKey::Buffer(ends.requester, dbid))?;
                 Ok(Some(OpenId {
                     awaits_ack: true,
-                    ..plain_id(buffer, line)
+                    ..self.plain_id(buffer, line)
                 }))
             }
             _ => Ok(None),
@@ -551,7 +555,7 @@ impl Tables<'_> {
         ensures { result ≡ once_received (table_of self.now) opcode flit }
     {
         match find_before(self.unfinished, opcode, flit.line) {
-            Some(data) => Err(IdReason::Lacking(data.so_far.key)),
+            Some(data) => Err(IdReason::Lacking(data.key)),
             None => Ok(Change::Flit(flit)),
         }
     }
@@ -608,28 +612,26 @@ impl Tables<'_> {
 fn later_beat(
     ends: &Ends,
     seen: &Seen,
-    found: &Found,
-    begun: &FoundData,
+    found: &OpenId,
+    begun: &OpenData,
     more: &BeatWords,
 ) -> Result<Further, IdReason>
     ensures { result ≡ later_beat ends.now seen.now found.now begun.now more.now }
 {
-    let so_far = begun.so_far;
-    if !is_form(&so_far, seen.resp, seen.dbid) {
-        return Err(IdReason::OtherBeat(so_far.key));
+    if !is_form(begun, seen.resp, seen.dbid) {
+        return Err(IdReason::OtherBeat(begun.key));
     }
-    let words = joined(so_far.key, &so_far.words, more)?;
-    let message = message_with(seen.opcode, so_far.resp, filled(&words)).ok_or(IdReason::Form(
-        so_far.resp,
+    let words = joined(begun.key, &begun.words, more)?;
+    let message = message_with(seen.opcode, begun.resp, filled(&words)).ok_or(IdReason::Form(
+        begun.resp,
     ))?;
     let frees = if is_whole(&words) {
-        Some(found.place)
+        Some(found.key)
     } else {
         None
     };
     Ok(Further {
-        place: begun.place,
-        joined: OpenData { words, ..so_far },
+        joined: OpenData { words, ..*begun },
         flit: sent(ends, message),
         frees,
     })

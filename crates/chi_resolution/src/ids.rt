@@ -1,11 +1,14 @@
 //! The ids that are open.
 
-ghost use Rattle.std.specs.Prelude.{◌≡◌, position, slice_get};
-ghost use Rattle.chi_resolution.specs.Ids.{found_at, has_key, id_of, is_ack_due, is_completed, is_same_key, plain_id};
+ghost use Rattle.std.specs.Prelude.{◌≡◌};
+ghost use Rattle.chi_resolution.specs.Ids.{id_of, is_ack_due, is_completed, numbers_of, plain_id};
 
 use crate::lines::CacheLine;
 use chi_flit::Kind;
 use chi_trace::{DbId, NodeId, PcrdType, TxnId};
+use indexmap::IndexMap;
+use std::alloc::Allocator;
+use std::hash::{BuildHasherDefault, FoldHasher};
 
 /// What an open id is named by. The home isn't named, as there is one.
 /// Source: `docs/TRACES.md`, "Nodes, ids and credits".
@@ -29,6 +32,8 @@ pub enum OpenKey {
 pub struct OpenId {
     pub key: OpenKey,
     pub line: CacheLine,
+    /// How many flits, loads and stores were resolved before it was opened.
+    pub place: usize,
     /// The kind of a request with AllowRetry.
     pub may_retry: Option<Kind>,
     /// The type of credit that a retried request waits for.
@@ -37,75 +42,50 @@ pub struct OpenId {
     pub awaits_ack: bool,
 }
 
-/// An open id, and its place among those that are open.
-#[derive(Clone, Copy)]
-pub(crate) struct Found {
-    pub place: usize,
-    pub id: OpenId,
+/// A key as numbers, by which a table finds what it names.
+#[derive(Clone, Copy, PartialEq, Eq, Hash)]
+pub(crate) struct KeyNumbers {
+    /// Which sort of key it is.
+    sort: u8,
+    node: u16,
+    number: u64,
 }
 
-/// Whether two keys are the same.
-pub(crate) fn is_same_key(one: OpenKey, other: OpenKey) -> bool
-    ensures { result ≡ is_same_key one other }
-{
-    match (one, other) {
-        (OpenKey::Request(node, txn), OpenKey::Request(node2, txn2)) => {
-            node.0 == node2.0 && txn.0 == txn2.0
-        }
-        (OpenKey::Buffer(node, dbid), OpenKey::Buffer(node2, dbid2)) => {
-            node.0 == node2.0 && dbid.0 == dbid2.0
-        }
-        (OpenKey::Snoop(node, txn), OpenKey::Snoop(node2, txn2)) => {
-            node.0 == node2.0 && txn.0 == txn2.0
-        }
-        (OpenKey::Retried(node, line), OpenKey::Retried(node2, line2)) => {
-            node.0 == node2.0 && line.0 == line2.0
-        }
-        _ => false,
-    }
-}
+/// What is open, each under its key.
+pub(crate) type KeyTable<V, A> = IndexMap<KeyNumbers, V, BuildHasherDefault<FoldHasher>, A>;
 
-/// Whether the id has this key.
-fn has_key(id: &OpenId, key: OpenKey) -> bool
-    ensures { result ≡ has_key key id.now }
+/// A key as numbers.
+pub(crate) fn numbers_of(key: OpenKey) -> KeyNumbers
+    ensures { result ≡ numbers_of key }
 {
-    is_same_key(id.key, key)
-}
-
-/// The place of the open id that has this key.
-fn place_of(ids: &[OpenId], key: OpenKey) -> Option<usize>
-    ensures { result ≡ position (has_key key) ids.now }
-{
-    ids.iter().position(|id| has_key(id, key))
-}
-
-/// The open id at a place.
-fn found_at(ids: &[OpenId], place: usize) -> Option<Found>
-    ensures { result ≡ found_at place (slice_get ids.now place) }
-{
-    match ids.get(place) {
-        Some(id) => Some(Found { place, id: *id }),
-        None => None,
-    }
+    let (sort, node, number) = match key {
+        OpenKey::Request(node, txn) => (0, node, u64::from(txn.0)),
+        OpenKey::Buffer(node, dbid) => (1, node, u64::from(dbid.0)),
+        OpenKey::Snoop(node, txn) => (2, node, u64::from(txn.0)),
+        OpenKey::Retried(node, line) => (3, node, line.0),
+    };
+    let node = node.0;
+    KeyNumbers { sort, node, number }
 }
 
 /// The open id that has this key.
-pub(crate) fn find_id(ids: &[OpenId], key: OpenKey) -> Option<Found>
-    ensures { result ≡ id_of key ids.now }
+pub(crate) fn find_id<A: Allocator>(ids: &KeyTable<OpenId, A>, key: OpenKey) -> Option<OpenId>
+    ensures { result ≡ id_of key ids.now.entries }
 {
-    match place_of(ids, key) {
-        Some(place) => found_at(ids, place),
+    match ids.get(&numbers_of(key)) {
+        Some(id) => Some(*id),
         None => None,
     }
 }
 
-/// An open id that no more is known of than its line.
-pub(crate) fn plain_id(key: OpenKey, line: CacheLine) -> OpenId
-    ensures { result ≡ plain_id key line }
+/// An open id that no more is known of than its line, and how many flits were resolved before it was opened.
+pub(crate) fn plain_id(key: OpenKey, line: CacheLine, place: usize) -> OpenId
+    ensures { result ≡ plain_id key line place }
 {
     OpenId {
         key,
         line,
+        place,
         may_retry: None,
         waits_for: None,
         awaits_ack: false,
@@ -123,8 +103,13 @@ fn is_ack_due(id: &OpenId, node: NodeId, line: CacheLine) -> bool
 }
 
 /// Whether the node has a completion at the line without its CompAck.
-pub(crate) fn is_completed(ids: &[OpenId], node: NodeId, line: CacheLine) -> bool
-    ensures { result ≡ is_completed node line ids.now }
+pub(crate) fn is_completed<A: Allocator>(
+    ids: &KeyTable<OpenId, A>,
+    node: NodeId,
+    line: CacheLine,
+) -> bool
+    ensures { result ≡ is_completed node line ids.now.entries }
 {
+    let ids = ids.values().as_slice();
     ids.iter().any(|id| is_ack_due(id, node, line))
 }

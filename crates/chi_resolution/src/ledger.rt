@@ -3,9 +3,10 @@
 ghost use Rattle.std.specs.Prelude.{◌≡◌, position, IfSome};
 ghost use Rattle.chi_resolution.specs.Ledger.{account_at, attempts, booked_type, fits, held_of, is_account, is_attempt, opened_account, owed_of, unused_of, wanted_of, with_event};
 
-use crate::ids::{OpenId, OpenKey};
+use crate::ids::{KeyTable, OpenId, OpenKey};
 use chi_flit::{CreditType, Kind, Profile, credit_type};
 use chi_trace::{NodeId, PcrdType};
+use std::alloc::Allocator;
 
 /// Which types of credit a trace has.
 /// Source: `docs/TRACES.md`, "Nodes, ids and credits".
@@ -102,9 +103,15 @@ impl Types {
     }
 
     /// How many first attempts of the node are open that may be retried with the type.
-    pub(crate) fn attempts(self, ids: &[OpenId], node: NodeId, pcrd: PcrdType) -> usize
-        ensures { result ≡ attempts self node pcrd ids.now }
+    pub(crate) fn attempts<A: Allocator>(
+        self,
+        ids: &KeyTable<OpenId, A>,
+        node: NodeId,
+        pcrd: PcrdType,
+    ) -> usize
+        ensures { result ≡ attempts self node pcrd ids.now.entries }
     {
+        let ids = ids.values().as_slice();
         ids.iter()
             .filter(|id| self.is_attempt(node, pcrd, id))
             .count()

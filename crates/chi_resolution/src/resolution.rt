@@ -2,12 +2,14 @@
 
 ghost use Rattle.std.specs.Prelude.{◌≡◌, ◌++◌, All, IfOk, OnOk, not};
 ghost use Rattle.std.specs.List.{filter};
+ghost use Rattle.std.specs.Map.{values_of};
+ghost use Rattle.chi_resolution.specs.Ids.{with_id, without};
 ghost use Rattle.chi_resolution.specs.Ledger.{IsBalanced, booked};
-ghost use Rattle.chi_resolution.specs.Resolution.{after_beat, after_flit, acting_agent, allowed_of, data_after, ids_after, is_ack_of, is_released, nothing, placed, resolution_of, taken, waiting_after};
+ghost use Rattle.chi_resolution.specs.Resolution.{after_beat, after_flit, acting_agent, allowed_of, data_after, ids_after, is_ack_of, is_released, nothing, placed, resolution_of, taken, waiting_after, with_data};
 
 use crate::beats::OpenData;
 use crate::changes::{Change, Further, LineFlit, Tables};
-use crate::ids::OpenId;
+use crate::ids::{KeyTable, OpenId, OpenKey, numbers_of};
 use crate::ledger::{Booking, CreditLedger, Types};
 use crate::lines::Resolved;
 use crate::nodes::{Ends, Nodes};
@@ -15,6 +17,7 @@ use crate::reasons::{IdFault, IdReason};
 use chi_explain::{Observed, StoreListing};
 use chi_flit::{Agent, Msg, NoMemory, RspUp};
 use chi_trace::Seen;
+use indexmap::IndexMap;
 use std::alloc::{AllocError, Allocator};
 use std::marker::Model;
 
@@ -39,9 +42,9 @@ pub struct Resolution<A: Allocator> {
     pub nodes: Nodes<A>,
     /// The first flit that isn't allowed; all before it are resolved, and nothing else.
     pub fault: Option<IdFault>,
-    /// The ids that are open behind them, in the order in which they were opened.
+    /// The ids that are open behind them, in no order.
     pub ids: Vec<OpenId, A>,
-    /// The data that lacks words.
+    /// The data that lacks words, in no order.
     pub unfinished: Vec<OpenData, A>,
     /// The accounts of the nodes and types of which credits were seen.
     pub accounts: Vec<CreditLedger, A>,
@@ -53,8 +56,8 @@ pub struct Resolution<A: Allocator> {
 #[derive(Drop)]
 struct Resolver<A: Allocator> {
     nodes: Nodes<A>,
-    ids: Vec<OpenId, A>,
-    unfinished: Vec<OpenData, A>,
+    ids: KeyTable<OpenId, A>,
+    unfinished: KeyTable<OpenData, A>,
     accounts: Vec<CreditLedger, A>,
     flits: Vec<Resolved, A>,
     waiting: Vec<Resolved, A>,
@@ -66,7 +69,7 @@ impl<A: Allocator> Model for Resolver<A> {
     ghost Value = { Progress };
 
     ghost view = { λ s.
-        progress_of s.nodes.home s.nodes.requesters.items s.ids.items s.unfinished.items
+        progress_of s.nodes.home s.nodes.requesters.items s.ids.entries s.unfinished.entries
         s.accounts.items s.flits.items s.waiting.items };
 }
 
@@ -96,9 +99,10 @@ pub fn resolve<A: Allocator + Copy>(
     ensures requesters { IfOk result (λ r.
         r.nodes.requesters.items ≡ (resolution_of options seen.now).progress.requesters) }
     ensures ids { IfOk result (λ r.
-        r.ids.items ≡ (resolution_of options seen.now).progress.table.ids) }
+        r.ids.items ≡ values_of (resolution_of options seen.now).progress.table.ids) }
     ensures unfinished { IfOk result (λ r.
-        r.unfinished.items ≡ (resolution_of options seen.now).progress.table.unfinished) }
+        r.unfinished.items
+        ≡ values_of (resolution_of options seen.now).progress.table.unfinished) }
     ensures accounts { IfOk result (λ r.
         r.accounts.items ≡ (resolution_of options seen.now).progress.table.accounts) }
     ensures waiting { IfOk result (λ r.
@@ -111,27 +115,55 @@ pub fn resolve<A: Allocator + Copy>(
     for (at, flit) in seen.iter().enumerate() {
         match state.allowed_of(options, flit) {
             Ok(allowed) => state.take(at, &allowed)?,
-            Err(reason) => return Ok(state.ended(Some(IdFault { at, reason }))),
+            Err(reason) => return state.ended(alloc, Some(IdFault { at, reason })),
         }
     }
-    Ok(state.ended(None))
+    state.ended(alloc, None)
 }
 
-/// The id at the place is free, if one is, and another one open.
-fn change_ids<A: Allocator>(
-    ids: &mut Vec<OpenId, A>,
-    frees: Option<usize>,
+/// The id of the key is free, if one is.
+fn free_id<A: Allocator>(ids: &mut KeyTable<OpenId, A>, frees: Option<OpenKey>)
+    ensures { ids.new.entries ≡ without frees ids.old.entries }
+{
+    if let Some(key) = frees {
+        let _ = ids.swap_remove(&numbers_of(key));
+    }
+}
+
+/// Another id is open, if one is.
+fn open_id<A: Allocator>(
+    ids: &mut KeyTable<OpenId, A>,
     opens: Option<OpenId>,
 ) -> Result<(), AllocError>
-    ensures { OnOk result (ids.new.items ≡ ids_after frees opens ids.old.items) }
+    ensures { OnOk result (ids.new.entries ≡ with_id opens ids.old.entries) }
 {
-    if let Some(place) = frees
-        && place < ids.len()
-    {
-        let _ = ids.remove(place);
-    }
     if let Some(id) = opens {
-        ids.push(id)?;
+        let _ = ids.insert(numbers_of(id.key), id)?;
+    }
+    Ok(())
+}
+
+/// The id of the key is free, if one is, and another one open.
+fn change_ids<A: Allocator>(
+    ids: &mut KeyTable<OpenId, A>,
+    frees: Option<OpenKey>,
+    opens: Option<OpenId>,
+) -> Result<(), AllocError>
+    ensures { OnOk result (ids.new.entries ≡ ids_after frees opens ids.old.entries) }
+{
+    free_id(ids, frees);
+    open_id(ids, opens)
+}
+
+/// Data that lacks words is kept, if there is such.
+fn keep_data<A: Allocator>(
+    unfinished: &mut KeyTable<OpenData, A>,
+    begun: Option<OpenData>,
+) -> Result<(), AllocError>
+    ensures { OnOk result (unfinished.new.entries ≡ with_data begun unfinished.old.entries) }
+{
+    if let Some(data) = begun {
+        let _ = unfinished.insert(numbers_of(data.key), data)?;
     }
     Ok(())
 }
@@ -158,16 +190,17 @@ fn book<A: Allocator>(
 }
 
 /// The data has the words of a further beat; where it lacks none it is finished.
-fn change_data<A: Allocator>(unfinished: &mut Vec<OpenData, A>, further: &Further)
-    ensures { unfinished.new.items ≡ data_after further.now unfinished.old.items }
+fn change_data<A: Allocator>(
+    unfinished: &mut KeyTable<OpenData, A>,
+    further: &Further,
+) -> Result<(), AllocError>
+    ensures { OnOk result (unfinished.new.entries ≡ data_after further.now unfinished.old.entries) }
 {
-    if further.place < unfinished.len() {
-        if further.frees.is_some() {
-            let _ = unfinished.remove(further.place);
-        } else {
-            unfinished[further.place] = further.joined;
-        }
+    if further.frees.is_some() {
+        let _ = unfinished.swap_remove(&numbers_of(further.joined.key));
+        return Ok(());
     }
+    keep_data(unfinished, Some(further.joined))
 }
 
 /// Whether it is the agent's CompAck.
@@ -259,11 +292,36 @@ impl<A: Allocator + Copy> Resolver<A> {
         let flits = Vec::with_capacity(alloc, count)?;
         Ok(Resolver {
             nodes: Nodes::new(alloc),
-            ids: Vec::new(alloc),
-            unfinished: Vec::new(alloc),
+            ids: IndexMap::new(alloc),
+            unfinished: IndexMap::new(alloc),
             accounts: Vec::new(alloc),
             flits,
             waiting: Vec::new(alloc),
+        })
+    }
+
+    /// What the flits so far are resolved to.
+    fn ended(self, alloc: A, fault: Option<IdFault>) -> Result<Resolution<A>, NoMemory>
+        ensures flits { IfOk result (λ r. r.flits.items ≡ self.table.flits) }
+        ensures fault { IfOk result (λ r. r.fault ≡ fault) }
+        ensures home { IfOk result (λ r. r.nodes.home ≡ self.home) }
+        ensures requesters { IfOk result (λ r. r.nodes.requesters.items ≡ self.requesters) }
+        ensures ids { IfOk result (λ r. r.ids.items ≡ values_of self.table.ids) }
+        ensures unfinished { IfOk result
+            (λ r. r.unfinished.items ≡ values_of self.table.unfinished) }
+        ensures accounts { IfOk result (λ r. r.accounts.items ≡ self.table.accounts) }
+        ensures waiting { IfOk result (λ r. r.waiting.items ≡ self.table.waiting) }
+    {
+        let ids = Vec::from_slice(alloc, self.ids.values().as_slice())?;
+        let unfinished = Vec::from_slice(alloc, self.unfinished.values().as_slice())?;
+        Ok(Resolution {
+            flits: self.flits,
+            nodes: self.nodes,
+            fault,
+            ids,
+            unfinished,
+            accounts: self.accounts,
+            waiting: self.waiting,
         })
     }
 }
@@ -308,9 +366,7 @@ impl<A: Allocator> Resolver<A> {
         if let Some(booking) = flit.books {
             book(&mut self.accounts, &booking)?;
         }
-        if let Some(begun) = flit.begins {
-            self.unfinished.push(begun)?;
-        }
+        keep_data(&mut self.unfinished, flit.begins)?;
         place(&mut self.flits, &mut self.waiting, at, flit)
     }
 
@@ -322,29 +378,7 @@ impl<A: Allocator> Resolver<A> {
         if let Some(resolved) = self.flits.get_mut(further.joined.place) {
             resolved.flit = further.flit;
         }
-        change_data(&mut self.unfinished, further);
+        change_data(&mut self.unfinished, further)?;
         change_ids(&mut self.ids, further.frees, None)
-    }
-
-    /// What the flits so far are resolved to.
-    fn ended(self, fault: Option<IdFault>) -> Resolution<A>
-        ensures flits { result.flits.items ≡ self.table.flits }
-        ensures fault { result.fault ≡ fault }
-        ensures home { result.nodes.home ≡ self.home }
-        ensures requesters { result.nodes.requesters.items ≡ self.requesters }
-        ensures ids { result.ids.items ≡ self.table.ids }
-        ensures unfinished { result.unfinished.items ≡ self.table.unfinished }
-        ensures accounts { result.accounts.items ≡ self.table.accounts }
-        ensures waiting { result.waiting.items ≡ self.table.waiting }
-    {
-        Resolution {
-            flits: self.flits,
-            nodes: self.nodes,
-            fault,
-            ids: self.ids,
-            unfinished: self.unfinished,
-            accounts: self.accounts,
-            waiting: self.waiting,
-        }
     }
 }

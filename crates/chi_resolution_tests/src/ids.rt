@@ -106,6 +106,7 @@ fn ids_are_used_again(rt: HostRuntime) -> Result<(), Fail> {
     let open = OpenId {
         key: OpenKey::Request(NodeId(8), TxnId(1)),
         line: CacheLine(0),
+        place: 7,
         may_retry: Some(Kind::CleanUnique),
         waits_for: None,
         awaits_ack: false,

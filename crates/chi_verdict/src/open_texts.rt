@@ -71,7 +71,7 @@ pub(crate) fn write_open<A: Allocator>(
     resolution: &Resolution<A>,
 ) -> Result<(), NoMemory> {
     write_ids(text, &resolution.ids)?;
-    write_unfinished(text, &resolution.ids, &resolution.unfinished)?;
+    write_unfinished(text, &resolution.unfinished)?;
     write_waiting(text, &resolution.nodes.requesters, &resolution.waiting)?;
     write_accounts(text, &resolution.accounts)
 }
@@ -108,15 +108,12 @@ fn write_ids<A: Allocator>(text: &mut String<A>, open: &[OpenId]) -> Result<(), 
 
 fn write_unfinished<A: Allocator>(
     text: &mut String<A>,
-    open: &[OpenId],
     unfinished: &[OpenData],
 ) -> Result<(), NoMemory> {
     for data in unfinished {
-        if let Some(id) = open.iter().find(|id| id.key == data.key) {
-            let line = LineName(id.line);
-            let lacking = data.words.iter().filter(|word| word.is_none()).count();
-            kept(writeln!(text, "open: data at {line}, without {lacking} of its words"))?;
-        }
+        let line = LineName(data.line);
+        let lacking = data.words.iter().filter(|word| word.is_none()).count();
+        kept(writeln!(text, "open: data at {line}, without {lacking} of its words"))?;
     }
     Ok(())
 }

@@ -166,6 +166,7 @@ fn report_on_flits<A: Allocator + Copy>(
     };
     let mut resolution = resolve(alloc, seen, options)?;
     let judged = judge(alloc, &config, options.stores, &mut resolution)?;
+    sort_open(&mut resolution)?;
     let trace = Trace {
         seen,
         profile: profile_of(options.types),
@@ -174,6 +175,13 @@ fn report_on_flits<A: Allocator + Copy>(
         resolution: &resolution,
     };
     report_on_judged(alloc, &trace, judged, only)
+}
+
+/// Puts what is open in the order in which it was opened.
+fn sort_open<A: Allocator + Copy>(resolution: &mut Resolution<A>) -> Result<(), NoMemory> {
+    resolution.ids.sort_by_key(|id| id.place)?;
+    resolution.unfinished.sort_by_key(|data| data.place)?;
+    Ok(())
 }
 
 /// The report on a trace that was judged so.

@@ -1,7 +1,6 @@
 -- One flit more, a flit that isn't allowed, and the end.
-use Rattle.std.proofs.Common.{◌∙◌, All, ap, sym, subst}
-use Rattle.chi_resolution.specs.Ledger.{IsBalanced}
 use Rattle.chi_resolution.specs.Resolution.{resolution_of}
+use Rattle.chi_resolution.proofs.Balance.{balanced_where}
 use Rattle.chi_resolution.proofs.Kept.{trace_kept}
 use Rattle.chi_resolution.proofs.Steps.{goes_on, is_done, stops}
 use Rattle.chi_resolution.proofs.resolution.resolve.Goals as goal
@@ -14,31 +13,33 @@ loop-at-preserved g c =
 pub returns-in-Err : goal.returns-in-Err
 returns-in-Err g c =
     let e = stops c.args.options c.args.seen.now c.loop-at.at c.loop-at.state c.in-Err.reason _ (resolution_of c.args.options c.args.seen.now) c.loop-at-test.true c.in-Err.ensures c.loop-at.invariant in
-    let accounts = c.ended.ensures.accounts ∙ ap (λ o. o.progress.table.accounts) e in
     record {
-      flits = c.ended.ensures.flits ∙ ap (λ o. o.progress.table.flits) e;
-      fault = c.ended.ensures.fault ∙ ap (λ o. o.fault) e;
-      home = c.ended.ensures.home ∙ ap (λ o. o.progress.home) e;
-      requesters = c.ended.ensures.requesters ∙ ap (λ o. o.progress.requesters) e;
-      ids = c.ended.ensures.ids ∙ ap (λ o. o.progress.table.ids) e;
-      unfinished = c.ended.ensures.unfinished ∙ ap (λ o. o.progress.table.unfinished) e;
-      accounts = accounts;
-      waiting = c.ended.ensures.waiting ∙ ap (λ o. o.progress.table.waiting) e;
-      ledger = subst (All (IsBalanced c.args.options.early_grants)) (sym accounts) (trace_kept c.args.options c.args.seen.now);
+      flits = rw (← e) c.ended.ensures.flits;
+      fault = rw (← e) c.ended.ensures.fault;
+      home = rw (← e) c.ended.ensures.home;
+      requesters = rw (← e) c.ended.ensures.requesters;
+      ids = rw (← e) c.ended.ensures.ids;
+      unfinished = rw (← e) c.ended.ensures.unfinished;
+      accounts = rw (← e) c.ended.ensures.accounts;
+      waiting = rw (← e) c.ended.ensures.waiting;
+      ledger =
+          balanced_where c.args.options.early_grants c.ended.result (λ r. r.accounts.items) (resolution_of c.args.options c.args.seen.now).progress.table.accounts (rw (← e) c.ended.ensures.accounts)
+          (trace_kept c.args.options c.args.seen.now);
     }
 
 pub returns : goal.returns
 returns g c =
     let e = is_done c.args.options c.args.seen.now c.loop-at.at c.loop-at.state (resolution_of c.args.options c.args.seen.now) c.loop-at-test.false c.loop-at.invariant in
-    let accounts = c.ended-2.ensures.accounts ∙ ap (λ o. o.progress.table.accounts) e in
     record {
-      flits = c.ended-2.ensures.flits ∙ ap (λ o. o.progress.table.flits) e;
-      fault = c.ended-2.ensures.fault ∙ ap (λ o. o.fault) e;
-      home = c.ended-2.ensures.home ∙ ap (λ o. o.progress.home) e;
-      requesters = c.ended-2.ensures.requesters ∙ ap (λ o. o.progress.requesters) e;
-      ids = c.ended-2.ensures.ids ∙ ap (λ o. o.progress.table.ids) e;
-      unfinished = c.ended-2.ensures.unfinished ∙ ap (λ o. o.progress.table.unfinished) e;
-      accounts = accounts;
-      waiting = c.ended-2.ensures.waiting ∙ ap (λ o. o.progress.table.waiting) e;
-      ledger = subst (All (IsBalanced c.args.options.early_grants)) (sym accounts) (trace_kept c.args.options c.args.seen.now);
+      flits = rw (← e) c.ended-2.ensures.flits;
+      fault = rw (← e) c.ended-2.ensures.fault;
+      home = rw (← e) c.ended-2.ensures.home;
+      requesters = rw (← e) c.ended-2.ensures.requesters;
+      ids = rw (← e) c.ended-2.ensures.ids;
+      unfinished = rw (← e) c.ended-2.ensures.unfinished;
+      accounts = rw (← e) c.ended-2.ensures.accounts;
+      waiting = rw (← e) c.ended-2.ensures.waiting;
+      ledger =
+          balanced_where c.args.options.early_grants c.ended-2.result (λ r. r.accounts.items) (resolution_of c.args.options c.args.seen.now).progress.table.accounts (rw (← e) c.ended-2.ensures.accounts)
+          (trace_kept c.args.options c.args.seen.now);
     }
