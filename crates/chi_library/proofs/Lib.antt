@@ -6,3 +6,6 @@ mod Listings
 mod EnabledLists
 mod SentLists
 mod MonitorHandles
+mod OwnFlits
+mod AnswerFlits
+mod SentShown

@@ -11,7 +11,7 @@ pub mod SliceHandle
 pub mod SliceCalls
 pub mod Listed
 pub mod Enabled
-pub mod PlainSteps
+pub mod Standing
 pub mod Observed
 pub mod MonitorHandle
 pub mod MonitorCalls

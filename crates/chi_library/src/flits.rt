@@ -1,12 +1,15 @@
 //! The flits in flight in C's words.
 
-ghost use Rattle.std.specs.Prelude.{◌≡◌, Some};
+ghost use Rattle.std.specs.Prelude.{◌≡◌, Some, length, option_map};
 ghost use Rattle.chi_flit.specs.declared.message.Msg.TheVariants as messages;
-ghost use Rattle.chi_slice.specs.Words.{channel_number, flit, flit_of};
-ghost use Rattle.chi_library.specs.Flits.{dat_down_message, dat_up_told, flit_told, flits_told, no_flit, no_sent, request_told, response_told, rsp_up_message, sent_told, snoop_message, taken_told, write_message};
+ghost use Rattle.chi_slice.specs.Words.{cell_of, channel_number, flit, flit_of};
+ghost use Rattle.chi_library.specs.Standing.{opened_sent, told_or};
+ghost use Rattle.chi_library.specs.Flits.{dat_down_message, dat_up_told, flit_told, flits_told, no_flit, request_told, response_told, rsp_up_message, sent_told, snoop_message, write_message};
 
 use crate::numbers::{flag_number, kind_number};
-use chi_flit::{Agent, Channel, DatUp, Msg, NO_DATA, Request, RspDown, RspUp, Snoop, State};
+use chi_flit::{
+    Agent, Channel, CompData, DatUp, Msg, NO_DATA, Request, RspDown, RspUp, Snoop, State,
+};
 use chi_slice::Cells;
 
 /// A message in flight: `ChiFlit` of `chihome.h`. `kind`, `slot` and `allow_retry` are a request's, `credit`
@@ -250,12 +253,124 @@ pub(crate) fn tell_snoop(told: &mut ChiSent, agent: Agent, snoop: Snoop)
     told.flit.message = snoop_message(snoop);
 }
 
-/// Tells the flit that an action of the agent took, if it took one, where all numbers are 0.
-pub(crate) fn tell_taken(told: &mut ChiSent, agent: Agent, taken: &Option<Msg>)
-    requires { told.old ≡ no_sent }
-    ensures { told.new ≡ taken_told (flit_of agent taken.now) }
+/// Blanks a flit, but for its agent and its channel.
+fn open_sent(told: &mut ChiSent, agent: Agent, channel: u8)
+    ensures { told.new ≡ opened_sent agent channel }
 {
-    if let Some(message) = taken {
-        tell_sent(told, agent, message);
+    *told = ChiSent::NONE;
+    told.agent = agent.0;
+    told.channel = channel;
+}
+
+/// Tells a request with its agent, if there is one, and answers how many there are.
+fn put_request(told: &mut ChiSent, agent: Agent, request: &Option<Request>) -> u8
+    ensures told { told.new
+        ≡ told_or (flit_of agent (option_map messages.Req request.now)) told.old }
+    ensures count { result ≡ length (flit_of agent (option_map messages.Req request.now)) }
+{
+    match request {
+        Some(request) => {
+            open_sent(told, agent, 0);
+            tell_request(&mut told.flit, request);
+            1
+        }
+        None => 0,
+    }
+}
+
+/// Tells a snoop with its agent, if there is one, and answers how many there are.
+fn put_snoop(told: &mut ChiSent, agent: Agent, snoop: Option<Snoop>) -> u8
+    ensures told { told.new
+        ≡ told_or (flit_of agent (option_map messages.Snp snoop)) told.old }
+    ensures count { result ≡ length (flit_of agent (option_map messages.Snp snoop)) }
+{
+    match snoop {
+        Some(snoop) => {
+            tell_snoop(told, agent, snoop);
+            1
+        }
+        None => 0,
+    }
+}
+
+/// Tells a response without data to its agent, if there is one, and answers how many there are.
+fn put_response(told: &mut ChiSent, agent: Agent, response: &Option<RspDown>) -> u8
+    ensures told { told.new
+        ≡ told_or (flit_of agent (option_map messages.RspDown response.now)) told.old }
+    ensures count { result ≡ length (flit_of agent (option_map messages.RspDown response.now)) }
+{
+    match response {
+        Some(response) => {
+            open_sent(told, agent, 2);
+            tell_response(&mut told.flit, response);
+            1
+        }
+        None => 0,
+    }
+}
+
+/// Tells the data of a read to its agent, if there is one, and answers how many there are.
+fn put_data(told: &mut ChiSent, agent: Agent, sent: &Option<CompData>) -> u8
+    ensures told { told.new
+        ≡ told_or (flit_of agent (option_map messages.DatDown sent.now)) told.old }
+    ensures count { result ≡ length (flit_of agent (option_map messages.DatDown sent.now)) }
+{
+    match sent {
+        Some(sent) => {
+            open_sent(told, agent, 3);
+            told.flit.message = dat_down_message(sent.unique);
+            told.flit.words = sent.words;
+            1
+        }
+        None => 0,
+    }
+}
+
+/// Tells a response without data of its agent, if there is one, and answers how many there are.
+fn put_rsp_up(told: &mut ChiSent, agent: Agent, response: Option<RspUp>) -> u8
+    ensures told { told.new
+        ≡ told_or (flit_of agent (option_map messages.RspUp response)) told.old }
+    ensures count { result ≡ length (flit_of agent (option_map messages.RspUp response)) }
+{
+    match response {
+        Some(response) => {
+            open_sent(told, agent, 4);
+            told.flit.message = rsp_up_message(response);
+            1
+        }
+        None => 0,
+    }
+}
+
+/// Tells a response with data of its agent, if there is one, and answers how many there are.
+fn put_dat_up(told: &mut ChiSent, agent: Agent, response: &Option<DatUp>) -> u8
+    ensures told { told.new
+        ≡ told_or (flit_of agent (option_map messages.DatUp response.now)) told.old }
+    ensures count { result ≡ length (flit_of agent (option_map messages.DatUp response.now)) }
+{
+    match response {
+        Some(response) => {
+            open_sent(told, agent, 5);
+            tell_dat_up(&mut told.flit, response);
+            1
+        }
+        None => 0,
+    }
+}
+
+/// Tells the flit of the agent that is in flight on a channel straight from its cell, if there is one, and
+/// answers how many there are.
+#[inline(always)]
+pub(crate) fn put_cell(told: &mut ChiSent, agent: Agent, cells: &Cells, channel: Channel) -> u8
+    ensures told { told.new ≡ told_or (flit_of agent (cell_of cells.now channel)) told.old }
+    ensures count { result ≡ length (flit_of agent (cell_of cells.now channel)) }
+{
+    match channel {
+        Channel::Req => put_request(told, agent, &cells.req),
+        Channel::Snp => put_snoop(told, agent, cells.snp),
+        Channel::RspDown => put_response(told, agent, &cells.rsp_down),
+        Channel::DatDown => put_data(told, agent, &cells.dat_down),
+        Channel::RspUp => put_rsp_up(told, agent, cells.rsp_up),
+        Channel::DatUp => put_dat_up(told, agent, &cells.dat_up),
     }
 }

@@ -1,0 +1,77 @@
+-- The completion that an answer to a snoop brings has the answer's data, or the memory after it.
+use Rattle.std.proofs.Common.{◌≡◌, List, ℕ, Bool, true, false, Option, Some, None, option_map, refl, sym, ap, ◌∙◌, if◌then◌else◌}
+use Rattle.chi_flit.specs.declared.action.Step.TheVariants as steps
+use Rattle.chi_flit.specs.declared.credit.Profile.{Profile}
+use Rattle.chi_flit.specs.declared.message.DatUp.{DatUp}
+use Rattle.chi_flit.specs.declared.message.DatUp.TheVariants.{CopyBackWrData, SnpRespDataIPD, SnpRespDataSCPD, SnpRespDataSD}
+use Rattle.chi_flit.specs.declared.message.Msg.{Msg}
+use Rattle.chi_flit.specs.declared.message.Msg.TheVariants as messages
+use Rattle.chi_flit.specs.declared.message.RspUp.{RspUp}
+use Rattle.chi_flit.specs.declared.message.RspUp.TheVariants.{CompAck, SnpRespI, SnpRespSC}
+use Rattle.chi_flit.specs.declared.numbers.Agent.{Agent}
+use Rattle.chi_filter.specs.Filter.{has_any}
+use Rattle.chi_homeline.specs.declared.serving.Serving.{Serving}
+use Rattle.chi_homeline.specs.declared.serving.Serving.TheVariants.{AwaitingCompAck, AwaitingWriteData, Idle, Snooping}
+use Rattle.chi_homeline.specs.declared.serving.SnoopAnswer.{SnoopAnswer}
+use Rattle.chi_homeline.specs.declared.serving.SnoopAnswer.TheVariants as answers
+use Rattle.chi_homeline.specs.Home.{Home, answer_taken, finished_as, home_after_completion, memory_after, snoop_answered}
+use Rattle.chi_line.specs.Step.{after_step, answered_by, data_answer, response_answer, where_some}
+use Rattle.chi_line.specs.Traffic.{flits_sent}
+use Rattle.chi_slice.specs.Sendings.{answer_message, completion_sent, message_taken, words_sent}
+use Rattle.chi_slice.specs.Traffic.{flits_in}
+use Rattle.chi_slice.specs.Words.{Cells, LineState, answer_in, cells_of, flit_of}
+use Rattle.chi_slice.proofs.Sendings.{sends}
+use Rattle.chi_library.specs.declared.flits.ChiFlit.{ChiFlit}
+use Rattle.chi_library.specs.Flits.{taken_told}
+use Rattle.chi_library.specs.Standing.{words_due}
+
+-- that the request completes leaves the memory
+finished_memory : (serving : Serving) (home : Home) → (finished_as serving home).memory ≡ home.memory
+finished_memory Idle home = refl
+finished_memory (Snooping agent kind slot) home = go (has_any home.awaited)
+  where
+    go : (b : Bool) → (if b then home else home_after_completion home kind agent slot).memory ≡ home.memory
+    go true = refl
+    go false = refl
+finished_memory (AwaitingCompAck agent slot) home = refl
+finished_memory (AwaitingWriteData agent kind slot) home = refl
+
+answered_memory : (home : Home) (agent : Agent) (answer : SnoopAnswer) → (snoop_answered home agent answer).memory ≡ memory_after answer home.memory
+answered_memory home agent answer = finished_memory home.serving (answer_taken home agent answer)
+
+-- the data, by the message that was taken
+abbrev due_by : Agent → Option Msg → List ℕ → List ℕ
+due_by agent message memory = words_due (taken_told (flit_of agent message)).flit memory
+
+abbrev found : Option RspUp → Option DatUp → Option SnoopAnswer
+found response sent = response_answer response (data_answer sent)
+
+by_data : (s : LineState) (agent : Agent) (sent : Option DatUp) → (cells_of s agent.0).dat_up ≡ sent
+    → due_by agent (answer_message (cells_of s agent.0) (data_answer sent)) (where_some s (data_answer sent) (answered_by s agent)).home.memory ≡ words_sent (data_answer sent) s.home.memory
+by_data s agent None is = refl
+by_data s agent (Some (CopyBackWrData form words)) is = refl
+by_data s agent (Some (SnpRespDataIPD words)) is =
+    ap (λ (o : Option DatUp). due_by agent (option_map messages.DatUp o) (snoop_answered s.home agent (answers.IPD words)).memory) is ∙ answered_memory s.home agent (answers.IPD words)
+by_data s agent (Some (SnpRespDataSCPD words)) is =
+    ap (λ (o : Option DatUp). due_by agent (option_map messages.DatUp o) (snoop_answered s.home agent (answers.SCPD words)).memory) is ∙ answered_memory s.home agent (answers.SCPD words)
+by_data s agent (Some (SnpRespDataSD words)) is =
+    ap (λ (o : Option DatUp). due_by agent (option_map messages.DatUp o) (snoop_answered s.home agent (answers.SD words)).memory) is
+
+by_answer : (s : LineState) (agent : Agent) (response : Option RspUp) → (cells_of s agent.0).rsp_up ≡ response
+    → due_by agent (answer_message (cells_of s agent.0) (found response (cells_of s agent.0).dat_up)) (where_some s (found response (cells_of s agent.0).dat_up) (answered_by s agent)).home.memory
+    ≡ words_sent (found response (cells_of s agent.0).dat_up) s.home.memory
+by_answer s agent None is = by_data s agent (cells_of s agent.0).dat_up refl
+by_answer s agent (Some CompAck) is = by_data s agent (cells_of s agent.0).dat_up refl
+by_answer s agent (Some SnpRespI) is =
+    ap (λ (o : Option RspUp). due_by agent (option_map messages.RspUp o) (snoop_answered s.home agent answers.I).memory) is ∙ answered_memory s.home agent answers.I
+by_answer s agent (Some SnpRespSC) is =
+    ap (λ (o : Option RspUp). due_by agent (option_map messages.RspUp o) (snoop_answered s.home agent answers.SC).memory) is ∙ answered_memory s.home agent answers.SC
+
+pub answered : (profile : Profile) (s : LineState) (agent : Agent) (taken : ChiFlit) → taken ≡ (taken_told (flit_of agent (message_taken (cells_of s agent.0) steps.RecvSnpResp))).flit
+    → flits_in (completion_sent s.home.serving (words_due taken (after_step profile s agent steps.RecvSnpResp).home.memory) (after_step profile s agent steps.RecvSnpResp).home)
+    ≡ flits_sent profile s agent steps.RecvSnpResp
+answered profile s agent taken is =
+    let left : Home = (after_step profile s agent steps.RecvSnpResp).home in
+    ap (λ (words : List ℕ). flits_in (completion_sent s.home.serving words left))
+    (ap (λ (f : ChiFlit). words_due f left.memory) is ∙ by_answer s agent (cells_of s agent.0).rsp_up refl)
+    ∙ sends profile s agent steps.RecvSnpResp
