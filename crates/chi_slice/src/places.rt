@@ -1,10 +1,11 @@
 //! An index of the slots in use: where each agent's requests are.
 
-ghost use Rattle.std.specs.Prelude.{◌≡◌, ◌<◌, is_some};
+ghost use Rattle.std.specs.Prelude.{◌≡◌, ◌<◌, is_some, ⊤};
 ghost use Rattle.chi_slice.specs.Index.{moved_in, no_places, place_number, place_of, place_of_spot, with_place};
 
 use chi_flit::{Agent, Line, Slot};
 use chi_line::Where;
+use std::alloc::AllocError;
 use std::marker::Model;
 
 /// The line of a request, and where the request is.
@@ -36,6 +37,18 @@ impl Model for Places {
     ghost Value = { List (Option Place) };
 
     ghost view = { λ places. map place_of_spot places.by_slot };
+}
+
+impl Clone for Places {
+    ghost is_clone = { λ places copy. copy ≡ places };
+
+    ghost is_infallible = { λ _. ⊤ };
+
+    fn clone(&self) -> Result<Self, AllocError> {
+        Ok(Places {
+            by_slot: self.by_slot,
+        })
+    }
 }
 
 /// The number of an agent's slot among those of all agents.

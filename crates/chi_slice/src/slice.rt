@@ -77,6 +77,20 @@ fn opening_lines<A: Allocator>(
     Ok(lines)
 }
 
+/// Lines that are the same as these.
+fn lines_in<A: Allocator>(
+    alloc: A,
+    lines: &[chi_line::CoherentLine],
+) -> Result<Vec<chi_line::CoherentLine, A>, NoMemory>
+    ensures { IfOk result (λ copies. copies.items ≡ lines.now) }
+{
+    let mut copies = Vec::with_capacity(alloc, lines.len())?;
+    for line in lines {
+        copies.push(line.clone()?)?;
+    }
+    Ok(copies)
+}
+
 /// How many lines are in the slice.
 fn row_count(config: &Config, index: u8) -> u8
     requires { index < config.now.slices }
@@ -113,6 +127,23 @@ impl<A: Allocator + Copy> Slice<A> {
             lines,
             journal,
             places: Places::new(),
+        })
+    }
+
+    /// A slice that is the same: what each does afterwards leaves the other as it is. All memory that it ever
+    /// needs is found here; refused where it runs out.
+    /// Source: `docs/PROTOCOL.md`, "The system".
+    pub fn clone_in(&self, alloc: A) -> Result<Slice<A>, NoMemory>
+        ensures { IfOk result (λ slice. slice ≡ self.now) }
+    {
+        let lines = lines_in(alloc, &self.lines)?;
+        let journal = self.journal.clone_in(alloc)?;
+        Ok(Slice {
+            config: self.config,
+            index: self.index,
+            lines,
+            journal,
+            places: self.places.clone()?,
         })
     }
 }
