@@ -4,7 +4,7 @@ ghost use Rattle.std.specs.Prelude.{◌≡◌};
 ghost use Rattle.chi_slice.specs.Words.{two_types};
 
 use crate::guests::{Guest, guests_of};
-use crate::sights::Sights;
+use crate::seen_lines::SeenLines;
 use chi_flit::Kind::{ReadUnique, WriteBackFull};
 use chi_flit::Step::{
     self, Issue, Load, RecvAck, RecvData, RecvDbid, RecvSnp, RecvSnpResp, RecvWrData, Start, Store,
@@ -104,12 +104,12 @@ fn a_call_changes_nothing_but_its_line(rt: HostRuntime) {
     let made = Node::new(rt.alloc(), &sizes(&rt));
     let (node, requesters) = made.expect(&rt, "memory for a node");
     let mut guests = guests_of(&rt, rt.alloc(), &node, requesters);
-    let mut sights = Sights::new(&rt, rt.alloc(), &node);
+    let mut seen_lines = SeenLines::new(&rt, rt.alloc(), &node);
     for (agent, call) in CALLS {
         assert!(rt; usize::from(agent) < guests.len());
         plays(&rt, &mut guests[usize::from(agent)], call);
-        sights.follow(&rt, LINE);
+        seen_lines.follow(&rt, LINE);
     }
-    ends(&rt, &sights.view(&rt, LINE));
-    assert_eq!(rt; sights.recorded(), 3);
+    ends(&rt, &seen_lines.view(&rt, LINE));
+    assert_eq!(rt; seen_lines.recorded(), 3);
 }

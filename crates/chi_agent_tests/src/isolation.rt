@@ -7,7 +7,7 @@ ghost use Rattle.chi_agent.specs.Script.{AreFresh};
 
 use crate::bench::{eight_scripts, eight_sizes, node_of, on, opened};
 use crate::guests::{Guest, guests_of};
-use crate::sights::Sights;
+use crate::seen_lines::SeenLines;
 use chi_agent::{Draws, OpenGate, Runner, Script};
 use chi_audit::Tallies;
 use chi_credit::SlotState;
@@ -72,10 +72,10 @@ fn movers_of<'t, 'n>(
 }
 
 /// Each takes a turn, in rising order, and every slice is looked at after it.
-fn round<R: Abort + Wait>(rt: &R, movers: &mut Vec<Mover<'_, '_>>, sights: &mut Sights<'_>) {
+fn round<R: Abort + Wait>(rt: &R, movers: &mut Vec<Mover<'_, '_>>, seen_lines: &mut SeenLines<'_>) {
     for mover in movers.iter_mut() {
         let line = mover.turn(rt);
-        sights.follow(rt, line);
+        seen_lines.follow(rt, line);
     }
 }
 
@@ -103,16 +103,16 @@ fn a_turn_changes_its_own_line_alone(rt: HostRuntime) {
     let (tallies, scripts, _watcher) = opened(&rt, rt.alloc(), 8, &eight_scripts());
     let guests = guests_of(&rt, rt.alloc(), &node, requesters);
     let mut movers = movers_of(&rt, rt.alloc(), &tallies, guests, scripts);
-    let mut sights = Sights::new(&rt, rt.alloc(), &node);
+    let mut seen_lines = SeenLines::new(&rt, rt.alloc(), &node);
     for _ in 0..100_000u32 {
         if have_ended(&movers) {
             break;
         }
-        round(&rt, &mut movers, &mut sights);
+        round(&rt, &mut movers, &mut seen_lines);
     }
     assert_eq!(rt; movers.len(), 8);
     assert!(rt; have_finished(&movers));
-    assert_eq!(rt; sights.recorded(), 16);
+    assert_eq!(rt; seen_lines.recorded(), 16);
 }
 
 /// What agent `own` of four does on two lines: it stores to each and writes it back, twice.

@@ -21,7 +21,7 @@ mod races;
 #[cfg(test)]
 mod reports;
 #[cfg(test)]
-mod sights;
+mod seen_lines;
 #[cfg(test)]
 mod tallies;
 #[cfg(test)]

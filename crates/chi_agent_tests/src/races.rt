@@ -18,7 +18,7 @@ const ENOUGH: u64 = 1_000;
 
 /// What the reader saw: new tallies, and readings of numbers that weren't stored together.
 #[derive(Clone, Copy)]
-struct Sight {
+struct Readings {
     new: u64,
     torn: u64,
 }
@@ -37,31 +37,31 @@ fn stores<R: Abort + Wait>(rt: &R, tallies: &Tallies, writer: Writer, seen: &Ato
 }
 
 /// What one reading adds to what was seen.
-fn after(sight: Sight, last: Tally, next: Tally) -> Sight {
+fn after(readings: Readings, last: Tally, next: Tally) -> Readings {
     let whole = next.turns == next.loads && next.loads == next.stores;
-    Sight {
-        new: sight.new.saturating_add(u64::from(next != last)),
-        torn: sight.torn.saturating_add(u64::from(!whole)),
+    Readings {
+        new: readings.new.saturating_add(u64::from(next != last)),
+        torn: readings.torn.saturating_add(u64::from(!whole)),
     }
 }
 
 /// Reads until it saw enough new tallies.
-fn reads<R: Wait>(rt: &R, tallies: &Tallies, mut watcher: Watcher, seen: &AtomicU64) -> Sight
+fn reads<R: Wait>(rt: &R, tallies: &Tallies, mut watcher: Watcher, seen: &AtomicU64) -> Readings
     requires cells { map reader_cell watcher ≡ tallies.now }
     requires some { 0 < length tallies.now }
 {
-    let mut sight = Sight { new: 0, torn: 0 };
+    let mut readings = Readings { new: 0, torn: 0 };
     let mut last = tally(0, 0, 0);
     for _ in 0..100_000_000u32 {
         let next = watcher.read(rt, tallies, Agent(0));
-        sight = after(sight, last, next);
+        readings = after(readings, last, next);
         last = next;
-        seen.store(sight.new, Ordering::SeqCst);
-        if sight.new >= ENOUGH {
+        seen.store(readings.new, Ordering::SeqCst);
+        if readings.new >= ENOUGH {
             break;
         }
     }
-    sight
+    readings
 }
 
 /// What a reader in a thread of its own sees of a writer in another.
@@ -70,32 +70,32 @@ fn race<R: Threads + Wait + Abort + Sync>(
     tallies: &Tallies,
     writer: Writer,
     watcher: Watcher,
-) -> Sight
+) -> Readings
     requires fresh { IsFresh tallies.now writer }
     requires cells { map reader_cell watcher ≡ tallies.now }
     requires some { 0 < length tallies.now }
 {
     let count = AtomicU64::new(0);
     let seen = &count;
-    let (_, sight) = thread::join(
+    let (_, readings) = thread::join(
         rt,
         move || -> ()
             requires { IsFresh tallies.now writer }
         { stores(rt, tallies, writer, seen) },
-        move || -> Sight
+        move || -> Readings
             requires cells { map reader_cell watcher ≡ tallies.now }
             requires some { 0 < length tallies.now }
         { reads(rt, tallies, watcher, seen) },
     );
-    sight
+    readings
 }
 
 #[test]
 fn no_reading_is_torn_where_stores_come_between(rt: HostRuntime) -> Result<(), NoMemory> {
     let (tallies, mut writers, watcher) = chi_audit::tallies(rt.alloc(), 1)?;
     assert!(rt; !writers.is_empty());
-    let sight = race(&rt, &tallies, writers.remove(0), watcher);
-    assert_eq!(rt; sight.torn, 0);
-    assert!(rt; sight.new >= ENOUGH);
+    let readings = race(&rt, &tallies, writers.remove(0), watcher);
+    assert_eq!(rt; readings.torn, 0);
+    assert!(rt; readings.new >= ENOUGH);
     Ok(())
 }

@@ -9,7 +9,7 @@ use std::sync::Wait;
 
 /// What was shown of a line, and the journal of its slice, which has no other line.
 #[derive(Drop)]
-struct Sight {
+struct SeenLine {
     line: Line,
     view: LineView,
     records: Vec<Record>,
@@ -20,11 +20,11 @@ fn look(rt: &impl Abort, slice: &Slice<Global>, line: Line) -> LineView {
     slice.view(line).expect(rt, "the line is in its slice")
 }
 
-impl Sight {
+impl SeenLine {
     /// What the line shows of a slice in which nothing was loaded or stored.
-    fn new(rt: &impl Abort, alloc: Global, slice: &Slice<Global>, line: Line) -> Sight {
+    fn new(rt: &impl Abort, alloc: Global, slice: &Slice<Global>, line: Line) -> SeenLine {
         assert!(rt; slice.journal().records().is_empty());
-        Sight {
+        SeenLine {
             line,
             view: look(rt, slice, line),
             records: Vec::new(alloc),
@@ -57,50 +57,50 @@ impl Sight {
 
 /// What all lines of a node show, each of which is in a slice of its own.
 #[derive(Drop)]
-pub struct Sights<'n> {
+pub struct SeenLines<'n> {
     node: &'n Node<Global>,
-    all: Vec<Sight>,
+    all: Vec<SeenLine>,
 }
 
-impl<'n> Sights<'n> {
+impl<'n> SeenLines<'n> {
     /// What they show in the opening state.
-    pub fn new<R: Abort + Wait>(rt: &R, alloc: Global, node: &'n Node<Global>) -> Sights<'n> {
+    pub fn new<R: Abort + Wait>(rt: &R, alloc: Global, node: &'n Node<Global>) -> SeenLines<'n> {
         assert_eq!(rt; node.config().lines(), node.config().slices());
         let mut all = Vec::new(alloc);
         for line in 0..node.config().lines() {
             let slice = node.lock(rt, Line(line)).expect(rt, "a line of the node");
-            let sight = Sight::new(rt, alloc, &slice, Line(line));
-            all.push(sight).expect(rt, "memory for a line");
+            let seen = SeenLine::new(rt, alloc, &slice, Line(line));
+            all.push(seen).expect(rt, "memory for a line");
         }
-        Sights { node, all }
+        SeenLines { node, all }
     }
 
     /// Every slice is locked. The one of this line alone may have changed since the look before, and its
     /// journal may have a record more.
     pub fn follow<R: Abort + Wait>(&mut self, rt: &R, line: Line) {
-        for sight in self.all.iter_mut() {
+        for seen in self.all.iter_mut() {
             let slice = self
                 .node
-                .lock(rt, sight.line)
+                .lock(rt, seen.line)
                 .expect(rt, "a line of the node");
-            let grown = sight.has_grown(rt, &slice);
-            let moved = sight.has_moved(rt, &slice);
-            assert!(rt; sight.line == line || !grown && !moved);
+            let grown = seen.has_grown(rt, &slice);
+            let moved = seen.has_moved(rt, &slice);
+            assert!(rt; seen.line == line || !grown && !moved);
         }
     }
 
     /// How many loads and stores there are.
     pub fn recorded(&self) -> usize {
         let mut count = 0usize;
-        for sight in self.all.iter() {
-            count = count.saturating_add(sight.records.len());
+        for seen in self.all.iter() {
+            count = count.saturating_add(seen.records.len());
         }
         count
     }
 
     /// What a line shows.
     pub fn view(&self, rt: &impl Abort, line: Line) -> LineView {
-        let sight = self.all.get(usize::from(line.0));
-        sight.expect(rt, "a line of the node").view
+        let seen = self.all.get(usize::from(line.0));
+        seen.expect(rt, "a line of the node").view
     }
 }
