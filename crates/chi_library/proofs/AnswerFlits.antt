@@ -1,5 +1,5 @@
 -- The completion that an answer to a snoop brings has the answer's data, or the memory after it.
-use Rattle.std.proofs.Common.{◌≡◌, List, ℕ, Bool, true, false, Option, Some, None, option_map, refl, sym, ap, ◌∙◌, if◌then◌else◌}
+use Rattle.std.proofs.Common.{◌≡◌, List, ℕ, Bool, true, false, Option, Some, None, option_map, refl, ap, ◌∙◌, if◌then◌else◌}
 use Rattle.chi_flit.specs.declared.action.Step.TheVariants as steps
 use Rattle.chi_flit.specs.declared.credit.Profile.{Profile}
 use Rattle.chi_flit.specs.declared.message.DatUp.{DatUp}
@@ -19,7 +19,7 @@ use Rattle.chi_line.specs.Step.{after_step, answered_by, data_answer, response_a
 use Rattle.chi_line.specs.Traffic.{flits_sent}
 use Rattle.chi_slice.specs.Sendings.{answer_message, completion_sent, message_taken, words_sent}
 use Rattle.chi_slice.specs.Traffic.{flits_in}
-use Rattle.chi_slice.specs.Words.{Cells, LineState, answer_in, cells_of, flit_of}
+use Rattle.chi_slice.specs.Words.{LineState, cells_of, flit_of}
 use Rattle.chi_slice.proofs.Sendings.{sends}
 use Rattle.chi_library.specs.declared.flits.ChiFlit.{ChiFlit}
 use Rattle.chi_library.specs.Flits.{taken_told}

@@ -24,15 +24,14 @@ use Rattle.chi_filter.specs.Filter.{has_any}
 use Rattle.chi_wires.specs.Cell.{no_flits, with_message}
 use Rattle.chi_wires.specs.Flits.{cells_at}
 use Rattle.chi_homeline.specs.declared.serving.Serving.{Serving}
-use Rattle.chi_homeline.specs.declared.serving.Serving.TheVariants.{AwaitingCompAck, Idle, Snooping}
-use Rattle.chi_homeline.specs.declared.serving.Started.{Started}
+use Rattle.chi_homeline.specs.declared.serving.Serving.TheVariants.{Idle, Snooping}
 use Rattle.chi_homeline.specs.declared.serving.Started.TheVariants.{Sends, Snoops}
 use Rattle.chi_homeline.specs.declared.serving.Waiting.{Waiting}
-use Rattle.chi_homeline.specs.Home.{Home, asks, completion_of, home_after_completion, is_idle, started_as, started_sends_as, taken_up, waiting_of}
+use Rattle.chi_homeline.specs.Home.{Home, asks, completion_of, home_after_completion, started_as, started_sends_as, taken_up, waiting_of}
 use Rattle.chi_line.specs.declared.act.Conditions.{Conditions}
 use Rattle.chi_line.specs.Kept.{Kept, Lane, LaneKept, bit, is_dbid, is_retried, lane, snoops_for}
 use Rattle.chi_line.specs.Refused.{retry_refusal, step_refusal}
-use Rattle.chi_line.specs.Step.{after_step, comp_received_line, completion_received, dbid_received_line, flits_after_start, issued_line, received_line, resent_line, retried_line, snooped_line, started_line, where_some}
+use Rattle.chi_line.specs.Step.{after_step, completion_received, dbid_received_line, flits_after_start, issued_line, received_line, resent_line, retried_line, snooped_line, started_line, where_some}
 use Rattle.chi_line.specs.Traffic.{completion_ack, flits_sent, request_again, retry_ack, snoop_answer, start_flits, started_flits}
 use Rattle.chi_line.proofs.After.{IsRetried, dbid_there, flit_there, may_resend}
 use Rattle.chi_line.proofs.CopyKeeps.{IsSnooping, is_snooping, snoop_no_response}

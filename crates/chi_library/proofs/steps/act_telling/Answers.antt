@@ -1,9 +1,8 @@
 -- The flits are told out of the line before the action and after it.
 use Rattle.std.proofs.Common.{rules, ◌≡◌, ◌∙◌, Some, None, ap}
-use Rattle.chi_library.specs.declared.flits.ChiFlit.{ChiFlit}
 use Rattle.chi_library.specs.declared.flits.ChiSent.{ChiSent}
-use Rattle.chi_library.specs.Flits.{no_sent, taken_told}
-use Rattle.chi_library.specs.Standing.{served_before, told_or}
+use Rattle.chi_library.specs.Flits.{no_sent}
+use Rattle.chi_library.specs.Standing.{told_or}
 use Rattle.chi_library.proofs.SentShown.{sent_is, taken_is, told_is}
 use Rattle.chi_slice.specs.Sendings.{message_taken}
 use Rattle.chi_slice.specs.Slice.{action_in, action_refusal, line, slice_after}
