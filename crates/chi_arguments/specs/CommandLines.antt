@@ -10,11 +10,11 @@ use Rattle.chi_flit.specs.declared.numbers.Line.{Line}
 use Rattle.chi_resolution.specs.declared.ledger.Types.{Types}
 use Rattle.chi_script.specs.Words.{◌>>=◌}
 use Rattle.chi_trace.specs.declared.fields.Address.{Address}
-use Rattle.chi_arguments.specs.Options.{asked_address_of, is_given, line_option, rows_option, seed_of, stores_option, turns_of, types_option}
+use Rattle.chi_arguments.specs.Options.{asked_address_of, commands_option, is_given, line_option, rows_option, seed_of, stores_option, turns_of, types_option, wild_option}
 use Rattle.chi_arguments.specs.declared.faults.ArgFault.{ArgFault}
 use Rattle.chi_arguments.specs.declared.faults.ArgFault.TheVariants.{Bad, NoMemory}
 use Rattle.chi_arguments.specs.declared.jobs.Job.{Job}
-use Rattle.chi_arguments.specs.declared.jobs.Job.TheVariants.{Chart, Check, Explain, Replay, Storm}
+use Rattle.chi_arguments.specs.declared.jobs.Job.TheVariants.{Chart, Check, Cover, Draw, Explain, Replay, Storm}
 use Rattle.chi_arguments.specs.declared.options.RowRange.{RowRange}
 
 -- FILE: the file is one word, and has to be there
@@ -24,6 +24,10 @@ file_rule = record (new_rule (codes "FILE")) { required = true; action = Some Se
 -- FILE..: one file or more
 abbrev pub files_rule : Rule
 files_rule = record (new_rule (codes "FILE")) { required = true; action = Some Append }
+
+-- HEADER: the header is one word of the command line, and has to be there
+abbrev pub header_rule : Rule
+header_rule = record (new_rule (codes "HEADER")) { required = true; action = Some Set }
 
 -- --NAME VALUE: the option stands once at most
 abbrev pub option_rule : Text → Rule
@@ -53,24 +57,36 @@ explain_line = with_rule (with_rule (with_rule (with_rule (with_rule (new_app (c
 abbrev pub storm_line : App
 storm_line = with_rule (with_rule (with_rule (new_app (codes "storm")) file_rule) (option_rule (codes "seed"))) (option_rule (codes "turns"))
 
+-- `cover FILE.. [--missing]`
+abbrev pub cover_line : App
+cover_line = with_rule (with_rule (new_app (codes "cover")) files_rule) (flag_rule (codes "missing"))
+
+-- `draw [--seed N] --commands M [--wild P] [--drain] HEADER`
+abbrev pub draw_line : App
+draw_line = with_rule (with_rule (with_rule (with_rule (with_rule (new_app (codes "draw")) header_rule) (option_rule (codes "seed"))) (option_rule (codes "commands"))) (option_rule (codes "wild"))) (flag_rule (codes "drain"))
+
 -- the program itself: one of its commands has to be given
 abbrev pub program_line : App
 program_line = on_top (λ s. record s { subcommand_required = true }) (new_app (codes "chihome"))
 
--- the program's command lines: these five, and no other
+-- the program's command lines: these seven, and no other
 abbrev pub command_lines : App
 command_lines =
-    with_subcommand (with_subcommand (with_subcommand (with_subcommand (with_subcommand program_line replay_line.top) check_line.top) chart_line.top) explain_line.top) storm_line.top
+    with_subcommand (with_subcommand (with_subcommand (with_subcommand (with_subcommand (with_subcommand (with_subcommand program_line replay_line.top) check_line.top) chart_line.top) explain_line.top) storm_line.top) cover_line.top) draw_line.top
 
 -- what a command line asks for: the replay of a file, the check of files, as TAP or not, a chart, of one line alone where one is
 -- given, and of these rows, the explanation of a trace, with its types of credit, the stores that it lists, whether grants may come early, and the one line
--- that is written where one is given, or a storm with its seed and its turns
+-- that is written where one is given, a storm with its seed and its turns, the cells that files reach, or those alone that they don't,
+-- or a check file with this header that is drawn, by its seed, the number of its commands, how many in a hundred are drawn from all, and
+-- whether it goes on until nothing is in flight
 pub data Asked : Type 0 where
   replay : Text → Asked
   check : List Text → Bool → Asked
   chart : Text → Option Line → RowRange → Asked
   explain : Text → Types → StoreListing → Bool → Option Address → Asked
   storm : Text → ℕ → ℕ → Asked
+  cover : List Text → Bool → Asked
+  draw : Text → ℕ → ℕ → ℕ → Bool → Asked
 
 -- behind `replay` stands the path
 abbrev pub replay_in : List Row → Option Asked
@@ -105,6 +121,19 @@ storm_asked rows = do
   turns ← turns_of (first_of (codes "turns") rows)
   Some (storm path seed turns)
 
+-- behind `cover` stand the paths, and whether only missing cells are listed
+abbrev pub cover_in : List Row → Option Asked
+cover_in rows = option_map (λ paths. cover paths (is_given (first_of (codes "missing") rows))) (all_of (codes "FILE") rows)
+
+-- behind `draw` stand the header and the options
+abbrev pub draw_in : List Row → Option Asked
+draw_in rows = do
+  header ← first_of (codes "HEADER") rows
+  seed ← seed_of (first_of (codes "seed") rows)
+  commands ← commands_option (first_of (codes "commands") rows)
+  wild ← wild_option (first_of (codes "wild") rows)
+  Some (draw header seed commands wild (is_given (first_of (codes "drain") rows)))
+
 -- what a subcommand and what stands behind it ask for
 abbrev pub asked_behind : Text × List Row → Option Asked
 asked_behind (name, rows) =
@@ -112,7 +141,9 @@ asked_behind (name, rows) =
     if bytes_eq name (codes "check") then check_in rows else (
     if bytes_eq name (codes "chart") then chart_in rows else (
     if bytes_eq name (codes "explain") then explain_in rows else (
-    if bytes_eq name (codes "storm") then storm_asked rows else None))))
+    if bytes_eq name (codes "storm") then storm_asked rows else (
+    if bytes_eq name (codes "cover") then cover_in rows else (
+    if bytes_eq name (codes "draw") then draw_in rows else None))))))
 
 -- the same, where the words have no fault
 abbrev pub asked_if : Kinds → Option (Text × List Row) → Option Asked
@@ -130,6 +161,8 @@ asked_by (Check paths tap) = check (map (λ path. path.now) paths.items) tap
 asked_by (Chart path only rows) = chart path.now only rows
 asked_by (Explain path types stores early only) = explain path.now types stores early only
 asked_by (Storm path seed turns) = storm path.now seed turns
+asked_by (Cover paths missing) = cover (map (λ path. path.now) paths.items) missing
+asked_by (Draw header seed commands wild drain) = draw header.now seed commands wild drain
 
 -- the job is what was asked for, and the words are bad where nothing is; memory may run out at any words
 abbrev pub IsAsked : Option Asked → Result Job ArgFault → Type 0

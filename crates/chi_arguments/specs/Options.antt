@@ -22,6 +22,16 @@ abbrev pub turns_of : Option (List ℕ) → Option ℕ
 turns_of None = Some 10000000
 turns_of (Some word) = number_of word >>= λ n. if is_from 1 4000000000 n then Some n else None
 
+-- the commands that are drawn are a number of a replay file from 1 to 10,000,000, which has to be given
+abbrev pub commands_option : Option (List ℕ) → Option ℕ
+commands_option None = None
+commands_option (Some word) = number_of word >>= λ n. if is_from 1 10000000 n then Some n else None
+
+-- those in a hundred that are drawn from all are a number of a replay file from 0 to 100, and 0 where none is given
+abbrev pub wild_option : Option (List ℕ) → Option ℕ
+wild_option None = Some 0
+wild_option (Some word) = number_of word >>= λ n. if is_from 0 100 n then Some n else None
+
 -- the line alone that a chart shows is a number of a replay file from 0 to 63, and there is none where none is
 -- given
 abbrev pub line_option : Option (List ℕ) → Option (Option Line)

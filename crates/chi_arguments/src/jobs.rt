@@ -2,11 +2,14 @@
 
 ghost use Rattle.std.specs.Prelude.{◌≡◌, IfOk, false, map};
 ghost use Rattle.std.specs.Option.{option_and_then, option_map};
+ghost use Rattle.clap.specs.declared.builder.command.Command.TheViews.{out-Command};
 ghost use Rattle.clap.specs.Words.{all_of, app_of, first_of, found_of, rows_of, rule_of, subcommand_rows_of};
-ghost use Rattle.chi_arguments.specs.CommandLines.{IsAsked, asked_behind, asked_by, asked_in, chart_in, check_in, command_lines, explain_in, file_rule, files_rule, flag_rule, option_rule, replay_in, storm_asked};
+ghost use Rattle.chi_arguments.specs.CommandLines.{IsAsked, asked_behind, asked_by, asked_in, chart_in, check_in, command_lines, cover_in, cover_line, draw_in, draw_line, explain_in, file_rule, files_rule, flag_rule, header_rule, option_rule, program_line, replay_in, storm_asked};
 
 use crate::faults::ArgFault;
-use crate::options::{RowRange, address, is_given, only, rows, seed, stores, turns, types};
+use crate::options::{
+    RowRange, address, commands, is_given, only, rows, seed, stores, turns, types, wild,
+};
 use chi_explain::StoreListing;
 use chi_flit::Line;
 use chi_resolution::Types;
@@ -58,6 +61,27 @@ pub enum Job<'a> {
         /// given.
         turns: u64,
     },
+    /// `cover FILE.. [--missing]`: counts the cells of the protocol's tables that the commands of the files at these
+    /// paths reach.
+    Cover {
+        /// One path or more, in their order.
+        paths: Vec<&'a str>,
+        /// Whether only the cells that none of them reaches are listed.
+        missing: bool,
+    },
+    /// `draw [--seed N] --commands M [--wild P] [--drain] HEADER`: writes a check file of commands that are drawn.
+    Draw {
+        /// The header of the file.
+        header: &'a str,
+        /// What the draws are made from; 1 where it isn't given.
+        seed: u64,
+        /// How many commands are drawn, from 1 to 10,000,000.
+        commands: u64,
+        /// How many commands in a hundred are drawn from all, 0 to 100; none where it isn't given.
+        wild: u8,
+        /// Whether commands follow until nothing is in flight.
+        drain: bool,
+    },
 }
 
 /// What the words of a command line ask for; the first word is the program's own name.
@@ -88,6 +112,15 @@ const EXPLAIN: &str = "explain";
 /// The subcommand that runs a storm.
 const STORM: &str = "storm";
 
+/// The subcommand that counts cells.
+const COVER: &str = "cover";
+
+/// The subcommand that draws commands.
+const DRAW: &str = "draw";
+
+/// The argument that is the header of a file.
+const HEADER: &str = "HEADER";
+
 /// The argument that is a file's path.
 const FILE: &str = "FILE";
 
@@ -115,6 +148,18 @@ const SEED: &str = "seed";
 /// The option that says how many turns an agent takes at most.
 const TURNS: &str = "turns";
 
+/// The option that says that only missing cells are listed.
+const MISSING: &str = "missing";
+
+/// The option that says how many commands are drawn.
+const COMMANDS: &str = "commands";
+
+/// The option that says how many of them are drawn from all.
+const WILD: &str = "wild";
+
+/// The option that says that deliveries follow.
+const DRAIN: &str = "drain";
+
 /// The command lines of the program.
 fn command_line<'a>(alloc: Global) -> Result<Command<'a>, AllocError>
     ensures { IfOk result (λ command. app_of command ≡ command_lines) }
@@ -137,13 +182,48 @@ fn command_line<'a>(alloc: Global) -> Result<Command<'a>, AllocError>
         .arg(file(alloc))?
         .arg(option(alloc, SEED))?
         .arg(option(alloc, TURNS))?;
-    Command::new(alloc, "chihome")
-        .subcommand_required(true)
+    let cover = cover_command(alloc)?;
+    let draw = draw_command(alloc)?;
+    program_command(alloc)
         .subcommand(replay)?
         .subcommand(check)?
         .subcommand(chart)?
         .subcommand(explain)?
-        .subcommand(storm)
+        .subcommand(storm)?
+        .subcommand(cover)?
+        .subcommand(draw)
+}
+
+/// The program itself, of which one command has to be given.
+fn program_command<'a>(alloc: Global) -> Command<'a>
+    ensures { app_of result ≡ program_line }
+{
+    Command::new(alloc, "chihome").subcommand_required(true)
+}
+
+/// The command line of `cover`.
+fn cover_command<'a>(alloc: Global) -> Result<Command<'a>, AllocError>
+    ensures words { IfOk result (λ command. app_of command ≡ cover_line) }
+    ensures local { IfOk result (λ command. (out-Command command).has_globals ≡ false) }
+{
+    let cover = Command::new(alloc, COVER)
+        .arg(files(alloc))?
+        .arg(flag(alloc, MISSING))?;
+    Ok(cover)
+}
+
+/// The command line of `draw`.
+fn draw_command<'a>(alloc: Global) -> Result<Command<'a>, AllocError>
+    ensures words { IfOk result (λ command. app_of command ≡ draw_line) }
+    ensures local { IfOk result (λ command. (out-Command command).has_globals ≡ false) }
+{
+    let draw = Command::new(alloc, DRAW)
+        .arg(header(alloc))?
+        .arg(option(alloc, SEED))?
+        .arg(option(alloc, COMMANDS))?
+        .arg(option(alloc, WILD))?
+        .arg(flag(alloc, DRAIN))?;
+    Ok(draw)
 }
 
 /// The path of a file, which has to be given.
@@ -162,6 +242,16 @@ fn files<'a>(alloc: Global) -> Arg<'a>
     Arg::new(alloc, FILE)
         .required(true)
         .action(ArgAction::Append)
+}
+
+/// The header of a file, which has to be given.
+fn header<'a>(alloc: Global) -> Arg<'a>
+    ensures rule { rule_of result ≡ header_rule }
+    ensures local { result.global ≡ false }
+{
+    Arg::new(alloc, HEADER)
+        .required(true)
+        .action(ArgAction::Set)
 }
 
 /// An option of this name, which has one value where it is given.
@@ -190,6 +280,8 @@ fn read_job<'a>(alloc: Global, matches: &ArgMatches<'a>) -> Result<Job<'a>, ArgF
         Some((CHART, chart)) => read_chart(chart).ok_or(ArgFault::Bad),
         Some((EXPLAIN, explain)) => read_explain(explain).ok_or(ArgFault::Bad),
         Some((STORM, storm)) => read_storm(storm).ok_or(ArgFault::Bad),
+        Some((COVER, cover)) => read_cover(alloc, cover),
+        Some((DRAW, draw)) => read_draw(draw).ok_or(ArgFault::Bad),
         _ => Err(ArgFault::Bad),
     }
 }
@@ -253,6 +345,37 @@ fn read_storm<'a>(matches: &ArgMatches<'a>) -> Option<Job<'a>>
     let seed = seed(text_of(matches, SEED))?;
     let turns = turns(text_of(matches, TURNS))?;
     Some(Job::Storm { path, seed, turns })
+}
+
+/// The job of `cover FILE..` and its option.
+fn read_cover<'a>(alloc: Global, matches: &ArgMatches<'a>) -> Result<Job<'a>, ArgFault>
+    ensures { IsAsked (cover_in (rows_of (found_of matches.now))) result }
+{
+    let Some(given) = texts_of(matches, FILE) else {
+        return Err(ArgFault::Bad);
+    };
+    let missing = is_given(text_of(matches, MISSING));
+    let mut paths = Vec::new(alloc);
+    paths.extend_from_slice(given)?;
+    Ok(Job::Cover { paths, missing })
+}
+
+/// The job of `draw HEADER` and its options.
+fn read_draw<'a>(matches: &ArgMatches<'a>) -> Option<Job<'a>>
+    ensures { option_map asked_by result ≡ draw_in (rows_of (found_of matches.now)) }
+{
+    let header = text_of(matches, HEADER)?;
+    let seed = seed(text_of(matches, SEED))?;
+    let commands = commands(text_of(matches, COMMANDS))?;
+    let wild = wild(text_of(matches, WILD))?;
+    let drain = is_given(text_of(matches, DRAIN));
+    Some(Job::Draw {
+        header,
+        seed,
+        commands,
+        wild,
+        drain,
+    })
 }
 
 /// The first text that was found for this name.

@@ -2,7 +2,7 @@
 
 ghost use Rattle.std.specs.Prelude.{◌≡◌, ◌==◌, Some, option_map};
 ghost use Rattle.std.specs.List.{position};
-ghost use Rattle.chi_arguments.specs.Options.{asked_address_of, is_given, line_option, range_of, rows_option, seed_of, stores_option, turns_of, types_option};
+ghost use Rattle.chi_arguments.specs.Options.{asked_address_of, commands_option, is_given, line_option, range_of, rows_option, seed_of, stores_option, turns_of, types_option, wild_option};
 
 use chi_explain::StoreListing;
 use chi_flit::Line;
@@ -34,6 +34,31 @@ pub fn turns(value: Option<&str>) -> Option<u64>
             let turns = number(word.as_bytes())?;
             (1..=4_000_000_000).contains(&turns).then_some(turns)
         }
+    }
+}
+
+/// How many commands are drawn where `--commands` has this value: `None` where it isn't given, and where the value is no
+/// number of a replay file from 1 to 10,000,000.
+/// Source: `docs/FORMATS.md`, "The program".
+pub fn commands(value: Option<&str>) -> Option<u64>
+    ensures { result ≡ commands_option (option_map (λ word. word.now) value.entry) }
+{
+    let commands = number(value?.as_bytes())?;
+    (1..=10_000_000).contains(&commands).then_some(commands)
+}
+
+/// How many commands in a hundred are drawn from all where `--wild` has this value: 0 where it isn't given, and `None`
+/// where the value is no number of a replay file from 0 to 100.
+/// Source: `docs/FORMATS.md`, "The program".
+pub fn wild(value: Option<&str>) -> Option<u8>
+    ensures { result ≡ wild_option (option_map (λ word. word.now) value.entry) }
+{
+    match value {
+        None => Some(0),
+        Some(word) => match number(word.as_bytes())? {
+            wild @ 0..=100 => Some(wild as u8),
+            _ => None,
+        },
     }
 }
 

@@ -52,6 +52,11 @@ abbrev pub storm_end : Bool → End
 storm_end true = ends.Done
 storm_end false = ends.Unfinished
 
+-- the end of a file that was drawn, or not
+abbrev pub draw_end : Bool → End
+draw_end true = ends.Done
+draw_end false = ends.Unfinished
+
 -- the status of a run that came to an end, or was stopped
 abbrev pub run_status : Result End Stop → ℕ
 run_status (Ok end) = end_status end

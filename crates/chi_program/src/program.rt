@@ -4,18 +4,20 @@ ghost use Rattle.std.specs.Prelude.{◌≡◌, Some, IfOk, IfErr, Contains, map,
 ghost use Rattle.std.specs.Vec.Iter.{into_iter_items};
 ghost use Rattle.chi_arguments.specs.declared.faults.ArgFault.{ArgFault};
 ghost use Rattle.chi_program.specs.declared.program.Stop.TheVariants.{Arguments, Run};
-ghost use Rattle.chi_program.specs.Stops.{check_end, end_status, explain_end, run_status, statuses, stop_status, stop_text, storm_end, suite_stop, words_fault};
+ghost use Rattle.chi_program.specs.Stops.{check_end, draw_end, end_status, explain_end, run_status, statuses, stop_status, stop_text, storm_end, suite_stop, words_fault};
 ghost use Rattle.chi_program.specs.Charts.{part_asked};
 ghost use Rattle.chi_program.specs.Suites.{given_in};
 ghost use Rattle.chi_replay.specs.Suites.{given_of};
 
 use chi_arguments::{ArgFault, Job, RowRange, arguments};
 use chi_chart::{ChartPart, chart};
+use chi_coverage::cover;
 use chi_devices::{FileInput, Output, StandardOutput, read_all};
 use chi_flit::Line;
 use chi_replay::{SuiteFile, SuiteForm, check, check_suite, replay};
 use chi_resolution::Options;
 use chi_script::Fault;
+use chi_stimulus::{DrawOptions, draw};
 use chi_storm::storm;
 use chi_trace::Address;
 use chi_verdict::{TraceOutcome, explain};
@@ -83,7 +85,7 @@ impl From<Fault> for Stop {
 enum End {
     /// All went well.
     Done,
-    /// The script of some agent of a storm didn't finish.
+    /// The script of some agent of a storm didn't finish, or a file wasn't drawn.
     Unfinished,
     /// An answer of a check differs from the one that is wanted.
     Differs,
@@ -163,6 +165,22 @@ fn follow<R: Env + Files + AllocGlobal + Print + Eprint + Threads + Wait + Clock
             Ok(explain_file(rt, path, options, only)?)
         }
         Job::Storm { path, seed, turns } => Ok(storm_file(rt, path, seed, turns)?),
+        Job::Cover { paths, missing } => Ok(cover_files(rt, &paths, missing)?),
+        Job::Draw {
+            header,
+            seed,
+            commands,
+            wild,
+            drain,
+        } => {
+            let options = DrawOptions {
+                seed,
+                commands,
+                wild,
+                drain,
+            };
+            Ok(draw_file(rt, header, options)?)
+        }
     }
 }
 
@@ -361,6 +379,44 @@ fn storm_end(finished: bool) -> End
     ensures { result ≡ storm_end finished }
 {
     if finished { End::Done } else { End::Unfinished }
+}
+
+/// Counts the cells that the files at the paths reach, and writes them to standard output. A line for each file that is
+/// faulty or can't be read is on standard error.
+fn cover_files<R: Files + AllocGlobal + Print + Eprint>(
+    rt: &R,
+    paths: &[&str],
+    missing: bool,
+) -> Result<End, Fault> {
+    let files = read_files(rt, paths)?;
+    let suite = suite_of(rt.alloc(), &files)?;
+    let report = cover(rt.alloc(), &suite, missing)?;
+    let mut output = StandardOutput::new(io::writer(rt));
+    if output.write_all(&report.text).is_err() {
+        return Err(Fault::Write);
+    }
+    if !report.faults.is_empty() {
+        let _ = rt.eprint(report.faults.as_str());
+    }
+    Ok(suite_end(report.fault, true))
+}
+
+/// Draws a check file with this header, and writes it to standard output.
+fn draw_file<R: AllocGlobal + Print>(
+    rt: &R,
+    header: &str,
+    options: DrawOptions,
+) -> Result<End, Fault> {
+    let mut output = StandardOutput::new(io::writer(rt));
+    let drawn = draw(rt.alloc(), header, &options, &mut output)?;
+    Ok(draw_end(drawn))
+}
+
+/// The end of a file that was drawn, or not.
+fn draw_end(drawn: bool) -> End
+    ensures { result ≡ draw_end drawn }
+{
+    if drawn { End::Done } else { End::Unfinished }
 }
 
 /// Writes to standard output what explains the trace at the path; of a malformed one a line is on standard error.

@@ -173,6 +173,171 @@ fn a_chart_with_other_options_or_lines_is_bad(rt: HostRuntime) {
     are_bad(&rt, &BAD_CHARTS);
 }
 
+/// Command lines of a drawn file, each with its seed, its commands, how many in a hundred are wild, and whether it drains.
+const DRAWS: [(&[&str], u64, u64, u8, bool); 4] = [
+    (
+        &["chihome", "draw", "--commands", "1", "node"],
+        1,
+        1,
+        0,
+        false,
+    ),
+    (
+        &["chihome", "draw", "node", "--commands=10000000", "--drain"],
+        1,
+        10_000_000,
+        0,
+        true,
+    ),
+    (
+        &[
+            "chihome",
+            "draw",
+            "--seed",
+            "7",
+            "--commands",
+            "20",
+            "--wild",
+            "100",
+            "node",
+        ],
+        7,
+        20,
+        100,
+        false,
+    ),
+    (
+        &[
+            "chihome",
+            "draw",
+            "--drain",
+            "--wild=5",
+            "--seed=0",
+            "--commands=9",
+            "node",
+        ],
+        0,
+        9,
+        5,
+        true,
+    ),
+];
+
+#[test]
+fn a_drawn_file_has_its_header_and_its_options(rt: HostRuntime) {
+    for (words, seed, commands, wild, drain) in &DRAWS {
+        drawn(&rt, words, *seed, *commands, *wild, *drain);
+    }
+}
+
+/// The words ask for such a file with the header `node`.
+fn drawn<'a>(
+    rt: &(impl Abort + AllocGlobal),
+    words: &'a [&'a str],
+    seed: u64,
+    commands: u64,
+    wild: u8,
+    drain: bool,
+) {
+    let job = Job::Draw {
+        header: "node",
+        seed,
+        commands,
+        wild,
+        drain,
+    };
+    assert!(rt; arguments(rt.alloc(), words) == Ok(job), "{words:?}");
+}
+
+/// Other command lines than `draw HEADER --commands M [--seed N] [--wild P] [--drain]`.
+const BAD_DRAWS: [&[&str]; 13] = [
+    &["chihome", "draw"],
+    &["chihome", "draw", "node"],
+    &["chihome", "draw", "--commands", "1"],
+    &["chihome", "draw", "node", "1", "--commands", "1"],
+    &["chihome", "draw", "node", "--commands", "0"],
+    &["chihome", "draw", "node", "--commands", "10000001"],
+    &["chihome", "draw", "node", "--commands", "01"],
+    &[
+        "chihome",
+        "draw",
+        "node",
+        "--commands",
+        "1",
+        "--wild",
+        "101",
+    ],
+    &["chihome", "draw", "node", "--commands", "1", "--wild"],
+    &["chihome", "draw", "node", "--commands", "1", "--seed", "x"],
+    &[
+        "chihome",
+        "draw",
+        "node",
+        "--commands",
+        "1",
+        "--drain",
+        "--drain",
+    ],
+    &["chihome", "draw", "node", "--commands", "1", "--line", "1"],
+    &["chihome", "draw", "--help"],
+];
+
+#[test]
+fn a_drawn_file_with_other_words_is_bad(rt: HostRuntime) {
+    are_bad(&rt, &BAD_DRAWS);
+}
+
+/// Command lines of a coverage, each with its paths and with whether only missing cells are listed.
+const COVERS: [(&[&str], &[&str], bool); 3] = [
+    (&["chihome", "cover", "a"], &["a"], false),
+    (
+        &["chihome", "cover", "a", "--missing", "b"],
+        &["a", "b"],
+        true,
+    ),
+    (
+        &["chihome", "cover", "--", "--missing"],
+        &["--missing"],
+        false,
+    ),
+];
+
+#[test]
+fn a_coverage_has_its_paths(rt: HostRuntime) {
+    for (words, paths, missing) in &COVERS {
+        covers(&rt, words, paths, *missing);
+    }
+}
+
+/// The words ask for the coverage of these files.
+fn covers<'a>(
+    rt: &(impl Abort + AllocGlobal),
+    words: &'a [&'a str],
+    wanted: &[&str],
+    missing_alone: bool,
+) {
+    match arguments(rt.alloc(), words) {
+        Ok(Job::Cover { paths, missing }) => {
+            assert!(rt; paths.as_slice() == wanted, "{words:?}");
+            assert!(rt; missing == missing_alone, "{words:?}");
+        }
+        _ => assert!(rt; false, "{words:?}"),
+    }
+}
+
+/// Other command lines than `cover FILE.. [--missing]`.
+const BAD_COVERS: [&[&str]; 4] = [
+    &["chihome", "cover"],
+    &["chihome", "cover", "--missing"],
+    &["chihome", "cover", "a", "--tap"],
+    &["chihome", "cover", "a", "--missing", "--missing"],
+];
+
+#[test]
+fn a_coverage_with_other_words_is_bad(rt: HostRuntime) {
+    are_bad(&rt, &BAD_COVERS);
+}
+
 /// Command lines of a storm, each with its seed and its turns.
 const STORMS: [(&[&str], u64, u64); 9] = [
     (&["chihome", "storm", "a.chi"], 1, 10_000_000),

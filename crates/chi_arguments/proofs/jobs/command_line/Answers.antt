@@ -1,7 +1,7 @@
--- The five subcommands, one after the other.
-use Rattle.std.proofs.Common.{rules, ◌≡◌, codes}
+-- The seven subcommands, one after the other.
+use Rattle.std.proofs.Common.{◌≡◌, codes}
 use Rattle.clap.specs.Words.{app_of, new_app, with_rule, with_subcommand}
-use Rattle.chi_arguments.specs.CommandLines.{chart_line, check_line, explain_line, file_rule, files_rule, flag_rule, option_rule, program_line, replay_line, storm_line}
+use Rattle.chi_arguments.specs.CommandLines.{chart_line, check_line, cover_line, draw_line, explain_line, file_rule, files_rule, flag_rule, option_rule, program_line, replay_line, storm_line}
 use Rattle.chi_arguments.proofs.Subcommands.{IsLine, with_one, with_line, with_last}
 use Rattle.chi_arguments.proofs.jobs.command_line.Goals as goal
 
@@ -21,11 +21,16 @@ returns c =
     let first : IsLine (with_rule (new_app (codes "storm")) file_rule) c.in_ok-arg-8.field-0 = with_one (new_app (codes "storm")) file_rule c.new-5.result c.file-4.result _ (record { words = c.new-5.ensures.app; local = c.new-5.ensures.local }) c.file-4.ensures.rule c.file-4.ensures.local c.in_ok-arg-8.ensures in
     let second : IsLine (with_rule (with_rule (new_app (codes "storm")) file_rule) (option_rule (codes "seed"))) c.in_ok-arg-9.field-0 = with_one _ _ c.in_ok-arg-8.field-0 c.option-6.result _ first c.option-6.ensures.rule c.option-6.ensures.local c.in_ok-arg-9.ensures in
     let storm : IsLine storm_line c.in_ok-storm.storm = with_one _ _ c.in_ok-arg-9.field-0 c.option-7.result _ second c.option-7.ensures.rule c.option-7.ensures.local c.in_ok-storm.ensures in
-    let above : app_of c.subcommand_required.result ≡ program_line = search (rules, c.subcommand_required.ensures) in
-    let one : app_of c.in_ok-subcommand.field-0 ≡ with_subcommand program_line replay_line.top = with_line program_line replay_line c.subcommand_required.result c.in_ok-replay.replay _ above replay c.in_ok-subcommand.ensures in
+    let cover : IsLine cover_line c.in_ok-cover.cover = record { words = c.in_ok-cover.ensures.words; local = c.in_ok-cover.ensures.local } in
+    let draw : IsLine draw_line c.in_ok-draw.draw = record { words = c.in_ok-draw.ensures.words; local = c.in_ok-draw.ensures.local } in
+    let one : app_of c.in_ok-subcommand.field-0 ≡ with_subcommand program_line replay_line.top = with_line program_line replay_line c.program_command.result c.in_ok-replay.replay _ c.program_command.ensures replay c.in_ok-subcommand.ensures in
     let two : app_of c.in_ok-subcommand-2.field-0 ≡ with_subcommand (with_subcommand program_line replay_line.top) check_line.top = with_line _ check_line c.in_ok-subcommand.field-0 c.in_ok-check.check _ one check c.in_ok-subcommand-2.ensures in
     let three : app_of c.in_ok-subcommand-3.field-0 ≡ with_subcommand (with_subcommand (with_subcommand program_line replay_line.top) check_line.top) chart_line.top =
     with_line _ chart_line c.in_ok-subcommand-2.field-0 c.in_ok-chart.chart _ two chart c.in_ok-subcommand-3.ensures in
     let four : app_of c.in_ok-subcommand-4.field-0 ≡ with_subcommand (with_subcommand (with_subcommand (with_subcommand program_line replay_line.top) check_line.top) chart_line.top) explain_line.top =
     with_line _ explain_line c.in_ok-subcommand-3.field-0 c.in_ok-explain.explain _ three explain c.in_ok-subcommand-4.ensures in
-    with_last _ storm_line c.in_ok-subcommand-4.field-0 c.in_ok-storm.storm c.subcommand-5.result four storm c.subcommand-5.ensures
+    let five : app_of c.in_ok-subcommand-5.field-0 ≡ with_subcommand (with_subcommand (with_subcommand (with_subcommand (with_subcommand program_line replay_line.top) check_line.top) chart_line.top) explain_line.top) storm_line.top =
+    with_line _ storm_line c.in_ok-subcommand-4.field-0 c.in_ok-storm.storm _ four storm c.in_ok-subcommand-5.ensures in
+    let six : app_of c.in_ok-subcommand-6.field-0 ≡ with_subcommand (with_subcommand (with_subcommand (with_subcommand (with_subcommand (with_subcommand program_line replay_line.top) check_line.top) chart_line.top) explain_line.top) storm_line.top) cover_line.top =
+    with_line _ cover_line c.in_ok-subcommand-5.field-0 c.in_ok-cover.cover _ five cover c.in_ok-subcommand-6.ensures in
+    with_last _ draw_line c.in_ok-subcommand-6.field-0 c.in_ok-draw.draw c.subcommand-7.result six draw c.subcommand-7.ensures
