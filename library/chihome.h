@@ -422,7 +422,7 @@ const char *chi_step_name(uint8_t step);       /* ChiStep: "Load" */
 const char *chi_kind_name(uint8_t kind);       /* ChiKind: "ReadShared" */
 const char *chi_message_name(uint8_t message); /* ChiMessage: "CompData_UC" */
 const char *chi_state_name(uint8_t state);     /* ChiState: "UC" */
-const char *chi_refusal_name(uint8_t answer);  /* ChiAnswer: "NoFlit", and "OK", "AlreadyOpen" and "Closed" */
+const char *chi_refusal_name(uint8_t answer);  /* ChiAnswer: "NoFlit", and "OK", "NotKept", "Fault", "AlreadyOpen" and "Closed" */
 const char *chi_reason_name(uint8_t reason);   /* ChiReason: "NobodyAsks" */
 
 /* Why no run of the model sends a flit, in words: a ChiReason's text, and "?" of another number. */
