@@ -5,7 +5,7 @@ use Rattle.chi_audit.specs.Boxes.{InboxState, SentState}
 use Rattle.std.specs.List.{remove, slice_index_or}
 use Rattle.chi_node.specs.Requester.{RequesterState}
 use Rattle.chi_audit.specs.declared.reports.Report.{Report}
-use Rattle.chi_agent.specs.Runs.{AllLeave, Leaves, Start}
+use Rattle.chi_agent.specs.Runs.{AllLeave, LeavesRun, Start}
 
 -- what came back is left of those that aren't out any more
 pub record LeftSoFar (all out : List Start) (rs : List RequesterState) (ts : List Report) (ms : List Bool) : Type 0 where
@@ -13,7 +13,7 @@ pub record LeftSoFar (all out : List Start) (rs : List RequesterState) (ts : Lis
   pub parts : back ++ out ≡ all
   pub leave : AllLeave back rs ts ms
 
-one_leaves : (xs : List Start) (rs : List RequesterState) (ts : List Report) (ms : List Bool) (a : Start) (r : RequesterState) (t : Report) (m : Bool) → AllLeave xs rs ts ms → Leaves a r t m
+one_leaves : (xs : List Start) (rs : List RequesterState) (ts : List Report) (ms : List Bool) (a : Start) (r : RequesterState) (t : Report) (m : Bool) → AllLeave xs rs ts ms → LeavesRun a r t m
     → AllLeave (xs ++ a ∷ []) (rs ++ r ∷ []) (ts ++ t ∷ []) (ms ++ m ∷ [])
 one_leaves [] [] [] [] a r t m so_far this = (this, tt)
 one_leaves [] [] [] (m' ∷ ms) a r t m so_far this = absurd so_far
@@ -30,10 +30,10 @@ none_left all = record { back = []; parts = refl; leave = tt }
 
 -- the first of those that are out is joined
 pub one_left : {H : Type 0} (f : H → Start) (all : List Start) (hs hs' : List H) (h : H) (rs rs' : List RequesterState) (ts ts' : List Report) (ms ms' : List Bool) (r : RequesterState) (t : Report) (m : Bool) → LeftSoFar all (map f hs) rs ts ms → 0 < length hs → h ≡ slice_index_or hs 0 h → hs' ≡ remove hs 0
-    → Leaves (f h) r t m → rs' ≡ rs ++ r ∷ [] → ts' ≡ ts ++ t ∷ [] → ms' ≡ ms ++ m ∷ [] → LeftSoFar all (map f hs') rs' ts' ms'
+    → LeavesRun (f h) r t m → rs' ≡ rs ++ r ∷ [] → ts' ≡ ts ++ t ∷ [] → ms' ≡ ms ++ m ∷ [] → LeftSoFar all (map f hs') rs' ts' ms'
 one_left f all [] hs' h rs rs' ts ts' ms ms' r t m so_far some first cut this er et em = absurd (omega (arith, some))
 one_left f all (x ∷ xs) hs' h rs rs' ts ts' ms ms' r t m so_far some first cut this er et em =
-    let own : Leaves (f x) r t m = subst (λ (z : _). Leaves (f z) r t m) first this in
+    let own : LeavesRun (f x) r t m = subst (λ (z : _). LeavesRun (f z) r t m) first this in
     let more : AllLeave (so_far.back ++ f x ∷ []) (rs ++ r ∷ []) (ts ++ t ∷ []) (ms ++ m ∷ []) = one_leaves so_far.back rs ts ms (f x) r t m so_far.leave own in
     let left : LeftSoFar all (map f xs) (rs ++ r ∷ []) (ts ++ t ∷ []) (ms ++ m ∷ []) = record {
       back = so_far.back ++ f x ∷ [];

@@ -26,7 +26,7 @@ abbrev pub LivesTo : Start → Player Global → Type 0
 LivesTo a p = Lived a.config a.seed a.most a.requester.number (opening_player a.requester a.script) p
 
 -- the requester, the report and the flag are those of an agent that began so
-pub record Leaves (a : Start) (r : RequesterState) (report : Report) (met : Bool) : Type 0 where
+pub record LeavesRun (a : Start) (r : RequesterState) (report : Report) (met : Bool) : Type 0 where
   pub last : Player Global
   pub lived : LivesTo a last
   pub requester : r ≡ last.requester
@@ -36,7 +36,7 @@ pub record Leaves (a : Start) (r : RequesterState) (report : Report) (met : Bool
 -- so of each agent, in their order
 abbrev pub AllLeave : List Start → List RequesterState → List Report → List Bool → Type 0
 AllLeave [] [] [] [] = ⊤
-AllLeave (a ∷ xs) (r ∷ rs) (t ∷ ts) (m ∷ ms) = Leaves a r t m × AllLeave xs rs ts ms
+AllLeave (a ∷ xs) (r ∷ rs) (t ∷ ts) (m ∷ ms) = LeavesRun a r t m × AllLeave xs rs ts ms
 AllLeave xs rs ts ms = ⊥
 
 -- each requester begins with the script in its place

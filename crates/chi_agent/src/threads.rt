@@ -2,7 +2,7 @@
 
 ghost use Rattle.std.specs.Prelude.{◌≡◌, ◌≤◌, [], All, IfOk, map, true, vec_capacity, vec_len};
 ghost use Rattle.chi_agent.specs.Lives.{IsReportOf};
-ghost use Rattle.chi_agent.specs.Runs.{begun, start_of, starts, AllLeave, Leaves};
+ghost use Rattle.chi_agent.specs.Runs.{begun, start_of, starts, AllLeave, LeavesRun};
 ghost use Rattle.chi_node.specs.Calls.{IsSameRequester};
 ghost use Rattle.chi_node.specs.Node.{IsOwn};
 ghost use Rattle.chi_audit.specs.Tallies.{IsFresh};
@@ -47,9 +47,9 @@ pub(crate) struct Back {
 impl Promise<Came> for Back {
     ghost use Rattle.chi_node.specs.Calls.{IsSameRequester};
     ghost use Rattle.std.specs.Prelude.{◌≡◌};
-    ghost use Rattle.chi_agent.specs.Runs.{start_of, Leaves};
+    ghost use Rattle.chi_agent.specs.Runs.{start_of, LeavesRun};
 
-    ghost kept_by = { λ p came. Leaves (start_of p.config.value p.plan.seed p.plan.turns p.seat.value.requester p.seat.value.script.operations) came.requester came.sent.report came.not_open
+    ghost kept_by = { λ p came. LeavesRun (start_of p.config.value p.plan.seed p.plan.turns p.seat.value.requester p.seat.value.script.operations) came.requester came.sent.report came.not_open
         × (came.sent.channel ≡ p.seat.value.outbox.channel)
         × IsSameRequester p.seat.value.requester came.requester };
 }
@@ -100,7 +100,7 @@ fn run<R: Wait + Clock, A: Allocator, G: Gate>(
 ) -> Came
     requires own { IsOwn node.now seat.requester }
     requires fresh { IsFresh tallies.now seat.script.writer }
-    ensures leaves { Leaves (start_of node.now.config plan.seed plan.turns seat.requester seat.script.operations)
+    ensures leaves { LeavesRun (start_of node.now.config plan.seed plan.turns seat.requester seat.script.operations)
         result.requester result.sent.report result.not_open }
     ensures sent { result.sent.channel ≡ seat.outbox.channel }
     ensures same { IsSameRequester seat.requester result.requester }
@@ -162,7 +162,7 @@ fn start_one<
     let life = move || -> Came
         requires own { IsOwn node.now seat.requester }
         requires fresh { IsFresh tallies.now seat.script.writer }
-        ensures leaves { Leaves (start_of node.entry.now.config plan.seed plan.turns seat.requester seat.script.operations)
+        ensures leaves { LeavesRun (start_of node.entry.now.config plan.seed plan.turns seat.requester seat.script.operations)
             result.requester result.sent.report result.not_open }
         ensures sent { result.sent.channel ≡ seat.outbox.channel }
         ensures same { IsSameRequester seat.requester result.requester }

@@ -17,7 +17,7 @@ use Rattle.chi_chart.specs.declared.rows.ChartPart.{ChartPart}
 use Rattle.chi_chart.specs.Charts.{IsChart, IsChartOf, IsLayout, title_of}
 use Rattle.chi_chart.specs.Headings.{lines_behind}
 use Rattle.chi_chart.specs.Picture.{svg_of}
-use Rattle.chi_chart.specs.Played.{Drawing, IsRun}
+use Rattle.chi_chart.specs.Played.{Drawing, IsDrawnRun}
 use Rattle.chi_chart.specs.Rows.{ChartRow, below_headings, bottom_of, top}
 
 -- what is drawn of a file with this header and these checks
@@ -38,9 +38,9 @@ top_by f items n y is all = is ∙ ap (below_headings 70 false) (all ∙ sym (le
 
 -- the rows of a run of the commands, drawn, are the chart
 chart_of_run : (file : List ℕ) (header : Header) (checks : List CheckLine) (part : ChartPart) (d : Drawing) (title : List (List ℕ)) (rows : List ChartRow) (bottom : ℕ) (layout : Layout) (bytes : List ℕ)
-    → d ≡ drawing_of file header checks part → title ≡ title_of file → IsRun d rows bottom → IsLayout header layout → bytes ≡ svg_of layout title bottom rows → IsChart file header checks part bytes
+    → d ≡ drawing_of file header checks part → title ≡ title_of file → IsDrawnRun d rows bottom → IsLayout header layout → bytes ≡ svg_of layout title bottom rows → IsChart file header checks part bytes
 chart_of_run file header checks part d title rows bottom layout bytes is named run laid drawn =
-    let runs : IsRun (drawing_of file header checks part) rows bottom = subst (λ (x : Drawing). IsRun x rows bottom) is run in
+    let runs : IsDrawnRun (drawing_of file header checks part) rows bottom = subst (λ (x : Drawing). IsDrawnRun x rows bottom) is run in
     record {
       answers = runs.rows_are.answers;
       allowed = runs.rows_are.allowed;
@@ -50,7 +50,7 @@ chart_of_run file header checks part d title rows bottom layout bytes is named r
     }
 
 pub chart_if_drawn : {T : Type 0} (bytes_of : T → List ℕ) (result : Result T NoMemory) (file : List ℕ) (header : Header) (checks : List CheckLine) (part : ChartPart) (d : Drawing) (title : List (List ℕ)) (rows : List ChartRow) (bottom : ℕ) (layout : Layout)
-    → d ≡ drawing_of file header checks part → title ≡ title_of file → IsRun d rows bottom → IsLayout header layout → IfOk result (λ text. bytes_of text ≡ svg_of layout title bottom rows) → IfOk result (λ text. IsChart file header checks part (bytes_of text))
+    → d ≡ drawing_of file header checks part → title ≡ title_of file → IsDrawnRun d rows bottom → IsLayout header layout → IfOk result (λ text. bytes_of text ≡ svg_of layout title bottom rows) → IfOk result (λ text. IsChart file header checks part (bytes_of text))
 chart_if_drawn bytes_of (Ok text) file header checks part d title rows bottom layout is named run laid drawn = chart_of_run file header checks part d title rows bottom layout (bytes_of text) is named run laid drawn
 chart_if_drawn bytes_of (Err fault) file header checks part d title rows bottom layout is named run laid drawn = drawn
 

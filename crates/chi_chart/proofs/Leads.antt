@@ -13,7 +13,7 @@ use Rattle.chi_replay.proofs.Openings.{opening_machine, opening_views}
 use Rattle.chi_replay.proofs.Playing.{made_plays}
 use Rattle.chi_chart.specs.declared.rows.RowPlace.{RowPlace}
 use Rattle.chi_chart.specs.Headings.{headings_in, lines_behind}
-use Rattle.chi_chart.specs.Played.{Drawing, IsPlayed, IsRows, IsRun}
+use Rattle.chi_chart.specs.Played.{Drawing, IsPlayed, IsRows, IsDrawnRun}
 use Rattle.chi_chart.specs.Rows.{ChartRow, below_row, bottom_of, first_place, is_in_part, next_place, row_of, rows_of, shown_rows}
 use Rattle.chi_chart.specs.Steps.{Step, line_of_command, steps_of}
 
@@ -85,5 +85,5 @@ led_further d rows rows' at at' left left' old new check rest row led played are
   ends = ap (λ (p : RowPlace). p.y) goes ∙ (ends_further (is_shown d at check) d.top at rows row led.ends ∙ ap (bottom_of d.top) (sym are));
 }
 
-pub led_to : (d : Drawing) (rows : List ChartRow) (at : RowPlace) (left : List (List ℕ)) (system : SystemState) → Led d rows at left system [] → IsRun d rows at.y
+pub led_to : (d : Drawing) (rows : List ChartRow) (at : RowPlace) (left : List (List ℕ)) (system : SystemState) → Led d rows at left system [] → IsDrawnRun d rows at.y
 led_to d rows at left system led = record { rows_are = leads_to d rows at left (machine_of system) (ports_of system) led.leads; ends = led.ends }

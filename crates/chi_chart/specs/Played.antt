@@ -53,6 +53,6 @@ pub record IsRows (drawing : Drawing) (rows : List ChartRow) : Type 0 where
   pub same : rows ≡ rows_of drawing.part (first_place drawing.top) drawing.lines (steps_of (machine_at_start drawing.config) drawing.checks answers)
 
 -- and they end at the bottom
-pub record IsRun (drawing : Drawing) (rows : List ChartRow) (bottom : ℕ) : Type 0 where
+pub record IsDrawnRun (drawing : Drawing) (rows : List ChartRow) (bottom : ℕ) : Type 0 where
   pub rows_are : IsRows drawing rows
   pub ends : bottom ≡ bottom_of drawing.top rows

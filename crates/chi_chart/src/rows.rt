@@ -7,7 +7,7 @@ ghost use Rattle.chi_script.specs.Files.{lines_of};
 ghost use Rattle.chi_chart.specs.Headings.{headings_in, lines_behind};
 ghost use Rattle.chi_chart.specs.Steps.{line_of_command, seen_line};
 ghost use Rattle.chi_chart.specs.Rows.{below_headings, below_row, below_mark, below_marks, below_wanted, is_in_part, is_line, is_repeated, names_height, next_place, other_wanted, said_in, shown_rows};
-ghost use Rattle.chi_chart.specs.Played.{Drawing, IsPlayed, IsRun, row_seen};
+ghost use Rattle.chi_chart.specs.Played.{Drawing, IsPlayed, IsDrawnRun, row_seen};
 
 use crate::headings::LeftLines;
 use crate::marks::{Mark, marks_between};
@@ -290,7 +290,7 @@ pub(crate) fn rows_of<A: Allocator + Copy>(
     top: u32,
 ) -> Result<Rows<A>, NoMemory>
     ensures { IfOk result
-        (λ rows. IsRun (record {
+        (λ rows. IsDrawnRun (record {
           config = config.now;
           checks = map line_of_check checks.now;
           part = part.now;

@@ -44,7 +44,7 @@ IsAct s action effect s' = (action_refusal s action ≡ None) × SliceStep s act
 
 -- An agent's step is done with this effect, and sends the flits that were seen next, but for snoops. Which snoops in
 -- flight were seen, and what is still to be seen, is given before it and after it.
-pub record IsDone (agent : Agent) (step : Step) (effect : Effect) (s : SliceState) (shown : List Bool) (seen : List Observed) (s' : SliceState) (shown' : List Bool) (seen' : List Observed) : Type 0 where
+pub record IsStepSeen (agent : Agent) (step : Step) (effect : Effect) (s : SliceState) (shown : List Bool) (seen : List Observed) (s' : SliceState) (shown' : List Bool) (seen' : List Observed) : Type 0 where
   pub done : IsAct s (line_action agent step) effect s'
   pub answers : MayTake shown agent step
   pub taken : shown' ≡ shown_after shown agent step
@@ -56,19 +56,19 @@ IsSnoopSeen agent None seen seen' = ⊥
 IsSnoopSeen agent (Some snoop) seen seen' = seen ≡ seen_of.Flit (record { agent = agent; message = messages.Snp snoop }) ∷ seen'
 
 -- a snoop to the agent that is in flight, and wasn't seen before, is the flit that was seen next
-pub record IsShown (agent : Agent) (s : SliceState) (shown : List Bool) (seen : List Observed) (shown' : List Bool) (seen' : List Observed) : Type 0 where
+pub record IsSnoopShown (agent : Agent) (s : SliceState) (shown : List Bool) (seen : List Observed) (shown' : List Bool) (seen' : List Observed) : Type 0 where
   pub snoop : IsSnoopSeen agent (cells_of (line s 0) agent.0).snp seen seen'
   pub first : is_shown shown agent ≡ false
   pub now : shown' ≡ slice_set shown agent.0 true
 
 -- an item of an explanation; a load or a store that was seen is done, and a load reads the value that was seen
 abbrev pub Explains : Deed → SliceState → List Bool → List Observed → SliceState → List Bool → List Observed → Type 0
-Explains (Act agent step) s shown seen s' shown' seen' = (effect : Effect) × IsDone agent step effect s shown seen s' shown' seen'
-Explains (Shown agent) s shown seen s' shown' seen' = IsShown agent s shown seen shown' seen' × (s' ≡ s)
+Explains (Act agent step) s shown seen s' shown' seen' = (effect : Effect) × IsStepSeen agent step effect s shown seen s' shown' seen'
+Explains (Shown agent) s shown seen s' shown' seen' = IsSnoopShown agent s shown seen shown' seen' × (s' ≡ s)
 Explains (Load agent word value) s shown seen s' shown' seen' =
-    IsDone agent (steps.Load word) (Value value) s shown seen s' shown' (seen_of.Load agent word value ∷ seen')
+    IsStepSeen agent (steps.Load word) (Value value) s shown seen s' shown' (seen_of.Load agent word value ∷ seen')
 Explains (Store agent word value) s shown seen s' shown' seen' =
-    (effect : Effect) × IsDone agent (steps.Store word value) effect s shown seen s' shown' (seen_of.Store agent word value ∷ seen')
+    (effect : Effect) × IsStepSeen agent (steps.Store word value) effect s shown seen s' shown' (seen_of.Store agent word value ∷ seen')
 
 -- the items in their order explain all that was seen
 abbrev pub Explained : SliceState → List Bool → List Deed → List Observed → Type 0

@@ -7,7 +7,7 @@ use Rattle.chi_slice.specs.Servings.{Idle}
 use Rattle.chi_slice.specs.Slice.{SliceState, last_of, line}
 
 -- the home names nobody, and nothing is pending, waits or is served
-pub record IsQuiet (view : LineView) : Type 0 where
+pub record IsUntouched (view : LineView) : Type 0 where
   pub pending : All (λ request. is_none request ≡ true) view.pending
   pub waiting : All (λ request. is_none request ≡ true) view.waiting
   pub named : All (λ marked. not marked ≡ true) view.named
@@ -25,7 +25,7 @@ pub record IsOpen (memory : List ℕ) (view : LineView) : Type 0 where
   pub copies : All (λ copy. copy.state ≡ I) view.copies
   pub words : view.memory ≡ memory
   pub last : view.last ≡ memory
-  pub quiet : IsQuiet view
+  pub quiet : IsUntouched view
   pub flits : All (λ cells. are_empty cells ≡ true) view.flits
 
 -- a slice whose line 0 is open

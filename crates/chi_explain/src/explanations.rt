@@ -2,7 +2,7 @@
 
 ghost use Rattle.std.specs.Prelude.{◌≡◌, ◌<◌, IfOk, IsTrue, OnOk, replicate, false, true};
 ghost use Rattle.std.specs.List.{All};
-ghost use Rattle.chi_explain.specs.Explained.{Explained, Explains, IsAct, IsDone, IsExplained, IsShown, IsSnoopSeen, MayTake, is_listed, line_action, is_shown, shown_after};
+ghost use Rattle.chi_explain.specs.Explained.{Explained, Explains, IsAct, IsStepSeen, IsExplained, IsSnoopShown, IsSnoopSeen, MayTake, is_listed, line_action, is_shown, shown_after};
 ghost use Rattle.chi_explain.specs.declared.explanations.Deed.TheVariants.{Load, Store};
 ghost use Rattle.chi_slice.specs.Slice.{line};
 
@@ -209,7 +209,7 @@ fn show<'f, A: Allocator>(
 ) -> Result<&'f [Observed], Missed>
     requires { agent.0 < 8 }
     ensures { IfOk result
-        (λ rest. IsShown agent slice.now shown.old seen.now shown.new rest.now) }
+        (λ rest. IsSnoopShown agent slice.now shown.old seen.now shown.new rest.now) }
 {
     let cells = match slice.flits(agent, LINE) {
         Ok(cells) => cells,
@@ -250,7 +250,7 @@ fn act<'f, A: Allocator>(
     seen: &'f [Observed],
 ) -> Result<Sent<'f>, Missed>
     requires { agent.0 < 8 }
-    ensures { IfOk result (λ sent. IsDone agent step sent.effect
+    ensures { IfOk result (λ sent. IsStepSeen agent step sent.effect
         slice.old shown.old seen.now slice.new shown.new sent.rest.now) }
 {
     if !may_take(shown, agent, step) {

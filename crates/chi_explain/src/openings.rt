@@ -4,7 +4,7 @@ ghost use Rattle.std.specs.Prelude.{◌≡◌, ◌↔◌, IfOk, IsTrue, is_none,
 ghost use Rattle.std.specs.List.{All};
 ghost use Rattle.chi_flit.specs.declared.state.State.TheVariants.{I};
 ghost use Rattle.chi_slice.specs.Servings.{Idle};
-ghost use Rattle.chi_explain.specs.Opening.{IsOpen, IsOpenAt, IsOpenedIf, IsQuiet, are_empty};
+ghost use Rattle.chi_explain.specs.Opening.{IsOpen, IsOpenAt, IsOpenedIf, IsUntouched, are_empty};
 
 use chi_flit::{Action, Agent, Data, Kind, Line, NoMemory, Slot, State, Step, WordNo};
 use chi_slice::{Cells, Config, CopyView, LineView, Pending, Serving, Slice, Waiting};
@@ -131,7 +131,7 @@ fn has_none(cells: &Cells) -> bool
 
 /// Whether the home names nobody, and nothing is pending, waits or is served.
 fn is_quiet(view: &LineView) -> bool
-    ensures { IsTrue result → IsQuiet view.now }
+    ensures { IsTrue result → IsUntouched view.now }
 {
     let pending = is_nothing_pending(&view.pending);
     let waiting = does_nothing_wait(&view.waiting);

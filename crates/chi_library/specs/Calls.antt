@@ -32,8 +32,8 @@ told_unless (Some refusal) nothing tells = nothing
 
 -- an opening of a handle, by sizes that may be outside their ranges: what the handle held, the answer, and what it
 -- holds then, which is what these sizes open
-abbrev pub IsOpening : {C S : Type 0} → (C → S → Type 0) → Option C → Option S → ℕ → Option S → Type 0
-IsOpening Opens sizes (Some s) answer new = (answer ≡ already_open) × (new ≡ Some s)
-IsOpening Opens None None answer new = (answer ≡ 10) × (new ≡ None)
-IsOpening Opens (Some c) None answer None = answer ≡ 8
-IsOpening Opens (Some c) None answer (Some s) = (answer ≡ 0) × Opens c s
+abbrev pub IsOpeningCall : {C S : Type 0} → (C → S → Type 0) → Option C → Option S → ℕ → Option S → Type 0
+IsOpeningCall Opens sizes (Some s) answer new = (answer ≡ already_open) × (new ≡ Some s)
+IsOpeningCall Opens None None answer new = (answer ≡ 10) × (new ≡ None)
+IsOpeningCall Opens (Some c) None answer None = answer ≡ 8
+IsOpeningCall Opens (Some c) None answer (Some s) = (answer ≡ 0) × Opens c s

@@ -3,11 +3,11 @@
 ghost use Rattle.std.specs.Prelude.{◌≡◌, IfOk, None, Some};
 ghost use Rattle.chi_flit.specs.Numbers.{agent_at, credit_of, line_at};
 ghost use Rattle.chi_library.specs.Actions.{no_effect};
-ghost use Rattle.chi_library.specs.Calls.{IsOpening, answer_number, output_of};
+ghost use Rattle.chi_library.specs.Calls.{IsOpeningCall, answer_number, output_of};
 ghost use Rattle.chi_library.specs.Flits.{no_flits_told};
 ghost use Rattle.chi_library.specs.Lines.{no_line_told};
 ghost use Rattle.chi_library.specs.Numbers.{number_if};
-ghost use Rattle.chi_library.specs.NodeCalls.{ArrivalCall, CalledOn, ReturnCall, IsAuditOf, IsOwn, IsTotalsOf, IsUntold, LookCall, OpensNode, StepCall, TendCall, no_arrival, no_credits_told, no_release, node_flits_told, node_show_told, node_step_refusal, own_of};
+ghost use Rattle.chi_library.specs.NodeCalls.{ArrivalCall, CalledOn, ReturnCall, IsAuditOf, IsOwnCall, IsTotalsOf, IsUntold, LookCall, OpensNode, StepCall, TendCall, no_arrival, no_credits_told, no_release, node_flits_told, node_show_told, node_step_refusal, own_of};
 ghost use Rattle.chi_library.specs.Sizes.{config_of};
 ghost use Rattle.chi_node.specs.Calls.{is_own_step};
 ghost use Rattle.chi_node.specs.Home.{node_flits_refusal, node_view_refusal};
@@ -36,7 +36,7 @@ use std::alloc::Global;
 /// Source: `docs/LIBRARY.md`, "A node".
 #[unsafe(no_mangle)]
 pub extern "C" fn chi_node_open(alloc: Global, node: &mut ChiNode, config: &ChiConfig) -> u8
-    ensures { IsOpening OpensNode (config_of config.now) node.old.value result node.new.value }
+    ensures { IsOpeningCall OpensNode (config_of config.now) node.old.value result node.new.value }
 {
     if let Some(held) = node.take(alloc) {
         node.put(held);
@@ -330,7 +330,7 @@ pub extern "C" fn chi_node_close(alloc: Global, node: &mut ChiNode) -> u8
 /// Opens a closed handle.
 fn open(alloc: Global, node: &mut ChiNode, config: &Config) -> u8
     requires closed { node.old.value ≡ None }
-    ensures { IsOpening OpensNode (Some config.now) None result node.new.value }
+    ensures { IsOpeningCall OpensNode (Some config.now) None result node.new.value }
 {
     match boxed_node(alloc, config) {
         Ok(held) => {
@@ -374,7 +374,7 @@ fn is_own_step(step: Step) -> bool
 /// The action of a requester's own that C's numbers name.
 fn own_action_at(action: &ChiAction) -> Option<Action>
     ensures action { result ≡ own_of action.now }
-    ensures own { IsOwn result }
+    ensures own { IsOwnCall result }
 {
     let action = action_at(action)?;
     if is_own_step(action.step) {
@@ -392,7 +392,7 @@ fn step_on(
     effect: &mut ChiEffect,
     release: &mut ChiRelease,
 ) -> u8
-    requires { IsOwn own }
+    requires { IsOwnCall own }
     ensures answer { result ≡ answer_number node.old.value (node_step_refusal own) }
     ensures call { CalledOn node.old.value node.new.value (StepCall own effect.new release.new) }
     ensures closed { node.old.value ≡ None → IsUntold effect.new release.new }
@@ -418,7 +418,7 @@ fn step(
 ) -> u8
     requires effect { effect.old ≡ no_effect }
     requires release { release.old ≡ no_release }
-    requires own { IsOwn own }
+    requires own { IsOwnCall own }
     ensures answer { result ≡ number_if (node_step_refusal own node.old) }
     ensures call { StepCall own effect.new release.new node.old node.new }
 {

@@ -2,7 +2,7 @@
 
 ghost use Rattle.std.specs.Prelude.{◌≡◌, ◌<◌, IfOk, None, Some};
 ghost use Rattle.chi_library.specs.Actions.{action_of, no_effect};
-ghost use Rattle.chi_library.specs.Calls.{IsOpening, answer_number, state_after, output_of};
+ghost use Rattle.chi_library.specs.Calls.{IsOpeningCall, answer_number, state_after, output_of};
 ghost use Rattle.chi_library.specs.Flits.{no_flits_told};
 ghost use Rattle.chi_library.specs.Lines.{no_line_told};
 ghost use Rattle.chi_library.specs.Numbers.{number_if};
@@ -36,7 +36,7 @@ pub extern "C" fn chi_slice_open(
     config: &ChiConfig,
     index: u8,
 ) -> u8
-    ensures { IsOpening (Opens index)
+    ensures { IsOpeningCall (Opens index)
         (sizes_at (config_of config.now) index) slice.old.value result slice.new.value }
 {
     if let Some(held) = slice.take(alloc) {
@@ -200,7 +200,7 @@ pub extern "C" fn chi_slice_close(alloc: Global, slice: &mut ChiSlice) -> u8
 fn open(alloc: Global, slice: &mut ChiSlice, config: &Config, index: u8) -> u8
     requires closed { slice.old.value ≡ None }
     requires index { index < config.now.slices }
-    ensures { IsOpening (Opens index) (Some config.now) None result slice.new.value }
+    ensures { IsOpeningCall (Opens index) (Some config.now) None result slice.new.value }
 {
     match boxed_slice(alloc, config, index) {
         Ok(held) => {

@@ -46,5 +46,5 @@ is_alike (Store agent word value) (Store other that written) = is_same_word agen
 is_alike one other = false
 
 -- and so is each of these
-pub record AreAlike (seen : Observed) (others : List Observed) : Type 0 where
+pub record AreInterchangeable (seen : Observed) (others : List Observed) : Type 0 where
   pub all : All (λ other. is_alike seen other ≡ true) others

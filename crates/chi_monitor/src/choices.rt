@@ -1,7 +1,7 @@
 //! What the model allows in place of what was seen.
 
 ghost use Rattle.std.specs.Prelude.{◌≡◌, ◌<◌, IfOk, OnOk};
-ghost use Rattle.chi_monitor.specs.Choices.{AreAlike, is_alike, is_same_way};
+ghost use Rattle.chi_monitor.specs.Choices.{AreInterchangeable, is_alike, is_same_way};
 
 use crate::faults::LineFault;
 use crate::line::Search;
@@ -42,7 +42,7 @@ pub fn allowed<A: Allocator + Copy>(
     before: &[Observed],
     seen: &Observed,
 ) -> Result<Vec<Observed, A>, LineFault>
-    ensures { IfOk result (λ others. AreAlike seen.now others.items) }
+    ensures { IfOk result (λ others. AreInterchangeable seen.now others.items) }
 {
     let mut allowed = Vec::new(alloc);
     let search = line_behind(alloc, stores, before)?;
@@ -61,8 +61,8 @@ fn add_alike<A: Allocator>(
     seen: &Observed,
     other: &Observed,
 ) -> Result<(), LineFault>
-    ensures { OnOk result (AreAlike seen.now others.old.items
-        → AreAlike seen.now others.new.items) }
+    ensures { OnOk result (AreInterchangeable seen.now others.old.items
+        → AreInterchangeable seen.now others.new.items) }
 {
     if is_alike(seen, other) {
         others.push(*other)?;

@@ -25,7 +25,7 @@ use Rattle.chi_node.specs.AfterStep.{Finishes}
 use Rattle.chi_node.specs.Parts.{HasTypes}
 use Rattle.chi_node.specs.Requester.{RequesterState, no_requester, IsRunning}
 use Rattle.chi_node.specs.Home.{HomeState, slices_after, index_of, node_line, slice_of, with_slice}
-use Rattle.chi_node.specs.System.{ArrivesIn, IsOf, IsSystem, StepsIn, SystemState, arrive_refusal, requester_of, system_step_refusal}
+use Rattle.chi_node.specs.System.{ArrivesIn, IsSystemOf, IsSystem, StepsIn, SystemState, arrive_refusal, requester_of, system_step_refusal}
 use Rattle.chi_node.proofs.Homes.{is_low, sizes_at, slice_read}
 use Rattle.chi_node.proofs.Systems.{has_requester, have_types, visited}
 
@@ -65,7 +65,7 @@ pub record CanCall (table : TableId) (n : ℕ) (s : SliceState) (r : RequesterSt
   pub types : HasTypes s.config r.port.shape
   pub agrees : Agree s r
 
-pub can_call : (tracker : TrackerState) (y y' : SystemState) (n l : ℕ) (s s' : SliceState) (r r' : RequesterState) → IsOf tracker y → Called y y' n l s s' r r' → CanCall tracker.table n s r
+pub can_call : (tracker : TrackerState) (y y' : SystemState) (n l : ℕ) (s s' : SliceState) (r r' : RequesterState) → IsSystemOf tracker y → Called y y' n l s s' r r' → CanCall tracker.table n s r
 can_call tracker y y' n l s s' r r' own call =
     let k : IsSystem y = own.system in
     let low = has_requester y n k call.near in
@@ -77,9 +77,9 @@ can_call tracker y y' n l s s' r r' own call =
     })
 
 -- the node keeps what it keeps
-pub still_system : (tracker : TrackerState) (y y' : SystemState) (n l : ℕ) (s s' : SliceState) (r r' : RequesterState) → IsOf tracker y → Called y y' n l s s' r r' → IsSameSlice s s' → IsSameRequester r r' → KeepsAgreement s s' r r' → (IsRunning r → IsRunning r') → IsOf tracker y'
+pub still_system : (tracker : TrackerState) (y y' : SystemState) (n l : ℕ) (s s' : SliceState) (r r' : RequesterState) → IsSystemOf tracker y → Called y y' n l s s' r r' → IsSameSlice s s' → IsSameRequester r r' → KeepsAgreement s s' r r' → (IsRunning r → IsRunning r') → IsSystemOf tracker y'
 still_system tracker y y' n l s s' r r' own call slice requester agreement running =
-    subst (IsOf tracker) call.left (visited tracker y n l s' r' own call.near (subst (λ (x : SliceState). IsSameSlice x s') (sym call.slice) slice)
+    subst (IsSystemOf tracker) call.left (visited tracker y n l s' r' own call.near (subst (λ (x : SliceState). IsSameSlice x s') (sym call.slice) slice)
     (subst (λ (q : RequesterState). IsSameRequester q r') (sym call.requester) requester) (subst₂ (λ (x : SliceState) (q : RequesterState). KeepsAgreement x s' q r') (sym call.slice) (sym call.requester) agreement)
     (subst (λ (q : RequesterState). IsRunning q → IsRunning r') (sym call.requester) running))
 
@@ -108,7 +108,7 @@ left_there : (y : SystemState) (n : ℕ) (r : RequesterState) → IsSystem y →
 left_there y n r k near = sym (get_or-set_at y.requesters n n r no_requester refl (has_requester y n k near))
 
 -- a row that was asked for is the requester's
-pub row_found : (tracker : TrackerState) (y y' : SystemState) (n l : ℕ) (s s' : SliceState) (r r' : RequesterState) (at : AgentRow) → IsOf tracker y → Called y y' n l s s' r r' → IsRowOf (slice_of y.home l) n at → IsRowOf s r.number at
+pub row_found : (tracker : TrackerState) (y y' : SystemState) (n l : ℕ) (s s' : SliceState) (r r' : RequesterState) (at : AgentRow) → IsSystemOf tracker y → Called y y' n l s s' r r' → IsRowOf (slice_of y.home l) n at → IsRowOf s r.number at
 row_found tracker y y' n l s s' r r' at own call row =
     subst₂ (λ (x : SliceState) (m : ℕ). IsRowOf x m at) call.slice (can_call tracker y y' n l s s' r r' own call).number row
 

@@ -14,7 +14,7 @@ use Rattle.chi_node.specs.Calls.{IsSameRequester}
 use Rattle.chi_node.specs.Requester.{RequesterState, no_requester, with_port, IsRunning}
 use Rattle.chi_node.proofs.CreditCalls.{freed_agrees, ported_agrees}
 use Rattle.chi_node.specs.Credits.{GiveBackTry, GivesBack, Sees, Tends, TendTry}
-use Rattle.chi_node.specs.System.{IsOf, IsSystem, SystemState, requester_of}
+use Rattle.chi_node.specs.System.{IsSystemOf, IsSystem, SystemState, requester_of}
 use Rattle.chi_node.proofs.Changed.{written_back}
 use Rattle.chi_node.proofs.Systems.{agree_at, has_requester, renewed}
 
@@ -56,14 +56,14 @@ tended t r r' (Ok released) tried = tends_alike t released r r' tried.ok
 tended t r r' (Err refusal) tried = stays_alike r r' tried.err
 
 -- the node's slices stay, and one requester is as alike
-pub still_alike : (tracker : TrackerState) (y : SystemState) (n : ℕ) (lent back : List RequesterState) (r : RequesterState) → IsOf tracker y → n < y.home.config.agents → lent ≡ y.requesters → back ≡ set lent n r → IsAlike (get_or lent n no_requester) r
-    → IsOf tracker (record { home = y.home; requesters = refill (length y.requesters) y.requesters back })
+pub still_alike : (tracker : TrackerState) (y : SystemState) (n : ℕ) (lent back : List RequesterState) (r : RequesterState) → IsSystemOf tracker y → n < y.home.config.agents → lent ≡ y.requesters → back ≡ set lent n r → IsAlike (get_or lent n no_requester) r
+    → IsSystemOf tracker (record { home = y.home; requesters = refill (length y.requesters) y.requesters back })
 still_alike tracker y n lent back r own near value changed lent_alike =
     let k : IsSystem y = own.system in
     let low = has_requester y n k near in
     let alike : IsAlike (requester_of y n) r = subst (λ (xs : List RequesterState). IsAlike (get_or xs n no_requester) r) value lent_alike in
     let all : AllAgree y.home.slices (set y.requesters n r) = λ j d inside. λ m e within. agree_after y n r k low alike j d inside m e within in
-    subst (λ (rs : List RequesterState). IsOf tracker (record { home = y.home; requesters = rs })) (sym (written_back y.requesters lent back n r value changed)) (renewed tracker y y.home n r own near k.home refl alike.same (alike.running (k.running n no_requester low)) all)
+    subst (λ (rs : List RequesterState). IsSystemOf tracker (record { home = y.home; requesters = rs })) (sym (written_back y.requesters lent back n r value changed)) (renewed tracker y y.home n r own near k.home refl alike.same (alike.running (k.running n no_requester low)) all)
   where
     agree_after : (y : SystemState) (n : ℕ) (r : RequesterState) (k : IsSystem y) → n < length y.requesters → IsAlike (requester_of y n) r → (j : ℕ) (d : SliceState) → j < length y.home.slices → (m : ℕ) (e : RequesterState) → m < length (set y.requesters n r) → Agree (get_or y.home.slices j d) (get_or (set y.requesters n r) m e)
     agree_after y n r k low alike j d inside m e within = ⊎_elim

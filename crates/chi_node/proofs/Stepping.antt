@@ -29,7 +29,7 @@ use Rattle.chi_credit.specs.Slot.{after_answer, after_finish, can_be_answered, i
 use Rattle.chi_credit.specs.Account.{slots_with_state, slot_record_at, state_at}
 use Rattle.chi_node.specs.Requester.{RequesterState, with_both}
 use Rattle.chi_node.specs.Agree.{MatchesRecord, where_of_state}
-use Rattle.chi_node.specs.AfterStep.{CanFinish, CanFollow, Completes, Finishes, SlotMeets, account_after, changed_at, counts_after, requester_after}
+use Rattle.chi_node.specs.AfterStep.{CanFinish, CanFollow, CompletesRequest, Finishes, SlotMeets, account_after, changed_at, counts_after, requester_after}
 use Rattle.chi_node.specs.Calls.{place_at}
 use Rattle.chi_node.proofs.Matches.{itself}
 use Rattle.chi_node.proofs.Records.{Becomes, answered, closed, closes, ended, only_after, only_nowhere, only_there, record_here, record_is, restated, says_here, tells_of}
@@ -171,7 +171,7 @@ completes s agent l step r from slot ready own unissued unrecorded admitted b = 
   after = λ released r' done. by_release released r' done.0 done.1;
 }
   where
-    by_release : (released : Option Released) (r' : RequesterState) → IfNone released ⊥ → IfSome released (λ z. Completes slot.0 z r r') → OwnFollows s agent l step r r'
+    by_release : (released : Option Released) (r' : RequesterState) → IfNone released ⊥ → IfSome released (λ z. CompletesRequest slot.0 z r r') → OwnFollows s agent l step r r'
     by_release None r' none some = absurd none
     by_release (Some z) r' none some = subst (OwnFollows s agent l step r) (sym some.after) (record {
       number = refl;

@@ -21,7 +21,7 @@ use Rattle.chi_node.specs.Parts.{AgreeAtOpening, is_of_profile, opening_requeste
 use Rattle.chi_node.specs.Requester.{RequesterState, no_requester, opening_requester, IsRunning}
 use Rattle.chi_node.proofs.Openings.{all_types, opening_shaped}
 use Rattle.chi_node.specs.Home.{HomeState, IsHome, index_of, opening_home, slice_of, with_slice}
-use Rattle.chi_node.specs.System.{IsOf, IsSystem, SystemState, opening_system, requester_of}
+use Rattle.chi_node.specs.System.{IsSystemOf, IsSystem, SystemState, opening_system, requester_of}
 use Rattle.chi_node.proofs.Homes.{is_low, opening_at, opening_is_home, sizes_at, still_home}
 
 requester_at : (table : TableId) (shape : Shape) (n i : ℕ) (d : RequesterState) → i < n → get_or (opening_requesters table shape n) i d ≡ opening_requester table shape i
@@ -43,7 +43,7 @@ opening_running config table i limits low = record {
   is = new_port_at (shape_of config.entries config.agents) 0 config.agents i low ∙ ap (new_port (shape_of config.entries config.agents)) (omega arith);
 }
 
-pub opening_is_system : (config : Sizes) (tracker : TrackerState) → are_in_limits config ≡ true → AgreeAtOpening config tracker.table tracker.shape → tracker.shape ≡ shape_of config.entries config.agents → IsOf tracker (opening_system config tracker.table)
+pub opening_is_system : (config : Sizes) (tracker : TrackerState) → are_in_limits config ≡ true → AgreeAtOpening config tracker.table tracker.shape → tracker.shape ≡ shape_of config.entries config.agents → IsSystemOf tracker (opening_system config tracker.table)
 opening_is_system config tracker limits agreed is =
     let table = tracker.table in
     let shape = shape_of config.entries config.agents in
@@ -83,8 +83,8 @@ few_requesters : (y : SystemState) → IsSystem y → length y.requesters ≤ 8
 few_requesters y k = let l : InLimits y.home.config = in_limits y.home.config k.home.limits in omega (arith, k.count, l.agents)
 
 -- one requester is another one that keeps its number and its tracker
-pub renewed : (tracker : TrackerState) (y : SystemState) (h : HomeState) (n : ℕ) (r : RequesterState) → IsOf tracker y → n < y.home.config.agents → IsHome h → h.config ≡ y.home.config → IsSameRequester (requester_of y n) r → IsRunning r → AllAgree h.slices (set y.requesters n r)
-    → IsOf tracker (record { home = h; requesters = set y.requesters n r })
+pub renewed : (tracker : TrackerState) (y : SystemState) (h : HomeState) (n : ℕ) (r : RequesterState) → IsSystemOf tracker y → n < y.home.config.agents → IsHome h → h.config ≡ y.home.config → IsSameRequester (requester_of y n) r → IsRunning r → AllAgree h.slices (set y.requesters n r)
+    → IsSystemOf tracker (record { home = h; requesters = set y.requesters n r })
 renewed tracker y h n r own near home config same running all =
     let k : IsSystem y = own.system in
     let low = has_requester y n k near in
@@ -131,15 +131,15 @@ visit_agrees y n l s r k near same keeps = λ j d inside. λ m e within.
     (cases_eq j i)
 
 -- a call on the slice of a line
-pub visited : (tracker : TrackerState) (y : SystemState) (n l : ℕ) (s : SliceState) (r : RequesterState) → IsOf tracker y → n < y.home.config.agents → IsSameSlice (slice_of y.home l) s → IsSameRequester (requester_of y n) r → KeepsAgreement (slice_of y.home l) s (requester_of y n) r
-    → (IsRunning (requester_of y n) → IsRunning r) → IsOf tracker (record { home = with_slice y.home l s; requesters = set y.requesters n r })
+pub visited : (tracker : TrackerState) (y : SystemState) (n l : ℕ) (s : SliceState) (r : RequesterState) → IsSystemOf tracker y → n < y.home.config.agents → IsSameSlice (slice_of y.home l) s → IsSameRequester (requester_of y n) r → KeepsAgreement (slice_of y.home l) s (requester_of y n) r
+    → (IsRunning (requester_of y n) → IsRunning r) → IsSystemOf tracker (record { home = with_slice y.home l s; requesters = set y.requesters n r })
 visited tracker y n l s r own near same_slice same keeps running = renewed tracker y (with_slice y.home l s) n r own near (still_home y.home l s own.system.home same_slice) refl same (running (own.system.running n no_requester (has_requester y n own.system near))) (visit_agrees y n l s r own.system near same_slice keeps)
 
 -- what was made of the parts of a node
 pub made_system : (config : Sizes) (tracker : TrackerState) (ss : List SliceState) (rs : List RequesterState) → are_in_limits config ≡ true → AgreeAtOpening config tracker.table tracker.shape → tracker.shape ≡ shape_of config.entries config.agents → ss ≡ opening_slices config config.slices
-    → rs ≡ opening_requesters tracker.table tracker.shape config.agents → IsOf tracker (record { home = record { config = config; slices = ss }; requesters = rs })
+    → rs ≡ opening_requesters tracker.table tracker.shape config.agents → IsSystemOf tracker (record { home = record { config = config; slices = ss }; requesters = rs })
 made_system config tracker ss rs limits all is slices requesters =
     let opened = opening_is_system config tracker limits all is in
     let same : rs ≡ opening_requesters tracker.table (shape_of config.entries config.agents) config.agents = requesters ∙ ap (λ (z : Shape). opening_requesters tracker.table z config.agents) is in
-    subst (λ (xs : List SliceState). IsOf tracker (record { home = record { config = config; slices = xs }; requesters = rs })) (sym slices)
-    (subst (λ (qs : List RequesterState). IsOf tracker (record { home = opening_home config; requesters = qs })) (sym same) opened)
+    subst (λ (xs : List SliceState). IsSystemOf tracker (record { home = record { config = config; slices = xs }; requesters = rs })) (sym slices)
+    (subst (λ (qs : List RequesterState). IsSystemOf tracker (record { home = opening_home config; requesters = qs })) (sym same) opened)

@@ -69,7 +69,7 @@ CanFollow at steps.RecvDbid r = SlotMeets at.slot (λ s. can_be_answered (state_
 CanFollow at other r = ⊤
 
 -- the request of slot s was completed, and its entry, which was in hand, released
-pub record Completes (s : ℕ) (released : Released) (old new : RequesterState) : Type 0 where
+pub record CompletesRequest (s : ℕ) (released : Released) (old new : RequesterState) : Type 0 where
   pub ended : (e : Entry) × (state_at old.slots s ≡ Admitted e) × EndedAsItsType old.port e.0 released new.port
   pub held : (e : Entry) → state_at old.slots s ≡ Admitted e → has e.0 old.port ≡ 1
   pub credits : HasSameCredits old.port new.port
@@ -84,5 +84,5 @@ CanFinish at step (Value word) r = CanFollow at step r
 CanFinish at step (Completed slot) r = (slot.0 < 8) × (is_admitted (state_at r.slots slot.0) ≡ true)
 
 abbrev pub Finishes : StepPlace → Step → Effect → Option Released → RequesterState → RequesterState → Type 0
-Finishes at step (Completed slot) released old new = IfNone released ⊥ × IfSome released (λ r. Completes slot.0 r old new)
+Finishes at step (Completed slot) released old new = IfNone released ⊥ × IfSome released (λ r. CompletesRequest slot.0 r old new)
 Finishes at step other released old new = (released ≡ None) × (new ≡ requester_after at step old)

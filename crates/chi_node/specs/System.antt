@@ -102,7 +102,7 @@ pub record IsSystem (y : SystemState) : Type 0 where
   pub running : All IsRunning y.requesters
 
 -- and all ports are those of one tracker, which has the node's entries and agents
-pub record IsOf (tracker : TrackerState) (y : SystemState) : Type 0 where
+pub record IsSystemOf (tracker : TrackerState) (y : SystemState) : Type 0 where
   pub system : IsSystem y
   pub tables : All (λ r. r.table ≡ tracker.table) y.requesters
   pub shape : tracker.shape ≡ shape_of y.home.config.entries y.home.config.agents

@@ -44,13 +44,13 @@ pub struct System<A: Allocator> {
 }
 
 impl<A: Allocator> Model for System<A> {
-    ghost use Rattle.chi_node.specs.System.{SystemState, IsOf};
+    ghost use Rattle.chi_node.specs.System.{SystemState, IsSystemOf};
 
     ghost Value = { SystemState };
 
     ghost view = { λ y. record { home = record { config = y.config; slices = y.slices.items }; requesters = y.requesters.items } };
 
-    ghost invariant = { λ y. IsOf y.tracker (record { home = record { config = y.config; slices = y.slices.items }; requesters = y.requesters.items }) };
+    ghost invariant = { λ y. IsSystemOf y.tracker (record { home = record { config = y.config; slices = y.slices.items }; requesters = y.requesters.items }) };
 }
 
 impl<A: Allocator + Copy> System<A> {

@@ -17,7 +17,7 @@ use Rattle.chi_node.specs.Home.{HomeState}
 use Rattle.chi_node.specs.System.{GivesBackIn, IsSystem, SeesIn, SystemState, TendsIn, agent_refusal, give_back_refusal_in, requester_of, tend_refusal_in}
 use Rattle.chi_reply.specs.Replies.{credits_text, reply_text}
 use Rattle.chi_reply.specs.declared.replies.Reply.TheVariants as replies
-use Rattle.chi_replay.specs.Ports.{GivesBack, Sees, Tends, seen_counts}
+use Rattle.chi_replay.specs.Ports.{PortGivesBack, PortSees, PortTends, seen_counts}
 use Rattle.chi_replay.specs.Turns.{Machine, Saw, Tended, Went, credits_of, give_back, less_one, slots_of, tend, turn_after_tend, turn, type_refusal, with_credits, with_account}
 use Rattle.chi_replay.specs.Texts.{Plays}
 use Rattle.chi_replay.specs.NodeReplies.{give_back_reply, tend_reply}
@@ -41,7 +41,7 @@ see_plays y y' agent counts k h four saw =
       Saw counts ∷ [],
       (
         ports_of y',
-        at_port y agent (ports_of y') (requester_of y' agent.0).port (λ before after. Sees before counts after) k (agent_low y agent h) (ports_after y y' agent saw.others) (saw.requester.port, saw.requester.more, is),
+        at_port y agent (ports_of y') (requester_of y' agent.0).port (λ before after. PortSees before counts after) k (agent_low y agent h) (ports_after y y' agent saw.others) (saw.requester.port, saw.requester.more, is),
         (refl, state, refl),
       ),
     )
@@ -75,7 +75,7 @@ returned y y' agent ty released k h gave =
       Went released ∷ [],
       (
         ports_of y',
-        at_port y agent (ports_of y') (requester_of y' agent.0).port (λ before after. GivesBack before ty released after) k low (ports_after y y' agent gave.others) (e, gave.requester.returned.1, gave.requester.returned.2, gave.requester.returned.3),
+        at_port y agent (ports_of y') (requester_of y' agent.0).port (λ before after. PortGivesBack before ty released after) k low (ports_after y y' agent gave.others) (e, gave.requester.returned.1, gave.requester.returned.2, gave.requester.returned.3),
         (refl, state, refl),
       ),
     )
@@ -97,7 +97,7 @@ went y y' agent ty released k h tends =
       Tended released ∷ [],
       (
         ports_of y',
-        at_port y agent (ports_of y') (requester_of y' agent.0).port (λ before after. Tends before ty released after) k (typed_low y agent _ h) (ports_after y y' agent tends.others) tends.requester.tended,
+        at_port y agent (ports_of y') (requester_of y' agent.0).port (λ before after. PortTends before ty released after) k (typed_low y agent _ h) (ports_after y y' agent tends.others) tends.requester.tended,
         said released state,
       ),
     )

@@ -33,7 +33,7 @@ use Rattle.chi_node.specs.declared.answers.Arrived.TheVariants.{Admitted, Retrie
 use Rattle.chi_node.specs.declared.answers.Stepped.{Stepped}
 use Rattle.chi_node.specs.Requester.{RequesterState}
 use Rattle.chi_node.specs.Arrives.{Arrives}
-use Rattle.chi_node.specs.AfterStep.{Completes, Finishes, account_after, requester_after}
+use Rattle.chi_node.specs.AfterStep.{CompletesRequest, Finishes, account_after, requester_after}
 use Rattle.chi_node.specs.Calls.{ArrivesAt, arrival_action, place_at}
 use Rattle.chi_script.specs.declared.commands.Command.TheVariants as commands
 use Rattle.chi_slice.specs.Audits.{IsAudited, loads_in}
@@ -41,7 +41,7 @@ use Rattle.chi_node.specs.Home.{HomeState, slices_after, node_line, slice_of}
 use Rattle.chi_node.specs.System.{ArrivesIn, IsSystem, OthersStay, StepsIn, SystemState, arrive_refusal, requester_of, system_step_refusal}
 use Rattle.chi_reply.specs.Replies.{audit_text, reply_text, totals_text}
 use Rattle.chi_reply.specs.declared.replies.Reply.TheVariants as replies
-use Rattle.chi_replay.specs.Ports.{Claims, Owes, Releases, Spends, seen_counts}
+use Rattle.chi_replay.specs.Ports.{PortClaims, PortOwes, PortReleases, PortSpends, seen_counts}
 use Rattle.chi_replay.specs.Turns.{Claimed, Ends, Glanced, Judged, Machine, Owed, Spent, Turn, Went, act_turn, act_refusal, machine_after_admission, arrive, arriving, turn_of_attempt, by_type, completing, credits_of, turn_after_action, less_one, or_refused, slots_after, slots_of, with_action, with_arrival, with_credits, with_end, turn}
 use Rattle.chi_replay.specs.NodeReplies.{arrival_reply, done_reply, step_reply, totals_told}
 use Rattle.chi_replay.specs.Session.{PlaysOn, SaysOn, machine_of, ports_of}
@@ -97,7 +97,7 @@ first_admitted y y' agent l s e k low home others h =
       Claimed (Some e) ∷ [],
       (
         ports_of y',
-        at_port y agent (ports_of y') (requester_of y' agent.0).port (λ before after. Claims before ty (Some e) after) k low (ports_after y y' agent others) (h.1, h.2, ap (λ (x : RequesterState). x.port) h.3),
+        at_port y agent (ports_of y') (requester_of y' agent.0).port (λ before after. PortClaims before ty (Some e) after) k low (ports_after y y' agent others) (h.1, h.2, ap (λ (x : RequesterState). x.port) h.3),
         (refl, arrived_state y y' agent l s (Admitted e) (states.Admitted e) home others (ap (λ (x : RequesterState). x.slots) h.3) (ap (λ (x : RequesterState). seen_counts x.port) h.3), refl),
       ),
     )
@@ -113,10 +113,10 @@ first_retried y y' agent l s told k low home others h =
       Claimed None ∷ Owed ∷ [],
       (
         set (ports_of y) agent.0 mid,
-        at_port y agent (set (ports_of y) agent.0 mid) mid (λ before after. Claims before ty None after) k low refl (refl, λ i is. sym (ap (λ (p : PortView). bit_at p.found i) after) ∙ h.1 i is),
+        at_port y agent (set (ports_of y) agent.0 mid) mid (λ before after. PortClaims before ty None after) k low refl (refl, λ i is. sym (ap (λ (p : PortView). bit_at p.found i) after) ∙ h.1 i is),
         (
           ports_of y',
-          at_port_again y agent (ports_of y') mid (requester_of y' agent.0).port (λ before after. Owes before ty after) k low (ports_after y y' agent others) after,
+          at_port_again y agent (ports_of y') mid (requester_of y' agent.0).port (λ before after. PortOwes before ty after) k low (ports_after y y' agent others) after,
           (ap (λ (c : CreditType). reply_text (replies.Retry c)) (same_type told ty h.0), arrived_state y y' agent l s (Retried ty) states.Refused home others (ap (λ (x : RequesterState). x.slots) h.2) (ap (λ (x : RequesterState). seen_counts x.port) h.2), refl),
         ),
       ),
@@ -137,7 +137,7 @@ resent_admitted y y' agent l s e k low home others h =
       Spent e ∷ [],
       (
         ports_of y',
-        at_port y agent (ports_of y') (requester_of y' agent.0).port (λ before after. Spends before ty e after) k low (ports_after y y' agent others) (h.1, h.2, after),
+        at_port y agent (ports_of y') (requester_of y' agent.0).port (λ before after. PortSpends before ty e after) k low (ports_after y y' agent others) (h.1, h.2, after),
         (refl, state, refl),
       ),
     )
@@ -180,7 +180,7 @@ stepped_state y y' action home others is =
 
 -- a step that completes a request
 completing_plays : (y y' : SystemState) (action : Action) (slot : Slot) (released : Released) → IsSystem y → action.agent.0 < y.home.config.agents → y'.home ≡ slices_after y.home action → OthersStay y y' action.agent
-    → Completes slot.0 released (requester_of y action.agent.0) (requester_of y' action.agent.0) → PlaysOn (completing (state_at (requester_of y action.agent.0).slots slot.0) (machine_of y) action slot) y y' (reply_text (replies.Completed slot released))
+    → CompletesRequest slot.0 released (requester_of y action.agent.0) (requester_of y' action.agent.0) → PlaysOn (completing (state_at (requester_of y action.agent.0).slots slot.0) (machine_of y) action slot) y y' (reply_text (replies.Completed slot released))
 completing_plays y y' action slot released k low home others c =
     let m : Machine = machine_of y in
     let r : RequesterState = requester_of y action.agent.0 in
@@ -195,7 +195,7 @@ completing_plays y y' action slot released k low home others c =
       Went released ∷ [],
       (
         ports_of y',
-        at_port y action.agent (ports_of y') (requester_of y' action.agent.0).port (λ before after. Releases before e released after) k low (ports_after y y' action.agent others) (c.held e c.ended.1, c.ended.2),
+        at_port y action.agent (ports_of y') (requester_of y' action.agent.0).port (λ before after. PortReleases before e released after) k low (ports_after y y' action.agent others) (c.held e c.ended.1, c.ended.2),
         (refl, state, refl),
       ),
     )

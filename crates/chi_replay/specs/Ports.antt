@@ -13,35 +13,35 @@ use Rattle.chi_tracker.specs.Calls as calls
 
 -- An entry of the type that wasn't in hand comes to hand, in a scan that found the lower entries of the
 -- type claimed; or none does, in a scan that found each entry of the type claimed.
-abbrev pub Claims : PortView → CreditType → Option Entry → PortView → Type 0
-Claims before ty (Some entry) after = HasClaimed (credit_number ty) entry.0 before after
-Claims before ty None after = (after ≡ scanned_all (credit_number ty) before) × FoundAll before.shape (credit_number ty) after
+abbrev pub PortClaims : PortView → CreditType → Option Entry → PortView → Type 0
+PortClaims before ty (Some entry) after = HasClaimed (credit_number ty) entry.0 before after
+PortClaims before ty None after = (after ≡ scanned_all (credit_number ty) before) × FoundAll before.shape (credit_number ty) after
 
 -- one credit more of the type is owed
-abbrev pub Owes : PortView → CreditType → PortView → Type 0
-Owes before ty after = after ≡ owed_one (credit_number ty) before
+abbrev pub PortOwes : PortView → CreditType → PortView → Type 0
+PortOwes before ty after = after ≡ owed_one (credit_number ty) before
 
 -- the lowest seen credit of the type is spent: its entry comes to hand
-abbrev pub Spends : PortView → CreditType → Entry → PortView → Type 0
-Spends before ty entry after = IsLowestSeen before (credit_number ty) entry.0 × (has entry.0 before ≡ 0) × (after ≡ spends (credit_number ty) entry.0 before)
+abbrev pub PortSpends : PortView → CreditType → Entry → PortView → Type 0
+PortSpends before ty entry after = IsLowestSeen before (credit_number ty) entry.0 × (has entry.0 before ≡ 0) × (after ≡ spends (credit_number ty) entry.0 before)
 
 -- an entry that is in hand leaves it: it is promised on to who is owed a credit of its type, or freed
-abbrev pub Releases : PortView → Entry → Released → PortView → Type 0
-Releases before entry released after = (has entry.0 before ≡ 1) × EndedAsItsType before entry.0 released after
+abbrev pub PortReleases : PortView → Entry → Released → PortView → Type 0
+PortReleases before entry released after = (has entry.0 before ≡ 1) × EndedAsItsType before entry.0 released after
 
 -- a port's seen credits by type
 abbrev pub seen_counts : PortView → List ℕ
 seen_counts p = seen_of p 0 ∷ seen_of p 1 ∷ seen_of p 2 ∷ seen_of p 3 ∷ []
 
 -- the port looks at what is promised to it, and what it had seen stays seen; the answer counts it by type
-abbrev pub Sees : PortView → List ℕ → PortView → Type 0
-Sees before counts after = (after ≡ saw_all after.seen before) × ((e : ℕ) → e < 256 → set_at before.seen e ≤ set_at after.seen e) × (counts ≡ seen_counts after)
+abbrev pub PortSees : PortView → List ℕ → PortView → Type 0
+PortSees before counts after = (after ≡ saw_all after.seen before) × ((e : ℕ) → e < 256 → set_at before.seen e ≤ set_at after.seen e) × (counts ≡ seen_counts after)
 
 -- the lowest seen credit of the type is returned, and its entry promised on, or freed
-abbrev pub GivesBack : PortView → CreditType → Released → PortView → Type 0
-GivesBack before ty released after = (e : ℕ) × IsLowestSeen before (credit_number ty) e × (has e before ≡ 0)
+abbrev pub PortGivesBack : PortView → CreditType → Released → PortView → Type 0
+PortGivesBack before ty released after = (e : ℕ) × IsLowestSeen before (credit_number ty) e × (has e before ≡ 0)
     × Ended (returns_credit (credit_number ty) e before) (credit_number ty) e released after
 
 -- a free entry of the type is claimed and released, or none is
-abbrev pub Tends : PortView → CreditType → Option Released → PortView → Type 0
-Tends before ty released after = calls.Tended before (credit_number ty) released after
+abbrev pub PortTends : PortView → CreditType → Option Released → PortView → Type 0
+PortTends before ty released after = calls.Tended before (credit_number ty) released after

@@ -12,7 +12,7 @@ use Rattle.chi_slice.specs.Slice.{SliceState}
 use Rattle.chi_tracker.specs.Views.{PortView, new_ports}
 use Rattle.chi_tracker.specs.Calls.{shape_of}
 use Rattle.chi_slice.specs.Audits.{loads_in, stores_in}
-use Rattle.chi_replay.specs.Ports.{Claims, GivesBack, Owes, Releases, Sees, Spends, Tends}
+use Rattle.chi_replay.specs.Ports.{PortClaims, PortGivesBack, PortOwes, PortReleases, PortSees, PortSpends, PortTends}
 use Rattle.chi_replay.specs.Turns.{Answer, Call, Claim, Claimed, GiveBack, Glance, Glanced, Judge, Judged, Owe, Owed, Release, See, Saw, Spend, Spent, Tend, Tended, Went, Turn, Asks, Ends, Machine, machine_at_start, turn}
 
 -- the line that a turn says, the state that it leaves, and the answers that it leaves over
@@ -41,13 +41,13 @@ AtPort agent old new Goes = (before after : PortView) × (slice_get old agent.0 
 -- goes on by the clause of the call; a glance may show any number for each type. A verdict is that on the
 -- slices. No call has an answer of another kind.
 abbrev pub Permits : List PortView → Call → Answer → List PortView → Type 0
-Permits old (Claim agent ty) (Claimed claim) new = AtPort agent old new (λ before after. Claims before ty claim after)
-Permits old (Owe agent ty) Owed new = AtPort agent old new (λ before after. Owes before ty after)
-Permits old (Spend agent ty) (Spent entry) new = AtPort agent old new (λ before after. Spends before ty entry after)
-Permits old (Release agent entry) (Went released) new = AtPort agent old new (λ before after. Releases before entry released after)
-Permits old (See agent) (Saw counts) new = AtPort agent old new (λ before after. Sees before counts after)
-Permits old (GiveBack agent ty) (Went released) new = AtPort agent old new (λ before after. GivesBack before ty released after)
-Permits old (Tend agent ty) (Tended released) new = AtPort agent old new (λ before after. Tends before ty released after)
+Permits old (Claim agent ty) (Claimed claim) new = AtPort agent old new (λ before after. PortClaims before ty claim after)
+Permits old (Owe agent ty) Owed new = AtPort agent old new (λ before after. PortOwes before ty after)
+Permits old (Spend agent ty) (Spent entry) new = AtPort agent old new (λ before after. PortSpends before ty entry after)
+Permits old (Release agent entry) (Went released) new = AtPort agent old new (λ before after. PortReleases before entry released after)
+Permits old (See agent) (Saw counts) new = AtPort agent old new (λ before after. PortSees before counts after)
+Permits old (GiveBack agent ty) (Went released) new = AtPort agent old new (λ before after. PortGivesBack before ty released after)
+Permits old (Tend agent ty) (Tended released) new = AtPort agent old new (λ before after. PortTends before ty released after)
 Permits old Glance (Glanced free hand promised owed) new = new ≡ old
 Permits old (Judge slices) (Judged coherent) new = (IsTrue coherent ↔ All IsCoherentSlice slices) × (new ≡ old)
 Permits old call other new = ⊥

@@ -30,7 +30,7 @@ use Rattle.chi_resolution.specs.declared.reasons.IdReason.{IdReason}
 use Rattle.chi_resolution.specs.declared.reasons.IdReason.TheVariants as reasons
 use Rattle.chi_resolution.specs.declared.resolution.Options.{Options}
 use Rattle.chi_resolution.specs.Changes.{Open, access_of, answered, beat_by, beat_of, begun_or_freed, booking_of, completed, request_completion, completed_with, credit_change, early_of, change_by, change_of, first_beat, flit_change, freed, given_back, granted, later_beat, may_grant, named, new_id, opened, received, replied, request_by, requested, responded, retried, right_type, sent_again, snooped, unless_lacking, with_credit}
-use Rattle.chi_resolution.specs.Ledger.{IsBalanced, held_of, wanted_of}
+use Rattle.chi_resolution.specs.Ledger.{IsLedgerBalanced, held_of, wanted_of}
 use Rattle.chi_resolution.specs.Beats.{data_before, data_of, filled, is_whole}
 use Rattle.chi_resolution.specs.Ids.{id_of}
 use Rattle.chi_resolution.specs.Messages.{answer_form, completion_response, message_of}
@@ -52,7 +52,7 @@ ChangeKept early (Beat further) = Unit {0}
 
 -- the accounts that there are
 abbrev pub TableKept : Bool → Open → Type 0
-TableKept early table = All (IsBalanced early) table.accounts
+TableKept early table = All (IsLedgerBalanced early) table.accounts
 
 credit_kept : (early : Bool) (ends : Ends) (pcrd : PcrdType) (id : OpenId) (flit : Observed) (retried : OpenId) (table : Open) → TableKept early table
     → IfOk (with_credit ends pcrd id flit retried (booking_of table ends.requester pcrd events.Resent)) (FlitKept early)
@@ -250,5 +250,5 @@ nothing_kept : (early : Bool) → ProgressKept early nothing
 nothing_kept early k d less = absurd (omega (arith, less))
 
 -- all accounts of a resolved trace
-pub trace_kept : (options : Options) (seen : List Seen) → All (IsBalanced options.early_grants) (resolution_of options seen).progress.table.accounts
+pub trace_kept : (options : Options) (seen : List Seen) → All (IsLedgerBalanced options.early_grants) (resolution_of options seen).progress.table.accounts
 trace_kept options seen = from_kept options 0 nothing seen (nothing_kept options.early_grants)

@@ -102,6 +102,6 @@ booked_all None accounts = accounts
 booked_all (Some booking) accounts = booked booking accounts
 
 -- what the ledger keeps: S + B ≤ G, and G ≤ R unless grants may be early
-pub record IsBalanced (early : Bool) (account : CreditLedger) : Type 0 where
+pub record IsLedgerBalanced (early : Bool) (account : CreditLedger) : Type 0 where
   pub spent : account.resent + account.returned ≤ account.granted
   pub retried : early ≡ false → account.granted ≤ account.retried

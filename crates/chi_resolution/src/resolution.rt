@@ -4,7 +4,7 @@ ghost use Rattle.std.specs.Prelude.{◌≡◌, ◌++◌, All, IfOk, OnOk, not};
 ghost use Rattle.std.specs.List.{filter};
 ghost use Rattle.std.specs.Map.{values_of};
 ghost use Rattle.chi_resolution.specs.Ids.{with_id, without};
-ghost use Rattle.chi_resolution.specs.Ledger.{IsBalanced, booked};
+ghost use Rattle.chi_resolution.specs.Ledger.{IsLedgerBalanced, booked};
 ghost use Rattle.chi_resolution.specs.Resolution.{after_beat, after_flit, acting_agent, allowed_of, data_after, ids_after, is_ack_of, is_released, nothing, placed, resolution_of, taken, waiting_after, with_data};
 
 use crate::beats::OpenData;
@@ -109,7 +109,7 @@ pub fn resolve<A: Allocator + Copy>(
         r.waiting.items ≡ (resolution_of options seen.now).progress.table.waiting) }
 
     // Of each node and type: S + B ≤ G, and G ≤ R unless grants may be early.
-    ensures ledger { IfOk result (λ r. All (IsBalanced options.early_grants) r.accounts.items) }
+    ensures ledger { IfOk result (λ r. All (IsLedgerBalanced options.early_grants) r.accounts.items) }
 {
     let mut state = Resolver::new(alloc, seen.len())?;
     for (at, flit) in seen.iter().enumerate() {

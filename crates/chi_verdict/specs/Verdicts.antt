@@ -36,7 +36,7 @@ IfExplained Faulty P = Unit {0}
 IfExplained Malformed P = Unit {0}
 
 -- a report was written, but where the file is malformed: then nothing was
-abbrev pub IsWritten : TraceOutcome → Option (List ℕ) → Option (List ℕ) → List ℕ → Type 0
-IsWritten Explained old new text = Appends old new text
-IsWritten Faulty old new text = Appends old new text
-IsWritten Malformed old new text = Keeps old new
+abbrev pub IsVerdictWritten : TraceOutcome → Option (List ℕ) → Option (List ℕ) → List ℕ → Type 0
+IsVerdictWritten Explained old new text = Appends old new text
+IsVerdictWritten Faulty old new text = Appends old new text
+IsVerdictWritten Malformed old new text = Keeps old new

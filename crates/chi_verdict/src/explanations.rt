@@ -1,7 +1,7 @@
 //! From the bytes of a trace to what is printed of it.
 
 ghost use Rattle.std.specs.Prelude.{◌≡◌, ◌+◌, ◌^◌, ◌<◌, IfOk, IfSome, string_bytes};
-ghost use Rattle.chi_verdict.specs.Verdicts.{IfExplained, IsTraceExplained, IsWritten};
+ghost use Rattle.chi_verdict.specs.Verdicts.{IfExplained, IsTraceExplained, IsVerdictWritten};
 
 use crate::reports::{TraceOutcome, TraceReport, report_on};
 use chi_devices::{Failed, Input, Output, read_most};
@@ -29,7 +29,7 @@ pub fn explain<A: Allocator + Copy, I: Input, O: Output>(
     ensures explained { IfOk result (λ report. IfSome (I.left input.old)
         (λ file. IfExplained report.outcome (IsTraceExplained options file))) }
     ensures written { IfOk result (λ report.
-        IsWritten report.outcome (O.written output.old) (O.written output.new) (string_bytes report.text)) }
+        IsVerdictWritten report.outcome (O.written output.old) (O.written output.new) (string_bytes report.text)) }
 {
     let bytes = read_most(alloc, input, MOST_BYTES + 1)?;
     match report_on(alloc, &bytes, options, only) {
@@ -46,7 +46,7 @@ fn write_report<A: Allocator, O: Output>(
     requires { O.failures output.old + 1 < 2 ^ 64 }
     ensures same { IfOk result (λ given. given ≡ report) }
     ensures written { IfOk result (λ given.
-        IsWritten given.outcome (O.written output.old) (O.written output.new) (string_bytes given.text)) }
+        IsVerdictWritten given.outcome (O.written output.old) (O.written output.new) (string_bytes given.text)) }
 {
     match report.outcome {
         TraceOutcome::Malformed => Ok(report),

@@ -2,7 +2,7 @@
 use Rattle.std.proofs.Common.{rules, ◌≡◌, ◌<◌, length, sym, ◌∙◌, subst}
 use Rattle.std.specs.List.{slice_index_or}
 use Rattle.chi_audit.specs.declared.reports.Report.{Report}
-use Rattle.chi_agent.specs.Runs.{begun, Leaves}
+use Rattle.chi_agent.specs.Runs.{begun, LeavesRun}
 use Rattle.chi_agent.proofs.Begun.{first_one, other_ones}
 use Rattle.chi_agent.proofs.Left.{one_left, told_so}
 use Rattle.chi_agent.proofs.Returns.{comes_back}
@@ -16,7 +16,7 @@ loop-preserved g c =
     let some : 0 < length c.loop.handles.items = search rules in
     let first : c.remove.result ≡ slice_index_or c.loop.handles.items 0 c.remove.result = search rules in
     let report : c.report.result ≡ came.sent.report = search rules in
-    let left : Leaves (begun c.remove.result.promise) came.requester c.report.result came.not_open = subst (λ (z : Report). Leaves (begun c.remove.result.promise) came.requester z came.not_open) (sym report) told.0 in
+    let left : LeavesRun (begun c.remove.result.promise) came.requester c.report.result came.not_open = subst (λ (z : Report). LeavesRun (begun c.remove.result.promise) came.requester z came.not_open) (sym report) told.0 in
     record {
       same = comes_back (λ h. h.promise.seat.value.requester) _ c.loop.requesters.items c.push.new.self.items c.loop.handles.items c.remove.new.self.items c.remove.result came.requester i.same some first c.remove.ensures.items told.2 c.push.ensures.items;
       leave = one_left (λ h. begun h.promise) _ c.loop.handles.items c.remove.new.self.items c.remove.result c.loop.requesters.items c.push.new.self.items c.loop.reports.items c.push-in-loop.new.self.items c.loop.not_open.items c.push-in-loop-2.new.self.items came.requester c.report.result came.not_open i.leave some first c.remove.ensures.items left c.push.ensures.items c.push-in-loop.ensures.items c.push-in-loop-2.ensures.items;

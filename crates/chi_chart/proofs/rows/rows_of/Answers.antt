@@ -4,7 +4,7 @@ use Rattle.std.proofs.Math.ListN.{drop_of_length-le}
 use Rattle.chi_script.specs.Checks.{line_of_check}
 use Rattle.chi_script.specs.Files.{lines_of}
 use Rattle.chi_script.specs.declared.checks.Check.{Check}
-use Rattle.chi_chart.specs.Played.{Drawing, IsRun, row_seen}
+use Rattle.chi_chart.specs.Played.{Drawing, IsDrawnRun, row_seen}
 use Rattle.chi_chart.proofs.Leads.{Led, led_first, led_further, led_to}
 use Rattle.chi_chart.proofs.rows.rows_of.Goals as goal
 
@@ -35,6 +35,6 @@ returns g c =
     let rows = map row_seen c.loop-check.rows.rows.items in
     let past : length all ≤ c.loop-check.check-index = omega arith in
     let left = lines_of c.loop-check.left.bytes.now in
-    let whole : IsRun d rows c.loop-check.rows.place.y = led_to d rows c.loop-check.rows.place left c.loop-check.system
+    let whole : IsDrawnRun d rows c.loop-check.rows.place.y = led_to d rows c.loop-check.rows.place left c.loop-check.system
     (subst (λ (l : List Check). Led d rows c.loop-check.rows.place left c.loop-check.system (map line_of_check l)) (drop_of_length-le all past) c.loop-check.invariant) in
     search (rules, whole)
