@@ -26,6 +26,7 @@ use crate::records::{is_step_in_range, note};
 use crate::terms::{Done, Terms};
 use chi_config::Config;
 use chi_flit::{Action, Agent, CreditType, Effect, Line, NoMemory, Refusal, Slot, Step};
+use chi_homeline::HomeLine;
 use chi_journal::Journal;
 use chi_line::{Conditions, LineView, TypedSlot};
 use chi_wires::Cells;
@@ -89,6 +90,22 @@ fn lines_in<A: Allocator>(
         copies.push(line.clone()?)?;
     }
     Ok(copies)
+}
+
+/// Whether the sizes are the same.
+#[tactic(auto, using(crate::proofs::Equal::sizes))]
+fn are_same_sizes(one: &Config, other: &Config) -> bool
+    ensures { IsTrue result ↔ (one.now ≡ other.now) }
+{
+    one == other
+}
+
+/// Whether the lines are the same, each with its flits.
+#[tactic(auto, using(crate::proofs::Equal::all_lines))]
+fn are_same_lines(one: &[chi_line::CoherentLine], other: &[chi_line::CoherentLine]) -> bool
+    ensures { IsTrue result ↔ (one.now ≡ other.now) }
+{
+    one == other
 }
 
 /// How many lines are in the slice.
@@ -325,6 +342,18 @@ impl<A: Allocator> Slice<A> {
         ensures { result.now ≡ cells_of (line_of_slice self.now at.line.0) at.agent.0 }
     {
         self.lines[usize::from(at.row)].flits(at.agent)
+    }
+
+    /// What the home keeps of a line, lent.
+    ///
+    /// Conditions: the row is one that `row_for` of this slice answered.
+    /// Source: `docs/PROTOCOL.md`, "One line".
+    pub fn home_in(&self, at: AgentRow) -> &HomeLine
+        requires row { IsRow self.now at }
+        requires inside { CanAct self.now at }
+        ensures { result.now ≡ (line_of_slice self.now at.line.0).home }
+    {
+        self.line_in(at).home()
     }
 
     /// The line in a row, lent. Conditions: the row is one that `row_for` of this slice answered.
@@ -583,6 +612,18 @@ impl<A: Allocator> Slice<A> {
         ensures { IsCoherentSlice self.now }
     {
         let _ = self.journal();
+    }
+
+    /// Whether the slices are the same: their sizes and their places in the node, each line with its flits,
+    /// and the records of the journal. One walk over both, up to the first difference; it takes no memory.
+    /// Source: `docs/PROTOCOL.md`, "The system".
+    pub fn equals(&self, other: &Slice<A>) -> bool
+        ensures { IsTrue result ↔ (self.now ≡ other.now) }
+    {
+        are_same_sizes(&self.config, &other.config)
+            && self.index == other.index
+            && are_same_lines(&self.lines, &other.lines)
+            && self.journal.equals(&other.journal)
     }
 
     /// The size of the node.

@@ -27,6 +27,8 @@ mod sizes;
 #[cfg(test)]
 mod slots;
 #[cfg(test)]
+mod snapshots;
+#[cfg(test)]
 mod snoops;
 #[cfg(test)]
 mod verdicts;
