@@ -1,14 +1,9 @@
 -- A command line as its parts are added, one after the other.
-use Rattle.std.proofs.Common.{◌≡◌, ◌∙◌, Bool, false, ◌||◌, ap, Result, Ok, Err, IfOk}
+use Rattle.std.proofs.Common.{◌≡◌, ◌∙◌, Bool, ◌||◌, ap, Result, Ok, Err, IfOk}
 use Rattle.clap.specs.Words.{AddsArg, AddsSubcommand, App, Rule, app_of, rule_of, shape_of, with_rule, with_subcommand}
 use Rattle.clap.specs.declared.builder.arg.Arg.{Arg}
 use Rattle.clap.specs.declared.builder.command.Command.{Command}
-use Rattle.clap.specs.declared.builder.command.Command.TheViews.{out-Command}
-
--- a command as it is so far: its words, and that none of its arguments is one of its subcommands' too
-pub record IsLine (app : App) (command : Command) : Type 0 where
-  pub words : app_of command ≡ app
-  pub local : (out-Command command).has_globals ≡ false
+use Rattle.chi_arguments.specs.CommandLines.{IsLine}
 
 pub with_one : (app : App) (rule : Rule) (old : Command) (a : Arg) (new : Command) → IsLine app old → rule_of a ≡ rule → a.global ≡ false → AddsArg old a new → IsLine (with_rule app rule) new
 with_one app rule old given new before is local added = record {
@@ -23,3 +18,7 @@ with_line above below old sub new is line added = added.shape line.local ∙ (ap
 pub with_last : {E : Type 0} (above below : App) (old sub : Command) (r : Result Command E) → app_of old ≡ above → IsLine below sub → IfOk r (λ new. AddsSubcommand old sub new) → IfOk r (λ new. app_of new ≡ with_subcommand above below.top)
 with_last above below old sub (Ok new) is line added = with_line above below old sub new is line added
 with_last above below old sub (Err error) is line added = added
+
+pub with_final : {E : Type 0} (app : App) (rule : Rule) (old : Command) (a : Arg) (r : Result Command E) → IsLine app old → rule_of a ≡ rule → a.global ≡ false → IfOk r (λ new. AddsArg old a new) → IfOk r (λ new. IsLine (with_rule app rule) new)
+with_final app rule old given (Ok new) before is local added = with_one app rule old given new before is local added
+with_final app rule old given (Err error) before is local added = added

@@ -1,10 +1,12 @@
 -- What the words of a command line ask for, as clap reads them (docs/FORMATS.md, "The program").
-use Rattle.std.specs.Prelude.{◌≡◌, ℕ, Bool, List, [], ◌∷◌, true, Option, Some, None, Result, Ok, Err, codes, map, if◌then◌else◌}
+use Rattle.std.specs.Prelude.{◌≡◌, ℕ, Bool, List, [], ◌∷◌, false, true, Option, Some, None, Result, Ok, Err, codes, map, if◌then◌else◌}
 use Rattle.std.specs.Option.{option_and_then, option_map}
 use Rattle.std.specs.Str.{bytes_eq}
-use Rattle.clap.specs.Words.{App, Kinds, Row, Rule, Text, all_of, fault_of, first_of, new_app, new_rule, subcommand_of, with_rule, with_subcommand}
+use Rattle.clap.specs.Words.{App, Kinds, Row, Rule, Text, all_of, app_of, fault_of, first_of, new_app, new_rule, subcommand_of, with_rule, with_subcommand}
 use Rattle.clap.specs.Simple.{on_top}
 use Rattle.clap.specs.declared.builder.action.ArgAction.TheVariants.{Append, Set, SetTrue}
+use Rattle.clap.specs.declared.builder.command.Command.{Command}
+use Rattle.clap.specs.declared.builder.command.Command.TheViews.{out-Command}
 use Rattle.chi_explain.specs.declared.observed.StoreListing.{StoreListing}
 use Rattle.chi_flit.specs.declared.numbers.Line.{Line}
 use Rattle.chi_resolution.specs.declared.ledger.Types.{Types}
@@ -64,6 +66,11 @@ cover_line = with_rule (with_rule (new_app (codes "cover")) files_rule) (flag_ru
 -- `draw [--seed N] --commands M [--wild P] [--drain] HEADER`
 abbrev pub draw_line : App
 draw_line = with_rule (with_rule (with_rule (with_rule (with_rule (new_app (codes "draw")) header_rule) (option_rule (codes "seed"))) (option_rule (codes "commands"))) (option_rule (codes "wild"))) (flag_rule (codes "drain"))
+
+-- a command has these words, and none of its arguments is one of its subcommands' too
+pub record IsLine (app : App) (command : Command) : Type 0 where
+  pub words : app_of command ≡ app
+  pub local : (out-Command command).has_globals ≡ false
 
 -- the program itself: one of its commands has to be given
 abbrev pub program_line : App

@@ -2,9 +2,8 @@
 
 ghost use Rattle.std.specs.Prelude.{◌≡◌, IfOk, false, map};
 ghost use Rattle.std.specs.Option.{option_and_then, option_map};
-ghost use Rattle.clap.specs.declared.builder.command.Command.TheViews.{out-Command};
 ghost use Rattle.clap.specs.Words.{all_of, app_of, first_of, found_of, rows_of, rule_of, subcommand_rows_of};
-ghost use Rattle.chi_arguments.specs.CommandLines.{IsAsked, asked_behind, asked_by, asked_in, chart_in, check_in, command_lines, cover_in, cover_line, draw_in, draw_line, explain_in, file_rule, files_rule, flag_rule, header_rule, option_rule, program_line, replay_in, storm_asked};
+ghost use Rattle.chi_arguments.specs.CommandLines.{IsAsked, IsLine, asked_behind, asked_by, asked_in, chart_in, chart_line, check_in, check_line, command_lines, cover_in, cover_line, draw_in, draw_line, explain_in, explain_line, file_rule, files_rule, flag_rule, header_rule, option_rule, program_line, replay_in, replay_line, storm_asked, storm_line};
 
 use crate::faults::ArgFault;
 use crate::options::{
@@ -164,34 +163,14 @@ const DRAIN: &str = "drain";
 fn command_line<'a>(alloc: Global) -> Result<Command<'a>, AllocError>
     ensures { IfOk result (λ command. app_of command ≡ command_lines) }
 {
-    let replay = Command::new(alloc, REPLAY).arg(file(alloc))?;
-    let check = Command::new(alloc, CHECK)
-        .arg(files(alloc))?
-        .arg(flag(alloc, TAP))?;
-    let chart = Command::new(alloc, CHART)
-        .arg(file(alloc))?
-        .arg(option(alloc, LINE))?
-        .arg(option(alloc, ROWS))?;
-    let explain = Command::new(alloc, EXPLAIN)
-        .arg(file(alloc))?
-        .arg(option(alloc, TYPES))?
-        .arg(option(alloc, STORES))?
-        .arg(flag(alloc, EARLY_GRANTS))?
-        .arg(option(alloc, LINE))?;
-    let storm = Command::new(alloc, STORM)
-        .arg(file(alloc))?
-        .arg(option(alloc, SEED))?
-        .arg(option(alloc, TURNS))?;
-    let cover = cover_command(alloc)?;
-    let draw = draw_command(alloc)?;
     program_command(alloc)
-        .subcommand(replay)?
-        .subcommand(check)?
-        .subcommand(chart)?
-        .subcommand(explain)?
-        .subcommand(storm)?
-        .subcommand(cover)?
-        .subcommand(draw)
+        .subcommand(replay_command(alloc)?)?
+        .subcommand(check_command(alloc)?)?
+        .subcommand(chart_command(alloc)?)?
+        .subcommand(explain_command(alloc)?)?
+        .subcommand(storm_command(alloc)?)?
+        .subcommand(cover_command(alloc)?)?
+        .subcommand(draw_command(alloc)?)
 }
 
 /// The program itself, of which one command has to be given.
@@ -201,29 +180,73 @@ fn program_command<'a>(alloc: Global) -> Command<'a>
     Command::new(alloc, "chihome").subcommand_required(true)
 }
 
+/// The command line of `replay`.
+fn replay_command<'a>(alloc: Global) -> Result<Command<'a>, AllocError>
+    ensures { IfOk result (λ command. IsLine replay_line command) }
+{
+    Command::new(alloc, REPLAY).arg(file(alloc))
+}
+
+/// The command line of `check`.
+fn check_command<'a>(alloc: Global) -> Result<Command<'a>, AllocError>
+    ensures { IfOk result (λ command. IsLine check_line command) }
+{
+    Command::new(alloc, CHECK)
+        .arg(files(alloc))?
+        .arg(flag(alloc, TAP))
+}
+
+/// The command line of `chart`.
+fn chart_command<'a>(alloc: Global) -> Result<Command<'a>, AllocError>
+    ensures { IfOk result (λ command. IsLine chart_line command) }
+{
+    Command::new(alloc, CHART)
+        .arg(file(alloc))?
+        .arg(option(alloc, LINE))?
+        .arg(option(alloc, ROWS))
+}
+
+/// The command line of `explain`.
+fn explain_command<'a>(alloc: Global) -> Result<Command<'a>, AllocError>
+    ensures { IfOk result (λ command. IsLine explain_line command) }
+{
+    Command::new(alloc, EXPLAIN)
+        .arg(file(alloc))?
+        .arg(option(alloc, TYPES))?
+        .arg(option(alloc, STORES))?
+        .arg(flag(alloc, EARLY_GRANTS))?
+        .arg(option(alloc, LINE))
+}
+
+/// The command line of `storm`.
+fn storm_command<'a>(alloc: Global) -> Result<Command<'a>, AllocError>
+    ensures { IfOk result (λ command. IsLine storm_line command) }
+{
+    Command::new(alloc, STORM)
+        .arg(file(alloc))?
+        .arg(option(alloc, SEED))?
+        .arg(option(alloc, TURNS))
+}
+
 /// The command line of `cover`.
 fn cover_command<'a>(alloc: Global) -> Result<Command<'a>, AllocError>
-    ensures words { IfOk result (λ command. app_of command ≡ cover_line) }
-    ensures local { IfOk result (λ command. (out-Command command).has_globals ≡ false) }
+    ensures { IfOk result (λ command. IsLine cover_line command) }
 {
-    let cover = Command::new(alloc, COVER)
+    Command::new(alloc, COVER)
         .arg(files(alloc))?
-        .arg(flag(alloc, MISSING))?;
-    Ok(cover)
+        .arg(flag(alloc, MISSING))
 }
 
 /// The command line of `draw`.
 fn draw_command<'a>(alloc: Global) -> Result<Command<'a>, AllocError>
-    ensures words { IfOk result (λ command. app_of command ≡ draw_line) }
-    ensures local { IfOk result (λ command. (out-Command command).has_globals ≡ false) }
+    ensures { IfOk result (λ command. IsLine draw_line command) }
 {
-    let draw = Command::new(alloc, DRAW)
+    Command::new(alloc, DRAW)
         .arg(header(alloc))?
         .arg(option(alloc, SEED))?
         .arg(option(alloc, COMMANDS))?
         .arg(option(alloc, WILD))?
-        .arg(flag(alloc, DRAIN))?;
-    Ok(draw)
+        .arg(flag(alloc, DRAIN))
 }
 
 /// The path of a file, which has to be given.

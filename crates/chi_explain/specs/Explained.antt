@@ -12,8 +12,8 @@ use Rattle.chi_flit.specs.declared.numbers.Agent.{Agent}
 use Rattle.chi_flit.specs.declared.snoop.Snoop.{Snoop}
 use Rattle.chi_slice.specs.Protocol.{SliceStep}
 use Rattle.chi_slice.specs.Slice.{SliceState, action_refusal, line}
-use Rattle.chi_explain.specs.declared.explanations.Deed.{Deed}
-use Rattle.chi_explain.specs.declared.explanations.Deed.TheVariants.{Act, Snoop as Shown, Load, Store}
+use Rattle.chi_explain.specs.declared.explanations.WitnessItem.{WitnessItem}
+use Rattle.chi_explain.specs.declared.explanations.WitnessItem.TheVariants.{Act, Snoop as Shown, Load, Store}
 use Rattle.chi_explain.specs.declared.observed.Observed.{Observed}
 use Rattle.chi_explain.specs.declared.observed.Observed.TheVariants as seen_of
 use Rattle.chi_explain.specs.declared.observed.StoreListing.{StoreListing}
@@ -62,7 +62,7 @@ pub record IsSnoopShown (agent : Agent) (s : SliceState) (shown : List Bool) (se
   pub now : shown' ≡ slice_set shown agent.0 true
 
 -- an item of an explanation; a load or a store that was seen is done, and a load reads the value that was seen
-abbrev pub Explains : Deed → SliceState → List Bool → List Observed → SliceState → List Bool → List Observed → Type 0
+abbrev pub Explains : WitnessItem → SliceState → List Bool → List Observed → SliceState → List Bool → List Observed → Type 0
 Explains (Act agent step) s shown seen s' shown' seen' = (effect : Effect) × IsStepSeen agent step effect s shown seen s' shown' seen'
 Explains (Shown agent) s shown seen s' shown' seen' = IsSnoopShown agent s shown seen shown' seen' × (s' ≡ s)
 Explains (Load agent word value) s shown seen s' shown' seen' =
@@ -71,19 +71,19 @@ Explains (Store agent word value) s shown seen s' shown' seen' =
     (effect : Effect) × IsStepSeen agent (steps.Store word value) effect s shown seen s' shown' (seen_of.Store agent word value ∷ seen')
 
 -- the items in their order explain all that was seen
-abbrev pub Explained : SliceState → List Bool → List Deed → List Observed → Type 0
+abbrev pub Explained : SliceState → List Bool → List WitnessItem → List Observed → Type 0
 Explained s shown [] seen = seen ≡ []
-Explained s shown (deed ∷ deeds) seen =
+Explained s shown (item ∷ items) seen =
     (s' : SliceState) × (shown' : List Bool) × (seen' : List Observed)
-    × Explains deed s shown seen s' shown' seen' × Explained s' shown' deeds seen'
+    × Explains item s shown seen s' shown' seen' × Explained s' shown' items seen'
 
 -- where all stores are listed no other step is a store
-abbrev pub is_listed : StoreListing → Deed → Bool
+abbrev pub is_listed : StoreListing → WitnessItem → Bool
 is_listed Complete (Act agent (steps.Store word value)) = false
-is_listed stores deed = true
+is_listed stores item = true
 
 -- a line in a node of this size whose memory had these words at first: the items explain all that was seen
-abbrev pub IsExplained : Sizes → StoreListing → List ℕ → List Deed → List Observed → Type 0
-IsExplained config stores memory deeds seen =
-    (s : SliceState) × (s.config ≡ config) × IsOpenAt memory s × Explained s (replicate 8 false) deeds seen
-    × All (λ deed. is_listed stores deed ≡ true) deeds
+abbrev pub IsExplained : Sizes → StoreListing → List ℕ → List WitnessItem → List Observed → Type 0
+IsExplained config stores memory items seen =
+    (s : SliceState) × (s.config ≡ config) × IsOpenAt memory s × Explained s (replicate 8 false) items seen
+    × All (λ item. is_listed stores item ≡ true) items

@@ -3,7 +3,7 @@
 ghost use Rattle.std.specs.Prelude.{◌≡◌, ◌<◌, IfOk, IsTrue, OnOk, replicate, false, true};
 ghost use Rattle.std.specs.List.{All};
 ghost use Rattle.chi_explain.specs.Explained.{Explained, Explains, IsAct, IsStepSeen, IsExplained, IsSnoopShown, IsSnoopSeen, MayTake, is_listed, line_action, is_shown, shown_after};
-ghost use Rattle.chi_explain.specs.declared.explanations.Deed.TheVariants.{Load, Store};
+ghost use Rattle.chi_explain.specs.declared.explanations.WitnessItem.TheVariants.{Load, Store};
 ghost use Rattle.chi_slice.specs.Slice.{line};
 
 use crate::observed::{Observed, StoreListing};
@@ -16,7 +16,7 @@ use std::alloc::Allocator;
 /// An item of an explanation.
 /// Source: `docs/TRACES.md`, "Explanations".
 #[derive(Clone, Copy, Debug, PartialEq, Eq)]
-pub enum Deed {
+pub enum WitnessItem {
     /// The agent's step is done.
     Act(Agent, Step),
     /// The snoop to the agent, which an earlier step has sent, is seen.
@@ -79,33 +79,33 @@ pub fn explain_line<A: Allocator + Copy>(
     config: &Config,
     stores: StoreListing,
     memory: Data,
-    deeds: &[Deed],
+    items: &[WitnessItem],
     seen: &[Observed],
 ) -> Result<(), Unexplained>
-    ensures { OnOk result (IsExplained config.now stores memory deeds.now seen.now) }
+    ensures { OnOk result (IsExplained config.now stores memory items.now seen.now) }
 {
-    if !are_listed(stores, deeds) {
+    if !are_listed(stores, items) {
         return Err(Unexplained::Unlisted);
     }
     match opened(alloc, config, memory)? {
-        Some(mut slice) => explain_from(&mut slice, deeds, seen),
+        Some(mut slice) => explain_from(&mut slice, items, seen),
         None => Err(Unexplained::NoRoom),
     }
 }
 
 /// Whether no item is a store that should be listed and isn't.
-fn are_listed(stores: StoreListing, deeds: &[Deed]) -> bool
-    ensures { IsTrue result → All (λ deed. is_listed stores deed ≡ true) deeds.now }
+fn are_listed(stores: StoreListing, items: &[WitnessItem]) -> bool
+    ensures { IsTrue result → All (λ item. is_listed stores item ≡ true) items.now }
 {
-    deeds.iter().all(|deed| is_listed(stores, *deed))
+    items.iter().all(|item| is_listed(stores, *item))
 }
 
 /// Whether the item is no store that should be listed and isn't.
-fn is_listed(stores: StoreListing, deed: Deed) -> bool
-    ensures { result ≡ is_listed stores deed }
+fn is_listed(stores: StoreListing, item: WitnessItem) -> bool
+    ensures { result ≡ is_listed stores item }
 {
-    match (stores, deed) {
-        (StoreListing::Complete, Deed::Act(_, Step::Store(_, _))) => false,
+    match (stores, item) {
+        (StoreListing::Complete, WitnessItem::Act(_, Step::Store(_, _))) => false,
         _ => true,
     }
 }
@@ -113,15 +113,15 @@ fn is_listed(stores: StoreListing, deed: Deed) -> bool
 /// The same from a slice as it stands.
 fn explain_from<A: Allocator>(
     slice: &mut Slice<A>,
-    deeds: &[Deed],
+    items: &[WitnessItem],
     seen: &[Observed],
 ) -> Result<(), Unexplained>
-    ensures { OnOk result (Explained slice.old (replicate 8 false) deeds.now seen.now) }
+    ensures { OnOk result (Explained slice.old (replicate 8 false) items.now seen.now) }
 {
     let mut shown = [false; 8];
     let mut rest = seen;
-    for (at, deed) in deeds.iter().enumerate() {
-        rest = match explain_next(slice, &mut shown, *deed, rest) {
+    for (at, item) in items.iter().enumerate() {
+        rest = match explain_next(slice, &mut shown, *item, rest) {
             Ok(later) => later,
             Err(Missed::Refused(refusal)) => return Err(Unexplained::Refused(at, refusal)),
             Err(Missed::Differs) => return Err(Unexplained::Differs(at)),
@@ -138,27 +138,28 @@ fn explain_from<A: Allocator>(
 fn explain_next<'f, A: Allocator>(
     slice: &mut Slice<A>,
     shown: &mut Shown,
-    deed: Deed,
+    item: WitnessItem,
     seen: &'f [Observed],
 ) -> Result<&'f [Observed], Missed>
     ensures { IfOk result
-        (λ rest. Explains deed slice.old shown.old seen.now slice.new shown.new rest.now) }
+        (λ rest. Explains item slice.old shown.old seen.now slice.new shown.new rest.now) }
 {
-    match deed {
-        Deed::Act(agent, step) if agent.0 < 8 => {
+    match item {
+        WitnessItem::Act(agent, step) if agent.0 < 8 => {
             let sent = act(slice, shown, agent, step, seen)?;
             Ok(sent.rest)
         }
-        Deed::Snoop(agent) if agent.0 < 8 => show(slice, shown, agent, seen),
-        Deed::Load(agent, word, value) if agent.0 < 8 => {
+        WitnessItem::Snoop(agent) if agent.0 < 8 => show(slice, shown, agent, seen),
+        WitnessItem::Load(agent, word, value) if agent.0 < 8 => {
             load(slice, shown, agent, word, value, seen)
         }
-        Deed::Store(agent, word, value) if agent.0 < 8 => {
+        WitnessItem::Store(agent, word, value) if agent.0 < 8 => {
             store(slice, shown, agent, word, value, seen)
         }
-        Deed::Act(_, _) | Deed::Snoop(_) | Deed::Load(_, _, _) | Deed::Store(_, _, _) => {
-            Err(Missed::Refused(Refusal::OutOfRange))
-        }
+        WitnessItem::Act(_, _)
+        | WitnessItem::Snoop(_)
+        | WitnessItem::Load(_, _, _)
+        | WitnessItem::Store(_, _, _) => { Err(Missed::Refused(Refusal::OutOfRange)) }
     }
 }
 
@@ -307,22 +308,7 @@ fn may_take(shown: &Shown, agent: Agent, step: Step) -> bool
 {
     match step {
         Step::RecvSnp => is_shown(shown, agent),
-        Step::Load(_)
-        | Step::Store(_, _)
-        | Step::Drop
-        | Step::Issue(_, _)
-        | Step::Admit
-        | Step::Retry
-        | Step::RecvRetry
-        | Step::Resend
-        | Step::Cancel
-        | Step::Start
-        | Step::RecvSnpResp
-        | Step::RecvData
-        | Step::RecvComp
-        | Step::RecvAck
-        | Step::RecvDbid
-        | Step::RecvWrData => true,
+        _ => true,
     }
 }
 
@@ -333,21 +319,6 @@ fn answer(shown: &mut Shown, agent: Agent, step: Step)
 {
     match step {
         Step::RecvSnp => shown[usize::from(agent.0)] = false,
-        Step::Load(_)
-        | Step::Store(_, _)
-        | Step::Drop
-        | Step::Issue(_, _)
-        | Step::Admit
-        | Step::Retry
-        | Step::RecvRetry
-        | Step::Resend
-        | Step::Cancel
-        | Step::Start
-        | Step::RecvSnpResp
-        | Step::RecvData
-        | Step::RecvComp
-        | Step::RecvAck
-        | Step::RecvDbid
-        | Step::RecvWrData => {}
+        _ => {}
     }
 }

@@ -10,7 +10,7 @@ mod openings;
 mod same;
 mod sent;
 
-pub use explanations::{Deed, Unexplained, explain_line};
+pub use explanations::{Unexplained, WitnessItem, explain_line};
 pub use observed::{Observed, StoreListing};
 pub use openings::opened;
 pub use sent::SentFlit;

@@ -7,7 +7,7 @@ use Rattle.chi_flit.specs.declared.message.Msg.TheVariants as messages
 use Rattle.chi_flit.specs.declared.message.RspDown.TheVariants.{RetryAck, CompUC, CompI, CompDBIDResp}
 use Rattle.chi_flit.specs.declared.message.RspUp.TheVariants.{CompAck}
 use Rattle.chi_slice.specs.Words.{Sizes}
-use Rattle.chi_explain.specs.declared.explanations.Deed.{Deed}
+use Rattle.chi_explain.specs.declared.explanations.WitnessItem.{WitnessItem}
 use Rattle.chi_explain.specs.declared.observed.Observed.{Observed}
 use Rattle.chi_explain.specs.declared.observed.Observed.TheVariants.{Flit}
 use Rattle.chi_explain.specs.declared.observed.StoreListing.TheVariants.{Partial}
@@ -109,7 +109,7 @@ IsObserved (Some refusal) m l flit answer m' = (answer ≡ Err refusal) × (m' �
 
 -- actions that were done explain all flits that were kept of a line
 abbrev pub IsLineExplained : Sizes → WatchedLine → Type 0
-IsLineExplained config w = (memory : List ℕ) × (deeds : List Deed) × IsExplained config Partial memory deeds w.flits
+IsLineExplained config w = (memory : List ℕ) × (items : List WitnessItem) × IsExplained config Partial memory items w.flits
 
 -- where flits are kept they may be explained
 abbrev pub IsToldOf : Bool → Sizes → WatchedLine → Result (Unit {0}) NotExplained → Type 0

@@ -34,11 +34,11 @@ pub fn explain_flits<A: Allocator + Copy>(
     seen: &[Observed],
 ) -> Result<Witness<A>, NoExplanation>
     ensures explained { IfOk result
-        (λ witness. IsExplained config.now stores witness.memory witness.deeds.items seen.now) }
+        (λ witness. IsExplained config.now stores witness.memory witness.items.items seen.now) }
     ensures told { IfErr result (IsWithin (length seen.now)) }
 {
     let witness = search_line(alloc, stores, seen)?;
-    match explain_line(alloc, config, stores, witness.memory, &witness.deeds, seen) {
+    match explain_line(alloc, config, stores, witness.memory, &witness.items, seen) {
         Ok(()) => Ok(witness),
         Err(undone) => Err(NoExplanation::Undone(undone)),
     }

@@ -6,7 +6,7 @@ use crate::faults::{LineFault, Reach};
 use crate::filter::{AgentSet, KnownFilter, NOBODY, has, has_any, with_mark};
 use crate::requester::{Asked, Given, KnownRequester, Stage};
 use crate::values::{Known, Unknown, UnknownWords, Values};
-use chi_explain::{Deed, StoreListing};
+use chi_explain::{StoreListing, WitnessItem};
 use chi_flit::{
     Agent, CompData, DatUp, Data, Kind, Msg, NO_DATA, RspUp, Slot, Snoop, State, Step, WordNo,
     answer,
@@ -20,7 +20,7 @@ pub(crate) enum Draft {
     Store(Agent, WordNo, Unknown),
     Snoop(Agent),
     /// A load or a store that was seen.
-    Seen(Deed),
+    Seen(WitnessItem),
 }
 
 /// A group of snoops, whose request a completion tells.
@@ -448,7 +448,7 @@ impl<A: Allocator> Search<A> {
             self.put(agent, side);
         }
         self.items
-            .push(Draft::Seen(Deed::Load(agent, word, value)))?;
+            .push(Draft::Seen(WitnessItem::Load(agent, word, value)))?;
         Ok(())
     }
 
@@ -471,7 +471,7 @@ impl<A: Allocator> Search<A> {
         side.base = State::UD;
         self.put(agent, side);
         self.items
-            .push(Draft::Seen(Deed::Store(agent, word, value)))?;
+            .push(Draft::Seen(WitnessItem::Store(agent, word, value)))?;
         Ok(())
     }
 

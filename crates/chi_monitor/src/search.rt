@@ -6,7 +6,7 @@ ghost use Rattle.chi_monitor.specs.Places.{IsWithin};
 use crate::explained::NoExplanation;
 use crate::faults::LineFault;
 use crate::line::{Draft, Search};
-use chi_explain::{Deed, Observed, SentFlit, StoreListing};
+use chi_explain::{Observed, SentFlit, StoreListing, WitnessItem};
 use chi_flit::{DatUp, Data, Msg, RspDown, RspUp, Step};
 use std::alloc::Allocator;
 
@@ -15,7 +15,7 @@ use std::alloc::Allocator;
 #[derive(Drop)]
 pub struct Witness<A: Allocator> {
     pub memory: Data,
-    pub deeds: Vec<Deed, A>,
+    pub items: Vec<WitnessItem, A>,
     /// Of each that was seen, how many of the items were found once it was taken.
     pub ends: Vec<usize, A>,
 }
@@ -113,25 +113,25 @@ fn explanation<A: Allocator + Copy>(
     search: &Search<A>,
     ends: Vec<usize, A>,
 ) -> Result<Witness<A>, LineFault> {
-    let mut deeds = Vec::new(alloc);
+    let mut items = Vec::new(alloc);
     for item in search.items() {
-        deeds.push(deed(search, *item))?;
+        items.push(known_item(search, *item))?;
     }
     Ok(Witness {
         memory: search.opening(),
-        deeds,
+        items,
         ends,
     })
 }
 
 /// The item, with the values that are known now.
-fn deed<A: Allocator>(search: &Search<A>, item: Draft) -> Deed {
+fn known_item<A: Allocator>(search: &Search<A>, item: Draft) -> WitnessItem {
     match item {
-        Draft::Act(agent, step) => Deed::Act(agent, step),
+        Draft::Act(agent, step) => WitnessItem::Act(agent, step),
         Draft::Store(agent, word, value) => {
-            Deed::Act(agent, Step::Store(word, search.value(value)))
+            WitnessItem::Act(agent, Step::Store(word, search.value(value)))
         }
-        Draft::Snoop(agent) => Deed::Snoop(agent),
-        Draft::Seen(deed) => deed,
+        Draft::Snoop(agent) => WitnessItem::Snoop(agent),
+        Draft::Seen(item) => item,
     }
 }

@@ -15,6 +15,8 @@ use Rattle.chi_flit.specs.declared.numbers.Agent.{Agent}
 use Rattle.chi_flit.specs.declared.numbers.Line.{Line}
 use Rattle.chi_flit.specs.declared.refusal.Refusal.{Refusal}
 use Rattle.chi_slice.specs.Words.{cells_of, Sizes}
+use Rattle.chi_flit.specs.declared.action.Effect.TheVariants.{Nothing}
+use Rattle.chi_slice.specs.Protocol.{SliceStep}
 use Rattle.chi_slice.specs.Slice.{SliceState, opening_slice}
 use Rattle.chi_slice.specs.declared.agent_line.AgentRow.{AgentRow}
 use Rattle.chi_node.specs.declared.answers.Arrived.{Arrived}
@@ -112,6 +114,10 @@ pub row_found : (tracker : TrackerState) (y y' : SystemState) (n l : ℕ) (s s' 
 row_found tracker y y' n l s s' r r' at own call row =
     subst₂ (λ (x : SliceState) (m : ℕ). IsRowOf x m at) call.slice (can_call tracker y y' n l s s' r r' own call).number row
 
+-- the slice that is left
+slice_there : (y : SystemState) (l : ℕ) (s : SliceState) → IsSystem y → s ≡ slice_of (with_slice y.home l s) l
+slice_there y l s k = sym (get_or-set_at y.home.slices (index_of y.home l) (index_of y.home l) s (opening_slice y.home.config 0) refl (is_low y.home l k.home))
+
 pub arrival_answered : (y y' : SystemState) (agent : Agent) (l at : Line) (s s' : SliceState) (r r' : RequesterState) (result : Result Arrived Refusal) → IsSystem y → Called y y' agent.0 l.0 s s' r r' → at ≡ l
     → Said result (λ x q. arrival_refusal x q.number at.0) (λ x q arrived. ArrivesOn x s' at q r' arrived) s' r' s r → Answered result (arrive_refusal y agent.0 l.0) (λ z arrived. ArrivesIn y z agent l arrived) y y'
 arrival_answered y y' agent l at s s' r r' result k call is there_said =
@@ -120,6 +126,7 @@ arrival_answered y y' agent l at s s' r r' result k call is there_said =
     let there = left_there y n r' k call.near in
     answered result y y' n l.0 s s' r r' (λ x q. arrival_refusal x q.number l.0) (arrive_refusal y n l.0) (λ x q arrived. ArrivesOn x s' l q r' arrived) (λ z arrived. ArrivesIn y z agent l arrived) call said
     (ap (λ (m : ℕ). arrival_refusal (slice_of y.home l.0) m l.0) (k.numbers n call.near)) (λ arrived (done : ArrivesOn (slice_of y.home l.0) s' l (requester_of y n) r' arrived). record {
+      protocol = subst₂ (λ (m : ℕ) (x : SliceState). SliceStep (slice_of y.home l.0) (arrival_action m l arrived) Nothing x) (k.numbers n call.near) (slice_there y l.0 s' k) done.protocol;
       home = ap (λ (x : SliceState). with_slice y.home l.0 x) done.slice ∙ ap (λ (m : ℕ). slices_after y.home (arrival_action m l arrived)) (k.numbers n call.near);
       requester = subst₂ (λ (m : ℕ) (q : RequesterState). ArrivesAt (cells_of (node_line y.home l.0) m).req arrived (requester_of y n) q) (k.numbers n call.near) there done.requester;
       others = ap (λ (q : RequesterState). set y.requesters n q) there;
@@ -134,6 +141,7 @@ step_answered y y' action own s s' r r' result k call is own_said =
     let there = left_there y n r' k call.near in
     answered result y y' n l s s' r r' (λ x q. call_refusal x q action) (system_step_refusal y action) (λ x q stepped. StepsTo x s' action q r' stepped) (λ z stepped. StepsIn y z action stepped) call said
     refl (λ stepped (done : StepsTo (slice_of y.home l) s' action (requester_of y n) r' stepped). record {
+      protocol = subst (SliceStep (slice_of y.home l) action stepped.effect) (slice_there y l s' k) done.protocol;
       home = ap (λ (x : SliceState). with_slice y.home l x) done.slice;
       effect = done.effect;
       requester = subst (Finishes (place_at (slice_of y.home l) action) action.step stepped.effect stepped.released (requester_of y n)) there done.requester;

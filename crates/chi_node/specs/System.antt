@@ -14,6 +14,8 @@ use Rattle.chi_tracker.specs.declared.released.Released.{Released}
 use Rattle.chi_tracker.specs.declared.totals.Counts.{Counts}
 use Rattle.chi_tracker.specs.Calls.{TrackerState, shape_of}
 use Rattle.chi_tracker.specs.Totals.{IsGlance}
+use Rattle.chi_flit.specs.declared.action.Effect.TheVariants.{Nothing}
+use Rattle.chi_slice.specs.Protocol.{SliceStep}
 use Rattle.chi_slice.specs.Words.{cells_of, effect_of, Sizes}
 use Rattle.chi_node.specs.declared.answers.Arrived.{Arrived}
 use Rattle.chi_node.specs.declared.answers.Stepped.{Stepped}
@@ -60,14 +62,16 @@ tend_refusal_in y n ty = option_or (agent_refusal y n) (typed_refusal (tend_refu
 abbrev pub OthersStay : SystemState → SystemState → Agent → Type 0
 OthersStay y y' agent = y'.requesters ≡ slice_set y.requesters agent.0 (requester_of y' agent.0)
 
--- an arrival was done: by the slice of its line, and by the agent's requester
+-- an arrival was done: by the slice of its line, by its row of the protocol, and by the agent's requester
 pub record ArrivesIn (y y' : SystemState) (agent : Agent) (l : Line) (arrived : Arrived) : Type 0 where
+  pub protocol : SliceStep (slice_of y.home l.0) (arrival_action agent.0 l arrived) Nothing (slice_of y'.home l.0)
   pub home : y'.home ≡ slices_after y.home (arrival_action agent.0 l arrived)
   pub requester : ArrivesAt (cells_of (node_line y.home l.0) agent.0).req arrived (requester_of y agent.0) (requester_of y' agent.0)
   pub others : OthersStay y y' agent
 
--- a step was done: by the slice of its line, and by the agent's requester
+-- a step was done: by the slice of its line, by its row of the protocol, and by the agent's requester
 pub record StepsIn (y y' : SystemState) (action : Action) (stepped : Stepped) : Type 0 where
+  pub protocol : SliceStep (slice_of y.home action.line.0) action stepped.effect (slice_of y'.home action.line.0)
   pub home : y'.home ≡ slices_after y.home action
   pub effect : stepped.effect ≡ effect_of (node_line y.home action.line.0) action
   pub requester : Finishes (place_at (slice_of y.home action.line.0) action) action.step stepped.effect stepped.released

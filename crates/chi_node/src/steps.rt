@@ -31,14 +31,7 @@ impl Requester {
             Step::Resend => self.resend(moved_slot(at)),
             Step::Cancel => self.cancel(moved_slot(at)),
             Step::RecvData | Step::RecvComp | Step::RecvDbid => self.answered(moved_slot(at)),
-            Step::Drop
-            | Step::Admit
-            | Step::Retry
-            | Step::Start
-            | Step::RecvSnp
-            | Step::RecvSnpResp
-            | Step::RecvAck
-            | Step::RecvWrData => {}
+            _ => {}
         }
     }
 

@@ -6,7 +6,7 @@ ghost use Rattle.std.specs.List.{slice_index_or};
 ghost use Rattle.atomic_table.specs.Seated.{TableId};
 ghost use Rattle.chi_flit.specs.Credit.{credit_number};
 ghost use Rattle.chi_flit.specs.Refusal.{refusal_of};
-ghost use Rattle.chi_slice.specs.Words.{cells_of, line_view};
+ghost use Rattle.chi_slice.specs.Words.{cells_of, line_view, standing_of, Coherent};
 ghost use Rattle.chi_node.specs.Calls.{is_own_step, IsRowOf};
 ghost use Rattle.chi_node.specs.Requester.{RequesterState, no_requester};
 ghost use Rattle.chi_slice.specs.Audits.{IsAudited};
@@ -237,13 +237,15 @@ impl<A: Allocator> System<A> {
         agent.0 < self.config.agents()
     }
 
-    /// All parts of a line, as plain data.
+    /// All parts of a line, as plain data. The line is coherent. Takes no memory.
     ///
     /// Refused 10 (OutOfRange) exactly where the line is outside the node.
-    /// Source: `docs/PROTOCOL.md`, "One line".
+    /// Source: `docs/PROTOCOL.md`, "One line" and "Coherence".
     pub fn view(&self, line: Line) -> Result<LineView, Refusal>
         ensures shown { IfOk result (λ view. view
             ≡ line_view (node_line self.now.home line.0) (node_last self.now.home line.0)) }
+        ensures coherent { OnOk result
+            (Coherent (node_last self.now.home line.0) (standing_of (node_line self.now.home line.0))) }
         ensures refusal { refusal_of result ≡ node_view_refusal self.now.home line.0 }
     {
         self.slice_of(line).view(line)

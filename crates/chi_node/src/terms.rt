@@ -47,21 +47,7 @@ impl Requester {
                     credits,
                 }
             }
-            Step::Load(_)
-            | Step::Store(_, _)
-            | Step::Drop
-            | Step::Admit
-            | Step::Retry
-            | Step::RecvRetry
-            | Step::Cancel
-            | Step::Start
-            | Step::RecvSnp
-            | Step::RecvSnpResp
-            | Step::RecvData
-            | Step::RecvComp
-            | Step::RecvAck
-            | Step::RecvDbid
-            | Step::RecvWrData => Terms::NONE,
+            _ => Terms::NONE,
         }
     }
 }

@@ -62,8 +62,9 @@ abbrev pub run_status : Result End Stop → ℕ
 run_status (Ok end) = end_status end
 run_status (Err stop) = stop_status stop
 
--- the statuses that the program can end with: all went well, a faulty file or a device that failed, a script
--- that didn't finish, want of memory, bad arguments, an answer that differs, and a flit that isn't explained
+-- the statuses that the program can end with: all went well, a faulty file or a device that failed, a script that
+-- didn't finish or a file that wasn't drawn, want of memory, bad arguments, an answer that differs, and a flit that
+-- isn't explained
 abbrev pub statuses : List ℕ
 statuses = 0 ∷ 1 ∷ 2 ∷ 3 ∷ 4 ∷ 5 ∷ 6 ∷ []
 

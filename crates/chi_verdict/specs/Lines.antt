@@ -2,7 +2,7 @@
 use Rattle.std.specs.Prelude.{◌≡◌, ◌==◌, ℕ, Bool, List, map}
 use Rattle.std.specs.List.{All, filter}
 use Rattle.chi_slice.specs.Words.{Sizes}
-use Rattle.chi_explain.specs.declared.explanations.Deed.{Deed}
+use Rattle.chi_explain.specs.declared.explanations.WitnessItem.{WitnessItem}
 use Rattle.chi_explain.specs.declared.observed.Observed.{Observed}
 use Rattle.chi_explain.specs.declared.observed.StoreListing.{StoreListing}
 use Rattle.chi_explain.specs.Explained.{IsExplained}
@@ -21,11 +21,11 @@ items_of line items = filter (is_on_line line) items
 abbrev pub said_by : List Resolved → List Observed
 said_by items = map (λ item. item.flit) items
 
--- some deeds explain just the items of one cache line, its flits, loads and stores, in their order
+-- a witness explains just the items of one cache line, its flits, loads and stores, in their order
 pub record AreExplained (config : Sizes) (stores : StoreListing) (items : List Resolved) : Type 0 where
   pub memory : List ℕ
-  pub deeds : List Deed
-  pub explained : IsExplained config stores memory deeds (said_by items)
+  pub witness : List WitnessItem
+  pub explained : IsExplained config stores memory witness (said_by items)
 
 -- and so it is of each cache line that an item is of
 abbrev pub AreLinesExplained : Sizes → StoreListing → List Resolved → Type 0

@@ -4,7 +4,7 @@
 ghost use Rattle.std.specs.Prelude.{◌<◌};
 
 use crate::names::kept;
-use chi_explain::Deed;
+use chi_explain::WitnessItem;
 use chi_flit::{Agent, CreditType, Kind, NoMemory, Profile, Step, credit_type};
 use std::alloc::Allocator;
 use std::fmt::Write;
@@ -43,11 +43,11 @@ pub(crate) struct Ballast {
 }
 
 /// The most promises of each type that are open at once.
-fn most_promised(profile: Profile, deeds: &[Deed]) -> [u8; 4] {
+fn most_promised(profile: Profile, items: &[WitnessItem]) -> [u8; 4] {
     let mut ballast = Ballast::empty(profile);
     let mut most = [0; 4];
-    for deed in deeds {
-        if let Deed::Act(agent, step) = *deed {
+    for item in items {
+        if let WitnessItem::Act(agent, step) = *item {
             ballast.note(agent, step);
         }
         for (most, promised) in most.iter_mut().zip(ballast.promised) {
@@ -85,8 +85,8 @@ impl Ballast {
     }
 
     /// The home for these items of an explanation, of so many agents.
-    pub fn new(profile: Profile, agents: u8, deeds: &[Deed]) -> Ballast {
-        let most = most_promised(profile, deeds);
+    pub fn new(profile: Profile, agents: u8, items: &[WitnessItem]) -> Ballast {
+        let most = most_promised(profile, items);
         let mut ballast = Ballast::empty(profile);
         let retries = most.iter().any(|count| *count > 0);
         ballast.agents = if retries { agents.max(3) } else { agents };

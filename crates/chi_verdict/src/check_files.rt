@@ -2,7 +2,7 @@
 
 use crate::ballast::Ballast;
 use crate::names::{LineName, NodeName, SeenName, kept, requester_of};
-use chi_explain::Deed;
+use chi_explain::WitnessItem;
 use chi_flit::{Agent, Data, NO_DATA, NoMemory, Profile, Step};
 use chi_monitor::{Known, Witness};
 use chi_resolution::{CacheLine, Resolved};
@@ -32,15 +32,15 @@ impl Told<'_> {
     ) -> Result<(), NoMemory> {
         self.write_nodes(text)?;
         let agents = self.requesters.len().clamp(1, 8) as u8;
-        let mut ballast = Ballast::new(self.profile, agents, &witness.deeds);
+        let mut ballast = Ballast::new(self.profile, agents, &witness.items);
         ballast.write_header(text)?;
         write_memory(text, &witness.memory)?;
         let mut done = 0;
         for (item, end) in self.items.iter().zip(&witness.ends) {
             self.write_flit(text, item)?;
-            let end = (*end).min(witness.deeds.len());
+            let end = (*end).min(witness.items.len());
             if done < end {
-                write_deeds(text, &mut ballast, &witness.deeds[done..end])?;
+                write_items(text, &mut ballast, &witness.items[done..end])?;
                 done = end;
             }
         }
@@ -98,21 +98,21 @@ fn write_memory<A: Allocator>(text: &mut String<A>, memory: &Data) -> Result<(),
 }
 
 /// Puts the commands of some items behind the text.
-fn write_deeds<A: Allocator>(
+fn write_items<A: Allocator>(
     text: &mut String<A>,
     ballast: &mut Ballast,
-    deeds: &[Deed],
+    items: &[WitnessItem],
 ) -> Result<(), NoMemory> {
-    for deed in deeds {
-        match *deed {
-            Deed::Act(agent, step) => write_act(text, ballast, agent, step)?,
-            Deed::Load(agent, word, value) => {
+    for item in items {
+        match *item {
+            WitnessItem::Act(agent, step) => write_act(text, ballast, agent, step)?,
+            WitnessItem::Load(agent, word, value) => {
                 kept(writeln!(text, "load {agent} 0 {word} -> ok value {value}"))?;
             }
-            Deed::Store(agent, word, value) => {
+            WitnessItem::Store(agent, word, value) => {
                 write_step(text, ballast, agent, Step::Store(word, value))?;
             }
-            Deed::Snoop(_) => {}
+            WitnessItem::Snoop(_) => {}
         }
     }
     Ok(())

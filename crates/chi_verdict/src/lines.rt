@@ -4,7 +4,7 @@ ghost use Rattle.std.specs.Prelude.{◌≡◌, ◌≤◌, ◌+◌, [], true, IfO
 ghost use Rattle.std.specs.List.{All};
 ghost use Rattle.chi_verdict.specs.Lines.{AreExplained, AreLinesExplained, is_on_line, said_by};
 
-use chi_explain::{Deed, Observed, StoreListing, Unexplained};
+use chi_explain::{Observed, StoreListing, Unexplained, WitnessItem};
 use chi_flit::{NoMemory, Refusal};
 use chi_monitor::{LineFault, NoExplanation, explain_flits, first_fault};
 use chi_resolution::{CacheLine, Resolved};
@@ -127,17 +127,17 @@ fn explain_front<A: Allocator + Copy>(
         Ok(witness) => Ok(Front {
             line,
             count,
-            actions: count_actions(&witness.deeds),
+            actions: count_actions(&witness.items),
         }),
         Err(cause) => Err(obstacle_at(line, items, cause)),
     }
 }
 
 /// How many of the items are actions.
-fn count_actions(deeds: &[Deed]) -> usize {
-    deeds
+fn count_actions(items: &[WitnessItem]) -> usize {
+    items
         .iter()
-        .filter(|deed| !matches!(**deed, Deed::Snoop(_)))
+        .filter(|item| !matches!(**item, WitnessItem::Snoop(_)))
         .count()
 }
 

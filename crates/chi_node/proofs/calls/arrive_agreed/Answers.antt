@@ -24,7 +24,7 @@ returns-clause-call g c =
     ∙ ap (λ (z : Step). slice_after c.args.slice.now (record { agent = record { 0 = c.args.requester.now.number }; line = c.args.at.line; step = z })) c.arrival_step-step.ensures) in
     let agreement = keeps_arrival c.args.slice.now c.act_in.new.self c.args.requester.now c.arrive-arrived.new.self c.args.at.line c.in_ok-request.request c.arrive-arrived.result c.in_ok-request.ensures.ok c.requires.agrees c.arrive-arrived.ensures after in
     record {
-      ok = record { slice = after; step = search (rules); requester = search (rules) };
+      ok = record { protocol = search (rules); slice = after; step = search (rules); requester = search (rules) };
       err = search (rules);
       kept = record { agreement = agreement; same = arrival_same c.in_ok-request.request.allow_retry c.in_ok-request.request.slot.0 c.arrive-arrived.result c.args.requester.now c.arrive-arrived.new.self c.arrive-arrived.ensures; slice = search (rules); running = λ _. arrival_running c.in_ok-request.request.allow_retry c.in_ok-request.request.slot.0 c.arrive-arrived.result c.args.requester.now c.arrive-arrived.new.self c.arrive-arrived.ensures };
     }
