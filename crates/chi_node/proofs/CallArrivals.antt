@@ -1,10 +1,14 @@
 -- The request of a requester that agrees arrives: its slot is as the arrival needs it, and agreement is kept.
-use Rattle.std.proofs.Common.{◌≡◌, List, ℕ, ◌<◌, ◌==◌, ◌&&◌, Bool, true, false, nat_lt, Option, Some, None, is_some, refl, sym, ◌∙◌, ap, subst, if◌then◌else◌}
+use Rattle.std.proofs.Common.{◌≡◌, List, ℕ, ◌<◌, ◌==◌, ◌&&◌, Bool, true, false, nat_lt, Option, Some, None, is_some, refl, sym, ◌∙◌, ap, subst, subst₂, if◌then◌else◌}
 use Rattle.chi_flit.specs.declared.numbers.Agent.{Agent}
 use Rattle.chi_flit.specs.declared.numbers.Entry.{Entry}
 use Rattle.chi_flit.specs.declared.numbers.Line.{Line}
 use Rattle.chi_flit.specs.declared.kind.Kind.{Kind}
 use Rattle.chi_flit.specs.declared.kind.Kind.TheVariants.{ReadShared}
+use Rattle.chi_flit.specs.declared.action.Action.{Action}
+use Rattle.chi_flit.specs.declared.action.Effect.{Effect}
+use Rattle.chi_flit.specs.declared.action.Effect.TheVariants.{Nothing}
+use Rattle.chi_flit.specs.declared.action.Step.{Step}
 use Rattle.chi_flit.specs.declared.action.Step.TheVariants as steps
 use Rattle.chi_flit.specs.declared.credit.CreditType.{CreditType}
 use Rattle.chi_flit.specs.declared.credit.Profile.{Profile}
@@ -17,10 +21,11 @@ use Rattle.chi_flit.specs.Credit.{credit_number, credit_type_of}
 use Rattle.chi_tracker.specs.Shape.{size}
 use Rattle.chi_tracker.specs.Acts.{Act}
 use Rattle.chi_tracker.specs.Views.{PortView}
-use Rattle.chi_slice.specs.Words.{cells_of, has_type, is_of_type, is_step_in_range, no_flit_unless, pending_kind_of, requested_kind_of, requested_slot, retry_refusal, Where}
+use Rattle.chi_slice.specs.Words.{cells_of, effect_of, has_type, is_of_type, is_step_in_range, no_flit_unless, pending_kind_of, requested_kind_of, requested_slot, retry_refusal, Where}
 use Rattle.chi_slice.specs.Wheres as places
 use Rattle.chi_slice.proofs.Passed.{flit_at}
-use Rattle.chi_slice.specs.Slice.{SliceState, slice_after, is_in_range, is_line_in_range, line, action_refusal}
+use Rattle.chi_slice.specs.declared.agent_line.AgentRow.{AgentRow}
+use Rattle.chi_slice.specs.Slice.{SliceState, action_in, slice_after, is_in_range, is_line_in_range, line, action_refusal}
 use Rattle.chi_slice.proofs.Rows.{both}
 use Rattle.chi_credit.specs.declared.slot.SlotState.TheVariants as states
 use Rattle.chi_credit.specs.Account.{slots_with_state, slot_record_at, type_at}
@@ -150,3 +155,13 @@ keeps_arrival s s' r r' l request arrived can agrees a after =
     let k : ArrivalKept s r r' l arrived = arrival_kept s r r' l request arrived can agrees a in
     let ready : Ready s (agent_of r) l (arrival_step arrived) r = ready_by s (agent_of r) l (arrival_step arrived) r refl can.kept can.numbers k.allowed agrees can.requester in
     subst (λ (z : SliceState). KeepsAgreement s z r r') (sym after) (keeps s (agent_of r) l (arrival_step arrived) r r' can.kept ready.here ready.moves refl k.follows)
+
+-- what the slice did, in the row of its requester, is what the arrival came to, and it has no effect
+no_effect : (s : SliceState) (at : AgentRow) (arrived : Arrived) → effect_of (line s at.line.0) (action_in at (arrival_step arrived)) ≡ Nothing
+no_effect s at (Admitted entry) = refl
+no_effect s at (Retried ty) = refl
+
+pub arrives_as : (P : Action → Effect → Type 0) (s : SliceState) (at : AgentRow) (n : ℕ) (arrived : Arrived) (step : Step) (effect : Effect) → at.agent.0 ≡ n → step ≡ arrival_step arrived → effect ≡ effect_of (line s at.line.0) (action_in at step)
+    → P (action_in at step) effect → P (arrival_action n at.line arrived) Nothing
+arrives_as P s at n arrived step effect own is told =
+    subst₂ P (λ i. record { agent = record { 0 = own i }; line = at.line; step = is i }) (told ∙ (ap (λ (z : Step). effect_of (line s at.line.0) (action_in at z)) is ∙ no_effect s at arrived))
