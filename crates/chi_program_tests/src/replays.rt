@@ -25,12 +25,26 @@ const TWO_COMMANDS: &[u8] = b"node 1 1 1 1 1 4\ntotals\nflits 0 0\n";
 
 const TWO_COMMANDS_TEXT: &[u8] = b"ok free 1 1 hand 0 0 promised 0 0 owed 0 0\nok none\n";
 
+const ABOVE_THE_RANGES: &[u8] =
+    b"node 1 1 1 1 1 4\nload 256 0 0\nload 0 0 8\nstore 0 0 0 18446744073709551615\n";
+
+const ABOVE_THE_RANGES_TEXT: &[u8] =
+    b"refused 10 OutOfRange\nrefused 10 OutOfRange\nrefused 2 WrongState\n";
+
 #[test]
 fn the_first_path_is_answered(rt: HostRuntime) {
     let mut input = MemoryInput::new(FIRST_PATH, 10);
     let mut output = MemoryOutput::new(rt.alloc(), 1_000);
     same(&rt, replay(rt.alloc(), &mut input, &mut output), Ok(()));
     assert!(rt; output.bytes() == FIRST_PATH_TEXT);
+}
+
+#[test]
+fn a_number_above_its_range_is_refused_and_told(rt: HostRuntime) {
+    let mut input = MemoryInput::new(ABOVE_THE_RANGES, 10);
+    let mut output = MemoryOutput::new(rt.alloc(), 1_000);
+    same(&rt, replay(rt.alloc(), &mut input, &mut output), Ok(()));
+    assert!(rt; output.bytes() == ABOVE_THE_RANGES_TEXT);
 }
 
 /// The replay of this file must end with this line and status 1, and write nothing.
@@ -46,6 +60,45 @@ fn tells(rt: &(impl Abort + AllocGlobal), file: &[u8], line: &str) -> Result<(),
         }
     }
     assert!(rt; output.bytes().is_empty(), "{line}");
+    Ok(())
+}
+
+#[test]
+fn a_faulty_file_is_told_and_nothing_written(rt: HostRuntime) -> Result<(), AllocError> {
+    let files: [(&[u8], &str); 11] = [
+        (b"", "chihome: line 1: bad header"),
+        (b"node 1 1 1 1 1 4", "chihome: line 1: missing newline"),
+        (b"node 1 1 1 1 1 4\r\n", "chihome: line 1: bad header"),
+        (b"node 9 64 8 32 32 65536\n", "chihome: line 1: bad header"),
+        (
+            b"node 8 64 8 100 100 30 27 65536\ntotals\n",
+            "chihome: line 1: bad header",
+        ),
+        (
+            b"node 1 1 1 1 1 4\nload 0 0\n",
+            "chihome: line 2: bad command",
+        ),
+        (
+            b"node 1 1 1 1 1 4\nload 00 0 0\n",
+            "chihome: line 2: bad command",
+        ),
+        (
+            b"node 1 1 1 1 1 4\nload  0 0 0\n",
+            "chihome: line 2: bad command",
+        ),
+        (b"node 1 1 1 1 1 4\n\n", "chihome: line 2: bad command"),
+        (
+            b"node 1 1 1 1 1 4\nload 18446744073709551616 0 0\n",
+            "chihome: line 2: bad command",
+        ),
+        (
+            b"node 1 1 1 1 1 2\nissue 0 0 Read",
+            "chihome: line 2: missing newline",
+        ),
+    ];
+    for (file, line) in files {
+        tells(&rt, file, line)?;
+    }
     Ok(())
 }
 

@@ -11,53 +11,63 @@ use linked_list_allocator::LocalHeap;
 use std::alloc::Global;
 use std::process::Abort;
 
-/// Agents, lines, slices, entries of two types and journal of a node, and whether there is such a node.
-type Sizes = (u8, u8, u8, u16, u16, u32, bool);
+/// The sizes of a node of two types: agents, lines and slices; entries; and the journal.
+#[derive(Clone, Copy, Debug)]
+struct Sizes([u8; 3], [u16; 2], u32);
 
-const SIZES: [Sizes; 19] = [
-    (1, 1, 1, 1, 1, 1, true),
-    (8, 64, 8, 63, 1, 65536, true),
-    (8, 64, 8, 1, 63, 65536, true),
-    (4, 8, 8, 2, 2, 10, true),
-    (4, 2, 2, 2, 2, 10, true),
-    (0, 1, 1, 1, 1, 1, false),
-    (9, 64, 8, 32, 32, 65536, false),
-    (1, 0, 1, 1, 1, 1, false),
-    (8, 65, 8, 32, 32, 65536, false),
-    (1, 8, 0, 1, 1, 1, false),
-    (1, 8, 3, 1, 1, 1, false),
-    (1, 64, 16, 1, 1, 1, false),
-    (1, 7, 8, 1, 1, 1, false),
-    (1, 8, 1, 0, 1, 1, false),
-    (1, 8, 1, 1, 0, 1, false),
-    (1, 8, 1, 64, 1, 1, false),
-    (1, 8, 1, 65535, 65535, 1, false),
-    (1, 8, 1, 1, 1, 0, false),
-    (1, 8, 1, 1, 1, 65537, false),
+const WITHIN: [Sizes; 5] = [
+    Sizes([1, 1, 1], [1, 1], 1),
+    Sizes([8, 64, 8], [63, 1], 65536),
+    Sizes([8, 64, 8], [1, 63], 65536),
+    Sizes([4, 8, 8], [2, 2], 10),
+    Sizes([4, 2, 2], [2, 2], 10),
 ];
 
-/// Whether there is a node of these sizes as it is said, which then has them.
-fn are_limited(sizes: Sizes) -> bool {
-    let (agents, lines, slices, t0, t1, journal, good) = sizes;
-    match Config::new(agents, lines, slices, t0, t1, journal) {
-        Some(config) => good && has_sizes(&config, sizes),
-        None => !good,
-    }
+/// One size of each is outside its limits, or doesn't go with the others.
+const BEYOND: [Sizes; 14] = [
+    Sizes([0, 1, 1], [1, 1], 1),
+    Sizes([9, 64, 8], [32, 32], 65536),
+    Sizes([1, 0, 1], [1, 1], 1),
+    Sizes([8, 65, 8], [32, 32], 65536),
+    Sizes([1, 8, 0], [1, 1], 1),
+    Sizes([1, 8, 3], [1, 1], 1),
+    Sizes([1, 64, 16], [1, 1], 1),
+    Sizes([1, 7, 8], [1, 1], 1),
+    Sizes([1, 8, 1], [0, 1], 1),
+    Sizes([1, 8, 1], [1, 0], 1),
+    Sizes([1, 8, 1], [64, 1], 1),
+    Sizes([1, 8, 1], [65535, 65535], 1),
+    Sizes([1, 8, 1], [1, 1], 0),
+    Sizes([1, 8, 1], [1, 1], 65537),
+];
+
+/// The node of these sizes, if there is one.
+fn config_of(sizes: Sizes) -> Option<Config> {
+    let Sizes([agents, lines, slices], [t0, t1], journal) = sizes;
+    Config::new(agents, lines, slices, t0, t1, journal)
 }
 
 /// Whether the node has two types, and these sizes.
 fn has_sizes(config: &Config, sizes: Sizes) -> bool {
-    let (agents, lines, slices, t0, t1, journal, _) = sizes;
-    [config.agents(), config.lines(), config.slices()] == [agents, lines, slices]
+    let Sizes(counts, [t0, t1], journal) = sizes;
+    [config.agents(), config.lines(), config.slices()] == counts
         && config.entries() == [t0, t1, 0, 0]
         && config.journal() == journal
         && config.profile() == Profile::Two
 }
 
 #[test]
+fn sizes_within_limits_make_a_node(rt: HostRuntime) {
+    for sizes in &WITHIN {
+        let config = config_of(*sizes).expect(&rt, "sizes in their limits");
+        assert!(rt; has_sizes(&config, *sizes), "{sizes:?}");
+    }
+}
+
+#[test]
 fn sizes_have_limits(rt: HostRuntime) {
-    for sizes in &SIZES {
-        assert!(rt; are_limited(*sizes), "{sizes:?}");
+    for sizes in &BEYOND {
+        assert!(rt; config_of(*sizes).is_none(), "{sizes:?}");
     }
 }
 
