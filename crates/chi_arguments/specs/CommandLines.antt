@@ -68,7 +68,7 @@ abbrev pub draw_line : App
 draw_line = with_rule (with_rule (with_rule (with_rule (with_rule (new_app (codes "draw")) header_rule) (option_rule (codes "seed"))) (option_rule (codes "commands"))) (option_rule (codes "wild"))) (flag_rule (codes "drain"))
 
 -- a command has these words, and none of its arguments is one of its subcommands' too
-pub record IsLine (app : App) (command : Command) : Type 0 where
+pub record IsCommand (app : App) (command : Command) : Type 0 where
   pub words : app_of command ≡ app
   pub local : (out-Command command).has_globals ≡ false
 

@@ -3,7 +3,7 @@
 ghost use Rattle.std.specs.Prelude.{◌≡◌, IfOk, false, map};
 ghost use Rattle.std.specs.Option.{option_and_then, option_map};
 ghost use Rattle.clap.specs.Words.{all_of, app_of, first_of, found_of, rows_of, rule_of, subcommand_rows_of};
-ghost use Rattle.chi_arguments.specs.CommandLines.{IsAsked, IsLine, asked_behind, asked_by, asked_in, chart_in, chart_line, check_in, check_line, command_lines, cover_in, cover_line, draw_in, draw_line, explain_in, explain_line, file_rule, files_rule, flag_rule, header_rule, option_rule, program_line, replay_in, replay_line, storm_asked, storm_line};
+ghost use Rattle.chi_arguments.specs.CommandLines.{IsAsked, IsCommand, asked_behind, asked_by, asked_in, chart_in, chart_line, check_in, check_line, command_lines, cover_in, cover_line, draw_in, draw_line, explain_in, explain_line, file_rule, files_rule, flag_rule, header_rule, option_rule, program_line, replay_in, replay_line, storm_asked, storm_line};
 
 use crate::faults::ArgFault;
 use crate::options::{
@@ -182,14 +182,14 @@ fn program_command<'a>(alloc: Global) -> Command<'a>
 
 /// The command line of `replay`.
 fn replay_command<'a>(alloc: Global) -> Result<Command<'a>, AllocError>
-    ensures { IfOk result (λ command. IsLine replay_line command) }
+    ensures { IfOk result (λ command. IsCommand replay_line command) }
 {
     Command::new(alloc, REPLAY).arg(file(alloc))
 }
 
 /// The command line of `check`.
 fn check_command<'a>(alloc: Global) -> Result<Command<'a>, AllocError>
-    ensures { IfOk result (λ command. IsLine check_line command) }
+    ensures { IfOk result (λ command. IsCommand check_line command) }
 {
     Command::new(alloc, CHECK)
         .arg(files(alloc))?
@@ -198,7 +198,7 @@ fn check_command<'a>(alloc: Global) -> Result<Command<'a>, AllocError>
 
 /// The command line of `chart`.
 fn chart_command<'a>(alloc: Global) -> Result<Command<'a>, AllocError>
-    ensures { IfOk result (λ command. IsLine chart_line command) }
+    ensures { IfOk result (λ command. IsCommand chart_line command) }
 {
     Command::new(alloc, CHART)
         .arg(file(alloc))?
@@ -208,7 +208,7 @@ fn chart_command<'a>(alloc: Global) -> Result<Command<'a>, AllocError>
 
 /// The command line of `explain`.
 fn explain_command<'a>(alloc: Global) -> Result<Command<'a>, AllocError>
-    ensures { IfOk result (λ command. IsLine explain_line command) }
+    ensures { IfOk result (λ command. IsCommand explain_line command) }
 {
     Command::new(alloc, EXPLAIN)
         .arg(file(alloc))?
@@ -220,7 +220,7 @@ fn explain_command<'a>(alloc: Global) -> Result<Command<'a>, AllocError>
 
 /// The command line of `storm`.
 fn storm_command<'a>(alloc: Global) -> Result<Command<'a>, AllocError>
-    ensures { IfOk result (λ command. IsLine storm_line command) }
+    ensures { IfOk result (λ command. IsCommand storm_line command) }
 {
     Command::new(alloc, STORM)
         .arg(file(alloc))?
@@ -230,7 +230,7 @@ fn storm_command<'a>(alloc: Global) -> Result<Command<'a>, AllocError>
 
 /// The command line of `cover`.
 fn cover_command<'a>(alloc: Global) -> Result<Command<'a>, AllocError>
-    ensures { IfOk result (λ command. IsLine cover_line command) }
+    ensures { IfOk result (λ command. IsCommand cover_line command) }
 {
     Command::new(alloc, COVER)
         .arg(files(alloc))?
@@ -239,7 +239,7 @@ fn cover_command<'a>(alloc: Global) -> Result<Command<'a>, AllocError>
 
 /// The command line of `draw`.
 fn draw_command<'a>(alloc: Global) -> Result<Command<'a>, AllocError>
-    ensures { IfOk result (λ command. IsLine draw_line command) }
+    ensures { IfOk result (λ command. IsCommand draw_line command) }
 {
     Command::new(alloc, DRAW)
         .arg(header(alloc))?

@@ -1,7 +1,4 @@
 -- The arguments, one after the other.
-use Rattle.std.proofs.Common.{codes}
-use Rattle.clap.specs.Words.{new_app}
-use Rattle.chi_arguments.specs.CommandLines.{file_rule}
 use Rattle.chi_arguments.proofs.Subcommands.{with_final}
 use Rattle.chi_arguments.proofs.jobs.replay_command.Goals as goal
 
