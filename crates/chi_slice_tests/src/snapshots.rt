@@ -131,7 +131,8 @@ fn finds_too_little<A: Allocator + Copy>(alloc: A, slice: &Slice<A>) -> bool {
 /// gives back what it took.
 fn wants_more(rt: &impl Abort, alloc: Global, missing: usize) {
     let size = size_of_slice(rt, alloc);
-    let heap = LocalHeap::new(alloc, size + (size - missing)).expect(rt, "memory for a heap");
+    let room = size.saturating_mul(2).saturating_sub(missing);
+    let heap = LocalHeap::new(alloc, room).expect(rt, "memory for a heap");
     let slice = Slice::new(&heap, &small_node(rt), 0).expect(rt, "memory for a slice");
     assert!(rt;
         finds_too_little(&heap, &slice) && heap.used() == size,
