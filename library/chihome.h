@@ -14,7 +14,8 @@
  *
  * Each call answers CHI_OK, or the number of a refusal, after which nothing has changed; CHI_Closed of a closed
  * handle, which is not touched; and an opening of an open handle CHI_AlreadyOpen, which stays. Where a call is not
- * done, all numbers of what it tells are 0, so also such a count. Only the openings take memory, and a monitor's calls.
+ * done, all numbers of what it tells are 0, so also such a count. Only the openings take memory, chi_slice_copy, and a
+ * monitor's calls.
  */
 #ifndef CHIHOME_H
 #define CHIHOME_H
@@ -319,6 +320,15 @@ uint8_t chi_slice_flits(ChiSlice *slice, uint8_t agent, uint8_t line, ChiFlits *
 
 /* Tells the record of a place in the journal, from 0. CHI_OutOfRange behind its end. */
 uint8_t chi_slice_journal(ChiSlice *slice, uint32_t place, ChiRecord *entry);
+
+/* Copies the slice of `from`: `to` holds a slice that is the same, which takes its own memory, and what `to` held before
+ * is closed. `from` stays, and each goes on by itself. CHI_NoMemory, and CHI_Closed where `from` is closed: `to` is then
+ * as it was. */
+uint8_t chi_slice_copy(ChiSlice *to, ChiSlice *from);
+
+/* Tells whether two slices are the same: 1 where they have the same sizes and index, each line with its flits is the same,
+ * and the journals have the same records, and else 0. Nothing is done. CHI_Closed where one of them is closed. */
+uint8_t chi_slice_equal(ChiSlice *one, ChiSlice *other, uint8_t *equal);
 
 /* Closes the handle, and frees the slice. */
 uint8_t chi_slice_close(ChiSlice *slice);

@@ -591,13 +591,30 @@ class Slice {
         return layout::outcome(answer, Record{entry.store != 0, entry.agent, entry.line, entry.word, entry.value});
     }
 
+    /* A slice that is the same, in memory of its own: each goes on by itself. NoMemory. */
+    Outcome<Slice> copy() const {
+        Slice copied;
+        const std::uint8_t answer = chi_slice_copy(&copied.handle_, &handle_);
+        return layout::outcome(answer, std::move(copied));
+    }
+
+    /* Whether the slices are the same: their sizes and index, each line with its flits, and the journal's records. Two
+     * closed ones are, and a closed one is the same as no open one. */
+    friend bool operator==(const Slice &one, const Slice &other) noexcept {
+        if (&one == &other || !one.is_open() || !other.is_open()) return one.is_open() == other.is_open();
+        std::uint8_t equal = 0;
+        chi_slice_equal(&one.handle_, &other.handle_, &equal);
+        return equal != 0;
+    }
+    friend bool operator!=(const Slice &one, const Slice &other) noexcept { return !(one == other); }
+
     bool is_open() const { return handle_.at != nullptr; }
 
     /* Frees what is open. Closed where nothing is. */
     Answer close() noexcept { return is_open() ? Answer(chi_slice_close(&handle_)) : Answer::Closed; }
 
   private:
-    ChiSlice handle_ = {nullptr};
+    mutable ChiSlice handle_ = {nullptr}; /* each call leaves it as it is, and may write it meanwhile */
 };
 
 /* A whole node on one thread: its slices, its tracker and its requesters, by the calls of docs/PROTOCOL.md, "A requester

@@ -450,6 +450,8 @@ _CALLS = {
     "chi_slice_show": (c_uint8, [_slice, c_uint8, _line]),
     "chi_slice_flits": (c_uint8, [_slice, c_uint8, c_uint8, _flits]),
     "chi_slice_journal": (c_uint8, [_slice, c_uint32, POINTER(_ChiRecord)]),
+    "chi_slice_copy": (c_uint8, [_slice, _slice]),
+    "chi_slice_equal": (c_uint8, [_slice, _slice, _count]),
     "chi_slice_close": (c_uint8, [_slice]),
     "chi_node_open": (c_uint8, [_node, POINTER(_ChiConfig)]),
     "chi_node_arrive": (c_uint8, [_node, c_uint8, c_uint8, _arrival]),
@@ -918,6 +920,25 @@ class Slice(_Handle):
                 yield self.journal(place)
             except OutOfRange:
                 return
+
+    def copy(self) -> Slice:
+        """A slice that is the same, in memory of its own: each goes on by itself. NoMemory."""
+        copied = Slice.__new__(Slice)
+        _Handle.__init__(copied, _ChiSlice(), self.config)
+        copied.index = self.index
+        _check(self._calls.chi_slice_copy(byref(copied._handle), byref(self._handle)))
+        return copied
+
+    def __eq__(self, other: object) -> bool:
+        """Whether the slices are the same: their sizes and index, each line with its flits, and the journal's records.
+        `Closed` where one of them is closed, but of a slice and itself."""
+        if not isinstance(other, Slice):
+            return NotImplemented
+        if self is other:
+            return True
+        equal = c_uint8()
+        _check(self._calls.chi_slice_equal(byref(self._handle), byref(other._handle), byref(equal)))
+        return bool(equal.value)
 
 
 class Node(_Handle):

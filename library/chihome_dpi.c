@@ -208,6 +208,21 @@ u8 chi_dpi_slice_journal(void *slice, u32 place, u8 *store, u8 *agent, u8 *line,
     return answer;
 }
 
+void *chi_dpi_slice_copy(void *slice, u8 *answer) {
+    ChiSlice *copy = calloc(1, sizeof *copy);
+    *answer = copy == NULL ? CHI_NoMemory : chi_slice_copy(copy, SLICE(slice));
+    if (*answer == CHI_OK) return copy;
+    free(copy);
+    return NULL;
+}
+
+/* A slice is the same as itself: the two handles of chi_slice_equal don't overlap. */
+u8 chi_dpi_slice_equal(void *one, void *other, u8 *equal) {
+    if (one != other || one == NULL) return chi_slice_equal(SLICE(one), SLICE(other), equal);
+    *equal = 1;
+    return CHI_OK;
+}
+
 u8 chi_dpi_slice_close(void *slice) {
     u8 answer = chi_slice_close(SLICE(slice));
     free(slice);

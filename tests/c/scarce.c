@@ -1,6 +1,6 @@
-/* Opens a slice, a node and a monitor while each allocation in turn is refused: the answer is CHI_NoMemory, the handle is closed,
- * nothing leaks (valgrind looks), and the next try with ample memory opens it. Then what a handle answers in each of
- * its states, and numbers outside an enum. */
+/* Opens a slice, a node and a monitor, and copies a slice, while each allocation in turn is refused: the answer is
+ * CHI_NoMemory, the handle is closed, or as it was before the copy, nothing leaks (valgrind looks), and the next try with
+ * ample memory opens it. Then what a handle answers in each of its states, and numbers outside an enum. */
 #include "chihome.h"
 
 #include <stdio.h>
@@ -79,6 +79,49 @@ static int monitor_allocations(void) {
         HOLDS(chi_monitor_close(&monitor) == (opened == CHI_OK ? CHI_OK : CHI_Closed));
         if (!spent) return count;
     }
+}
+
+/* The slice that the other handle holds stays where its copy is refused, and is closed where it isn't. */
+static int copy_allocations(void) {
+    ChiSlice from = {0};
+    ChiAction issue = {.line = 1, .step = CHI_Issue, .kind = CHI_ReadShared};
+    ChiEffect effect;
+    HOLDS(chi_slice_open(&from, &SIZES, 1) == CHI_OK && chi_slice_act(&from, &issue, &effect) == CHI_OK);
+    for (int count = 0;; count++) {
+        ChiSlice to = {0};
+        ChiLine shown;
+        uint8_t equal = 2;
+        HOLDS(chi_slice_open(&to, &SIZES, 0) == CHI_OK);
+        void *at = to.at;
+        granted = count;
+        uint8_t answer = chi_slice_copy(&to, &from);
+        int spent = granted < 0;
+        granted = -1;
+        HOLDS(answer == (spent ? CHI_NoMemory : CHI_OK) && (to.at == at) == spent && from.at != NULL);
+        HOLDS(chi_slice_equal(&from, &to, &equal) == CHI_OK && equal == !spent);
+        HOLDS(chi_slice_show(&to, 0, &shown) == (spent ? CHI_OK : CHI_OutOfRange));
+        HOLDS(chi_slice_close(&to) == CHI_OK);
+        if (spent) continue;
+        HOLDS(chi_slice_close(&from) == CHI_OK);
+        return count;
+    }
+}
+
+static void copy_answers(void) {
+    ChiSlice closed = {0}, slice = {0}, to = {0};
+    uint8_t equal = 2;
+    HOLDS(chi_slice_copy(&to, &closed) == CHI_Closed && to.at == NULL && closed.at == NULL);
+    HOLDS(chi_slice_open(&slice, &SIZES, 1) == CHI_OK);
+    void *at = slice.at;
+    HOLDS(chi_slice_copy(&slice, &closed) == CHI_Closed && slice.at == at && closed.at == NULL);
+    HOLDS(chi_slice_equal(&slice, &closed, &equal) == CHI_Closed && equal == 0);
+    equal = 2;
+    HOLDS(chi_slice_equal(&closed, &slice, &equal) == CHI_Closed && equal == 0);
+    equal = 2;
+    HOLDS(chi_slice_equal(&closed, &to, &equal) == CHI_Closed && equal == 0);
+    HOLDS(chi_slice_copy(&to, &slice) == CHI_OK && to.at != NULL && to.at != at && slice.at == at);
+    HOLDS(chi_slice_equal(&to, &slice, &equal) == CHI_OK && equal == 1 && slice.at == at);
+    HOLDS(chi_slice_close(&slice) == CHI_OK && chi_slice_close(&to) == CHI_OK);
 }
 
 static void slice_answers(void) {
@@ -164,8 +207,9 @@ int main(void) {
     int slice = slice_allocations();
     int node = node_allocations();
     int monitor = monitor_allocations();
-    HOLDS(slice > 0 && node > slice && monitor > 0);
+    HOLDS(slice > 0 && node > slice && monitor > 0 && copy_allocations() == slice);
     slice_answers();
+    copy_answers();
     node_answers();
     printf("%d allocations of a slice, %d of a node and %d of a monitor, each refused in turn\n", slice, node, monitor);
     return failures == 0 ? 0 : 1;

@@ -1,6 +1,6 @@
 /* What the handles of chihome.hpp answer: opened, moved and closed, and what the calls of a slice, of a node and of a
- * monitor give. With
- * -DNEW_CALLS also what a step sent, enabled actions, and names. The status is 0 where all holds. */
+ * monitor give. With -DNEW_CALLS also copies, what a step sent, enabled actions, and names. The status is 0 where all
+ * holds. */
 #include "chihome.hpp"
 
 #include <cstdio>
@@ -98,6 +98,19 @@ static void node() {
 }
 
 #ifdef NEW_CALLS
+static void copies() {
+    Slice model = *Slice::open(sizes(2, 1)), closed;
+    HOLDS(model.act(action(0, Step::Issue)));
+    Slice copy = *model.copy();
+    HOLDS(copy.is_open() && copy == model && model == model && !(copy != model));
+    HOLDS(model.act(action(0, Step::Admit)) && copy != model && (*copy.flits(0, 0))[Channel::Req]);
+    HOLDS(copy.act(action(0, Step::Admit)) && copy == model);
+    HOLDS(closed.copy().answer() == Answer::Closed && closed != model && model != closed && closed == Slice());
+    HOLDS(*Slice::open(sizes(2, 1)) != model && *Slice::open(sizes(1, 1)) != *Slice::open(sizes(2, 1)));
+    model = std::move(copy);
+    HOLDS(model.act(action(0, Step::Start)) && copy == closed);
+}
+
 static void new_calls() {
     Slice model = *Slice::open(sizes(2, 1));
     const Stepped issued = *model.step(action(1, Step::Issue));
@@ -140,6 +153,7 @@ int main() {
     node();
     monitor();
 #ifdef NEW_CALLS
+    copies();
     new_calls();
 #endif
     return failures == 0 ? 0 : 1;

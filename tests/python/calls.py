@@ -216,6 +216,25 @@ class Slices(unittest.TestCase):
 
 
 class NewCalls(unittest.TestCase):
+    @has("chi_slice_copy")
+    def test_copies(self):
+        with chihome.Slice(agents=2, lines=2, slices=2, index=1) as model, chihome.Slice(agents=2, lines=2) as other:
+            model.act(Step.Issue, 0, 1)
+            with model.copy() as it:
+                self.assertEqual((it.index, it.config), (1, model.config))
+                self.assertTrue(it == model and model == model and not it != model)
+                model.act(Step.Admit, 0, 1)
+                self.assertTrue(it != model and Channel.Req in it.flits(0, 1) and not model.flits(0, 1))
+                it.act(Step.Admit, 0, 1)
+                self.assertEqual(it, model)
+                self.assertTrue(it != other and it != 1)
+            with self.assertRaises(chihome.Closed):
+                it == model
+            with self.assertRaises(chihome.Closed):
+                it.copy()
+            with self.assertRaises(TypeError):
+                hash(model)
+
     @has("chi_slice_step")
     def test_step(self):
         with chihome.Slice(agents=3, lines=1) as model:

@@ -9,6 +9,7 @@ pub mod NodeCalls
 pub mod NodeHandle
 pub mod SliceHandle
 pub mod SliceCalls
+pub mod Snapshots
 pub mod Listed
 pub mod Enabled
 pub mod Standing

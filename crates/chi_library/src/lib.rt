@@ -22,6 +22,7 @@ mod records;
 mod sizes;
 mod slice_calls;
 mod slice_handle;
+mod snapshots;
 mod steps;
 
 pub use actions::{ChiAction, ChiEffect};

@@ -1,0 +1,70 @@
+/* Does random actions on a slice and on copies of it. A copy made before an action is the same until the action is done,
+ * and differs then; once it has done the action itself it is the same again. Another copy, made at the start of each run,
+ * goes along with all of it. */
+#include "chihome.h"
+
+#include <inttypes.h>
+#include <stdio.h>
+
+enum { AGENTS = 4, LINES = 4, RUNS = 1000, EACH = 1000 };
+
+static ChiSlice model, along, before;
+static int failures;
+
+#define HOLDS(it) ((it) ? (void)0 : (void)(failures++, printf("%s:%d: %s\n", __FILE__, __LINE__, #it)))
+
+static uint64_t state;
+
+static uint64_t drawn(void) {
+    state += UINT64_C(0x9E3779B97F4A7C15);
+    uint64_t word = (state ^ (state >> 30)) * UINT64_C(0xBF58476D1CE4E5B9);
+    word = (word ^ (word >> 27)) * UINT64_C(0x94D049BB133111EB);
+    return word ^ (word >> 31);
+}
+
+static int are_same(ChiSlice *one, ChiSlice *other) {
+    uint8_t equal = 2, back = 2;
+    HOLDS(chi_slice_equal(one, other, &equal) == CHI_OK && chi_slice_equal(other, one, &back) == CHI_OK);
+    HOLDS(equal <= 1 && equal == back);
+    return equal;
+}
+
+static int is_same_effect(const ChiEffect *one, const ChiEffect *other) {
+    return one->effect == other->effect && one->slot == other->slot && one->value == other->value;
+}
+
+static int follow(const ChiAction *action) {
+    ChiEffect effect, told;
+    ChiSent sent[CHI_MostSent], taken;
+    uint8_t count;
+    HOLDS(chi_slice_copy(&before, &model) == CHI_OK && are_same(&before, &model));
+    uint8_t answer = chi_slice_step(&model, action, &effect, sent, &count, &taken);
+    HOLDS(are_same(&before, &model) == (answer != CHI_OK));
+    HOLDS(chi_slice_act(&before, action, &told) == answer && is_same_effect(&effect, &told));
+    HOLDS(chi_slice_act(&along, action, &told) == answer && is_same_effect(&effect, &told));
+    HOLDS(are_same(&before, &model) && are_same(&along, &model));
+    return answer == CHI_OK;
+}
+
+static int run(void) {
+    const ChiConfig config = {.agents = AGENTS, .lines = LINES, .slices = 1, .entries = {1, 1}, .journal = 64};
+    int done = 0;
+    HOLDS(chi_slice_open(&model, &config, 0) == CHI_OK && chi_slice_copy(&along, &model) == CHI_OK);
+    for (int count = 0; count < EACH && failures < 10; count++) {
+        uint64_t word = drawn();
+        ChiAction action = {.agent = (uint8_t)(word % 5), .line = (uint8_t)((word >> 8) % 5),
+            .step = (uint8_t)((word >> 16) % 18), .kind = (uint8_t)((word >> 24) % 9), .slot = (uint8_t)((word >> 32) % 9),
+            .word = (uint8_t)((word >> 40) % 9), .value = word >> 48};
+        done += follow(&action);
+    }
+    HOLDS(chi_slice_close(&model) == CHI_OK);
+    return done;
+}
+
+int main(void) {
+    int done = 0;
+    for (int count = 0; count < RUNS && failures < 10; count++) done += run();
+    HOLDS(chi_slice_close(&along) == CHI_OK && chi_slice_close(&before) == CHI_OK && done > 0);
+    printf("%d actions done, each by copies too\n", done);
+    return failures == 0 ? 0 : 1;
+}
