@@ -41,18 +41,30 @@ class Monitor:
         self.lines = []
         self.requests, self.buffers, self.snoops = Ids(rng), Ids(rng), Ids(rng)
         self.owed, self.credits, self.cancelled = [], {}, {}
+        # (the beat that is left of data, by the data's line, agent and channel)
+        self.left = {}
 
     def say(self, channel, source, target, txn, opcode, address="-", resp="-", dbid="-", allow="-", pcrd="-", data="-"):
         numbers = ["-" if it is None else f"{it:02x}" for it in (source, target, txn)]
         self.lines.append(" ".join(str(it) for it in (channel, *numbers, opcode, address, resp, dbid, allow, pcrd, data)))
 
-    def say_data(self, words, *head, **columns):
-        """A data flit, in one beat or in two."""
+    def say_data(self, key, free, words, *head, **columns):
+        """A data flit, in one beat or in two; other flits may stand between these. Behind the last its id is free."""
         texts = [f"{word:x}" for word in words]
-        halves = [texts[:4] + ["x"] * 4, ["x"] * 4 + texts[4:]]
-        self.rng.shuffle(halves)
-        for beat in halves if self.beats and self.rng.random() < 0.4 else [texts]:
-            self.say("DAT", *head, data=",".join(beat), **columns)
+        if self.beats and self.rng.random() < 0.6:
+            halves = [texts[:4] + ["x"] * 4, ["x"] * 4 + texts[4:]]
+            self.rng.shuffle(halves)
+            texts, self.left[key] = halves[0], (halves[1], free, head, columns)
+        self.say("DAT", *head, data=",".join(texts), **columns)
+        if key not in self.left:
+            free()
+
+    def finish(self, key):
+        """The beat that is left of the data, if one is."""
+        if key in self.left:
+            texts, free, head, columns = self.left.pop(key)
+            self.say("DAT", *head, data=",".join(texts), **columns)
+            free()
 
     def say_access(self, agent, opcode, address, value):
         """A load or a store, where it is listed."""
@@ -161,6 +173,18 @@ class SeenLine(Line):
         self.monitor.cancelled[key] = self.monitor.cancelled.get(key, 0) + 1
         super().cancel(agent)
 
+    def take_answer(self, agent):
+        self.monitor.finish((self.address, agent, "DatUp"))
+        super().take_answer(agent)
+
+    def take_written(self, agent):
+        self.monitor.finish((self.address, agent, "DatUp"))
+        super().take_written(agent)
+
+    def take_data(self, agent):
+        self.monitor.finish((self.address, agent, "DatDown"))
+        super().take_data(agent)
+
     def put(self, agent, channel, text, words=None):
         if text == "CompAck":
             self.use(agent)
@@ -180,32 +204,38 @@ class SeenLine(Line):
         self.monitor.say("SNP", HOME, self.monitor.nodes[agent], self.snoop_txn[agent], opcode, f"{self.address:x}")
 
     def to_requester(self, agent, has_buffer):
-        """Both ends and the id of a response to the agent's request; the id is free then, and the home takes a buffer or none."""
-        head = (HOME, self.monitor.nodes[agent], self.txn[agent])
-        self.monitor.requests.free(agent, self.txn[agent])
+        """Both ends and the id of a response to the agent's request, what frees the id, and the home's buffer, if it takes one."""
+        txn = self.txn[agent]
         self.dbid[agent] = self.monitor.buffers.take(agent) if has_buffer else None
-        return head, f"{self.dbid[agent]:x}" if has_buffer else "-"
+        dbid = f"{self.dbid[agent]:x}" if has_buffer else "-"
+        return (HOME, self.monitor.nodes[agent], txn), lambda: self.monitor.requests.free(agent, txn), dbid
 
     def say_RspDown(self, agent, opcode, resp, words):
         opcode, _, pcrd = opcode.partition("/")
-        head, dbid = self.to_requester(agent, opcode == "CompDBIDResp" or resp == "UC")
+        head, free, dbid = self.to_requester(agent, opcode == "CompDBIDResp" or resp == "UC")
         self.monitor.say("RSP", *head, opcode, self.maybe_address(), resp=resp, dbid=dbid, pcrd=pcrd or "-")
+        free()
 
     def say_DatDown(self, agent, opcode, resp, words):
-        head, dbid = self.to_requester(agent, True)
-        self.monitor.say_data(words, *head, opcode, self.maybe_address(), resp=resp, dbid=dbid)
+        head, free, dbid = self.to_requester(agent, True)
+        key = self.address, agent, "DatDown"
+        self.monitor.say_data(key, free, words, *head, opcode, self.maybe_address(), resp=resp, dbid=dbid)
 
     def to_home(self, agent, opcode):
-        """Both ends and the id of what an agent answers; the id is free then."""
+        """Both ends and the id of what an agent answers, and what frees the id."""
         ids, used = (self.monitor.snoops, self.snoop_txn) if opcode.startswith("SnpResp") else (self.monitor.buffers, self.dbid)
-        ids.free(agent, used[agent])
-        return self.monitor.nodes[agent], HOME, used[agent]
+        txn = used[agent]
+        return (self.monitor.nodes[agent], HOME, txn), lambda: ids.free(agent, txn)
 
     def say_RspUp(self, agent, opcode, resp, words):
-        self.monitor.say("RSP", *self.to_home(agent, opcode), opcode, self.maybe_address(), resp=resp)
+        head, free = self.to_home(agent, opcode)
+        self.monitor.say("RSP", *head, opcode, self.maybe_address(), resp=resp)
+        free()
 
     def say_DatUp(self, agent, opcode, resp, words):
-        self.monitor.say_data(words, *self.to_home(agent, opcode), opcode, self.maybe_address(), resp=resp)
+        head, free = self.to_home(agent, opcode)
+        key = self.address, agent, "DatUp"
+        self.monitor.say_data(key, free, words, *head, opcode, self.maybe_address(), resp=resp)
 
 
 def trace(seed, flits, agents, lines, four, beats, listed=None):
@@ -217,10 +247,14 @@ def trace(seed, flits, agents, lines, four, beats, listed=None):
         if monitor.owed and rng.random() < 0.3:
             monitor.grant()
         monitor.give_back()
+        if monitor.left and rng.random() < 0.1:
+            monitor.finish(rng.choice(list(monitor.left)))
         line = rng.choice(run)
         if rng.random() < 0.25:
             line.processor()
         if steps := line.steps():
             step, agent = rng.choice(steps)
             step(agent)
+    for key in list(monitor.left):
+        monitor.finish(key)
     return monitor.lines

@@ -1,5 +1,5 @@
 -- The ledger is kept: what each flit books leaves its account balanced.
-use Rattle.std.proofs.Common.{◌≡◌, inl, inr, zero, suc, ℕ, ◌+◌, ◌<◌, ◌≤◌, ◌==◌, Bool, true, false, cond, List, [], ◌∷◌, Option, Some, None, Result, Ok, Err, refl, sym, subst, arith}
+use Rattle.std.proofs.Common.{◌≡◌, inl, inr, zero, suc, ℕ, ◌+◌, ◌<◌, ◌≤◌, ◌==◌, ◌&&◌, nat_lt, Bool, true, false, cond, List, [], ◌∷◌, Option, Some, None, Result, Ok, Err, refl, sym, subst, arith}
 use Rattle.std.specs.Prelude.{IfOk, IfSome}
 use Rattle.std.specs.List.{All, position}
 use Rattle.std.proofs.lemmas.Bool.Decides.{nat_tests}
@@ -11,7 +11,7 @@ use Rattle.chi_resolution.specs.declared.ledger.CreditLedger.{CreditLedger}
 use Rattle.chi_resolution.specs.declared.ledger.Booking.{Booking}
 use Rattle.chi_resolution.specs.declared.ledger.CreditEvent.TheVariants as events
 use Rattle.chi_resolution.specs.declared.reasons.IdReason.{IdReason}
-use Rattle.chi_resolution.specs.Ledger.{IsLedgerBalanced, account_at, account_or, booked, booked_all, held_of, is_account, opened_account, put, unused_of, with_event}
+use Rattle.chi_resolution.specs.Ledger.{IsLedgerBalanced, account_at, account_or, booked, booked_all, held_of, is_account, may_return, opened_account, put, unused_of, with_event}
 use Rattle.chi_resolution.specs.Reasons.{◌>>=◌}
 
 -- a test that refuses, or else leaves a value
@@ -34,7 +34,7 @@ each_of (Ok x) next Q P q h = h x q
 each_of (Err reason) next Q P q h = tt
 
 pub opened_balanced : (early : Bool) (node : NodeId) (pcrd : PcrdType) → IsLedgerBalanced early (opened_account node pcrd)
-opened_balanced early node pcrd = record { spent = omega arith; retried = λ e. omega arith }
+opened_balanced early node pcrd = record { spent = omega arith; cancelled = omega arith; retried = λ e. omega arith }
 
 -- the account at a place
 got_balanced : (early : Bool) (node : NodeId) (pcrd : PcrdType) (accounts : List CreditLedger) (place : ℕ) → All (IsLedgerBalanced early) accounts → IsLedgerBalanced early (account_at (Some place) node pcrd accounts)
@@ -54,19 +54,36 @@ held_balanced early node pcrd accounts all = at_balanced early node pcrd account
 
 -- one more of each sort
 pub more_retried : (early : Bool) (account : CreditLedger) → IsLedgerBalanced early account → IsLedgerBalanced early (with_event events.Retried account)
-more_retried early account is = record { spent = is.spent; retried = λ e. omega (arith, is.retried e) }
+more_retried early account is = record { spent = is.spent; cancelled = is.cancelled; retried = λ e. omega (arith, is.retried e) }
+
+pub more_in_vain : (early : Bool) (account : CreditLedger) → IsLedgerBalanced early account → IsLedgerBalanced early (with_event events.RetriedInVain account)
+more_in_vain early account is = record { spent = is.spent; cancelled = omega (arith, is.cancelled); retried = λ e. omega (arith, is.retried e) }
+
+pub more_cancelled : (early : Bool) (account : CreditLedger) → IsLedgerBalanced early account → IsLedgerBalanced early (with_event events.Cancelled account)
+more_cancelled early account is = record { spent = is.spent; cancelled = omega (arith, is.cancelled); retried = is.retried }
 
 pub more_granted : (early : Bool) (account : CreditLedger) → IsLedgerBalanced early account → (early ≡ false → account.granted < account.retried) → IsLedgerBalanced early (with_event events.Granted account)
-more_granted early account is less = record { spent = omega (arith, is.spent); retried = λ e. omega (arith, less e) }
+more_granted early account is less = record { spent = omega (arith, is.spent); cancelled = is.cancelled; retried = λ e. omega (arith, less e) }
 
 some_unused : (account : CreditLedger) → (unused_of account == 0) ≡ false → account.resent + account.returned + 1 ≤ account.granted
 some_unused account e = grind (arith, nat_tests)
 
-pub more_resent : (early : Bool) (account : CreditLedger) → IsLedgerBalanced early account → (unused_of account == 0) ≡ false → IsLedgerBalanced early (with_event events.Resent account)
-more_resent early account is some = record { spent = omega (arith, some_unused account some); retried = is.retried }
+both_hold : (one other : Bool) → (one && other) ≡ true → (one ≡ true) × (other ≡ true)
+both_hold true true e = (refl, refl)
+both_hold true false e = absurd (cc (e))
+both_hold false other e = absurd (cc (e))
 
-pub more_returned : (early : Bool) (account : CreditLedger) → IsLedgerBalanced early account → (unused_of account == 0) ≡ false → IsLedgerBalanced early (with_event events.Returned account)
-more_returned early account is some = record { spent = omega (arith, some_unused account some); retried = is.retried }
+may_spend : (account : CreditLedger) → may_return account ≡ true → account.resent + account.returned + 1 ≤ account.granted
+may_spend account may = let some = (both_hold (nat_lt 0 (unused_of account)) (nat_lt account.returned account.cancelled) may).0 in grind (arith, nat_tests)
+
+may_hand_back : (account : CreditLedger) → may_return account ≡ true → account.returned + 1 ≤ account.cancelled
+may_hand_back account may = let less = (both_hold (nat_lt 0 (unused_of account)) (nat_lt account.returned account.cancelled) may).1 in grind (arith, nat_tests)
+
+pub more_resent : (early : Bool) (account : CreditLedger) → IsLedgerBalanced early account → (unused_of account == 0) ≡ false → IsLedgerBalanced early (with_event events.Resent account)
+more_resent early account is some = record { spent = omega (arith, some_unused account some); cancelled = is.cancelled; retried = is.retried }
+
+pub more_returned : (early : Bool) (account : CreditLedger) → IsLedgerBalanced early account → may_return account ≡ true → IsLedgerBalanced early (with_event events.Returned account)
+more_returned early account is may = record { spent = omega (arith, may_spend account may); cancelled = omega (arith, may_hand_back account may); retried = is.retried }
 
 -- what a booking leaves is balanced
 abbrev pub IsKept : Bool → Booking → Type 0

@@ -9,6 +9,7 @@ use Rattle.chi_flit.specs.declared.message.RspDown.TheVariants as downs
 use Rattle.chi_flit.specs.declared.message.RspUp.{RspUp}
 use Rattle.chi_flit.specs.declared.message.RspUp.TheVariants as ups
 use Rattle.chi_flit.specs.declared.snoop.Snoop.{Snoop}
+use Rattle.chi_flit.specs.declared.state.State.{State}
 use Rattle.chi_trace.specs.declared.fields.PcrdType.{PcrdType}
 use Rattle.chi_trace.specs.declared.fields.Resp.{Resp}
 use Rattle.chi_trace.specs.declared.flits.Seen.{Seen}
@@ -29,16 +30,17 @@ use Rattle.chi_resolution.specs.declared.nodes.Ends.{Ends}
 use Rattle.chi_resolution.specs.declared.reasons.IdReason.{IdReason}
 use Rattle.chi_resolution.specs.declared.reasons.IdReason.TheVariants as reasons
 use Rattle.chi_resolution.specs.declared.resolution.Options.{Options}
-use Rattle.chi_resolution.specs.Changes.{Open, access_of, answered, beat_by, beat_of, begun_or_freed, booking_of, completed, request_completion, completed_with, credit_change, early_of, change_by, change_of, first_beat, flit_change, freed, given_back, granted, later_beat, may_grant, named, new_id, opened, received, replied, request_by, requested, responded, retried, right_type, sent_again, snooped, unless_lacking, with_credit}
-use Rattle.chi_resolution.specs.Ledger.{IsLedgerBalanced, held_of, wanted_of}
+use Rattle.chi_resolution.specs.Changes.{Open, access_of, answered, beat_by, beat_of, begun_or_freed, booking_of, completed, request_completion, completed_with, credit_change, cancelled_by, early_of, change_by, change_of, first_beat, flit_change, freed, given_back, granted, later_beat, may_grant, named, new_id, opened, received, replied, request_by, requested, responded, retried, retry_event, right_type, sent_again, snooped, unless_lacking, with_credit, with_loss, with_loss_in, with_loss_of}
+use Rattle.chi_resolution.specs.Ledger.{IsLedgerBalanced, held_of, wanted_of, with_event}
 use Rattle.chi_resolution.specs.Beats.{data_before, data_of, filled, is_whole}
+use Rattle.chi_resolution.specs.Cancels.{is_lost, is_unfit, left_by}
 use Rattle.chi_resolution.specs.Ids.{id_of}
 use Rattle.chi_resolution.specs.Messages.{answer_form, completion_response, message_of}
 use Rattle.chi_resolution.specs.Nodes.{ends_of}
 use Rattle.chi_resolution.specs.Reasons.{needed_address, needed_allow_retry, buffer_of, needed_dbid, needed_pcrd, needed_resp, needed_txn, value_in, words_in}
 use Rattle.chi_resolution.specs.declared.resolution.Allowed.{Allowed}
 use Rattle.chi_resolution.specs.Resolution.{Outcome, Progress, open_after, ended, nothing, resolution_of, resolved_from, allowed_of, taken}
-use Rattle.chi_resolution.proofs.Balance.{IsKept, booked_all_balanced, booked_balanced, each, each_of, held_balanced, if_not, if_so, more_granted, more_resent, more_returned, more_retried}
+use Rattle.chi_resolution.proofs.Balance.{IsKept, booked_all_balanced, booked_balanced, each, each_of, held_balanced, if_not, if_so, more_cancelled, more_granted, more_in_vain, more_resent, more_returned, more_retried}
 
 -- what a flit of a line books, if anything
 abbrev pub FlitKept : Bool → LineFlit → Type 0
@@ -87,6 +89,10 @@ snoop_kept early table ends seen snoop =
     each (needed_txn seen) _ (FlitKept early) (λ txn.
     each (new_id table (keys.Snoop ends.requester txn)) _ (FlitKept early) (λ key. tt)))
 
+retried_kept : (early lost : Bool) (account : CreditLedger) → IsLedgerBalanced early account → IsLedgerBalanced early (with_event (retry_event lost) account)
+retried_kept early true account is = more_in_vain early account is
+retried_kept early false account is = more_retried early account is
+
 retry_kept : (early : Bool) (options : Options) (table : Open) (ends : Ends) (seen : Seen) → TableKept early table → IfOk (retried options table ends seen) (FlitKept early)
 unfolding retried
 retry_kept early options table ends seen all =
@@ -96,7 +102,7 @@ retry_kept early options table ends seen all =
     each (ok_or found.may_retry (reasons.NotRetryable ends.requester txn)) _ (FlitKept early) (λ kind.
     each (right_type pcrd (wanted_of options.types kind)) _ (FlitKept early) (λ type.
     each (new_id table (keys.Retried ends.requester found.line)) _ (FlitKept early) (λ key.
-    more_retried early _ (held_balanced early ends.requester type table.accounts all)))))))
+    retried_kept early (is_lost kind ends.agent found table.flits) _ (held_balanced early ends.requester type table.accounts all)))))))
 
 respond_kept : (early : Bool) (table : Open) (ends : Ends) (seen : Seen) (response : RspDown) → IfOk (responded table ends seen response) (FlitKept early)
 unfolding responded
@@ -180,7 +186,7 @@ grant_kept options table ends seen all =
 return_kept : (early : Bool) (table : Open) (ends : Ends) (seen : Seen) → TableKept early table → IfOk (given_back table ends seen) (IsKept early)
 unfolding given_back
 return_kept early table ends seen all =
-    each (needed_pcrd seen) _ (IsKept early) (λ pcrd. if_not _ _ _ (IsKept early) (λ some. more_returned early _ (held_balanced early ends.requester pcrd table.accounts all) some))
+    each (needed_pcrd seen) _ (IsKept early) (λ pcrd. if_so _ _ _ (IsKept early) (λ may. more_returned early _ (held_balanced early ends.requester pcrd table.accounts all) may))
 
 as_flit : (early : Bool) (flit : Result LineFlit IdReason) → IfOk flit (FlitKept early) → IfOk (flit_change flit) (ChangeKept early)
 as_flit early (Ok flit) is = is
@@ -206,19 +212,36 @@ by_opcode opcodes.CopyBackWrData options table ends seen all = each (buffer_of s
 by_opcode opcodes.Load options table ends seen all = as_flit options.early_grants _ (access_kept options.early_grants table ends seen)
 by_opcode opcodes.Store options table ends seen all = as_flit options.early_grants _ (access_kept options.early_grants table ends seen)
 
+cancelled_by_kept : (early : Bool) (table : Open) (ends : Ends) (waiting : OpenId) (flit : LineFlit) (pcrd : Option PcrdType) → TableKept early table → FlitKept early flit → FlitKept early (cancelled_by table ends waiting flit pcrd)
+cancelled_by_kept early table ends waiting flit None all is = is
+cancelled_by_kept early table ends waiting flit (Some pcrd) all is = more_cancelled early _ (held_balanced early ends.requester pcrd table.accounts all)
+
+unfit_kept : (early unfit : Bool) (table : Open) (ends : Ends) (waiting : OpenId) (flit : LineFlit) → TableKept early table → FlitKept early flit → FlitKept early (cond unfit (cancelled_by table ends waiting flit waiting.waits_for) flit)
+unfit_kept early true table ends waiting flit all is = cancelled_by_kept early table ends waiting flit waiting.waits_for all is
+unfit_kept early false table ends waiting flit all is = is
+
+loss_of_kept : (early : Bool) (table : Open) (ends : Ends) (flit : LineFlit) (state : State) (found : Option OpenId) → TableKept early table → FlitKept early flit → FlitKept early (with_loss_of table ends flit state found)
+loss_of_kept early table ends flit state None all is = is
+loss_of_kept early table ends flit state (Some waiting) all is = unfit_kept early (is_unfit waiting.may_retry state) table ends waiting flit all is
+
+loss_in_kept : (early : Bool) (table : Open) (ends : Ends) (flit : LineFlit) (state : Option State) → TableKept early table → FlitKept early flit → FlitKept early (with_loss_in table ends flit state)
+loss_in_kept early table ends flit None all is = is
+loss_in_kept early table ends flit (Some state) all is = loss_of_kept early table ends flit state (id_of (keys.Retried ends.requester flit.line) table.ids) all is
+
 unless_lacking_kept : (early : Bool) (flit : LineFlit) (begun : Option OpenData) → FlitKept early flit → IfOk (unless_lacking flit begun) (ChangeKept early)
 unless_lacking_kept early flit None is = is
 unless_lacking_kept early flit (Some begun) is = tt
 
-received_kept : (early : Bool) (table : Open) (opcode : Opcode) (change : Change) → ChangeKept early change → IfOk (received table opcode change) (ChangeKept early)
-received_kept early table opcode (Flit flit) is = unless_lacking_kept early flit (data_before opcode flit.line table.unfinished) is
-received_kept early table opcode (Credit booking) is = is
-received_kept early table opcode (Beat further) is = is
+received_kept : (early : Bool) (table : Open) (ends : Ends) (opcode : Opcode) → TableKept early table → (change : Change) → ChangeKept early change → IfOk (received table ends opcode change) (ChangeKept early)
+received_kept early table ends opcode all (Flit flit) is =
+    unless_lacking_kept early (with_loss table ends flit) (data_before opcode (with_loss table ends flit).line table.unfinished) (loss_in_kept early table ends flit (left_by flit.flit) all is)
+received_kept early table ends opcode all (Credit booking) is = is
+received_kept early table ends opcode all (Beat further) is = is
 
 change_kept : (options : Options) (table : Open) (ends : Ends) (seen : Seen) → TableKept options.early_grants table → IfOk (change_of options table ends seen) (ChangeKept options.early_grants)
 unfolding change_of
 change_kept options table ends seen all =
-    each_of (change_by seen.opcode options table ends seen) _ (ChangeKept options.early_grants) (ChangeKept options.early_grants) (by_opcode seen.opcode options table ends seen all) (received_kept options.early_grants table seen.opcode)
+    each_of (change_by seen.opcode options table ends seen) _ (ChangeKept options.early_grants) (ChangeKept options.early_grants) (by_opcode seen.opcode options table ends seen all) (received_kept options.early_grants table ends seen.opcode all)
 
 after_kept : (early : Bool) (at : ℕ) (change : Change) (table : Open) → ChangeKept early change → TableKept early table → TableKept early (open_after at change table)
 after_kept early at (Flit flit) table is all = booked_all_balanced early flit.books table.accounts is all

@@ -1,6 +1,6 @@
--- The ledger of the protocol credits: of each node and type what was retried (R), granted (G), sent again (S) and
--- returned (B) (docs/TRACES.md, "Nodes, ids and credits").
-use Rattle.std.specs.Prelude.{◌≡◌, ℕ, ◌+◌, ◌-◌, ◌≤◌, ◌==◌, ◌&&◌, Bool, true, false, List, [], ◌∷◌, ◌++◌, Option, Some, None, count_by, slice_set}
+-- The ledger of the protocol credits: of each node and type what was retried (R), granted (G), sent again (S), cancelled
+-- (C) and returned (B) (docs/TRACES.md, "Nodes, ids and credits").
+use Rattle.std.specs.Prelude.{◌≡◌, ℕ, ◌+◌, ◌-◌, ◌≤◌, ◌==◌, ◌&&◌, nat_lt, Bool, true, false, List, [], ◌∷◌, ◌++◌, Option, Some, None, count_by, slice_set}
 use Rattle.std.specs.List.{position, slice_get}
 use Rattle.std.specs.Map.{values_of}
 use Rattle.chi_flit.specs.Credit.{credit_number, credit_type_of}
@@ -53,7 +53,7 @@ abbrev pub attempts : Types → NodeId → PcrdType → List (KeyNumbers × Open
 attempts types node pcrd ids = count_by (is_attempt types node pcrd) (values_of ids)
 
 abbrev pub opened_account : NodeId → PcrdType → CreditLedger
-opened_account node pcrd = record { node = node; pcrd = pcrd; retried = 0; granted = 0; resent = 0; returned = 0 }
+opened_account node pcrd = record { node = node; pcrd = pcrd; retried = 0; granted = 0; resent = 0; cancelled = 0; returned = 0 }
 
 abbrev pub is_account : NodeId → PcrdType → CreditLedger → Bool
 is_account node pcrd account = account.node.0 == node.0 && account.pcrd.0 == pcrd.0
@@ -82,11 +82,17 @@ unused_of account = account.granted - account.resent - account.returned
 abbrev pub owed_of : CreditLedger → ℕ
 owed_of account = account.retried - account.granted
 
+-- G - S - B > 0, and C > B
+abbrev pub may_return : CreditLedger → Bool
+may_return account = nat_lt 0 (unused_of account) && nat_lt account.returned account.cancelled
+
 -- an account with one more
 abbrev pub with_event : CreditEvent → CreditLedger → CreditLedger
 with_event events.Retried account = record account { retried = account.retried + 1 }
+with_event events.RetriedInVain account = record account { retried = account.retried + 1; cancelled = account.cancelled + 1 }
 with_event events.Granted account = record account { granted = account.granted + 1 }
 with_event events.Resent account = record account { resent = account.resent + 1 }
+with_event events.Cancelled account = record account { cancelled = account.cancelled + 1 }
 with_event events.Returned account = record account { returned = account.returned + 1 }
 
 -- an account in its place, or behind the others
@@ -101,7 +107,8 @@ abbrev pub booked_all : Option Booking → List CreditLedger → List CreditLedg
 booked_all None accounts = accounts
 booked_all (Some booking) accounts = booked booking accounts
 
--- what the ledger keeps: S + B ≤ G, and G ≤ R unless grants may be early
+-- what the ledger keeps: S + B ≤ G, B ≤ C, and G ≤ R unless grants may be early
 pub record IsLedgerBalanced (early : Bool) (account : CreditLedger) : Type 0 where
   pub spent : account.resent + account.returned ≤ account.granted
+  pub cancelled : account.returned ≤ account.cancelled
   pub retried : early ≡ false → account.granted ≤ account.retried

@@ -1,4 +1,5 @@
 pub mod Beats
+pub mod Cancels
 pub mod Changes
 pub mod Ids
 pub mod Ledger

@@ -84,7 +84,7 @@ waiting_after at flit waiting = if flit.waits then waiting ++ item_of at flit �
 
 abbrev pub after_flit : ℕ → LineFlit → Open → Open
 after_flit at flit table = record {
-  ids = ids_after flit.frees flit.opens table.ids;
+  ids = ids_after flit.frees flit.opens (without flit.cancels table.ids);
   unfinished = with_data flit.begins table.unfinished;
   accounts = booked_all flit.books table.accounts;
   flits = table.flits ++ placed at flit table.waiting;

@@ -3,9 +3,10 @@
 ghost use Rattle.std.specs.Prelude.{◌≡◌, length};
 ghost use Rattle.chi_resolution.specs.Ids.{plain_id};
 ghost use Rattle.chi_resolution.specs.Reasons.{needed_address, needed_allow_retry, buffer_of, needed_dbid, needed_pcrd, needed_resp, needed_txn, value_in, words_in};
-ghost use Rattle.chi_resolution.specs.Changes.{access_of, change_by, is_acknowledged, once_received, access_with, answered, attempted, beat_of, booking_of, change_of, completed, credit_change, early_of, first_beat, flit_change, freed, given_back, granted, is_form, is_same_dbid, later_beat, may_grant, named, new_id, opened, plain_flit, replied, requested, responded, retried, right_type, sent, sent_again, snooped, table_of};
+ghost use Rattle.chi_resolution.specs.Changes.{access_of, change_by, is_acknowledged, once_received, access_with, answered, attempted, beat_of, booking_of, change_of, completed, credit_change, early_of, first_beat, flit_change, freed, given_back, granted, is_form, is_same_dbid, later_beat, may_grant, named, new_id, opened, plain_flit, replied, requested, responded, retried, right_type, sent, sent_again, snooped, table_of, cancelled_by, retried_flit, retry_event, unless_lost, with_loss, with_loss_in};
 
 use crate::beats::{BeatWords, OpenData, filled, find_before, find_data, is_whole, joined};
+use crate::cancels::{is_lost, is_unfit, left_by};
 use crate::ids::{KeyTable, OpenId, OpenKey, find_id, is_completed, plain_id};
 use crate::ledger::{Booking, CreditEvent, CreditLedger, find_account};
 use crate::lines::{CacheLine, Resolved, line_of, word_of};
@@ -14,7 +15,7 @@ use crate::nodes::Ends;
 use crate::reasons::IdReason;
 use crate::resolution::Options;
 use chi_explain::{Observed, SentFlit};
-use chi_flit::{Kind, Msg, Request, RspDown, RspUp, Slot, Snoop};
+use chi_flit::{Kind, Msg, Request, RspDown, RspUp, Slot, Snoop, State};
 use chi_trace::{Address, Column, DbId, NodeId, Opcode, Payload, PcrdType, Resp, Seen, TxnId};
 use std::alloc::Allocator;
 
@@ -36,6 +37,8 @@ pub(crate) struct LineFlit {
     pub flit: Observed,
     /// The key of the id that it frees.
     pub frees: Option<OpenKey>,
+    /// The key of the retried copy-back that it shows to be cancelled.
+    pub cancels: Option<OpenKey>,
     pub opens: Option<OpenId>,
     pub books: Option<Booking>,
     /// Its data, where words lack.
@@ -73,6 +76,7 @@ fn plain_flit(line: CacheLine, flit: Observed) -> LineFlit
         line,
         flit,
         frees: None,
+        cancels: None,
         opens: None,
         books: None,
         begins: None,
@@ -192,12 +196,11 @@ fn is_form(begun: &OpenData, resp: Option<Resp>, dbid: Option<DbId>) -> bool
     }
 }
 
-/// A first attempt of this kind, which opens the id, and frees that of a request that was retried.
-fn first_attempt(ends: &Ends, kind: Kind, id: OpenId, flit: Observed) -> LineFlit
-    ensures { result ≡ attempted ends.now kind id flit }
+/// A first attempt of this kind, which opens the id.
+fn first_attempt(kind: Kind, id: OpenId, flit: Observed) -> LineFlit
+    ensures { result ≡ attempted kind id flit }
 {
     LineFlit {
-        frees: Some(OpenKey::Retried(ends.requester, id.line)),
         opens: Some(OpenId {
             may_retry: Some(kind),
             ..id
@@ -249,8 +252,7 @@ impl<A: Allocator> Tables<'_, A> {
         }
     }
 
-    /// A request. A first attempt shows that one to the line that was retried is cancelled; another request takes a
-    /// credit.
+    /// A request. A first attempt opens its id; another request takes a credit too.
     #[tactic(auto, unfolding(crate::specs::Changes::requested))]
     fn request(&self, ends: &Ends, seen: &Seen, kind: Kind) -> Result<LineFlit, IdReason>
         ensures { result ≡ requested (table_of self.now) ends.now seen.now kind }
@@ -267,7 +269,7 @@ impl<A: Allocator> Tables<'_, A> {
         };
         let flit = sent(ends, Msg::Req(request));
         if allow_retry {
-            Ok(first_attempt(ends, kind, self.plain_id(key, line), flit))
+            Ok(first_attempt(kind, self.plain_id(key, line), flit))
         } else {
             self.again(ends, seen, self.plain_id(key, line), flit)
         }
@@ -316,7 +318,7 @@ impl<A: Allocator> Tables<'_, A> {
         })
     }
 
-    /// A RetryAck.
+    /// A RetryAck: the request waits for a credit, or is cancelled at once.
     #[tactic(auto, unfolding(crate::specs::Changes::retried))]
     fn retry(&self, ends: &Ends, seen: &Seen) -> Result<LineFlit, IdReason>
         ensures { result ≡ retried self.now.options (table_of self.now) ends.now seen.now }
@@ -331,15 +333,34 @@ impl<A: Allocator> Tables<'_, A> {
         let line = found.line;
         let key = self.new_id(OpenKey::Retried(node, line))?;
         let message = Msg::RspDown(RspDown::RetryAck(types.credit(kind)));
-        Ok(LineFlit {
+        let waiting = OpenId {
+            may_retry: Some(kind),
+            waits_for: Some(named),
+            ..self.plain_id(key, line)
+        };
+        let lost = is_lost(kind, ends.agent, &found, self.flits);
+        Ok(self.retried_flit(lost, ends, &found, waiting, named, sent(ends, message)))
+    }
+
+    /// A RetryAck of a request that is lost, or waits for a credit of the type.
+    fn retried_flit(
+        &self,
+        lost: bool,
+        ends: &Ends,
+        found: &OpenId,
+        waiting: OpenId,
+        named: PcrdType,
+        flit: Observed,
+    ) -> LineFlit
+        ensures { result ≡
+            retried_flit lost (table_of self.now) ends.now found.now waiting named flit }
+    {
+        LineFlit {
             frees: Some(found.key),
-            opens: Some(OpenId {
-                waits_for: Some(named),
-                ..self.plain_id(key, line)
-            }),
-            books: Some(self.booking(node, named, CreditEvent::Retried)),
-            ..plain_flit(line, sent(ends, message))
-        })
+            opens: unless_lost(lost, waiting),
+            books: Some(self.booking(ends.requester, named, retry_event(lost))),
+            ..plain_flit(found.line, flit)
+        }
     }
 
     /// A completion without data.
@@ -518,10 +539,10 @@ impl<A: Allocator> Tables<'_, A> {
         let node = ends.requester;
         let pcrd = pcrd_of(seen)?;
         let booking = self.booking(node, pcrd, CreditEvent::Returned);
-        if booking.held.account.unused() == 0 {
-            Err(IdReason::NothingToReturn(node, pcrd))
-        } else {
+        if booking.held.account.may_return() {
             Ok(booking)
+        } else {
+            Err(IdReason::NothingToReturn(node, pcrd))
         }
     }
 
@@ -560,13 +581,50 @@ impl<A: Allocator> Tables<'_, A> {
         }
     }
 
+    /// The flit, which cancels a retried copy-back where it takes the copy that this needs.
+    fn with_loss(&self, ends: &Ends, flit: LineFlit) -> LineFlit
+        ensures { result ≡ with_loss (table_of self.now) ends.now flit }
+    {
+        match left_by(&flit.flit) {
+            Some(state) => self.with_loss_of(ends, flit, state),
+            None => flit,
+        }
+    }
+
+    /// The same of an answer that leaves the copy in this state.
+    fn with_loss_of(&self, ends: &Ends, flit: LineFlit, state: State) -> LineFlit
+        ensures { result ≡ with_loss_in (table_of self.now) ends.now flit (Some state) }
+    {
+        match find_id(self.ids, OpenKey::Retried(ends.requester, flit.line)) {
+            Some(waiting) if is_unfit(waiting.may_retry, state) => {
+                self.cancelled_by(ends, &waiting, flit)
+            }
+            Some(_) | None => flit,
+        }
+    }
+
+    /// The flit, which cancels the request that waits for a credit.
+    fn cancelled_by(&self, ends: &Ends, waiting: &OpenId, flit: LineFlit) -> LineFlit
+        ensures { result
+            ≡ cancelled_by (table_of self.now) ends.now waiting.now flit waiting.now.waits_for }
+    {
+        match waiting.waits_for {
+            Some(pcrd) => LineFlit {
+                cancels: Some(waiting.key),
+                books: Some(self.booking(ends.requester, pcrd, CreditEvent::Cancelled)),
+                ..flit
+            },
+            None => flit,
+        }
+    }
+
     /// What the flit does, between these nodes, or why it isn't allowed.
     #[tactic(auto, unfolding(crate::specs::Changes::change_of))]
     pub(crate) fn change(&self, ends: &Ends, seen: &Seen) -> Result<Change, IdReason>
         ensures { result ≡ change_of self.now.options (table_of self.now) ends.now seen.now }
     {
         match self.change_by(ends, seen)? {
-            Change::Flit(flit) => self.once_received(seen.opcode, flit),
+            Change::Flit(flit) => self.once_received(seen.opcode, self.with_loss(ends, flit)),
             change @ (Change::Credit(_) | Change::Beat(_)) => Ok(change),
         }
     }
@@ -644,6 +702,24 @@ fn may_grant(account: &CreditLedger, early: usize) -> bool
     match account.granted.checked_sub(account.retried) {
         Some(ahead) => ahead < early as u64,
         None => true,
+    }
+}
+
+/// The id of a request that waits for a credit; none where it is lost.
+fn unless_lost(lost: bool, waiting: OpenId) -> Option<OpenId>
+    ensures { result ≡ unless_lost lost waiting }
+{
+    if lost { None } else { Some(waiting) }
+}
+
+/// What a RetryAck books of a request that is lost, or isn't.
+fn retry_event(lost: bool) -> CreditEvent
+    ensures { result ≡ retry_event lost }
+{
+    if lost {
+        CreditEvent::RetriedInVain
+    } else {
+        CreditEvent::Retried
     }
 }
 

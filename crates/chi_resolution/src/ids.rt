@@ -21,8 +21,8 @@ pub enum OpenKey {
     Buffer(NodeId, DbId),
     /// A snoop of the node: opened by its flit; free after SnpResp or SnpRespData.
     Snoop(NodeId, TxnId),
-    /// A retried request of the node to the line: opened by RetryAck; free after a request to the line, which
-    /// sends it again or shows that it was cancelled.
+    /// A retried request of the node to the line: opened by RetryAck; free after the request that sends it again,
+    /// or once it is cancelled, as an answer to a snoop has taken the copy that it needs.
     Retried(NodeId, CacheLine),
 }
 
@@ -34,7 +34,7 @@ pub struct OpenId {
     pub line: CacheLine,
     /// How many flits, loads and stores were resolved before it was opened.
     pub place: usize,
-    /// The kind of a request with AllowRetry.
+    /// The kind of a first attempt, and of a request that was retried.
     pub may_retry: Option<Kind>,
     /// The type of credit that a retried request waits for.
     pub waits_for: Option<PcrdType>,

@@ -1,7 +1,7 @@
-//! The ledger of the protocol credits: of each node and type what was retried, granted, resent and returned.
+//! The ledger of the protocol credits: of each node and type what was retried, granted, resent, cancelled and returned.
 
 ghost use Rattle.std.specs.Prelude.{◌≡◌, position, IfSome};
-ghost use Rattle.chi_resolution.specs.Ledger.{account_at, attempts, booked_type, fits, held_of, is_account, is_attempt, opened_account, owed_of, unused_of, wanted_of, with_event};
+ghost use Rattle.chi_resolution.specs.Ledger.{account_at, attempts, booked_type, fits, held_of, is_account, is_attempt, may_return, opened_account, owed_of, unused_of, wanted_of, with_event};
 
 use crate::ids::{KeyTable, OpenId, OpenKey};
 use chi_flit::{CreditType, Kind, Profile, credit_type};
@@ -32,6 +32,8 @@ pub struct CreditLedger {
     pub granted: u64,
     /// Requests without AllowRetry.
     pub resent: u64,
+    /// Retried copy-backs that aren't sent again, as their copies are lost.
+    pub cancelled: u64,
     /// PCrdReturns.
     pub returned: u64,
 }
@@ -47,8 +49,11 @@ pub(crate) struct Held {
 #[derive(Clone, Copy)]
 pub(crate) enum CreditEvent {
     Retried,
+    /// A RetryAck of a request that is cancelled at once.
+    RetriedInVain,
     Granted,
     Resent,
+    Cancelled,
     Returned,
 }
 
@@ -128,6 +133,7 @@ fn opened_account(node: NodeId, pcrd: PcrdType) -> CreditLedger
         retried: 0,
         granted: 0,
         resent: 0,
+        cancelled: 0,
         returned: 0,
     }
 }
@@ -158,6 +164,13 @@ impl CreditLedger {
         self.retried.saturating_sub(self.granted)
     }
 
+    /// Whether one more credit may be returned: G - S - B > 0, and C > B.
+    pub(crate) fn may_return(&self) -> bool
+        ensures { result ≡ may_return self.now }
+    {
+        self.unused() > 0 && self.returned < self.cancelled
+    }
+
     /// The account with one more; `None` where the number would pass 2^64.
     pub(crate) fn with_event(&self, event: CreditEvent) -> Option<CreditLedger>
         ensures { IfSome result (λ account. account ≡ with_event event self.now) }
@@ -165,8 +178,13 @@ impl CreditLedger {
         let mut account = *self;
         match event {
             CreditEvent::Retried => account.retried = self.retried.checked_add(1)?,
+            CreditEvent::RetriedInVain => {
+                account.retried = self.retried.checked_add(1)?;
+                account.cancelled = self.cancelled.checked_add(1)?;
+            }
             CreditEvent::Granted => account.granted = self.granted.checked_add(1)?,
             CreditEvent::Resent => account.resent = self.resent.checked_add(1)?,
+            CreditEvent::Cancelled => account.cancelled = self.cancelled.checked_add(1)?,
             CreditEvent::Returned => account.returned = self.returned.checked_add(1)?,
         }
         Some(account)

@@ -5,6 +5,7 @@
 #![tactic(auto)]
 
 mod beats;
+mod cancels;
 mod changes;
 mod ids;
 mod ledger;

@@ -53,6 +53,6 @@ pub enum IdReason {
     /// A request without AllowRetry, and the node has no credit of the type: G - S - B > 0 doesn't hold.
     NoCredit(NodeId, PcrdType),
     /// A credit of the type is returned, and the node has none, or none that a cancelled request has left:
-    /// G - S - B > 0 doesn't hold.
+    /// G - S - B > 0 or C > B doesn't hold.
     NothingToReturn(NodeId, PcrdType),
 }

@@ -108,7 +108,7 @@ pub fn resolve<A: Allocator + Copy>(
     ensures waiting { IfOk result (λ r.
         r.waiting.items ≡ (resolution_of options seen.now).progress.table.waiting) }
 
-    // Of each node and type: S + B ≤ G, and G ≤ R unless grants may be early.
+    // Of each node and type: S + B ≤ G, B ≤ C, and G ≤ R unless grants may be early.
     ensures ledger { IfOk result (λ r. All (IsLedgerBalanced options.early_grants) r.accounts.items) }
 {
     let mut state = Resolver::new(alloc, seen.len())?;
@@ -362,6 +362,7 @@ impl<A: Allocator> Resolver<A> {
         ensures { OnOk result
             (self.new ≡ record self.old { table = after_flit at flit.now self.old.table }) }
     {
+        free_id(&mut self.ids, flit.cancels);
         change_ids(&mut self.ids, flit.frees, flit.opens)?;
         if let Some(booking) = flit.books {
             book(&mut self.accounts, &booking)?;

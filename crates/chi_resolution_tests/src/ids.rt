@@ -77,6 +77,7 @@ fn flits_have_agents_and_lines(rt: HostRuntime) -> Result<(), Fail> {
         retried: 1,
         granted: 1,
         resent: 1,
+        cancelled: 0,
         returned: 0,
     };
     assert!(rt; resolution.accounts.as_slice() == [account].as_slice());
@@ -91,26 +92,34 @@ RSP 40 8 1 CompDBIDResp - - 1 - - -
 DAT 8 40 1 CopyBackWrData - UD_PD - - - 1,2,3,4,5,6,7,8
 REQ 8 40 1 Evict 80 - - 1 - -
 RSP 40 8 1 Comp - I - - - -
-REQ 8 40 1 CleanUnique 2 - - 1 - -
+REQ 8 40 1 CleanUnique c2 - - 1 - -
 ";
 
 #[test]
 fn ids_are_used_again(rt: HostRuntime) -> Result<(), Fail> {
     let resolution = resolved(rt.alloc(), PLAIN, AGAIN)?;
     assert!(rt; resolution.fault.is_none());
-    let lines: [u64; 8] = [0, 0, 1, 1, 1, 2, 2, 0];
+    let lines: [u64; 8] = [0, 0, 1, 1, 1, 2, 2, 3];
     assert_eq!(rt; resolution.flits.len(), lines.len());
     for (flit, line) in resolution.flits.iter().zip(&lines) {
         assert!(rt; flit.line.0 == *line, "{flit:?}");
     }
+    let retried = OpenId {
+        key: OpenKey::Retried(NodeId(8), CacheLine(0)),
+        line: CacheLine(0),
+        place: 1,
+        may_retry: Some(Kind::ReadShared),
+        waits_for: Some(PcrdType(0)),
+        awaits_ack: false,
+    };
     let open = OpenId {
         key: OpenKey::Request(NodeId(8), TxnId(1)),
-        line: CacheLine(0),
+        line: CacheLine(3),
         place: 7,
         may_retry: Some(Kind::CleanUnique),
         waits_for: None,
         awaits_ack: false,
     };
-    assert!(rt; resolution.ids.as_slice() == [open].as_slice());
+    assert!(rt; resolution.ids.as_slice() == [retried, open].as_slice());
     Ok(())
 }
