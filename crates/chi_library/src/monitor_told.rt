@@ -97,7 +97,7 @@ fn reason_number(reason: LineFault) -> u8
         LineFault::Answer(_, _) => 12,
         LineFault::Words(_) => 13,
         LineFault::NothingToComplete => 14,
-        LineFault::Snoops => 15,
+        LineFault::Snoops(_) => 15,
         LineFault::Form => 16,
         LineFault::NotAwaited => 17,
         LineFault::WriteForm(_) => 18,

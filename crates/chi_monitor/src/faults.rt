@@ -2,17 +2,29 @@
 
 use crate::values::Known;
 use chi_explain::StoreListing;
-use chi_flit::{Kind, Snoop, State, WordNo};
+use chi_flit::{Kind, NO_DATA, Snoop, State, WordNo, answer};
 use std::alloc::{AllocError, AllocFailed};
 use std::fmt;
 
-/// The states that a copy may be in by now, where nothing is pending.
+/// The states that a copy may be in by now.
 /// Source: `docs/TRACES.md`, "Rules".
 #[derive(Clone, Copy, Debug, PartialEq, Eq)]
 pub struct Reach {
-    /// Its last known one.
+    /// Its last known one; no other while a request is pending.
     pub base: State,
     pub stores: StoreListing,
+    /// A request of its requester to the line is pending.
+    pub pending: bool,
+}
+
+/// What is wrong with the snoops before a completion.
+/// Source: `docs/TRACES.md`, "Rules".
+#[derive(Clone, Copy, Debug, PartialEq, Eq)]
+pub enum WrongSnoops {
+    /// Others are to be snooped or to answer first.
+    Missing,
+    /// Those that were sent are for a request of another node.
+    OfAnother,
 }
 
 /// Why no run of the model sends the flit that was seen next, or does the load or the store.
@@ -47,8 +59,8 @@ pub enum LineFault {
     Words(Known),
     /// A completion, and no request of the node that it completes waits.
     NothingToComplete,
-    /// A completion, and others are to be snooped before it, or were snooped that aren't to be.
-    Snoops,
+    /// A completion, and others are to be snooped before it, or were snooped for another request.
+    Snoops(WrongSnoops),
     /// A completion in another form than the filter says.
     Form,
     /// A CompAck or write data, and the home doesn't await it from this node.
@@ -77,13 +89,53 @@ impl<T: Drop> From<AllocFailed<T>> for LineFault {
 
 impl fmt::Display for Reach {
     fn fmt<W: fmt::Write>(&self, f: &mut fmt::Formatter<W>) -> fmt::Result {
-        f.write_str(match (self.base, self.stores) {
-            (State::I, _) => "I",
-            (State::SC, _) => "SC or I",
-            (State::UC, StoreListing::Partial) => "UC, UD or I",
-            (State::UC, StoreListing::Complete) => "UC or I",
-            (State::UD, _) => "UD",
-            (State::SD, _) => "SD",
+        let base = self.base;
+        match (base, self.pending) {
+            (State::SC, false) => f.write_str("SC or I"),
+            (State::UC, false) => f.write_str(if self.is_written() {
+                "UC, UD or I"
+            } else {
+                "UC or I"
+            }),
+            _ => write!(f, "{base}"),
+        }
+    }
+}
+
+impl Reach {
+    /// Whether a copy that was in UC may be in UD by now.
+    fn is_written(&self) -> bool {
+        matches!(
+            (self.base, self.stores, self.pending),
+            (State::UC, StoreListing::Partial, false)
+        )
+    }
+}
+
+/// What a copy in one of these states answers to the snoop: in its last known state, and in UD where it may have been
+/// stored to.
+#[derive(Clone, Copy)]
+struct OwnAnswer(Reach, Snoop);
+
+impl fmt::Display for OwnAnswer {
+    fn fmt<W: fmt::Write>(&self, f: &mut fmt::Formatter<W>) -> fmt::Result {
+        let (states, snoop) = (self.0, self.1);
+        let base = states.base;
+        let message = answer(base, snoop, NO_DATA).1;
+        write!(f, "{base} answers {snoop} by {message}")?;
+        if states.is_written() {
+            let dirty = answer(State::UD, snoop, NO_DATA).1;
+            write!(f, ", UD by {dirty}")?;
+        }
+        Ok(())
+    }
+}
+
+impl fmt::Display for WrongSnoops {
+    fn fmt<W: fmt::Write>(&self, f: &mut fmt::Formatter<W>) -> fmt::Result {
+        f.write_str(match self {
+            WrongSnoops::Missing => "other agents are to be snooped and to answer first",
+            WrongSnoops::OfAnother => "the snoops that were sent aren't for its request",
         })
     }
 }
@@ -110,15 +162,12 @@ impl fmt::Display for LineFault {
             LineFault::SnoopedTwice => f.write_str("it was snooped for this request already"),
             LineFault::NothingToAnswer => f.write_str("no snoop to it is unanswered"),
             LineFault::Answer(states, snoop) => {
-                write!(f, "its copy is {states}, which answers {snoop} otherwise")
+                let own = OwnAnswer(*states, *snoop);
+                write!(f, "its copy is {states}, and {own}")
             }
             LineFault::Words(known) => write!(f, "its sender has the words {known}"),
             LineFault::NothingToComplete => f.write_str("no request of it that it completes waits"),
-            LineFault::Snoops => {
-                f.write_str(
-                    "other agents are to be snooped and to answer first, or fewer were to be",
-                )
-            }
+            LineFault::Snoops(wrong) => write!(f, "{wrong}"),
             LineFault::Form => f.write_str("the home's filter says the other form"),
             LineFault::NotAwaited => f.write_str("the home doesn't await it"),
             LineFault::WriteForm(state) => write!(f, "its copy is {state}, which has another form"),

@@ -18,7 +18,7 @@ mod values;
 
 pub use choices::allowed;
 pub use explained::{NoExplanation, explain_flits, first_fault};
-pub use faults::{LineFault, Reach};
+pub use faults::{LineFault, Reach, WrongSnoops};
 pub use monitor::{FirstFault, Monitor, NotExplained, NotTaken};
 pub use open_flits::OpenFlits;
 pub use search::Witness;

@@ -2,7 +2,7 @@
 
 ghost use Rattle.std.specs.Prelude.{◌<◌};
 
-use crate::faults::{LineFault, Reach};
+use crate::faults::{LineFault, Reach, WrongSnoops};
 use crate::filter::{AgentSet, KnownFilter, NOBODY, has, has_any, with_mark};
 use crate::requester::{Asked, Given, KnownRequester, Stage};
 use crate::values::{Known, Unknown, UnknownWords, Values};
@@ -155,11 +155,12 @@ impl<A: Allocator> Search<A> {
         matches!(self.stores, StoreListing::Partial)
     }
 
-    /// The states that a copy may be in by now whose last known one is this.
-    fn reach(&self, base: State) -> Reach {
+    /// The states that a requester's copy may be in by now.
+    fn reach(&self, side: &KnownRequester) -> Reach {
         Reach {
-            base,
+            base: side.base,
             stores: self.stores,
+            pending: !side.is_free(),
         }
     }
 
@@ -177,7 +178,7 @@ impl<A: Allocator> Search<A> {
         requires { agent.0 < 8 }
     {
         let mut side = self.at(agent);
-        if side.asked.is_some() || side.given.is_some() {
+        if !side.is_free() {
             return Err(LineFault::Pending);
         }
         match (kind, side.base) {
@@ -196,7 +197,7 @@ impl<A: Allocator> Search<A> {
                 side.base = State::UD;
             }
             (kind, base) if kind.needs(base) => {}
-            (kind, base) => return Err(LineFault::Needs(kind, self.reach(base))),
+            (kind, _) => return Err(LineFault::Needs(kind, self.reach(&side))),
         }
         self.act(agent, Step::Issue(kind, SLOT))?;
         if matches!(kind, Kind::Evict) {
@@ -332,8 +333,7 @@ impl<A: Allocator> Search<A> {
         let Service::Snooping(mut group) = self.service else {
             return Err(LineFault::NothingToAnswer);
         };
-        let free = side.asked.is_none() && side.given.is_none();
-        let (next, given) = self.answered(agent, &mut side, snoop, message, free)?;
+        let (next, given) = self.answered(agent, &mut side, snoop, message)?;
         self.act(agent, Step::RecvSnp)?;
         side.base = next;
         side.snoop = None;
@@ -352,9 +352,8 @@ impl<A: Allocator> Search<A> {
         side: &mut KnownRequester,
         snoop: Snoop,
         message: &Msg,
-        free: bool,
     ) -> Result<(State, Answer), LineFault> {
-        let fault = LineFault::Answer(self.reach(side.base), snoop);
+        let fault = LineFault::Answer(self.reach(side), snoop);
         let leaves = answer(side.base, snoop, NO_DATA).0;
         match message {
             Msg::RspUp(RspUp::SnpRespI) => match side.base {
@@ -362,7 +361,7 @@ impl<A: Allocator> Search<A> {
                 State::SC | State::UC if matches!(leaves, State::I) => {
                     Ok((State::I, Answer::Invalid))
                 }
-                State::SC | State::UC if free => {
+                State::SC | State::UC if side.is_free() => {
                     self.act(agent, Step::Drop)?;
                     Ok((State::I, Answer::Invalid))
                 }
@@ -374,7 +373,7 @@ impl<A: Allocator> Search<A> {
                 }
                 State::I | State::SC | State::UC | State::UD | State::SD => Err(fault),
             },
-            Msg::DatUp(message) => self.answered_by_data(agent, side, snoop, message, free),
+            Msg::DatUp(message) => self.answered_by_data(agent, side, snoop, message),
             Msg::RspUp(RspUp::CompAck)
             | Msg::Req(_)
             | Msg::Snp(_)
@@ -390,9 +389,8 @@ impl<A: Allocator> Search<A> {
         side: &mut KnownRequester,
         snoop: Snoop,
         message: &DatUp,
-        free: bool,
     ) -> Result<(State, Answer), LineFault> {
-        let fault = LineFault::Answer(self.reach(side.base), snoop);
+        let fault = LineFault::Answer(self.reach(side), snoop);
         let (leaves, data) = match message {
             DatUp::SnpRespDataIPD(data) => (State::I, data),
             DatUp::SnpRespDataSCPD(data) => (State::SC, data),
@@ -400,7 +398,7 @@ impl<A: Allocator> Search<A> {
             DatUp::CopyBackWrData(_, _) => return Err(fault),
         };
         match side.base {
-            State::UC | State::UD if free && self.may_hide() => {
+            State::UC | State::UD if side.is_free() && self.may_hide() => {
                 side.words = self.values.known_line(data)?;
                 let words = side.words;
                 self.store_all(agent, &words)?;
@@ -464,7 +462,7 @@ impl<A: Allocator> Search<A> {
         match side.base {
             State::UC | State::UD => {}
             State::I | State::SC | State::SD => {
-                return Err(LineFault::NoStore(self.reach(side.base)));
+                return Err(LineFault::NoStore(self.reach(&side)));
             }
         }
         side.words[usize::from(word.0)] = self.values.known_one(value)?;
@@ -484,18 +482,18 @@ impl<A: Allocator> Search<A> {
         match self.service {
             Service::Idle => {
                 if has_any(&targets) {
-                    return Err(LineFault::Snoops);
+                    return Err(LineFault::Snoops(WrongSnoops::Missing));
                 }
                 self.act(agent, Step::Admit)?;
                 self.act(agent, Step::Start)?;
                 Ok(None)
             }
             Service::Snooping(group) => {
-                if !has(&group.may_be, agent)
-                    || targets != group.snooped
-                    || targets != group.answered
-                {
-                    return Err(LineFault::Snoops);
+                if !has(&group.may_be, agent) {
+                    return Err(LineFault::Snoops(WrongSnoops::OfAnother));
+                }
+                if targets != group.snooped || targets != group.answered {
+                    return Err(LineFault::Snoops(WrongSnoops::Missing));
                 }
                 self.fill(group.at, agent);
                 self.take_answers()

@@ -11,7 +11,7 @@ use chi_flit::{DatUp, Msg, RspDown, RspUp};
 pub struct OpenFlits {
     /// A request that was neither completed nor retried.
     pub request: bool,
-    /// A retried request that wasn't sent again; that it was cancelled no flit shows.
+    /// A retried request that wasn't sent again, be it cancelled or not.
     pub retried: bool,
     /// A snoop without its answer.
     pub snoop: bool,

@@ -54,6 +54,11 @@ impl KnownRequester {
         given: None,
     };
 
+    /// Whether no request is pending: the copy may be dropped, stored to and asked for.
+    pub fn is_free(&self) -> bool {
+        self.asked.is_none() && self.given.is_none()
+    }
+
     /// The kind of the request that is on its way or waits.
     pub fn waiting(&self) -> Option<Kind> {
         match self.asked {
