@@ -1,5 +1,5 @@
 -- What an agent does in its turns, from the first to its report (docs/FORMATS.md, "A turn").
-use Rattle.std.specs.Prelude.{◌≡◌, ℕ, zero, suc, ◌≤◌, ◌%◌, Bool, true, false, List, map, slice_index, Option, Some, None, ◌⊎◌, ◌↔◌, IsTrue}
+use Rattle.std.specs.Prelude.{◌≡◌, ℕ, zero, suc, ◌≤◌, ◌%◌, max, Bool, true, false, List, [], ◌∷◌, ◌++◌, map, slice_index, Option, Some, None, ◌⊎◌, ◌↔◌, IsTrue}
 use Rattle.chi_flit.specs.declared.credit.Profile.{Profile}
 use Rattle.chi_flit.specs.declared.credit.Profile.TheVariants.{Two, Four}
 use Rattle.chi_flit.specs.declared.operation.Operation.{Operation}
@@ -18,6 +18,9 @@ use Rattle.chi_agent.specs.Choice.{drawn_line}
 use Rattle.chi_agent.specs.Operations.{unissued_operation}
 use Rattle.chi_agent.specs.Turns.{after_refusal, HasEnded, IsFinished, TurnsTo}
 use Rattle.chi_audit.specs.declared.reports.Report.{Report}
+use Rattle.chi_audit.specs.declared.tally.Tally.{Tally}
+use Rattle.chi_audit.specs.Tallies.{WriterState}
+use Rattle.chi_audit.specs.Tally.{last_tally}
 
 -- a credit of type t is given back, where that isn't refused
 abbrev pub GivesBackIf : Option Refusal → ℕ → RequesterState → RequesterState → Type 0
@@ -86,6 +89,14 @@ pub record Turned {A : Type 0} (config : Sizes) (x number : ℕ) (p p' : Player 
   pub prepares : Prepares p.requester ready
   pub visits : Visits config x (player_with ready p) found done
   pub ends : EndsTurn done config number found p'
+
+-- the tally of these numbers, of which none is below that of the last one
+abbrev pub tally_behind : Tally → ℕ → ℕ → ℕ → Tally
+tally_behind last turns loads stores = record { turns = max turns last.turns; loads = max loads last.loads; stores = max stores last.stores }
+
+-- the writer stored one tally more, of these numbers
+abbrev pub writer_after : WriterState → ℕ → ℕ → ℕ → WriterState
+writer_after w turns loads stores = record w { stored = w.stored ++ tally_behind (last_tally w.stored) turns loads stores ∷ [] }
 
 -- the word of an agent's stream after so many
 abbrev pub random_word : ℕ → ℕ → ℕ → ℕ

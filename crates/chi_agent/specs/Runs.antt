@@ -1,11 +1,11 @@
 -- What comes of all agents, each with its own script (docs/FORMATS.md, "A turn").
-use Rattle.std.specs.Prelude.{◌≡◌, ℕ, Bool, List, [], ◌∷◌, Option, ⊤}
+use Rattle.std.specs.Prelude.{◌≡◌, ℕ, ◌≤◌, Bool, List, [], ◌∷◌, Option, None, ⊤}
 use Rattle.std.specs.declared.alloc.Global.{Global}
 use Rattle.chi_flit.specs.declared.operation.Operation.{Operation}
 use Rattle.chi_slice.specs.Words.{Sizes}
 use Rattle.chi_node.specs.Requester.{RequesterState}
 use Rattle.chi_audit.specs.declared.reports.Report.{Report}
-use Rattle.chi_audit.specs.Gathered.{AreToldKept}
+use Rattle.chi_audit.specs.Gathered.{report_at, AreToldKept}
 use Rattle.chi_agent.specs.declared.player.Player.{Player}
 use Rattle.chi_agent.specs.declared.threads.Back.{Back}
 use Rattle.chi_agent.specs.Lives.{opening_player, IsReportOf, Lived}
@@ -45,9 +45,10 @@ starts config seed most [] ss = []
 starts config seed most (r ∷ rs) [] = []
 starts config seed most (r ∷ rs) (s ∷ ss) = start_of config seed most r s ∷ starts config seed most rs ss
 
--- what was gathered in the place of each agent below n is the report that it told
+-- what was gathered in the place of each agent below n is the report that it told, and the other places are empty
 pub record KeepsTold (n : ℕ) (told : List Report) (kept : List (Option Report)) : Type 0 where
   pub as_told : AreToldKept n told kept
+  pub others : (a : ℕ) → n ≤ a → report_at kept a ≡ None
 
 -- how the agent of a thread began
 abbrev pub begun : Back → Start

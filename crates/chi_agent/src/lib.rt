@@ -28,6 +28,7 @@ mod seats;
 mod threads;
 mod tries;
 mod turn_line;
+mod visits;
 
 pub use agents::run_agents;
 pub use choice::{Call, Choice, line_of};
@@ -36,5 +37,6 @@ pub use ended::Ended;
 pub use gates::{Gate, OpenGate};
 pub use operations::{OperationPlace, Operations, Unfinished};
 pub use player::Player;
+pub use progress::Progress;
 pub use runner::Runner;
 pub use scripts::Script;

@@ -1,48 +1,43 @@
 //! An agent between its turns.
 
 ghost use Rattle.std.specs.Prelude.{◌≡◌, ◌+◌, ◌%◌, ◌^◌};
-ghost use Rattle.chi_flit.specs.declared.refusal.Refusal.TheVariants.{NotOpen};
 ghost use Rattle.chi_node.specs.Agree.{KeepsAgreement};
 ghost use Rattle.chi_node.specs.Calls.{IsSameRequester, IsSameSlice};
 ghost use Rattle.chi_node.specs.Parts.{HasTypes};
-ghost use Rattle.chi_node.specs.Node.{IsOwn, IsSliceOf};
-ghost use Rattle.chi_agent.specs.Choice.{drawn_line};
-ghost use Rattle.chi_agent.specs.Turns.{after_refusal, count_after, TurnsTo};
-ghost use Rattle.chi_agent.specs.Operations.{unissued_operation};
+ghost use Rattle.chi_node.specs.Node.{IsOwn};
+ghost use Rattle.chi_agent.specs.Turns.{count_after, TurnsTo};
 ghost use Rattle.chi_agent.specs.Draws.{word_after};
-ghost use Rattle.chi_agent.specs.Lives.{opening_player, EndsTurn, Turned, Visits};
+ghost use Rattle.chi_agent.specs.Lives.{opening_player, writer_after, Turned};
 ghost use Rattle.chi_audit.specs.Tallies.{IsFresh};
 
-use crate::choice::line_of;
 use crate::draws::Draws;
 use crate::gates::Gate;
 use crate::operations::Operations;
 use crate::player::Player;
-use crate::preparation::{prepare, tend};
 use crate::progress::Progress;
 use crate::scripts::Script;
 use chi_audit::Tallies;
-use chi_flit::Line;
 use chi_node::{Node, Requester};
 use chi_slice::Slice;
 use chi_tracker::Tracker;
 use std::alloc::Allocator;
 use std::sync::Wait;
 
-/// What an agent has of its script, its draws, and the number of its turns done.
+/// What an agent has of its script, its draws, the number of its turns done, and where it tells its tally.
 /// Source: `docs/FORMATS.md`, "A turn".
 #[derive(Drop)]
 pub struct Runner<'t, A: Allocator> {
     pub player: Player<A>,
     pub draws: Draws,
     pub turns: u64,
-    progress: Progress<'t>,
+    pub progress: Progress<'t>,
 }
 
 impl<'t, A: Allocator> Runner<'t, A> {
     /// The requester begins the script with these draws: no turn is done.
     ///
-    /// Condition: the script's writer is one of the tallies, and has stored nothing.
+    /// Conditions: the script and the draws are those of the requester's agent; and the script's writer is one of
+    /// the tallies, and has stored nothing.
     /// Source: `docs/FORMATS.md`, "A turn".
     pub fn new(
         tallies: &'t Tallies,
@@ -50,11 +45,14 @@ impl<'t, A: Allocator> Runner<'t, A> {
         requester: Requester,
         draws: Draws,
     ) -> Runner<'t, A>
-        requires { IsFresh tallies.now script.writer }
+        requires script { script.writer.agent ≡ requester.number }
+        requires draws { draws.stream ≡ requester.number }
+        requires fresh { IsFresh tallies.now script.writer }
         ensures player { result.player ≡ opening_player requester script.operations }
         ensures requester { result.player.requester ≡ requester }
         ensures draws { result.draws ≡ draws }
         ensures turns { result.turns ≡ 0 }
+        ensures tally { result.progress ≡ script.writer }
     {
         let Script {
             operations,
@@ -70,7 +68,7 @@ impl<'t, A: Allocator> Runner<'t, A> {
     }
 
     /// What a turn does on the slice of a line that was drawn by `x`: one call, a skip or a finish, and true;
-    /// or nothing, and false. No memory is taken, nothing is waited for, and draws and turns stay.
+    /// or nothing, and false. No memory is taken, nothing is waited for, and draws, turns and tally stay.
     ///
     /// Conditions: the tracker is the requester's, and it has entries of each type of the slice's profile.
     /// Source: `docs/FORMATS.md`, "A turn".
@@ -88,86 +86,15 @@ impl<'t, A: Allocator> Runner<'t, A> {
         ensures slice { IsSameSlice slice.old slice.new }
         ensures draws { self.new.draws ≡ self.old.draws }
         ensures count { self.new.turns ≡ self.old.turns }
+        ensures tally { self.new.progress ≡ self.old.progress }
     {
         self.player.turn_on(slice, tracker, x)
     }
 
-    /// The slice isn't that of the line, which stops the script as a refusal 11 (NotOpen) does.
-    fn stop(&mut self)
-        ensures after { self.new.player ≡ after_refusal NotOpen self.old.player }
-        ensures draws { self.new.draws ≡ self.old.draws }
-        ensures count { self.new.turns ≡ self.old.turns }
-    {
-        self.player.stopped = true;
-        self.player.not_open = true;
-    }
-
-    /// Looks at the line that was drawn by `x` in its slice.
-    fn visit_on<B: Allocator>(
-        &mut self,
-        slice: &mut Slice<B>,
-        node: &Node<B>,
-        line: Line,
-        x: u32,
-    ) -> bool
-        requires own { IsOwn node.now self.old.player.requester }
-        requires types { HasTypes node.now.config node.now.tracker.shape }
-        requires line { line ≡ drawn_line node.now.config x }
-        requires slice { IsSliceOf node.now.config line.0 slice.old }
-        ensures visits { Visits node.now.config x self.old.player self.new.player result }
-        ensures same { IsSameRequester self.old.player.requester self.new.player.requester }
-        ensures draws { self.new.draws ≡ self.old.draws }
-        ensures count { self.new.turns ≡ self.old.turns }
-    {
-        self.player.turn_at(slice, node.tracker(), line, x)
-    }
-
-    /// Looks at the line that was drawn by `x`, under the lock of its slice.
-    fn visit<R: Wait, B: Allocator>(&mut self, rt: &R, node: &Node<B>, x: u32) -> bool
-        requires { IsOwn node.now self.old.player.requester }
-        ensures visits { Visits node.now.config x self.old.player self.new.player result }
-        ensures same { IsSameRequester self.old.player.requester self.new.player.requester }
-        ensures draws { self.new.draws ≡ self.old.draws }
-        ensures count { self.new.turns ≡ self.old.turns }
-    {
-        let line = line_of(node.config(), x);
-        let Ok(mut slice) = node.lock(rt, line) else {
-            self.stop();
-            return false;
-        };
-        self.visit_on(&mut slice, node, line, x)
-    }
-
-    /// What is done after a visit: where it came to nothing, what is owed of a type is tended.
-    fn end_turn<B: Allocator>(&mut self, node: &Node<B>, number: u64, done: bool)
-        requires { IsOwn node.now self.old.player.requester }
-        ensures ends { EndsTurn done node.now.config number self.old.player self.new.player }
-        ensures same { IsSameRequester self.old.player.requester self.new.player.requester }
-        ensures draws { self.new.draws ≡ self.old.draws }
-    {
-        if !done {
-            let profile = node.config().profile();
-            tend(&mut self.player.requester, node.tracker(), profile, number);
-        }
-    }
-
-    /// The turn of that number, for the word `x`.
-    fn take<R: Wait, B: Allocator>(&mut self, rt: &R, node: &Node<B>, number: u64, x: u32) -> bool
-        requires { IsOwn node.now self.old.player.requester }
-        ensures turn { Turned node.now.config x number self.old.player self.new.player result }
-        ensures same { IsSameRequester self.old.player.requester self.new.player.requester }
-        ensures draws { self.new.draws ≡ self.old.draws }
-    {
-        prepare(&mut self.player.requester, node.tracker());
-        let done = self.visit(rt, node, x);
-        self.end_turn(node, number, done);
-        done
-    }
-
     /// A whole turn: the gate is passed; credits are seen, and those that no request waits for are given
     /// back; a word is drawn, which says the line; and under the lock of the line's slice `turn_on` is called.
-    /// Where that does nothing, what is owed of a type is tended. Then the tally is stored. It answers what
-    /// `turn_on` answered, and may wait for another thread.
+    /// Where that does nothing, what is owed of a type is tended. Then the tally is stored, once: turns, loads and
+    /// stores, none below that of the last. It answers what `turn_on` answered, and may wait for another thread.
     ///
     /// Condition: the requester is the node's own.
     /// Source: `docs/FORMATS.md`, "A turn".
@@ -178,12 +105,14 @@ impl<'t, A: Allocator> Runner<'t, A> {
         ensures count { self.new.turns ≡ count_after self.old.turns }
         ensures draws { self.new.draws
             ≡ record self.old.draws { word_pos = (self.old.draws.word_pos + 1) % 2 ^ 68 } }
+        ensures tally { self.new.progress ≡ writer_after self.old.progress self.new.turns
+            self.new.player.loads self.new.player.stores }
         ensures same { IsSameRequester self.old.player.requester self.new.player.requester }
     {
         let turn = self.turns.saturating_add(1);
         gate.pass(self.player.requester.number(), turn);
         let x = self.draws.next();
-        let done = self.take(rt, node, turn, x);
+        let done = self.player.take(rt, node, turn, x);
         self.turns = turn;
         self.progress
             .tell(rt, turn, self.player.loads, self.player.stores);

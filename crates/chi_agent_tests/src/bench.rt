@@ -72,6 +72,36 @@ pub fn eight_scripts() -> [[Operation; 4]; 8] {
     ]
 }
 
+/// What agent `own` of eight does on two lines that all want: it stores to each and writes it back, twice.
+fn twice(own: u8) -> [Operation; 8] {
+    let (one, other) = (own % 2, 1 - own % 2);
+    let store = Task::Store(WordNo(0), 1);
+    [
+        on(one, store),
+        on(one, Task::WriteBack),
+        on(other, store),
+        on(other, Task::WriteBack),
+        on(one, store),
+        on(one, Task::WriteBack),
+        on(other, store),
+        on(other, Task::WriteBack),
+    ]
+}
+
+/// The scripts of eight agents that take two lines from one another.
+pub fn rival_scripts() -> [[Operation; 8]; 8] {
+    [
+        twice(0),
+        twice(1),
+        twice(2),
+        twice(3),
+        twice(4),
+        twice(5),
+        twice(6),
+        twice(7),
+    ]
+}
+
 /// A script of these operations.
 fn script_of(
     rt: &impl Abort,

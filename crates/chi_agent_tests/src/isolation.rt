@@ -5,13 +5,13 @@ ghost use Rattle.chi_node.specs.Node.{IsOwn};
 ghost use Rattle.chi_audit.specs.Tallies.{IsFresh};
 ghost use Rattle.chi_agent.specs.Script.{AreFresh};
 
-use crate::bench::{eight_scripts, eight_sizes, node_of, on, opened};
+use crate::bench::{eight_scripts, eight_sizes, node_of, opened, rival_scripts};
 use crate::guests::{Guest, guests_of};
 use crate::seen_lines::SeenLines;
 use chi_agent::{Draws, OpenGate, Runner, Script};
 use chi_audit::Tallies;
 use chi_credit::SlotState;
-use chi_flit::{Line, Operation, Slot, Task, WordNo};
+use chi_flit::{Line, Slot};
 use chi_node::Node;
 use std::alloc::Global;
 use std::process::Abort;
@@ -29,12 +29,18 @@ struct Mover<'t, 'n> {
 }
 
 impl<'t, 'n> Mover<'t, 'n> {
-    /// It begins the script.
-    fn new(tallies: &'t Tallies, script: Script<Global>, guest: Guest<'n>) -> Mover<'t, 'n>
+    /// It begins the script, which is its own.
+    fn new(
+        rt: &impl Abort,
+        tallies: &'t Tallies,
+        script: Script<Global>,
+        guest: Guest<'n>,
+    ) -> Mover<'t, 'n>
         requires { IsFresh tallies.now script.writer }
     {
         let Guest { node, requester } = guest;
         let agent = requester.number();
+        assert!(rt; script.agent().0 == agent.0);
         let draws = Draws::new(SEED, agent);
         let runner = Runner::new(tallies, script, requester, draws);
         Mover {
@@ -65,7 +71,7 @@ fn movers_of<'t, 'n>(
     let mut movers = Vec::new(alloc);
     for guest in guests {
         assert!(rt; !scripts.is_empty());
-        let mover = Mover::new(tallies, scripts.remove(0), guest);
+        let mover = Mover::new(rt, tallies, scripts.remove(0), guest);
         movers.push(mover).expect(rt, "memory for agents");
     }
     movers
@@ -115,22 +121,6 @@ fn a_turn_changes_its_own_line_alone(rt: HostRuntime) {
     assert_eq!(rt; seen_lines.recorded(), 16);
 }
 
-/// What agent `own` of four does on two lines: it stores to each and writes it back, twice.
-fn twice(own: u8) -> [Operation; 8] {
-    let (one, other) = (own % 2, 1 - own % 2);
-    let store = Task::Store(WordNo(0), 1);
-    [
-        on(one, store),
-        on(one, Task::WriteBack),
-        on(other, store),
-        on(other, Task::WriteBack),
-        on(one, store),
-        on(one, Task::WriteBack),
-        on(other, store),
-        on(other, Task::WriteBack),
-    ]
-}
-
 /// Whether a slot of the agent is Cancelled.
 fn has_cancelled(mover: &Mover<'_, '_>) -> bool {
     let mut found = false;
@@ -155,17 +145,7 @@ fn round_cancels<R: Abort + Wait>(rt: &R, movers: &mut Vec<Mover<'_, '_>>) -> bo
 #[test]
 fn a_retried_write_back_is_cancelled(rt: HostRuntime) {
     let (node, requesters) = node_of(&rt, rt.alloc(), &eight_sizes(&rt));
-    let all = [
-        twice(0),
-        twice(1),
-        twice(2),
-        twice(3),
-        twice(4),
-        twice(5),
-        twice(6),
-        twice(7),
-    ];
-    let (tallies, scripts, _watcher) = opened(&rt, rt.alloc(), 8, &all);
+    let (tallies, scripts, _watcher) = opened(&rt, rt.alloc(), 8, &rival_scripts());
     let guests = guests_of(&rt, rt.alloc(), &node, requesters);
     let mut movers = movers_of(&rt, rt.alloc(), &tallies, guests, scripts);
     let mut cancelled = false;

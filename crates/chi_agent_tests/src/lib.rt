@@ -5,6 +5,8 @@
 #[cfg(test)]
 mod bench;
 #[cfg(test)]
+mod cancels;
+#[cfg(test)]
 mod crossing;
 #[cfg(test)]
 mod draws;

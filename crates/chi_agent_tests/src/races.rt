@@ -12,52 +12,75 @@ use std::sync::atomic::{AtomicU64, Ordering};
 use std::thread;
 use std::thread::Threads;
 
-/// So many new tallies the reader has to see before the writer may stop: meanwhile a store comes between the
-/// looks of many a reading, which has to read again.
-const ENOUGH: u64 = 1_000;
+/// During so many readings a store has to end, before the writer may stop: so stores come between the looks of
+/// readings, which have to look again.
+const ENOUGH: u64 = 100;
 
-/// What the reader saw: new tallies, and readings of numbers that weren't stored together.
+/// What writer and reader tell one another: the number that was stored last, and how many readings a store met.
+#[derive(Drop)]
+struct Signs {
+    stored: AtomicU64,
+    met: AtomicU64,
+}
+
+/// What the reader saw: readings during which a store ended, and readings of numbers that weren't stored
+/// together.
 #[derive(Clone, Copy)]
 struct Readings {
-    new: u64,
+    met: u64,
     torn: u64,
 }
 
-/// Stores tallies of three equal numbers, one after the other, until the reader saw enough of them.
-fn stores<R: Abort + Wait>(rt: &R, tallies: &Tallies, writer: Writer, seen: &AtomicU64)
+/// Stores tallies of three equal numbers, one after the other, until enough readings met a store.
+fn stores<R: Abort + Wait>(rt: &R, tallies: &Tallies, writer: Writer, signs: &Signs)
     requires { IsFresh tallies.now writer }
 {
     let mut teller = Teller::new(tallies, writer);
     for number in 1..100_000_000u64 {
-        if seen.load(Ordering::SeqCst) >= ENOUGH {
+        if signs.met.load(Ordering::SeqCst) >= ENOUGH {
             return;
         }
         teller.tell(rt, tally(number, number, number));
+        signs.stored.store(number, Ordering::SeqCst);
     }
 }
 
-/// What one reading adds to what was seen.
-fn after(readings: Readings, last: Tally, next: Tally) -> Readings {
-    let whole = next.turns == next.loads && next.loads == next.stores;
+/// The gate of a reading: it is passed when the writer has stored once more, and so is about to store again. The
+/// number that it had stored then.
+fn passed(signs: &Signs) -> u64 {
+    let before = signs.stored.load(Ordering::SeqCst);
+    for _ in 0..100_000_000u32 {
+        let now = signs.stored.load(Ordering::SeqCst);
+        if now != before {
+            return now;
+        }
+        thread::yield_now();
+    }
+    before
+}
+
+/// What one reading adds to what was seen; `met` says whether a store ended during it.
+fn after(readings: Readings, met: bool, tally: Tally) -> Readings {
+    let whole = tally.turns == tally.loads && tally.loads == tally.stores;
     Readings {
-        new: readings.new.saturating_add(u64::from(next != last)),
+        met: readings.met.saturating_add(u64::from(met)),
         torn: readings.torn.saturating_add(u64::from(!whole)),
     }
 }
 
-/// Reads until it saw enough new tallies.
-fn reads<R: Wait>(rt: &R, tallies: &Tallies, mut watcher: Watcher, seen: &AtomicU64) -> Readings
+/// Reads until enough readings met a store.
+fn reads<R: Wait>(rt: &R, tallies: &Tallies, mut watcher: Watcher, signs: &Signs) -> Readings
     requires cells { map reader_cell watcher ≡ tallies.now }
     requires some { 0 < length tallies.now }
 {
-    let mut readings = Readings { new: 0, torn: 0 };
-    let mut last = tally(0, 0, 0);
+    let mut readings = Readings { met: 0, torn: 0 };
     for _ in 0..100_000_000u32 {
-        let next = watcher.read(rt, tallies, Agent(0));
-        readings = after(readings, last, next);
-        last = next;
-        seen.store(readings.new, Ordering::SeqCst);
-        if readings.new >= ENOUGH {
+        let before = passed(signs);
+        let tally = watcher.read(rt, tallies, Agent(0));
+        let met = signs.stored.load(Ordering::SeqCst) != before;
+        readings = after(readings, met, tally);
+        signs.met.store(readings.met, Ordering::SeqCst);
+        if readings.met >= ENOUGH {
             break;
         }
     }
@@ -75,17 +98,20 @@ fn race<R: Threads + Wait + Abort + Sync>(
     requires cells { map reader_cell watcher ≡ tallies.now }
     requires some { 0 < length tallies.now }
 {
-    let count = AtomicU64::new(0);
-    let seen = &count;
+    let open = Signs {
+        stored: AtomicU64::new(0),
+        met: AtomicU64::new(0),
+    };
+    let signs = &open;
     let (_, readings) = thread::join(
         rt,
         move || -> ()
             requires { IsFresh tallies.now writer }
-        { stores(rt, tallies, writer, seen) },
+        { stores(rt, tallies, writer, signs) },
         move || -> Readings
             requires cells { map reader_cell watcher ≡ tallies.now }
             requires some { 0 < length tallies.now }
-        { reads(rt, tallies, watcher, seen) },
+        { reads(rt, tallies, watcher, signs) },
     );
     readings
 }
@@ -96,6 +122,6 @@ fn no_reading_is_torn_where_stores_come_between(rt: HostRuntime) -> Result<(), N
     assert!(rt; !writers.is_empty());
     let readings = race(&rt, &tallies, writers.remove(0), watcher);
     assert_eq!(rt; readings.torn, 0);
-    assert!(rt; readings.new >= ENOUGH);
+    assert!(rt; readings.met >= ENOUGH);
     Ok(())
 }

@@ -2,7 +2,7 @@
 use Rattle.std.proofs.Common.{inl, subst}
 use Rattle.chi_flit.specs.declared.numbers.Line.{Line}
 use Rattle.chi_node.specs.Node.{IsSliceOf}
-use Rattle.chi_agent.proofs.runner.Runner.visit_on.Goals as goal
+use Rattle.chi_agent.proofs.player.Player.visit_on.Goals as goal
 
 pub returns-clause-visits : goal.returns-clause-visits
 returns-clause-visits g c =
