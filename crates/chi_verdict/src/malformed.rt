@@ -1,6 +1,10 @@
 //! What is told of a file that is no trace.
 
-use crate::names::kept;
+ghost use Rattle.std.specs.Prelude.{◌≡◌, ◌≢◌, IfOk, string_bytes};
+ghost use Rattle.chi_trace.specs.declared.faults.TraceFault.TheVariants.{NoMemory};
+ghost use Rattle.chi_verdict.specs.Texts.{BeginsWith, malformed_front};
+
+use crate::names::{joined, kept};
 use chi_flit::NoMemory;
 use chi_script::first_line;
 use chi_trace::{Column, TraceChannel, TraceFault};
@@ -120,33 +124,56 @@ fn word_at(line: &[u8], place: usize) -> &[u8] {
     words.nth(place).unwrap_or(&[])
 }
 
-/// Puts what is wrong with a file of these bytes behind the text.
-pub(crate) fn write_malformed<A: Allocator>(
-    text: &mut String<A>,
+/// What is wrong with a file of these bytes; `NoMemory` where that is the fault.
+pub(crate) fn malformed_text<A: Allocator + Copy>(
+    alloc: A,
     bytes: &[u8],
     fault: TraceFault,
-) -> Result<(), NoMemory> {
+) -> Result<String<A>, NoMemory>
+    ensures fault { IfOk result (λ _. fault ≢ NoMemory) }
+    ensures text { IfOk result (λ text. BeginsWith (malformed_front fault) (string_bytes text)) }
+{
+    let front = malformed_front(alloc, fault)?;
+    let mut rest = String::new(alloc);
+    write_expected(&mut rest, bytes, fault)?;
+    joined(front, &rest)
+}
+
+/// How the line on a fault begins.
+fn malformed_front<A: Allocator>(alloc: A, fault: TraceFault) -> Result<String<A>, NoMemory>
+    ensures fault { IfOk result (λ _. fault ≢ NoMemory) }
+    ensures text { IfOk result (λ text. string_bytes text ≡ malformed_front fault) }
+{
+    let mut text = String::new(alloc);
     let written = match fault {
         TraceFault::NoMemory => return Err(NoMemory),
         TraceFault::TooLarge => write!(text, "chihome: file too large"),
         TraceFault::MissingNewline(line) => write!(text, "chihome: line {line}: missing newline"),
         TraceFault::FewWords(line) => {
-            write!(
-                text,
-                "chihome: line {line}: fewer than eleven words, expected {HEAD}"
-            )
+            write!(text, "chihome: line {line}: fewer than eleven words")
         }
+        TraceFault::BadWord { line, column: _ } => write!(text, "chihome: line {line}: "),
+    };
+    kept(written)?;
+    Ok(text)
+}
+
+/// Puts what was expected behind the text, and of a wrong word its column before.
+fn write_expected<A: Allocator>(
+    text: &mut String<A>,
+    bytes: &[u8],
+    fault: TraceFault,
+) -> Result<(), NoMemory> {
+    match fault {
+        TraceFault::FewWords(_) => kept(write!(text, ", expected {HEAD}")),
         TraceFault::BadWord { line, column } => {
             let words = line_at(bytes, line);
             let (name, word) = (ColumnName(column), Word(word_at(words, place_of(column))));
             let wanted = expected(column, word_at(words, 0));
-            write!(
-                text,
-                "chihome: line {line}: {name} {word}, expected {wanted}"
-            )
+            kept(write!(text, "{name} {word}, expected {wanted}"))
         }
-    };
-    kept(written)
+        TraceFault::NoMemory | TraceFault::TooLarge | TraceFault::MissingNewline(_) => Ok(()),
+    }
 }
 
 /// The columns of a line.
