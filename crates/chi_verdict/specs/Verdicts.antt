@@ -25,7 +25,7 @@ use Rattle.chi_verdict.specs.declared.reports.TraceStop.{TraceStop}
 use Rattle.chi_verdict.specs.declared.reports.TraceStop.TheVariants.{Ids, Flit, Long, Undone}
 use Rattle.chi_verdict.specs.declared.reports.TraceTotals.{TraceTotals}
 use Rattle.chi_verdict.specs.Lines.{AreLinesExplained}
-use Rattle.chi_verdict.specs.Texts.{IsOutcomeText}
+use Rattle.chi_verdict.specs.Texts.{BeginsWith, IsOutcomeText, malformed_front}
 
 -- a node of one line with eight agents, and as many records as a journal may have
 abbrev pub verdict_sizes : Types → Sizes
@@ -84,7 +84,7 @@ pub record IsFlitsReport (options : Options) (only : Option Address) (seen : Lis
 -- what comes of a file, by what the grammar reads
 abbrev pub IsReportOf : Options → Option Address → Result (List Seen) TraceFault → TraceOutcome → List ℕ → Type 0
 IsReportOf options only (Ok seen) outcome text = IsFlitsReport options only seen outcome text
-IsReportOf options only (Err fault) outcome text = (outcome ≡ Malformed fault) × IsOutcomeText [] only outcome text
+IsReportOf options only (Err fault) outcome text = (outcome ≡ Malformed fault) × BeginsWith (malformed_front fault) text
 
 abbrev pub IsReport : Options → Option Address → List ℕ → TraceOutcome → List ℕ → Type 0
 IsReport options only file outcome text = IsReportOf options only (trace_of file) outcome text

@@ -1,7 +1,7 @@
 //! What is told of a file that is no trace.
 
 ghost use Rattle.std.specs.Prelude.{◌≡◌, ◌≢◌, IfOk, string_bytes};
-ghost use Rattle.chi_trace.specs.declared.faults.TraceFault.TheVariants.{NoMemory};
+ghost use Rattle.chi_trace.specs.declared.faults.TraceFault.TheVariants as faults;
 ghost use Rattle.chi_verdict.specs.Texts.{BeginsWith, malformed_front};
 
 use crate::names::{joined, kept};
@@ -130,7 +130,7 @@ pub(crate) fn malformed_text<A: Allocator + Copy>(
     bytes: &[u8],
     fault: TraceFault,
 ) -> Result<String<A>, NoMemory>
-    ensures fault { IfOk result (λ _. fault ≢ NoMemory) }
+    ensures fault { IfOk result (λ _. fault ≢ faults.NoMemory) }
     ensures text { IfOk result (λ text. BeginsWith (malformed_front fault) (string_bytes text)) }
 {
     let front = malformed_front(alloc, fault)?;
@@ -141,7 +141,7 @@ pub(crate) fn malformed_text<A: Allocator + Copy>(
 
 /// How the line on a fault begins.
 fn malformed_front<A: Allocator>(alloc: A, fault: TraceFault) -> Result<String<A>, NoMemory>
-    ensures fault { IfOk result (λ _. fault ≢ NoMemory) }
+    ensures fault { IfOk result (λ _. fault ≢ faults.NoMemory) }
     ensures text { IfOk result (λ text. string_bytes text ≡ malformed_front fault) }
 {
     let mut text = String::new(alloc);

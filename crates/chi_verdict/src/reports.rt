@@ -1,10 +1,10 @@
 //! The report on a trace.
 
-ghost use Rattle.std.specs.Prelude.{◌≡◌, ◌++◌, IfErr, IfOk, None, Some, string_bytes};
+ghost use Rattle.std.specs.Prelude.{◌≡◌, ◌≢◌, ◌-◌, IfErr, IfOk, IfSome, None, Some, not, string_bytes};
 ghost use Rattle.std.specs.List.{count_by, slice_get};
-ghost use Rattle.chi_verdict.specs.Lines.{IsReordered};
-ghost use Rattle.chi_verdict.specs.Texts.{BeginsWith, IsOutcomeText, access_text, explained_line, number_of, numbered, stop_front};
+ghost use Rattle.chi_verdict.specs.Texts.{BeginsWith, IsOutcomeText, access_text, explained_line, malformed_front, number_of, numbered, stop_front};
 ghost use Rattle.chi_verdict.specs.Verdicts.{IsFlitsReport, IsJudged, IsReport, IsStop, is_access, is_seen_access, outcome_of, verdict_sizes};
+ghost use Rattle.chi_trace.specs.declared.faults.TraceFault.TheVariants as faults;
 ghost use Rattle.chi_verdict.specs.declared.reports.TraceOutcome.TheVariants as outcomes;
 
 use crate::check_files::Told;
@@ -184,15 +184,32 @@ fn total_of(
 fn first_stop(obstacle: Obstacle, fault: Option<IdFault>) -> Option<TraceStop>
     ensures { IfSome result (IsStop fault) }
 {
-    match (obstacle, fault) {
-        (Obstacle::NoMemory, _) => None,
-        (Obstacle::Fault { at, fault: cause }, Some(fault)) if at < fault.at => {
-            Some(TraceStop::Flit { at, fault: cause })
-        }
-        (_, Some(fault)) => Some(TraceStop::Ids(fault)),
-        (Obstacle::Fault { at, fault }, None) => Some(TraceStop::Flit { at, fault }),
-        (Obstacle::Long(line), None) => Some(TraceStop::Long(line)),
-        (Obstacle::Undone(line), None) => Some(TraceStop::Undone(line)),
+    match obstacle {
+        Obstacle::NoMemory => None,
+        Obstacle::Fault { at, fault: cause } => Some(first_of_both(at, cause, fault)),
+        Obstacle::Long(line) => Some(unless_ids(TraceStop::Long(line), fault)),
+        Obstacle::Undone(line) => Some(unless_ids(TraceStop::Undone(line), fault)),
+    }
+}
+
+/// Of both what comes first.
+fn first_of_both(at: usize, cause: LineFault, fault: Option<IdFault>) -> TraceStop
+    ensures { IsStop fault result }
+{
+    match fault {
+        Some(fault) if fault.at <= at => TraceStop::Ids(fault),
+        _ => TraceStop::Flit { at, fault: cause },
+    }
+}
+
+/// This, unless the ids or the ledger don't allow a flit.
+fn unless_ids(stop: TraceStop, fault: Option<IdFault>) -> TraceStop
+    requires { IsStop None stop }
+    ensures { IsStop fault result }
+{
+    match fault {
+        Some(fault) => TraceStop::Ids(fault),
+        None => stop,
     }
 }
 
@@ -224,9 +241,9 @@ fn malformed<A: Allocator + Copy>(
     fault: TraceFault,
 ) -> Result<TraceReport<A>, NoMemory>
     ensures outcome { IfOk result (λ report. report.outcome ≡ outcomes.Malformed fault) }
-    ensures fault { IfOk result (λ report. fault ≢ TraceFault.NoMemory) }
+    ensures fault { IfOk result (λ _. fault ≢ faults.NoMemory) }
     ensures text { IfOk result
-        (λ report. IsOutcomeText [] None report.outcome (string_bytes report.text)) }
+        (λ report. BeginsWith (malformed_front fault) (string_bytes report.text)) }
 {
     let text = malformed_text(alloc, bytes, fault)?;
     let outcome = TraceOutcome::Malformed(fault);
@@ -300,29 +317,23 @@ fn numbered<A: Allocator>(alloc: A, line: usize) -> Result<String<A>, NoMemory>
     Ok(text)
 }
 
-/// How a line with these words begins.
-fn worded<A: Allocator>(alloc: A, words: &str) -> Result<String<A>, NoMemory>
-    ensures { IfOk result (λ text. string_bytes text ≡ string_bytes words.now) }
-{
-    let mut text = String::new(alloc);
-    text.push_str(words)?;
-    Ok(text)
-}
-
 /// How the line on what isn't explained begins.
-fn stop_front<A: Allocator>(
+fn stop_front<A: Allocator + Copy>(
     alloc: A,
     seen: &[Seen],
     stop: &TraceStop,
 ) -> Result<String<A>, NoMemory>
     ensures { IfOk result (λ text. string_bytes text ≡ stop_front seen.now stop.now) }
 {
-    match stop {
-        TraceStop::Ids(fault) => numbered(alloc, number_at(seen, fault.at)),
-        TraceStop::Flit { at, .. } => numbered(alloc, number_at(seen, *at)),
-        TraceStop::Long(_) => worded(alloc, "the cache line at "),
-        TraceStop::Undone(_) => worded(alloc, "no explanation of the cache line at "),
-    }
+    let mut text = String::new(alloc);
+    let written = match stop {
+        TraceStop::Ids(fault) => return numbered(alloc, number_at(seen, fault.at)),
+        TraceStop::Flit { at, fault: _ } => return numbered(alloc, number_at(seen, *at)),
+        TraceStop::Long(_) => write!(text, "the cache line at "),
+        TraceStop::Undone(_) => write!(text, "no explanation of the cache line at "),
+    };
+    kept(written)?;
+    Ok(text)
 }
 
 /// A trace that was resolved, and judged: the items ascend by line.
