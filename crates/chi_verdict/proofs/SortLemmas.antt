@@ -10,7 +10,7 @@ use Rattle.chi_explain.specs.declared.observed.StoreListing.{StoreListing}
 use Rattle.chi_resolution.specs.declared.lines.Resolved.{Resolved}
 use Rattle.chi_explain.specs.declared.observed.Observed.TheVariants as observed
 use Rattle.chi_resolution.specs.declared.lines.CacheLine.{CacheLine}
-use Rattle.chi_verdict.specs.Lines.{AreLinesExplained, IsLineExplained, IsReordered, LineExplanation, is_explained_by, is_on_line, items_of}
+use Rattle.chi_verdict.specs.Lines.{AreLinesExplained, IsLineExplained, IsReordered, is_explained_by, is_on_line, items_of}
 
 abbrev pub line_number : Resolved → ℕ
 line_number item = item.line.0
@@ -33,7 +33,7 @@ ties_are one other =
     rw (first, second) (tie one.line.0 other.line.0)
 
 -- some item of a line
-any_item : CacheLine → Resolved
+abbrev any_item : CacheLine → Resolved
 any_item line = record { at = 0; line = line; flit = observed.Load (record { 0 = 0 }) (record { 0 = 0 }) 0 }
 
 same_items : (items sorted : List Resolved) → IsStableByKey line_number nat_cmp items sorted → (one : Resolved) → items_of one.line sorted ≡ items_of one.line items

@@ -43,9 +43,9 @@ stop_front seen (Undone line) = codes "no explanation of the cache line at "
 abbrev pub malformed_front : TraceFault → List ℕ
 malformed_front NoMemory = codes "chihome: "
 malformed_front TooLarge = codes "chihome: file too large"
-malformed_front (MissingNewline line) = codes "chihome: " ++ (numbered line ++ codes "missing newline")
-malformed_front (FewWords line) = codes "chihome: " ++ (numbered line ++ codes "fewer than eleven words")
-malformed_front (BadWord line column) = codes "chihome: " ++ numbered line
+malformed_front (MissingNewline line) = codes "chihome: line " ++ (decimal line ++ codes ": missing newline")
+malformed_front (FewWords line) = codes "chihome: line " ++ (decimal line ++ codes ": fewer than eleven words")
+malformed_front (BadWord line column) = codes "chihome: line " ++ (decimal line ++ codes ": ")
 
 -- where the check file of a line is asked for, the text is that file
 abbrev pub IfWhole : Option Address → Type 0 → Type 0

@@ -1,6 +1,6 @@
 //! What is told of a file that is no trace.
 
-ghost use Rattle.std.specs.Prelude.{◌≡◌, ◌≢◌, IfOk, string_bytes};
+ghost use Rattle.std.specs.Prelude.{◌≡◌, ◌≢◌, IfOk, IsTrue, Some, string_bytes};
 ghost use Rattle.chi_trace.specs.declared.faults.TraceFault.TheVariants as faults;
 ghost use Rattle.chi_verdict.specs.Texts.{BeginsWith, malformed_front};
 
@@ -22,6 +22,28 @@ struct Word<'a>(&'a [u8]);
 /// A column, by its name at the head of a trace.
 #[derive(Clone, Copy)]
 struct ColumnName(Column);
+
+/// How the line on a fault begins.
+#[derive(Clone, Copy)]
+struct MalformedFront(TraceFault);
+
+impl fmt::Display for MalformedFront {
+    ghost output = { λ front. Some (malformed_front front.0) };
+
+    fn fmt<W: fmt::Write>(&self, f: &mut fmt::Formatter<W>) -> fmt::Result {
+        match self.0 {
+            TraceFault::NoMemory => write!(f, "chihome: "),
+            TraceFault::TooLarge => write!(f, "chihome: file too large"),
+            TraceFault::MissingNewline(line) => {
+                write!(f, "chihome: line {line}: missing newline")
+            }
+            TraceFault::FewWords(line) => {
+                write!(f, "chihome: line {line}: fewer than eleven words")
+            }
+            TraceFault::BadWord { line, column: _ } => write!(f, "chihome: line {line}: "),
+        }
+    }
+}
 
 impl fmt::Display for Word<'_> {
     fn fmt<W: fmt::Write>(&self, f: &mut fmt::Formatter<W>) -> fmt::Result {
@@ -144,18 +166,26 @@ fn malformed_front<A: Allocator>(alloc: A, fault: TraceFault) -> Result<String<A
     ensures fault { IfOk result (λ _. fault ≢ faults.NoMemory) }
     ensures text { IfOk result (λ text. string_bytes text ≡ malformed_front fault) }
 {
+    if !is_of_file(fault) {
+        return Err(NoMemory);
+    }
+    let front = MalformedFront(fault);
     let mut text = String::new(alloc);
-    let written = match fault {
-        TraceFault::NoMemory => return Err(NoMemory),
-        TraceFault::TooLarge => write!(text, "chihome: file too large"),
-        TraceFault::MissingNewline(line) => write!(text, "chihome: line {line}: missing newline"),
-        TraceFault::FewWords(line) => {
-            write!(text, "chihome: line {line}: fewer than eleven words")
-        }
-        TraceFault::BadWord { line, column: _ } => write!(text, "chihome: line {line}: "),
-    };
-    kept(written)?;
+    kept(write!(text, "{front}"))?;
     Ok(text)
+}
+
+/// Whether it is a fault of the file, and not want of memory.
+fn is_of_file(fault: TraceFault) -> bool
+    ensures { IsTrue result → fault ≢ faults.NoMemory }
+{
+    match fault {
+        TraceFault::NoMemory => false,
+        TraceFault::TooLarge => true,
+        TraceFault::MissingNewline(_) => true,
+        TraceFault::FewWords(_) => true,
+        TraceFault::BadWord { .. } => true,
+    }
 }
 
 /// Puts what was expected behind the text, and of a wrong word its column before.

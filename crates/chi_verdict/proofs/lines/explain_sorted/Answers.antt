@@ -8,10 +8,13 @@ pub loop-at-preserved : goal.loop-at-preserved
 loop-at-preserved g c =
     let before = c.loop-at.invariant in
     let step = front_step c.args.config.now c.args.stores c.loop-at.floor c.loop-at.at c.in_ok-front.front.count c.number_behind-floor.result c.loop-at.actions c.loop-at.lines c.in_ok-front.front.actions c.in_ok-front.front.line c.args.sorted.now _ c.split_at.ensures.back before.0 c.in_ok-front.ensures.bound
-    (omega (arith, c.if-front-count.false)) c.number_behind-floor.ensures (omega (arith, c.from.ensures, c.if-from-floor.false)) before.3 c.in_ok-front.ensures.line c.in_ok-front.ensures.explained in
+    (omega (arith, c.if-front-eq0.false)) c.number_behind-floor.ensures (omega (arith, c.from.ensures, c.if-from-floor.false)) before.3 c.in_ok-front.ensures.line c.in_ok-front.ensures.explained in
     (step.0, omega (arith, before.1), omega (arith, before.2), step.1)
 
 -- all lines are behind
 pub returns : goal.returns
 returns g c =
     subst (λ l. AreLinesExplained c.args.config.now c.args.stores l c.loop-at.actions c.loop-at.lines) (take_all c.loop-at.at c.args.sorted.now (omega (arith, c.loop-at-test.false))) c.loop-at.invariant.3.known
+
+pub loop-at-init : goal.loop-at-init
+loop-at-init g c = (omega arith, omega arith, omega arith, no_lines c.args.config.now c.args.stores)
