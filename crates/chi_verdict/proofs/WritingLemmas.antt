@@ -1,7 +1,6 @@
 -- What explain leaves, from what its two halves leave.
-use Rattle.std.proofs.Common.{◌≡◌, ◌≢◌, ◌+◌, ℕ, false, List, Option, Some, None, Result, Ok, Err, IfErr, IfOk, IfSome, OnErr, OnOk, refl, subst, sym}
-use Rattle.std.specs.Io.KnownBytes.{Keeps}
-use Rattle.chi_devices.specs.Devices.{AppendsFront, CountsFault}
+use Rattle.std.proofs.Common.{◌≡◌, ◌≢◌, ◌+◌, ℕ, false, List, Option, Some, None, Result, Ok, Err, IfErr, IfOk, IfSome, OnErr, OnOk, subst, sym}
+use Rattle.chi_devices.specs.Devices.{AppendsFront}
 use Rattle.chi_script.specs.declared.faults.Fault.{Fault}
 use Rattle.chi_script.specs.declared.faults.Fault.TheVariants as faults
 use Rattle.chi_trace.specs.declared.faults.TraceFault.{TraceFault}
@@ -24,39 +23,6 @@ given_ok P report (Err e) is same = tt
 pub always : {R E : Type 0} (P : Type 0) (r : Result R E) → P → OnOk r P
 always P (Ok x) is = is
 always P (Err e) is = tt
-
--- reading failed, or memory ran out
-pub unread : (before after wrote : ℕ) (fault : Fault) → CountsFault before after fault → IsUnreported before after wrote wrote fault
-unread before after wrote faults.Read is = (is, refl)
-unread before after wrote faults.NoMemory is = (is, refl)
-unread before after wrote (faults.BadHeader line) is = is
-unread before after wrote (faults.BadCommand line) is = is
-unread before after wrote (faults.MissingNewline line) is = is
-unread before after wrote faults.TooLarge is = is
-unread before after wrote faults.Write is = absurd is
-
-pub no_write : (before after : ℕ) (fault : Fault) → CountsFault before after fault → fault ≢ faults.Write
-no_write before after faults.Read is = λ e. absurd (cc e)
-no_write before after faults.NoMemory is = λ e. absurd (cc e)
-no_write before after (faults.BadHeader line) is = absurd is
-no_write before after (faults.BadCommand line) is = absurd is
-no_write before after (faults.MissingNewline line) is = absurd is
-no_write before after faults.TooLarge is = absurd is
-no_write before after faults.Write is = absurd is
-
-pub keeps_same : (o : Option (List ℕ)) → Keeps o o
-keeps_same None = tt
-keeps_same (Some xs) = refl
-
-pub keeps_at_fault : (left o : Option (List ℕ)) → KeepsAtFault left o o
-keeps_at_fault None o = tt
-keeps_at_fault (Some file) o = λ fault faulty. keeps_same o
-
-err_of : (fault : Fault) → {R : Type 0} → (r : Result R Fault) → r ≡ Err fault → fault ≢ faults.Write → r ≡ Err faults.Write → ⊥
-err_of fault r is other e = other (cc (is, e))
-
-pub not_at_write : {R : Type 0} (P : Type 0) (fault : Fault) (r : Result R Fault) → r ≡ Err fault → fault ≢ faults.Write → AtWrite r P
-not_at_write P fault r is other = λ e. absurd (err_of fault r is other e)
 
 -- writing failed
 pub unwritten : {R : Type 0} (read read' wrote wrote' : ℕ) (r : Result R Fault) → read' ≡ read → IfErr r (λ fault. fault ≡ faults.Write) → OnErr r (wrote' ≡ wrote + 1) → IfErr r (IsUnreported read read' wrote wrote')
