@@ -43,9 +43,9 @@ suite_stop (Some fault) hold = ends.Faulty fault
 
 -- the end of an explanation of which this came
 abbrev pub explain_end : TraceOutcome → End
-explain_end outcomes.Explained = ends.Done
-explain_end outcomes.Faulty = ends.Unexplained
-explain_end outcomes.Malformed = ends.Malformed
+explain_end (outcomes.Explained totals) = ends.Done
+explain_end (outcomes.Faulty stop) = ends.Unexplained
+explain_end (outcomes.Malformed fault) = ends.Malformed
 
 -- the end of a storm of which all scripts finished, or not
 abbrev pub storm_end : Bool → End

@@ -429,7 +429,7 @@ fn explain_file<R: Files + AllocGlobal + Print + Eprint>(
     let mut input = FileInput::open(rt, path)?;
     let mut output = StandardOutput::new(io::writer(rt));
     let report = explain(rt.alloc(), &mut input, &mut output, options, only)?;
-    if report.outcome == TraceOutcome::Malformed {
+    if matches!(report.outcome, TraceOutcome::Malformed(_)) {
         let _ = rt.eprintln(report.text.as_str());
     }
     Ok(explain_end(report.outcome))
@@ -440,8 +440,8 @@ fn explain_end(outcome: TraceOutcome) -> End
     ensures { result ≡ explain_end outcome }
 {
     match outcome {
-        TraceOutcome::Explained => End::Done,
-        TraceOutcome::Faulty => End::Unexplained,
-        TraceOutcome::Malformed => End::Malformed,
+        TraceOutcome::Explained(_) => End::Done,
+        TraceOutcome::Faulty(_) => End::Unexplained,
+        TraceOutcome::Malformed(_) => End::Malformed,
     }
 }

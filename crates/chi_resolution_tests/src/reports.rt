@@ -2,16 +2,26 @@
 
 use crate::traces::PLAIN;
 use chi_resolution::Options;
-use chi_trace::Address;
-use chi_verdict::{TraceOutcome, report_on};
+use chi_trace::{Address, Column, TraceFault};
+use chi_verdict::{TraceOutcome, TraceStop, TraceTotals, report_on};
 use std::alloc::Global;
 use std::test::Fail;
+
+/// What comes of a trace.
+enum Wanted {
+    Explained(TraceTotals),
+    /// The place of a flit that the ids don't allow.
+    Ids(usize),
+    /// The place of a flit that no run sends.
+    Flit(usize),
+    Malformed(TraceFault),
+}
 
 /// A trace, the line that is asked for, and what is told.
 struct Told {
     trace: &'static [u8],
     only: Option<u64>,
-    outcome: TraceOutcome,
+    wanted: Wanted,
     text: &'static str,
 }
 
@@ -22,23 +32,37 @@ RSP 8 40 11 CompAck - - - - - -
 CPU 8 - - Load 1048 - - - - 2a
 ";
 
-const TOLD: [Told; 6] = [
+const NOTHING: TraceTotals = TraceTotals {
+    flits: 0,
+    accesses: 0,
+    actions: 0,
+    lines: 0,
+};
+
+const READ_TOTALS: TraceTotals = TraceTotals {
+    flits: 3,
+    accesses: 1,
+    actions: 7,
+    lines: 1,
+};
+
+const TOLD: [Told; 8] = [
     Told {
         trace: b"",
         only: None,
-        outcome: TraceOutcome::Explained,
+        wanted: Wanted::Explained(NOTHING),
         text: "explained 0 flits by 0 actions on 0 lines\n",
     },
     Told {
         trace: READ,
         only: None,
-        outcome: TraceOutcome::Explained,
+        wanted: Wanted::Explained(READ_TOTALS),
         text: "explained 3 flits and 1 loads and stores by 7 actions on 1 lines\n",
     },
     Told {
         trace: READ,
         only: Some(0x1048),
-        outcome: TraceOutcome::Explained,
+        wanted: Wanted::Explained(READ_TOTALS),
         text: "# line 0 is the cache line at 1040
 # agent 0 is node 8
 # the home is node 40
@@ -59,28 +83,55 @@ load 0 0 1 -> ok value 42
     Told {
         trace: b"REQ 8 40 1 Evict 1040 - - 1 - -\nSNP 40 8 1 SnpShared 1040 - - - - -\n",
         only: None,
-        outcome: TraceOutcome::Faulty,
+        wanted: Wanted::Flit(0),
         text: "line 1: Evict of node 8 at 1040: its copy is I, and Evict isn't issued from there; allowed: ReadNotSharedDirty, ReadShared, ReadUnique\n",
     },
     Told {
         trace: b"RSP 8 40 1 CompAck 1040 - - - - -\n",
         only: None,
-        outcome: TraceOutcome::Faulty,
+        wanted: Wanted::Ids(0),
         text: "line 1: CompAck of node 8 at 1040: a completion with DBID 1 to node 8 isn't open; allowed: nothing, as none of its node is open\n",
+    },
+    Told {
+        trace: b"RSP 8 40 1 CompAck - - - - - -\n",
+        only: None,
+        wanted: Wanted::Ids(0),
+        text: "line 1: CompAck of node 8: a completion with DBID 1 to node 8 isn't open; allowed: nothing, as none of its node is open\n",
+    },
+    Told {
+        trace: b"REQ 8 40 1 ReadShared 1040 - - 1 - -\nRSP 40 8 1 RetryAck - - - - 3 -\n",
+        only: None,
+        wanted: Wanted::Ids(1),
+        text: "line 2: RetryAck to node 8 at 1040: PCRD is 3, and its request needs another; allowed: 0\n",
     },
     Told {
         trace: b"\nREQ 8 40 1 Evict 1040 - - 2 - -\n",
         only: None,
-        outcome: TraceOutcome::Malformed,
+        wanted: Wanted::Malformed(TraceFault::BadWord {
+            line: 2,
+            column: Column::AllowRetry,
+        }),
         text: "chihome: line 2: AR 2, expected 0 or 1",
     },
 ];
+
+/// Whether it is the outcome that is wanted.
+fn is_wanted(outcome: TraceOutcome, wanted: &Wanted) -> bool {
+    match (outcome, wanted) {
+        (TraceOutcome::Explained(totals), Wanted::Explained(other)) => totals == *other,
+        (TraceOutcome::Faulty(TraceStop::Ids(fault)), Wanted::Ids(at)) => fault.at == *at,
+        (TraceOutcome::Faulty(TraceStop::Flit { at, fault: _ }), Wanted::Flit(other)) => at
+            == *other,
+        (TraceOutcome::Malformed(fault), Wanted::Malformed(other)) => fault == *other,
+        _ => false,
+    }
+}
 
 /// Whether this is told of the trace.
 fn is_told(alloc: Global, options: Options, told: &Told) -> bool {
     let only = told.only.map(|address| Address(address));
     match report_on(alloc, told.trace, options, only) {
-        Ok(report) => report.outcome == told.outcome && report.text.as_str() == told.text,
+        Ok(report) => is_wanted(report.outcome, &told.wanted) && report.text.as_str() == told.text,
         Err(_) => false,
     }
 }

@@ -1,3 +1,4 @@
 mod LineLemmas
 mod SortLemmas
 mod VerdictLemmas
+mod WritingLemmas

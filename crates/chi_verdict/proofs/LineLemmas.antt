@@ -1,14 +1,15 @@
 -- Items of cache lines, one line behind the other.
-use Rattle.std.proofs.Common.{◌≡◌, ◌<◌, ◌≤◌, ◌+◌, ℕ, true, false, List, [], ◌∷◌, ◌++◌, map, length, get_or, take, drop, refl, sym, ap, subst, ◌∙◌, arith}
-use Rattle.std.proofs.lemmas.List.{append-nil, drop-take, length-drop, map-append, map_more, take-append-drop, take-take}
-use Rattle.std.specs.List.{All}
-use Rattle.std.proofs.lemmas.List.Elements.{All-append, All-head, All-more, All-tail, All-weaker, filter-append}
+use Rattle.std.proofs.Common.{◌≡◌, ◌<◌, ◌≤◌, ◌+◌, ◌||◌, ℕ, suc, Bool, true, false, List, [], ◌∷◌, ◌++◌, length, get_or, take, drop, refl, sym, ap, subst, ◌∙◌, arith}
+use Rattle.std.proofs.lemmas.List.{append-nil, drop-take, length-drop, length-take, map_more, take-append-drop, take-take}
+use Rattle.std.proofs.lemmas.List.Elements.{All-append, All-cons, All-head, All-more, All-nil, All-tail, All-weaker, filter-append}
+use Rattle.std.proofs.lemmas.List.Sums.{sum_by-cons}
+use Rattle.std.specs.List.{All, sum_by}
 use Rattle.chi_slice.specs.Words.{Sizes}
 use Rattle.chi_resolution.specs.declared.lines.CacheLine.{CacheLine}
 use Rattle.chi_explain.specs.declared.observed.Observed.{Observed}
 use Rattle.chi_explain.specs.declared.observed.StoreListing.{StoreListing}
 use Rattle.chi_resolution.specs.declared.lines.Resolved.{Resolved}
-use Rattle.chi_verdict.specs.Lines.{AreExplained, AreLinesExplained, is_on_line, items_of, said_by}
+use Rattle.chi_verdict.specs.Lines.{AreItemsExplained, AreLinesExplained, IsLineExplained, LineExplanation, action_count, is_explained_by, is_on_line, items_of, said_by}
 
 -- of a line are all, or none
 pub all_of : (line : CacheLine) (items : List Resolved) → All (λ item. is_on_line line item ≡ true) items → items_of line items ≡ items
@@ -27,46 +28,85 @@ none_of line (item ∷ items) all =
 same_line : (line : CacheLine) (item : Resolved) → is_on_line line item ≡ true → item.line.0 ≡ line.0
 same_line line item is = grind arith
 
-below : (floor : ℕ) (line : CacheLine) (one other : Resolved) → one.line.0 < floor → floor ≤ line.0 → is_on_line line other ≡ true → is_on_line one.line other ≡ false
-below floor line one other lt le is = grind arith
+apart : (floor : ℕ) (line one : CacheLine) (other : Resolved) → one.0 < floor → floor ≤ line.0 → is_on_line line other ≡ true → is_on_line one other ≡ false
+apart floor line one other lt le is = grind arith
 
-above : (floor : ℕ) (line : CacheLine) (one other : Resolved) → one.line.0 < floor → floor ≤ line.0 → is_on_line line other ≡ true → is_on_line other.line one ≡ false
-above floor line one other lt le is = grind arith
+lower_item : (floor : ℕ) (line : CacheLine) (other : Resolved) → floor ≤ line.0 → other.line.0 < floor → is_on_line line other ≡ false
+lower_item floor line other le lt = grind arith
 
-together : (line : CacheLine) (one other : Resolved) → is_on_line line one ≡ true → is_on_line line other ≡ true → is_on_line one.line other ≡ true
-together line one other is that = grind arith
+-- what explains a line before them does still
+still : (config : Sizes) (stores : StoreListing) (floor : ℕ) (line : CacheLine) (before mine : List Resolved) → floor ≤ line.0 → All (λ item. is_on_line line item ≡ true) mine
+    → (one : LineExplanation) → one.line.0 < floor → IsLineExplained config stores (items_of one.line before) one → IsLineExplained config stores (items_of one.line (before ++ mine)) one
+still config stores floor line before mine le all one lt is =
+    let none : items_of one.line mine ≡ [] = none_of one.line mine (All-weaker (λ other. is_on_line line other ≡ true) (λ other. is_on_line one.line other ≡ false) (λ other same. apart floor line one.line other lt le same) mine all) in
+    let whole : items_of one.line (before ++ mine) ≡ items_of one.line before = filter-append (is_on_line one.line) before mine ∙ ap (λ (l : List Resolved). items_of one.line before ++ l) none ∙ append-nil (items_of one.line before) in
+    subst (λ (l : List Resolved). IsLineExplained config stores l one) (sym whole) is
 
--- an item before them keeps its line's items
-kept : (config : Sizes) (stores : StoreListing) (floor : ℕ) (line : CacheLine) (before mine : List Resolved) → floor ≤ line.0 → All (λ item. is_on_line line item ≡ true) mine
-    → (item : Resolved) → item.line.0 < floor → AreExplained config stores (items_of item.line before) → AreExplained config stores (items_of item.line (before ++ mine))
-kept config stores floor line before mine le all item lt is =
-    let none : items_of item.line mine ≡ [] = none_of item.line mine (All-weaker (λ other. is_on_line line other ≡ true) (λ other. is_on_line item.line other ≡ false) (λ other same. below floor line item other lt le same) mine all) in
-    let whole : items_of item.line (before ++ mine) ≡ items_of item.line before = filter-append (is_on_line item.line) before mine ∙ ap (λ (l : List Resolved). items_of item.line before ++ l) none ∙ append-nil (items_of item.line before) in
-    subst (AreExplained config stores) (sym whole) is
+-- the line behind them has its own items alone
+only_mine : (floor : ℕ) (line : CacheLine) (before mine : List Resolved) → floor ≤ line.0 → All (λ item. is_on_line line item ≡ true) mine → All (λ item. item.line.0 < floor) before → items_of line (before ++ mine) ≡ mine
+only_mine floor line before mine le all lower =
+    let none : items_of line before ≡ [] = none_of line before (All-weaker (λ other. other.line.0 < floor) (λ other. is_on_line line other ≡ false) (λ other lt. lower_item floor line other le lt) before lower) in
+    filter-append (is_on_line line) before mine ∙ ap (λ (l : List Resolved). l ++ items_of line mine) none ∙ all_of line mine all
 
--- an item of the line behind them sees its line's items alone
-alone : (config : Sizes) (stores : StoreListing) (floor : ℕ) (line : CacheLine) (before mine : List Resolved) → floor ≤ line.0 → All (λ item. is_on_line line item ≡ true) mine → All (λ item. item.line.0 < floor) before
-    → AreExplained config stores mine → (item : Resolved) → is_on_line line item ≡ true → AreExplained config stores (items_of item.line (before ++ mine))
-alone config stores floor line before mine le all lower is item same =
-    let none : items_of item.line before ≡ [] = none_of item.line before (All-weaker (λ other. other.line.0 < floor) (λ other. is_on_line item.line other ≡ false) (λ other lt. above floor line other item lt le same) before lower) in
-    let mine_all : items_of item.line mine ≡ mine = all_of item.line mine (All-weaker (λ other. is_on_line line other ≡ true) (λ other. is_on_line item.line other ≡ true) (λ other that. together line item other same that) mine all) in
-    let whole : items_of item.line (before ++ mine) ≡ mine = filter-append (is_on_line item.line) before mine ∙ ap (λ (l : List Resolved). l ++ items_of item.line mine) none ∙ mine_all in
-    subst (AreExplained config stores) (sym whole) is
+either : (a b : Bool) → b ≡ true → (a || b) ≡ true
+either true b e = refl
+either false b e = e
+
+first : (a b : Bool) → a ≡ true → (a || b) ≡ true
+first true b e = refl
+first false b e = absurd (cc e)
+
+summed : (a m s t u : ℕ) → a ≡ s → m ≡ t → u ≡ t + s → a + m ≡ u
+summed a m s t u is more sum = omega arith
+
+one_more : (n m : ℕ) → n ≡ m → n + 1 ≡ suc m
+one_more n m e = omega arith
+
+-- the items of lines below a floor are explained
+pub record LowerLines (floor : ℕ) (config : Sizes) (stores : StoreListing) (items : List Resolved) (actions lines : ℕ) : Type 0 where
+  pub known : AreLinesExplained config stores items actions lines
+  pub done_below : All (λ one. one.line.0 < floor) known.explanations
+  pub below : All (λ item. item.line.0 < floor) items
+
+pub no_lines : (config : Sizes) (stores : StoreListing) → LowerLines 0 config stores [] 0 0
+no_lines config stores = record {
+  known = record {
+    explanations = [];
+    each = All-nil (λ one. IsLineExplained config stores (items_of one.line []) one);
+    all = All-nil (λ item. is_explained_by [] item ≡ true);
+    once = tt;
+    actions_are = refl;
+    lines_are = refl;
+  };
+  done_below = All-nil (λ one. one.line.0 < 0);
+  below = All-nil (λ item. item.line.0 < 0);
+}
 
 -- one line more
-pub joined : (config : Sizes) (stores : StoreListing) (floor : ℕ) (line : CacheLine) (before mine : List Resolved) → floor ≤ line.0 → All (λ item. is_on_line line item ≡ true) mine → All (λ item. item.line.0 < floor) before
-    → AreLinesExplained config stores before → AreExplained config stores mine → AreLinesExplained config stores (before ++ mine)
-joined config stores floor line before mine le all lower explained is =
-    All-append (λ item. AreExplained config stores (items_of item.line (before ++ mine))) before mine
-    (λ k d lt. kept config stores floor line before mine le all (get_or before k d) (lower k d lt) (explained k d lt))
-    (λ k d lt. alone config stores floor line before mine le all lower is (get_or mine k d) (all k d lt))
-
-pub lower_still : (floor : ℕ) (line : CacheLine) (before mine : List Resolved) → floor ≤ line.0 → All (λ item. is_on_line line item ≡ true) mine → All (λ item. item.line.0 < floor) before
-    → All (λ item. item.line.0 < line.0 + 1) (before ++ mine)
-lower_still floor line before mine le all lower =
-    All-append (λ item. item.line.0 < line.0 + 1) before mine
-    (All-weaker (λ item. item.line.0 < floor) (λ item. item.line.0 < line.0 + 1) (λ item lt. omega arith) before lower)
-    (All-weaker (λ item. is_on_line line item ≡ true) (λ item. item.line.0 < line.0 + 1) (λ item same. let is = same_line line item same in omega arith) mine all)
+joined : (config : Sizes) (stores : StoreListing) (floor next : ℕ) (line : CacheLine) (before mine : List Resolved) (actions lines more : ℕ) → floor ≤ line.0 → next ≡ line.0 + 1 → 1 ≤ length mine → All (λ item. is_on_line line item ≡ true) mine
+    → LowerLines floor config stores before actions lines → AreItemsExplained config stores mine more → LowerLines next config stores (before ++ mine) (actions + more) (lines + 1)
+joined config stores floor next line before mine actions lines more le is some all lower done =
+    let known = lower.known in
+    let es : List LineExplanation = known.explanations in
+    let one : LineExplanation = record { line = line; memory = done.memory; witness = done.witness } in
+    record {
+      known = record {
+        explanations = one ∷ es;
+        each = All-cons (λ other. IsLineExplained config stores (items_of other.line (before ++ mine)) other) one es
+            (subst (λ (l : List Resolved). IsLineExplained config stores l one) (sym (only_mine floor line before mine le all lower.below)) (record { some = some; explained = done.explained }))
+            (λ k d lt. still config stores floor line before mine le all (get_or es k d) (lower.done_below k d lt) (known.each k d lt));
+        all = All-append (λ item. is_explained_by (one ∷ es) item ≡ true) before mine
+            (All-weaker (λ item. is_explained_by es item ≡ true) (λ item. is_explained_by (one ∷ es) item ≡ true) (λ item has. either (is_on_line line item) (is_explained_by es item) has) before known.all)
+            (All-weaker (λ item. is_on_line line item ≡ true) (λ item. is_explained_by (one ∷ es) item ≡ true) (λ item same. first (is_on_line line item) (is_explained_by es item) same) mine all);
+        once = (All-weaker (λ other. other.line.0 < floor) (λ other. other.line.0 < line.0) (λ other lt. omega arith) es lower.done_below, known.once);
+        actions_are = summed actions more (sum_by action_count es) (action_count one) (sum_by action_count (one ∷ es)) known.actions_are done.counted (sum_by-cons action_count one es);
+        lines_are = one_more lines (length es) known.lines_are;
+      };
+      done_below = All-cons (λ other. other.line.0 < next) one es (omega arith) (All-weaker (λ other. other.line.0 < floor) (λ other. other.line.0 < next) (λ other lt. omega arith) es lower.done_below);
+      below = All-append (λ item. item.line.0 < next) before mine
+          (All-weaker (λ item. item.line.0 < floor) (λ item. item.line.0 < next) (λ item lt. omega arith) before lower.below)
+          (All-weaker (λ item. is_on_line line item ≡ true) (λ item. item.line.0 < next) (λ item same. let e = same_line line item same in omega arith) mine all);
+    }
 
 -- what is taken further
 pub taken_further : (n m : ℕ) (items : List Resolved) → take (n + m) items ≡ take n items ++ take m (drop n items)
@@ -76,22 +116,20 @@ taken_further n m items =
 long_rest : (n : ℕ) (items : List Resolved) → n ≤ length items → length (drop n items) + n ≡ length items
 long_rest n items within = let long = length-drop n items in omega arith
 
--- all that is known once the items of one more line are taken
-pub step : (config : Sizes) (stores : StoreListing) (floor n m : ℕ) (line : CacheLine) (items : List Resolved) → floor ≤ line.0 → All (λ item. item.line.0 < floor) (take n items) → AreLinesExplained config stores (take n items)
-    → All (λ item. is_on_line line item ≡ true) (take m (drop n items)) → AreExplained config stores (take m (drop n items))
-    → All (λ item. item.line.0 < line.0 + 1) (take (n + m) items) × AreLinesExplained config stores (take (n + m) items)
-step config stores floor n m line items le lower explained all is =
-    subst (λ (l : List Resolved). All (λ item. item.line.0 < line.0 + 1) l × AreLinesExplained config stores l) (sym (taken_further n m items))
-    (lower_still floor line (take n items) (take m (drop n items)) le all lower, joined config stores floor line (take n items) (take m (drop n items)) le all lower explained is)
+some_taken : (m : ℕ) (rest : List Resolved) → 1 ≤ m → m ≤ length rest → 1 ≤ length (take m rest)
+some_taken m rest some within = omega (arith, length-take m rest)
 
--- the same of a part that is named
-pub front_step : (config : Sizes) (stores : StoreListing) (floor n m next : ℕ) (line : CacheLine) (items rest : List Resolved) → rest ≡ drop n items → n ≤ length items → m ≤ length rest → next ≡ line.0 + 1 → floor ≤ line.0 → All (λ item. item.line.0 < floor) (take n items) → AreLinesExplained config stores (take n items)
-    → All (λ item. is_on_line line item ≡ true) (take m rest) → AreExplained config stores (take m rest)
-    → (n + m ≤ length items) × All (λ item. item.line.0 < next) (take (n + m) items) × AreLinesExplained config stores (take (n + m) items)
-front_step config stores floor n m next line items rest same within fits is le lower explained all done =
+-- all that is known once the items of one more line are taken
+pub front_step : (config : Sizes) (stores : StoreListing) (floor n m next actions lines more : ℕ) (line : CacheLine) (items rest : List Resolved) → rest ≡ drop n items → n ≤ length items → m ≤ length rest → 1 ≤ m → next ≡ line.0 + 1 → floor ≤ line.0
+    → LowerLines floor config stores (take n items) actions lines → All (λ item. is_on_line line item ≡ true) (take m rest) → AreItemsExplained config stores (take m rest) more
+    → (n + m ≤ length items) × LowerLines next config stores (take (n + m) items) (actions + more) (lines + 1)
+front_step config stores floor n m next actions lines more line items rest same within fits some is le lower all done =
     let long : length rest + n ≡ length items = ap (λ (l : List Resolved). length l + n) same ∙ long_rest n items within in
-    let known = step config stores floor n m line items le lower explained (subst (λ (l : List Resolved). All (λ item. is_on_line line item ≡ true) (take m l)) same all) (subst (λ (l : List Resolved). AreExplained config stores (take m l)) same done) in
-    (omega arith, subst (λ (k : ℕ). All (λ item. item.line.0 < k) (take (n + m) items)) (sym is) known.0, known.1)
+    let further : take (n + m) items ≡ take n items ++ take m rest = taken_further n m items ∙ ap (λ (l : List Resolved). take n items ++ take m l) (sym same) in (
+      omega arith,
+      subst (λ (l : List Resolved). LowerLines next config stores l (actions + more) (lines + 1)) (sym further)
+          (joined config stores floor next line (take n items) (take m rest) actions lines more le is (some_taken m rest some fits) all lower done),
+    )
 
 same_number : (line : CacheLine) (item : Resolved) → item.line.0 ≡ line.0 → is_on_line line item ≡ true
 same_number line item is = grind arith

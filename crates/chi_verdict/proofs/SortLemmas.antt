@@ -8,7 +8,9 @@ use Rattle.std.proofs.lemmas.List.Sorted.{All-permutation, IsPermutation-sym}
 use Rattle.chi_slice.specs.Words.{Sizes}
 use Rattle.chi_explain.specs.declared.observed.StoreListing.{StoreListing}
 use Rattle.chi_resolution.specs.declared.lines.Resolved.{Resolved}
-use Rattle.chi_verdict.specs.Lines.{AreExplained, AreLinesExplained, is_on_line, items_of}
+use Rattle.chi_explain.specs.declared.observed.Observed.TheVariants as observed
+use Rattle.chi_resolution.specs.declared.lines.CacheLine.{CacheLine}
+use Rattle.chi_verdict.specs.Lines.{AreLinesExplained, IsLineExplained, IsReordered, is_explained_by, is_on_line, items_of}
 
 abbrev pub line_number : Resolved → ℕ
 line_number item = item.line.0
@@ -30,12 +32,24 @@ ties_are one other =
     let second : is_lt (nat_cmp other.line.0 one.line.0) ≡ nat_lt other.line.0 one.line.0 = less (nat_lt other.line.0 one.line.0) (other.line.0 == one.line.0) in
     rw (first, second) (tie one.line.0 other.line.0)
 
+-- some item of a line
+abbrev any_item : CacheLine → Resolved
+any_item line = record { at = 0; line = line; flit = observed.Load (record { 0 = 0 }) (record { 0 = 0 }) 0 }
+
 same_items : (items sorted : List Resolved) → IsStableByKey line_number nat_cmp items sorted → (one : Resolved) → items_of one.line sorted ≡ items_of one.line items
 same_items items sorted stable one =
     sym (filter_agree (ties by_line one) (is_on_line one.line) (ties_are one) sorted) ∙ stable one ∙ filter_agree (ties by_line one) (is_on_line one.line) (ties_are one) items
 
+pub reordered : (items sorted : List Resolved) → IsPermutation items sorted → IsStableByKey line_number nat_cmp items sorted → IsReordered items sorted
+reordered items sorted moved stable = record { moved = moved; kept = λ line. same_items items sorted stable (any_item line) }
+
 -- what is explained in one order is in the other
-pub unsorted : (config : Sizes) (stores : StoreListing) (items sorted : List Resolved) → IsPermutation items sorted → IsStableByKey line_number nat_cmp items sorted → AreLinesExplained config stores sorted → AreLinesExplained config stores items
-unsorted config stores items sorted moved stable explained =
-    All-permutation (λ item. AreExplained config stores (items_of item.line items)) sorted items (IsPermutation-sym items sorted moved)
-    (All-weaker (λ item. AreExplained config stores (items_of item.line sorted)) (λ item. AreExplained config stores (items_of item.line items)) (λ item is. subst (AreExplained config stores) (same_items items sorted stable item) is) sorted explained)
+pub unsorted : (config : Sizes) (stores : StoreListing) (items sorted : List Resolved) (actions lines : ℕ) → IsReordered items sorted → AreLinesExplained config stores sorted actions lines → AreLinesExplained config stores items actions lines
+unsorted config stores items sorted actions lines order known = record {
+  explanations = known.explanations;
+  each = All-weaker (λ one. IsLineExplained config stores (items_of one.line sorted) one) (λ one. IsLineExplained config stores (items_of one.line items) one) (λ one is. subst (λ (mine : List Resolved). IsLineExplained config stores mine one) (order.kept one.line) is) known.explanations known.each;
+  all = All-permutation (λ item. is_explained_by known.explanations item ≡ true) sorted items (IsPermutation-sym items sorted order.moved) known.all;
+  once = known.once;
+  actions_are = known.actions_are;
+  lines_are = known.lines_are;
+}

@@ -1,61 +1,91 @@
--- What is said of a report where all is explained.
-use Rattle.std.proofs.Common.{◌≡◌, ◌∙◌, ℕ, Bool, true, false, List, length, nat_lt, take, Option, Some, None, Result, Ok, Err, IfOk, IfSome, IsOk, OnOk, refl, subst, sym, arith, if◌then◌else◌}
-use Rattle.std.proofs.lemmas.Bool.{ltb-false}
+-- What is said of a report, from what its parts say.
+use Rattle.std.proofs.Common.{◌≡◌, ◌≢◌, ◌∙◌, ◌-◌, ◌<◌, ℕ, Bool, true, false, not, List, length, nat_lt, take, Option, Some, None, Result, Ok, Err, IfErr, IfOk, IfSome, refl, subst, sym, ap, arith, if◌then◌else◌}
+use Rattle.std.specs.List.{count_by}
+use Rattle.std.proofs.lemmas.Bool.{lt-ltb, ltb-false, ltb-true}
 use Rattle.std.proofs.lemmas.List.{length-take, take_all}
 use Rattle.chi_slice.specs.Words.{Sizes}
+use Rattle.chi_explain.specs.declared.observed.StoreListing.{StoreListing}
+use Rattle.chi_trace.specs.Faults.{TraceFails}
 use Rattle.chi_trace.specs.Files.{trace_of}
 use Rattle.chi_trace.specs.declared.faults.TraceFault.{TraceFault}
-use Rattle.chi_trace.specs.declared.faults.TraceFault.TheVariants.{TooLarge}
+use Rattle.chi_trace.specs.declared.faults.TraceFault.TheVariants.{NoMemory, TooLarge, MissingNewline, FewWords, BadWord}
+use Rattle.chi_trace.specs.declared.fields.Address.{Address}
 use Rattle.chi_trace.specs.declared.flits.Seen.{Seen}
 use Rattle.chi_resolution.specs.Resolution.{resolution_of}
 use Rattle.chi_resolution.specs.declared.lines.Resolved.{Resolved}
 use Rattle.chi_resolution.specs.declared.reasons.IdFault.{IdFault}
 use Rattle.chi_resolution.specs.declared.resolution.Options.{Options}
 use Rattle.chi_verdict.specs.declared.reports.TraceOutcome.{TraceOutcome}
-use Rattle.chi_verdict.specs.declared.reports.TraceOutcome.TheVariants.{Explained, Faulty, Malformed}
-use Rattle.chi_verdict.specs.Verdicts.{AreFlitsExplained, IfExplained, IsTraceExplained, verdict_sizes}
+use Rattle.chi_verdict.specs.declared.reports.TraceOutcome.TheVariants.{Malformed}
+use Rattle.chi_verdict.specs.declared.reports.TraceStop.{TraceStop}
+use Rattle.chi_verdict.specs.declared.reports.TraceTotals.{TraceTotals}
 use Rattle.chi_verdict.specs.Lines.{AreLinesExplained}
-
-said : {P Q : Type 0} (outcome : TraceOutcome) → (P → Q) → IfExplained outcome P → IfExplained outcome Q
-said Explained f is = f is
-said Faulty f is = tt
-said Malformed f is = tt
+use Rattle.chi_verdict.specs.Texts.{BeginsWith, IsOutcomeText, malformed_front}
+use Rattle.chi_verdict.specs.Verdicts.{IsFlitsReport, IsJudged, IsReport, IsReportOf, IsStop, is_seen_access, outcome_of, verdict_sizes}
 
 -- the same fact in other words
-pub carried : {X E P Q : Type 0} (of : X → TraceOutcome) (r : Result X E) → (P → Q) → IfOk r (λ report. IfExplained (of report) P) → IfOk r (λ report. IfExplained (of report) Q)
-carried of (Ok report) f is = said (of report) f is
-carried of (Err e) f is = tt
+pub carried : {X E : Type 0} (P Q : X → Type 0) (r : Result X E) → ((x : X) → P x → Q x) → IfOk r P → IfOk r Q
+carried P Q (Ok x) f is = f x is
+carried P Q (Err e) f is = tt
 
-not_then : (b : Bool) (read : Result (List Seen) TraceFault) (seen : List Seen) → (if b then Err TooLarge else read) ≡ Ok seen → b ≡ false
-not_then false read seen e = refl
-not_then true read seen e = absurd (cc e)
+too_large : (b : Bool) (read : Result (List Seen) TraceFault) → b ≡ true → (if b then Err TooLarge else read) ≡ Err TooLarge
+too_large true read e = refl
+too_large false read e = absurd (cc e)
 
--- of a file that is a trace the bytes that are read are all
-pub whole : (file : List ℕ) (seen : List Seen) → trace_of (take 67108865 file) ≡ Ok seen → take 67108865 file ≡ file
+-- what is read of a file tells what the file is
+whole_by : (file : List ℕ) (b : Bool) → nat_lt 67108864 (length file) ≡ b → trace_of (take 67108865 file) ≡ trace_of file
 unfolding trace_of
-whole file seen read =
-    let fits : nat_lt 67108864 (length (take 67108865 file)) ≡ false = not_then _ _ seen read in
-    take_all 67108865 file (omega (arith, length-take 67108865 file, ltb-false 67108864 (length (take 67108865 file)) fits))
+whole_by file true is =
+    let long : 67108864 < length file = ltb-true 67108864 (length file) is in
+    too_large _ _ (lt-ltb 67108864 (length (take 67108865 file)) (omega (arith, length-take 67108865 file))) ∙ sym (too_large _ _ is)
+whole_by file false is = ap trace_of (take_all 67108865 file (omega (arith, ltb-false 67108864 (length file) is)))
 
-pub of_whole : (options : Options) (file bytes : List ℕ) → bytes ≡ take 67108865 file → IsTraceExplained options bytes → IsTraceExplained options file
-of_whole options file bytes same is = subst (IsTraceExplained options) (same ∙ whole file is.seen (subst (λ (b : List ℕ). trace_of b ≡ Ok is.seen) same is.read)) is
+pub whole : (file : List ℕ) → trace_of (take 67108865 file) ≡ trace_of file
+whole file = whole_by file (nat_lt 67108864 (length file)) refl
 
-on_ok : {X E P : Type 0} (r : Result X E) → IsOk r → OnOk r P → P
-on_ok (Ok x) ok is = is
-on_ok (Err e) ok is = absurd (cc ok)
+pub of_whole : (options : Options) (only : Option Address) (left : Option (List ℕ)) (bytes : List ℕ) (outcome : TraceOutcome) (text : List ℕ) → IfSome left (λ file. bytes ≡ take 67108865 file) → IsReport options only bytes outcome text → IfSome left (λ file. IsReport options only file outcome text)
+of_whole options only None bytes outcome text same is = tt
+of_whole options only (Some file) bytes outcome text same is = subst (λ (read : Result (List Seen) TraceFault). IsReportOf options only read outcome text) (ap trace_of same ∙ whole file) is
+
+-- a fault that reading answers is that of the grammar
+failed : (fault : TraceFault) (read : Result (List Seen) TraceFault) → TraceFails fault read → fault ≢ NoMemory → read ≡ Err fault
+failed NoMemory read fails other = absurd (other refl)
+failed TooLarge read fails other = fails
+failed (MissingNewline line) read fails other = fails
+failed (FewWords line) read fails other = fails
+failed (BadWord line column) read fails other = fails
+
+pub malformed_report : {R E : Type 0} (options : Options) (only : Option Address) (read : Result (List Seen) TraceFault) (fault : TraceFault) (outcome : R → TraceOutcome) (text : R → List ℕ) (r : Result R E) → TraceFails fault read
+    → IfOk r (λ x. outcome x ≡ Malformed fault) → IfOk r (λ x. fault ≢ NoMemory) → IfOk r (λ x. BeginsWith (malformed_front fault) (text x)) → IfOk r (λ x. IsReportOf options only read (outcome x) (text x))
+malformed_report options only read fault outcome text (Ok x) fails is other said = subst (λ (of : Result (List Seen) TraceFault). IsReportOf options only of (outcome x) (text x)) (sym (failed fault read fails other)) (is, said)
+malformed_report options only read fault outcome text (Err e) fails is other said = tt
 
 -- what was judged is the trace's resolution
-pub flits_explained : {X E : Type 0} (options : Options) (seen : List Seen) (judged : Result X E) (config : Sizes) (fault : Option IdFault) (flits : List Resolved) → config ≡ verdict_sizes options.types
-    → fault ≡ (resolution_of options seen).fault → flits ≡ (resolution_of options seen).progress.table.flits → OnOk judged (fault ≡ None) → OnOk judged (AreLinesExplained config options.stores flits) → IsOk judged → AreFlitsExplained options seen
-flits_explained options seen judged config fault flits size same_fault same none all ok = record {
-  allowed = sym same_fault ∙ on_ok judged ok none;
-  explained = subst (λ (c : Sizes). AreLinesExplained c options.stores (resolution_of options seen).progress.table.flits) size (subst (AreLinesExplained config options.stores) same (on_ok judged ok all));
-}
+moved : (config config' : Sizes) (stores : StoreListing) (seen : List Seen) (fault fault' : Option IdFault) (items items' waiting waiting' : List Resolved) (outcome : TraceOutcome) → config ≡ config' → fault ≡ fault' → items ≡ items' → waiting ≡ waiting'
+    → IsJudged config stores seen fault items waiting outcome → IsJudged config' stores seen fault' items' waiting' outcome
+moved config config' stores seen fault fault' items items' waiting waiting' outcome size same_fault same same_waiting is =
+    subst (λ (w : List Resolved). IsJudged config' stores seen fault' items' w outcome) same_waiting
+    (subst (λ (i : List Resolved). IsJudged config' stores seen fault' i waiting outcome) same
+    (subst (λ (f : Option IdFault). IsJudged config' stores seen f items waiting outcome) same_fault
+    (subst (λ (c : Sizes). IsJudged c stores seen fault items waiting outcome) size is)))
 
--- so the report that was given is one on the file
-pub told : {R E : Type 0} (options : Options) (left : Option (List ℕ)) (bytes : List ℕ) (of : R → TraceOutcome) (report : R) (given : Result R E) → IfSome left (λ file. bytes ≡ take 67108865 file) → IfExplained (of report) (IsTraceExplained options bytes)
-    → IfOk given (λ r. r ≡ report) → IfOk given (λ r. IfSome left (λ file. IfExplained (of r) (IsTraceExplained options file)))
-told options None bytes of report (Ok r) front is same = tt
-told options None bytes of report (Err e) front is same = tt
-told options (Some file) bytes of report (Ok r) front is same = rw same (said (of report) (of_whole options file bytes front) is)
-told options (Some file) bytes of report (Err e) front is same = tt
+pub flits_report : {R E : Type 0} (options : Options) (only : Option Address) (seen : List Seen) (judged : Result TraceTotals TraceStop) (config : Sizes) (fault : Option IdFault) (items waiting : List Resolved) (outcome : R → TraceOutcome) (text : R → List ℕ) (r : Result R E)
+    → config ≡ verdict_sizes options.types → fault ≡ (resolution_of options seen).fault → items ≡ (resolution_of options seen).progress.table.flits → waiting ≡ (resolution_of options seen).progress.table.waiting
+    → IsJudged config options.stores seen fault items waiting (outcome_of judged) → IfOk r (λ x. outcome x ≡ outcome_of judged) → IfOk r (λ x. IsOutcomeText seen only (outcome x) (text x)) → IfOk r (λ x. IsFlitsReport options only seen (outcome x) (text x))
+flits_report options only seen judged config fault items waiting outcome text (Ok x) size same_fault same same_waiting of is told = record {
+  verdict = subst (λ (o : TraceOutcome). IsJudged (verdict_sizes options.types) options.stores seen (resolution_of options seen).fault (resolution_of options seen).progress.table.flits (resolution_of options seen).progress.table.waiting o) (sym is)
+      (moved config (verdict_sizes options.types) options.stores seen fault (resolution_of options seen).fault items (resolution_of options seen).progress.table.flits waiting (resolution_of options seen).progress.table.waiting (outcome_of judged) size same_fault same same_waiting of);
+  told = told;
+}
+flits_report options only seen judged config fault items waiting outcome text (Err e) size same_fault same same_waiting of is told = tt
+
+pub judged : (config : Sizes) (stores : StoreListing) (seen : List Seen) (fault : Option IdFault) (items waiting : List Resolved) (actions lines : ℕ) (r : Result TraceTotals TraceStop) → AreLinesExplained config stores items actions lines
+    → IfOk r (λ total. fault ≡ None) → IfOk r (λ total. total.flits ≡ count_by (λ one. not (is_seen_access one)) seen) → IfOk r (λ total. total.accesses ≡ count_by is_seen_access seen - length waiting) → IfOk r (λ total. total.actions ≡ actions) → IfOk r (λ total. total.lines ≡ lines)
+    → IfErr r (IsStop fault) → IsJudged config stores seen fault items waiting (outcome_of r)
+judged config stores seen fault items waiting actions lines (Ok total) known allowed flits accesses same_actions same_lines err = record {
+  allowed = allowed;
+  flits = flits;
+  accesses = accesses;
+  lines = subst (λ (n : ℕ). AreLinesExplained config stores items total.actions n) (sym same_lines) (subst (λ (n : ℕ). AreLinesExplained config stores items n lines) (sym same_actions) known);
+}
+judged config stores seen fault items waiting actions lines (Err stop) known allowed flits accesses same_actions same_lines err = err

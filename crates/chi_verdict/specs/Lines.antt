@@ -1,8 +1,10 @@
 -- What it is for the lines of a trace to be explained (docs/TRACES.md, "What is printed").
-use Rattle.std.specs.Prelude.{◌≡◌, ◌==◌, ℕ, Bool, List, map}
-use Rattle.std.specs.List.{All, filter}
+use Rattle.std.specs.Prelude.{◌≡◌, ◌==◌, ◌<◌, ◌≤◌, ℕ, Bool, true, false, List, [], ◌∷◌, length, map}
+use Rattle.std.specs.List.{All, count_by, filter, list_any, sum_by}
+use Rattle.std.specs.List.Sorted.{IsPermutation}
 use Rattle.chi_slice.specs.Words.{Sizes}
 use Rattle.chi_explain.specs.declared.explanations.WitnessItem.{WitnessItem}
+use Rattle.chi_explain.specs.declared.explanations.WitnessItem.TheVariants.{Snoop}
 use Rattle.chi_explain.specs.declared.observed.Observed.{Observed}
 use Rattle.chi_explain.specs.declared.observed.StoreListing.{StoreListing}
 use Rattle.chi_explain.specs.Explained.{IsExplained}
@@ -21,12 +23,50 @@ items_of line items = filter (is_on_line line) items
 abbrev pub said_by : List Resolved → List Observed
 said_by items = map (λ item. item.flit) items
 
--- a witness explains just the items of one cache line, its flits, loads and stores, in their order
-pub record AreExplained (config : Sizes) (stores : StoreListing) (items : List Resolved) : Type 0 where
+-- another order, in which the items of each line stand as before
+pub record IsReordered (items sorted : List Resolved) : Type 0 where
+  pub moved : IsPermutation items sorted
+  pub kept : (line : CacheLine) → items_of line sorted ≡ items_of line items
+
+-- what explains the items of a line: what its memory had at first, and what was done
+pub record LineExplanation : Type 0 where
+  pub line : CacheLine
+  pub memory : List ℕ
+  pub witness : List WitnessItem
+
+-- an action is done; that a snoop is seen is none
+abbrev pub is_action : WitnessItem → Bool
+is_action (Snoop agent) = false
+is_action other = true
+
+abbrev pub action_count : LineExplanation → ℕ
+action_count one = count_by is_action one.witness
+
+-- these items of one line are explained by so many actions
+pub record AreItemsExplained (config : Sizes) (stores : StoreListing) (items : List Resolved) (actions : ℕ) : Type 0 where
   pub memory : List ℕ
   pub witness : List WitnessItem
   pub explained : IsExplained config stores memory witness (said_by items)
+  pub counted : actions ≡ count_by is_action witness
 
--- and so it is of each cache line that an item is of
-abbrev pub AreLinesExplained : Sizes → StoreListing → List Resolved → Type 0
-AreLinesExplained config stores items = All (λ item. AreExplained config stores (items_of item.line items)) items
+-- it explains just these items of its line, of which there are some: its flits, loads and stores, in their order
+pub record IsLineExplained (config : Sizes) (stores : StoreListing) (items : List Resolved) (one : LineExplanation) : Type 0 where
+  pub some : 1 ≤ length items
+  pub explained : IsExplained config stores one.memory one.witness (said_by items)
+
+abbrev pub is_explained_by : List LineExplanation → Resolved → Bool
+is_explained_by explanations item = list_any (λ one. is_on_line one.line item) explanations
+
+-- no two are of one line
+abbrev pub AreOfTheirOwnLines : List LineExplanation → Type 0
+AreOfTheirOwnLines [] = Unit {0}
+AreOfTheirOwnLines (one ∷ others) = All (λ other. other.line.0 < one.line.0) others × AreOfTheirOwnLines others
+
+-- the items of each of so many cache lines are explained, by so many actions in all
+pub record AreLinesExplained (config : Sizes) (stores : StoreListing) (items : List Resolved) (actions lines : ℕ) : Type 0 where
+  pub explanations : List LineExplanation
+  pub each : All (λ one. IsLineExplained config stores (items_of one.line items) one) explanations
+  pub all : All (λ item. is_explained_by explanations item ≡ true) items
+  pub once : AreOfTheirOwnLines explanations
+  pub actions_are : actions ≡ sum_by action_count explanations
+  pub lines_are : lines ≡ length explanations

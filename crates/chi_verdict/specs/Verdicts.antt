@@ -1,16 +1,31 @@
--- What it is for a trace to be explained (docs/TRACES.md, "What is printed").
-use Rattle.std.specs.Prelude.{◌≡◌, ℕ, List, [], ◌∷◌, Option, None, Ok}
+-- What it is for a trace to be explained, and what is told of one that isn't (docs/TRACES.md, "What is printed").
+use Rattle.std.specs.Prelude.{◌≡◌, ◌<◌, ◌+◌, ◌-◌, ℕ, Bool, true, false, not, List, [], ◌∷◌, Option, Some, None, Result, Ok, Err, IfSome, IsErrOf, length}
 use Rattle.std.specs.Io.KnownBytes.{Appends, Keeps}
+use Rattle.std.specs.List.{count_by}
+use Rattle.chi_devices.specs.Devices.{AppendsFront}
+use Rattle.chi_script.specs.declared.faults.Fault.{Fault}
+use Rattle.chi_script.specs.declared.faults.Fault.TheVariants as faults
 use Rattle.chi_slice.specs.Words.{four_types, two_types, Sizes}
+use Rattle.chi_explain.specs.declared.observed.StoreListing.{StoreListing}
 use Rattle.chi_trace.specs.Files.{trace_of}
+use Rattle.chi_trace.specs.declared.faults.TraceFault.{TraceFault}
+use Rattle.chi_trace.specs.declared.fields.Address.{Address}
 use Rattle.chi_trace.specs.declared.flits.Seen.{Seen}
-use Rattle.chi_resolution.specs.Resolution.{resolution_of}
+use Rattle.chi_trace.specs.declared.opcodes.Opcode.{Opcode}
+use Rattle.chi_trace.specs.declared.opcodes.Opcode.TheVariants.{Load, Store}
+use Rattle.chi_resolution.specs.Resolution.{resolution_of, Outcome}
 use Rattle.chi_resolution.specs.declared.ledger.Types.{Types}
 use Rattle.chi_resolution.specs.declared.ledger.Types.TheVariants.{Two, Four, Any}
+use Rattle.chi_resolution.specs.declared.lines.Resolved.{Resolved}
+use Rattle.chi_resolution.specs.declared.reasons.IdFault.{IdFault}
 use Rattle.chi_resolution.specs.declared.resolution.Options.{Options}
 use Rattle.chi_verdict.specs.declared.reports.TraceOutcome.{TraceOutcome}
 use Rattle.chi_verdict.specs.declared.reports.TraceOutcome.TheVariants.{Explained, Faulty, Malformed}
+use Rattle.chi_verdict.specs.declared.reports.TraceStop.{TraceStop}
+use Rattle.chi_verdict.specs.declared.reports.TraceStop.TheVariants.{Ids, Flit, Long, Undone}
+use Rattle.chi_verdict.specs.declared.reports.TraceTotals.{TraceTotals}
 use Rattle.chi_verdict.specs.Lines.{AreLinesExplained}
+use Rattle.chi_verdict.specs.Texts.{BeginsWith, IsOutcomeText, malformed_front}
 
 -- a node of one line with eight agents, and as many records as a journal may have
 abbrev pub verdict_sizes : Types → Sizes
@@ -18,25 +33,94 @@ verdict_sizes Two = two_types 8 1 1 1 1 65536
 verdict_sizes Any = two_types 8 1 1 1 1 65536
 verdict_sizes Four = four_types 8 1 1 (1 ∷ 1 ∷ 1 ∷ 1 ∷ []) 65536
 
--- the ids and the ledger allow all the flits, and those of each line are explained
-pub record AreFlitsExplained (options : Options) (seen : List Seen) : Type 0 where
-  pub allowed : (resolution_of options seen).fault ≡ None
-  pub explained : AreLinesExplained (verdict_sizes options.types) options.stores (resolution_of options seen).progress.table.flits
+-- loads and stores are no flits
+abbrev pub is_access : Opcode → Bool
+is_access Load = true
+is_access Store = true
+is_access other = false
 
--- a file is a trace, whose flits are explained
-pub record IsTraceExplained (options : Options) (file : List ℕ) : Type 0 where
-  pub seen : List Seen
-  pub read : trace_of file ≡ Ok seen
-  pub explained : AreFlitsExplained options seen
+abbrev pub is_seen_access : Seen → Bool
+is_seen_access seen = is_access seen.opcode
 
--- where the outcome is that all is explained
-abbrev pub IfExplained : TraceOutcome → Type 0 → Type 0
-IfExplained Explained P = P
-IfExplained Faulty P = Unit {0}
-IfExplained Malformed P = Unit {0}
+-- the ids and the ledger allow all the flits, and each line's flits, loads and stores are explained; so many there
+-- are, but for the loads and stores that wait
+pub record IsAllExplained (config : Sizes) (stores : StoreListing) (seen : List Seen) (fault : Option IdFault) (items waiting : List Resolved) (totals : TraceTotals) : Type 0 where
+  pub allowed : fault ≡ None
+  pub flits : totals.flits ≡ count_by (λ one. not (is_seen_access one)) seen
+  pub accesses : totals.accesses ≡ count_by is_seen_access seen - length waiting
+  pub lines : AreLinesExplained config stores items totals.actions totals.lines
+
+-- a flit before the first that the ids or the ledger don't allow
+abbrev pub IsBefore : ℕ → Option IdFault → Type 0
+IsBefore at None = Unit {0}
+IsBefore at (Some fault) = at < fault.at
+
+-- what is told as the first that isn't explained: what the ids and the ledger don't allow is told so, unless another
+-- flit comes before it
+abbrev pub IsStop : Option IdFault → TraceStop → Type 0
+IsStop fault (Ids told) = fault ≡ Some told
+IsStop fault (Flit at cause) = IsBefore at fault
+IsStop fault (Long line) = fault ≡ None
+IsStop fault (Undone line) = fault ≡ None
+
+-- what comes of flits that are resolved so
+abbrev pub IsJudged : Sizes → StoreListing → List Seen → Option IdFault → List Resolved → List Resolved → TraceOutcome → Type 0
+IsJudged config stores seen fault items waiting (Explained totals) = IsAllExplained config stores seen fault items waiting totals
+IsJudged config stores seen fault items waiting (Faulty stop) = IsStop fault stop
+IsJudged config stores seen fault items waiting (Malformed cause) = ⊥
+
+abbrev pub outcome_of : Result TraceTotals TraceStop → TraceOutcome
+outcome_of (Ok totals) = Explained totals
+outcome_of (Err stop) = Faulty stop
+
+abbrev pub IsVerdictOf : Options → List Seen → Outcome → TraceOutcome → Type 0
+IsVerdictOf options seen resolved outcome = IsJudged (verdict_sizes options.types) options.stores seen resolved.fault resolved.progress.table.flits resolved.progress.table.waiting outcome
+
+-- what comes of the flits of a trace, and is told of them
+pub record IsFlitsReport (options : Options) (only : Option Address) (seen : List Seen) (outcome : TraceOutcome) (text : List ℕ) : Type 0 where
+  pub verdict : IsVerdictOf options seen (resolution_of options seen) outcome
+  pub told : IsOutcomeText seen only outcome text
+
+-- what comes of a file, by what the grammar reads
+abbrev pub IsReportOf : Options → Option Address → Result (List Seen) TraceFault → TraceOutcome → List ℕ → Type 0
+IsReportOf options only (Ok seen) outcome text = IsFlitsReport options only seen outcome text
+IsReportOf options only (Err fault) outcome text = (outcome ≡ Malformed fault) × BeginsWith (malformed_front fault) text
+
+abbrev pub IsReport : Options → Option Address → List ℕ → TraceOutcome → List ℕ → Type 0
+IsReport options only file outcome text = IsReportOf options only (trace_of file) outcome text
 
 -- a report was written, but where the file is malformed: then nothing was
-abbrev pub IsVerdictWritten : TraceOutcome → Option (List ℕ) → Option (List ℕ) → List ℕ → Type 0
-IsVerdictWritten Explained old new text = Appends old new text
-IsVerdictWritten Faulty old new text = Appends old new text
-IsVerdictWritten Malformed old new text = Keeps old new
+abbrev pub IsReportWritten : TraceOutcome → Option (List ℕ) → Option (List ℕ) → List ℕ → Type 0
+IsReportWritten (Explained totals) old new text = Appends old new text
+IsReportWritten (Faulty stop) old new text = Appends old new text
+IsReportWritten (Malformed fault) old new text = Keeps old new
+
+-- of a report on a file that isn't malformed a front was written, no more
+abbrev pub is_malformed : TraceOutcome → Bool
+is_malformed (Malformed fault) = true
+is_malformed other = false
+
+pub record IsReportFront (options : Options) (only : Option Address) (file : List ℕ) (old new : Option (List ℕ)) : Type 0 where
+  pub outcome : TraceOutcome
+  pub text : List ℕ
+  pub report : IsReport options only file outcome text
+  pub wellformed : is_malformed outcome ≡ false
+  pub front : AppendsFront old new text
+
+-- what holds where the writing of a report failed
+abbrev pub AtWrite : {A : Type 0} → Result A Fault → Type 0 → Type 0
+AtWrite result holds = IsErrOf result faults.Write → holds
+
+-- why there is no report, by the counts of failures of input and output, before and after
+abbrev pub IsUnreported : ℕ → ℕ → ℕ → ℕ → Fault → Type 0
+IsUnreported read read' wrote wrote' faults.Read = (read' ≡ read + 1) × (wrote' ≡ wrote)
+IsUnreported read read' wrote wrote' faults.NoMemory = (read' ≡ read) × (wrote' ≡ wrote)
+IsUnreported read read' wrote wrote' faults.Write = (read' ≡ read) × (wrote' ≡ wrote + 1)
+IsUnreported read read' wrote wrote' (faults.BadHeader line) = ⊥
+IsUnreported read read' wrote wrote' (faults.BadCommand line) = ⊥
+IsUnreported read read' wrote wrote' (faults.MissingNewline line) = ⊥
+IsUnreported read read' wrote wrote' faults.TooLarge = ⊥
+
+-- where the file is malformed nothing is written
+abbrev pub KeepsAtFault : Option (List ℕ) → Option (List ℕ) → Option (List ℕ) → Type 0
+KeepsAtFault input old new = IfSome input (λ file. (fault : TraceFault) → trace_of file ≡ Err fault → Keeps old new)

@@ -15,5 +15,5 @@ mod open_texts;
 mod reports;
 
 pub use explanations::explain;
-pub use lines::{Obstacle, TraceTotals, explain_lines};
-pub use reports::{TraceOutcome, TraceReport, report_on};
+pub use lines::{LineTotals, Obstacle, explain_lines};
+pub use reports::{TraceOutcome, TraceReport, TraceStop, TraceTotals, report_on};

@@ -1,8 +1,8 @@
 //! The cache lines of a trace, each explained by itself.
 
-ghost use Rattle.std.specs.Prelude.{◌≡◌, ◌≤◌, ◌+◌, [], true, IfOk, OnOk, length, take};
-ghost use Rattle.std.specs.List.{All};
-ghost use Rattle.chi_verdict.specs.Lines.{AreExplained, AreLinesExplained, is_on_line, said_by};
+ghost use Rattle.std.specs.Prelude.{◌≡◌, ◌≤◌, ◌+◌, [], true, IfOk, length, take};
+ghost use Rattle.std.specs.List.{All, count_by};
+ghost use Rattle.chi_verdict.specs.Lines.{AreItemsExplained, AreLinesExplained, IsReordered, is_action, is_on_line, said_by};
 
 use chi_explain::{Observed, StoreListing, Unexplained, WitnessItem};
 use chi_flit::{NoMemory, Refusal};
@@ -11,12 +11,11 @@ use chi_resolution::{CacheLine, Resolved};
 use chi_slice::Config;
 use std::alloc::{AllocError, AllocFailed, Allocator};
 
-/// How much was explained.
+/// By how many actions items are explained, and on how many lines they are.
 /// Source: `docs/TRACES.md`, "What is printed".
 #[derive(Clone, Copy, Debug, PartialEq, Eq)]
-pub struct TraceTotals {
-    pub flits: usize,
-    pub actions: usize,
+pub struct LineTotals {
+    pub actions: u128,
     pub lines: usize,
 }
 
@@ -31,7 +30,8 @@ pub enum Obstacle {
     Fault { at: usize, fault: LineFault },
     /// The explanation of this line has more loads and stores than a journal has room for.
     Long(CacheLine),
-    /// No explanation of this line was found that holds, though none of its flits is a fault.
+    /// No explanation of this line was found that holds, though none of its flits is a fault. No trace is known that
+    /// leads here: what a search finds is done again and compared, and this says that both differ.
     Undone(CacheLine),
 }
 
@@ -112,7 +112,7 @@ fn explain_front<A: Allocator + Copy>(
     ensures line { IfOk result
         (λ front. All (λ item. is_on_line front.line item ≡ true) (take front.count items.now)) }
     ensures explained { IfOk result
-        (λ front. AreExplained config.now stores (take front.count items.now)) }
+        (λ front. AreItemsExplained config.now stores (take front.count items.now) front.actions) }
 {
     let line = match items.first() {
         Some(item) => item.line,
@@ -133,12 +133,18 @@ fn explain_front<A: Allocator + Copy>(
     }
 }
 
+/// Whether the item is an action: that a snoop is seen is none.
+fn is_action(item: &WitnessItem) -> bool
+    ensures { result ≡ is_action item.now }
+{
+    !matches!(*item, WitnessItem::Snoop(_))
+}
+
 /// How many of the items are actions.
-fn count_actions(items: &[WitnessItem]) -> usize {
-    items
-        .iter()
-        .filter(|item| !matches!(**item, WitnessItem::Snoop(_)))
-        .count()
+fn count_actions(items: &[WitnessItem]) -> usize
+    ensures { result ≡ count_by is_action items.now }
+{
+    items.iter().filter(|item| is_action(item)).count()
 }
 
 /// The number behind that of a line.
@@ -154,14 +160,11 @@ fn explain_sorted<A: Allocator + Copy>(
     config: &Config,
     stores: StoreListing,
     sorted: &[Resolved],
-) -> Result<TraceTotals, Obstacle>
-    ensures { OnOk result (AreLinesExplained config.now stores sorted.now) }
+) -> Result<LineTotals, Obstacle>
+    ensures { IfOk result
+        (λ totals. AreLinesExplained config.now stores sorted.now totals.actions totals.lines) }
 {
-    let mut totals = TraceTotals {
-        flits: sorted.len(),
-        actions: 0,
-        lines: 0,
-    };
+    let (mut actions, mut lines): (u128, usize) = (0, 0);
     let mut floor: u128 = 0;
     let mut at = 0;
     while at < sorted.len() {
@@ -171,29 +174,38 @@ fn explain_sorted<A: Allocator + Copy>(
             return Err(Obstacle::Undone(front.line));
         }
         floor = number_behind(front.line);
-        totals.actions = totals.actions.saturating_add(front.actions);
-        totals.lines = totals.lines.saturating_add(1);
+        actions += front.actions as u128;
+        lines += 1;
         at += front.count;
     }
-    Ok(totals)
+    Ok(LineTotals { actions, lines })
 }
 
-/// Puts items that ascend by line, and explains those of each line by themselves, in a node of this size: how much
-/// was explained.
+/// Puts items that ascend by line, those of each line in their order.
+fn sort_items<A: Allocator + Copy>(items: &mut Vec<Resolved, A>) -> Result<(), AllocError>
+    ensures { IsReordered items.old.items items.new.items }
+{
+    items.sort_by_key(|item| item.line.0)
+}
+
+/// Explains the items of each line by themselves, in a node of this size: by how many actions, and on how many lines.
 ///
-/// `Fault`, `Long` or `Undone` where a line isn't explained: of all lines that which comes first in the
-/// trace, where it is a flit, a load or a store that is told. `NoMemory` where memory runs out. The items stay the same, but for their
-/// order: they ascend by line, and those of a line stand as before.
+/// `Fault`, `Long` or `Undone` where a line isn't explained: a fault, where there is one, of the first of the flits,
+/// loads and stores that have one. That what is told isn't explained by any actions is tested, and no clause says it.
+/// `NoMemory` where memory runs out. Whatever the result, the items are the same then but for their order, and those of
+/// a line stand as before.
 /// Source: `docs/TRACES.md`, "What is printed".
 pub fn explain_lines<A: Allocator + Copy>(
     alloc: A,
     config: &Config,
     stores: StoreListing,
     items: &mut Vec<Resolved, A>,
-) -> Result<TraceTotals, Obstacle>
-    ensures { OnOk result (AreLinesExplained config.now stores items.old.items) }
+) -> Result<LineTotals, Obstacle>
+    ensures explained { IfOk result (λ totals.
+        AreLinesExplained config.now stores items.old.items totals.actions totals.lines) }
+    ensures same { IsReordered items.old.items items.new.items }
 {
-    items.sort_by_key(|item| item.line.0)?;
+    sort_items(items)?;
     match explain_sorted(alloc, config, stores, items) {
         Ok(totals) => Ok(totals),
         Err(obstacle) => Err(first_obstacle(alloc, stores, items, obstacle)),

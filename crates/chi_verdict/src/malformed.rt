@@ -1,6 +1,10 @@
 //! What is told of a file that is no trace.
 
-use crate::names::kept;
+ghost use Rattle.std.specs.Prelude.{◌≡◌, ◌≢◌, IfOk, IsTrue, Some, string_bytes};
+ghost use Rattle.chi_trace.specs.declared.faults.TraceFault.TheVariants as faults;
+ghost use Rattle.chi_verdict.specs.Texts.{BeginsWith, malformed_front};
+
+use crate::names::{joined, kept};
 use chi_flit::NoMemory;
 use chi_script::first_line;
 use chi_trace::{Column, TraceChannel, TraceFault};
@@ -18,6 +22,28 @@ struct Word<'a>(&'a [u8]);
 /// A column, by its name at the head of a trace.
 #[derive(Clone, Copy)]
 struct ColumnName(Column);
+
+/// How the line on a fault begins.
+#[derive(Clone, Copy)]
+struct MalformedFront(TraceFault);
+
+impl fmt::Display for MalformedFront {
+    ghost output = { λ front. Some (malformed_front front.0) };
+
+    fn fmt<W: fmt::Write>(&self, f: &mut fmt::Formatter<W>) -> fmt::Result {
+        match self.0 {
+            TraceFault::NoMemory => write!(f, "chihome: "),
+            TraceFault::TooLarge => write!(f, "chihome: file too large"),
+            TraceFault::MissingNewline(line) => {
+                write!(f, "chihome: line {line}: missing newline")
+            }
+            TraceFault::FewWords(line) => {
+                write!(f, "chihome: line {line}: fewer than eleven words")
+            }
+            TraceFault::BadWord { line, column: _ } => write!(f, "chihome: line {line}: "),
+        }
+    }
+}
 
 impl fmt::Display for Word<'_> {
     fn fmt<W: fmt::Write>(&self, f: &mut fmt::Formatter<W>) -> fmt::Result {
@@ -120,33 +146,64 @@ fn word_at(line: &[u8], place: usize) -> &[u8] {
     words.nth(place).unwrap_or(&[])
 }
 
-/// Puts what is wrong with a file of these bytes behind the text.
-pub(crate) fn write_malformed<A: Allocator>(
+/// What is wrong with a file of these bytes; `NoMemory` where that is the fault.
+pub(crate) fn malformed_text<A: Allocator + Copy>(
+    alloc: A,
+    bytes: &[u8],
+    fault: TraceFault,
+) -> Result<String<A>, NoMemory>
+    ensures fault { IfOk result (λ _. fault ≢ faults.NoMemory) }
+    ensures text { IfOk result (λ text. BeginsWith (malformed_front fault) (string_bytes text)) }
+{
+    let front = malformed_front(alloc, fault)?;
+    let mut rest = String::new(alloc);
+    write_expected(&mut rest, bytes, fault)?;
+    joined(front, &rest)
+}
+
+/// How the line on a fault begins.
+fn malformed_front<A: Allocator>(alloc: A, fault: TraceFault) -> Result<String<A>, NoMemory>
+    ensures fault { IfOk result (λ _. fault ≢ faults.NoMemory) }
+    ensures text { IfOk result (λ text. string_bytes text ≡ malformed_front fault) }
+{
+    if !is_of_file(fault) {
+        return Err(NoMemory);
+    }
+    let front = MalformedFront(fault);
+    let mut text = String::new(alloc);
+    kept(write!(text, "{front}"))?;
+    Ok(text)
+}
+
+/// Whether it is a fault of the file, and not want of memory.
+fn is_of_file(fault: TraceFault) -> bool
+    ensures { IsTrue result → fault ≢ faults.NoMemory }
+{
+    match fault {
+        TraceFault::NoMemory => false,
+        TraceFault::TooLarge => true,
+        TraceFault::MissingNewline(_) => true,
+        TraceFault::FewWords(_) => true,
+        TraceFault::BadWord { .. } => true,
+    }
+}
+
+/// Puts what was expected behind the text, and of a wrong word its column before.
+fn write_expected<A: Allocator>(
     text: &mut String<A>,
     bytes: &[u8],
     fault: TraceFault,
 ) -> Result<(), NoMemory> {
-    let written = match fault {
-        TraceFault::NoMemory => return Err(NoMemory),
-        TraceFault::TooLarge => write!(text, "chihome: file too large"),
-        TraceFault::MissingNewline(line) => write!(text, "chihome: line {line}: missing newline"),
-        TraceFault::FewWords(line) => {
-            write!(
-                text,
-                "chihome: line {line}: fewer than eleven words, expected {HEAD}"
-            )
-        }
+    match fault {
+        TraceFault::FewWords(_) => kept(write!(text, ", expected {HEAD}")),
         TraceFault::BadWord { line, column } => {
             let words = line_at(bytes, line);
             let (name, word) = (ColumnName(column), Word(word_at(words, place_of(column))));
             let wanted = expected(column, word_at(words, 0));
-            write!(
-                text,
-                "chihome: line {line}: {name} {word}, expected {wanted}"
-            )
+            kept(write!(text, "{name} {word}, expected {wanted}"))
         }
-    };
-    kept(written)
+        TraceFault::NoMemory | TraceFault::TooLarge | TraceFault::MissingNewline(_) => Ok(()),
+    }
 }
 
 /// The columns of a line.

@@ -1,10 +1,13 @@
 //! How nodes, lines and flits of a trace are written.
 
+ghost use Rattle.std.specs.Prelude.{◌≡◌, IfOk, IsOk, OnOk, string_bytes};
+ghost use Rattle.chi_verdict.specs.Texts.{BeginsWith};
+
 use chi_explain::Observed;
 use chi_flit::{Msg, NoMemory, RspDown};
 use chi_resolution::CacheLine;
 use chi_trace::{NodeId, Opcode, Seen};
-use std::alloc::AllocError;
+use std::alloc::{AllocError, Allocator};
 use std::fmt;
 
 /// A node, in hexadecimal as in a trace.
@@ -110,9 +113,20 @@ pub(crate) fn requester_of(seen: &Seen) -> (NodeId, &'static str) {
 }
 
 /// Text that was written; `NoMemory` where memory ran out.
-pub(crate) fn kept(written: Result<(), AllocError>) -> Result<(), NoMemory> {
+pub(crate) fn kept(written: Result<(), AllocError>) -> Result<(), NoMemory>
+    ensures { OnOk result (IsOk written) }
+{
     match written {
         Ok(()) => Ok(()),
         Err(_) => Err(NoMemory),
     }
+}
+
+/// The text with this behind it.
+pub(crate) fn joined<A: Allocator>(front: String<A>, rest: &str) -> Result<String<A>, NoMemory>
+    ensures { IfOk result (λ text. BeginsWith (string_bytes front) (string_bytes text)) }
+{
+    let mut text = front;
+    text.push_str(rest)?;
+    Ok(text)
 }

@@ -1,36 +1,66 @@
 //! The report on a trace.
 
-ghost use Rattle.std.specs.Prelude.{◌≡◌, IfOk, IsOk, None, OnOk, Some};
-ghost use Rattle.chi_verdict.specs.Lines.{AreLinesExplained};
-ghost use Rattle.chi_verdict.specs.Verdicts.{AreFlitsExplained, IfExplained, IsTraceExplained, verdict_sizes};
-ghost use Rattle.chi_verdict.specs.declared.reports.TraceOutcome.TheVariants as TraceOutcome;
+ghost use Rattle.std.specs.Prelude.{◌≡◌, ◌≢◌, ◌-◌, IfErr, IfOk, IfSome, None, Some, not, string_bytes};
+ghost use Rattle.std.specs.List.{count_by, slice_get};
+ghost use Rattle.chi_verdict.specs.Texts.{BeginsWith, IsOutcomeText, access_text, explained_line, malformed_front, number_of, numbered, stop_front};
+ghost use Rattle.chi_verdict.specs.Verdicts.{IsFlitsReport, IsJudged, IsReport, IsStop, is_access, is_seen_access, outcome_of, verdict_sizes};
+ghost use Rattle.chi_trace.specs.declared.faults.TraceFault.TheVariants as faults;
+ghost use Rattle.chi_verdict.specs.declared.reports.TraceOutcome.TheVariants as outcomes;
 
 use crate::check_files::Told;
 use crate::id_texts::ReasonText;
-use crate::lines::{Obstacle, TraceTotals, explain_lines};
-use crate::malformed::write_malformed;
-use crate::names::{LineName, NodeName, ObservedName, SeenName, kept, requester_of};
+use crate::lines::{LineTotals, Obstacle, explain_lines};
+use crate::malformed::malformed_text;
+use crate::names::{LineName, NodeName, ObservedName, SeenName, joined, kept, requester_of};
 use crate::open_texts::write_open;
 use chi_explain::{Observed, StoreListing};
 use chi_flit::{NoMemory, Profile};
 use chi_monitor::{LineFault, allowed, explain_flits};
-use chi_resolution::{CacheLine, IdFault, Options, Resolution, Resolved, Types, line_of, resolve};
+use chi_resolution::{
+    CacheLine, IdFault, OpenKey, Options, Resolution, Resolved, Types, line_of, resolve,
+};
 use chi_slice::Config;
-use chi_trace::{Address, Opcode, Seen, TraceFault, read_trace};
+use chi_trace::{Address, DbId, Opcode, Seen, TraceFault, read_trace};
 use std::alloc::Allocator;
 use std::fmt;
 use std::fmt::Write;
+
+/// How much of a trace is explained, by how many actions, and on how many lines.
+/// Source: `docs/TRACES.md`, "What is printed".
+#[derive(Clone, Copy, Debug, PartialEq, Eq)]
+pub struct TraceTotals {
+    pub flits: usize,
+    /// Loads and stores, but those that wait for a CompAck.
+    pub accesses: usize,
+    pub actions: u128,
+    pub lines: usize,
+}
+
+/// What of a trace is told as the first that isn't explained. A flit, a load or a store is named by its place in the
+/// trace, counted from 0.
+/// Source: `docs/TRACES.md`, "What is printed".
+#[derive(Clone, Copy, Debug, PartialEq, Eq)]
+pub enum TraceStop {
+    /// The first flit that the ids or the ledger don't allow.
+    Ids(IdFault),
+    /// No run of the model sends this flit, or does this load or store, behind those before it at its line.
+    Flit { at: usize, fault: LineFault },
+    /// The explanation of this line has more loads and stores than a journal has room for.
+    Long(CacheLine),
+    /// As `Obstacle::Undone`.
+    Undone(CacheLine),
+}
 
 /// What came of a trace.
 /// Source: `docs/TRACES.md`, "What is printed".
 #[derive(Clone, Copy, Debug, PartialEq, Eq)]
 pub enum TraceOutcome {
     /// Each line is explained.
-    Explained,
-    /// Some flit isn't explained.
-    Faulty,
-    /// The file is no trace.
-    Malformed,
+    Explained(TraceTotals),
+    /// Something isn't explained.
+    Faulty(TraceStop),
+    /// The file is no trace. Want of memory is none of these faults.
+    Malformed(TraceFault),
 }
 
 /// What came of a trace, and what is told of it.
@@ -42,29 +72,20 @@ pub struct TraceReport<A: Allocator> {
     pub text: String<A>,
 }
 
-/// How many flits of a trace are explained, and how many loads and stores.
+/// How many loads and stores are explained, behind the flits; nothing where there are none.
 #[derive(Clone, Copy)]
-struct ExplainedCount {
-    flits: usize,
-    accesses: usize,
-}
+struct AccessCount(usize);
 
-impl fmt::Display for ExplainedCount {
+impl fmt::Display for AccessCount {
+    ghost output = { λ count. Some (access_text count.0) };
+
     fn fmt<W: fmt::Write>(&self, f: &mut fmt::Formatter<W>) -> fmt::Result {
-        let (flits, accesses) = (self.flits, self.accesses);
-        write!(f, "{flits} flits")?;
-        if accesses > 0 {
-            write!(f, " and {accesses} loads and stores")?;
+        let accesses = self.0;
+        if accesses == 0 {
+            return Ok(());
         }
-        Ok(())
+        write!(f, " and {accesses} loads and stores")
     }
-}
-
-/// Why a trace isn't explained.
-#[derive(Clone, Copy)]
-enum Stop {
-    Ids(IdFault),
-    Line(Obstacle),
 }
 
 /// The profile of a trace's types of credit.
@@ -85,41 +106,118 @@ fn config_of(types: Types) -> Option<Config>
     }
 }
 
-/// Explains what a resolution has, whose order is another one then: how much was explained, or the first that isn't.
+/// Whether it is a load or a store, and no flit.
+fn is_access(seen: &Seen) -> bool
+    ensures { result ≡ is_seen_access seen.now }
+{
+    matches!(seen.opcode, Opcode::Load | Opcode::Store)
+}
+
+/// How many flits a trace has.
+fn count_flits(seen: &[Seen]) -> usize
+    ensures { result ≡ count_by (λ one. not (is_seen_access one)) seen.now }
+{
+    seen.iter().filter(|seen| !is_access(seen)).count()
+}
+
+/// How many loads and stores a trace has.
+fn count_accesses(seen: &[Seen]) -> usize
+    ensures { result ≡ count_by is_seen_access seen.now }
+{
+    seen.iter().filter(|seen| is_access(seen)).count()
+}
+
+/// Explains what a resolution of a trace has, whose order is another one then: how much was explained, or what is told
+/// as the first that isn't.
 fn judge<A: Allocator + Copy>(
     alloc: A,
     config: &Config,
     stores: StoreListing,
+    seen: &[Seen],
     resolution: &mut Resolution<A>,
-) -> Result<Result<TraceTotals, Stop>, NoMemory>
-    ensures allowed { IfOk result (λ judged. OnOk judged (resolution.old.fault ≡ None)) }
-    ensures explained { IfOk result
-        (λ judged. OnOk judged
-        (AreLinesExplained config.now stores resolution.old.flits.items)) }
+) -> Result<Result<TraceTotals, TraceStop>, NoMemory>
+    ensures { IfOk result (λ judged.
+        IsJudged config.now stores seen.now resolution.old.fault resolution.old.flits.items
+        resolution.old.waiting.items (outcome_of judged)) }
 {
+    let fault = resolution.fault;
+    let waiting = resolution.waiting.len();
     match explain_lines(alloc, config, stores, &mut resolution.flits) {
-        Ok(totals) => match resolution.fault {
-            None => Ok(Ok(totals)),
-            Some(fault) => Ok(Err(Stop::Ids(fault))),
+        Ok(totals) => Ok(total_of(seen, waiting, totals, fault)),
+        Err(obstacle) => match first_stop(obstacle, fault) {
+            Some(stop) => Ok(Err(stop)),
+            None => Err(NoMemory),
         },
-        Err(Obstacle::NoMemory) => Err(NoMemory),
-        Err(obstacle) => Ok(Err(first_stop(obstacle, resolution.fault))),
     }
 }
 
-/// What comes first in the trace: a flit that a line's obstacle tells does, as the ids allow it.
-fn first_stop(obstacle: Obstacle, fault: Option<IdFault>) -> Stop {
-    match (obstacle, fault) {
-        (Obstacle::Long(_) | Obstacle::Undone(_), Some(fault)) => Stop::Ids(fault),
-        (obstacle, _) => Stop::Line(obstacle),
+/// How much is explained of a trace whose lines are, where so many loads and stores wait: all, but where the ids or the
+/// ledger don't allow a flit.
+fn total_of(
+    seen: &[Seen],
+    waiting: usize,
+    totals: LineTotals,
+    fault: Option<IdFault>,
+) -> Result<TraceTotals, TraceStop>
+    ensures allowed { IfOk result (λ total. fault ≡ None) }
+    ensures flits { IfOk result
+        (λ total. total.flits ≡ count_by (λ one. not (is_seen_access one)) seen.now) }
+    ensures accesses { IfOk result
+        (λ total. total.accesses ≡ count_by is_seen_access seen.now - waiting) }
+    ensures actions { IfOk result (λ total. total.actions ≡ totals.actions) }
+    ensures lines { IfOk result (λ total. total.lines ≡ totals.lines) }
+    ensures err { IfErr result (IsStop fault) }
+{
+    match fault {
+        None => Ok(TraceTotals {
+            flits: count_flits(seen),
+            accesses: count_accesses(seen).saturating_sub(waiting),
+            actions: totals.actions,
+            lines: totals.lines,
+        }),
+        Some(fault) => Err(TraceStop::Ids(fault)),
     }
 }
 
-/// The report on the trace that a file of these bytes is: whether all its lines are explained, and by how much; else
-/// the first flit that isn't. With `only` it is the check file that explains the line of that address, up to that
-/// flit.
+/// What comes first in the trace, an obstacle of a line or the first flit that the ids or the ledger don't allow;
+/// `None` where memory ran out.
+fn first_stop(obstacle: Obstacle, fault: Option<IdFault>) -> Option<TraceStop>
+    ensures { IfSome result (IsStop fault) }
+{
+    match obstacle {
+        Obstacle::NoMemory => None,
+        Obstacle::Fault { at, fault: cause } => Some(first_of_both(at, cause, fault)),
+        Obstacle::Long(line) => Some(unless_ids(TraceStop::Long(line), fault)),
+        Obstacle::Undone(line) => Some(unless_ids(TraceStop::Undone(line), fault)),
+    }
+}
+
+/// Of both what comes first.
+fn first_of_both(at: usize, cause: LineFault, fault: Option<IdFault>) -> TraceStop
+    ensures { IsStop fault result }
+{
+    match fault {
+        Some(fault) if fault.at <= at => TraceStop::Ids(fault),
+        _ => TraceStop::Flit { at, fault: cause },
+    }
+}
+
+/// This, unless the ids or the ledger don't allow a flit.
+fn unless_ids(stop: TraceStop, fault: Option<IdFault>) -> TraceStop
+    requires { IsStop None stop }
+    ensures { IsStop fault result }
+{
+    match fault {
+        Some(fault) => TraceStop::Ids(fault),
+        None => stop,
+    }
+}
+
+/// The report on the trace that a file of these bytes is: that all its lines are explained, and by how much; else what
+/// isn't first. Of a file that is no trace it is the first fault of the grammar. With `only` the text is the check file
+/// that explains the line of that address, up to the first that isn't explained.
 ///
-/// `NoMemory` where memory runs out.
+/// `NoMemory` where memory runs out. That what is told as a fault of a line is one is tested, and no clause says it.
 /// Source: `docs/TRACES.md`, "What is printed".
 pub fn report_on<A: Allocator + Copy>(
     alloc: A,
@@ -127,8 +225,8 @@ pub fn report_on<A: Allocator + Copy>(
     options: Options,
     only: Option<Address>,
 ) -> Result<TraceReport<A>, NoMemory>
-    ensures { IfOk result
-        (λ report. IfExplained report.outcome (IsTraceExplained options bytes.now)) }
+    ensures { IfOk result (λ report.
+        IsReport options only bytes.now report.outcome (string_bytes report.text)) }
 {
     match read_trace(alloc, bytes) {
         Ok(seen) => report_on_flits(alloc, &seen, options, only),
@@ -136,17 +234,19 @@ pub fn report_on<A: Allocator + Copy>(
     }
 }
 
-/// What is told of a file that is no trace.
-fn malformed<A: Allocator>(
+/// What is told of a file that is no trace; `NoMemory` where that is its fault.
+fn malformed<A: Allocator + Copy>(
     alloc: A,
     bytes: &[u8],
     fault: TraceFault,
 ) -> Result<TraceReport<A>, NoMemory>
-    ensures { IfOk result (λ report. report.outcome ≡ TraceOutcome.Malformed) }
+    ensures outcome { IfOk result (λ report. report.outcome ≡ outcomes.Malformed fault) }
+    ensures fault { IfOk result (λ _. fault ≢ faults.NoMemory) }
+    ensures text { IfOk result
+        (λ report. BeginsWith (malformed_front fault) (string_bytes report.text)) }
 {
-    let mut text = String::new(alloc);
-    write_malformed(&mut text, bytes, fault)?;
-    let outcome = TraceOutcome::Malformed;
+    let text = malformed_text(alloc, bytes, fault)?;
+    let outcome = TraceOutcome::Malformed(fault);
     Ok(TraceReport { outcome, text })
 }
 
@@ -157,15 +257,15 @@ fn report_on_flits<A: Allocator + Copy>(
     options: Options,
     only: Option<Address>,
 ) -> Result<TraceReport<A>, NoMemory>
-    ensures { IfOk result
-        (λ report. IfExplained report.outcome (AreFlitsExplained options seen.now)) }
+    ensures { IfOk result (λ report.
+        IsFlitsReport options only seen.now report.outcome (string_bytes report.text)) }
 {
     let config = match config_of(options.types) {
         Some(config) => config,
         None => unreachable!(),
     };
     let mut resolution = resolve(alloc, seen, options)?;
-    let judged = judge(alloc, &config, options.stores, &mut resolution)?;
+    let judged = judge(alloc, &config, options.stores, seen, &mut resolution)?;
     sort_open(&mut resolution)?;
     let trace = Trace {
         seen,
@@ -174,7 +274,7 @@ fn report_on_flits<A: Allocator + Copy>(
         config,
         resolution: &resolution,
     };
-    report_on_judged(alloc, &trace, judged, only)
+    trace.report(alloc, judged, only)
 }
 
 /// Puts what is open in the order in which it was opened.
@@ -184,28 +284,56 @@ fn sort_open<A: Allocator + Copy>(resolution: &mut Resolution<A>) -> Result<(), 
     Ok(())
 }
 
-/// The report on a trace that was judged so.
-fn report_on_judged<A: Allocator + Copy>(
-    alloc: A,
-    trace: &Trace<'_, A>,
-    judged: Result<TraceTotals, Stop>,
-    only: Option<Address>,
-) -> Result<TraceReport<A>, NoMemory>
-    ensures { IfOk result
-        (λ report. IfExplained report.outcome (IsOk judged)) }
+/// The line on how much is explained.
+fn explained_line<A: Allocator>(alloc: A, totals: TraceTotals) -> Result<String<A>, NoMemory>
+    ensures { IfOk result (λ text. string_bytes text ≡ explained_line totals) }
 {
-    match judged {
-        Ok(totals) => {
-            let text = trace.explained_text(alloc, totals, only)?;
-            let outcome = TraceOutcome::Explained;
-            Ok(TraceReport { outcome, text })
-        }
-        Err(stop) => {
-            let text = trace.faulty_text(alloc, &stop, only)?;
-            let outcome = TraceOutcome::Faulty;
-            Ok(TraceReport { outcome, text })
-        }
+    let (flits, actions, lines) = (totals.flits, totals.actions, totals.lines);
+    let accesses = AccessCount(totals.accesses);
+    let mut text = String::new(alloc);
+    kept(writeln!(
+        text,
+        "explained {flits} flits{accesses} by {actions} actions on {lines} lines"
+    ))?;
+    Ok(text)
+}
+
+/// The number of the line of the file that the flit at this place of the trace is.
+fn number_at(seen: &[Seen], at: usize) -> usize
+    ensures { result ≡ number_of (slice_get seen.now at) }
+{
+    match seen.get(at) {
+        Some(seen) => seen.line,
+        None => 0,
     }
+}
+
+/// How a line on the flit at this place of the trace begins.
+fn numbered<A: Allocator>(alloc: A, line: usize) -> Result<String<A>, NoMemory>
+    ensures { IfOk result (λ text. string_bytes text ≡ numbered line) }
+{
+    let mut text = String::new(alloc);
+    kept(write!(text, "line {line}: "))?;
+    Ok(text)
+}
+
+/// How the line on what isn't explained begins.
+fn stop_front<A: Allocator + Copy>(
+    alloc: A,
+    seen: &[Seen],
+    stop: &TraceStop,
+) -> Result<String<A>, NoMemory>
+    ensures { IfOk result (λ text. string_bytes text ≡ stop_front seen.now stop.now) }
+{
+    let mut text = String::new(alloc);
+    let written = match stop {
+        TraceStop::Ids(fault) => return numbered(alloc, number_at(seen, fault.at)),
+        TraceStop::Flit { at, fault: _ } => return numbered(alloc, number_at(seen, *at)),
+        TraceStop::Long(_) => write!(text, "the cache line at "),
+        TraceStop::Undone(_) => write!(text, "no explanation of the cache line at "),
+    };
+    kept(written)?;
+    Ok(text)
 }
 
 /// A trace that was resolved, and judged: the items ascend by line.
@@ -219,13 +347,28 @@ struct Trace<'a, A: Allocator> {
 }
 
 impl<A: Allocator + Copy> Trace<'_, A> {
-    /// How many flits, loads and stores are explained: all but the loads and stores that wait.
-    fn explained(&self) -> ExplainedCount {
-        let is_access = |seen: &&Seen| matches!(seen.opcode, Opcode::Load | Opcode::Store);
-        let accesses = self.seen.iter().filter(is_access).count();
-        ExplainedCount {
-            flits: self.seen.len().saturating_sub(accesses),
-            accesses: accesses.saturating_sub(self.resolution.waiting.len()),
+    /// The report on a trace that was judged so.
+    fn report(
+        &self,
+        alloc: A,
+        judged: Result<TraceTotals, TraceStop>,
+        only: Option<Address>,
+    ) -> Result<TraceReport<A>, NoMemory>
+        ensures outcome { IfOk result (λ report. report.outcome ≡ outcome_of judged) }
+        ensures text { IfOk result (λ report.
+            IsOutcomeText self.now.seen.now only report.outcome (string_bytes report.text)) }
+    {
+        match judged {
+            Ok(totals) => {
+                let text = self.explained_text(alloc, totals, only)?;
+                let outcome = TraceOutcome::Explained(totals);
+                Ok(TraceReport { outcome, text })
+            }
+            Err(stop) => {
+                let text = self.faulty_text(alloc, &stop, only)?;
+                let outcome = TraceOutcome::Faulty(stop);
+                Ok(TraceReport { outcome, text })
+            }
         }
     }
 
@@ -235,37 +378,52 @@ impl<A: Allocator + Copy> Trace<'_, A> {
         alloc: A,
         totals: TraceTotals,
         only: Option<Address>,
-    ) -> Result<String<A>, NoMemory> {
-        let mut text = String::new(alloc);
-        if let Some(address) = only {
-            self.write_line(alloc, &mut text, line_of(address), self.seen.len())?;
-            return Ok(text);
+    ) -> Result<String<A>, NoMemory>
+        ensures { IfOk result (λ text. IsOutcomeText self.now.seen.now only
+            (outcomes.Explained totals) (string_bytes text)) }
+    {
+        match only {
+            Some(address) => self.line_text(alloc, line_of(address), usize::MAX),
+            None => {
+                let front = explained_line(alloc, totals)?;
+                let mut rest = String::new(alloc);
+                write_open(&mut rest, self.resolution)?;
+                joined(front, &rest)
+            }
         }
-        let (actions, lines) = (totals.actions, totals.lines);
-        let explained = self.explained();
-        kept(writeln!(
-            text,
-            "explained {explained} by {actions} actions on {lines} lines"
-        ))?;
-        write_open(&mut text, self.resolution)?;
-        Ok(text)
     }
 
-    /// What is told of the first flit that isn't explained, behind the check file of one line up to it where one is
-    /// asked for.
+    /// What is told where something isn't explained: the line on it, behind the check file of one line up to it where
+    /// one is asked for.
     fn faulty_text(
         &self,
         alloc: A,
-        stop: &Stop,
+        stop: &TraceStop,
         only: Option<Address>,
-    ) -> Result<String<A>, NoMemory> {
-        let mut text = String::new(alloc);
-        if let Some(address) = only {
-            self.write_line(alloc, &mut text, line_of(address), stop.place())?;
-            text.push_str("# ")?;
+    ) -> Result<String<A>, NoMemory>
+        ensures { IfOk result (λ text. IsOutcomeText self.now.seen.now only
+            (outcomes.Faulty stop.now) (string_bytes text)) }
+    {
+        let told = self.stop_text(alloc, stop)?;
+        match only {
+            Some(address) => {
+                let mut text = self.line_text(alloc, line_of(address), stop.place())?;
+                text.push_str("# ")?;
+                joined(text, &told)
+            }
+            None => Ok(told),
         }
-        self.write_stop(alloc, &mut text, stop)?;
-        Ok(text)
+    }
+
+    /// The line of text on what isn't explained.
+    fn stop_text(&self, alloc: A, stop: &TraceStop) -> Result<String<A>, NoMemory>
+        ensures { IfOk result (λ text. BeginsWith
+            (stop_front self.now.seen.now stop.now) (string_bytes text)) }
+    {
+        let front = stop_front(alloc, self.seen, stop)?;
+        let mut rest = String::new(alloc);
+        self.write_stop(alloc, &mut rest, stop)?;
+        joined(front, &rest)
     }
 
     /// The items of a line before this place of the trace.
@@ -291,14 +449,9 @@ impl<A: Allocator + Copy> Trace<'_, A> {
         }
     }
 
-    /// Puts the check file of a line, up to this place of the trace, behind the text.
-    fn write_line(
-        &self,
-        alloc: A,
-        text: &mut String<A>,
-        line: CacheLine,
-        before: usize,
-    ) -> Result<(), NoMemory> {
+    /// The check file of a line, up to this place of the trace.
+    fn line_text(&self, alloc: A, line: CacheLine, before: usize) -> Result<String<A>, NoMemory> {
+        let mut text = String::new(alloc);
         let items = self.items_of(line, before);
         let told = Told {
             seen: self.seen,
@@ -310,38 +463,38 @@ impl<A: Allocator + Copy> Trace<'_, A> {
         };
         let seen = said_by(alloc, items)?;
         match explain_flits(alloc, &self.config, self.stores, &seen) {
-            Ok(witness) => told.write(text, &witness),
-            Err(_) => kept(writeln!(text, "# no explanation was found")),
+            Ok(witness) => told.write(&mut text, &witness)?,
+            Err(_) => kept(writeln!(text, "# no explanation was found"))?,
         }
+        Ok(text)
     }
 
-    /// Puts the line of text on the first flit that isn't explained behind the text.
-    fn write_stop(&self, alloc: A, text: &mut String<A>, stop: &Stop) -> Result<(), NoMemory> {
+    /// Puts the rest of the line on what isn't explained, behind how it begins, behind the text.
+    fn write_stop(&self, alloc: A, text: &mut String<A>, stop: &TraceStop) -> Result<(), NoMemory> {
         match stop {
-            Stop::Ids(fault) => self.write_ids(text, fault),
-            Stop::Line(Obstacle::Fault { at, fault }) => {
-                self.write_fault(alloc, text, *at, fault)
-            }
-            Stop::Line(Obstacle::Long(line)) => {
+            TraceStop::Ids(fault) => self.write_ids(text, fault),
+            TraceStop::Flit { at, fault } => self.write_fault(alloc, text, *at, fault),
+            TraceStop::Long(line) => {
                 let line = LineName(*line);
-                kept(writeln!(
-                    text,
-                    "the cache line at {line} takes more than 65536 loads and stores"
-                ))
+                kept(writeln!(text, "{line} takes more than 65536 loads and stores"))
             }
-            Stop::Line(Obstacle::Undone(line)) => {
+            TraceStop::Undone(line) => {
                 let line = LineName(*line);
-                kept(writeln!(text, "no explanation of the cache line at {line} was found"))
+                kept(writeln!(text, "{line} was found"))
             }
-            Stop::Line(Obstacle::NoMemory) => Err(NoMemory),
         }
     }
 
-    /// Puts the number of a flit's line, its name and its node behind the text.
-    fn write_seen(&self, text: &mut String<A>, seen: &Seen) -> Result<(), NoMemory> {
-        let (node, side) = requester_of(seen);
-        let (number, name, node) = (seen.line, SeenName(seen), NodeName(node));
-        kept(write!(text, "line {number}: {name} {side} node {node}"))
+    /// The line of a flit, where it is known: that of its address, or of the open id that it names.
+    fn line_of_seen(&self, seen: &Seen) -> Option<CacheLine> {
+        match (seen.address, named_by(seen)) {
+            (Some(address), _) => Some(line_of(address)),
+            (None, Some(key)) => {
+                let id = self.resolution.ids.iter().find(|id| id.key == key)?;
+                Some(id.line)
+            }
+            (None, None) => None,
+        }
     }
 
     /// A fault of ids.
@@ -349,9 +502,9 @@ impl<A: Allocator + Copy> Trace<'_, A> {
         let Some(seen) = self.seen.get(fault.at) else {
             return Ok(());
         };
-        self.write_seen(text, seen)?;
-        if let Some(address) = seen.address {
-            let line = LineName(line_of(address));
+        write_seen(text, seen)?;
+        if let Some(line) = self.line_of_seen(seen) {
+            let line = LineName(line);
             kept(write!(text, " at {line}"))?;
         }
         let reason = ReasonText {
@@ -374,7 +527,7 @@ impl<A: Allocator + Copy> Trace<'_, A> {
         let Some(seen) = self.seen.get(at) else {
             return Ok(());
         };
-        self.write_seen(text, seen)?;
+        write_seen(text, seen)?;
         let items = self.resolution.flits.as_slice();
         let Some(place) = items.iter().position(|item| item.at == at) else {
             return Ok(());
@@ -398,14 +551,35 @@ fn line_of_last(items: &[Resolved], line: CacheLine) -> &[Resolved] {
     }
 }
 
-impl Stop {
+impl TraceStop {
     /// The place in the trace before which all is explained.
     fn place(&self) -> usize {
         match self {
-            Stop::Ids(fault) => fault.at,
-            Stop::Line(Obstacle::Fault { at, fault: _ }) => *at,
-            Stop::Line(Obstacle::NoMemory | Obstacle::Long(_) | Obstacle::Undone(_)) => usize::MAX,
+            TraceStop::Ids(fault) => fault.at,
+            TraceStop::Flit { at, fault: _ } => *at,
+            TraceStop::Long(_) | TraceStop::Undone(_) => usize::MAX,
         }
+    }
+}
+
+/// Puts the name of a flit and its node behind the text.
+fn write_seen<A: Allocator>(text: &mut String<A>, seen: &Seen) -> Result<(), NoMemory> {
+    let (node, side) = requester_of(seen);
+    let (name, node) = (SeenName(seen), NodeName(node));
+    kept(write!(text, "{name} {side} node {node}"))
+}
+
+/// The id that a response or data names.
+fn named_by(seen: &Seen) -> Option<OpenKey> {
+    let (node, _) = requester_of(seen);
+    let txn = seen.txn?;
+    match seen.opcode {
+        Opcode::RetryAck | Opcode::Comp | Opcode::CompDBIDResp | Opcode::CompData => {
+            Some(OpenKey::Request(node, txn))
+        }
+        Opcode::SnpResp | Opcode::SnpRespData => Some(OpenKey::Snoop(node, txn)),
+        Opcode::CompAck | Opcode::CopyBackWrData => Some(OpenKey::Buffer(node, DbId(txn.0))),
+        _ => None,
     }
 }
 

@@ -1,10 +1,30 @@
--- The bytes that were read are the file's.
-use Rattle.std.proofs.Common.{ℕ, List, subst}
-use Rattle.chi_verdict.specs.Verdicts.{IfExplained, IsTraceExplained}
-use Rattle.chi_verdict.proofs.VerdictLemmas.{told}
+-- What is told and written is the report on the input.
+use Rattle.std.specs.Prelude.{string_bytes}
+use Rattle.chi_verdict.proofs.WritingLemmas.{always, front_written, given, given_ok, kept_otherwise, silent, unwritten}
 use Rattle.chi_verdict.proofs.explanations.explain.Goals as goal
 
-pub returns-in-Ok-clause-explained : goal.returns-in-Ok-clause-explained
-returns-in-Ok-clause-explained g c =
-    let is = subst (λ (bytes : List ℕ). IfExplained c.in-Ok.report.outcome (IsTraceExplained c.args.options bytes)) c.deref.ensures.value c.in-Ok.ensures in
-    told c.args.options _ _ (λ report. report.outcome) c.in-Ok.report c.write_report.result c.in_ok-bytes.ensures.front is c.write_report.ensures.same
+pub returns-clause-told : goal.returns-clause-told
+returns-clause-told g c = given _ c.in_ok-report.report c.write_report.result c.in_ok-report.ensures.told c.write_report.ensures.same
+
+pub returns-clause-written : goal.returns-clause-written
+returns-clause-written g c = given_ok _ c.in_ok-report.report c.write_report.result c.write_report.ensures.written c.write_report.ensures.same
+
+pub returns-clause-read : goal.returns-clause-read
+returns-clause-read g c = always _ c.write_report.result c.in_ok-report.ensures.ok
+
+pub returns-clause-wrote : goal.returns-clause-wrote
+returns-clause-wrote g c = c.write_report.ensures.ok
+
+pub returns-clause-err : goal.returns-clause-err
+returns-clause-err g c = unwritten _ _ _ _ c.write_report.result c.in_ok-report.ensures.ok c.write_report.ensures.fault c.write_report.ensures.err
+
+pub returns-clause-front : goal.returns-clause-front
+returns-clause-front g c =
+    front_written c.args.options c.args.only _ _ _ c.in_ok-report.report.outcome (string_bytes c.in_ok-report.report.text) c.write_report.result c.in_ok-report.ensures.told c.write_report.ensures.wellformed c.write_report.ensures.front
+
+pub returns-clause-kept : goal.returns-clause-kept
+returns-clause-kept g c = kept_otherwise _ c.write_report.result c.write_report.ensures.fault
+
+pub returns-clause-silent : goal.returns-clause-silent
+returns-clause-silent g c =
+    silent c.args.options c.args.only _ _ _ c.in_ok-report.report.outcome (string_bytes c.in_ok-report.report.text) c.write_report.result c.in_ok-report.ensures.told c.write_report.ensures.written c.write_report.ensures.wellformed

@@ -1,16 +1,20 @@
 use Rattle.std.proofs.Common.{arith, subst}
 use Rattle.std.proofs.lemmas.List.{take_all}
 use Rattle.chi_verdict.specs.Lines.{AreLinesExplained}
-use Rattle.chi_verdict.proofs.LineLemmas.{front_step}
+use Rattle.chi_verdict.proofs.LineLemmas.{front_step, no_lines}
 use Rattle.chi_verdict.proofs.lines.explain_sorted.Goals as goal
 
 pub loop-at-preserved : goal.loop-at-preserved
 loop-at-preserved g c =
     let before = c.loop-at.invariant in
-    front_step c.args.config.now c.args.stores c.loop-at.floor c.loop-at.at c.in_ok-front.front.count c.number_behind-floor.result c.in_ok-front.front.line c.args.sorted.now _ c.split_at.ensures.back before.0 c.in_ok-front.ensures.bound
-    c.number_behind-floor.ensures (omega (arith, c.from.ensures, c.if-from-floor.false)) before.1 before.2 c.in_ok-front.ensures.line c.in_ok-front.ensures.explained
+    let step = front_step c.args.config.now c.args.stores c.loop-at.floor c.loop-at.at c.in_ok-front.front.count c.number_behind-floor.result c.loop-at.actions c.loop-at.lines c.in_ok-front.front.actions c.in_ok-front.front.line c.args.sorted.now _ c.split_at.ensures.back before.0 c.in_ok-front.ensures.bound
+    (omega (arith, c.if-front-eq0.false)) c.number_behind-floor.ensures (omega (arith, c.from.ensures, c.if-from-floor.false)) before.3 c.in_ok-front.ensures.line c.in_ok-front.ensures.explained in
+    (step.0, omega (arith, before.1), omega (arith, before.2), step.1)
 
 -- all lines are behind
 pub returns : goal.returns
 returns g c =
-    subst (AreLinesExplained c.args.config.now c.args.stores) (take_all c.loop-at.at c.args.sorted.now (omega (arith, c.loop-at-test.false))) c.loop-at.invariant.2
+    subst (λ l. AreLinesExplained c.args.config.now c.args.stores l c.loop-at.actions c.loop-at.lines) (take_all c.loop-at.at c.args.sorted.now (omega (arith, c.loop-at-test.false))) c.loop-at.invariant.3.known
+
+pub loop-at-init : goal.loop-at-init
+loop-at-init g c = (omega arith, omega arith, omega arith, no_lines c.args.config.now c.args.stores)

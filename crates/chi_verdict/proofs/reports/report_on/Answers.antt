@@ -1,11 +1,20 @@
--- The flits are those of the trace.
-use Rattle.std.proofs.Common.{subst}
-use Rattle.chi_verdict.specs.Verdicts.{AreFlitsExplained}
-use Rattle.chi_verdict.proofs.VerdictLemmas.{carried}
+-- The flits are those of the trace, or the fault is its first.
+use Rattle.std.proofs.Common.{List, Result, subst, sym}
+use Rattle.std.specs.Prelude.{string_bytes}
+use Rattle.chi_trace.specs.declared.faults.TraceFault.{TraceFault}
+use Rattle.chi_trace.specs.declared.flits.Seen.{Seen}
+use Rattle.chi_verdict.specs.Verdicts.{IsFlitsReport, IsReportOf}
+use Rattle.chi_verdict.proofs.VerdictLemmas.{carried, malformed_report}
 use Rattle.chi_verdict.proofs.reports.report_on.Goals as goal
 
 pub returns-in-Ok : goal.returns-in-Ok
 returns-in-Ok g c =
-    carried (λ report. report.outcome) c.report_on_flits.result
-    (λ flits. record { seen = c.in-Ok.seen.items; read = c.in-Ok.ensures; explained = subst (AreFlitsExplained c.args.options) c.deref.ensures.value flits })
+    carried (λ report. IsFlitsReport c.args.options c.args.only _ report.outcome (string_bytes report.text)) _ c.report_on_flits.result
+    (λ report is. subst (λ (read : Result (List Seen) TraceFault). IsReportOf c.args.options c.args.only read report.outcome (string_bytes report.text)) (sym c.in-Ok.ensures)
+    (subst (λ (seen : List Seen). IsFlitsReport c.args.options c.args.only seen report.outcome (string_bytes report.text)) c.deref.ensures.value is))
     c.report_on_flits.ensures
+
+pub returns-in-Err : goal.returns-in-Err
+returns-in-Err g c =
+    malformed_report c.args.options c.args.only _ c.in-Err.fault (λ report. report.outcome) (λ report. string_bytes report.text) c.malformed.result c.in-Err.ensures
+    c.malformed.ensures.outcome c.malformed.ensures.fault c.malformed.ensures.text

@@ -1,9 +1,10 @@
 -- What was judged is the resolution of the trace.
-use Rattle.chi_verdict.proofs.VerdictLemmas.{carried, flits_explained}
+use Rattle.std.specs.Prelude.{string_bytes}
+use Rattle.chi_verdict.proofs.VerdictLemmas.{flits_report}
 use Rattle.chi_verdict.proofs.reports.report_on_flits.Goals as goal
 
 pub returns : goal.returns
 returns g c =
-    carried (λ report. report.outcome) c.report_on_judged.result
-    (flits_explained c.args.options c.args.seen.now c.in_ok-judged.judged _ _ _ (cc c.config_of.ensures) c.in_ok-resolution.ensures.fault c.in_ok-resolution.ensures.flits c.in_ok-judged.ensures.allowed c.in_ok-judged.ensures.explained)
-    c.report_on_judged.ensures
+    let resolved = c.in_ok-resolution.ensures in
+    flits_report c.args.options c.args.only c.args.seen.now c.in_ok-judged.judged _ _ _ _ (λ report. report.outcome) (λ report. string_bytes report.text) c.report.result (cc c.config_of.ensures) resolved.fault resolved.flits resolved.waiting
+    c.in_ok-judged.ensures c.report.ensures.outcome c.report.ensures.text
