@@ -87,9 +87,9 @@ own_action (Some action) = own_if (is_own_step action.step) action
 abbrev pub own_of : ChiAction → Option Action
 own_of a = own_action (action_of a)
 
-abbrev pub IsOwnCall : Option Action → Type 0
-IsOwnCall None = Unit {0}
-IsOwnCall (Some action) = is_own_step action.step ≡ true
+abbrev pub IsOwnAction : Option Action → Type 0
+IsOwnAction None = Unit {0}
+IsOwnAction (Some action) = is_own_step action.step ≡ true
 
 -- a step
 abbrev pub node_step_refusal : Option Action → SystemState → Option Refusal

@@ -7,7 +7,7 @@ ghost use Rattle.chi_library.specs.Calls.{IsOpeningCall, answer_number, output_o
 ghost use Rattle.chi_library.specs.Flits.{no_flits_told};
 ghost use Rattle.chi_library.specs.Lines.{no_line_told};
 ghost use Rattle.chi_library.specs.Numbers.{number_if};
-ghost use Rattle.chi_library.specs.NodeCalls.{ArrivalCall, CalledOn, ReturnCall, IsAuditOf, IsOwnCall, IsTotalsOf, IsUntold, LookCall, OpensNode, StepCall, TendCall, no_arrival, no_credits_told, no_release, node_flits_told, node_show_told, node_step_refusal, own_of};
+ghost use Rattle.chi_library.specs.NodeCalls.{ArrivalCall, CalledOn, ReturnCall, IsAuditOf, IsOwnAction, IsTotalsOf, IsUntold, LookCall, OpensNode, StepCall, TendCall, no_arrival, no_credits_told, no_release, node_flits_told, node_show_told, node_step_refusal, own_of};
 ghost use Rattle.chi_library.specs.Sizes.{config_of};
 ghost use Rattle.chi_node.specs.Calls.{is_own_step};
 ghost use Rattle.chi_node.specs.Home.{node_flits_refusal, node_view_refusal};
@@ -374,7 +374,7 @@ fn is_own_step(step: Step) -> bool
 /// The action of a requester's own that C's numbers name.
 fn own_action_at(action: &ChiAction) -> Option<Action>
     ensures action { result ≡ own_of action.now }
-    ensures own { IsOwnCall result }
+    ensures own { IsOwnAction result }
 {
     let action = action_at(action)?;
     if is_own_step(action.step) {
@@ -392,7 +392,7 @@ fn step_on(
     effect: &mut ChiEffect,
     release: &mut ChiRelease,
 ) -> u8
-    requires { IsOwnCall own }
+    requires { IsOwnAction own }
     ensures answer { result ≡ answer_number node.old.value (node_step_refusal own) }
     ensures call { CalledOn node.old.value node.new.value (StepCall own effect.new release.new) }
     ensures closed { node.old.value ≡ None → IsUntold effect.new release.new }
@@ -418,7 +418,7 @@ fn step(
 ) -> u8
     requires effect { effect.old ≡ no_effect }
     requires release { release.old ≡ no_release }
-    requires own { IsOwnCall own }
+    requires own { IsOwnAction own }
     ensures answer { result ≡ number_if (node_step_refusal own node.old) }
     ensures call { StepCall own effect.new release.new node.old node.new }
 {

@@ -9,7 +9,7 @@ use Rattle.chi_resolution.specs.declared.lines.CacheLine.{CacheLine}
 use Rattle.chi_explain.specs.declared.observed.Observed.{Observed}
 use Rattle.chi_explain.specs.declared.observed.StoreListing.{StoreListing}
 use Rattle.chi_resolution.specs.declared.lines.Resolved.{Resolved}
-use Rattle.chi_verdict.specs.Lines.{AreItemsExplained, AreLinesExplained, IsLineExplained, LineExplanation, action_count, is_explained_by, is_on_line, items_of, said_by}
+use Rattle.chi_verdict.specs.Lines.{AreItemsExplained, AreLinesExplained, IsOneLineExplained, LineExplanation, action_count, is_explained_by, is_on_line, items_of, said_by}
 
 -- of a line are all, or none
 pub all_of : (line : CacheLine) (items : List Resolved) → All (λ item. is_on_line line item ≡ true) items → items_of line items ≡ items
@@ -36,11 +36,11 @@ lower_item floor line other le lt = grind arith
 
 -- what explains a line before them does still
 still : (config : Sizes) (stores : StoreListing) (floor : ℕ) (line : CacheLine) (before mine : List Resolved) → floor ≤ line.0 → All (λ item. is_on_line line item ≡ true) mine
-    → (one : LineExplanation) → one.line.0 < floor → IsLineExplained config stores (items_of one.line before) one → IsLineExplained config stores (items_of one.line (before ++ mine)) one
+    → (one : LineExplanation) → one.line.0 < floor → IsOneLineExplained config stores (items_of one.line before) one → IsOneLineExplained config stores (items_of one.line (before ++ mine)) one
 still config stores floor line before mine le all one lt is =
     let none : items_of one.line mine ≡ [] = none_of one.line mine (All-weaker (λ other. is_on_line line other ≡ true) (λ other. is_on_line one.line other ≡ false) (λ other same. apart floor line one.line other lt le same) mine all) in
     let whole : items_of one.line (before ++ mine) ≡ items_of one.line before = filter-append (is_on_line one.line) before mine ∙ ap (λ (l : List Resolved). items_of one.line before ++ l) none ∙ append-nil (items_of one.line before) in
-    subst (λ (l : List Resolved). IsLineExplained config stores l one) (sym whole) is
+    subst (λ (l : List Resolved). IsOneLineExplained config stores l one) (sym whole) is
 
 -- the line behind them has its own items alone
 only_mine : (floor : ℕ) (line : CacheLine) (before mine : List Resolved) → floor ≤ line.0 → All (λ item. is_on_line line item ≡ true) mine → All (λ item. item.line.0 < floor) before → items_of line (before ++ mine) ≡ mine
@@ -72,7 +72,7 @@ pub no_lines : (config : Sizes) (stores : StoreListing) → LowerLines 0 config 
 no_lines config stores = record {
   known = record {
     explanations = [];
-    each = All-nil (λ one. IsLineExplained config stores (items_of one.line []) one);
+    each = All-nil (λ one. IsOneLineExplained config stores (items_of one.line []) one);
     all = All-nil (λ item. is_explained_by [] item ≡ true);
     once = tt;
     actions_are = refl;
@@ -92,8 +92,8 @@ joined config stores floor next line before mine actions lines more le is some a
     record {
       known = record {
         explanations = one ∷ es;
-        each = All-cons (λ other. IsLineExplained config stores (items_of other.line (before ++ mine)) other) one es
-            (subst (λ (l : List Resolved). IsLineExplained config stores l one) (sym (only_mine floor line before mine le all lower.below)) (record { some = some; explained = done.explained }))
+        each = All-cons (λ other. IsOneLineExplained config stores (items_of other.line (before ++ mine)) other) one es
+            (subst (λ (l : List Resolved). IsOneLineExplained config stores l one) (sym (only_mine floor line before mine le all lower.below)) (record { some = some; explained = done.explained }))
             (λ k d lt. still config stores floor line before mine le all (get_or es k d) (lower.done_below k d lt) (known.each k d lt));
         all = All-append (λ item. is_explained_by (one ∷ es) item ≡ true) before mine
             (All-weaker (λ item. is_explained_by es item ≡ true) (λ item. is_explained_by (one ∷ es) item ≡ true) (λ item has. either (is_on_line line item) (is_explained_by es item) has) before known.all)

@@ -10,7 +10,7 @@ use Rattle.chi_explain.specs.declared.observed.StoreListing.{StoreListing}
 use Rattle.chi_resolution.specs.declared.lines.Resolved.{Resolved}
 use Rattle.chi_explain.specs.declared.observed.Observed.TheVariants as observed
 use Rattle.chi_resolution.specs.declared.lines.CacheLine.{CacheLine}
-use Rattle.chi_verdict.specs.Lines.{AreLinesExplained, IsLineExplained, IsReordered, is_explained_by, is_on_line, items_of}
+use Rattle.chi_verdict.specs.Lines.{AreLinesExplained, IsOneLineExplained, IsReordered, is_explained_by, is_on_line, items_of}
 
 abbrev pub line_number : Resolved → ℕ
 line_number item = item.line.0
@@ -47,7 +47,7 @@ reordered items sorted moved stable = record { moved = moved; kept = λ line. sa
 pub unsorted : (config : Sizes) (stores : StoreListing) (items sorted : List Resolved) (actions lines : ℕ) → IsReordered items sorted → AreLinesExplained config stores sorted actions lines → AreLinesExplained config stores items actions lines
 unsorted config stores items sorted actions lines order known = record {
   explanations = known.explanations;
-  each = All-weaker (λ one. IsLineExplained config stores (items_of one.line sorted) one) (λ one. IsLineExplained config stores (items_of one.line items) one) (λ one is. subst (λ (mine : List Resolved). IsLineExplained config stores mine one) (order.kept one.line) is) known.explanations known.each;
+  each = All-weaker (λ one. IsOneLineExplained config stores (items_of one.line sorted) one) (λ one. IsOneLineExplained config stores (items_of one.line items) one) (λ one is. subst (λ (mine : List Resolved). IsOneLineExplained config stores mine one) (order.kept one.line) is) known.explanations known.each;
   all = All-permutation (λ item. is_explained_by known.explanations item ≡ true) sorted items (IsPermutation-sym items sorted order.moved) known.all;
   once = known.once;
   actions_are = known.actions_are;

@@ -21,7 +21,7 @@ use Rattle.chi_verdict.specs.declared.reports.TraceStop.{TraceStop}
 use Rattle.chi_verdict.specs.declared.reports.TraceTotals.{TraceTotals}
 use Rattle.chi_verdict.specs.Lines.{AreLinesExplained}
 use Rattle.chi_verdict.specs.Texts.{BeginsWith, IsOutcomeText, malformed_front}
-use Rattle.chi_verdict.specs.Verdicts.{IsFlitsReport, IsJudged, IsReport, IsReportOf, IsStop, is_seen_access, outcome_of, verdict_sizes}
+use Rattle.chi_verdict.specs.Verdicts.{IsFlitsReport, IsTraceJudged, IsReport, IsReportOn, IsStop, is_seen_access, trace_outcome_of, verdict_sizes}
 
 -- the same fact in other words
 pub carried : {X E : Type 0} (P Q : X → Type 0) (r : Result X E) → ((x : X) → P x → Q x) → IfOk r P → IfOk r Q
@@ -45,7 +45,7 @@ whole file = whole_by file (nat_lt 67108864 (length file)) refl
 
 pub of_whole : (options : Options) (only : Option Address) (left : Option (List ℕ)) (bytes : List ℕ) (outcome : TraceOutcome) (text : List ℕ) → IfSome left (λ file. bytes ≡ take 67108865 file) → IsReport options only bytes outcome text → IfSome left (λ file. IsReport options only file outcome text)
 of_whole options only None bytes outcome text same is = tt
-of_whole options only (Some file) bytes outcome text same is = subst (λ (read : Result (List Seen) TraceFault). IsReportOf options only read outcome text) (ap trace_of same ∙ whole file) is
+of_whole options only (Some file) bytes outcome text same is = subst (λ (read : Result (List Seen) TraceFault). IsReportOn options only read outcome text) (ap trace_of same ∙ whole file) is
 
 -- a fault that reading answers is that of the grammar
 failed : (fault : TraceFault) (read : Result (List Seen) TraceFault) → TraceFails fault read → fault ≢ NoMemory → read ≡ Err fault
@@ -56,32 +56,32 @@ failed (FewWords line) read fails other = fails
 failed (BadWord line column) read fails other = fails
 
 pub malformed_report : {R E : Type 0} (options : Options) (only : Option Address) (read : Result (List Seen) TraceFault) (fault : TraceFault) (outcome : R → TraceOutcome) (text : R → List ℕ) (r : Result R E) → TraceFails fault read
-    → IfOk r (λ x. outcome x ≡ Malformed fault) → IfOk r (λ x. fault ≢ NoMemory) → IfOk r (λ x. BeginsWith (malformed_front fault) (text x)) → IfOk r (λ x. IsReportOf options only read (outcome x) (text x))
-malformed_report options only read fault outcome text (Ok x) fails is other said = subst (λ (of : Result (List Seen) TraceFault). IsReportOf options only of (outcome x) (text x)) (sym (failed fault read fails other)) (is, said)
+    → IfOk r (λ x. outcome x ≡ Malformed fault) → IfOk r (λ x. fault ≢ NoMemory) → IfOk r (λ x. BeginsWith (malformed_front fault) (text x)) → IfOk r (λ x. IsReportOn options only read (outcome x) (text x))
+malformed_report options only read fault outcome text (Ok x) fails is other said = subst (λ (of : Result (List Seen) TraceFault). IsReportOn options only of (outcome x) (text x)) (sym (failed fault read fails other)) (is, said)
 malformed_report options only read fault outcome text (Err e) fails is other said = tt
 
 -- what was judged is the trace's resolution
 moved : (config config' : Sizes) (stores : StoreListing) (seen : List Seen) (fault fault' : Option IdFault) (items items' waiting waiting' : List Resolved) (outcome : TraceOutcome) → config ≡ config' → fault ≡ fault' → items ≡ items' → waiting ≡ waiting'
-    → IsJudged config stores seen fault items waiting outcome → IsJudged config' stores seen fault' items' waiting' outcome
+    → IsTraceJudged config stores seen fault items waiting outcome → IsTraceJudged config' stores seen fault' items' waiting' outcome
 moved config config' stores seen fault fault' items items' waiting waiting' outcome size same_fault same same_waiting is =
-    subst (λ (w : List Resolved). IsJudged config' stores seen fault' items' w outcome) same_waiting
-    (subst (λ (i : List Resolved). IsJudged config' stores seen fault' i waiting outcome) same
-    (subst (λ (f : Option IdFault). IsJudged config' stores seen f items waiting outcome) same_fault
-    (subst (λ (c : Sizes). IsJudged c stores seen fault items waiting outcome) size is)))
+    subst (λ (w : List Resolved). IsTraceJudged config' stores seen fault' items' w outcome) same_waiting
+    (subst (λ (i : List Resolved). IsTraceJudged config' stores seen fault' i waiting outcome) same
+    (subst (λ (f : Option IdFault). IsTraceJudged config' stores seen f items waiting outcome) same_fault
+    (subst (λ (c : Sizes). IsTraceJudged c stores seen fault items waiting outcome) size is)))
 
 pub flits_report : {R E : Type 0} (options : Options) (only : Option Address) (seen : List Seen) (judged : Result TraceTotals TraceStop) (config : Sizes) (fault : Option IdFault) (items waiting : List Resolved) (outcome : R → TraceOutcome) (text : R → List ℕ) (r : Result R E)
     → config ≡ verdict_sizes options.types → fault ≡ (resolution_of options seen).fault → items ≡ (resolution_of options seen).progress.table.flits → waiting ≡ (resolution_of options seen).progress.table.waiting
-    → IsJudged config options.stores seen fault items waiting (outcome_of judged) → IfOk r (λ x. outcome x ≡ outcome_of judged) → IfOk r (λ x. IsOutcomeText seen only (outcome x) (text x)) → IfOk r (λ x. IsFlitsReport options only seen (outcome x) (text x))
+    → IsTraceJudged config options.stores seen fault items waiting (trace_outcome_of judged) → IfOk r (λ x. outcome x ≡ trace_outcome_of judged) → IfOk r (λ x. IsOutcomeText seen only (outcome x) (text x)) → IfOk r (λ x. IsFlitsReport options only seen (outcome x) (text x))
 flits_report options only seen judged config fault items waiting outcome text (Ok x) size same_fault same same_waiting of is told = record {
-  verdict = subst (λ (o : TraceOutcome). IsJudged (verdict_sizes options.types) options.stores seen (resolution_of options seen).fault (resolution_of options seen).progress.table.flits (resolution_of options seen).progress.table.waiting o) (sym is)
-      (moved config (verdict_sizes options.types) options.stores seen fault (resolution_of options seen).fault items (resolution_of options seen).progress.table.flits waiting (resolution_of options seen).progress.table.waiting (outcome_of judged) size same_fault same same_waiting of);
+  verdict = subst (λ (o : TraceOutcome). IsTraceJudged (verdict_sizes options.types) options.stores seen (resolution_of options seen).fault (resolution_of options seen).progress.table.flits (resolution_of options seen).progress.table.waiting o) (sym is)
+      (moved config (verdict_sizes options.types) options.stores seen fault (resolution_of options seen).fault items (resolution_of options seen).progress.table.flits waiting (resolution_of options seen).progress.table.waiting (trace_outcome_of judged) size same_fault same same_waiting of);
   told = told;
 }
 flits_report options only seen judged config fault items waiting outcome text (Err e) size same_fault same same_waiting of is told = tt
 
 pub judged : (config : Sizes) (stores : StoreListing) (seen : List Seen) (fault : Option IdFault) (items waiting : List Resolved) (actions lines : ℕ) (r : Result TraceTotals TraceStop) → AreLinesExplained config stores items actions lines
     → IfOk r (λ total. fault ≡ None) → IfOk r (λ total. total.flits ≡ count_by (λ one. not (is_seen_access one)) seen) → IfOk r (λ total. total.accesses ≡ count_by is_seen_access seen - length waiting) → IfOk r (λ total. total.actions ≡ actions) → IfOk r (λ total. total.lines ≡ lines)
-    → IfErr r (IsStop fault) → IsJudged config stores seen fault items waiting (outcome_of r)
+    → IfErr r (IsStop fault) → IsTraceJudged config stores seen fault items waiting (trace_outcome_of r)
 judged config stores seen fault items waiting actions lines (Ok total) known allowed flits accesses same_actions same_lines err = record {
   allowed = allowed;
   flits = flits;

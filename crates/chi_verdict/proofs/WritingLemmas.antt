@@ -9,7 +9,7 @@ use Rattle.chi_trace.specs.declared.flits.Seen.{Seen}
 use Rattle.chi_resolution.specs.declared.resolution.Options.{Options}
 use Rattle.chi_verdict.specs.declared.reports.TraceOutcome.{TraceOutcome}
 use Rattle.chi_verdict.specs.declared.reports.TraceOutcome.TheVariants.{Malformed}
-use Rattle.chi_verdict.specs.Verdicts.{AtWrite, IsReport, IsReportFront, IsReportOf, IsReportWritten, IsUnreported, KeepsAtFault, is_malformed}
+use Rattle.chi_verdict.specs.Verdicts.{AtFailedWrite, IsReport, IsReportFront, IsReportOn, IsReportWritten, IsUnreported, KeepsUnlessWritten, is_malformed}
 
 -- the report that is given is the one that was made
 pub given : {R E : Type 0} (P : R → Type 0) (report : R) (r : Result R E) → P report → IfOk r (λ x. x ≡ report) → IfOk r P
@@ -34,7 +34,7 @@ kept_otherwise P (Ok x) is = tt
 kept_otherwise P (Err fault) is = λ other. absurd (other is)
 
 pub front_written : {R : Type 0} (options : Options) (only : Option Address) (left old new : Option (List ℕ)) (outcome : TraceOutcome) (text : List ℕ) (r : Result R Fault) → IfSome left (λ file. IsReport options only file outcome text)
-    → OnErr r (is_malformed outcome ≡ false) → OnErr r (AppendsFront old new text) → AtWrite r (IfSome left (λ file. IsReportFront options only file old new))
+    → OnErr r (is_malformed outcome ≡ false) → OnErr r (AppendsFront old new text) → AtFailedWrite r (IfSome left (λ file. IsReportFront options only file old new))
 front_written options only left old new outcome text (Ok x) told wellformed front = λ e. absurd (cc e)
 front_written options only None old new outcome text (Err fault) told wellformed front = λ e. tt
 front_written options only (Some file) old new outcome text (Err fault) told wellformed front = λ e. record { outcome = outcome; text = text; report = told; wellformed = wellformed; front = front }
@@ -44,11 +44,11 @@ not_malformed outcome fault is not = let e : is_malformed (Malformed fault) ≡ 
 
 -- of a file that is no trace nothing is written
 pub silent : {R : Type 0} (options : Options) (only : Option Address) (left old new : Option (List ℕ)) (outcome : TraceOutcome) (text : List ℕ) (r : Result R Fault) → IfSome left (λ file. IsReport options only file outcome text)
-    → OnOk r (IsReportWritten outcome old new text) → OnErr r (is_malformed outcome ≡ false) → KeepsAtFault left old new
+    → OnOk r (IsReportWritten outcome old new text) → OnErr r (is_malformed outcome ≡ false) → KeepsUnlessWritten left old new
 silent options only None old new outcome text r told written wellformed = tt
 silent options only (Some file) old new outcome text (Ok x) told written wellformed = λ fault faulty.
-    let is = subst (λ (read : Result (List Seen) TraceFault). IsReportOf options only read outcome text) faulty told in
+    let is = subst (λ (read : Result (List Seen) TraceFault). IsReportOn options only read outcome text) faulty told in
     subst (λ (o : TraceOutcome). IsReportWritten o old new text) is.0 written
 silent options only (Some file) old new outcome text (Err e) told written wellformed = λ fault faulty.
-    let is = subst (λ (read : Result (List Seen) TraceFault). IsReportOf options only read outcome text) faulty told in
+    let is = subst (λ (read : Result (List Seen) TraceFault). IsReportOn options only read outcome text) faulty told in
     absurd (not_malformed outcome fault is.0 wellformed)

@@ -50,7 +50,7 @@ pub record AreItemsExplained (config : Sizes) (stores : StoreListing) (items : L
   pub counted : actions ≡ count_by is_action witness
 
 -- it explains just these items of its line, of which there are some: its flits, loads and stores, in their order
-pub record IsLineExplained (config : Sizes) (stores : StoreListing) (items : List Resolved) (one : LineExplanation) : Type 0 where
+pub record IsOneLineExplained (config : Sizes) (stores : StoreListing) (items : List Resolved) (one : LineExplanation) : Type 0 where
   pub some : 1 ≤ length items
   pub explained : IsExplained config stores one.memory one.witness (said_by items)
 
@@ -65,7 +65,7 @@ AreOfTheirOwnLines (one ∷ others) = All (λ other. other.line.0 < one.line.0) 
 -- the items of each of so many cache lines are explained, by so many actions in all
 pub record AreLinesExplained (config : Sizes) (stores : StoreListing) (items : List Resolved) (actions lines : ℕ) : Type 0 where
   pub explanations : List LineExplanation
-  pub each : All (λ one. IsLineExplained config stores (items_of one.line items) one) explanations
+  pub each : All (λ one. IsOneLineExplained config stores (items_of one.line items) one) explanations
   pub all : All (λ item. is_explained_by explanations item ≡ true) items
   pub once : AreOfTheirOwnLines explanations
   pub actions_are : actions ≡ sum_by action_count explanations

@@ -25,17 +25,17 @@ explained_line totals =
     ++ (decimal totals.flits ++ (codes " flits" ++ (access_text totals.accesses ++ (codes " by " ++ (decimal totals.actions ++ (codes " actions on " ++ (decimal totals.lines ++ (codes " lines" ++ (10 ∷ [])))))))))
 
 -- the number of a flit's line in the file
-abbrev pub number_of : Option Seen → ℕ
-number_of None = 0
-number_of (Some seen) = seen.line
+abbrev pub flit_number_of : Option Seen → ℕ
+flit_number_of None = 0
+flit_number_of (Some seen) = seen.line
 
 abbrev pub numbered : ℕ → List ℕ
 numbered line = codes "line " ++ (decimal line ++ codes ": ")
 
 -- the line on a trace that isn't
 abbrev pub stop_front : List Seen → TraceStop → List ℕ
-stop_front seen (Ids fault) = numbered (number_of (slice_get seen fault.at))
-stop_front seen (Flit at fault) = numbered (number_of (slice_get seen at))
+stop_front seen (Ids fault) = numbered (flit_number_of (slice_get seen fault.at))
+stop_front seen (Flit at fault) = numbered (flit_number_of (slice_get seen at))
 stop_front seen (Long line) = codes "the cache line at "
 stop_front seen (Undone line) = codes "no explanation of the cache line at "
 

@@ -64,17 +64,17 @@ IsStop fault (Long line) = fault ≡ None
 IsStop fault (Undone line) = fault ≡ None
 
 -- what comes of flits that are resolved so
-abbrev pub IsJudged : Sizes → StoreListing → List Seen → Option IdFault → List Resolved → List Resolved → TraceOutcome → Type 0
-IsJudged config stores seen fault items waiting (Explained totals) = IsAllExplained config stores seen fault items waiting totals
-IsJudged config stores seen fault items waiting (Faulty stop) = IsStop fault stop
-IsJudged config stores seen fault items waiting (Malformed cause) = ⊥
+abbrev pub IsTraceJudged : Sizes → StoreListing → List Seen → Option IdFault → List Resolved → List Resolved → TraceOutcome → Type 0
+IsTraceJudged config stores seen fault items waiting (Explained totals) = IsAllExplained config stores seen fault items waiting totals
+IsTraceJudged config stores seen fault items waiting (Faulty stop) = IsStop fault stop
+IsTraceJudged config stores seen fault items waiting (Malformed cause) = ⊥
 
-abbrev pub outcome_of : Result TraceTotals TraceStop → TraceOutcome
-outcome_of (Ok totals) = Explained totals
-outcome_of (Err stop) = Faulty stop
+abbrev pub trace_outcome_of : Result TraceTotals TraceStop → TraceOutcome
+trace_outcome_of (Ok totals) = Explained totals
+trace_outcome_of (Err stop) = Faulty stop
 
 abbrev pub IsVerdictOf : Options → List Seen → Outcome → TraceOutcome → Type 0
-IsVerdictOf options seen resolved outcome = IsJudged (verdict_sizes options.types) options.stores seen resolved.fault resolved.progress.table.flits resolved.progress.table.waiting outcome
+IsVerdictOf options seen resolved outcome = IsTraceJudged (verdict_sizes options.types) options.stores seen resolved.fault resolved.progress.table.flits resolved.progress.table.waiting outcome
 
 -- what comes of the flits of a trace, and is told of them
 pub record IsFlitsReport (options : Options) (only : Option Address) (seen : List Seen) (outcome : TraceOutcome) (text : List ℕ) : Type 0 where
@@ -82,12 +82,12 @@ pub record IsFlitsReport (options : Options) (only : Option Address) (seen : Lis
   pub told : IsOutcomeText seen only outcome text
 
 -- what comes of a file, by what the grammar reads
-abbrev pub IsReportOf : Options → Option Address → Result (List Seen) TraceFault → TraceOutcome → List ℕ → Type 0
-IsReportOf options only (Ok seen) outcome text = IsFlitsReport options only seen outcome text
-IsReportOf options only (Err fault) outcome text = (outcome ≡ Malformed fault) × BeginsWith (malformed_front fault) text
+abbrev pub IsReportOn : Options → Option Address → Result (List Seen) TraceFault → TraceOutcome → List ℕ → Type 0
+IsReportOn options only (Ok seen) outcome text = IsFlitsReport options only seen outcome text
+IsReportOn options only (Err fault) outcome text = (outcome ≡ Malformed fault) × BeginsWith (malformed_front fault) text
 
 abbrev pub IsReport : Options → Option Address → List ℕ → TraceOutcome → List ℕ → Type 0
-IsReport options only file outcome text = IsReportOf options only (trace_of file) outcome text
+IsReport options only file outcome text = IsReportOn options only (trace_of file) outcome text
 
 -- a report was written, but where the file is malformed: then nothing was
 abbrev pub IsReportWritten : TraceOutcome → Option (List ℕ) → Option (List ℕ) → List ℕ → Type 0
@@ -108,8 +108,8 @@ pub record IsReportFront (options : Options) (only : Option Address) (file : Lis
   pub front : AppendsFront old new text
 
 -- what holds where the writing of a report failed
-abbrev pub AtWrite : {A : Type 0} → Result A Fault → Type 0 → Type 0
-AtWrite result holds = IsErrOf result faults.Write → holds
+abbrev pub AtFailedWrite : {A : Type 0} → Result A Fault → Type 0 → Type 0
+AtFailedWrite result holds = IsErrOf result faults.Write → holds
 
 -- why there is no report, by the counts of failures of input and output, before and after
 abbrev pub IsUnreported : ℕ → ℕ → ℕ → ℕ → Fault → Type 0
@@ -122,5 +122,5 @@ IsUnreported read read' wrote wrote' (faults.MissingNewline line) = ⊥
 IsUnreported read read' wrote wrote' faults.TooLarge = ⊥
 
 -- where the file is malformed nothing is written
-abbrev pub KeepsAtFault : Option (List ℕ) → Option (List ℕ) → Option (List ℕ) → Type 0
-KeepsAtFault input old new = IfSome input (λ file. (fault : TraceFault) → trace_of file ≡ Err fault → Keeps old new)
+abbrev pub KeepsUnlessWritten : Option (List ℕ) → Option (List ℕ) → Option (List ℕ) → Type 0
+KeepsUnlessWritten input old new = IfSome input (λ file. (fault : TraceFault) → trace_of file ≡ Err fault → Keeps old new)

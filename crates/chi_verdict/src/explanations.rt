@@ -3,7 +3,7 @@
 ghost use Rattle.std.specs.Prelude.{◌≡◌, ◌≢◌, ◌+◌, ◌^◌, ◌<◌, IfErr, IfOk, IfSome, OnErr, OnOk, false, string_bytes};
 ghost use Rattle.std.specs.Io.KnownBytes.{Keeps};
 ghost use Rattle.chi_devices.specs.Devices.{AppendsFront, CountsFault};
-ghost use Rattle.chi_verdict.specs.Verdicts.{AtWrite, IsReport, IsReportFront, IsReportWritten, IsUnreported, KeepsAtFault, is_malformed};
+ghost use Rattle.chi_verdict.specs.Verdicts.{AtFailedWrite, IsReport, IsReportFront, IsReportWritten, IsUnreported, KeepsUnlessWritten, is_malformed};
 
 use crate::reports::{TraceOutcome, TraceReport, report_on};
 use chi_devices::{Failed, Input, Output, read_most};
@@ -60,11 +60,11 @@ pub fn explain<A: Allocator + Copy, I: Input, O: Output>(
     ensures wrote { OnOk result (O.failures output.new ≡ O.failures output.old) }
     ensures err { IfErr result (IsUnreported (I.failures input.old) (I.failures input.new)
         (O.failures output.old) (O.failures output.new)) }
-    ensures front { AtWrite result (IfSome (I.left input.old)
+    ensures front { AtFailedWrite result (IfSome (I.left input.old)
         (λ file. IsReportFront options only file (O.written output.old) (O.written output.new))) }
     ensures kept { IfErr result
         (λ fault. fault ≢ Fault.Write → Keeps (O.written output.old) (O.written output.new)) }
-    ensures silent { KeepsAtFault (I.left input.old) (O.written output.old) (O.written output.new) }
+    ensures silent { KeepsUnlessWritten (I.left input.old) (O.written output.old) (O.written output.new) }
 {
     let report = report_on_input(alloc, input, options, only)?;
     write_report(output, report)

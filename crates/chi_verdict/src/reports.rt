@@ -2,8 +2,8 @@
 
 ghost use Rattle.std.specs.Prelude.{◌≡◌, ◌≢◌, ◌-◌, IfErr, IfOk, IfSome, None, Some, not, string_bytes};
 ghost use Rattle.std.specs.List.{count_by, slice_get};
-ghost use Rattle.chi_verdict.specs.Texts.{BeginsWith, IsOutcomeText, access_text, explained_line, malformed_front, number_of, numbered, stop_front};
-ghost use Rattle.chi_verdict.specs.Verdicts.{IsFlitsReport, IsJudged, IsReport, IsStop, is_access, is_seen_access, outcome_of, verdict_sizes};
+ghost use Rattle.chi_verdict.specs.Texts.{BeginsWith, IsOutcomeText, access_text, explained_line, malformed_front, flit_number_of, numbered, stop_front};
+ghost use Rattle.chi_verdict.specs.Verdicts.{IsFlitsReport, IsTraceJudged, IsReport, IsStop, is_access, is_seen_access, trace_outcome_of, verdict_sizes};
 ghost use Rattle.chi_trace.specs.declared.faults.TraceFault.TheVariants as faults;
 ghost use Rattle.chi_verdict.specs.declared.reports.TraceOutcome.TheVariants as outcomes;
 
@@ -137,8 +137,8 @@ fn judge<A: Allocator + Copy>(
     resolution: &mut Resolution<A>,
 ) -> Result<Result<TraceTotals, TraceStop>, NoMemory>
     ensures { IfOk result (λ judged.
-        IsJudged config.now stores seen.now resolution.old.fault resolution.old.flits.items
-        resolution.old.waiting.items (outcome_of judged)) }
+        IsTraceJudged config.now stores seen.now resolution.old.fault resolution.old.flits.items
+        resolution.old.waiting.items (trace_outcome_of judged)) }
 {
     let fault = resolution.fault;
     let waiting = resolution.waiting.len();
@@ -300,7 +300,7 @@ fn explained_line<A: Allocator>(alloc: A, totals: TraceTotals) -> Result<String<
 
 /// The number of the line of the file that the flit at this place of the trace is.
 fn number_at(seen: &[Seen], at: usize) -> usize
-    ensures { result ≡ number_of (slice_get seen.now at) }
+    ensures { result ≡ flit_number_of (slice_get seen.now at) }
 {
     match seen.get(at) {
         Some(seen) => seen.line,
@@ -354,7 +354,7 @@ impl<A: Allocator + Copy> Trace<'_, A> {
         judged: Result<TraceTotals, TraceStop>,
         only: Option<Address>,
     ) -> Result<TraceReport<A>, NoMemory>
-        ensures outcome { IfOk result (λ report. report.outcome ≡ outcome_of judged) }
+        ensures outcome { IfOk result (λ report. report.outcome ≡ trace_outcome_of judged) }
         ensures text { IfOk result (λ report.
             IsOutcomeText self.now.seen.now only report.outcome (string_bytes report.text)) }
     {

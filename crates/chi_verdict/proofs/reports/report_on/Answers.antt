@@ -3,14 +3,14 @@ use Rattle.std.proofs.Common.{List, Result, subst, sym}
 use Rattle.std.specs.Prelude.{string_bytes}
 use Rattle.chi_trace.specs.declared.faults.TraceFault.{TraceFault}
 use Rattle.chi_trace.specs.declared.flits.Seen.{Seen}
-use Rattle.chi_verdict.specs.Verdicts.{IsFlitsReport, IsReportOf}
+use Rattle.chi_verdict.specs.Verdicts.{IsFlitsReport, IsReportOn}
 use Rattle.chi_verdict.proofs.VerdictLemmas.{carried, malformed_report}
 use Rattle.chi_verdict.proofs.reports.report_on.Goals as goal
 
 pub returns-in-Ok : goal.returns-in-Ok
 returns-in-Ok g c =
     carried (λ report. IsFlitsReport c.args.options c.args.only _ report.outcome (string_bytes report.text)) _ c.report_on_flits.result
-    (λ report is. subst (λ (read : Result (List Seen) TraceFault). IsReportOf c.args.options c.args.only read report.outcome (string_bytes report.text)) (sym c.in-Ok.ensures)
+    (λ report is. subst (λ (read : Result (List Seen) TraceFault). IsReportOn c.args.options c.args.only read report.outcome (string_bytes report.text)) (sym c.in-Ok.ensures)
     (subst (λ (seen : List Seen). IsFlitsReport c.args.options c.args.only seen report.outcome (string_bytes report.text)) c.deref.ensures.value is))
     c.report_on_flits.ensures
 
