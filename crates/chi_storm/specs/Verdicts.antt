@@ -56,26 +56,31 @@ pub record IsGoodSo (slices requesters : Bool) (not_open : List Bool) : Type 0 w
   pub agree : requesters ≡ true
   pub all_open : AreAllOpen not_open
 
--- each slice is coherent, no agent met refusal 11, and each requester agrees with each slice as it was seen,
--- those of all indices in their order
-pub record IsGood (config : Sizes) (slices seen : List SliceState) (requesters : List RequesterState) (not_open : List Bool) : Type 0 where
+-- the same of slices as they are
+pub record IsGood (slices : List SliceState) (requesters : Bool) (not_open : List Bool) : Type 0 where
   pub coherent : All IsCoherentSlice slices
-  pub agree : AgreeFrom config requesters 0 seen
+  pub agree : requesters ≡ true
   pub all_open : AreAllOpen not_open
 
--- what came of a storm: `slices` are those that the closed node gave, and `seen` those that were locked once
--- more before
-pub record IsOutcome (n : NodeState) (requesters : List RequesterState) (reports : List (Option Report)) (not_open : List Bool) (o : Outcome) : Type 0 where
-  pub slices : List SliceState
-  pub seen : List SliceState
-  pub counts : Counts
-  pub credits : List Credits
-  pub count : length slices ≡ n.config.slices
-  pub looked : length seen ≡ n.config.slices
-  pub agents : o.agents ≡ n.config.agents
+-- the outcome of these slices and of what the words held, where the flag says whether the requesters agree: its
+-- counts and its verdict are theirs
+pub record IsOutcomeOf (config : Sizes) (slices : List SliceState) (counts : Counts) (requesters : Bool) (reports : List (Option Report)) (not_open : List Bool) (o : Outcome) : Type 0 where
+  pub agents : o.agents ≡ config.agents
   pub finished : o.finished ≡ finished_in reports
   pub loads : o.loads ≡ loads_in slices
   pub stores : o.stores ≡ stores_in slices
+  pub holdings : o.holdings.0 ≡ totals_told counts config.profile
+  pub verdict : IsTrue o.coherent ↔ IsGood slices requesters not_open
+
+-- what came of a storm: the flag is what was seen of slices that were locked once more; `slices`, as many as the
+-- node has, and what the words held are those of the closed node, as far as a clause can know them: of what locks
+-- hold none tells
+pub record IsOutcome (n : NodeState) (requesters : List RequesterState) (reports : List (Option Report)) (not_open : List Bool) (o : Outcome) : Type 0 where
+  pub slices : List SliceState
+  pub counts : Counts
+  pub credits : List Credits
+  pub agree : Bool
+  pub seen : SeenToAgree n.config.slices n.config requesters agree
+  pub count : length slices ≡ n.config.slices
   pub closed : IsClosed n.tracker.shape (views_of (owners_of requesters)) (longest (owners_of requesters)) counts credits
-  pub holdings : o.holdings.0 ≡ totals_told counts n.config.profile
-  pub verdict : IsTrue o.coherent ↔ IsGood n.config slices seen requesters not_open
+  pub outcome : IsOutcomeOf n.config slices counts agree reports not_open o

@@ -7,20 +7,20 @@ ghost use Rattle.chi_storm.specs.Scripts.{deeds_of, agent_script, scripts_below}
 
 use chi_agent::Script;
 use chi_audit::{Tallies, Writer};
-use chi_flit::{NoMemory, Operation};
+use chi_flit::{Agent, NoMemory, Operation};
 use chi_script::AgentOperation;
 use std::alloc::{AllocError, Allocator, Global};
 
 /// Whether an operation is the agent's.
-fn is_of(deed: &AgentOperation, agent: u8) -> bool
-    ensures { result ≡ (deed.now.agent.0 == agent) }
+fn is_of(deed: &AgentOperation, agent: Agent) -> bool
+    ensures { result ≡ (deed.now.agent.0 == agent.0) }
 {
-    deed.agent.0 == agent
+    deed.agent.0 == agent.0
 }
 
 /// How many of the file's operations are the agent's.
-fn count_of(deeds: &[AgentOperation], agent: u8) -> usize
-    ensures { result ≡ length (deeds_of agent deeds.now) }
+fn count_of(deeds: &[AgentOperation], agent: Agent) -> usize
+    ensures { result ≡ length (deeds_of agent.0 deeds.now) }
 {
     let mut count = 0;
     for deed in deeds {
@@ -37,9 +37,9 @@ fn count_of(deeds: &[AgentOperation], agent: u8) -> usize
 pub fn agent_script<A: Allocator>(
     alloc: A,
     deeds: &[AgentOperation],
-    agent: u8,
+    agent: Agent,
 ) -> Result<Vec<Operation, A>, AllocError>
-    ensures script { IfOk result (λ script. script.items ≡ agent_script agent deeds.now) }
+    ensures script { IfOk result (λ script. script.items ≡ agent_script agent.0 deeds.now) }
     ensures room { IfOk result (λ script. vec_capacity script ≡ length script.items) }
 {
     let mut script = Vec::with_capacity(alloc, count_of(deeds, agent))?;
@@ -71,7 +71,7 @@ pub(crate) fn scripts_of(
 {
     let mut scripts = Vec::with_capacity(alloc, usize::from(agents))?;
     for agent in 0..agents {
-        let script = agent_script(alloc, deeds, agent)?;
+        let script = agent_script(alloc, deeds, Agent(agent))?;
         let writer = writers.remove(0);
         scripts.push_reserved(Script::new(writer.agent(), script, writer));
     }

@@ -1,8 +1,8 @@
 //! The verdict on a storm.
 
-ghost use Rattle.std.specs.Prelude.{◌≡◌, ◌<◌, ◌↔◌, IsTrue};
+ghost use Rattle.std.specs.Prelude.{◌≡◌, ◌<◌, ◌↔◌, IsTrue, length};
 ghost use Rattle.chi_node.specs.Node.{AreOwn, IsSliceOf};
-ghost use Rattle.chi_storm.specs.Verdicts.{AreAllOpen, IsGoodSo, IsOutcome, SeenAt, SeenToAgree, finished_in, is_finished};
+ghost use Rattle.chi_storm.specs.Verdicts.{AreAllOpen, IsGoodSo, IsOutcome, IsOutcomeOf, SeenAt, SeenToAgree, finished_in, is_finished};
 
 use crate::outcome::Outcome;
 use chi_agent::Ended;
@@ -12,6 +12,7 @@ use chi_node::{Node, Requester, agree_with};
 use chi_replay::totals_told;
 use chi_reply::StormTotals;
 use chi_slice::{Config, Slice, audit_of};
+use chi_tracker::Counts;
 use std::alloc::Allocator;
 use std::sync::Wait;
 
@@ -103,6 +104,36 @@ pub fn verdict_of(coherent: bool, agree: bool, not_open: &[bool]) -> bool
     coherent & agree & all_open
 }
 
+/// The outcome of slices that are those of a node of that size, of what the words of its tracker held, and of
+/// what its agents told: loads and stores are those in the journals of these slices, and the verdict is
+/// `coherent` exactly where each of these slices is coherent, its journal legal, the requesters agree, and no
+/// agent met refusal 11. Takes no memory.
+///
+/// Condition: there are as many slices as the size says.
+/// Source: `docs/FORMATS.md`, "The output of a storm".
+pub fn outcome_from<A: Allocator>(
+    config: &Config,
+    slices: &[Slice<A>],
+    counts: Counts,
+    agree: bool,
+    reports: &[Option<Report>; 8],
+    not_open: &[bool],
+) -> Outcome
+    requires { length slices.now ≡ config.now.slices }
+    ensures { IsOutcomeOf config.now slices.now counts agree reports.now not_open.now result }
+{
+    let agents = config.agents();
+    let audit = audit_of(slices);
+    Outcome {
+        agents,
+        finished: finished_in(reports),
+        loads: audit.loads,
+        stores: audit.stores,
+        holdings: StormTotals(totals_told(counts, config.profile())),
+        coherent: verdict_of(audit.coherent, agree, not_open),
+    }
+}
+
 /// What came of a storm on the node, whose agents have ended so. Each slice is locked once more before the
 /// node is closed; it may wait for another thread that has the lock. Takes no memory.
 ///
@@ -113,7 +144,6 @@ pub fn outcome_of<R: Wait, A: Allocator>(rt: &R, node: Node<A>, ended: Ended) ->
     ensures { IsOutcome node ended.requesters.items ended.gathered.reports ended.not_open.items result }
 {
     let config = *node.config();
-    let agents = config.agents();
     let Ended {
         requesters,
         not_open,
@@ -122,15 +152,13 @@ pub fn outcome_of<R: Wait, A: Allocator>(rt: &R, node: Node<A>, ended: Ended) ->
     } = ended;
     let agree = all_agree(rt, &node, requesters.as_slice());
     let (slices, totals) = node.close(requesters);
-    let audit = audit_of(&slices);
     let met = not_open.as_slice();
-    let holdings = totals_told(totals.counts, config.profile());
-    Outcome {
-        agents,
-        finished: finished_in(&gathered.reports),
-        loads: audit.loads,
-        stores: audit.stores,
-        holdings: StormTotals(holdings),
-        coherent: verdict_of(audit.coherent, agree, met),
-    }
+    outcome_from(
+        &config,
+        &slices,
+        totals.counts,
+        agree,
+        &gathered.reports,
+        met,
+    )
 }
