@@ -19,8 +19,10 @@ struct Rounds<'r, 'n, R> {
     node: &'n Node<Global>,
     /// So many turns have ended.
     ended: AtomicU64,
-    /// Whether an agent's request on line 0 or on line 1 was in phase Retried before its last turn.
-    retried: [[AtomicBool; 2]; 8],
+    /// Whether an agent's request on line 0 was in phase Retried before its last turn.
+    first: [AtomicBool; 8],
+    /// The same on line 1.
+    second: [AtomicBool; 8],
     cancelled: AtomicBool,
 }
 
@@ -46,13 +48,16 @@ impl<R: Wait> Rounds<'_, '_, R> {
     /// A request in phase Retried that is gone after one turn of its agent was cancelled: a resent one is in
     /// phase Sent.
     fn look(&self, agent: Agent, line: u8) {
-        let (own, place) = (usize::from(agent.0), usize::from(line));
-        if own > 7 || place > 1 {
+        let own = usize::from(agent.0);
+        if own > 7 {
             return;
         }
         let phase = phase_at(self.rt, self.node, agent, Line(line));
         let retried = phase == Some(Phase::Retried);
-        let before = self.retried[own][place].swap(retried, Ordering::SeqCst);
+        let before = match line {
+            0 => self.first[own].swap(retried, Ordering::SeqCst),
+            _ => self.second[own].swap(retried, Ordering::SeqCst),
+        };
         if before && phase.is_none() {
             self.cancelled.store(true, Ordering::SeqCst);
         }
@@ -82,8 +87,13 @@ impl<R: Wait + Sync> Gate for Rounds<'_, '_, R> {
 }
 
 /// No request was in phase Retried.
-fn none() -> [AtomicBool; 2] {
-    [AtomicBool::new(false), AtomicBool::new(false)]
+fn none() -> [AtomicBool; 8] {
+    [off(), off(), off(), off(), off(), off(), off(), off()]
+}
+
+/// A mark that isn't set.
+fn off() -> AtomicBool {
+    AtomicBool::new(false)
 }
 
 /// What was gathered of each agent is that its script finished, with its four stores.
@@ -110,16 +120,8 @@ fn a_storm_goes_on_behind_a_cancelled_request(rt: HostRuntime) {
         rt: &rt,
         node: &node,
         ended: AtomicU64::new(0),
-        retried: [
-            none(),
-            none(),
-            none(),
-            none(),
-            none(),
-            none(),
-            none(),
-            none(),
-        ],
+        first: none(),
+        second: none(),
         cancelled: AtomicBool::new(false),
     };
     let ran = run_agents(
