@@ -19,11 +19,40 @@ struct Rounds<'r, 'n, R> {
     node: &'n Node<Global>,
     /// So many turns have ended.
     ended: AtomicU64,
-    /// Whether an agent's request on line 0 was in phase Retried before its last turn.
-    first: [AtomicBool; 8],
-    /// The same on line 1.
-    second: [AtomicBool; 8],
+    /// Of line 0.
+    first: Retried,
+    /// Of line 1.
+    second: Retried,
     cancelled: AtomicBool,
+}
+
+/// Whether an agent's request on a line was in phase Retried before its last turn.
+#[derive(Drop)]
+struct Retried {
+    marks: [AtomicBool; 8],
+}
+
+impl Retried {
+    /// No request was.
+    fn new() -> Retried {
+        Retried {
+            marks: [off(), off(), off(), off(), off(), off(), off(), off()],
+        }
+    }
+
+    /// Whether the agent's request was, which is now or isn't.
+    fn swap(&self, agent: Agent, now: bool) -> bool {
+        let own = usize::from(agent.0);
+        if own > 7 {
+            return false;
+        }
+        self.marks[own].swap(now, Ordering::SeqCst)
+    }
+}
+
+/// A mark that isn't set.
+fn off() -> AtomicBool {
+    AtomicBool::new(false)
 }
 
 /// How far the request that the agent has pending on the line has come, if it has one.
@@ -48,15 +77,11 @@ impl<R: Wait> Rounds<'_, '_, R> {
     /// A request in phase Retried that is gone after one turn of its agent was cancelled: a resent one is in
     /// phase Sent.
     fn look(&self, agent: Agent, line: u8) {
-        let own = usize::from(agent.0);
-        if own > 7 {
-            return;
-        }
         let phase = phase_at(self.rt, self.node, agent, Line(line));
         let retried = phase == Some(Phase::Retried);
         let before = match line {
-            0 => self.first[own].swap(retried, Ordering::SeqCst),
-            _ => self.second[own].swap(retried, Ordering::SeqCst),
+            0 => self.first.swap(agent, retried),
+            _ => self.second.swap(agent, retried),
         };
         if before && phase.is_none() {
             self.cancelled.store(true, Ordering::SeqCst);
@@ -86,16 +111,6 @@ impl<R: Wait + Sync> Gate for Rounds<'_, '_, R> {
     }
 }
 
-/// No request was in phase Retried.
-fn none() -> [AtomicBool; 8] {
-    [off(), off(), off(), off(), off(), off(), off(), off()]
-}
-
-/// A mark that isn't set.
-fn off() -> AtomicBool {
-    AtomicBool::new(false)
-}
-
 /// What was gathered of each agent is that its script finished, with its four stores.
 fn have_finished(ended: &Ended) -> bool {
     let mut finished = ended.gathered.complete;
@@ -120,8 +135,8 @@ fn a_storm_goes_on_behind_a_cancelled_request(rt: HostRuntime) {
         rt: &rt,
         node: &node,
         ended: AtomicU64::new(0),
-        first: none(),
-        second: none(),
+        first: Retried::new(),
+        second: Retried::new(),
         cancelled: AtomicBool::new(false),
     };
     let ran = run_agents(
