@@ -2,6 +2,7 @@
  * and differs then; once it has done the action itself it is the same again. Another copy, made at the start of each run,
  * goes along with all of it. */
 #include "chihome.h"
+#include "drawn.h"
 
 #include <inttypes.h>
 #include <stdio.h>
@@ -9,19 +10,6 @@
 enum { AGENTS = 4, LINES = 4, RUNS = 1000, EACH = 1000 };
 
 static ChiSlice model, along, before;
-static int failures;
-
-#define HOLDS(it) ((it) ? (void)0 : (void)(failures++, printf("%s:%d: %s\n", __FILE__, __LINE__, #it)))
-
-static uint64_t state;
-
-static uint64_t drawn(void) {
-    state += UINT64_C(0x9E3779B97F4A7C15);
-    uint64_t word = (state ^ (state >> 30)) * UINT64_C(0xBF58476D1CE4E5B9);
-    word = (word ^ (word >> 27)) * UINT64_C(0x94D049BB133111EB);
-    return word ^ (word >> 31);
-}
-
 static int are_same(ChiSlice *one, ChiSlice *other) {
     uint8_t equal = 2, back = 2;
     HOLDS(chi_slice_equal(one, other, &equal) == CHI_OK && chi_slice_equal(other, one, &back) == CHI_OK);

@@ -3,24 +3,12 @@
  * doubled or changed no fault is told before that flit, and the first stays. A monitor that keeps no flits takes a run of
  * many without a fault. */
 #include "chihome.h"
+#include "drawn.h"
 
 #include <stdio.h>
 #include <string.h>
 
 enum { AGENTS = 3, LINES = 2, RUNS = 400, ACTIONS = 400, LONG = 300000, MOST = 4096 };
-
-static int failures;
-
-#define HOLDS(it) ((it) ? (void)0 : (void)(failures++, printf("%s:%d: %s\n", __FILE__, __LINE__, #it)))
-
-static uint64_t state;
-
-static uint64_t drawn(void) {
-    state += UINT64_C(0x9E3779B97F4A7C15);
-    uint64_t word = (state ^ (state >> 30)) * UINT64_C(0xBF58476D1CE4E5B9);
-    word = (word ^ (word >> 27)) * UINT64_C(0x94D049BB133111EB);
-    return word ^ (word >> 31);
-}
 
 static uint8_t below(uint8_t many) { return (uint8_t)(drawn() % many); }
 

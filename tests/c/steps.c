@@ -3,6 +3,7 @@
  * in flight afterwards. The actions of an agent at a line that chi_slice_enabled lists have to be those that
  * chi_slice_refusal would let be done, of each step once, with the lowest slot. */
 #include "chihome.h"
+#include "drawn.h"
 
 #include <inttypes.h>
 #include <stdio.h>
@@ -11,18 +12,6 @@
 enum { AGENTS = 4, LINES = 4, MANY = 1000000 };
 
 static ChiSlice one, other;
-static int failures;
-
-#define HOLDS(it) ((it) ? (void)0 : (void)(failures++, printf("%s:%d: %s\n", __FILE__, __LINE__, #it)))
-
-static uint64_t state;
-
-static uint64_t drawn(void) {
-    state += UINT64_C(0x9E3779B97F4A7C15);
-    uint64_t word = (state ^ (state >> 30)) * UINT64_C(0xBF58476D1CE4E5B9);
-    word = (word ^ (word >> 27)) * UINT64_C(0x94D049BB133111EB);
-    return word ^ (word >> 31);
-}
 
 static int is_same(const ChiFlit *flit, const ChiFlit *wanted) {
     return flit->message == wanted->message && flit->kind == wanted->kind && flit->slot == wanted->slot &&
