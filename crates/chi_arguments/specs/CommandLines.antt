@@ -86,25 +86,25 @@ command_lines =
 -- that is written where one is given, a storm with its seed and its turns, the cells that files reach, or those alone that they don't,
 -- or a check file with this header that is drawn, by its seed, the number of its commands, how many in a hundred are drawn from all, and
 -- whether it goes on until nothing is in flight
-pub data Asked : Type 0 where
-  replay : Text → Asked
-  check : List Text → Bool → Asked
-  chart : Text → Option Line → RowRange → Asked
-  explain : Text → Types → StoreListing → Bool → Option Address → Asked
-  storm : Text → ℕ → ℕ → Asked
-  cover : List Text → Bool → Asked
-  draw : Text → ℕ → ℕ → ℕ → Bool → Asked
+pub data AskedCommand : Type 0 where
+  replay : Text → AskedCommand
+  check : List Text → Bool → AskedCommand
+  chart : Text → Option Line → RowRange → AskedCommand
+  explain : Text → Types → StoreListing → Bool → Option Address → AskedCommand
+  storm : Text → ℕ → ℕ → AskedCommand
+  cover : List Text → Bool → AskedCommand
+  draw : Text → ℕ → ℕ → ℕ → Bool → AskedCommand
 
 -- behind `replay` stands the path
-abbrev pub replay_in : List Row → Option Asked
+abbrev pub replay_in : List Row → Option AskedCommand
 replay_in rows = option_map replay (first_of (codes "FILE") rows)
 
 -- behind `check` stand the paths, and whether TAP is printed
-abbrev pub check_in : List Row → Option Asked
+abbrev pub check_in : List Row → Option AskedCommand
 check_in rows = option_map (λ paths. check paths (is_given (first_of (codes "tap") rows))) (all_of (codes "FILE") rows)
 
 -- behind `chart` stand the path and the options
-abbrev pub chart_in : List Row → Option Asked
+abbrev pub chart_in : List Row → Option AskedCommand
 chart_in rows = do
   path ← first_of (codes "FILE") rows
   only ← line_option (first_of (codes "line") rows)
@@ -112,7 +112,7 @@ chart_in rows = do
   Some (chart path only range)
 
 -- behind `explain` stand the path and the options
-abbrev pub explain_in : List Row → Option Asked
+abbrev pub explain_in : List Row → Option AskedCommand
 explain_in rows = do
   path ← first_of (codes "FILE") rows
   types ← types_option (first_of (codes "types") rows)
@@ -121,7 +121,7 @@ explain_in rows = do
   Some (explain path types stores (is_given (first_of (codes "early-grants") rows)) only)
 
 -- behind `storm` stand the path and the options
-abbrev pub storm_asked : List Row → Option Asked
+abbrev pub storm_asked : List Row → Option AskedCommand
 storm_asked rows = do
   path ← first_of (codes "FILE") rows
   seed ← seed_of (first_of (codes "seed") rows)
@@ -129,11 +129,11 @@ storm_asked rows = do
   Some (storm path seed turns)
 
 -- behind `cover` stand the paths, and whether only missing cells are listed
-abbrev pub cover_in : List Row → Option Asked
+abbrev pub cover_in : List Row → Option AskedCommand
 cover_in rows = option_map (λ paths. cover paths (is_given (first_of (codes "missing") rows))) (all_of (codes "FILE") rows)
 
 -- behind `draw` stand the header and the options
-abbrev pub draw_in : List Row → Option Asked
+abbrev pub draw_in : List Row → Option AskedCommand
 draw_in rows = do
   header ← first_of (codes "HEADER") rows
   seed ← seed_of (first_of (codes "seed") rows)
@@ -142,7 +142,7 @@ draw_in rows = do
   Some (draw header seed commands wild (is_given (first_of (codes "drain") rows)))
 
 -- what a subcommand and what stands behind it ask for
-abbrev pub asked_behind : Text × List Row → Option Asked
+abbrev pub asked_behind : Text × List Row → Option AskedCommand
 asked_behind (name, rows) =
     if bytes_eq name (codes "replay") then replay_in rows else (
     if bytes_eq name (codes "check") then check_in rows else (
@@ -153,16 +153,16 @@ asked_behind (name, rows) =
     if bytes_eq name (codes "draw") then draw_in rows else None))))))
 
 -- the same, where the words have no fault
-abbrev pub asked_if : Kinds → Option (Text × List Row) → Option Asked
+abbrev pub asked_if : Kinds → Option (Text × List Row) → Option AskedCommand
 asked_if [] found = option_and_then asked_behind found
 asked_if (kind ∷ kinds) found = None
 
 -- what the words ask for, where they are a command line of the program
-abbrev pub asked_in : List Text → Option Asked
+abbrev pub asked_in : List Text → Option AskedCommand
 asked_in words = asked_if (fault_of command_lines words) (subcommand_of command_lines words)
 
 -- a job, with its paths as texts
-abbrev pub asked_by : Job → Asked
+abbrev pub asked_by : Job → AskedCommand
 asked_by (Replay path) = replay path.now
 asked_by (Check paths tap) = check (map (λ path. path.now) paths.items) tap
 asked_by (Chart path only rows) = chart path.now only rows
@@ -172,7 +172,7 @@ asked_by (Cover paths missing) = cover (map (λ path. path.now) paths.items) mis
 asked_by (Draw header seed commands wild drain) = draw header.now seed commands wild drain
 
 -- the job is what was asked for, and the words are bad where nothing is; memory may run out at any words
-abbrev pub IsAsked : Option Asked → Result Job ArgFault → Type 0
+abbrev pub IsAsked : Option AskedCommand → Result Job ArgFault → Type 0
 IsAsked asked (Ok job) = asked ≡ Some (asked_by job)
 IsAsked asked (Err Bad) = asked ≡ None
 IsAsked asked (Err NoMemory) = Unit {0}

@@ -17,14 +17,14 @@ use Rattle.chi_chart.specs.declared.rows.ChartPart.{ChartPart}
 use Rattle.chi_chart.specs.Charts.{IsChart, IsChartOf, IsLayout, title_of}
 use Rattle.chi_chart.specs.Headings.{lines_behind}
 use Rattle.chi_chart.specs.Picture.{svg_of}
-use Rattle.chi_chart.specs.Played.{Drawing, IsDrawnRun}
+use Rattle.chi_chart.specs.Played.{DrawnChart, IsDrawnRun}
 use Rattle.chi_chart.specs.Rows.{ChartRow, below_headings, bottom_of, top}
 
 -- what is drawn of a file with this header and these checks
-abbrev pub drawing_of : List ℕ → Header → List CheckLine → ChartPart → Drawing
+abbrev pub drawing_of : List ℕ → Header → List CheckLine → ChartPart → DrawnChart
 drawing_of file header checks part = record { config = node_sizes header; checks = checks; part = part; lines = lines_behind (lines_of file); top = top (title_of file) }
 
-pub same_drawing : (file : List ℕ) (header : Header) (checks : List CheckLine) (part : ChartPart) (d : Drawing) → d.config ≡ node_sizes header → d.checks ≡ checks → d.part ≡ part → d.lines ≡ lines_behind (lines_of file) → d.top ≡ top (title_of file)
+pub same_drawing : (file : List ℕ) (header : Header) (checks : List CheckLine) (part : ChartPart) (d : DrawnChart) → d.config ≡ node_sizes header → d.checks ≡ checks → d.part ≡ part → d.lines ≡ lines_behind (lines_of file) → d.top ≡ top (title_of file)
     → d ≡ drawing_of file header checks part
 same_drawing file header checks part d config same_checks same_part lines high =
     ap (λ (x : Sizes). record { config = x; checks = d.checks; part = d.part; lines = d.lines; top = d.top }) config
@@ -37,10 +37,10 @@ pub top_by : {T : Type 0} (f : T → List ℕ) (items : List T) (n y : ℕ) → 
 top_by f items n y is all = is ∙ ap (below_headings 70 false) (all ∙ sym (length-map items f))
 
 -- the rows of a run of the commands, drawn, are the chart
-chart_of_run : (file : List ℕ) (header : Header) (checks : List CheckLine) (part : ChartPart) (d : Drawing) (title : List (List ℕ)) (rows : List ChartRow) (bottom : ℕ) (layout : Layout) (bytes : List ℕ)
+chart_of_run : (file : List ℕ) (header : Header) (checks : List CheckLine) (part : ChartPart) (d : DrawnChart) (title : List (List ℕ)) (rows : List ChartRow) (bottom : ℕ) (layout : Layout) (bytes : List ℕ)
     → d ≡ drawing_of file header checks part → title ≡ title_of file → IsDrawnRun d rows bottom → IsLayout header layout → bytes ≡ svg_of layout title bottom rows → IsChart file header checks part bytes
 chart_of_run file header checks part d title rows bottom layout bytes is named run laid drawn =
-    let runs : IsDrawnRun (drawing_of file header checks part) rows bottom = subst (λ (x : Drawing). IsDrawnRun x rows bottom) is run in
+    let runs : IsDrawnRun (drawing_of file header checks part) rows bottom = subst (λ (x : DrawnChart). IsDrawnRun x rows bottom) is run in
     record {
       answers = runs.rows_are.answers;
       allowed = runs.rows_are.allowed;
@@ -49,7 +49,7 @@ chart_of_run file header checks part d title rows bottom layout bytes is named r
       same = drawn ∙ (ap (λ (t : List (List ℕ)). svg_of layout t bottom rows) named ∙ (ap (λ (y : ℕ). svg_of layout (title_of file) y rows) runs.ends ∙ ap (λ (all : List ChartRow). svg_of layout (title_of file) (bottom_of (top (title_of file)) all) all) runs.rows_are.same));
     }
 
-pub chart_if_drawn : {T : Type 0} (bytes_of : T → List ℕ) (result : Result T NoMemory) (file : List ℕ) (header : Header) (checks : List CheckLine) (part : ChartPart) (d : Drawing) (title : List (List ℕ)) (rows : List ChartRow) (bottom : ℕ) (layout : Layout)
+pub chart_if_drawn : {T : Type 0} (bytes_of : T → List ℕ) (result : Result T NoMemory) (file : List ℕ) (header : Header) (checks : List CheckLine) (part : ChartPart) (d : DrawnChart) (title : List (List ℕ)) (rows : List ChartRow) (bottom : ℕ) (layout : Layout)
     → d ≡ drawing_of file header checks part → title ≡ title_of file → IsDrawnRun d rows bottom → IsLayout header layout → IfOk result (λ text. bytes_of text ≡ svg_of layout title bottom rows) → IfOk result (λ text. IsChart file header checks part (bytes_of text))
 chart_if_drawn bytes_of (Ok text) file header checks part d title rows bottom layout is named run laid drawn = chart_of_run file header checks part d title rows bottom layout (bytes_of text) is named run laid drawn
 chart_if_drawn bytes_of (Err fault) file header checks part d title rows bottom layout is named run laid drawn = drawn

@@ -4,8 +4,8 @@ use Rattle.std.specs.Io.KnownBytes.{Appends}
 use Rattle.chi_devices.specs.Devices.{AppendsFront}
 use Rattle.chi_script.specs.Headers.{node_sizes}
 use Rattle.chi_script.specs.declared.headers.Header.{Header}
-use Rattle.chi_replay.specs.Texts.{Allowed, opening_ports}
-use Rattle.chi_replay.specs.Turns.{Answer, machine_at_start}
+use Rattle.chi_replay.specs.Texts.{MayAnswer, opening_ports}
+use Rattle.chi_replay.specs.Turns.{TurnAnswer, machine_at_start}
 use Rattle.chi_script.specs.Checks.{CheckLine}
 use Rattle.chi_script.specs.CheckFiles.{check_file_of}
 use Rattle.chi_script.specs.Files.{lines_of}
@@ -22,7 +22,7 @@ abbrev pub title_of : List ℕ → List (List ℕ)
 title_of file = headings_in (lines_of file)
 
 -- the rows of the commands of a file with this header and these checks, where the tracker answers so
-abbrev pub rows_in : List ℕ → Header → List CheckLine → ChartPart → List Answer → List ChartRow
+abbrev pub rows_in : List ℕ → Header → List CheckLine → ChartPart → List TurnAnswer → List ChartRow
 rows_in file header checks part tracked =
     rows_of part (first_place (top (title_of file))) (lines_behind (lines_of file)) (steps_of (machine_at_start (node_sizes header)) checks tracked)
 
@@ -34,8 +34,8 @@ pub record IsLayout (header : Header) (layout : Layout) : Type 0 where
 
 -- the bytes are the chart of the steps of the commands, under answers that the tracker may give
 pub record IsChart (file : List ℕ) (header : Header) (checks : List CheckLine) (part : ChartPart) (bytes : List ℕ) : Type 0 where
-  pub answers : List Answer
-  pub allowed : Allowed (machine_at_start (node_sizes header)) (opening_ports (node_sizes header)) (commands_in checks) answers
+  pub answers : List TurnAnswer
+  pub allowed : MayAnswer (machine_at_start (node_sizes header)) (opening_ports (node_sizes header)) (commands_in checks) answers
   pub layout : Layout
   pub sizes : IsLayout header layout
   pub same : bytes ≡ svg_of layout (title_of file) (bottom_of (top (title_of file)) (rows_in file header checks part answers)) (rows_in file header checks part answers)
@@ -48,8 +48,8 @@ pub record IsChartOf (part : ChartPart) (file bytes : List ℕ) : Type 0 where
   pub chart : IsChart file header checks part bytes
 
 -- the chart of the file that an input had was written, no more
-abbrev pub Draws : ChartPart → Option (List ℕ) → Option (List ℕ) → Option (List ℕ) → Type 0
-Draws part left old new = IfSome left (λ file. (bytes : List ℕ) × IsChartOf part file bytes × Appends old new bytes)
+abbrev pub WritesChart : ChartPart → Option (List ℕ) → Option (List ℕ) → Option (List ℕ) → Type 0
+WritesChart part left old new = IfSome left (λ file. (bytes : List ℕ) × IsChartOf part file bytes × Appends old new bytes)
 
 -- a beginning of it was written
 abbrev pub Begins : ChartPart → Option (List ℕ) → Option (List ℕ) → Option (List ℕ) → Type 0

@@ -9,7 +9,7 @@ use Rattle.chi_chart.specs.declared.rows.ChartPart.{ChartPart}
 use Rattle.chi_chart.specs.declared.rows.RowPlace.{RowPlace}
 use Rattle.chi_chart.specs.Headings.{headings_in, lines_behind}
 use Rattle.chi_chart.specs.Marks.{marks_between}
-use Rattle.chi_chart.specs.Steps.{Step, line_of_command, seen_line}
+use Rattle.chi_chart.specs.Steps.{ChartStep, line_of_command, seen_line}
 
 -- a command by its number, its answer, the wanted one where that is another, and what it changed; it begins below so many
 -- pixels, with the names where they are repeated and its headings, and its command below them
@@ -71,7 +71,7 @@ below_wanted y (Some wanted) = y + 16
 abbrev pub below_row : ChartRow → ℕ
 below_row row = below_wanted (below_marks row.y row.marks + 20) row.wanted
 
-abbrev pub row_of : RowPlace → List (List ℕ) → Step → ChartRow
+abbrev pub row_of : RowPlace → List (List ℕ) → ChartStep → ChartRow
 row_of at headings step = record {
   number = at.number;
   start = at.y;
@@ -104,7 +104,7 @@ next_place true at row = record { number = at.number + 1; drawn = at.drawn + 1; 
 next_place false at row = record { number = at.number + 1; drawn = at.drawn; y = at.y }
 
 -- the rows of the steps that are shown, where these lines of the file are left
-abbrev pub rows_of : ChartPart → RowPlace → List (List ℕ) → List Step → List ChartRow
+abbrev pub rows_of : ChartPart → RowPlace → List (List ℕ) → List ChartStep → List ChartRow
 rows_of part at left [] = []
 rows_of part at left (step ∷ steps) =
     shown_rows (is_in_part part at.number (line_of_command step.check.command)) (row_of at (headings_in left) step)

@@ -9,18 +9,18 @@ use Rattle.chi_script.specs.declared.commands.Command.TheVariants as commands
 use Rattle.chi_script.specs.Checks.{CheckLine}
 use Rattle.chi_node.specs.Home.{HomeState, node_last, node_line, node_view_refusal}
 use Rattle.chi_replay.specs.Texts.{ending}
-use Rattle.chi_replay.specs.Turns.{Answer, Machine, turn}
+use Rattle.chi_replay.specs.Turns.{TurnAnswer, Machine, turn}
 
 -- a command with the answer that is wanted of it, the line that a replay prints for it, with its end, and the home
 -- before and after
-pub record Step : Type 0 where
+pub record ChartStep : Type 0 where
   pub check : CheckLine
   pub answer : List ℕ
   pub before : HomeState
   pub after : HomeState
 
 -- the steps of commands one after the other, where the tracker answers so
-abbrev pub steps_of : Machine → List CheckLine → List Answer → List Step
+abbrev pub steps_of : Machine → List CheckLine → List TurnAnswer → List ChartStep
 steps_of m [] answers = []
 steps_of m (check ∷ rest) answers =
     record {

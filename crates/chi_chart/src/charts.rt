@@ -7,7 +7,7 @@ ghost use Rattle.chi_script.specs.Headers.{is_in_limits};
 ghost use Rattle.chi_replay.specs.Replays.{AtWrite, KeepsAtFault, NoText, NoTextAt, RefusesFault};
 ghost use Rattle.chi_script.specs.Checks.{line_of_check};
 ghost use Rattle.chi_script.specs.CheckFiles.{check_file_of};
-ghost use Rattle.chi_chart.specs.Charts.{Begins, Draws, IsChart, IsChartOf, IsLayout};
+ghost use Rattle.chi_chart.specs.Charts.{Begins, WritesChart, IsChart, IsChartOf, IsLayout};
 
 use crate::frame::Layout;
 use crate::headings::LeftLines;
@@ -107,7 +107,7 @@ pub fn chart<A: Allocator + Copy, I: Input, O: Output>(
     requires reads { I.failures input.old + 1 < 2 ^ 64 }
     requires writes { O.failures output.old + 1 < 2 ^ 64 }
     ensures ok { OnOk result
-        (Draws part.now (I.left input.old) (O.written output.old) (O.written output.new)) }
+        (WritesChart part.now (I.left input.old) (O.written output.old) (O.written output.new)) }
     ensures write { AtWrite result (O.failures output.new ≡ O.failures output.old + 1) }
     ensures front { AtWrite result
         (Begins part.now (I.left input.old) (O.written output.old) (O.written output.new)) }

@@ -15,7 +15,7 @@ use crate::frame::Layout;
 use crate::layout::{agent_x, state_x, words_x};
 use crate::marks::{ChannelCell, Mark};
 use crate::notes::add_note;
-use crate::rows::{Row, below_mark, below_marks, lower, names_height, said_in};
+use crate::rows::{CommandRow, below_mark, below_marks, lower, names_height, said_in};
 use crate::style::style;
 use chi_flit::{Agent, Channel, Line, Msg, NoMemory};
 use chi_slice::Serving;
@@ -45,7 +45,7 @@ fn take(cell: &ChannelCell, marks: &[Mark]) -> bool
 }
 
 /// The first of the rows that takes the flit of a cell.
-fn taken_at<A: Allocator>(cell: &ChannelCell, rows: &[Row<A>]) -> Option<u32>
+fn taken_at<A: Allocator>(cell: &ChannelCell, rows: &[CommandRow<A>]) -> Option<u32>
     ensures { result ≡ taken_at cell.now (map row_seen rows.now) }
 {
     for row in rows {
@@ -79,7 +79,7 @@ fn serve(line: Line, marks: &[Mark]) -> bool
 }
 
 /// The first of the rows in which the home comes to do something else at a line.
-fn served_until<A: Allocator>(line: Line, rows: &[Row<A>]) -> Option<u32>
+fn served_until<A: Allocator>(line: Line, rows: &[CommandRow<A>]) -> Option<u32>
     ensures { result ≡ served_until line (map row_seen rows.now) }
 {
     for row in rows {
@@ -126,7 +126,7 @@ impl<A: Allocator> Picture<A> {
     /// A flit that is sent in the band that begins at y, with the rows below its own.
     fn add_sent(
         &mut self,
-        later: &[Row<A>],
+        later: &[CommandRow<A>],
         y: u32,
         cell: &ChannelCell,
         message: Msg,
@@ -162,7 +162,7 @@ impl<A: Allocator> Picture<A> {
     /// What the home does at a line, with the rows below this one.
     fn add_serving(
         &mut self,
-        later: &[Row<A>],
+        later: &[CommandRow<A>],
         y: u32,
         line: Line,
         serving: Serving,
@@ -190,7 +190,13 @@ impl<A: Allocator> Picture<A> {
     }
 
     /// A mark of a row that begins at top; y is the band of a flit that is sent.
-    fn add_mark(&mut self, top: u32, later: &[Row<A>], y: u32, mark: &Mark) -> Result<(), NoMemory>
+    fn add_mark(
+        &mut self,
+        top: u32,
+        later: &[CommandRow<A>],
+        y: u32,
+        mark: &Mark,
+    ) -> Result<(), NoMemory>
         ensures text { OnOk result
             (self.new.text.items
             ≡ self.old.text.items
@@ -214,7 +220,12 @@ impl<A: Allocator> Picture<A> {
     }
 
     /// The marks of a row.
-    fn add_marks(&mut self, top: u32, later: &[Row<A>], marks: &[Mark]) -> Result<(), NoMemory>
+    fn add_marks(
+        &mut self,
+        top: u32,
+        later: &[CommandRow<A>],
+        marks: &[Mark],
+    ) -> Result<(), NoMemory>
         ensures text { OnOk result
             (self.new.text.items
             ≡ self.old.text.items
@@ -289,7 +300,7 @@ impl<A: Allocator> Picture<A> {
     }
 
     /// The area of a row whose answer is another than the wanted one, and both answers in the band that begins there.
-    fn add_difference(&mut self, row: &Row<A>, band: u32) -> Result<(), NoMemory>
+    fn add_difference(&mut self, row: &CommandRow<A>, band: u32) -> Result<(), NoMemory>
         ensures text { OnOk result
             (self.new.text.items
             ≡ self.old.text.items
@@ -313,7 +324,7 @@ impl<A: Allocator> Picture<A> {
 
     /// The head of a row: the names where they are repeated, its headings and its command.
     #[tactic(auto, unfolding(crate::specs::Picture::row_head))]
-    fn add_row_head(&mut self, row: &Row<A>) -> Result<(), NoMemory>
+    fn add_row_head(&mut self, row: &CommandRow<A>) -> Result<(), NoMemory>
         ensures text { OnOk result
             (self.new.text.items
             ≡ self.old.text.items ++ row_head self.old.layout (row_seen row.now)) }
@@ -335,7 +346,7 @@ impl<A: Allocator> Picture<A> {
 
     /// What is told of a row's answer, its marks, with the rows below it, and the answer that was wanted.
     #[tactic(auto, unfolding(crate::specs::Picture::row_told))]
-    fn add_row_told(&mut self, row: &Row<A>, later: &[Row<A>]) -> Result<(), NoMemory>
+    fn add_row_told(&mut self, row: &CommandRow<A>, later: &[CommandRow<A>]) -> Result<(), NoMemory>
         ensures text { OnOk result
             (self.new.text.items
             ≡ self.old.text.items
@@ -358,7 +369,7 @@ impl<A: Allocator> Picture<A> {
 
     /// A row, with the rows below it.
     #[tactic(auto, unfolding(crate::specs::Picture::row_text))]
-    fn add_row(&mut self, row: &Row<A>, later: &[Row<A>]) -> Result<(), NoMemory>
+    fn add_row(&mut self, row: &CommandRow<A>, later: &[CommandRow<A>]) -> Result<(), NoMemory>
         ensures text { OnOk result
             (self.new.text.items
             ≡ self.old.text.items
@@ -371,7 +382,7 @@ impl<A: Allocator> Picture<A> {
     }
 
     /// All rows.
-    fn add_rows(&mut self, rows: &[Row<A>]) -> Result<(), NoMemory>
+    fn add_rows(&mut self, rows: &[CommandRow<A>]) -> Result<(), NoMemory>
         ensures text { OnOk result
             (self.new.text.items
             ≡ self.old.text.items
@@ -489,7 +500,7 @@ pub(crate) fn svg_of<A: Allocator>(
     layout: Layout,
     title: &[Vec<u8, A>],
     bottom: u32,
-    rows: &[Row<A>],
+    rows: &[CommandRow<A>],
 ) -> Result<Vec<u8, A>, NoMemory>
     ensures { IfOk result
         (λ text. text.items

@@ -7,7 +7,7 @@ ghost use Rattle.chi_script.specs.Files.{lines_of};
 ghost use Rattle.chi_chart.specs.Headings.{headings_in, lines_behind};
 ghost use Rattle.chi_chart.specs.Steps.{line_of_command, seen_line};
 ghost use Rattle.chi_chart.specs.Rows.{below_headings, below_row, below_mark, below_marks, below_wanted, is_in_part, is_line, is_repeated, names_height, next_place, other_wanted, said_in, shown_rows};
-ghost use Rattle.chi_chart.specs.Played.{Drawing, IsPlayed, IsDrawnRun, row_seen};
+ghost use Rattle.chi_chart.specs.Played.{DrawnChart, IsPlayed, IsDrawnRun, row_seen};
 
 use crate::headings::LeftLines;
 use crate::marks::{Mark, marks_between};
@@ -33,7 +33,7 @@ pub struct ChartPart {
 
 /// A command, the line that a replay prints for it, and what it changed. Places are in pixels from the top.
 #[derive(Drop)]
-pub(crate) struct Row<A: Allocator> {
+pub(crate) struct CommandRow<A: Allocator> {
     /// The number of the command, counted from 1.
     pub(crate) number: u64,
     /// Where it begins, with the names and the headings above the command.
@@ -65,7 +65,7 @@ pub(crate) struct RowPlace {
 /// The rows, and where the next one stands.
 #[derive(Drop)]
 pub(crate) struct Rows<A: Allocator> {
-    pub(crate) rows: Vec<Row<A>, A>,
+    pub(crate) rows: Vec<CommandRow<A>, A>,
     pub(crate) place: RowPlace,
 }
 
@@ -206,7 +206,7 @@ fn play<A: Allocator, B: Allocator + Copy>(
     check: &Check,
     place: RowPlace,
     headings: Vec<Vec<u8, B>, B>,
-) -> Result<Row<B>, NoMemory>
+) -> Result<CommandRow<B>, NoMemory>
     ensures { IfOk result (λ row. IsPlayed system.old system.new (line_of_check check.now) place
         (map (λ heading. heading.items) headings.items) (row_seen row)) }
 {
@@ -219,7 +219,7 @@ fn play<A: Allocator, B: Allocator + Copy>(
     let wanted = other_wanted(alloc, check.wanted, text.as_bytes())?;
     let names = place.is_repeated();
     let y = below_headings(place.y, names, headings.len())?;
-    Ok(Row {
+    Ok(CommandRow {
         number: place.number,
         start: place.y,
         names,
@@ -244,7 +244,7 @@ fn below_wanted<A: Allocator>(y: u32, wanted: &Option<Vec<u8, A>>) -> Result<u32
 }
 
 /// Where the next row begins.
-fn below_row<A: Allocator>(row: &Row<A>) -> Result<u32, NoMemory>
+fn below_row<A: Allocator>(row: &CommandRow<A>) -> Result<u32, NoMemory>
     ensures { IfOk result (λ low. low ≡ below_row (row_seen row.now)) }
 {
     let band = lower(below_marks(row.y, &row.marks)?, 20)?;
@@ -260,7 +260,7 @@ fn next(number: u64) -> Result<u64, NoMemory>
 
 impl<A: Allocator> Rows<A> {
     /// Puts a row behind the others, where it is shown.
-    fn add(&mut self, shown: bool, row: Row<A>) -> Result<(), NoMemory>
+    fn add(&mut self, shown: bool, row: CommandRow<A>) -> Result<(), NoMemory>
         ensures rows { OnOk result
             (map row_seen self.new.rows.items
             ≡ map row_seen self.old.rows.items ++ shown_rows shown (row_seen row)) }

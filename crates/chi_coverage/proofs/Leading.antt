@@ -8,8 +8,8 @@ use Rattle.chi_slice.specs.Words.{LineView, Sizes}
 use Rattle.chi_tracker.specs.Views.{PortView}
 use Rattle.chi_node.specs.System.{SystemState, opening_system}
 use Rattle.chi_replay.specs.Session.{SaysTurn, machine_of, ports_of}
-use Rattle.chi_replay.specs.Texts.{Allowed, Ending, opening_ports}
-use Rattle.chi_replay.specs.Turns.{Answer, Machine, machine_at_start, turn}
+use Rattle.chi_replay.specs.Texts.{MayAnswer, Ending, opening_ports}
+use Rattle.chi_replay.specs.Turns.{TurnAnswer, Machine, machine_at_start, turn}
 use Rattle.chi_replay.proofs.Openings.{opening_machine, opening_views}
 use Rattle.chi_replay.proofs.Playing.{made_plays}
 use Rattle.chi_coverage.specs.declared.cells.Cell.{Cell}
@@ -18,11 +18,11 @@ use Rattle.chi_coverage.specs.Coverage.{PlayedStep, cells_of_step, cells_shown, 
 use Rattle.chi_coverage.specs.Steps.{named_of}
 use Rattle.chi_coverage.proofs.Counting.{counted_append}
 
-abbrev pub run_cells : Sizes → Machine → List Command → List Answer → List Cell
+abbrev pub run_cells : Sizes → Machine → List Command → List TurnAnswer → List Cell
 run_cells config m commands answers = flat_map (cells_of_step config) (played_steps m commands answers)
 
 abbrev pub LeadsOn : Sizes → List Command → (start now : List ℕ) → Machine → List PortView → List Command → Type 0
-LeadsOn config all start now m ports rest = (answers : List Answer) → Allowed m ports rest answers → IsCountedRun config all start (counted now (run_cells config m rest answers))
+LeadsOn config all start now m ports rest = (answers : List TurnAnswer) → MayAnswer m ports rest answers → IsCountedRun config all start (counted now (run_cells config m rest answers))
 
 leads_from : (config : Sizes) (all : List Command) (start : List ℕ) → LeadsOn config all start start (machine_at_start config) (opening_ports config) all
 leads_from config all start = λ answers allowed. record { answers = answers; allowed = allowed; is = refl }

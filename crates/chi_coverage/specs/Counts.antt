@@ -11,8 +11,8 @@ use Rattle.chi_replay.specs.Checks.{commands_in}
 use Rattle.chi_node.specs.System.{SystemState}
 use Rattle.chi_replay.specs.Session.{machine_of, ports_of}
 use Rattle.chi_replay.specs.Suites.{GivenFile, first_of}
-use Rattle.chi_replay.specs.Texts.{Allowed, Plays, opening_ports}
-use Rattle.chi_replay.specs.Turns.{Answer, machine_at_start, turn}
+use Rattle.chi_replay.specs.Texts.{MayAnswer, Plays, opening_ports}
+use Rattle.chi_replay.specs.Turns.{TurnAnswer, machine_at_start, turn}
 use Rattle.chi_slice.specs.Words.{Sizes}
 use Rattle.chi_coverage.specs.declared.cells.Cell.{Cell}
 use Rattle.chi_coverage.specs.Coverage.{CoverCame, MayCover, cells_covered, cells_of_step, cover_fault, cover_fault_line, played_steps}
@@ -28,15 +28,15 @@ count_at counts cell = slice_index counts (cell_place cell)
 
 -- a command was played on a node, which went on so, and the cells of its step were counted
 pub record IsCountedStep (config : Sizes) (old new : SystemState) (command : Command) (before after : List ℕ) : Type 0 where
-  pub answers : List Answer
+  pub answers : List TurnAnswer
   pub said : List ℕ
   pub plays : Plays (turn (machine_of old) command) (ports_of old) answers said (machine_of new) (ports_of new)
   pub is : after ≡ counted before (cells_of_step config (record { command = command; answer = said ++ (10 ∷ []); before = old.home; after = new.home }))
 
 -- all commands were played on a new node, and the cells of the run were counted
 pub record IsCountedRun (config : Sizes) (all : List Command) (before after : List ℕ) : Type 0 where
-  pub answers : List Answer
-  pub allowed : Allowed (machine_at_start config) (opening_ports config) all answers
+  pub answers : List TurnAnswer
+  pub allowed : MayAnswer (machine_at_start config) (opening_ports config) all answers
   pub is : after ≡ counted before (flat_map (cells_of_step config) (played_steps (machine_at_start config) all answers))
 
 -- so of the commands of a header and checks, and of a good file

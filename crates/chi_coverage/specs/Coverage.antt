@@ -15,8 +15,8 @@ use Rattle.chi_slice.specs.Words.{line_view, LineView, Sizes}
 use Rattle.chi_node.specs.Home.{HomeState, node_last, node_line, node_view_refusal}
 use Rattle.chi_replay.specs.Checks.{commands_in}
 use Rattle.chi_replay.specs.Suites.{GivenFile, faulty_line, first_of}
-use Rattle.chi_replay.specs.Texts.{Allowed, ending, opening_ports}
-use Rattle.chi_replay.specs.Turns.{Answer, Machine, machine_at_start, turn}
+use Rattle.chi_replay.specs.Texts.{MayAnswer, ending, opening_ports}
+use Rattle.chi_replay.specs.Turns.{TurnAnswer, Machine, machine_at_start, turn}
 use Rattle.chi_coverage.specs.declared.cells.Cell.{Cell}
 use Rattle.chi_coverage.specs.Cells.{cell_text, is_unreachable, section_text}
 use Rattle.chi_coverage.specs.Lists.{all_cells}
@@ -31,7 +31,7 @@ pub record PlayedStep : Type 0 where
   pub after : HomeState
 
 -- the steps of commands one after the other, where the tracker answers so
-abbrev pub played_steps : Machine → List Command → List Answer → List PlayedStep
+abbrev pub played_steps : Machine → List Command → List TurnAnswer → List PlayedStep
 played_steps m [] answers = []
 played_steps m (command ∷ rest) answers =
     record {
@@ -73,8 +73,8 @@ pub record IsCovered (file : List ℕ) (cells : List Cell) : Type 0 where
   pub header : Header
   pub checks : List CheckLine
   pub good : check_file_of file ≡ Ok (header, checks)
-  pub answers : List Answer
-  pub allowed : Allowed (machine_at_start (node_sizes header)) (opening_ports (node_sizes header)) (commands_in checks) answers
+  pub answers : List TurnAnswer
+  pub allowed : MayAnswer (machine_at_start (node_sizes header)) (opening_ports (node_sizes header)) (commands_in checks) answers
   pub are : cells ≡ flat_map (cells_of_step (node_sizes header)) (played_steps (machine_at_start (node_sizes header)) (commands_in checks) answers)
 
 -- what comes of a file: the cells of its steps, or its fault

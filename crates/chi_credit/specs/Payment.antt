@@ -3,7 +3,7 @@ use Rattle.std.specs.Prelude.{◌≡◌, ℕ, ◌<◌}
 use Rattle.chi_tracker.specs.Shape.{low}
 use Rattle.chi_tracker.specs.Views.{has}
 use Rattle.chi_tracker.specs.declared.released.Released.{Released}
-use Rattle.chi_tracker.specs.declared.step.Step.TheVariants.{Spend, Return}
+use Rattle.chi_tracker.specs.declared.step.AtomicStep.TheVariants.{Spend, Return}
 use Rattle.chi_tracker.specs.Steps.{spends}
 use Rattle.chi_tracker.specs.History.{IsAfter}
 use Rattle.chi_tracker.specs.Calls.{Owner, IsLowestSeen, HasReturned, HasOneLess}

@@ -28,8 +28,8 @@ monitor_config agents lines kept =
     if is_between 1 64 lines && nat_le kept 65536 then config_if (two_types agents 1 1 1 1 65536) else None
 
 -- the monitor of so many lines that keeps so many flits of each opens
-abbrev pub Watches : ℕ → ℕ → Sizes → MonitorState → Type 0
-Watches lines kept config m = m ≡ opening_monitor config lines kept
+abbrev pub IsMonitorOf : ℕ → ℕ → Sizes → MonitorState → Type 0
+IsMonitorOf lines kept config m = m ≡ opening_monitor config lines kept
 
 -- 253: no run of the model sends the flit; 252: no flits are kept
 abbrev pub fault_number : LineFault → ℕ

@@ -2,7 +2,7 @@
 
 ghost use Rattle.std.specs.Prelude.{◌≡◌, IfOk, None, Some, replicate};
 ghost use Rattle.chi_library.specs.Calls.{IsOpeningCall, answer_number, output_of};
-ghost use Rattle.chi_library.specs.MonitorCalls.{IsExplainedAs, IsExplainedIf, IsFlitTaken, IsTakenAs, Watches, all_open_told, fault_told, watched_refusal, monitor_config, no_fault, none_open};
+ghost use Rattle.chi_library.specs.MonitorCalls.{IsExplainedAs, IsExplainedIf, IsFlitTaken, IsTakenAs, IsMonitorOf, all_open_told, fault_told, watched_refusal, monitor_config, no_fault, none_open};
 ghost use Rattle.chi_library.specs.Numbers.{number_if};
 ghost use Rattle.chi_library.specs.Observed.{observed_of};
 ghost use Rattle.chi_monitor.specs.Watched.{open_flits_at, opening_monitor};
@@ -34,7 +34,7 @@ pub extern "C" fn chi_monitor_open(
     lines: u8,
     kept: u32,
 ) -> u8
-    ensures { IsOpeningCall (Watches lines kept)
+    ensures { IsOpeningCall (IsMonitorOf lines kept)
         (monitor_config agents lines kept) monitor.old.value result monitor.new.value }
 {
     if let Some(held) = monitor.take(alloc) {
@@ -178,7 +178,7 @@ fn config_at(agents: u8, lines: u8, kept: u32) -> Option<Config>
 /// Opens a closed handle.
 fn open(alloc: Global, monitor: &mut ChiMonitor, config: &Config, lines: u8, kept: u32) -> u8
     requires { monitor.old.value ≡ None }
-    ensures { IsOpeningCall (Watches lines kept) (Some config.now) None result monitor.new.value }
+    ensures { IsOpeningCall (IsMonitorOf lines kept) (Some config.now) None result monitor.new.value }
 {
     match boxed_monitor(alloc, config, lines, kept) {
         Ok(held) => {

@@ -35,7 +35,7 @@ use Rattle.chi_homeline.specs.Home.{Home, acks_for, answer_taken, asks, complete
 use Rattle.chi_line.specs.declared.act.Conditions.{Conditions}
 use Rattle.chi_line.specs.LineState.{LineState, rn_of, cells_of}
 use Rattle.chi_line.specs.Kept.{Kept, Lane, LaneKept, is_write_data, lane, served_kind, snoops_for, writes_for}
-use Rattle.chi_line.specs.Places.{is_at_home, phase_at, Seen, agent_seen, sent_at, unasked_at, where_at, where_by, where_in}
+use Rattle.chi_line.specs.Places.{is_at_home, phase_at, RequestsShown, agent_seen, sent_at, unasked_at, position_at, position_by, position_in}
 use Rattle.chi_line.specs.Refused.{step_refusal}
 use Rattle.chi_line.specs.Snooped.{answer_channel, completion_put}
 use Rattle.chi_line.specs.Step.{admitted_line, after_step, answer_in, answered_by, completion_received, data_written, dbid_received_line, is_ack, is_slot, pending_slot, received_line, resent_line, retried_line, flits_after_start, slot_served_for, snooped_line, started_line, waiting_slot, where_some}
@@ -44,14 +44,14 @@ use Rattle.chi_line.proofs.Facts.{acked_for_ack}
 use Rattle.chi_line.proofs.Finds.{idle_is}
 use Rattle.chi_line.proofs.Keeps.{not_served}
 use Rattle.chi_line.proofs.SnoopRows.{snooped_at, snooped_cells}
-use Rattle.chi_line.proofs.Wheres.{snooped_for}
+use Rattle.chi_line.proofs.Positions.{snooped_for}
 use Rattle.chi_line.proofs.Asks.{apart as differ}
 
 -- where a request is at the home, no response to it shows
 true_last : (b : Bool) → b || true ≡ true
 true_last b = search arith
 
-home_hides_in : (p : Option Pending) (x : Seen) (response : Option RspDown) (slot : Slot) → pending_slot p ≡ x.served → where_by p (record x { response = response }) slot ≡ where_by p x slot
+home_hides_in : (p : Option Pending) (x : RequestsShown) (response : Option RspDown) (slot : Slot) → pending_slot p ≡ x.served → position_by p (record x { response = response }) slot ≡ position_by p x slot
 home_hides_in None x response slot here = refl
 home_hides_in (Some request) x response slot here = go (request.slot.0 == slot.0) request.phase refl
   where
@@ -67,7 +67,7 @@ home_hides_in (Some request) x response slot here = go (request.slot.0 == slot.0
     go true Retried same = refl
     go true Sent same = sent_hides x.request same
 
-home_hides : (x : Seen) (response : Option RspDown) (slot : Slot) → pending_slot x.pending ≡ x.served → where_in (record x { response = response }) slot ≡ where_in x slot
+home_hides : (x : RequestsShown) (response : Option RspDown) (slot : Slot) → pending_slot x.pending ≡ x.served → position_in (record x { response = response }) slot ≡ position_in x slot
 home_hides x response slot here = home_hides_in x.pending x response slot here
 
 -- what a line shows of an agent's requests, where they are as before: a response may come to one that is served
@@ -79,17 +79,17 @@ pub record Stays (s s' : LineState) (m : ℕ) : Type 0 where
   pub served : slot_served_for s'.home.serving m ≡ slot_served_for s.home.serving m
 
 -- what a line shows of an agent whose parts are written
-abbrev pub shown : Option Pending → Option Request → Option RspDown → Option Waiting → Option Slot → Seen
+abbrev pub shown : Option Pending → Option Request → Option RspDown → Option Waiting → Option Slot → RequestsShown
 shown p q r w v = record { pending = p; request = q; response = r; waiting = w; served = v }
 
 pub same_shown : (p p' : Option Pending) (q q' : Option Request) (r r' : Option RspDown) (w w' : Option Waiting) (v v' : Option Slot) → p ≡ p' → q ≡ q' → r ≡ r' → w ≡ w' → v ≡ v' → shown p q r w v ≡ shown p' q' r' w' v'
 same_shown p p' q q' r r' w w' v v' ps qs rs ws vs = cc
 
-pub stays_where : (s s' : LineState) (m : ℕ) (slot : Slot) → Stays s s' m → where_at s' m slot ≡ where_at s m slot
+pub stays_where : (s s' : LineState) (m : ℕ) (slot : Slot) → Stays s s' m → position_at s' m slot ≡ position_at s m slot
 stays_where s s' m slot stays =
-    ap (λ (x : Seen). where_in x slot) (same_shown _ _ _ _ _ _ _ _ _ _ stays.pending stays.request refl stays.waiting stays.served)
+    ap (λ (x : RequestsShown). position_in x slot) (same_shown _ _ _ _ _ _ _ _ _ _ stays.pending stays.request refl stays.waiting stays.served)
     ∙ ⊎_elim
-    (λ (same : (cells_of s' m).rsp_down ≡ (cells_of s m).rsp_down). ap (λ (r : Option RspDown). where_in (record (agent_seen s m) { response = r }) slot) same)
+    (λ (same : (cells_of s' m).rsp_down ≡ (cells_of s m).rsp_down). ap (λ (r : Option RspDown). position_in (record (agent_seen s m) { response = r }) slot) same)
     (λ (served : pending_slot (rn_of s m).pending ≡ slot_served_for s.home.serving m). home_hides (agent_seen s m) (cells_of s' m).rsp_down slot served)
     stays.response
 

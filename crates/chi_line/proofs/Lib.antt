@@ -24,7 +24,7 @@ pub mod AnswerKeeps
 pub mod Sends
 pub mod Steps
 pub mod Views
-pub mod Wheres
+pub mod Positions
 pub mod Elsewhere
 pub mod Answering
 pub mod SeenMoves

@@ -12,11 +12,11 @@ use Rattle.chi_flit.specs.declared.message.Request.{Request}
 use Rattle.chi_flit.specs.declared.message.RspDown.{RspDown}
 use Rattle.chi_flit.specs.declared.message.RspDown.TheVariants.{RetryAck, CompUC, CompI, CompDBIDResp}
 use Rattle.chi_flit.specs.Credit.{credit_type_of}
-use Rattle.chi_line.specs.declared.seen.Where.{Where}
-use Rattle.chi_line.specs.declared.seen.Where.TheVariants.{Sent, Refused, Retried, Riding, Admitted, Answered, Closing}
+use Rattle.chi_line.specs.declared.seen.Position.{Position}
+use Rattle.chi_line.specs.declared.seen.Position.TheVariants.{Sent, Refused, Retried, Riding, Admitted, Answered, Closing}
 use Rattle.chi_line.specs.LineState.{LineState, cells_of}
 use Rattle.chi_line.specs.Moves.{if_moved, moved_slot, moved_to}
-use Rattle.chi_line.specs.Places.{where_at}
+use Rattle.chi_line.specs.Places.{position_at}
 use Rattle.chi_line.specs.Step.{after_step, is_slot, issued_slot}
 use Rattle.chi_line.specs.Types.{is_of_type}
 
@@ -31,12 +31,12 @@ always_moves steps.RecvSnpResp = false
 always_moves other = true
 
 -- where a request in flight is
-abbrev pub flit_at : Option Request → Option Where
+abbrev pub flit_at : Option Request → Option Position
 flit_at None = None
 flit_at (Some request) = if request.allow_retry then Some Sent else Some Riding
 
 -- RecvComp: Comp_UC answers a request that is at the home, and Comp_I ends one that is closing
-abbrev pub completed_from : Option RspDown → Option Where
+abbrev pub completed_from : Option RspDown → Option Position
 completed_from None = None
 completed_from (Some (RetryAck ty)) = None
 completed_from (Some CompUC) = Some Admitted
@@ -44,7 +44,7 @@ completed_from (Some CompI) = Some Closing
 completed_from (Some CompDBIDResp) = None
 
 -- where the moved request is before the step
-abbrev pub moved_from : LineState → Agent → Step → Option Where
+abbrev pub moved_from : LineState → Agent → Step → Option Position
 moved_from s agent steps.Admit = flit_at (cells_of s agent.0).req
 moved_from s agent steps.Retry = Some Sent
 moved_from s agent steps.RecvRetry = Some Refused
@@ -67,10 +67,10 @@ issued_kind other = None
 -- none, and the kinds that the line keeps have the credit types that they had
 pub record Moved (profile : Profile) (s : LineState) (agent : Agent) (step : Step) : Type 0 where
   pub there : always_moves step ≡ true → is_some (moved_slot s agent step) ≡ true
-  pub found : (slot : Slot) → is_slot (moved_slot s agent step) slot ≡ true → where_at s agent.0 slot ≡ moved_from s agent step
-  pub left : (slot : Slot) → is_slot (moved_slot s agent step) slot ≡ true → where_at (after_step profile s agent step) agent.0 slot ≡ moved_to s agent step
-  pub stay : (slot : Slot) → is_slot (moved_slot s agent step) slot ≡ false → where_at (after_step profile s agent step) agent.0 slot ≡ where_at s agent.0 slot
-  pub others : (n : ℕ) (slot : Slot) → n < 8 → n ≢ agent.0 → where_at (after_step profile s agent step) n slot ≡ where_at s n slot
+  pub found : (slot : Slot) → is_slot (moved_slot s agent step) slot ≡ true → position_at s agent.0 slot ≡ moved_from s agent step
+  pub left : (slot : Slot) → is_slot (moved_slot s agent step) slot ≡ true → position_at (after_step profile s agent step) agent.0 slot ≡ moved_to s agent step
+  pub stay : (slot : Slot) → is_slot (moved_slot s agent step) slot ≡ false → position_at (after_step profile s agent step) agent.0 slot ≡ position_at s agent.0 slot
+  pub others : (n : ℕ) (slot : Slot) → n < 8 → n ≢ agent.0 → position_at (after_step profile s agent step) n slot ≡ position_at s n slot
   -- an Issue alone gives its slot a kind
   pub types : (slot : Slot) (ty : CreditType) → is_slot (issued_slot step) slot ≡ false → is_of_type profile ty s agent.0 slot ≡ true → is_of_type profile ty (after_step profile s agent step) agent.0 slot ≡ true
   pub other_types : (n : ℕ) (slot : Slot) (ty : CreditType) → n < 8 → n ≢ agent.0 → is_of_type profile ty s n slot ≡ true → is_of_type profile ty (after_step profile s agent step) n slot ≡ true

@@ -34,15 +34,15 @@ use Rattle.chi_homeline.specs.declared.serving.Started.{Started}
 use Rattle.chi_homeline.specs.declared.serving.Started.TheVariants.{Sends, Snoops}
 use Rattle.chi_homeline.specs.Home.{Home, acks_for, asks, completion_of, home_after_ack, home_after_admit, home_after_completion, home_after_service, home_after_write, served_kind, served_sends, served_slot, started_sends_as, taken_up, waiting_of, writes_for}
 use Rattle.chi_line.specs.declared.act.Conditions.{Conditions}
-use Rattle.chi_line.specs.declared.seen.Where.{Where}
-use Rattle.chi_line.specs.declared.seen.Where.TheVariants as places
+use Rattle.chi_line.specs.declared.seen.Position.{Position}
+use Rattle.chi_line.specs.declared.seen.Position.TheVariants as places
 use Rattle.chi_line.specs.LineState.{LineState, rn_of, cells_of}
 use Rattle.chi_line.specs.Kept.{Kept, LaneKept, is_comp_unique, is_retried, is_retried_phase, lane}
 use Rattle.chi_line.specs.Moves.{completed_to, if_moved, moved_slot, moved_to, requested_slot}
 use Rattle.chi_line.proofs.MoveLaw.{Moved, always_moves, completed_from, flit_at, issued_kind, moved_from}
 use Rattle.chi_line.specs.Types.{is_of_type}
 use Rattle.chi_line.specs.Step.{issued_slot, acknowledged_line, admitted_line, after_step, answer_in, answered_by, cancelled_line, completed_effect, completed_slot, completion_received, data_written, dbid_received_line, dropped_line, is_ack, is_comp, is_dbid, is_retry, is_slot, is_write_data, issued_line, line_uses, pending_slot, received_line, resent_line, retried_line, retry_received_line, flits_after_start, slot_served_for, snooped_line, started_effect, started_line, stored_line, waiting_effect, waiting_slot, where_some, written_line}
-use Rattle.chi_line.specs.Places.{is_at_home, Seen, agent_seen, where_in}
+use Rattle.chi_line.specs.Places.{is_at_home, RequestsShown, agent_seen, position_in}
 use Rattle.chi_line.specs.Refused.{retry_refusal, step_refusal}
 use Rattle.chi_line.proofs.After.{IsRetried, IssueAllowed, cancel_allowed, dbid_there, flit_there, issue_allowed, names_used_slot, may_resend, retry_there}
 use Rattle.chi_line.proofs.Elsewhere.{SameCells, Stays, answer_up, answered_stays, served_request, stays_elsewhere, stays_where, write_awaited, same_shown}
@@ -54,7 +54,7 @@ use Rattle.chi_line.proofs.Sends.{CanStart, can_start}
 use Rattle.chi_line.proofs.Starts.{of_kind}
 use Rattle.chi_line.proofs.Trails.{Trail, completed_trail, not_served, place_pending, requested_trail, responded_trail, retried_trail, waiting_trail}
 use Rattle.chi_line.proofs.Typed.{issued_types, stays_asked, step_types}
-use Rattle.chi_line.proofs.Wheres.{is_free, acked_for, waits_not, written_for}
+use Rattle.chi_line.proofs.Positions.{is_free, acked_for, waits_not, written_for}
 
 copy_seen : (s : LineState) (n : ℕ) (r : Rn) → n < length s.requesters → agent_seen (record s { requesters = set s.requesters n r }) n ≡ record (agent_seen s n) { pending = r.pending }
 copy_seen s n r low = ap (λ (x : Rn). record (agent_seen s n) { pending = x.pending }) (get_or-set_same s.requesters n r no_line low)
@@ -109,15 +109,15 @@ served_at : (s : LineState) (n : ℕ) → slot_served_for s.home.serving n ≡ p
 served_at s n served slot is = or_right (is_slot (waiting_slot (waiting_of s.home n)) slot) (is_slot (slot_served_for s.home.serving n) slot) (ap (λ (o : Option Slot). is_slot o slot) served ∙ is)
 
 -- what a step shows of its own agent
-abbrev Shows : LineState → LineState → ℕ → Option Slot → Option Where → Option Where → Type 0
+abbrev Shows : LineState → LineState → ℕ → Option Slot → Option Position → Option Position → Type 0
 Shows s s' n moved from to = SeenMoved (agent_seen s n) (agent_seen s' n) moved from to
 
-shows_by : (x y x' : Seen) (moved : Option Slot) (from to : Option Where) → SeenMoved x y moved from to → x' ≡ y → SeenMoved x x' moved from to
-shows_by x y x' moved from to m same = subst (λ (z : Seen). SeenMoved x z moved from to) (sym same) m
+shows_by : (x y x' : RequestsShown) (moved : Option Slot) (from to : Option Position) → SeenMoved x y moved from to → x' ≡ y → SeenMoved x x' moved from to
+shows_by x y x' moved from to m same = subst (λ (z : RequestsShown). SeenMoved x z moved from to) (sym same) m
 
 -- a step that moves no request
 shows_same : (s s' : LineState) (n : ℕ) → agent_seen s' n ≡ agent_seen s n → Shows s s' n None None None
-shows_same s s' n same = none_moved (agent_seen s n) (agent_seen s' n) (λ slot. ap (λ (x : Seen). where_in x slot) same) (λ profile ty slot t. subst (λ (x : Seen). Asked profile ty x slot) (sym same) t)
+shows_same s s' n same = none_moved (agent_seen s n) (agent_seen s' n) (λ slot. ap (λ (x : RequestsShown). position_in x slot) same) (λ profile ty slot t. subst (λ (x : RequestsShown). Asked profile ty x slot) (sym same) t)
 
 -- Issue
 issue_shows : (last : List ℕ) (s : LineState) (n : ℕ) (kind : Kind) (own : Slot) → Here last s n → (rn_of s n).pending ≡ None → line_uses s n own ≡ false
@@ -490,7 +490,7 @@ no_response (Some CompDBIDResp) is none = cc (is)
 not_both : (a : Bool) → a ≡ true → a ≡ false → ⊥
 not_both a x y = cc
 
-none_there : (moved : Option Slot) (slot : Slot) (at : Where) → is_slot moved slot ≡ true → if_moved moved at ≡ None → ⊥
+none_there : (moved : Option Slot) (slot : Slot) (at : Position) → is_slot moved slot ≡ true → if_moved moved at ≡ None → ⊥
 none_there None slot at is none = cc (is)
 none_there (Some own) slot at is none = cc (none)
 

@@ -14,16 +14,16 @@ use Rattle.chi_rnline.specs.declared.pending.Phase.{Phase}
 use Rattle.chi_rnline.specs.declared.pending.Phase.TheVariants as phases
 use Rattle.chi_rnline.specs.Rn.{in_phase}
 use Rattle.chi_homeline.specs.declared.serving.Waiting.{Waiting}
-use Rattle.chi_line.specs.declared.seen.Where.{Where}
-use Rattle.chi_line.specs.declared.seen.Where.TheVariants.{Sent, Refused, Retried, Riding, Admitted, Answered, Closing}
+use Rattle.chi_line.specs.declared.seen.Position.{Position}
+use Rattle.chi_line.specs.declared.seen.Position.TheVariants.{Sent, Refused, Retried, Riding, Admitted, Answered, Closing}
 use Rattle.chi_line.specs.Kept.{is_retried, is_retried_phase}
 use Rattle.chi_line.proofs.MoveLaw.{flit_at}
-use Rattle.chi_line.specs.Places.{is_at_home, phase_at, Seen, sent_at, unasked_at, where_by, where_in}
+use Rattle.chi_line.specs.Places.{is_at_home, phase_at, RequestsShown, sent_at, unasked_at, position_by, position_in}
 use Rattle.chi_line.specs.Types.{has_type, pending_kind_of, requested_kind_of, waiting_kind_of}
 use Rattle.chi_line.specs.Step.{is_slot, pending_slot, waiting_slot}
 
 -- where a request is, by whether its slot is pending, and in which phase
-pub sent_in : (x : Seen) (slot : Slot) → is_slot (pending_slot x.pending) slot ≡ true → is_retried x.pending ≡ false → where_in x slot ≡ sent_at x.request (is_at_home x slot) x.response
+pub sent_in : (x : RequestsShown) (slot : Slot) → is_slot (pending_slot x.pending) slot ≡ true → is_retried x.pending ≡ false → position_in x slot ≡ sent_at x.request (is_at_home x slot) x.response
 sent_in x slot own sent = go x.pending own sent
   where
     at : (phase : Phase) (b : Bool) → b ≡ true → is_retried_phase phase ≡ false
@@ -32,11 +32,11 @@ sent_in x slot own sent = go x.pending own sent
     at phases.Retried true own sent = absurd (cc (sent))
     at phase false own sent = absurd (cc (own))
 
-    go : (p : Option Pending) → is_slot (pending_slot p) slot ≡ true → is_retried p ≡ false → where_by p x slot ≡ sent_at x.request (is_at_home x slot) x.response
+    go : (p : Option Pending) → is_slot (pending_slot p) slot ≡ true → is_retried p ≡ false → position_by p x slot ≡ sent_at x.request (is_at_home x slot) x.response
     go None own sent = absurd (cc (own))
     go (Some request) own sent = at request.phase (request.slot.0 == slot.0) own sent
 
-pub retried_in : (x : Seen) (slot : Slot) → is_slot (pending_slot x.pending) slot ≡ true → is_retried x.pending ≡ true → where_in x slot ≡ Some Retried
+pub retried_in : (x : RequestsShown) (slot : Slot) → is_slot (pending_slot x.pending) slot ≡ true → is_retried x.pending ≡ true → position_in x slot ≡ Some Retried
 retried_in x slot own retried = go x.pending own retried
   where
     at : (phase : Phase) (b : Bool) → b ≡ true → is_retried_phase phase ≡ true → (if b then phase_at phase x slot else unasked_at x slot) ≡ Some Retried
@@ -44,25 +44,25 @@ retried_in x slot own retried = go x.pending own retried
     at phases.Retried true own retried = refl
     at phase false own retried = absurd (cc (own))
 
-    go : (p : Option Pending) → is_slot (pending_slot p) slot ≡ true → is_retried p ≡ true → where_by p x slot ≡ Some Retried
+    go : (p : Option Pending) → is_slot (pending_slot p) slot ≡ true → is_retried p ≡ true → position_by p x slot ≡ Some Retried
     go None own retried = absurd (cc (own))
     go (Some request) own retried = at request.phase (request.slot.0 == slot.0) own retried
 
-pub unasked_in : (x : Seen) (slot : Slot) → is_slot (pending_slot x.pending) slot ≡ false → where_in x slot ≡ unasked_at x slot
+pub unasked_in : (x : RequestsShown) (slot : Slot) → is_slot (pending_slot x.pending) slot ≡ false → position_in x slot ≡ unasked_at x slot
 unasked_in x slot other = go x.pending other
   where
-    go : (p : Option Pending) → is_slot (pending_slot p) slot ≡ false → where_by p x slot ≡ unasked_at x slot
+    go : (p : Option Pending) → is_slot (pending_slot p) slot ≡ false → position_by p x slot ≡ unasked_at x slot
     go None other = refl
     go (Some request) other = ap (λ (b : Bool). if b then phase_at request.phase x slot else unasked_at x slot) other
 
 -- a slot that is pending neither before nor after is where it was, if it is at the home as it was
-pub unasked_stays : (x x' : Seen) (slot : Slot) → is_slot (pending_slot x.pending) slot ≡ false → is_slot (pending_slot x'.pending) slot ≡ false → is_at_home x' slot ≡ is_at_home x slot → where_in x' slot ≡ where_in x slot
+pub unasked_stays : (x x' : RequestsShown) (slot : Slot) → is_slot (pending_slot x.pending) slot ≡ false → is_slot (pending_slot x'.pending) slot ≡ false → is_at_home x' slot ≡ is_at_home x slot → position_in x' slot ≡ position_in x slot
 unasked_stays x x' slot other other' home =
     unasked_in x' slot other' ∙ (ap (λ (b : Bool). if b then Some Answered else None) home ∙ sym (unasked_in x slot other))
 
 -- a request is where it was if whether it is at the home is all that was written of it, and that stays
-pub home_stays : (x : Seen) (waiting : Option Waiting) (served : Option Slot) (slot : Slot) → is_slot (waiting_slot waiting) slot || is_slot served slot ≡ is_at_home x slot
-    → where_in (record x { waiting = waiting; served = served }) slot ≡ where_in x slot
+pub home_stays : (x : RequestsShown) (waiting : Option Waiting) (served : Option Slot) (slot : Slot) → is_slot (waiting_slot waiting) slot || is_slot served slot ≡ is_at_home x slot
+    → position_in (record x { waiting = waiting; served = served }) slot ≡ position_in x slot
 home_stays x waiting served slot home = go x.pending
   where
     at : (b : Bool) (phase : Phase) → (if b then phase_at phase (record x { waiting = waiting; served = served }) slot else unasked_at (record x { waiting = waiting; served = served }) slot)
@@ -71,26 +71,26 @@ home_stays x waiting served slot home = go x.pending
     at true phases.Retried = refl
     at false phase = ap (λ (b : Bool). if b then Some Answered else None) home
 
-    go : (p : Option Pending) → where_by p (record x { waiting = waiting; served = served }) slot ≡ where_by p x slot
+    go : (p : Option Pending) → position_by p (record x { waiting = waiting; served = served }) slot ≡ position_by p x slot
     go None = ap (λ (b : Bool). if b then Some Answered else None) home
     go (Some request) = at (request.slot.0 == slot.0) request.phase
 
 -- the kinds that are kept of a slot's request, beside that which is served, have the credit type
-pub record Asked (profile : Profile) (ty : CreditType) (x : Seen) (slot : Slot) : Type 0 where
+pub record Asked (profile : Profile) (ty : CreditType) (x : RequestsShown) (slot : Slot) : Type 0 where
   pub pending : has_type profile ty (pending_kind_of x.pending slot) ≡ true
   pub request : has_type profile ty (requested_kind_of x.request slot) ≡ true
   pub waiting : has_type profile ty (waiting_kind_of x.waiting slot) ≡ true
 
 -- a step that moves the request of one slot from here to there, and leaves the others; only a request that
 -- begins gets a kind
-pub record SeenMoved (x x' : Seen) (moved : Option Slot) (from to : Option Where) : Type 0 where
-  pub found : (slot : Slot) → is_slot moved slot ≡ true → where_in x slot ≡ from
-  pub left : (slot : Slot) → is_slot moved slot ≡ true → where_in x' slot ≡ to
-  pub stay : (slot : Slot) → is_slot moved slot ≡ false → where_in x' slot ≡ where_in x slot
+pub record SeenMoved (x x' : RequestsShown) (moved : Option Slot) (from to : Option Position) : Type 0 where
+  pub found : (slot : Slot) → is_slot moved slot ≡ true → position_in x slot ≡ from
+  pub left : (slot : Slot) → is_slot moved slot ≡ true → position_in x' slot ≡ to
+  pub stay : (slot : Slot) → is_slot moved slot ≡ false → position_in x' slot ≡ position_in x slot
   pub kinds : (profile : Profile) (ty : CreditType) (slot : Slot) → (is_slot moved slot ≡ true → from ≡ None → ⊥) → Asked profile ty x slot → Asked profile ty x' slot
 
 -- a step that moves no request
-pub none_moved : (x x' : Seen) → ((slot : Slot) → where_in x' slot ≡ where_in x slot) → ((profile : Profile) (ty : CreditType) (slot : Slot) → Asked profile ty x slot → Asked profile ty x' slot)
+pub none_moved : (x x' : RequestsShown) → ((slot : Slot) → position_in x' slot ≡ position_in x slot) → ((profile : Profile) (ty : CreditType) (slot : Slot) → Asked profile ty x slot → Asked profile ty x' slot)
     → SeenMoved x x' None None None
 none_moved x x' stay kinds = record { found = λ slot is. absurd (cc (is)); left = λ slot is. absurd (cc (is)); stay = λ slot other. stay slot; kinds = λ profile ty slot began t. kinds profile ty slot t }
 
@@ -99,7 +99,7 @@ pub other_kind : (profile : Profile) (ty : CreditType) (kind : Kind) (b : Bool) 
 other_kind profile ty kind b other = ap (λ (x : Bool). has_type profile ty (if x then Some kind else None)) other
 
 -- Issue
-pub issue_seen : (x : Seen) (kind : Kind) (own : Slot) → x.pending ≡ None → ((slot : Slot) → is_slot (Some own) slot ≡ true → is_at_home x slot ≡ false)
+pub issue_seen : (x : RequestsShown) (kind : Kind) (own : Slot) → x.pending ≡ None → ((slot : Slot) → is_slot (Some own) slot ≡ true → is_at_home x slot ≡ false)
     → SeenMoved x (record x { pending = Some (record { kind = kind; slot = own; phase = phases.Sent }); request = Some (record { kind = kind; slot = own; allow_retry = true }) }) (Some own) None (Some Sent)
 issue_seen x kind own none away = record {
   found = λ slot is. unasked_in x slot (not_pending slot) ∙ ap (λ (b : Bool). if b then Some Answered else None) (away slot is);
@@ -118,7 +118,7 @@ pending_by : (p moved : Option Slot) (slot : Slot) (b : Bool) → p ≡ moved �
 pending_by p moved slot b same is = ap (λ (o : Option Slot). is_slot o slot) same ∙ is
 
 -- Admit
-pub admit_seen : (x : Seen) (request : Request) → x.request ≡ Some request → pending_slot x.pending ≡ Some request.slot → is_retried x.pending ≡ false → x.waiting ≡ None
+pub admit_seen : (x : RequestsShown) (request : Request) → x.request ≡ Some request → pending_slot x.pending ≡ Some request.slot → is_retried x.pending ≡ false → x.waiting ≡ None
     → SeenMoved x (record x { request = None; waiting = Some (record { kind = request.kind; slot = request.slot }) }) (Some request.slot) (flit_at (Some request)) (Some Admitted)
 admit_seen x request here pending sent unwaiting = record {
   found = λ slot is. sent_in x slot (pending_by (pending_slot x.pending) (Some request.slot) slot true pending is) sent ∙ ap (λ (q : Option Request). sent_at q (is_at_home x slot) x.response) here;
@@ -129,11 +129,11 @@ admit_seen x request here pending sent unwaiting = record {
   kinds = λ profile ty slot began t. record { pending = t.pending; request = refl; waiting = sym (ap (λ (q : Option Request). has_type profile ty (requested_kind_of q slot)) here) ∙ t.request };
 }
   where
-    after : Seen
+    after : RequestsShown
     after = record x { request = None; waiting = Some (record { kind = request.kind; slot = request.slot }) }
 
 -- Retry
-pub retry_seen : (x : Seen) (request : Request) (ty : CreditType) → x.request ≡ Some request → request.allow_retry ≡ true → pending_slot x.pending ≡ Some request.slot → is_retried x.pending ≡ false
+pub retry_seen : (x : RequestsShown) (request : Request) (ty : CreditType) → x.request ≡ Some request → request.allow_retry ≡ true → pending_slot x.pending ≡ Some request.slot → is_retried x.pending ≡ false
     → ((slot : Slot) → is_slot (pending_slot x.pending) slot ≡ true → is_at_home x slot ≡ false)
     → SeenMoved x (record x { request = None; response = Some (RetryAck ty) }) (Some request.slot) (Some Sent) (Some Refused)
 retry_seen x request ty here may pending sent away = record {
@@ -159,7 +159,7 @@ phase_is : (phase : Phase) (p : Option Pending) (slot : Slot) → is_slot (pendi
 phase_is phase p slot own = search arith
 
 -- RecvRetry
-pub retried_seen : (x : Seen) (ty : CreditType) → x.request ≡ None → x.response ≡ Some (RetryAck ty) → is_retried x.pending ≡ false
+pub retried_seen : (x : RequestsShown) (ty : CreditType) → x.request ≡ None → x.response ≡ Some (RetryAck ty) → is_retried x.pending ≡ false
     → ((slot : Slot) → is_slot (pending_slot x.pending) slot ≡ true → is_at_home x slot ≡ false)
     → SeenMoved x (record x { pending = in_phase phases.Retried x.pending; response = None }) (pending_slot x.pending) (Some Refused) (Some Retried)
 retried_seen x ty none here sent away = record {
@@ -174,7 +174,7 @@ retried_seen x ty none here sent away = record {
 }
 
 -- Resend
-pub resent_seen : (x : Seen) (request : Pending) → x.pending ≡ Some request → is_retried x.pending ≡ true
+pub resent_seen : (x : RequestsShown) (request : Pending) → x.pending ≡ Some request → is_retried x.pending ≡ true
     → SeenMoved x (record x { pending = in_phase phases.Sent x.pending; request = Some (record { kind = request.kind; slot = request.slot; allow_retry = false }) }) (pending_slot x.pending) (Some Retried) (Some Riding)
 resent_seen x request here retried = record {
   found = λ slot is. retried_in x slot is retried;
@@ -190,11 +190,11 @@ resent_seen x request here retried = record {
   };
 }
   where
-    after : Seen
+    after : RequestsShown
     after = record x { pending = in_phase phases.Sent x.pending; request = Some (record { kind = request.kind; slot = request.slot; allow_retry = false }) }
 
 -- Cancel
-pub cancelled_seen : (x : Seen) → is_retried x.pending ≡ true → ((slot : Slot) → is_slot (pending_slot x.pending) slot ≡ true → is_at_home x slot ≡ false)
+pub cancelled_seen : (x : RequestsShown) → is_retried x.pending ≡ true → ((slot : Slot) → is_slot (pending_slot x.pending) slot ≡ true → is_at_home x slot ≡ false)
     → SeenMoved x (record x { pending = None }) (pending_slot x.pending) (Some Retried) None
 cancelled_seen x retried away = record {
   found = λ slot is. retried_in x slot is retried;
@@ -204,7 +204,7 @@ cancelled_seen x retried away = record {
 }
 
 -- RecvData, RecvDbid, RecvComp of Comp_UC
-pub answered_seen : (x : Seen) (response : Option RspDown) → x.request ≡ None → is_retried x.pending ≡ false → ((slot : Slot) → is_slot (pending_slot x.pending) slot ≡ true → is_at_home x slot ≡ true)
+pub answered_seen : (x : RequestsShown) (response : Option RspDown) → x.request ≡ None → is_retried x.pending ≡ false → ((slot : Slot) → is_slot (pending_slot x.pending) slot ≡ true → is_at_home x slot ≡ true)
     → SeenMoved x (record x { pending = None; response = response }) (pending_slot x.pending) (Some Admitted) (Some Answered)
 answered_seen x response none sent here = record {
   found = λ slot is. sent_in x slot is sent ∙ (ap (λ (q : Option Request). sent_at q (is_at_home x slot) x.response) none ∙ ap (λ (b : Bool). sent_at None b x.response) (here slot is));
@@ -214,7 +214,7 @@ answered_seen x response none sent here = record {
 }
 
 -- RecvComp of Comp_I
-pub closed_seen : (x : Seen) → x.request ≡ None → x.response ≡ Some CompI → is_retried x.pending ≡ false → ((slot : Slot) → is_slot (pending_slot x.pending) slot ≡ true → is_at_home x slot ≡ false)
+pub closed_seen : (x : RequestsShown) → x.request ≡ None → x.response ≡ Some CompI → is_retried x.pending ≡ false → ((slot : Slot) → is_slot (pending_slot x.pending) slot ≡ true → is_at_home x slot ≡ false)
     → SeenMoved x (record x { pending = None; response = None }) (pending_slot x.pending) (Some Closing) None
 closed_seen x none here sent away = record {
   found = λ slot is. sent_in x slot is sent
@@ -225,7 +225,7 @@ closed_seen x none here sent away = record {
 }
 
 -- RecvAck, RecvWrData
-pub ended_seen : (x : Seen) → ((slot : Slot) → is_slot x.served slot ≡ true → is_slot (pending_slot x.pending) slot ≡ false) → ((slot : Slot) → is_slot x.served slot ≡ true → is_slot (waiting_slot x.waiting) slot ≡ false)
+pub ended_seen : (x : RequestsShown) → ((slot : Slot) → is_slot x.served slot ≡ true → is_slot (pending_slot x.pending) slot ≡ false) → ((slot : Slot) → is_slot x.served slot ≡ true → is_slot (waiting_slot x.waiting) slot ≡ false)
     → SeenMoved x (record x { served = None }) x.served (Some Answered) None
 ended_seen x apart unwaiting = record {
   found = λ slot is. unasked_in x slot (apart slot is) ∙ ap (λ (b : Bool). if b then Some Answered else None) (or_right (is_slot (waiting_slot x.waiting) slot) (is_slot x.served slot) is);
@@ -235,7 +235,7 @@ ended_seen x apart unwaiting = record {
 }
 
 -- Start of an Evict
-pub evicted_seen : (x : Seen) (request : Waiting) → x.waiting ≡ Some request → x.request ≡ None → x.served ≡ None → pending_slot x.pending ≡ Some request.slot → is_retried x.pending ≡ false
+pub evicted_seen : (x : RequestsShown) (request : Waiting) → x.waiting ≡ Some request → x.request ≡ None → x.served ≡ None → pending_slot x.pending ≡ Some request.slot → is_retried x.pending ≡ false
     → SeenMoved x (record x { waiting = None; response = Some CompI }) (Some request.slot) (Some Admitted) (Some Closing)
 evicted_seen x request here none unserved pending sent = record {
   found = λ slot is. sent_in x slot (own slot is) sent
@@ -247,7 +247,7 @@ evicted_seen x request here none unserved pending sent = record {
   kinds = λ profile ty slot began t. record { pending = t.pending; request = t.request; waiting = refl };
 }
   where
-    after : Seen
+    after : RequestsShown
     after = record x { waiting = None; response = Some CompI }
 
     own : (slot : Slot) → is_slot (Some request.slot) slot ≡ true → is_slot (pending_slot x.pending) slot ≡ true
@@ -259,11 +259,11 @@ evicted_seen x request here none unserved pending sent = record {
         ∙ (ap (λ (v : Option Slot). is_slot (Some request.slot) slot || is_slot v slot) unserved ∙ or-false (is_slot (Some request.slot) slot))
 
 -- every other Start
-pub started_seen : (x : Seen) (request : Waiting) (response : Option RspDown) → x.waiting ≡ Some request → x.request ≡ None → x.served ≡ None → pending_slot x.pending ≡ Some request.slot → is_retried x.pending ≡ false
+pub started_seen : (x : RequestsShown) (request : Waiting) (response : Option RspDown) → x.waiting ≡ Some request → x.request ≡ None → x.served ≡ None → pending_slot x.pending ≡ Some request.slot → is_retried x.pending ≡ false
     → SeenMoved x (record x { waiting = None; response = response; served = Some request.slot }) None None None
 started_seen x request response here none unserved pending sent = none_moved x after (λ slot. go slot (is_slot (Some request.slot) slot) refl) (λ profile ty slot t. record { pending = t.pending; request = t.request; waiting = refl })
   where
-    after : Seen
+    after : RequestsShown
     after = record x { waiting = None; response = response; served = Some request.slot }
 
     waits : (slot : Slot) → is_at_home x slot ≡ is_slot (Some request.slot) slot
@@ -271,7 +271,7 @@ started_seen x request response here none unserved pending sent = none_moved x a
         ap (λ (w : Option Waiting). is_slot (waiting_slot w) slot || is_slot x.served slot) here
         ∙ (ap (λ (v : Option Slot). is_slot (Some request.slot) slot || is_slot v slot) unserved ∙ or-false (is_slot (Some request.slot) slot))
 
-    go : (slot : Slot) (b : Bool) → is_slot (Some request.slot) slot ≡ b → where_in after slot ≡ where_in x slot
+    go : (slot : Slot) (b : Bool) → is_slot (Some request.slot) slot ≡ b → position_in after slot ≡ position_in x slot
     go slot true is =
         let own : is_slot (pending_slot x.pending) slot ≡ true = pending_by (pending_slot x.pending) (Some request.slot) slot true pending is in
         (sent_in after slot own sent ∙ (ap (λ (q : Option Request). sent_at q (is_slot (Some request.slot) slot) response) none ∙ ap (λ (b : Bool). sent_at None b response) is))

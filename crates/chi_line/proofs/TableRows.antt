@@ -13,15 +13,15 @@ use Rattle.chi_rnline.specs.declared.pending.Phase.TheVariants.{Sent, Retried}
 use Rattle.chi_homeline.specs.declared.serving.Waiting.{Waiting}
 use Rattle.chi_homeline.specs.declared.serving.Serving.{Serving}
 use Rattle.chi_homeline.specs.Home.{waiting_of}
-use Rattle.chi_line.specs.declared.seen.Where.{Where}
-use Rattle.chi_line.specs.declared.seen.Where.TheVariants as places
+use Rattle.chi_line.specs.declared.seen.Position.{Position}
+use Rattle.chi_line.specs.declared.seen.Position.TheVariants as places
 use Rattle.chi_line.specs.LineState.{LineState, rn_of, cells_of}
 use Rattle.chi_line.specs.Kept.{Kept, Lane, LaneKept, is_comp_unique, is_retried, is_retried_phase, lane, snoops_for}
 use Rattle.chi_line.specs.Step.{is_dbid, is_slot, pending_slot, slot_served_for, waiting_slot}
-use Rattle.chi_line.specs.Places.{is_at_home, phase_at, response_at, Seen, agent_seen, sent_at, unasked_at, where_at, where_by}
+use Rattle.chi_line.specs.Places.{is_at_home, phase_at, response_at, RequestsShown, agent_seen, sent_at, unasked_at, position_at, position_by}
 use Rattle.chi_line.specs.Table.{HasNothing, IsAt, IsAtHome, IsFound, IsInFlight, IsPending}
 use Rattle.chi_line.proofs.EqualSlots.{same_slot}
-use Rattle.chi_line.proofs.Wheres.{Free, is_free, shows_unused}
+use Rattle.chi_line.proofs.Positions.{Free, is_free, shows_unused}
 use Rattle.chi_line.proofs.Trails.{Trail, completed_trail, not_served, requested_trail, responded_trail, waiting_trail}
 
 -- slots by their numbers
@@ -72,24 +72,24 @@ home_of a b slot here = go (is_slot a slot) refl here
     go false away here = inr (has_slot b slot here)
 
 -- where a slot shows that is pending, by the phase, and where one shows that isn't
-own_phase : (request : Pending) (x : Seen) (slot : Slot) → Some request.slot ≡ Some slot → where_by (Some request) x slot ≡ phase_at request.phase x slot
+own_phase : (request : Pending) (x : RequestsShown) (slot : Slot) → Some request.slot ≡ Some slot → position_by (Some request) x slot ≡ phase_at request.phase x slot
 own_phase request x slot is = ap (λ (b : Bool). if b then phase_at request.phase x slot else unasked_at x slot) (is_its (Some request.slot) slot is)
 
-sent_phase : (phase : Phase) (x : Seen) (slot : Slot) → is_retried_phase phase ≡ false → phase_at phase x slot ≡ sent_at x.request (is_at_home x slot) x.response
+sent_phase : (phase : Phase) (x : RequestsShown) (slot : Slot) → is_retried_phase phase ≡ false → phase_at phase x slot ≡ sent_at x.request (is_at_home x slot) x.response
 sent_phase phase x slot is = search arith
 
-retried_phase : (phase : Phase) (x : Seen) (slot : Slot) → is_retried_phase phase ≡ true → phase_at phase x slot ≡ Some places.Retried
+retried_phase : (phase : Phase) (x : RequestsShown) (slot : Slot) → is_retried_phase phase ≡ true → phase_at phase x slot ≡ Some places.Retried
 retried_phase phase x slot is = search arith
 
-shows_sent : (pending : Option Pending) (x : Seen) (slot : Slot) → pending_slot pending ≡ Some slot → is_retried pending ≡ false → where_by pending x slot ≡ sent_at x.request (is_at_home x slot) x.response
+shows_sent : (pending : Option Pending) (x : RequestsShown) (slot : Slot) → pending_slot pending ≡ Some slot → is_retried pending ≡ false → position_by pending x slot ≡ sent_at x.request (is_at_home x slot) x.response
 shows_sent None x slot is sent = absurd (cc (is))
 shows_sent (Some request) x slot is sent = own_phase request x slot is ∙ sent_phase request.phase x slot sent
 
-shows_retried : (pending : Option Pending) (x : Seen) (slot : Slot) → pending_slot pending ≡ Some slot → is_retried pending ≡ true → where_by pending x slot ≡ Some places.Retried
+shows_retried : (pending : Option Pending) (x : RequestsShown) (slot : Slot) → pending_slot pending ≡ Some slot → is_retried pending ≡ true → position_by pending x slot ≡ Some places.Retried
 shows_retried None x slot is retried = absurd (cc (is))
 shows_retried (Some request) x slot is retried = own_phase request x slot is ∙ retried_phase request.phase x slot retried
 
-shows_unasked : (pending : Option Pending) (x : Seen) (slot : Slot) → pending_slot pending ≢ Some slot → where_by pending x slot ≡ unasked_at x slot
+shows_unasked : (pending : Option Pending) (x : RequestsShown) (slot : Slot) → pending_slot pending ≢ Some slot → position_by pending x slot ≡ unasked_at x slot
 shows_unasked None x slot other = refl
 shows_unasked (Some request) x slot other = ap (λ (b : Bool). if b then phase_at request.phase x slot else unasked_at x slot) (other_slot request.slot slot other)
 
@@ -115,7 +115,7 @@ responded last s n slot own there no_unique no_dbid k =
     }
 
 shows_responded : (last : List ℕ) (s : LineState) (n : ℕ) (slot : Slot) (response : RspDown) → (cells_of s n).rsp_down ≡ Some response → is_comp_unique (Some response) ≡ false → is_dbid (Some response) ≡ false → IsPending s n slot → LaneOf last s n
-    → where_at s n slot ≡ response_at (Some response)
+    → position_at s n slot ≡ response_at (Some response)
 shows_responded last s n slot response there no_unique no_dbid own k =
     let r : Responded s n slot = responded last s n slot own (ap (λ (o : Option RspDown). is_some o) there) (ap (λ (o : Option RspDown). is_comp_unique o) there ∙ no_unique) (ap (λ (o : Option RspDown). is_dbid o) there ∙ no_dbid) k in
     shows_sent (rn_of s n).pending (agent_seen s n) slot own r.sent
@@ -124,7 +124,7 @@ shows_responded last s n slot response there no_unique no_dbid own k =
     ∙ ap (λ (o : Option RspDown). response_at o) there))
 
 -- a request that is in flight is the pending one
-shows_in_flight : (last : List ℕ) (s : LineState) (n : ℕ) (slot : Slot) (allow_retry : Bool) → IsInFlight allow_retry s n slot → LaneOf last s n → where_at s n slot ≡ (if allow_retry then Some places.Sent else Some places.Riding)
+shows_in_flight : (last : List ℕ) (s : LineState) (n : ℕ) (slot : Slot) (allow_retry : Bool) → IsInFlight allow_retry s n slot → LaneOf last s n → position_at s n slot ≡ (if allow_retry then Some places.Sent else Some places.Riding)
 shows_in_flight last s n slot allow_retry there k =
     let own : IsPending s n slot = k.request_slot there.0 there.1 ∙ ap (λ (x : Slot). Some x) there.2 in
     let trail : Trail s.home.serving n (lane s n) true false false false false = requested_trail s.home.serving s.home.filter.unique s.home.filter.owner last n (lane s n) (ap (λ (o : Option Request). is_some o) there.1) k in
@@ -175,20 +175,20 @@ housed last s n slot here own k = ⊎_elim
 is_home : (s : LineState) (n : ℕ) (slot : Slot) → IsAtHome s n slot → is_at_home (agent_seen s n) slot ≡ true
 is_home s n slot here = at_home (waiting_slot (waiting_of s.home n)) (slot_served_for s.home.serving n) slot here
 
-shows_admitted : (last : List ℕ) (s : LineState) (n : ℕ) (slot : Slot) → IsAtHome s n slot → IsPending s n slot → LaneOf last s n → where_at s n slot ≡ Some places.Admitted
+shows_admitted : (last : List ℕ) (s : LineState) (n : ℕ) (slot : Slot) → IsAtHome s n slot → IsPending s n slot → LaneOf last s n → position_at s n slot ≡ Some places.Admitted
 shows_admitted last s n slot here own k =
     let h : Housed n (lane s n) = housed last s n slot here own k in
     shows_sent (rn_of s n).pending (agent_seen s n) slot own h.sent
     ∙ (ap (λ (q : Option Request). sent_at q (is_at_home (agent_seen s n) slot) (cells_of s n).rsp_down) (no_request (cells_of s n).req h.request)
     ∙ ap (λ (b : Bool). sent_at None b (cells_of s n).rsp_down) (is_home s n slot here))
 
-shows_answered : (s : LineState) (n : ℕ) (slot : Slot) → IsAtHome s n slot → pending_slot (rn_of s n).pending ≢ Some slot → where_at s n slot ≡ Some places.Answered
+shows_answered : (s : LineState) (n : ℕ) (slot : Slot) → IsAtHome s n slot → pending_slot (rn_of s n).pending ≢ Some slot → position_at s n slot ≡ Some places.Answered
 shows_answered s n slot here other =
     shows_unasked (rn_of s n).pending (agent_seen s n) slot other
     ∙ ap (λ (b : Bool). if b then Some places.Answered else None) (is_home s n slot here)
 
 -- each row says where the slot shows
-row_shows : (last : List ℕ) (s : LineState) (n : ℕ) (slot : Slot) (at : Where) → LaneOf last s n → IsAt s n slot at → where_at s n slot ≡ Some at
+row_shows : (last : List ℕ) (s : LineState) (n : ℕ) (slot : Slot) (at : Position) → LaneOf last s n → IsAt s n slot at → position_at s n slot ≡ Some at
 row_shows last s n slot places.Sent k row = shows_in_flight last s n slot true row k
 row_shows last s n slot places.Refused k row = shows_responded last s n slot (RetryAck row.1.0) row.1.1 refl refl row.0 k
 row_shows last s n slot places.Retried k row = shows_retried (rn_of s n).pending (agent_seen s n) slot row.0 row.1
@@ -198,7 +198,7 @@ row_shows last s n slot places.Answered k row = shows_answered s n slot row.0 ro
 row_shows last s n slot places.Closing k row = shows_responded last s n slot CompI row.2 refl refl row.0 k
 
 -- where the slot shows its row holds
-abbrev Holds : LineState → ℕ → Slot → Option Where → Type 0
+abbrev Holds : LineState → ℕ → Slot → Option Position → Type 0
 Holds s n slot None = Unit {0}
 Holds s n slot (Some at) = IsAt s n slot at
 
@@ -236,7 +236,7 @@ holds_phase : (last : List ℕ) (s : LineState) (n : ℕ) (slot : Slot) (phase :
 holds_phase last s n slot Sent is own k = holds_sent last s n slot (cells_of s n).req refl own k
 holds_phase last s n slot Retried is own k = (own, is)
 
-holds : (last : List ℕ) (s : LineState) (n : ℕ) (slot : Slot) → LaneOf last s n → Holds s n slot (where_at s n slot)
+holds : (last : List ℕ) (s : LineState) (n : ℕ) (slot : Slot) → LaneOf last s n → Holds s n slot (position_at s n slot)
 holds last s n slot k = go (rn_of s n).pending refl
   where
     none_own : (rn_of s n).pending ≡ None → pending_slot (rn_of s n).pending ≢ Some slot
@@ -251,12 +251,12 @@ holds last s n slot k = go (rn_of s n).pending refl
     by_slot request pending true same = holds_phase last s n slot request.phase (ap is_retried pending) (ap pending_slot pending ∙ has_slot (Some request.slot) slot same) k
     by_slot request pending false away = holds_unasked s n slot (other_own request pending away)
 
-    go : (pending : Option Pending) → (rn_of s n).pending ≡ pending → Holds s n slot (where_by pending (agent_seen s n) slot)
+    go : (pending : Option Pending) → (rn_of s n).pending ≡ pending → Holds s n slot (position_by pending (agent_seen s n) slot)
     go None none = holds_unasked s n slot (none_own none)
     go (Some request) pending = by_slot request pending (request.slot.0 == slot.0) refl
 
 -- where nothing shows there is nothing, and the other way round
-shows_nothing : (s : LineState) (n : ℕ) (slot : Slot) → HasNothing s n slot → where_at s n slot ≡ None
+shows_nothing : (s : LineState) (n : ℕ) (slot : Slot) → HasNothing s n slot → position_at s n slot ≡ None
 shows_nothing s n slot nothing =
     shows_unasked (rn_of s n).pending (agent_seen s n) slot nothing.0
     ∙ ap (λ (b : Bool). if b then Some places.Answered else None) (away (is_at_home (agent_seen s n) slot) refl)
@@ -265,7 +265,7 @@ shows_nothing s n slot nothing =
     away true here = absurd (nothing.1 (home_of (waiting_slot (waiting_of s.home n)) (slot_served_for s.home.serving n) slot here))
     away false gone = refl
 
-has_nothing : (last : List ℕ) (s : LineState) (n : ℕ) (slot : Slot) → n < 8 → Kept last s → where_at s n slot ≡ None → HasNothing s n slot
+has_nothing : (last : List ℕ) (s : LineState) (n : ℕ) (slot : Slot) → n < 8 → Kept last s → position_at s n slot ≡ None → HasNothing s n slot
 has_nothing last s n slot low k none = (unpending, unhoused, unsent)
   where
     free : Free s n slot
@@ -284,7 +284,7 @@ has_nothing last s n slot low k none = (unpending, unhoused, unsent)
     unsent request there same = unpending ((k.lanes n low).request_slot request there ∙ ap (λ (x : Slot). Some x) same)
 
 -- a line shows a slot somewhere, or nothing of it, exactly where the table says so
-pub rows_are : (last : List ℕ) (s : LineState) (n : ℕ) (slot : Slot) (found : Option Where) → n < 8 → Kept last s → (where_at s n slot ≡ found) ↔ IsFound s n slot found
+pub rows_are : (last : List ℕ) (s : LineState) (n : ℕ) (slot : Slot) (found : Option Position) → n < 8 → Kept last s → (position_at s n slot ≡ found) ↔ IsFound s n slot found
 rows_are last s n slot None low k = (λ none. has_nothing last s n slot low k none, λ nothing. shows_nothing s n slot nothing)
 rows_are last s n slot (Some at) low k = (
   λ shows. subst (Holds s n slot) shows (holds last s n slot (k.lanes n low)),

@@ -32,7 +32,7 @@ use Rattle.chi_line.specs.Types.{has_type, is_of_type, pending_kind_of, requeste
 use Rattle.chi_line.specs.Places.{agent_seen}
 use Rattle.chi_line.proofs.Elsewhere.{Stays}
 use Rattle.chi_line.proofs.SeenMoves.{Asked, other_kind}
-use Rattle.chi_line.proofs.Wheres.{Free}
+use Rattle.chi_line.proofs.Positions.{Free}
 
 -- a type that a kind has, or no kind
 abbrev Has : Profile → CreditType → Option Kind → Type 0

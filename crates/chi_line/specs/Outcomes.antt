@@ -5,8 +5,8 @@ use Rattle.chi_flit.specs.declared.numbers.Slot.{Slot}
 use Rattle.chi_flit.specs.declared.action.Effect.{Effect}
 use Rattle.chi_flit.specs.declared.action.Effect.TheVariants.{Nothing}
 use Rattle.chi_line.specs.declared.outcomes.ActionOutcome.{ActionOutcome}
-use Rattle.chi_line.specs.declared.seen.Where.{Where}
-use Rattle.chi_line.specs.declared.seen.Where.TheVariants.{Closing}
+use Rattle.chi_line.specs.declared.seen.Position.{Position}
+use Rattle.chi_line.specs.declared.seen.Position.TheVariants.{Closing}
 use Rattle.chi_line.specs.Moves.{if_moved}
 use Rattle.chi_line.specs.Step.{completed_slot}
 
@@ -15,7 +15,7 @@ abbrev pub outcome_without_move : Effect → ActionOutcome
 outcome_without_move effect = record { effect = effect; slot = None; to = None }
 
 -- a request is there now, or over
-abbrev pub outcome_with_move : Option Slot → Option Where → ActionOutcome
+abbrev pub outcome_with_move : Option Slot → Option Position → ActionOutcome
 outcome_with_move slot to = record { effect = Nothing; slot = slot; to = to }
 
 -- the home is done with a request, and that is over

@@ -15,12 +15,12 @@ ghost use Rattle.chi_line.specs.Refused.{no_flit_unless};
 ghost use Rattle.chi_line.specs.Step.{acknowledged_line, completed_effect, completion_received, data_written, dbid_received_line, is_ack, is_comp, is_dbid, is_write_data, pending_slot, received_line, where_some};
 ghost use Rattle.chi_line.specs.Traffic.{Balances, completion_ack, flit_on};
 ghost use Rattle.chi_line.specs.Outcomes.{outcome_of_end, outcome_with_move};
-ghost use Rattle.chi_line.specs.declared.seen.Where.TheVariants.{Answered};
+ghost use Rattle.chi_line.specs.declared.seen.Position.TheVariants.{Answered};
 
 use crate::flits::has_flit;
 use crate::line::CoherentLine;
 use crate::outcomes::ActionOutcome;
-use crate::seen::Where;
+use crate::seen::Position;
 use crate::slots::pending_slot;
 use chi_flit::{Agent, Channel, DatUp, Refusal, RspDown, Step};
 
@@ -49,7 +49,7 @@ impl CoherentLine {
         let slot = pending_slot(copy.pending());
         let answer = copy.data(message);
         self.flits.exchange(agent, Channel::DatDown, answer);
-        Ok(ActionOutcome::with_move(slot, Some(Where::Answered)))
+        Ok(ActionOutcome::with_move(slot, Some(Position::Answered)))
     }
 
     /// RecvComp: the agent takes Comp_UC, and its CompAck is in flight; or it takes Comp_I.
@@ -78,7 +78,7 @@ impl CoherentLine {
                 let slot = pending_slot(copy.pending());
                 let answer = copy.comp();
                 self.flits.exchange(agent, Channel::RspDown, answer);
-                Ok(ActionOutcome::with_move(slot, Some(Where::Answered)))
+                Ok(ActionOutcome::with_move(slot, Some(Position::Answered)))
             }
             Some(RspDown::CompI) => {
                 self.flits.clear(agent, Channel::RspDown);
@@ -148,7 +148,7 @@ impl CoherentLine {
         let slot = pending_slot(copy.pending());
         let answer = copy.dbid();
         self.flits.exchange(agent, Channel::RspDown, answer);
-        Ok(ActionOutcome::with_move(slot, Some(Where::Answered)))
+        Ok(ActionOutcome::with_move(slot, Some(Position::Answered)))
     }
 
     /// RecvWrData: the home takes the agent's write data; the line is idle, and the request is complete.

@@ -21,7 +21,7 @@ pub use act::Conditions;
 pub use flits::has_flit;
 pub use line::CoherentLine;
 pub use outcomes::ActionOutcome;
-pub use seen::Where;
+pub use seen::Position;
 pub use slots::pending_slot;
 pub use types::{TypedSlot, pending_credit};
 pub use view::{CopyView, LineView};

@@ -4,7 +4,7 @@ ghost use Rattle.std.specs.Prelude.{◌≡◌};
 ghost use Rattle.chi_flit.specs.declared.action.Effect.TheVariants.{Completed};
 ghost use Rattle.chi_line.specs.Outcomes.{outcome_of_end, outcome_of_start, outcome_with_move, outcome_without_move};
 
-use crate::seen::Where;
+use crate::seen::Position;
 use chi_flit::{Effect, Slot};
 
 /// What an action came to: its effect, and what became of a request of its agent.
@@ -15,7 +15,7 @@ pub struct ActionOutcome {
     /// The slot of the request that was moved, if one was.
     pub slot: Option<Slot>,
     /// Where that request is now; `None` where it is over.
-    pub to: Option<Where>,
+    pub to: Option<Position>,
 }
 
 impl ActionOutcome {
@@ -33,7 +33,7 @@ impl ActionOutcome {
 
     /// A request is there now, or over, and there is no effect.
     #[inline(always)]
-    pub(crate) fn with_move(slot: Option<Slot>, to: Option<Where>) -> ActionOutcome
+    pub(crate) fn with_move(slot: Option<Slot>, to: Option<Position>) -> ActionOutcome
         ensures { result ≡ outcome_with_move slot to }
     {
         ActionOutcome {
@@ -63,7 +63,7 @@ impl ActionOutcome {
         ActionOutcome {
             effect: Effect::Completed(slot),
             slot: Some(slot),
-            to: Some(Where::Closing),
+            to: Some(Position::Closing),
         }
     }
 }

@@ -17,14 +17,14 @@ ghost use Rattle.chi_line.specs.Refused.{no_flit_unless, resend_step_refusal, re
 ghost use Rattle.chi_line.specs.Step.{admitted_line, is_retry, issued_line, pending_slot, resent_line, retried_line, retry_received_line, started_line, waiting_effect, where_some};
 ghost use Rattle.chi_line.specs.Traffic.{Balances, flit_on, request_again, retry_ack, started_flits};
 ghost use Rattle.chi_line.specs.Outcomes.{outcome_of_start, outcome_with_move};
-ghost use Rattle.chi_line.specs.declared.seen.Where.TheVariants.{Admitted, Refused, Retried, Riding, Sent};
+ghost use Rattle.chi_line.specs.declared.seen.Position.TheVariants.{Admitted, Refused, Retried, Riding, Sent};
 
 use crate::act::Conditions;
 use crate::flits::has_flit;
 use crate::line::CoherentLine;
 use crate::outcomes::ActionOutcome;
 use crate::refusals::has_credit;
-use crate::seen::Where;
+use crate::seen::Position;
 use crate::slots::pending_slot;
 use chi_flit::{
     Agent, Channel, CompData, Effect, Kind, Msg, Profile, Refusal, Request, RspDown, Slot, Step,
@@ -63,7 +63,7 @@ impl CoherentLine {
         }
         let request = self.requesters[usize::from(agent.0)].issue(kind, slot)?;
         self.flits.put(agent, request);
-        Ok(ActionOutcome::with_move(Some(slot), Some(Where::Sent)))
+        Ok(ActionOutcome::with_move(Some(slot), Some(Position::Sent)))
     }
 
     /// Admit: the agent's request, which was in flight, waits.
@@ -85,7 +85,7 @@ impl CoherentLine {
         let Request { kind, slot, .. } = cells.req.ok_or(Refusal::NoFlit)?;
         self.flits.clear(agent, Channel::Req);
         self.home.admit(agent, Waiting { kind, slot });
-        Ok(ActionOutcome::with_move(Some(slot), Some(Where::Admitted)))
+        Ok(ActionOutcome::with_move(Some(slot), Some(Position::Admitted)))
     }
 
     /// Retry: the agent's request is taken, and RetryAck of its credit type is in flight.
@@ -113,7 +113,7 @@ impl CoherentLine {
         }
         let answer = Msg::RspDown(RspDown::RetryAck(credit_type(profile, request.kind)));
         self.flits.exchange(agent, Channel::Req, answer);
-        Ok(ActionOutcome::with_move(Some(request.slot), Some(Where::Refused)))
+        Ok(ActionOutcome::with_move(Some(request.slot), Some(Position::Refused)))
     }
 
     /// RecvRetry: the agent takes its RetryAck, and its request is in phase Retried.
@@ -138,7 +138,7 @@ impl CoherentLine {
         let copy = &mut self.requesters[usize::from(agent.0)];
         let slot = pending_slot(copy.pending());
         copy.retried();
-        Ok(ActionOutcome::with_move(slot, Some(Where::Retried)))
+        Ok(ActionOutcome::with_move(slot, Some(Position::Retried)))
     }
 
     /// Resend: the agent's retried request is in flight again, without AllowRetry.
@@ -174,7 +174,7 @@ impl CoherentLine {
         }
         let message = copy.resend()?;
         self.flits.put(agent, message);
-        Ok(ActionOutcome::with_move(Some(request.slot), Some(Where::Riding)))
+        Ok(ActionOutcome::with_move(Some(request.slot), Some(Position::Riding)))
     }
 
     /// Start: the home begins to serve the agent's waiting request, and what that sends is in flight. An

@@ -3,7 +3,7 @@
 /// Where a request is.
 /// Source: `docs/PROTOCOL.md`, "Agreement".
 #[derive(Clone, Copy, Debug, PartialEq, Eq)]
-pub enum Where {
+pub enum Position {
     /// In flight, with AllowRetry.
     Sent,
     /// The RetryAck to it is in flight.

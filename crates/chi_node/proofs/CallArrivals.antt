@@ -21,8 +21,8 @@ use Rattle.chi_flit.specs.Credit.{credit_number, credit_type_of}
 use Rattle.chi_tracker.specs.Shape.{size}
 use Rattle.chi_tracker.specs.Acts.{Act}
 use Rattle.chi_tracker.specs.Views.{PortView}
-use Rattle.chi_slice.specs.Words.{cells_of, effect_of, has_type, is_of_type, is_step_in_range, no_flit_unless, pending_kind_of, requested_kind_of, requested_slot, retry_refusal, Where}
-use Rattle.chi_slice.specs.Wheres as places
+use Rattle.chi_slice.specs.Words.{cells_of, effect_of, has_type, is_of_type, is_step_in_range, no_flit_unless, pending_kind_of, requested_kind_of, requested_slot, retry_refusal, Position}
+use Rattle.chi_slice.specs.Positions as places
 use Rattle.chi_slice.proofs.Passed.{flit_at}
 use Rattle.chi_slice.specs.declared.agent_line.AgentRow.{AgentRow}
 use Rattle.chi_slice.specs.Slice.{SliceState, action_in, slice_after, is_in_range, is_line_in_range, line, action_refusal}
@@ -71,7 +71,7 @@ retry_allowed s r l request can first =
     (ap retry_refusal can.flit ∙ ap (λ (b : Bool). if b then None else Some refusals.MustAccept) first)
 
 -- the slot of the request that arrives
-abbrev from_by : Bool → Where
+abbrev from_by : Bool → Position
 from_by true = places.Sent
 from_by false = places.Riding
 

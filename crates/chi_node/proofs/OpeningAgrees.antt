@@ -4,7 +4,7 @@ use Rattle.std.proofs.lemmas.List.{get_or-replicate}
 use Rattle.atomic_table.specs.Seated.{TableId}
 use Rattle.chi_flit.specs.declared.numbers.Slot.{Slot}
 use Rattle.chi_tracker.specs.declared.shape.Shape.{Shape}
-use Rattle.chi_slice.specs.Words.{are_in_limits, opening_line, where_at, LineState, Sizes}
+use Rattle.chi_slice.specs.Words.{are_in_limits, opening_line, position_at, LineState, Sizes}
 use Rattle.chi_slice.specs.Slice.{is_line_in_range, line, opening_slice, row_count, row_of_line}
 use Rattle.chi_slice.proofs.Rows.{InLimits, in_limits, row_in_range}
 use Rattle.chi_slice.proofs.Follows.{opening_unused}
@@ -12,7 +12,7 @@ use Rattle.chi_slice.proofs.Passed.{unused_shows}
 use Rattle.chi_credit.specs.declared.slot.SlotRecord.{SlotRecord}
 use Rattle.chi_credit.specs.Slot.{idle_slot}
 use Rattle.chi_credit.specs.Account.{all_idle, slot_record_at}
-use Rattle.chi_node.specs.Agree.{Agree, where_of_record}
+use Rattle.chi_node.specs.Agree.{Agree, position_of_record}
 use Rattle.chi_node.specs.Parts.{AgreeAtOpening}
 use Rattle.chi_node.specs.Requester.{opening_requester}
 use Rattle.chi_node.proofs.CreditCalls.{not_shown}
@@ -24,12 +24,12 @@ opening_at config index l limits inside here =
     let low : row_of_line (opening_slice config index) l < row_count config index = row_in_range (opening_slice config index) l limits inside here in
     get_or-replicate (row_count config index) (row_of_line (opening_slice config index) l) opening_line opening_line low
 
-opening_shows : (config : Sizes) (index n l : ℕ) (slot : Slot) → are_in_limits config ≡ true → index < config.slices → n < 8 → is_line_in_range (opening_slice config index) l ≡ true → where_at (line (opening_slice config index) l) n slot ≡ None
+opening_shows : (config : Sizes) (index n l : ℕ) (slot : Slot) → are_in_limits config ≡ true → index < config.slices → n < 8 → is_line_in_range (opening_slice config index) l ≡ true → position_at (line (opening_slice config index) l) n slot ≡ None
 opening_shows config index n l slot limits inside low here =
-    ap (λ (z : LineState). where_at z n slot) (opening_at config index l limits inside here) ∙ unused_shows opening_line n slot (opening_unused n slot low)
+    ap (λ (z : LineState). position_at z n slot) (opening_at config index l limits inside here) ∙ unused_shows opening_line n slot (opening_unused n slot low)
 
-opening_nowhere : (k l : ℕ) → k < 8 → where_of_record (slot_record_at all_idle k) l ≡ None
-opening_nowhere k l low = ap (λ (x : SlotRecord). where_of_record x l) (get_or-replicate 8 k idle_slot idle_slot low) ∙ record_nowhere idle_slot l refl
+opening_nowhere : (k l : ℕ) → k < 8 → position_of_record (slot_record_at all_idle k) l ≡ None
+opening_nowhere k l low = ap (λ (x : SlotRecord). position_of_record x l) (get_or-replicate 8 k idle_slot idle_slot low) ∙ record_nowhere idle_slot l refl
 
 opening_agrees : (config : Sizes) (table : TableId) (shape : Shape) (index number : ℕ) → are_in_limits config ≡ true → index < config.slices → number < config.agents → Agree (opening_slice config index) (opening_requester table shape number)
 opening_agrees config table shape index number limits inside near =

@@ -17,8 +17,8 @@ use Rattle.chi_flit.specs.Credit.{credit_type_of}
 use Rattle.chi_tracker.specs.declared.released.Released.{Released}
 use Rattle.chi_tracker.specs.Acts.{Act}
 use Rattle.chi_tracker.specs.Views.{PortView}
-use Rattle.chi_slice.specs.Words.{cells_of, completed_slot, completed_to, if_moved, is_comp, is_of_type, is_slot, issued_slot, moved_slot, moved_to, record_of, where_at, Record, Where}
-use Rattle.chi_slice.specs.Wheres as places
+use Rattle.chi_slice.specs.Words.{cells_of, completed_slot, completed_to, if_moved, is_comp, is_of_type, is_slot, issued_slot, moved_slot, moved_to, record_of, position_at, Record, Position}
+use Rattle.chi_slice.specs.Positions as places
 use Rattle.chi_slice.specs.Index.{SlotsInRange}
 use Rattle.chi_slice.proofs.Passed.{Moved, always_moves, completed_from, moved_from, unused_shows}
 use Rattle.chi_slice.specs.Slice.{SliceKept, SliceState, is_line_in_range, line}
@@ -28,7 +28,7 @@ use Rattle.chi_credit.specs.declared.slot.SlotRecord.{SlotRecord}
 use Rattle.chi_credit.specs.Slot.{after_answer, after_finish, can_be_answered, in_state, is_admitted, opened_slot}
 use Rattle.chi_credit.specs.Account.{slots_with_state, slot_record_at, state_at}
 use Rattle.chi_node.specs.Requester.{RequesterState, with_both}
-use Rattle.chi_node.specs.Agree.{MatchesRecord, where_of_state}
+use Rattle.chi_node.specs.Agree.{MatchesRecord, position_of_state}
 use Rattle.chi_node.specs.AfterStep.{CanFinish, CanFollow, CompletesRequest, Finishes, SlotMeets, account_after, changed_at, counts_after, requester_after}
 use Rattle.chi_node.specs.Calls.{place_at}
 use Rattle.chi_node.proofs.Matches.{itself}
@@ -55,29 +55,29 @@ is_itself : (o : Option Slot) (slot : Slot) → o ≡ Some slot → is_slot o sl
 is_itself o slot is = ap (λ (x : Option Slot). is_slot x slot) is ∙ itself slot.0
 
 -- the slot that a step moves, and its record
-pub record Own (s : SliceState) (agent : Agent) (l : Line) (step : Step) (r : RequesterState) (from : Where) (slot : Slot) : Type 0 where
+pub record Own (s : SliceState) (agent : Agent) (l : Line) (step : Step) (r : RequesterState) (from : Position) (slot : Slot) : Type 0 where
   pub is : moved_slot (line s l.0) agent step ≡ Some slot
   pub low : slot.0 < 8
   pub at_line : (slot_record_at r.slots slot.0).line.0 ≡ l.0
-  pub tells : where_of_state (slot_record_at r.slots slot.0).state (slot_record_at r.slots slot.0).answered ≡ Some from
+  pub tells : position_of_state (slot_record_at r.slots slot.0).state (slot_record_at r.slots slot.0).answered ≡ Some from
   pub typed : is_of_type s.config.profile (slot_record_at r.slots slot.0).credit (line s l.0) agent.0 slot ≡ true
 
-slot_low : (s : SliceState) (n l : ℕ) (slot : Slot) (at : Where) → SlotsInRange s → n < 8 → is_line_in_range s l ≡ true → where_at (line s l) n slot ≡ Some at → slot.0 < 8
+slot_low : (s : SliceState) (n l : ℕ) (slot : Slot) (at : Position) → SlotsInRange s → n < 8 → is_line_in_range s l ≡ true → position_at (line s l) n slot ≡ Some at → slot.0 < 8
 slot_low s n l slot at numbers low here shows = dite (dec_le 8 slot.0)
-    (λ high. let none : where_at (line s l) n slot ≡ None = unused_shows (line s l) n slot (numbers.unused n slot l low high here) in absurd (cc (none, shows)))
+    (λ high. let none : position_at (line s l) n slot ≡ None = unused_shows (line s l) n slot (numbers.unused n slot l low high here) in absurd (cc (none, shows)))
     (λ inside. omega arith)
 
-pub own_at : (s : SliceState) (agent : Agent) (l : Line) (step : Step) (r : RequesterState) (from : Where) (slot : Slot) → Ready s agent l step r → moved_slot (line s l.0) agent step ≡ Some slot
+pub own_at : (s : SliceState) (agent : Agent) (l : Line) (step : Step) (r : RequesterState) (from : Position) (slot : Slot) → Ready s agent l step r → moved_slot (line s l.0) agent step ≡ Some slot
     → moved_from (line s l.0) agent step ≡ Some from → Own s agent l step r from slot
 own_at s agent l step r from slot ready is is_from =
-    let shows : where_at (line s l.0) agent.0 slot ≡ Some from = ready.moves.found slot (is_itself (moved_slot (line s l.0) agent step) slot is) ∙ is_from in
+    let shows : position_at (line s l.0) agent.0 slot ≡ Some from = ready.moves.found slot (is_itself (moved_slot (line s l.0) agent step) slot is) ∙ is_from in
     let low : slot.0 < 8 = slot_low s agent.0 l.0 slot from ready.numbers ready.low ready.here shows in
     let own = (ready.matching slot low).lines l.0 ready.here in
-    let tells : ((slot_record_at r.slots slot.0).line.0 ≡ l.0) × (where_of_state (slot_record_at r.slots slot.0).state (slot_record_at r.slots slot.0).answered ≡ Some from) = record_is (slot_record_at r.slots slot.0) l.0 from (sym own.place ∙ shows) in
+    let tells : ((slot_record_at r.slots slot.0).line.0 ≡ l.0) × (position_of_state (slot_record_at r.slots slot.0).state (slot_record_at r.slots slot.0).answered ≡ Some from) = record_is (slot_record_at r.slots slot.0) l.0 from (sym own.place ∙ shows) in
     record { is = is; low = low; at_line = tells.0; tells = tells.1; typed = own.type from shows }
 
 -- its record becomes another one, and all slots follow
-pub slot_moves : (s : SliceState) (agent : Agent) (l : Line) (step : Step) (r : RequesterState) (from : Where) (slot : Slot) (y : SlotRecord) → Ready s agent l step r → Own s agent l step r from slot → issued_slot step ≡ None
+pub slot_moves : (s : SliceState) (agent : Agent) (l : Line) (step : Step) (r : RequesterState) (from : Position) (slot : Slot) (y : SlotRecord) → Ready s agent l step r → Own s agent l step r from slot → issued_slot step ≡ None
     → Becomes (slot_record_at r.slots slot.0) y (moved_to (line s l.0) agent step) → AllFollow s agent l step r.slots (slice_set r.slots slot.0 y)
 slot_moves s agent l step r from slot y ready own unissued b =
     let x : SlotRecord = slot_record_at r.slots slot.0 in
@@ -128,12 +128,12 @@ issue_fine s agent l kind slot r ready low idle =
       (low, idle),
       one_moves s agent l (steps.Issue kind slot) r.slots slot new ready.eight ready.here ready.moves refl ready.matching
           (moves_to s agent l (steps.Issue kind slot) slot (slot_record_at r.slots slot.0) new ready.moves (is_itself (Some slot) slot refl)
-          (only_nowhere l.0 (slot_record_at r.slots slot.0) (ap (λ (z : SlotState). where_of_state z (slot_record_at r.slots slot.0).answered) idle)) (only_there l.0 new refl) (record_here new l.0 (Some places.Sent) refl refl)
+          (only_nowhere l.0 (slot_record_at r.slots slot.0) (ap (λ (z : SlotState). position_of_state z (slot_record_at r.slots slot.0).answered) idle)) (only_there l.0 new refl) (record_here new l.0 (Some places.Sent) refl refl)
           (λ at is. ready.moves.issued_type kind slot refl (is_itself (Some slot) slot refl))),
     )
 
 -- a step that changes the record of the slot that it moves, whose state is as its place says
-pub change_fine : (s : SliceState) (agent : Agent) (l : Line) (step : Step) (r : RequesterState) (from : Where) (condition : ℕ → Type 0) (change : SlotRecord → SlotRecord) → Ready s agent l step r
+pub change_fine : (s : SliceState) (agent : Agent) (l : Line) (step : Step) (r : RequesterState) (from : Position) (condition : ℕ → Type 0) (change : SlotRecord → SlotRecord) → Ready s agent l step r
     → always_moves step ≡ true → moved_from (line s l.0) agent step ≡ Some from → issued_slot step ≡ None
     → ((slot : Slot) → Own s agent l step r from slot → condition slot.0 × Becomes (slot_record_at r.slots slot.0) (change (slot_record_at r.slots slot.0)) (moved_to (line s l.0) agent step))
     → SlotMeets (moved_slot (line s l.0) agent step) condition × AllFollow s agent l step r.slots (changed_at (moved_slot (line s l.0) agent step) change r.slots)
@@ -164,7 +164,7 @@ comp_fine s agent l r (Some CompI) ready rsp h = change_fine s agent l steps.Rec
 comp_fine s agent l r other ready rsp h = absurd (cc (h))
 
 -- a request that the home completes
-completes : (s : SliceState) (agent : Agent) (l : Line) (step : Step) (r : RequesterState) (from : Where) (slot : Slot) → Ready s agent l step r → Own s agent l step r from slot → issued_slot step ≡ None → record_of (line s l.0) (action_of agent l step) ≡ None
+completes : (s : SliceState) (agent : Agent) (l : Line) (step : Step) (r : RequesterState) (from : Position) (slot : Slot) → Ready s agent l step r → Own s agent l step r from slot → issued_slot step ≡ None → record_of (line s l.0) (action_of agent l step) ≡ None
     → is_admitted (state_at r.slots slot.0) ≡ true → Becomes (slot_record_at r.slots slot.0) (after_finish (slot_record_at r.slots slot.0)) (moved_to (line s l.0) agent step) → Fine s agent l step r (Completed slot)
 completes s agent l step r from slot ready own unissued unrecorded admitted b = record {
   can = (own.low, admitted);
@@ -202,8 +202,8 @@ fine_start s agent l r (Completed slot) ready is =
     (subst (Becomes (slot_record_at r.slots slot.0) (after_finish (slot_record_at r.slots slot.0))) (sym (ap (λ (o : Option Slot). if_moved o places.Closing) is)) (closes (slot_record_at r.slots slot.0) state.1))
 
 -- a request that arrives at the home
-pub arrival_follows : (s : SliceState) (agent : Agent) (l : Line) (step : Step) (r : RequesterState) (from : Where) (slot : Slot) (state : SlotState) (port : PortView) (history : List Act) → Ready s agent l step r → Own s agent l step r from slot → issued_slot step ≡ None → record_of (line s l.0) (action_of agent l step) ≡ None
-    → where_of_state state (slot_record_at r.slots slot.0).answered ≡ moved_to (line s l.0) agent step → OwnFollows s agent l step r (with_both port history (slots_with_state r.slots slot.0 state) r)
+pub arrival_follows : (s : SliceState) (agent : Agent) (l : Line) (step : Step) (r : RequesterState) (from : Position) (slot : Slot) (state : SlotState) (port : PortView) (history : List Act) → Ready s agent l step r → Own s agent l step r from slot → issued_slot step ≡ None → record_of (line s l.0) (action_of agent l step) ≡ None
+    → position_of_state state (slot_record_at r.slots slot.0).answered ≡ moved_to (line s l.0) agent step → OwnFollows s agent l step r (with_both port history (slots_with_state r.slots slot.0 state) r)
 arrival_follows s agent l step r from slot state port history ready own unissued unrecorded to = record {
   number = refl;
   slots = slot_moves s agent l step r from slot (in_state state (slot_record_at r.slots slot.0)) ready own unissued (restated (slot_record_at r.slots slot.0) state (moved_to (line s l.0) agent step) to);

@@ -10,14 +10,14 @@ use Rattle.chi_flit.specs.declared.action.Effect.TheVariants.{Nothing, Value, Co
 use Rattle.chi_flit.specs.Credit.{credit_type_of}
 use Rattle.chi_tracker.specs.declared.released.Released.{Released}
 use Rattle.chi_tracker.specs.Views.{has}
-use Rattle.chi_tracker.specs.Calls.{seen_of, EndedAsItsType, HasSameCredits}
+use Rattle.chi_tracker.specs.Calls.{seen_of, LeavesHandAsItsType, HasSameCredits}
 use Rattle.chi_tracker.specs.Shape.{IsOf}
 use Rattle.chi_tracker.specs.Conduct.{ReleaseActs}
 use Rattle.chi_credit.specs.declared.slot.SlotState.TheVariants.{Admitted, Idle, Refused, Retried, Riding, Cancelled}
 use Rattle.chi_credit.specs.declared.slot.SlotRecord.{SlotRecord}
 use Rattle.chi_credit.specs.Slot.{after_answer, after_finish, can_be_answered, in_state, is_admitted, opened_slot}
 use Rattle.chi_credit.specs.Account.{riding_of, slot_record_at, state_at, type_at}
-use Rattle.chi_node.specs.declared.steps.StepPlace.{StepPlace}
+use Rattle.chi_node.specs.declared.steps.StepSubject.{StepSubject}
 use Rattle.chi_node.specs.Requester.{Acted, RequesterState, with_both}
 
 -- the record of a slot changes, if there is one
@@ -26,7 +26,7 @@ changed_at None change slots = slots
 changed_at (Some slot) change slots = slice_set slots slot.0 (change (slot_record_at slots slot.0))
 
 -- the slots of an account after a step at a place
-abbrev pub account_after : StepPlace → Step → List SlotRecord → List SlotRecord
+abbrev pub account_after : StepSubject → Step → List SlotRecord → List SlotRecord
 account_after at (steps.Issue kind slot) slots = slice_set slots slot.0 (opened_slot at.line (credit_type_of at.profile kind))
 account_after at steps.RecvRetry slots = changed_at at.slot (in_state Retried) slots
 account_after at steps.Resend slots = changed_at at.slot (in_state Riding) slots
@@ -37,13 +37,13 @@ account_after at steps.RecvDbid slots = changed_at at.slot after_answer slots
 account_after at other slots = slots
 
 -- how many loads and stores each slice answered, after a step at a place
-abbrev pub counts_after : StepPlace → Step → List ℕ → List ℕ
+abbrev pub counts_after : StepSubject → Step → List ℕ → List ℕ
 counts_after at (steps.Load word) counts = slice_set counts at.index (slice_index counts at.index + 1)
 counts_after at (steps.Store word value) counts = slice_set counts at.index (slice_index counts at.index + 1)
 counts_after at other counts = counts
 
 -- the requester after a step at a place
-abbrev pub requester_after : StepPlace → Step → RequesterState → RequesterState
+abbrev pub requester_after : StepSubject → Step → RequesterState → RequesterState
 requester_after at step r = record r { slots = account_after at step r.slots; counts = counts_after at step r.counts }
 
 -- there is a slot, one of the eight, and it meets a condition
@@ -56,7 +56,7 @@ abbrev pub CanResend : RequesterState → ℕ → Type 0
 CanResend r s = (state_at r.slots s ≡ Retried) × (riding_of r.slots (type_at r.slots s) < seen_of r.port (type_at r.slots s))
 
 -- when a step can be followed: its slot is in the state that the step needs
-abbrev pub CanFollow : StepPlace → Step → RequesterState → Type 0
+abbrev pub CanFollow : StepSubject → Step → RequesterState → Type 0
 CanFollow at (steps.Load word) r = (at.index < 8) × (slice_index r.counts at.index < 65536)
 CanFollow at (steps.Store word value) r = (at.index < 8) × (slice_index r.counts at.index < 65536)
 CanFollow at (steps.Issue kind slot) r = (slot.0 < 8) × (state_at r.slots slot.0 ≡ Idle)
@@ -70,7 +70,7 @@ CanFollow at other r = ⊤
 
 -- the request of slot s was completed, and its entry, which was in hand, released
 pub record CompletesRequest (s : ℕ) (released : Released) (old new : RequesterState) : Type 0 where
-  pub ended : (e : Entry) × (state_at old.slots s ≡ Admitted e) × EndedAsItsType old.port e.0 released new.port
+  pub ended : (e : Entry) × (state_at old.slots s ≡ Admitted e) × LeavesHandAsItsType old.port e.0 released new.port
   pub held : (e : Entry) → state_at old.slots s ≡ Admitted e → has e.0 old.port ≡ 1
   pub credits : HasSameCredits old.port new.port
   pub after : new ≡ with_both new.port new.history (slice_set old.slots s (after_finish (slot_record_at old.slots s))) old
@@ -78,11 +78,11 @@ pub record CompletesRequest (s : ℕ) (released : Released) (old new : Requester
       × Acted (ReleaseActs old.port.shape.agents t e.0 released) old new
 
 -- when a step of this effect can be followed, and what it leaves and answers
-abbrev pub CanFinish : StepPlace → Step → Effect → RequesterState → Type 0
+abbrev pub CanFinish : StepSubject → Step → Effect → RequesterState → Type 0
 CanFinish at step Nothing r = CanFollow at step r
 CanFinish at step (Value word) r = CanFollow at step r
 CanFinish at step (Completed slot) r = (slot.0 < 8) × (is_admitted (state_at r.slots slot.0) ≡ true)
 
-abbrev pub Finishes : StepPlace → Step → Effect → Option Released → RequesterState → RequesterState → Type 0
+abbrev pub Finishes : StepSubject → Step → Effect → Option Released → RequesterState → RequesterState → Type 0
 Finishes at step (Completed slot) released old new = IfNone released ⊥ × IfSome released (λ r. CompletesRequest slot.0 r old new)
 Finishes at step other released old new = (released ≡ None) × (new ≡ requester_after at step old)

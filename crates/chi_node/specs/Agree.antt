@@ -3,10 +3,10 @@
 use Rattle.std.specs.Prelude.{◌≡◌, ◌≢◌, ℕ, ◌<◌, Bool, true, List, All, Option, Some, None, is_some, length, slice_index, ◌==◌, ◌&&◌, if◌then◌else◌}
 use Rattle.chi_flit.specs.declared.credit.Profile.{Profile}
 use Rattle.chi_flit.specs.declared.numbers.Slot.{Slot}
-use Rattle.chi_slice.specs.Words.{is_of_type, part_of, where_at, LineState, Where}
-use Rattle.chi_slice.specs.declared.places.Place.{Place}
-use Rattle.chi_slice.specs.Index.{place_of_where}
-use Rattle.chi_slice.specs.Wheres as places
+use Rattle.chi_slice.specs.Words.{is_of_type, part_of, position_at, LineState, Position}
+use Rattle.chi_slice.specs.declared.places.RequestPlace.{RequestPlace}
+use Rattle.chi_slice.specs.Index.{place_of_position}
+use Rattle.chi_slice.specs.Positions as places
 use Rattle.chi_slice.specs.Slice.{SliceState, is_line_in_range, line}
 use Rattle.chi_credit.specs.declared.slot.SlotState.{SlotState}
 use Rattle.chi_credit.specs.declared.slot.SlotState.TheVariants.{Admitted, Closing, Refused, Retried, Riding, Sent}
@@ -15,35 +15,35 @@ use Rattle.chi_credit.specs.Account.{slot_record_at}
 use Rattle.chi_node.specs.Requester.{RequesterState}
 
 -- where the request of a slot is, by the slot's state and whether it is marked as answered
-abbrev pub where_of_state : SlotState → Bool → Option Where
-where_of_state Sent answered = Some places.Sent
-where_of_state Refused answered = Some places.Refused
-where_of_state Retried answered = Some places.Retried
-where_of_state Riding answered = Some places.Riding
-where_of_state (Admitted entry) answered = if answered then Some places.Answered else Some places.Admitted
-where_of_state Closing answered = Some places.Closing
-where_of_state other answered = None
+abbrev pub position_of_state : SlotState → Bool → Option Position
+position_of_state Sent answered = Some places.Sent
+position_of_state Refused answered = Some places.Refused
+position_of_state Retried answered = Some places.Retried
+position_of_state Riding answered = Some places.Riding
+position_of_state (Admitted entry) answered = if answered then Some places.Answered else Some places.Admitted
+position_of_state Closing answered = Some places.Closing
+position_of_state other answered = None
 
 -- where it is at a line, by the slot's record: nowhere where the record's line is another one
-abbrev pub where_of_record : SlotRecord → ℕ → Option Where
-where_of_record x l = if x.line.0 == l then where_of_state x.state x.answered else None
+abbrev pub position_of_record : SlotRecord → ℕ → Option Position
+position_of_record x l = if x.line.0 == l then position_of_state x.state x.answered else None
 
 -- what a line l shows of an agent's slot is what the slot's record says, and the kinds that it keeps of it take
 -- the record's credit type
 pub record ShowsRecord (profile : Profile) (z : LineState) (n : ℕ) (slot : Slot) (x : SlotRecord) (l : ℕ) : Type 0 where
-  pub place : where_at z n slot ≡ where_of_record x l
-  pub type : (at : Where) → where_at z n slot ≡ Some at → is_of_type profile x.credit z n slot ≡ true
+  pub place : position_at z n slot ≡ position_of_record x l
+  pub type : (at : Position) → position_at z n slot ≡ Some at → is_of_type profile x.credit z n slot ≡ true
 
 -- so does each line of a slice
 pub record MatchesRecord (s : SliceState) (n : ℕ) (slot : Slot) (x : SlotRecord) : Type 0 where
   pub lines : (l : ℕ) → is_line_in_range s l ≡ true → ShowsRecord s.config.profile (line s l) n slot x l
 
 -- the place that a slot's record says its request has, and whether that is in a slice
-abbrev pub said_place : SlotRecord → Option Place
-said_place x = place_of_where x.line (where_of_state x.state x.answered)
+abbrev pub said_place : SlotRecord → Option RequestPlace
+said_place x = place_of_position x.line (position_of_state x.state x.answered)
 
 abbrev pub is_said_in : SliceState → SlotRecord → Bool
-is_said_in s x = is_some (where_of_state x.state x.answered) && is_line_in_range s x.line.0
+is_said_in s x = is_some (position_of_state x.state x.answered) && is_line_in_range s x.line.0
 
 -- the count for the slice is the length of the requester's part of the journal
 pub record Agree (s : SliceState) (r : RequesterState) : Type 0 where

@@ -4,7 +4,7 @@ use Rattle.chi_flit.specs.Credit.{credit_number}
 use Rattle.chi_tracker.specs.Shape.{low, size, IsOf}
 use Rattle.chi_tracker.specs.Steps.{spends}
 use Rattle.chi_tracker.specs.Calls.{into_hand, owed_one, port_after_scan, scanned_all, FoundAll, IsLowestSeen}
-use Rattle.chi_tracker.specs.declared.step.Step.TheVariants.{Spend}
+use Rattle.chi_tracker.specs.declared.step.AtomicStep.TheVariants.{Spend}
 use Rattle.chi_tracker.specs.Conduct.{FoundFree, FoundTaken, One, OweActs, Steps, Then}
 use Rattle.chi_tracker.specs.Views.{PortView, has}
 use Rattle.chi_credit.specs.declared.slot.SlotState.TheVariants as states

@@ -26,7 +26,7 @@ use Rattle.chi_credit.specs.Account.{riding_of}
 use Rattle.chi_node.specs.declared.answers.Arrived.{Arrived}
 use Rattle.chi_node.specs.declared.answers.Arrived.TheVariants.{Admitted, Retried}
 use Rattle.chi_node.specs.declared.answers.Stepped.{Stepped}
-use Rattle.chi_node.specs.declared.steps.StepPlace.{StepPlace}
+use Rattle.chi_node.specs.declared.steps.StepSubject.{StepSubject}
 use Rattle.chi_node.specs.Requester.{IsRunning, RequesterKept, RequesterState}
 use Rattle.chi_node.specs.Terms.{is_taken}
 use Rattle.chi_node.specs.Agree.{Agree, KeepsAgreement}
@@ -64,7 +64,7 @@ ArrivesAt None arrived old new = ⊥
 ArrivesAt (Some request) arrived old new = Arrives request.allow_retry request.slot.0 arrived old new
 
 -- where an action is done
-abbrev pub place_at : SliceState → Action → StepPlace
+abbrev pub place_at : SliceState → Action → StepSubject
 place_at s action = record { line = action.line; index = s.index; profile = s.config.profile; slot = moved_by s action }
 
 -- what a step that is done leaves of the slice, by its row of the protocol, and of its requester, and what is answered

@@ -10,7 +10,7 @@ use Rattle.chi_tracker.specs.declared.released.Released.{Released}
 use Rattle.chi_tracker.specs.Sums.{set_at}
 use Rattle.chi_tracker.specs.Views.{PortView, has}
 use Rattle.chi_tracker.specs.Calls.{saw_all, seen_of, HasSameCredits, IsLowestSeen, Tended}
-use Rattle.chi_tracker.specs.declared.step.Step.TheVariants.{Return}
+use Rattle.chi_tracker.specs.declared.step.AtomicStep.TheVariants.{Return}
 use Rattle.chi_tracker.specs.Conduct.{One, ReleaseActs, SeeActs, Steps, TendActs, Then}
 use Rattle.chi_node.specs.Requester.{Acted, RequesterState, give_back_refusal, tend_refusal, with_port, without_cancelled, HasCancelled, ReturnsCredit}
 
@@ -20,9 +20,9 @@ typed_refusal refusal None = Some OutOfRange
 typed_refusal refusal (Some ty) = refusal (credit_number ty)
 
 -- a call for a type did this
-abbrev pub Typed : Option CreditType → (ℕ → Type 0) → Type 0
-Typed None Did = ⊥
-Typed (Some ty) Did = Did (credit_number ty)
+abbrev pub DidForType : Option CreditType → (ℕ → Type 0) → Type 0
+DidForType None Did = ⊥
+DidForType (Some ty) Did = Did (credit_number ty)
 
 -- the promises were looked at: the seen credits by type are these, none fewer than before
 pub record Sees (seen : List ℕ) (r r' : RequesterState) : Type 0 where

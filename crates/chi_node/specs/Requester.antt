@@ -12,7 +12,7 @@ use Rattle.chi_tracker.specs.Steps.{no_shape, returns_credit}
 use Rattle.chi_tracker.specs.Acts.{Act}
 use Rattle.chi_tracker.specs.History.{IsAfter}
 use Rattle.chi_tracker.specs.Conduct.{Does, Steps}
-use Rattle.chi_tracker.specs.Calls.{nowhere, seen_of, Ended, HasSameCredits, IsLowestSeen, Owner}
+use Rattle.chi_tracker.specs.Calls.{nowhere, seen_of, LeavesHand, HasSameCredits, IsLowestSeen, Owner}
 use Rattle.chi_credit.specs.declared.slot.SlotRecord.{SlotRecord}
 use Rattle.chi_credit.specs.declared.slot.SlotState.TheVariants.{Cancelled}
 use Rattle.chi_credit.specs.Slot.{idle_slot}
@@ -92,7 +92,7 @@ without_cancelled t port history r = with_both port history (slice_set r.slots (
 -- the lowest seen credit of type t, whose entry wasn't in hand, is returned, and that entry released
 abbrev pub ReturnsCredit : ℕ → Released → RequesterState → RequesterState → Type 0
 ReturnsCredit t released old new =
-    (e : ℕ) × IsLowestSeen old.port t e × (has e old.port ≡ 0) × Ended (returns_credit t e old.port) t e released new.port
+    (e : ℕ) × IsLowestSeen old.port t e × (has e old.port ≡ 0) × LeavesHand (returns_credit t e old.port) t e released new.port
     × HasSameCredits (returns_credit t e old.port) new.port
 
 -- a seen credit of type t is beyond those for Riding slots

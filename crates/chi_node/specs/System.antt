@@ -25,7 +25,7 @@ use Rattle.chi_node.specs.AfterStep.{Finishes}
 use Rattle.chi_node.specs.Parts.{opening_requesters}
 use Rattle.chi_node.specs.Requester.{RequesterState, give_back_refusal, no_requester, tend_refusal, IsRunning}
 use Rattle.chi_node.specs.Home.{HomeState, IsHome, slices_after, node_line, opening_home, slice_of}
-use Rattle.chi_node.specs.Credits.{GivesBack, Sees, Tends, Typed, typed_refusal}
+use Rattle.chi_node.specs.Credits.{GivesBack, Sees, Tends, DidForType, typed_refusal}
 
 -- the slices of a node, and its requesters in rising order
 pub record SystemState : Type 0 where
@@ -86,12 +86,12 @@ pub record SeesIn (y y' : SystemState) (agent : Agent) (seen : List ℕ) : Type 
 
 pub record GivesBackIn (y y' : SystemState) (agent : Agent) (ty : Option CreditType) (released : Released) : Type 0 where
   pub home : y'.home ≡ y.home
-  pub requester : Typed ty (λ t. GivesBack t released (requester_of y agent.0) (requester_of y' agent.0))
+  pub requester : DidForType ty (λ t. GivesBack t released (requester_of y agent.0) (requester_of y' agent.0))
   pub others : OthersStay y y' agent
 
 pub record TendsIn (y y' : SystemState) (agent : Agent) (ty : Option CreditType) (released : Option Released) : Type 0 where
   pub home : y'.home ≡ y.home
-  pub requester : Typed ty (λ t. Tends t released (requester_of y agent.0) (requester_of y' agent.0))
+  pub requester : DidForType ty (λ t. Tends t released (requester_of y agent.0) (requester_of y' agent.0))
   pub others : OthersStay y y' agent
 
 -- what a node keeps: there are as many requesters as agents, each with its place as its number and with a

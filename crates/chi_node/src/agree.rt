@@ -5,13 +5,13 @@ ghost use Rattle.chi_slice.specs.Words.{part_of};
 ghost use Rattle.chi_credit.specs.Account.{slot_record_at};
 ghost use Rattle.chi_slice.specs.Slice.{SliceKept};
 ghost use Rattle.chi_node.specs.Requester.{RequesterKept};
-ghost use Rattle.chi_node.specs.Agree.{is_said_in, said_place, where_of_state, Agree, AllAgree, MatchesRecord};
+ghost use Rattle.chi_node.specs.Agree.{is_said_in, said_place, position_of_state, Agree, AllAgree, MatchesRecord};
 ghost use Rattle.chi_node.specs.Table.{AgreeByTable};
 
 use crate::requester::Requester;
 use chi_credit::{SlotRecord, SlotState};
 use chi_flit::{Agent, Slot};
-use chi_slice::{Place, Slice, Where};
+use chi_slice::{Position, RequestPlace, Slice};
 use std::alloc::Allocator;
 
 /// Whether the requester agrees with the slice: what the slice shows of each of the eight slots is what
@@ -102,10 +102,10 @@ fn matches_record<A: Allocator>(
 }
 
 /// Whether a record says that its request is at this place.
-fn is_said(place: Place, said: SlotRecord) -> bool
+fn is_said(place: RequestPlace, said: SlotRecord) -> bool
     ensures { IsTrue result ↔ (Some place ≡ said_place said) }
 {
-    match where_of_state(said.state, said.answered) {
+    match position_of_state(said.state, said.answered) {
         Some(at) => place.line.0 == said.line.0 && place.at == at,
         None => false,
     }
@@ -117,24 +117,24 @@ fn is_said_in<A: Allocator>(slice: &Slice<A>, said: SlotRecord) -> bool
 {
     // (both are asked, so that nothing branches on whether the slot is idle)
     let here = slice.has_line(said.line);
-    where_of_state(said.state, said.answered).is_some() & here
+    position_of_state(said.state, said.answered).is_some() & here
 }
 
 /// Where the request of a slot is, by the slot's state and whether it is marked as answered.
-fn where_of_state(state: SlotState, answered: bool) -> Option<Where>
-    ensures { result ≡ where_of_state state answered }
+fn position_of_state(state: SlotState, answered: bool) -> Option<Position>
+    ensures { result ≡ position_of_state state answered }
 {
     match state {
         SlotState::Idle | SlotState::Cancelled => None,
-        SlotState::Sent => Some(Where::Sent),
-        SlotState::Refused => Some(Where::Refused),
-        SlotState::Retried => Some(Where::Retried),
-        SlotState::Riding => Some(Where::Riding),
+        SlotState::Sent => Some(Position::Sent),
+        SlotState::Refused => Some(Position::Refused),
+        SlotState::Retried => Some(Position::Retried),
+        SlotState::Riding => Some(Position::Riding),
         SlotState::Admitted(_) => Some(if answered {
-            Where::Answered
+            Position::Answered
         } else {
-            Where::Admitted
+            Position::Admitted
         }),
-        SlotState::Closing => Some(Where::Closing),
+        SlotState::Closing => Some(Position::Closing),
     }
 }

@@ -5,10 +5,10 @@ ghost use Rattle.std.specs.Int.{bit_at};
 ghost use Rattle.chi_tracker.specs.Shape.{low, size, IsOf};
 ghost use Rattle.chi_tracker.specs.Views.{has};
 ghost use Rattle.chi_tracker.specs.Steps.{spends};
-ghost use Rattle.chi_tracker.specs.Calls.{into_hand, owed_one, port_after_scan, Ended, HasSameCredits, IsLowestSeen};
+ghost use Rattle.chi_tracker.specs.Calls.{into_hand, owed_one, port_after_scan, LeavesHand, HasSameCredits, IsLowestSeen};
 ghost use Rattle.chi_credit.specs.Slot.{after_finish, is_admitted};
 ghost use Rattle.chi_credit.specs.Account.{slots_with_state, slot_record_at, state_at, type_at};
-ghost use Rattle.chi_tracker.specs.declared.step.Step.TheVariants.{Spend};
+ghost use Rattle.chi_tracker.specs.declared.step.AtomicStep.TheVariants.{Spend};
 ghost use Rattle.chi_tracker.specs.Conduct.{One, ReleaseActs};
 ghost use Rattle.chi_node.specs.Arrives.{AdmissionActs, Arrives, CanArrive, RetryActs};
 ghost use Rattle.chi_node.specs.Requester.{with_both, Acted};
@@ -117,7 +117,7 @@ impl Requester {
         requires admitted { is_admitted (state_at self.old.slots slot.0) ≡ true }
         ensures released { (e : Entry) × (state_at self.old.slots slot.0 ≡ SlotState.Admitted e)
             × ((t : ℕ) × (t < 4) × IsOf self.old.port.shape t e.0
-            × Ended self.old.port t e.0 result self.new.port) }
+            × LeavesHand self.old.port t e.0 result self.new.port) }
         ensures held { (e : Entry) → state_at self.old.slots slot.0 ≡ SlotState.Admitted e
             → has e.0 self.old.port ≡ 1 }
         ensures credits { HasSameCredits self.old.port self.new.port }

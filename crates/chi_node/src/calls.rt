@@ -11,7 +11,7 @@ ghost use Rattle.chi_node.specs.Parts.{HasTypes};
 use crate::agree::agrees;
 use crate::answers::{Arrived, Stepped};
 use crate::requester::Requester;
-use crate::steps::StepPlace;
+use crate::steps::StepSubject;
 use chi_flit::{Action, Line, Refusal, Request, Step};
 use chi_slice::{AgentRow, Slice, Terms, is_step_in_range};
 use chi_tracker::Tracker;
@@ -162,7 +162,7 @@ pub fn step_agreed<A: Allocator, B: Allocator>(
     let terms = requester.terms(step);
     keeps(slice, requester);
     let done = slice.act_in(at, step, terms)?;
-    let place = StepPlace {
+    let place = StepSubject {
         line: at.line(),
         index: slice.index(),
         profile: slice.config().profile(),

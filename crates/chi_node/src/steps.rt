@@ -11,7 +11,7 @@ use std::alloc::Allocator;
 /// Where a step was done: the line, the index of its slice and the slice's profile, and the slot of the
 /// request that it moved, if it moved one.
 #[derive(Clone, Copy, Debug, PartialEq, Eq)]
-pub(crate) struct StepPlace {
+pub(crate) struct StepSubject {
     pub(crate) line: Line,
     pub(crate) index: u8,
     pub(crate) profile: Profile,
@@ -20,7 +20,7 @@ pub(crate) struct StepPlace {
 
 impl Requester {
     /// The agent did a step that completes nothing: its account and its counts follow.
-    pub(crate) fn follow(&mut self, at: StepPlace, step: Step)
+    pub(crate) fn follow(&mut self, at: StepSubject, step: Step)
         requires { CanFollow at step self.old }
         ensures { self.new ≡ requester_after at step self.old }
     {
@@ -40,7 +40,7 @@ impl Requester {
     pub(crate) fn finish<A: Allocator>(
         &mut self,
         tracker: &Tracker<A>,
-        at: StepPlace,
+        at: StepSubject,
         step: Step,
         effect: Effect,
     ) -> Option<Released>
@@ -59,7 +59,7 @@ impl Requester {
 }
 
 /// The slot of the request that a step moved.
-fn moved_slot(at: StepPlace) -> Slot
+fn moved_slot(at: StepSubject) -> Slot
     requires { IsTrue (is_some at.slot) }
     ensures { at.slot ≡ Some result }
 {

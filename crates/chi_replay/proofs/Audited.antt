@@ -7,15 +7,15 @@ use Rattle.chi_slice.specs.Slice.{SliceState}
 use Rattle.chi_tracker.specs.Views.{PortView}
 use Rattle.chi_reply.specs.Replies.{audit_text}
 use Rattle.chi_slice.specs.Audits.{loads_in, stores_in}
-use Rattle.chi_replay.specs.Turns.{Answer, Claimed, Glanced, Judged, Machine, Owed, Saw, Spent, Tended, Went, turn}
-use Rattle.chi_replay.specs.Texts.{Allowed, AuditsTell, Ending, Plays, Tells, TellsSlices}
+use Rattle.chi_replay.specs.Turns.{TurnAnswer, Claimed, Glanced, Judged, Machine, Owed, Saw, Spent, Tended, Went, turn}
+use Rattle.chi_replay.specs.Texts.{MayAnswer, AuditsTell, Ending, Plays, TellsAudit, TellsSlices}
 use Rattle.chi_replay.proofs.Playing.{made_plays}
 
 verdict_tells : (slices : List SliceState) (coherent : Bool) (said : List ℕ) → IsTrue coherent ↔ All IsCoherentSlice slices → said ≡ audit_text (record { loads = loads_in slices; stores = stores_in slices; coherent = coherent }) → TellsSlices slices said
 verdict_tells slices true said verdict is = inl (verdict.0 refl, is)
 verdict_tells slices false said verdict is = inr (λ all. true≢false (sym (verdict.1 all)), is)
 
-told : (m : Machine) (command : Command) (old : List PortView) (answers : List Answer) (said : List ℕ) (state : Machine) (new : List PortView) → Plays (turn m command) old answers said state new → Tells command m.home.slices said
+told : (m : Machine) (command : Command) (old : List PortView) (answers : List TurnAnswer) (said : List ℕ) (state : Machine) (new : List PortView) → Plays (turn m command) old answers said state new → TellsAudit command m.home.slices said
 told m Audit old [] said state new h = absurd h
 told m Audit old (Judged coherent ∷ []) said state new h = verdict_tells m.home.slices coherent said h.1.0 h.2.0
 told m Audit old (Judged coherent ∷ answer ∷ answers) said state new h = absurd h.2
@@ -35,7 +35,7 @@ told m (GiveBack agent ty) old answers said state new h = tt
 told m (Tend agent ty) old answers said state new h = tt
 told m (Act action) old answers said state new h = tt
 
-pub audits_tell : (m : Machine) (ports : List PortView) (all : List Command) (answers : List Answer) → Allowed m ports all answers → AuditsTell m all answers
+pub audits_tell : (m : Machine) (ports : List PortView) (all : List Command) (answers : List TurnAnswer) → MayAnswer m ports all answers → AuditsTell m all answers
 audits_tell m ports [] answers h = tt
 audits_tell m ports (command ∷ rest) answers h =
     let mine = h.0 in
@@ -44,6 +44,6 @@ audits_tell m ports (command ∷ rest) answers h =
     let state = h.3 in
     let new = h.4 in
     let plays : Plays (turn m command) ports mine said state new = h.6 in
-    let tells : Tells command m.home.slices said × AuditsTell state rest later = (told m command ports mine said state new plays, audits_tell state new rest later h.7) in
+    let tells : TellsAudit command m.home.slices said × AuditsTell state rest later = (told m command ports mine said state new plays, audits_tell state new rest later h.7) in
     subst (AuditsTell m (command ∷ rest)) (sym h.5)
-    (subst (λ (x : Ending). Tells command m.home.slices x.said × AuditsTell x.state rest x.left) (sym (made_plays (turn m command) ports mine later said state new plays)) tells)
+    (subst (λ (x : Ending). TellsAudit command m.home.slices x.said × AuditsTell x.state rest x.left) (sym (made_plays (turn m command) ports mine later said state new plays)) tells)

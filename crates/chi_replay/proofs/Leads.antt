@@ -7,13 +7,13 @@ use Rattle.chi_tracker.specs.Views.{PortView}
 use Rattle.chi_node.specs.System.{SystemState, opening_system}
 use Rattle.chi_replay.specs.Session.{machine_of, ports_of}
 use Rattle.chi_replay.proofs.Openings.{opening_machine, opening_views}
-use Rattle.chi_replay.specs.Turns.{Answer, Machine, machine_at_start, turn}
-use Rattle.chi_replay.specs.Texts.{Allowed, IsText, Ending, Says, opening_ports, text}
+use Rattle.chi_replay.specs.Turns.{TurnAnswer, Machine, machine_at_start, turn}
+use Rattle.chi_replay.specs.Texts.{MayAnswer, IsText, Ending, Says, opening_ports, text}
 use Rattle.chi_replay.proofs.Playing.{made_plays}
 use Rattle.chi_replay.proofs.Audited.{audits_tell}
 
 abbrev pub LeadsOn : Sizes → List Command → List ℕ → Machine → List PortView → List Command → Type 0
-LeadsOn config all written m ports rest = (answers : List Answer) → Allowed m ports rest answers → IsText config all (written ++ text m rest answers)
+LeadsOn config all written m ports rest = (answers : List TurnAnswer) → MayAnswer m ports rest answers → IsText config all (written ++ text m rest answers)
 
 -- before the first command
 leads_from : (config : Sizes) (all : List Command) → LeadsOn config all [] (machine_at_start config) (opening_ports config) all

@@ -20,19 +20,19 @@ use Rattle.chi_node.specs.Home.{node_flits_refusal, node_last, node_line, slice_
 use Rattle.chi_reply.specs.declared.replies.Reply.TheVariants as replies
 use Rattle.chi_script.specs.declared.commands.Command.{Command}
 use Rattle.chi_script.specs.declared.commands.Command.TheVariants as commands
-use Rattle.chi_replay.specs.Turns.{Answer, Asks, Claimed, Ends, GiveBack, Glanced, Judged, Machine, Owed, Saw, Spent, Tended, Turn, Went, act_turn, act_refusal, machine_agent_refusal, arrive, arriving, turn_of_attempt, cancelled_refusal, turn_after_claim, turn_after_release, completing, credits_of, turn_after_action, give_back, credit_given_back, turn_after_glance, turn_after_verdict, or_refused, turn_after_owe, turn_after_see, slots_of, turn_after_spend, tend, turn_after_tend, turn, type_refusal}
+use Rattle.chi_replay.specs.Turns.{TurnAnswer, Asks, Claimed, Ends, GiveBack, Glanced, Judged, Machine, Owed, Saw, Spent, Tended, Turn, Went, act_turn, act_refusal, machine_agent_refusal, arrive, arriving, turn_of_attempt, cancelled_refusal, turn_after_claim, turn_after_release, completing, credits_of, turn_after_action, give_back, credit_given_back, turn_after_glance, turn_after_verdict, or_refused, turn_after_owe, turn_after_see, slots_of, turn_after_spend, tend, turn_after_tend, turn, type_refusal}
 use Rattle.chi_replay.specs.Texts.{ending}
 use Rattle.chi_replay.proofs.PlainReplies.{IsPlain, audit, credits, flits, reply, shown, totals}
 
 abbrev pub SaysPlain : Turn → Type 0
 SaysPlain (Ends said m) = IsPlain said
-SaysPlain (Asks call next) = (answer : Answer) → SaysPlain (next answer)
+SaysPlain (Asks call next) = (answer : TurnAnswer) → SaysPlain (next answer)
 
 -- a turn that never ends says nothing
 empty : IsPlain []
 empty = record { plain = refl }
 
-pub made_plain : (t : Turn) (answers : List Answer) → SaysPlain t → IsPlain (ending t answers).said
+pub made_plain : (t : Turn) (answers : List TurnAnswer) → SaysPlain t → IsPlain (ending t answers).said
 made_plain (Ends said m) answers is = is
 made_plain (Asks call next) [] is = made_plain (next Owed) [] (is Owed)
 made_plain (Asks call next) (answer ∷ answers) is = made_plain (next answer) answers (is answer)
@@ -41,7 +41,7 @@ refused_or : (o : Option Refusal) (m : Machine) (t : Turn) → SaysPlain t → S
 refused_or None m t is = is
 refused_or (Some refusal) m t is = reply (replies.Refused refusal)
 
-at_end : (m : Machine) (slot : Slot) (answer : Answer) → SaysPlain (turn_after_release m slot answer)
+at_end : (m : Machine) (slot : Slot) (answer : TurnAnswer) → SaysPlain (turn_after_release m slot answer)
 at_end m slot (Went released) = reply (replies.Completed slot released)
 at_end m slot other = empty
 
@@ -57,16 +57,16 @@ when_done (effects.Completed slot) m action = at_completion (state_at (slots_of 
 of_act : (m : Machine) (action : Action) → SaysPlain (act_turn m action)
 of_act m action = refused_or (act_refusal m action) m _ (when_done (effect_of (node_line m.home action.line.0) action) m action)
 
-when_owed : (m : Machine) (ty : CreditType) (answer : Answer) → SaysPlain (turn_after_owe m ty answer)
+when_owed : (m : Machine) (ty : CreditType) (answer : TurnAnswer) → SaysPlain (turn_after_owe m ty answer)
 when_owed m ty Owed = reply (replies.Retry ty)
 when_owed m ty other = empty
 
-when_claimed : (m : Machine) (agent : Agent) (l : Line) (s : ℕ) (ty : CreditType) (answer : Answer) → SaysPlain (turn_after_claim m agent l s ty answer)
+when_claimed : (m : Machine) (agent : Agent) (l : Line) (s : ℕ) (ty : CreditType) (answer : TurnAnswer) → SaysPlain (turn_after_claim m agent l s ty answer)
 when_claimed m agent l s ty (Claimed (Some entry)) = reply (replies.Admitted entry)
 when_claimed m agent l s ty (Claimed None) = when_owed _ ty
 when_claimed m agent l s ty other = empty
 
-when_spent : (m : Machine) (agent : Agent) (l : Line) (s : ℕ) (ty : CreditType) (answer : Answer) → SaysPlain (turn_after_spend m agent l s ty answer)
+when_spent : (m : Machine) (agent : Agent) (l : Line) (s : ℕ) (ty : CreditType) (answer : TurnAnswer) → SaysPlain (turn_after_spend m agent l s ty answer)
 when_spent m agent l s ty (Spent entry) = reply (replies.Admitted entry)
 when_spent m agent l s ty other = empty
 
@@ -81,11 +81,11 @@ of_arrival m agent l (Some request) = of_attempt request.allow_retry m agent l r
 of_arrive : (m : Machine) (agent : Agent) (l : Line) → SaysPlain (arrive m agent l)
 of_arrive m agent l = refused_or (arrival_refusal (slice_of m.home l.0) agent.0 l.0) m _ (of_arrival m agent l (cells_of (node_line m.home l.0) agent.0).req)
 
-when_seen : (m : Machine) (agent : Agent) (answer : Answer) → SaysPlain (turn_after_see m agent answer)
+when_seen : (m : Machine) (agent : Agent) (answer : TurnAnswer) → SaysPlain (turn_after_see m agent answer)
 when_seen m agent (Saw counts) = credits (record { counts = counts; profile = m.home.config.profile })
 when_seen m agent other = empty
 
-when_given : (m : Machine) (agent : Agent) (ty : CreditType) (answer : Answer) → SaysPlain (credit_given_back m agent ty answer)
+when_given : (m : Machine) (agent : Agent) (ty : CreditType) (answer : TurnAnswer) → SaysPlain (credit_given_back m agent ty answer)
 when_given m agent ty (Went released) = reply (replies.Paid released)
 when_given m agent ty other = empty
 
@@ -93,7 +93,7 @@ of_give_back : (m : Machine) (agent : Agent) (credit : Option CreditType) → Sa
 of_give_back m agent None = reply (replies.Refused OutOfRange)
 of_give_back m agent (Some ty) = refused_or (option_or (type_refusal m agent ty) (cancelled_refusal (slots_of m agent) (credits_of m agent) ty)) m (Asks (GiveBack agent ty) (credit_given_back m agent ty)) (when_given m agent ty)
 
-when_tended : (m : Machine) (answer : Answer) → SaysPlain (turn_after_tend m answer)
+when_tended : (m : Machine) (answer : TurnAnswer) → SaysPlain (turn_after_tend m answer)
 when_tended m (Tended None) = reply replies.Idle
 when_tended m (Tended (Some released)) = reply (replies.Paid released)
 when_tended m other = empty
@@ -102,11 +102,11 @@ of_tend : (m : Machine) (agent : Agent) (credit : Option CreditType) → SaysPla
 of_tend m agent None = reply (replies.Refused OutOfRange)
 of_tend m agent (Some ty) = refused_or (type_refusal m agent ty) m _ (when_tended m)
 
-when_glanced : (m : Machine) (answer : Answer) → SaysPlain (turn_after_glance m answer)
+when_glanced : (m : Machine) (answer : TurnAnswer) → SaysPlain (turn_after_glance m answer)
 when_glanced m (Glanced free hand promised owed) = totals _
 when_glanced m other = empty
 
-when_judged : (m : Machine) (answer : Answer) → SaysPlain (turn_after_verdict m answer)
+when_judged : (m : Machine) (answer : TurnAnswer) → SaysPlain (turn_after_verdict m answer)
 when_judged m (Judged coherent) = audit _
 when_judged m other = empty
 

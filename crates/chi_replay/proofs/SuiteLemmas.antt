@@ -13,9 +13,9 @@ use Rattle.chi_replay.specs.declared.suites.SuiteCounts.{SuiteCounts}
 use Rattle.chi_replay.specs.declared.suites.SuiteFile.{SuiteFile}
 use Rattle.chi_replay.specs.declared.suites.SuiteForm.{SuiteForm}
 use Rattle.chi_replay.specs.Reports.{differing, differing_text, wanted_in}
-use Rattle.chi_replay.specs.Suites.{Came, answered, faulty, FileCheck, GivenFile, IsFileCheck, IsSuiteReport, MayCome, SuiteGoesOn, SuiteState, counts_of, counts_with, differing_of, fault_line, fault_of, faulty_line, faulty_text, file_text, files_text, found_text, front_of, given, given_of, first_fault, first_of, has_differing, is_answered, new_counts, no_counts, state_with, suite_end, suite_head, wanted_answers}
+use Rattle.chi_replay.specs.Suites.{SuiteResult, answered, faulty, FileCheck, GivenFile, IsFileCheck, IsSuiteReport, MayCome, SuiteGoesOn, SuiteState, counts_of, counts_with, differing_of, fault_line, fault_of, faulty_line, faulty_text, file_text, files_text, found_text, front_of, given, given_of, first_fault, first_of, has_differing, is_answered, new_counts, no_counts, state_with, suite_end, suite_head, wanted_answers}
 
-abbrev check_of : GivenFile → Came → FileCheck
+abbrev check_of : GivenFile → SuiteResult → FileCheck
 check_of file came = record { file = file; came = came }
 
 abbrev pub state_in : List ℕ → List ℕ → Option Fault → SuiteCounts → SuiteState
@@ -56,7 +56,7 @@ counts_same : (a a' b b' x x' y y' : ℕ) → a ≡ a' → b ≡ b' → x ≡ x'
     → counts_in a b x y ≡ counts_in a' b' x' y'
 counts_same a a' b b' x x' y y' e f g h = cc (e, f, g, h)
 
-counts_more : (told : List FileCheck) (file : GivenFile) (came : Came) → counts_of (told ++ check_of file came ∷ []) ≡ counts_with (counts_of told) came
+counts_more : (told : List FileCheck) (file : GivenFile) (came : SuiteResult) → counts_of (told ++ check_of file came ∷ []) ≡ counts_with (counts_of told) came
 counts_more told file (answered checks answers) =
     let it = check_of file (answered checks answers) in
     counts_same _ _ _ _ _ _ _ _
@@ -85,7 +85,7 @@ state_same : (text text' faults faults' : List ℕ) (fault fault' : Option Fault
     → state_in text faults fault counts ≡ state_in text' faults' fault' counts'
 state_same text text' faults faults' fault fault' counts counts' e f g h = cc (e, f, g, h)
 
-state_more : (form : SuiteForm) (count number : ℕ) (told : List FileCheck) (file : GivenFile) (came : Came) → number ≡ length told + 1
+state_more : (form : SuiteForm) (count number : ℕ) (told : List FileCheck) (file : GivenFile) (came : SuiteResult) → number ≡ length told + 1
     → state_with form number file.name (state_of form count told) came ≡ state_of form count (told ++ check_of file came ∷ [])
 state_more form count number told file came e =
     let it = check_of file came in

@@ -6,7 +6,7 @@ use Rattle.chi_script.specs.Headers.{node_sizes}
 use Rattle.chi_script.specs.declared.commands.Command.{Command}
 use Rattle.chi_script.specs.declared.headers.Header.{Header}
 use Rattle.chi_replay.specs.Texts.{IsText}
-use Rattle.chi_replay.specs.Turns.{Answer, machine_at_start}
+use Rattle.chi_replay.specs.Turns.{TurnAnswer, machine_at_start}
 use Rattle.chi_script.specs.Checks.{CheckLine}
 use Rattle.chi_script.specs.CheckFiles.{check_file_of}
 use Rattle.chi_replay.specs.Answers.{answers_of}
@@ -16,7 +16,7 @@ abbrev pub commands_in : List CheckLine → List Command
 commands_in checks = map (λ check. check.command) checks
 
 -- the answers of the commands on a new node of the header's size, where the tracker answers so
-abbrev pub answers_in : Header → List CheckLine → List Answer → List (List ℕ)
+abbrev pub answers_in : Header → List CheckLine → List TurnAnswer → List (List ℕ)
 answers_in header checks tracked = answers_of (machine_at_start (node_sizes header)) (commands_in checks) tracked
 
 -- the commands of a good file were replayed under answers that the tracker may give, and these are the lines of that

@@ -8,7 +8,7 @@ use Rattle.chi_tracker.specs.declared.released.Released.{Released}
 use Rattle.chi_tracker.specs.Sums.{set_at}
 use Rattle.chi_tracker.specs.Views.{PortView, has}
 use Rattle.chi_tracker.specs.Steps.{returns_credit, spends}
-use Rattle.chi_tracker.specs.Calls.{Ended, EndedAsItsType, FoundAll, HasClaimed, IsLowestSeen, owed_one, saw_all, scanned_all, seen_of}
+use Rattle.chi_tracker.specs.Calls.{LeavesHand, LeavesHandAsItsType, FoundAll, HasClaimed, IsLowestSeen, owed_one, saw_all, scanned_all, seen_of}
 use Rattle.chi_tracker.specs.Calls as calls
 
 -- An entry of the type that wasn't in hand comes to hand, in a scan that found the lower entries of the
@@ -27,7 +27,7 @@ PortSpends before ty entry after = IsLowestSeen before (credit_number ty) entry.
 
 -- an entry that is in hand leaves it: it is promised on to who is owed a credit of its type, or freed
 abbrev pub PortReleases : PortView → Entry → Released → PortView → Type 0
-PortReleases before entry released after = (has entry.0 before ≡ 1) × EndedAsItsType before entry.0 released after
+PortReleases before entry released after = (has entry.0 before ≡ 1) × LeavesHandAsItsType before entry.0 released after
 
 -- a port's seen credits by type
 abbrev pub seen_counts : PortView → List ℕ
@@ -40,7 +40,7 @@ PortSees before counts after = (after ≡ saw_all after.seen before) × ((e : �
 -- the lowest seen credit of the type is returned, and its entry promised on, or freed
 abbrev pub PortGivesBack : PortView → CreditType → Released → PortView → Type 0
 PortGivesBack before ty released after = (e : ℕ) × IsLowestSeen before (credit_number ty) e × (has e before ≡ 0)
-    × Ended (returns_credit (credit_number ty) e before) (credit_number ty) e released after
+    × LeavesHand (returns_credit (credit_number ty) e before) (credit_number ty) e released after
 
 -- a free entry of the type is claimed and released, or none is
 abbrev pub PortTends : PortView → CreditType → Option Released → PortView → Type 0

@@ -5,7 +5,7 @@ use Rattle.chi_script.specs.declared.commands.Command.{Command}
 use Rattle.chi_tracker.specs.Views.{PortView}
 use Rattle.chi_node.specs.System.{SystemState}
 use Rattle.chi_replay.specs.Ports.{seen_counts}
-use Rattle.chi_replay.specs.Turns.{Answer, Machine, Turn, turn}
+use Rattle.chi_replay.specs.Turns.{TurnAnswer, Machine, Turn, turn}
 use Rattle.chi_replay.specs.Texts.{Plays, Says}
 
 -- its state in the table: the slices, and each requester's slots and seen credits
@@ -18,7 +18,7 @@ ports_of y = map (λ r. r.port) y.requesters
 
 -- a turn was played on a node, which went on so, and said this
 abbrev pub PlaysOn : Turn → SystemState → SystemState → List ℕ → Type 0
-PlaysOn played y y' said = (answers : List Answer) × Plays played (ports_of y) answers said (machine_of y') (ports_of y')
+PlaysOn played y y' said = (answers : List TurnAnswer) × Plays played (ports_of y) answers said (machine_of y') (ports_of y')
 
 -- and its line, with its end, was put behind the bytes
 abbrev pub SaysOn : Turn → SystemState → SystemState → List ℕ → List ℕ → Type 0

@@ -25,12 +25,12 @@ abbrev pub given_of : SuiteFile → GivenFile
 given_of file = given file.name.now (option_map (λ bytes. bytes.now) file.bytes)
 
 -- what comes of the check of a file: its checks with the answers of their commands, or its fault
-pub data Came : Type 0 where
-  answered : List CheckLine → List (List ℕ) → Came
-  faulty : Fault → Came
+pub data SuiteResult : Type 0 where
+  answered : List CheckLine → List (List ℕ) → SuiteResult
+  faulty : Fault → SuiteResult
 
 -- what may come of a file of these bytes: just what its check alone finds
-abbrev pub MayCome : Option (List ℕ) → Came → Type 0
+abbrev pub MayCome : Option (List ℕ) → SuiteResult → Type 0
 MayCome None (answered checks answers) = ⊥
 MayCome None (faulty fault) = fault ≡ faults.Read
 MayCome (Some bytes) (answered checks answers) = IsAnswered bytes checks answers
@@ -39,26 +39,26 @@ MayCome (Some bytes) (faulty fault) = check_file_of bytes ≡ Err fault
 -- a file, and what came of it
 pub record FileCheck : Type 0 where
   pub file : GivenFile
-  pub came : Came
+  pub came : SuiteResult
 
 abbrev pub IsFileCheck : FileCheck → Type 0
 IsFileCheck told = MayCome told.file.bytes told.came
 
 -- the answers that are wanted in a file, and those that differ
-abbrev pub wanted_answers : Came → List CheckLine
+abbrev pub wanted_answers : SuiteResult → List CheckLine
 wanted_answers (answered checks answers) = wanted_in checks
 wanted_answers (faulty fault) = []
 
-abbrev pub differing_of : Came → List CheckedAnswer
+abbrev pub differing_of : SuiteResult → List CheckedAnswer
 differing_of (answered checks answers) = differing checks answers
 differing_of (faulty fault) = []
 
-abbrev pub is_answered : Came → Bool
+abbrev pub is_answered : SuiteResult → Bool
 is_answered (answered checks answers) = true
 is_answered (faulty fault) = false
 
 -- some answer of the file differs
-abbrev pub has_differing : Came → Bool
+abbrev pub has_differing : SuiteResult → Bool
 has_differing came = not (length (differing_of came) == 0)
 
 -- what is wrong, without the program's name
@@ -75,7 +75,7 @@ fault_words faults.Write = codes "cannot write"
 abbrev pub faulty_line : List ℕ → Fault → List ℕ
 faulty_line name fault = codes "chihome: " ++ (name ++ (codes ": " ++ (fault_words fault ++ (10 ∷ []))))
 
-abbrev pub fault_line : List ℕ → Came → List ℕ
+abbrev pub fault_line : List ℕ → SuiteResult → List ℕ
 fault_line name (answered checks answers) = []
 fault_line name (faulty fault) = faulty_line name fault
 
@@ -107,7 +107,7 @@ faulty_text Lines number name fault = []
 faulty_text Tap number name fault = faulty_point number name fault
 
 -- what is told of the file of this number and name
-abbrev pub file_text : SuiteForm → ℕ → List ℕ → Came → List ℕ
+abbrev pub file_text : SuiteForm → ℕ → List ℕ → SuiteResult → List ℕ
 file_text form number name (answered checks answers) =
     found_text form number name (differing_text (front_of form name) checks answers) (length (wanted_in checks)) (length (differing checks answers))
 file_text form number name (faulty fault) = faulty_text form number name fault
@@ -118,7 +118,7 @@ files_text form number [] = []
 files_text form number (it ∷ rest) = file_text form number it.file.name it.came ++ files_text form (number + 1) rest
 
 -- the first fault
-abbrev pub fault_of : Came → Option Fault
+abbrev pub fault_of : SuiteResult → Option Fault
 fault_of (answered checks answers) = None
 fault_of (faulty fault) = Some fault
 
@@ -185,12 +185,12 @@ new_counts old wanted differ = record {
   differ = old.differ + differ;
 }
 
-abbrev pub counts_with : SuiteCounts → Came → SuiteCounts
+abbrev pub counts_with : SuiteCounts → SuiteResult → SuiteCounts
 counts_with old (answered checks answers) = new_counts old (length (wanted_in checks)) (length (differing checks answers))
 counts_with old (faulty fault) = old
 
 -- one file more
-abbrev pub state_with : SuiteForm → ℕ → List ℕ → SuiteState → Came → SuiteState
+abbrev pub state_with : SuiteForm → ℕ → List ℕ → SuiteState → SuiteResult → SuiteState
 state_with form number name old came = record {
   text = old.text ++ file_text form number name came;
   faults = old.faults ++ fault_line name came;
@@ -200,4 +200,4 @@ state_with form number name old came = record {
 
 -- the file of this number was checked, and what came of it was told behind the rest
 abbrev pub SuiteGoesOn : SuiteForm → ℕ → GivenFile → SuiteState → SuiteState → Type 0
-SuiteGoesOn form number file old new = (came : Came) × MayCome file.bytes came × (new ≡ state_with form number file.name old came)
+SuiteGoesOn form number file old new = (came : SuiteResult) × MayCome file.bytes came × (new ≡ state_with form number file.name old came)

@@ -13,22 +13,22 @@ use Rattle.chi_tracker.specs.Views.{PortView, new_ports}
 use Rattle.chi_tracker.specs.Calls.{shape_of}
 use Rattle.chi_slice.specs.Audits.{loads_in, stores_in}
 use Rattle.chi_replay.specs.Ports.{PortClaims, PortGivesBack, PortOwes, PortReleases, PortSees, PortSpends, PortTends}
-use Rattle.chi_replay.specs.Turns.{Answer, Call, Claim, Claimed, GiveBack, Glance, Glanced, Judge, Judged, Owe, Owed, Release, See, Saw, Spend, Spent, Tend, Tended, Went, Turn, Asks, Ends, Machine, machine_at_start, turn}
+use Rattle.chi_replay.specs.Turns.{TurnAnswer, TurnCall, Claim, Claimed, GiveBack, Glance, Glanced, Judge, Judged, Owe, Owed, Release, See, Saw, Spend, Spent, Tend, Tended, Went, Turn, Asks, Ends, Machine, machine_at_start, turn}
 
 -- the line that a turn says, the state that it leaves, and the answers that it leaves over
 pub record Ending : Type 0 where
   pub said : List ℕ
   pub state : Machine
-  pub left : List Answer
+  pub left : List TurnAnswer
 
 -- a turn under the next answers; where one is lacking, which no allowed list does, it goes on as after Owed
-abbrev pub ending : Turn → List Answer → Ending
+abbrev pub ending : Turn → List TurnAnswer → Ending
 ending (Ends said m) answers = record { said = said; state = m; left = answers }
 ending (Asks call next) [] = ending (next Owed) []
 ending (Asks call next) (answer ∷ answers) = ending (next answer) answers
 
 -- a line for each command
-abbrev pub text : Machine → List Command → List Answer → List ℕ
+abbrev pub text : Machine → List Command → List TurnAnswer → List ℕ
 text m [] answers = []
 text m (command ∷ rest) answers =
     (ending (turn m command) answers).said ++ (10 ∷ text (ending (turn m command) answers).state rest (ending (turn m command) answers).left)
@@ -40,7 +40,7 @@ AtPort agent old new Goes = (before after : PortView) × (slice_get old agent.0 
 -- what may be answered to a call, and the views of the ports then. The tracker's answers: the agent's port
 -- goes on by the clause of the call; a glance may show any number for each type. A verdict is that on the
 -- slices. No call has an answer of another kind.
-abbrev pub Permits : List PortView → Call → Answer → List PortView → Type 0
+abbrev pub Permits : List PortView → TurnCall → TurnAnswer → List PortView → Type 0
 Permits old (Claim agent ty) (Claimed claim) new = AtPort agent old new (λ before after. PortClaims before ty claim after)
 Permits old (Owe agent ty) Owed new = AtPort agent old new (λ before after. PortOwes before ty after)
 Permits old (Spend agent ty) (Spent entry) new = AtPort agent old new (λ before after. PortSpends before ty entry after)
@@ -53,7 +53,7 @@ Permits old (Judge slices) (Judged coherent) new = (IsTrue coherent ↔ All IsCo
 Permits old call other new = ⊥
 
 -- a turn, played with just these answers
-abbrev pub Plays : Turn → List PortView → List Answer → List ℕ → Machine → List PortView → Type 0
+abbrev pub Plays : Turn → List PortView → List TurnAnswer → List ℕ → Machine → List PortView → Type 0
 Plays (Ends said' m) old [] said state new = (said ≡ said') × (state ≡ m) × (new ≡ old)
 Plays (Ends said' m) old (answer ∷ answers) said state new = ⊥
 Plays (Asks call next) old [] said state new = ⊥
@@ -63,13 +63,13 @@ Plays (Asks call next) old (answer ∷ answers) said state new =
 -- a turn was played, and its line, with its end, was put behind the bytes
 abbrev pub Says : Turn → List PortView → Machine → List PortView → List ℕ → List ℕ → Type 0
 Says played old state new before after =
-    (answers : List Answer) × (said : List ℕ) × Plays played old answers said state new × (after ≡ before ++ (said ++ (10 ∷ [])))
+    (answers : List TurnAnswer) × (said : List ℕ) × Plays played old answers said state new × (after ≡ before ++ (said ++ (10 ∷ [])))
 
 -- the answers that a list of commands may get
-abbrev pub Allowed : Machine → List PortView → List Command → List Answer → Type 0
-Allowed m ports [] answers = answers ≡ []
-Allowed m ports (command ∷ rest) answers = (mine later : List Answer) × (said : List ℕ) × (state : Machine) × (new : List PortView)
-    × (answers ≡ mine ++ later) × Plays (turn m command) ports mine said state new × Allowed state new rest later
+abbrev pub MayAnswer : Machine → List PortView → List Command → List TurnAnswer → Type 0
+MayAnswer m ports [] answers = answers ≡ []
+MayAnswer m ports (command ∷ rest) answers = (mine later : List TurnAnswer) × (said : List ℕ) × (state : Machine) × (new : List PortView)
+    × (answers ≡ mine ++ later) × Plays (turn m command) ports mine said state new × MayAnswer state new rest later
 
 -- the views of the ports to a new node's tracker
 abbrev pub opening_ports : Sizes → List PortView
@@ -87,21 +87,21 @@ TellsSlices slices said =
     ⊎ ((All IsCoherentSlice slices → ⊥) × (said ≡ audit_line slices (codes " broken")))
 
 -- a command's line, where it is an audit, tells what the slices are
-abbrev pub Tells : Command → List SliceState → List ℕ → Type 0
-Tells commands.Audit slices said = TellsSlices slices said
-Tells other slices said = Unit {0}
+abbrev pub TellsAudit : Command → List SliceState → List ℕ → Type 0
+TellsAudit commands.Audit slices said = TellsSlices slices said
+TellsAudit other slices said = Unit {0}
 
 -- each audit among the commands tells what the slices are when its turn comes
-abbrev pub AuditsTell : Machine → List Command → List Answer → Type 0
+abbrev pub AuditsTell : Machine → List Command → List TurnAnswer → Type 0
 AuditsTell m [] answers = Unit {0}
-AuditsTell m (command ∷ rest) answers = Tells command m.home.slices (ending (turn m command) answers).said
+AuditsTell m (command ∷ rest) answers = TellsAudit command m.home.slices (ending (turn m command) answers).said
     × AuditsTell (ending (turn m command) answers).state rest (ending (turn m command) answers).left
 
 -- bytes that are the text of the commands on a new node, under some allowed answers, and whose audits tell
 -- what the slices are
 pub record IsText (config : Sizes) (all : List Command) (bytes : List ℕ) : Type 0 where
-  pub answers : List Answer
-  pub allowed : Allowed (machine_at_start config) (opening_ports config) all answers
+  pub answers : List TurnAnswer
+  pub allowed : MayAnswer (machine_at_start config) (opening_ports config) all answers
   pub same : bytes ≡ text (machine_at_start config) all answers
   pub audits : AuditsTell (machine_at_start config) all answers
 

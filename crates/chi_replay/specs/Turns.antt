@@ -71,35 +71,35 @@ abbrev pub less_one : List ℕ → CreditType → List ℕ
 less_one credits ty = slice_set credits (credit_number ty) (slice_index credits (credit_number ty) - 1)
 
 -- what a command asks: of the tracker, or whether slices are coherent
-pub data Call : Type 0 where
-  Claim : Agent → CreditType → Call
-  Owe : Agent → CreditType → Call
-  Spend : Agent → CreditType → Call
-  Release : Agent → Entry → Call
-  See : Agent → Call
-  GiveBack : Agent → CreditType → Call
-  Tend : Agent → CreditType → Call
-  Glance : Call
-  Judge : List SliceState → Call
+pub data TurnCall : Type 0 where
+  Claim : Agent → CreditType → TurnCall
+  Owe : Agent → CreditType → TurnCall
+  Spend : Agent → CreditType → TurnCall
+  Release : Agent → Entry → TurnCall
+  See : Agent → TurnCall
+  GiveBack : Agent → CreditType → TurnCall
+  Tend : Agent → CreditType → TurnCall
+  Glance : TurnCall
+  Judge : List SliceState → TurnCall
 
 -- what is answered: an entry or none; that a credit is owed; the entry of a credit; where a released or
 -- returned entry went; the seen credits by type; where a tended entry went, if there was one; for each type
 -- the entries that are free, in hand and promised, and the credits that are owed; whether the slices are
 -- coherent
-pub data Answer : Type 0 where
-  Claimed : Option Entry → Answer
-  Owed : Answer
-  Spent : Entry → Answer
-  Went : Released → Answer
-  Saw : List ℕ → Answer
-  Tended : Option Released → Answer
-  Glanced : (free hand promised owed : CreditType → ℕ) → Answer
-  Judged : Bool → Answer
+pub data TurnAnswer : Type 0 where
+  Claimed : Option Entry → TurnAnswer
+  Owed : TurnAnswer
+  Spent : Entry → TurnAnswer
+  Went : Released → TurnAnswer
+  Saw : List ℕ → TurnAnswer
+  Tended : Option Released → TurnAnswer
+  Glanced : (free hand promised owed : CreditType → ℕ) → TurnAnswer
+  Judged : Bool → TurnAnswer
 
 -- a command's turn: it ends with a line and a state, or asks, and goes on with the answer
 pub data Turn : Type 0 where
   Ends : (said : List ℕ) → Machine → Turn
-  Asks : Call → (Answer → Turn) → Turn
+  Asks : TurnCall → (TurnAnswer → Turn) → Turn
 
 abbrev pub says : Reply → Machine → Turn
 says reply m = Ends (reply_text reply) m
@@ -143,7 +143,7 @@ slots_finished m agent slot = slice_set (slots_of m agent) slot.0 (after_finish 
 abbrev pub with_end : Machine → Action → Slot → Machine
 with_end m action slot = with_account (record m { home = slices_after m.home action }) action.agent (slots_finished m action.agent slot)
 
-abbrev pub turn_after_release : Machine → Slot → Answer → Turn
+abbrev pub turn_after_release : Machine → Slot → TurnAnswer → Turn
 turn_after_release m slot (Went released) = says (replies.Completed slot released) m
 turn_after_release m slot other = never m
 
@@ -173,18 +173,18 @@ machine_after_admission m agent l s entry = with_arrival m agent l s (arrivals.A
 abbrev pub machine_after_retry : Machine → Agent → Line → ℕ → CreditType → Machine
 machine_after_retry m agent l s ty = with_arrival m agent l s (arrivals.Retried ty) states.Refused
 
-abbrev pub turn_after_owe : Machine → CreditType → Answer → Turn
+abbrev pub turn_after_owe : Machine → CreditType → TurnAnswer → Turn
 turn_after_owe m ty Owed = says (replies.Retry ty) m
 turn_after_owe m ty other = never m
 
 -- a first attempt, by what the claim answers
-abbrev pub turn_after_claim : Machine → Agent → Line → ℕ → CreditType → Answer → Turn
+abbrev pub turn_after_claim : Machine → Agent → Line → ℕ → CreditType → TurnAnswer → Turn
 turn_after_claim m agent l s ty (Claimed (Some entry)) = says (replies.Admitted entry) (machine_after_admission m agent l s entry)
 turn_after_claim m agent l s ty (Claimed None) = Asks (Owe agent ty) (turn_after_owe (machine_after_retry m agent l s ty) ty)
 turn_after_claim m agent l s ty other = never m
 
 -- a resent request, by the entry of the credit that is spent for it
-abbrev pub turn_after_spend : Machine → Agent → Line → ℕ → CreditType → Answer → Turn
+abbrev pub turn_after_spend : Machine → Agent → Line → ℕ → CreditType → TurnAnswer → Turn
 turn_after_spend m agent l s ty (Spent entry) = says
     (replies.Admitted entry)
     (with_credits (machine_after_admission m agent l s entry) agent (less_one (credits_of m agent) ty))
@@ -210,7 +210,7 @@ machine_agent_refusal m agent = if nat_lt agent.0 m.home.config.agents then None
 abbrev pub type_refusal : Machine → Agent → CreditType → Option Refusal
 type_refusal m agent ty = option_or (machine_agent_refusal m agent) (if is_of_profile m.home.config.profile (credit_number ty) then None else Some OutOfRange)
 
-abbrev pub turn_after_see : Machine → Agent → Answer → Turn
+abbrev pub turn_after_see : Machine → Agent → TurnAnswer → Turn
 turn_after_see m agent (Saw counts) = Ends (credits_text (record { counts = counts; profile = m.home.config.profile })) (with_credits m agent counts)
 turn_after_see m agent other = never m
 
@@ -226,7 +226,7 @@ slots_idle m agent ty = slice_set (slots_of m agent) (lowest_cancelled (slots_of
 abbrev pub with_return : Machine → Agent → CreditType → Machine
 with_return m agent ty = with_credits (with_account m agent (slots_idle m agent ty)) agent (less_one (credits_of m agent) ty)
 
-abbrev pub credit_given_back : Machine → Agent → CreditType → Answer → Turn
+abbrev pub credit_given_back : Machine → Agent → CreditType → TurnAnswer → Turn
 credit_given_back m agent ty (Went released) = says (replies.Paid released) (with_return m agent ty)
 credit_given_back m agent ty other = never m
 
@@ -237,7 +237,7 @@ abbrev pub give_back : Machine → Agent → Option CreditType → Turn
 give_back m agent None = says (replies.Refused OutOfRange) m
 give_back m agent (Some ty) = or_refused (return_refusal m agent ty) m (Asks (GiveBack agent ty) (credit_given_back m agent ty))
 
-abbrev pub turn_after_tend : Machine → Answer → Turn
+abbrev pub turn_after_tend : Machine → TurnAnswer → Turn
 turn_after_tend m (Tended None) = says replies.Idle m
 turn_after_tend m (Tended (Some released)) = says (replies.Paid released) m
 turn_after_tend m other = never m
@@ -255,12 +255,12 @@ abbrev pub totals_of : Profile → (free hand promised owed : CreditType → ℕ
 totals_of profile free hand promised owed =
     record { free = by_type free; hand = by_type hand; promised = by_type promised; owed = by_type owed; profile = profile }
 
-abbrev pub turn_after_glance : Machine → Answer → Turn
+abbrev pub turn_after_glance : Machine → TurnAnswer → Turn
 turn_after_glance m (Glanced free hand promised owed) = Ends (totals_text (totals_of m.home.config.profile free hand promised owed)) m
 turn_after_glance m other = never m
 
 -- the loads, the stores and the verdict
-abbrev pub turn_after_verdict : Machine → Answer → Turn
+abbrev pub turn_after_verdict : Machine → TurnAnswer → Turn
 turn_after_verdict m (Judged coherent) =
     Ends (audit_text (record { loads = loads_in m.home.slices; stores = stores_in m.home.slices; coherent = coherent })) m
 turn_after_verdict m other = never m

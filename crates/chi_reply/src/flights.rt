@@ -18,7 +18,7 @@ pub struct InFlight<'a>(pub &'a Cells);
 
 /// A message that may be in flight, with a space before it.
 #[derive(Drop)]
-struct Flit(Option<Msg>);
+struct FlitText(Option<Msg>);
 
 /// The channels in the order in which an answer shows their flits.
 const CHANNELS: [Channel; 6] = [
@@ -39,7 +39,7 @@ impl<'a> fmt::Display for InFlight<'a> {
             return write!(f, " none");
         }
         for channel in CHANNELS {
-            let flit = Flit(self.0.get(channel));
+            let flit = FlitText(self.0.get(channel));
             write!(f, "{flit}")?;
         }
         Ok(())
@@ -54,7 +54,7 @@ impl<'a> Printable for InFlight<'a> {
     }
 }
 
-impl fmt::Display for Flit {
+impl fmt::Display for FlitText {
     ghost output = { λ flit. Some (spaced_texts message_text (option_to_list flit.0)) };
 
     fn fmt<W: fmt::Write>(&self, f: &mut fmt::Formatter<W>) -> fmt::Result {

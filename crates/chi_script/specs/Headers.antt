@@ -4,7 +4,7 @@ use Rattle.chi_flit.specs.declared.credit.Profile.TheVariants.{Two, Four}
 use Rattle.chi_config.specs.Config as config
 use Rattle.chi_script.specs.declared.headers.Header.{Header}
 use Rattle.chi_script.specs.declared.headers.CreditTypes.{CreditTypes}
-use Rattle.chi_script.specs.declared.headers.Sizes.{Sizes}
+use Rattle.chi_script.specs.declared.headers.SizeFields.{SizeFields}
 use Rattle.chi_script.specs.Words.{◌>>=◌, is_text, number_of, words_of}
 
 -- whether n is one of the numbers from least to most
@@ -59,7 +59,7 @@ abbrev pub line_header : List ℕ → Option Header
 line_header line = header_of (words_of line)
 
 -- the same sizes, read but not yet held against the limits
-abbrev pub header_of_sizes : Sizes → Header
+abbrev pub header_of_sizes : SizeFields → Header
 header_of_sizes sizes =
     record { agents = sizes.agents; lines = sizes.lines; slices = sizes.slices; entries = sizes.entries; journal = sizes.journal; profile = sizes.profile }
 

@@ -32,7 +32,7 @@ pub struct Header {
 
 /// The sizes as the numbers of a line write them, within the limits or not.
 #[derive(Clone, Copy)]
-struct Sizes {
+struct SizeFields {
     agents: u64,
     lines: u64,
     slices: u64,
@@ -64,7 +64,7 @@ pub fn read_header(words: &[&[u8]]) -> Option<Header>
 }
 
 /// The sizes that the words write, in the order of a header.
-fn read_sizes(words: &[&[u8]]) -> Option<Sizes>
+fn read_sizes(words: &[&[u8]]) -> Option<SizeFields>
     ensures { option_map header_of_sizes result ≡ header_sizes (texts_of words.now) }
 {
     let [agents, lines, slices, rest @ ..] = words else {
@@ -75,7 +75,7 @@ fn read_sizes(words: &[&[u8]]) -> Option<Sizes>
     let slices = number(slices)?;
     let types = read_types(rest)?;
     let entries = types.entries;
-    Some(Sizes {
+    Some(SizeFields {
         agents,
         lines,
         slices,
@@ -130,7 +130,7 @@ fn are_entries(profile: Profile, entries: [u64; 4]) -> bool
     }
 }
 
-impl Sizes {
+impl SizeFields {
     /// Whether the sizes are within the limits.
     /// Source: `docs/PROTOCOL.md`, "Limits".
     fn is_in_limits(&self) -> bool

@@ -5,11 +5,11 @@ use Rattle.chi_flit.specs.declared.action.Action.{Action}
 use Rattle.chi_flit.specs.declared.action.Effect.{Effect}
 use Rattle.chi_journal.specs.Journal.{Log}
 use Rattle.chi_line.specs.declared.act.Conditions.{Conditions}
-use Rattle.chi_line.specs.declared.seen.Where.{Where}
+use Rattle.chi_line.specs.declared.seen.Position.{Position}
 use Rattle.chi_line.specs.LineState.{LineState}
 use Rattle.chi_line.specs.Moves.{moved_slot, moved_to}
 use Rattle.chi_line.specs.Step.{effect_of}
-use Rattle.chi_slice.specs.declared.places.Place.{Place}
+use Rattle.chi_slice.specs.declared.places.RequestPlace.{RequestPlace}
 use Rattle.chi_slice.specs.declared.terms.Terms.{Terms}
 use Rattle.chi_slice.specs.Index.{Indexed, moved_in}
 use Rattle.chi_slice.specs.Recorded.{record_by}
@@ -19,7 +19,7 @@ use Rattle.chi_slice.proofs.Acts.{Allowed, Call, Ready, acted_others, acted_prot
 use Rattle.chi_slice.proofs.Follows.{followed_by, index_after, indexed_acted}
 
 -- of the slice as it was, and as it is then
-pub record Ended (old : SliceState) (terms : Terms) (action : Action) (effect : Effect) (slot : Option Slot) (new : SliceState) (places : List (Option Place)) : Type 0 where
+pub record Ended (old : SliceState) (terms : Terms) (action : Action) (effect : Effect) (slot : Option Slot) (new : SliceState) (places : List (Option RequestPlace)) : Type 0 where
   pub kept : SliceKept new
   pub indexed : Indexed new places
   pub refusal : None ≡ refused_under terms old action
@@ -32,17 +32,17 @@ pub record Ended (old : SliceState) (terms : Terms) (action : Action) (effect : 
   pub after : new ≡ slice_after old action
 
 -- what the outcome says of the line
-pub record Move (action : Action) (at : LineState) (slot : Option Slot) (to : Option Where) : Type 0 where
+pub record Move (action : Action) (at : LineState) (slot : Option Slot) (to : Option Position) : Type 0 where
   pub slot_is : slot ≡ moved_slot at action.agent action.step
   pub to_is : to ≡ moved_to at action.agent action.step
 
-followed : (places : List (Option Place)) (action : Action) (at at' : LineState) (slot : Option Slot) (to : Option Where) → Move action at slot to → at ≡ at' → moved_in places action.agent.0 action.line slot to ≡ followed_by places at' action
+followed : (places : List (Option RequestPlace)) (action : Action) (at at' : LineState) (slot : Option Slot) (to : Option Position) → Move action at slot to → at ≡ at' → moved_in places action.agent.0 action.line slot to ≡ followed_by places at' action
 followed places action at at' slot to move same =
     ap (λ (x : Option Slot). moved_in places action.agent.0 action.line x to) move.slot_is
-    ∙ (ap (λ (x : Option Where). moved_in places action.agent.0 action.line (moved_slot at action.agent action.step) x) move.to_is
+    ∙ (ap (λ (x : Option Position). moved_in places action.agent.0 action.line (moved_slot at action.agent action.step) x) move.to_is
     ∙ ap (λ (l : LineState). followed_by places l action) same)
 
-end_of : {s : SliceState} {terms : Terms} {action : Action} {row : ℕ} {conditions : Conditions} {at at' : LineState} {effect : Effect} {slot : Option Slot} {to : Option Where} (places places' : List (Option Place)) (journal' : Log)
+end_of : {s : SliceState} {terms : Terms} {action : Action} {row : ℕ} {conditions : Conditions} {at at' : LineState} {effect : Effect} {slot : Option Slot} {to : Option Position} (places places' : List (Option RequestPlace)) (journal' : Log)
     → Indexed s places → Ready s terms action row conditions at → Call conditions action at at' effect → Move action at slot to → places' ≡ moved_in places action.agent.0 action.line slot to
     → journal' ≡ log_after s.journal (record_by action effect) → Ended s terms action effect slot (record s { lines = set s.lines row at'; journal = journal' }) places'
 end_of {s} {terms} {action} {row} {conditions} {at} {at'} {effect} {slot} {to} places places' journal' i r call move follows noted =
@@ -63,7 +63,7 @@ end_of {s} {terms} {action} {row} {conditions} {at} {at'} {effect} {slot} {to} p
       after = new;
     }
 
-pub ended : {s : SliceState} {row : ℕ} {conditions : Conditions} {at at' : LineState} {effect : Effect} {slot : Option Slot} {to : Option Where} (now : SliceState) (terms : Terms) (action : Action) (places places' : List (Option Place)) (journal' : Log)
+pub ended : {s : SliceState} {row : ℕ} {conditions : Conditions} {at at' : LineState} {effect : Effect} {slot : Option Slot} {to : Option Position} (now : SliceState) (terms : Terms) (action : Action) (places places' : List (Option RequestPlace)) (journal' : Log)
     → s ≡ now → Indexed s places → Ready s terms action row conditions at → Call conditions action at at' effect → Move action at slot to → places' ≡ moved_in places action.agent.0 action.line slot to
     → journal' ≡ log_after s.journal (record_by action effect) → Ended now terms action effect slot (record s { lines = set s.lines row at'; journal = journal' }) places'
 ended {s} {row} {conditions} {at} {at'} {effect} {slot} {to} now terms action places places' journal' same i r call move follows noted =

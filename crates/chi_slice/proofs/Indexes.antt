@@ -4,9 +4,9 @@ use Rattle.std.proofs.Math.ListN.{length-set}
 use Rattle.std.proofs.lemmas.Bool.{and_from, eq-eqb}
 use Rattle.chi_flit.specs.declared.numbers.Line.{Line}
 use Rattle.chi_flit.specs.declared.numbers.Slot.{Slot}
-use Rattle.chi_slice.specs.declared.places.Place.{Place}
-use Rattle.chi_line.specs.declared.seen.Where.{Where}
-use Rattle.chi_slice.specs.Index.{is_slot_of, moved_in, place_number, place_of, place_of_where, with_place}
+use Rattle.chi_slice.specs.declared.places.RequestPlace.{RequestPlace}
+use Rattle.chi_line.specs.declared.seen.Position.{Position}
+use Rattle.chi_slice.specs.Index.{is_slot_of, moved_in, place_number, place_of, place_of_position, with_place}
 use Rattle.chi_line.specs.Step.{is_slot}
 use Rattle.chi_line.proofs.EqualSlots.{same_slot}
 use Rattle.chi_slice.proofs.Rows.{both, is_low}
@@ -22,7 +22,7 @@ pub record IsSlotOf (n : ℕ) (slot : Slot) : Type 0 where
 pub is_slot_number : (n : ℕ) (slot : Slot) → is_slot_of n slot ≡ true → IsSlotOf n slot
 is_slot_number n slot h = let parts = both (nat_lt n 8) (nat_lt slot.0 8) h in record { agent = is_low n 8 parts.0; number = is_low slot.0 8 parts.1 }
 
-pub with_wide : (places : List (Option Place)) (n : ℕ) (slot : Slot) (place : Option Place) → length places ≡ 64 → length (with_place places n slot place) ≡ 64
+pub with_wide : (places : List (Option RequestPlace)) (n : ℕ) (slot : Slot) (place : Option RequestPlace) → length places ≡ 64 → length (with_place places n slot place) ≡ 64
 with_wide places n slot place wide = go (is_slot_of n slot)
   where
     go : (b : Bool) → length (if b then set places (place_number n slot) place else places) ≡ 64
@@ -33,7 +33,7 @@ with_wide places n slot place wide = go (is_slot_of n slot)
 numbers_apart : (n m k l : ℕ) → k < 8 → l < 8 → m * 8 + l ≡ n * 8 + k → (m ≡ n) × (k ≡ l)
 numbers_apart n m k l low at same = (omega arith, omega arith)
 
-with_other : (places : List (Option Place)) (n m : ℕ) (slot other : Slot) (place : Option Place) → (m ≡ n → slot.0 ≡ other.0 → ⊥) → place_of (with_place places n slot place) m other ≡ place_of places m other
+with_other : (places : List (Option RequestPlace)) (n m : ℕ) (slot other : Slot) (place : Option RequestPlace) → (m ≡ n → slot.0 ≡ other.0 → ⊥) → place_of (with_place places n slot place) m other ≡ place_of places m other
 with_other places n m slot other place apart = go (is_slot_of n slot) (is_slot_of m other) refl refl
   where
     go : (b c : Bool) → is_slot_of n slot ≡ b → is_slot_of m other ≡ c
@@ -46,21 +46,21 @@ with_other places n m slot other place apart = go (is_slot_of n slot) (is_slot_o
     go true false here there = refl
     go false c here there = refl
 
-with_same : (places : List (Option Place)) (n : ℕ) (slot : Slot) (place : Option Place) → length places ≡ 64 → n < 8 → slot.0 < 8 → place_of (with_place places n slot place) n slot ≡ place
+with_same : (places : List (Option RequestPlace)) (n : ℕ) (slot : Slot) (place : Option RequestPlace) → length places ≡ 64 → n < 8 → slot.0 < 8 → place_of (with_place places n slot place) n slot ≡ place
 with_same places n slot place wide low at =
     ap (λ (b : Bool). if b then get_or (if b then set places (place_number n slot) place else places) (place_number n slot) None else None) (in_eight n slot low at)
     ∙ get_or-set_same places (place_number n slot) place None (omega (arith, low, at, wide))
 
 -- a slot, if there is one, that is moved
-pub moved_wide : (places : List (Option Place)) (n : ℕ) (line : Line) (o : Option Slot) (to : Option Where) → length places ≡ 64 → length (moved_in places n line o to) ≡ 64
+pub moved_wide : (places : List (Option RequestPlace)) (n : ℕ) (line : Line) (o : Option Slot) (to : Option Position) → length places ≡ 64 → length (moved_in places n line o to) ≡ 64
 moved_wide places n line None to wide = wide
-moved_wide places n line (Some slot) to wide = with_wide places n slot (place_of_where line to) wide
+moved_wide places n line (Some slot) to wide = with_wide places n slot (place_of_position line to) wide
 
-pub moved_other : (places : List (Option Place)) (n m : ℕ) (line : Line) (o : Option Slot) (to : Option Where) (slot : Slot) → (m ≡ n → is_slot o slot ≡ true → ⊥) → place_of (moved_in places n line o to) m slot ≡ place_of places m slot
+pub moved_other : (places : List (Option RequestPlace)) (n m : ℕ) (line : Line) (o : Option Slot) (to : Option Position) (slot : Slot) → (m ≡ n → is_slot o slot ≡ true → ⊥) → place_of (moved_in places n line o to) m slot ≡ place_of places m slot
 moved_other places n m line None to slot apart = refl
-moved_other places n m line (Some own) to slot apart = with_other places n m own slot (place_of_where line to) (λ (e : m ≡ n) (same : own.0 ≡ slot.0). apart e (eq-eqb own.0 slot.0 same))
+moved_other places n m line (Some own) to slot apart = with_other places n m own slot (place_of_position line to) (λ (e : m ≡ n) (same : own.0 ≡ slot.0). apart e (eq-eqb own.0 slot.0 same))
 
-pub moved_here : (places : List (Option Place)) (n : ℕ) (line : Line) (o : Option Slot) (to : Option Where) (slot : Slot) → length places ≡ 64 → n < 8 → slot.0 < 8 → is_slot o slot ≡ true → place_of (moved_in places n line o to) n slot ≡ place_of_where line to
+pub moved_here : (places : List (Option RequestPlace)) (n : ℕ) (line : Line) (o : Option Slot) (to : Option Position) (slot : Slot) → length places ≡ 64 → n < 8 → slot.0 < 8 → is_slot o slot ≡ true → place_of (moved_in places n line o to) n slot ≡ place_of_position line to
 moved_here places n line None to slot wide low at here = absurd (cc (here))
 moved_here places n line (Some own) to slot wide low at here =
-    subst (λ (x : Slot). place_of (moved_in places n line (Some x) to) n slot ≡ place_of_where line to) (sym (same_slot own slot here)) (with_same places n slot (place_of_where line to) wide low at)
+    subst (λ (x : Slot). place_of (moved_in places n line (Some x) to) n slot ≡ place_of_position line to) (sym (same_slot own slot here)) (with_same places n slot (place_of_position line to) wide low at)

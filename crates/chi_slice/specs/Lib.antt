@@ -9,7 +9,7 @@ pub mod Audits
 pub mod Protocol
 pub mod Words
 pub mod Servings
-pub mod Wheres
+pub mod Positions
 pub mod Phases
 pub mod Records
 pub mod Traffic

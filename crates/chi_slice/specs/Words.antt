@@ -7,14 +7,14 @@ pub use Rattle.chi_homeline.specs.declared.serving.Waiting.{Waiting}
 pub use Rattle.chi_journal.specs.declared.record.Record.{Record}
 pub use Rattle.chi_journal.specs.Journal.{IsLegal, is_full, part_of}
 pub use Rattle.chi_journal.specs.Record.{record_agent}
-pub use Rattle.chi_line.specs.declared.seen.Where.{Where}
+pub use Rattle.chi_line.specs.declared.seen.Position.{Position}
 pub use Rattle.chi_line.specs.declared.view.CopyView.{CopyView}
 pub use Rattle.chi_line.specs.declared.view.LineView.{LineView}
 pub use Rattle.chi_line.specs.LineState.{LineState, cells_of, opening_line, rn_of}
 pub use Rattle.chi_line.specs.Coherence.{Coherent}
 pub use Rattle.chi_line.specs.Meaning.{standing_of}
 pub use Rattle.chi_line.specs.Moves.{completed_to, if_moved, moved_slot, moved_to, requested_slot}
-pub use Rattle.chi_line.specs.Places.{where_at}
+pub use Rattle.chi_line.specs.Places.{position_at}
 pub use Rattle.chi_line.specs.Refused.{full_if, has_flit, line_refusal, marked_credit_refusal, no_flit_unless, retry_refusal, step_refusal}
 pub use Rattle.chi_line.specs.Step.{after_step, answer_in, completed_slot, data_answer, effect_of, is_comp, is_slot, is_step_in_range, issued_slot, pending_slot, record_of}
 pub use Rattle.chi_line.specs.Table.{IsAt, IsFound}

@@ -9,7 +9,7 @@ ghost use Rattle.chi_line.specs.Meaning.{standing_of};
 ghost use Rattle.chi_line.specs.RefusalRows.{is_of_actions};
 ghost use Rattle.chi_line.specs.Step.{effect_of, is_step_in_range};
 ghost use Rattle.chi_line.specs.View.{line_view};
-ghost use Rattle.chi_slice.specs.declared.places.Place.{Place};
+ghost use Rattle.chi_slice.specs.declared.places.RequestPlace.{RequestPlace};
 ghost use Rattle.chi_slice.specs.declared.terms.Terms.{Terms};
 ghost use Rattle.chi_slice.specs.Coherence.{IsCoherentSlice};
 ghost use Rattle.chi_config.specs.Config.{are_in_limits};
@@ -21,7 +21,7 @@ ghost use Rattle.chi_slice.specs.Slice.{CanAct, KeepsSliceFlits, IsRow, IsStep, 
 ghost use Rattle.chi_slice.specs.Table.{IsByTable};
 
 use crate::agent_line::{AgentLine, AgentRow};
-use crate::places::{Place, Places};
+use crate::places::{RequestPlace, RequestPlaces};
 use crate::records::{is_step_in_range, note};
 use crate::terms::{Done, Terms};
 use chi_config::Config;
@@ -43,7 +43,7 @@ pub struct Slice<A: Allocator> {
     index: u8,
     lines: Vec<chi_line::CoherentLine, A>,
     journal: Journal<A>,
-    places: Places,
+    places: RequestPlaces,
 }
 
 impl<A: Allocator> Model for Slice<A> {
@@ -59,7 +59,7 @@ impl<A: Allocator> Model for Slice<A> {
 
 /// Where an action is done: the row of its line, and what it needs to know of the slice beside the line.
 #[derive(Clone, Copy)]
-struct Site {
+struct ActionRow {
     row: usize,
     conditions: Conditions,
 }
@@ -143,7 +143,7 @@ impl<A: Allocator + Copy> Slice<A> {
             index,
             lines,
             journal,
-            places: Places::new(),
+            places: RequestPlaces::new(),
         })
     }
 
@@ -232,14 +232,14 @@ impl<A: Allocator> Slice<A> {
 
     /// Where an action is done. Refused 10 (OutOfRange) exactly where one of its numbers is outside its
     /// range, or its line in another slice.
-    fn site(&self, action: Action, terms: Terms) -> Result<Site, Refusal>
+    fn action_row(&self, action: Action, terms: Terms) -> Result<ActionRow, Refusal>
         ensures refusal { refusal_of result ≡ range_refusal self.now action }
-        ensures row { IfOk result (λ site. site.row ≡ row_of_line self.now action.line.0) }
-        ensures conditions { IfOk result (λ site. site.conditions
+        ensures row { IfOk result (λ found. found.row ≡ row_of_line self.now action.line.0) }
+        ensures conditions { IfOk result (λ found. found.conditions
             ≡ conditions_under terms self.now action) }
     {
         match self.row_in_range(action) {
-            Some(row) => Ok(Site {
+            Some(row) => Ok(ActionRow {
                 row: usize::from(row),
                 conditions: self.conditions(action, terms),
             }),
@@ -437,8 +437,8 @@ impl<A: Allocator> Slice<A> {
         ensures alone { terms ≡ no_terms → result ≡ action_refusal self.now action }
         ensures allowed { result ≡ None → action_refusal self.now action ≡ None }
     {
-        match self.site(action, terms) {
-            Ok(site) => self.lines[site.row].refusal(site.conditions, action),
+        match self.action_row(action, terms) {
+            Ok(found) => self.lines[found.row].refusal(found.conditions, action),
             Err(refusal) => Some(refusal),
         }
     }
@@ -548,7 +548,7 @@ impl<A: Allocator> Slice<A> {
     /// request is there, by the rows of the table. `None` where no row holds of the slot at any line of the
     /// slice, and for an agent or slot outside the eight of each.
     /// Source: `docs/PROTOCOL.md`, "Agreement".
-    pub fn place(&self, agent: Agent, slot: Slot) -> Option<Place>
+    pub fn place(&self, agent: Agent, slot: Slot) -> Option<RequestPlace>
         ensures table { agent.0 < 8 → slot.0 < 8 → IsByTable self.now agent.0 slot result }
         ensures shows { agent.0 < 8 → slot.0 < 8 → IsShown self.now agent.0 slot result }
         ensures line { agent.0 < 8 → slot.0 < 8 → IsInside self.now result }
@@ -558,8 +558,8 @@ impl<A: Allocator> Slice<A> {
     }
 
     /// Whether the slot, whose place is this, has its credit type there.
-    fn is_type_in(&self, place: Option<Place>, typed: TypedSlot) -> bool
-        requires agent { (there : Place) → place ≡ Some there → typed.agent.0 < 8 }
+    fn is_type_in(&self, place: Option<RequestPlace>, typed: TypedSlot) -> bool
+        requires agent { (there : RequestPlace) → place ≡ Some there → typed.agent.0 < 8 }
         requires line { IsInside self.now place }
         ensures typed { result ≡ typed_at self.now typed.credit typed.agent.0 typed.slot place }
         ensures kept { SliceKept self.now }

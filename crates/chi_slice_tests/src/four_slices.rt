@@ -5,7 +5,7 @@ ghost use Rattle.std.specs.Prelude.{◌≡◌};
 use crate::moves::{answer, look};
 use chi_flit::{Agent, Kind, Line, NO_DATA, Refusal, Slot};
 use chi_slice::{
-    Action, Cells, Config, CopyView, Effect, LineView, Place, Serving, Slice, Step, Where,
+    Action, Cells, Config, CopyView, Effect, LineView, Position, RequestPlace, Serving, Slice, Step,
 };
 use std::alloc::Global;
 use std::process::Abort;
@@ -128,7 +128,7 @@ pub fn shows(rt: &impl Abort, slice: &Slice<Global>, line: Line, wanted: LineVie
 }
 
 /// Where the slice finds the agent's slot.
-fn place_of(slice: &Slice<Global>, agent: Agent, slot: Slot) -> Option<Place> {
+fn place_of(slice: &Slice<Global>, agent: Agent, slot: Slot) -> Option<RequestPlace> {
     slice.place(agent, slot)
 }
 
@@ -138,7 +138,7 @@ pub fn is_placed(
     slice: &Slice<Global>,
     agent: Agent,
     slot: Slot,
-    wanted: Option<Place>,
+    wanted: Option<RequestPlace>,
 ) {
     assert!(rt;
         place_of(slice, agent, slot) == wanted,
@@ -177,7 +177,7 @@ pub enum Part {
     /// All these are refused, and `LINE` is shown as before.
     Refuses(&'static [Refused]),
     /// The agent's slot is found at the line.
-    Is(Agent, Slot, Line, Where),
+    Is(Agent, Slot, Line, Position),
     /// The agent's slot isn't in use.
     IsFree(Agent, Slot),
     /// The line is shown as nothing was asked of it.
@@ -212,7 +212,7 @@ pub fn plays(rt: &impl Abort, slice: &mut Slice<Global>, part: Part) {
         Part::WouldGo(agent, step) => would_complete(rt, slice, at(agent, step), None),
         Part::Refuses(table) => refuses_all(rt, slice, table),
         Part::Is(agent, slot, line, at) => {
-            is_placed(rt, slice, agent, slot, Some(Place { line, at }));
+            is_placed(rt, slice, agent, slot, Some(RequestPlace { line, at }));
         }
         Part::IsFree(agent, slot) => is_placed(rt, slice, agent, slot, None),
         Part::Opening(line) => shows(rt, slice, line, OPENING),

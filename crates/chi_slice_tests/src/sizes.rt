@@ -13,43 +13,43 @@ use std::process::Abort;
 
 /// The sizes of a node of two types: agents, lines and slices; entries; and the journal.
 #[derive(Clone, Copy, Debug)]
-struct Sizes([u8; 3], [u16; 2], u32);
+struct SizeCase([u8; 3], [u16; 2], u32);
 
-const WITHIN: [Sizes; 5] = [
-    Sizes([1, 1, 1], [1, 1], 1),
-    Sizes([8, 64, 8], [63, 1], 65536),
-    Sizes([8, 64, 8], [1, 63], 65536),
-    Sizes([4, 8, 8], [2, 2], 10),
-    Sizes([4, 2, 2], [2, 2], 10),
+const WITHIN: [SizeCase; 5] = [
+    SizeCase([1, 1, 1], [1, 1], 1),
+    SizeCase([8, 64, 8], [63, 1], 65536),
+    SizeCase([8, 64, 8], [1, 63], 65536),
+    SizeCase([4, 8, 8], [2, 2], 10),
+    SizeCase([4, 2, 2], [2, 2], 10),
 ];
 
 /// One size of each is outside its limits, or doesn't go with the others.
-const BEYOND: [Sizes; 14] = [
-    Sizes([0, 1, 1], [1, 1], 1),
-    Sizes([9, 64, 8], [32, 32], 65536),
-    Sizes([1, 0, 1], [1, 1], 1),
-    Sizes([8, 65, 8], [32, 32], 65536),
-    Sizes([1, 8, 0], [1, 1], 1),
-    Sizes([1, 8, 3], [1, 1], 1),
-    Sizes([1, 64, 16], [1, 1], 1),
-    Sizes([1, 7, 8], [1, 1], 1),
-    Sizes([1, 8, 1], [0, 1], 1),
-    Sizes([1, 8, 1], [1, 0], 1),
-    Sizes([1, 8, 1], [64, 1], 1),
-    Sizes([1, 8, 1], [65535, 65535], 1),
-    Sizes([1, 8, 1], [1, 1], 0),
-    Sizes([1, 8, 1], [1, 1], 65537),
+const BEYOND: [SizeCase; 14] = [
+    SizeCase([0, 1, 1], [1, 1], 1),
+    SizeCase([9, 64, 8], [32, 32], 65536),
+    SizeCase([1, 0, 1], [1, 1], 1),
+    SizeCase([8, 65, 8], [32, 32], 65536),
+    SizeCase([1, 8, 0], [1, 1], 1),
+    SizeCase([1, 8, 3], [1, 1], 1),
+    SizeCase([1, 64, 16], [1, 1], 1),
+    SizeCase([1, 7, 8], [1, 1], 1),
+    SizeCase([1, 8, 1], [0, 1], 1),
+    SizeCase([1, 8, 1], [1, 0], 1),
+    SizeCase([1, 8, 1], [64, 1], 1),
+    SizeCase([1, 8, 1], [65535, 65535], 1),
+    SizeCase([1, 8, 1], [1, 1], 0),
+    SizeCase([1, 8, 1], [1, 1], 65537),
 ];
 
 /// The node of these sizes, if there is one.
-fn config_of(sizes: Sizes) -> Option<Config> {
-    let Sizes([agents, lines, slices], [t0, t1], journal) = sizes;
+fn config_of(sizes: SizeCase) -> Option<Config> {
+    let SizeCase([agents, lines, slices], [t0, t1], journal) = sizes;
     Config::new(agents, lines, slices, t0, t1, journal)
 }
 
 /// Whether the node has two types, and these sizes.
-fn has_sizes(config: &Config, sizes: Sizes) -> bool {
-    let Sizes(counts, [t0, t1], journal) = sizes;
+fn has_sizes(config: &Config, sizes: SizeCase) -> bool {
+    let SizeCase(counts, [t0, t1], journal) = sizes;
     [config.agents(), config.lines(), config.slices()] == counts
         && config.entries() == [t0, t1, 0, 0]
         && config.journal() == journal

@@ -5,7 +5,7 @@ use crate::four_slices::{
 };
 use chi_flit::Refusal::{LineBusy, Pending, WrongState};
 use chi_flit::{Agent, Kind, Line, Slot, WordNo};
-use chi_slice::{Effect, Place, Slice, Step, Where};
+use chi_slice::{Effect, Position, RequestPlace, Slice, Step};
 use std::alloc::Global;
 use std::process::Abort;
 
@@ -54,13 +54,13 @@ fn are_elsewhere(rt: &impl Abort, slice: &Slice<Global>) {
 }
 
 /// A step, its effect, and where its slot is then.
-type Placed = (Step, Effect, Option<Where>);
+type Placed = (Step, Effect, Option<Position>);
 
 /// The reader does the step, and its slot is found there, and nowhere else.
 fn is_found(rt: &impl Abort, slice: &mut Slice<Global>, placed: Placed) {
     let (step, effect, found) = placed;
     answered(rt, slice, at(READER, step), Ok(effect));
-    let wanted = found.map(|at| Place { line: LINE, at });
+    let wanted = found.map(|at| RequestPlace { line: LINE, at });
     is_placed(rt, slice, READER, SLOT, wanted);
     are_elsewhere(rt, slice);
 }
@@ -78,17 +78,21 @@ const NOTHING: Effect = Effect::Nothing;
 const DONE: Effect = Effect::Completed(SLOT);
 
 const READ_AND_EVICT: [Placed; 12] = [
-    (READ, NOTHING, Some(Where::Sent)),
-    (Step::Retry, NOTHING, Some(Where::Refused)),
-    (Step::RecvRetry, NOTHING, Some(Where::Retried)),
-    (Step::Resend, NOTHING, Some(Where::Riding)),
-    (Step::Admit, NOTHING, Some(Where::Admitted)),
-    (Step::Start, NOTHING, Some(Where::Admitted)),
-    (Step::RecvData, NOTHING, Some(Where::Answered)),
+    (READ, NOTHING, Some(Position::Sent)),
+    (Step::Retry, NOTHING, Some(Position::Refused)),
+    (Step::RecvRetry, NOTHING, Some(Position::Retried)),
+    (Step::Resend, NOTHING, Some(Position::Riding)),
+    (Step::Admit, NOTHING, Some(Position::Admitted)),
+    (Step::Start, NOTHING, Some(Position::Admitted)),
+    (Step::RecvData, NOTHING, Some(Position::Answered)),
     (Step::RecvAck, DONE, None),
-    (Step::Issue(Kind::Evict, SLOT), NOTHING, Some(Where::Sent)),
-    (Step::Admit, NOTHING, Some(Where::Admitted)),
-    (Step::Start, DONE, Some(Where::Closing)),
+    (
+        Step::Issue(Kind::Evict, SLOT),
+        NOTHING,
+        Some(Position::Sent),
+    ),
+    (Step::Admit, NOTHING, Some(Position::Admitted)),
+    (Step::Start, DONE, Some(Position::Closing)),
     (Step::RecvComp, NOTHING, None),
 ];
 
@@ -110,11 +114,11 @@ const COPY_BACK: [Placed; 5] = [
     (
         Step::Issue(Kind::WriteBackFull, SLOT),
         NOTHING,
-        Some(Where::Sent),
+        Some(Position::Sent),
     ),
-    (Step::Admit, NOTHING, Some(Where::Admitted)),
-    (Step::Start, NOTHING, Some(Where::Admitted)),
-    (Step::RecvDbid, NOTHING, Some(Where::Answered)),
+    (Step::Admit, NOTHING, Some(Position::Admitted)),
+    (Step::Start, NOTHING, Some(Position::Admitted)),
+    (Step::RecvDbid, NOTHING, Some(Position::Answered)),
     (Step::RecvWrData, DONE, None),
 ];
 
@@ -124,7 +128,7 @@ fn a_place_for_each_step_of_a_copy_back(rt: HostRuntime) {
 }
 
 /// The reader's slot stays where its RetryAck was taken.
-const STAYS: Part = Part::Is(READER, SLOT, LINE, Where::Retried);
+const STAYS: Part = Part::Is(READER, SLOT, LINE, Position::Retried);
 
 const THROUGH_A_SNOOP: [Part; 14] = [
     Part::Does(
@@ -144,9 +148,9 @@ const THROUGH_A_SNOOP: [Part; 14] = [
     Part::Does(READER, &[Step::RecvSnp]),
     STAYS,
     Part::Does(READER, &[Step::RecvSnpResp]),
-    Part::Is(WRITER, SLOT, LINE, Where::Admitted),
+    Part::Is(WRITER, SLOT, LINE, Position::Admitted),
     Part::Does(WRITER, &[Step::RecvData]),
-    Part::Is(WRITER, SLOT, LINE, Where::Answered),
+    Part::Is(WRITER, SLOT, LINE, Position::Answered),
     STAYS,
 ];
 
@@ -161,10 +165,10 @@ fn a_retried_copy_back_stays_where_it_is_through_a_snoop(rt: HostRuntime) {
 const LEFT: [Part; 6] = [
     Part::Does(READER, &[READ]),
     Part::Refuses(&[(READER, OTHER, READ, Pending)]),
-    Part::Is(READER, SLOT, LINE, Where::Sent),
+    Part::Is(READER, SLOT, LINE, Position::Sent),
     Part::Goes(READER, OTHER, SECOND),
-    Part::Is(READER, Slot(4), OTHER, Where::Sent),
-    Part::Is(READER, SLOT, LINE, Where::Sent),
+    Part::Is(READER, Slot(4), OTHER, Position::Sent),
+    Part::Is(READER, SLOT, LINE, Position::Sent),
 ];
 
 #[test]

@@ -9,11 +9,11 @@ use Rattle.atomic_table.specs.declared.shared.Seat.{Seat}
 use Rattle.chi_tracker.specs.declared.shape.Shape.{Shape}
 use Rattle.chi_tracker.specs.declared.view.SeatView.{SeatView}
 use Rattle.chi_tracker.specs.Acts.{Act, done_by}
-use Rattle.chi_tracker.specs.declared.step.Step.{Step}
+use Rattle.chi_tracker.specs.declared.step.AtomicStep.{AtomicStep}
 use Rattle.chi_tracker.specs.Sums.{total}
 use Rattle.chi_tracker.specs.Views.{PortView}
 use Rattle.chi_tracker.specs.Rule.{weigh, of_port}
-use Rattle.chi_tracker.specs.Steps.{Shown, shown, solo, port_of, word_of_step, written, effect, May}
+use Rattle.chi_tracker.specs.Steps.{SeatPorts, shown, solo, port_of, word_of_step, written, effect, May}
 use Rattle.chi_tracker.specs.History.{port_at, history_outcome, Legal, IsPortOf, ArePortsOf, IsSeatOf, AreSeatsOf, Reached, IsAfter, Did, act, port_in, GoesOn, TakesEffect}
 use Rattle.chi_tracker.specs.Conduct.{HasStepped}
 use Rattle.chi_tracker.proofs.Addition.{total-set}
@@ -70,7 +70,7 @@ seat_at s acts (u ∷ us) zero v h at = subst (IsSeatOf s acts) (some-injective 
 seat_at s acts (u ∷ us) (suc id) v h at = seat_at s acts us id v h.1 at
 
 -- the history goes on to a step of a port's seat
-module _ (s : Shape) (slots id : ℕ) (m : Me ℕ SeatView) (k : Step) where
+module _ (s : Shape) (slots id : ℕ) (m : Me ℕ SeatView) (k : AtomicStep) where
   abbrev x : PortView
   x = port_of (shown m)
 
@@ -83,7 +83,7 @@ module _ (s : Shape) (slots id : ℕ) (m : Me ℕ SeatView) (k : Step) where
       let ps : List PortView = (history_outcome s acts).ports in
       let y : PortView = effect k r x in
       let w : SeatView = record { ports = y ∷ []; history = b ∷ acts } in
-      let mine : m.0.ports ≡ x ∷ [] = ap (λ (z : Shown). z.0) alone in
+      let mine : m.0.ports ≡ x ∷ [] = ap (λ (z : SeatPorts). z.0) alone in
       let seat = seat_at s acts st.views id m.0 reached.seats at in
       let port : IsPortOf s acts seat.later x = (subst (ArePortsOf s acts seat.later) mine seat.ports).0 in
       let legal : Legal s (b ∷ acts) = (reached.legal, port.who, subst (May k) (sym port.is) may, ap (λ (ws : List ℕ). slice_index ws i) reached.words) in
@@ -113,7 +113,7 @@ module _ (s : Shape) (slots id : ℕ) (m : Me ℕ SeatView) (k : Step) where
               let p6 = reached.ports f in omega arith;
         },
         (
-          ap (λ (c : List (ℕ × ℕ)). (y ∷ [], c)) (ap (λ (z : Shown). z.1) alone),
+          ap (λ (c : List (ℕ × ℕ)). (y ∷ [], c)) (ap (λ (z : SeatPorts). z.1) alone),
           record {
             between = seat.later;
             is = ap (λ xs. b ∷ xs) seat.is;
@@ -133,15 +133,15 @@ module _ (s : Shape) (slots id : ℕ) (m : Me ℕ SeatView) (k : Step) where
       port-there (p ∷ ps) (suc i) l = port-there ps i (omega arith)
 
 -- the same of a step that is told by another name, and of its operation as the code has it
-pub allowed_at : (s : Shape) (slots id : ℕ) (m : Me ℕ SeatView) (picked k : Step) (word : ℕ) (f : ℕ → ℕ) → picked ≡ k → shown m ≡ solo (port_in m) → May k (port_in m) → word ≡ word_of_step k (port_in m).who → ((r : ℕ) → f r ≡ written k r)
+pub allowed_at : (s : Shape) (slots id : ℕ) (m : Me ℕ SeatView) (picked k : AtomicStep) (word : ℕ) (f : ℕ → ℕ) → picked ≡ k → shown m ≡ solo (port_in m) → May k (port_in m) → word ≡ word_of_step k (port_in m).who → ((r : ℕ) → f r ≡ written k r)
     → Allows (Reached s) slots id m word f (TakesEffect picked m)
 allowed_at s slots id m picked k word f same alone may at writes =
-    let named : Allows (Reached s) slots id m (word_of_step k (port_in m).who) (written k) (TakesEffect picked m) = subst (λ (j : Step). Allows (Reached s) slots id m (word_of_step k (port_in m).who) (written k) (TakesEffect j m)) (sym same) (allowed s slots id m k alone may) in
+    let named : Allows (Reached s) slots id m (word_of_step k (port_in m).who) (written k) (TakesEffect picked m) = subst (λ (j : AtomicStep). Allows (Reached s) slots id m (word_of_step k (port_in m).who) (written k) (TakesEffect j m)) (sym same) (allowed s slots id m k alone may) in
     let placed : Allows (Reached s) slots id m word (written k) (TakesEffect picked m) = subst (λ (i : ℕ). Allows (Reached s) slots id m i (written k) (TakesEffect picked m)) (sym at) named in
     subst (λ (g : ℕ → ℕ). Allows (Reached s) slots id m word g (TakesEffect picked m)) (λ i r. sym (writes r) i) placed
 
 -- what follows from a step
-module _ (p : PortView) (k : Step) (r : ℕ) (old new : List Act) (goes : GoesOn p (act p.who k r) old new) where
+module _ (p : PortView) (k : AtomicStep) (r : ℕ) (old new : List Act) (goes : GoesOn p (act p.who k r) old new) where
   pub goes_did : Did p.who ((k, r) ∷ []) old new
   goes_did = (act p.who k r ∷ goes.between, goes.is, done_mine (act p.who k r) goes.between ∙ ap (λ xs. (k, r) ∷ xs) goes.idle)
 
@@ -160,7 +160,7 @@ module _ (p : PortView) (k : Step) (r : ℕ) (old new : List Act) (goes : GoesOn
   goes_learns = subst (Learns k r) goes.before (learnt p.shape (act p.who k r) (goes.between ++ old) goes.legal)
 
 -- and what a step of a seat comes to
-pub stepped : (k : Step) (old : Seat ℕ SeatView) (r : ℕ) (new : Seat ℕ SeatView) → new.table_id ≡ old.table_id → TakesEffect k old.me r new.me → HasStepped k old r new
+pub stepped : (k : AtomicStep) (old : Seat ℕ SeatView) (r : ℕ) (new : Seat ℕ SeatView) → new.table_id ≡ old.table_id → TakesEffect k old.me r new.me → HasStepped k old r new
 stepped k old r new table told = record {
   table = table;
   view = told.0;

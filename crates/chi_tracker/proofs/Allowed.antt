@@ -14,8 +14,8 @@ use Rattle.chi_tracker.specs.Words.{promise_word, owed_word, c_of, p_of, o_of}
 use Rattle.chi_tracker.specs.Views.{PortView, Duty, has}
 use Rattle.chi_tracker.specs.Rule.{IsSound, Fits, TrackerRule}
 use Rattle.chi_tracker.proofs.Places.{clear_place}
-use Rattle.chi_tracker.specs.declared.step.Step.{Step}
-use Rattle.chi_tracker.specs.declared.step.Step.TheVariants.{Claim, Free, Note, Owe, Look, Settle, Promise, See, Spend, Return}
+use Rattle.chi_tracker.specs.declared.step.AtomicStep.{AtomicStep}
+use Rattle.chi_tracker.specs.declared.step.AtomicStep.TheVariants.{Claim, Free, Note, Owe, Look, Settle, Promise, See, Spend, Return}
 use Rattle.chi_tracker.specs.Steps.{one, first_clear, word_of_step, written, effect, May}
 use Rattle.chi_tracker.proofs.Addition.{weigh-term, raised_here, raised_else}
 use Rattle.chi_tracker.proofs.BitLaws.{with_here, with_else, but_here, but_else}
@@ -28,7 +28,7 @@ abbrev Homes : Type 0
 Homes = List (maybe.Option ℕ)
 
 -- what a port learns of the whole by a step that found the word r
-abbrev pub Learns : Step → ℕ → PortView → Type 0
+abbrev pub Learns : AtomicStep → ℕ → PortView → Type 0
 Learns (Claim t e) r p = has e p ≤ bit_at r (e % 64)
 Learns (Note t) r p = owed_in t r + slice_index p.spent t + slice_index p.returned t ≤ slice_index p.retries t
 Learns (See i) r p = (b : ℕ) → b < 64 → bit_at (slice_index p.seen i) b ≤ bit_at r b
@@ -41,7 +41,7 @@ module _ (key : Shape) (id : ℕ) (x : PortView) where
   Rule ws homes vs = TrackerRule key (record { words = ws; homes = homes; views = vs })
 
   -- a step keeps the rule, and tells what it shows
-  abbrev pub Keeps : Step → Type 0
+  abbrev pub Keeps : AtomicStep → Type 0
   Keeps k = (ws : List ℕ) (homes : Homes) (vs : List SeatView) → Rule ws homes vs → get_elem? vs id ≡ some (one x) → IsSound key x
       → Rule (set ws (word_of_step k x.who) (written k (slice_index ws (word_of_step k x.who)))) homes (set vs id (one (effect k (slice_index ws (word_of_step k x.who)) x))) × Learns k (slice_index ws (word_of_step k x.who)) x
 
@@ -186,7 +186,7 @@ module _ (key : Shape) (id : ℕ) (x : PortView) where
         spendable t e lt duty is_of seen x.spent (one_more x.returned t) more same ws homes vs rule at sound,
       )
 
-  pub keeps : (k : Step) → May k x → Keeps k
+  pub keeps : (k : AtomicStep) → May k x → Keeps k
   keeps (Claim t e) may = claim_keeps t e may
   keeps (Free e) may = free_keeps e may
   keeps (Note t) may = note_keeps t may

@@ -17,7 +17,7 @@ use Rattle.chi_tracker.specs.Shape.{count_of, owed_in}
 use Rattle.chi_tracker.specs.Words.{c_of, p_of, o_of}
 use Rattle.chi_tracker.specs.Views.{PortView}
 use Rattle.chi_tracker.specs.Rule.{weigh, duty_is, TrackerRule}
-use Rattle.chi_tracker.specs.Steps.{Shown, shown, solo}
+use Rattle.chi_tracker.specs.Steps.{SeatPorts, shown, solo}
 use Rattle.chi_tracker.specs.Acts.{Act}
 use Rattle.chi_tracker.specs.History.{port_at, longer, history_outcome, Legal, ArePortsOf}
 use Rattle.chi_tracker.specs.Laws.{Ledger, duties}
@@ -82,7 +82,7 @@ pub gathering_more : (z : TableId) (all left left' : List Owner) (seat seat' : S
     → IsGathering z all left' seat' dues'
 gathering_more z all left left' seat seat' own dues dues' o number due g is table own_is own_told joined num duty due_is sum small =
     let p : PortView = o.port in let ps : List PortView = seat.me.0.ports in
-    let now : seat'.me.0.ports ≡ p ∷ ps = ap (λ (m : Me ℕ SeatView). m.0.ports) joined ∙ ap (λ (m : Shown). m.0 ++ ps) own_is in
+    let now : seat'.me.0.ports ≡ p ∷ ps = ap (λ (m : Me ℕ SeatView). m.0.ports) joined ∙ ap (λ (m : SeatPorts). m.0 ++ ps) own_is in
     let h : OnPorts all left' (p ∷ ps) dues' = (
       sym (append_assoc (views_of left') (p ∷ []) ps) ∙ ap (λ vs. vs ++ ps) (sym (views-append left' (o ∷ [])) ∙ ap views_of (sym is)) ∙ g.ports,
       (λ n t. let a : duty_is n t p.duty ≡ 0 = ap (duty_is n t) duty in let b = g.idle n t in omega arith),

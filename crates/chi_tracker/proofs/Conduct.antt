@@ -6,13 +6,13 @@ use Rattle.std.specs.Int.{bit_at}
 use Rattle.atomic_table.specs.declared.shared.Seat.{Seat}
 use Rattle.chi_tracker.specs.declared.view.SeatView.{SeatView}
 use Rattle.chi_tracker.specs.Acts.{Act, done_by}
-use Rattle.chi_tracker.specs.declared.step.Step.{Step}
-use Rattle.chi_tracker.specs.declared.step.Step.TheVariants.{Claim, Free, Note, Owe, Look, Settle, See, Return}
+use Rattle.chi_tracker.specs.declared.step.AtomicStep.{AtomicStep}
+use Rattle.chi_tracker.specs.declared.step.AtomicStep.TheVariants.{Claim, Free, Note, Owe, Look, Settle, See, Return}
 use Rattle.chi_tracker.specs.Sums.{with_bit}
 use Rattle.chi_tracker.specs.Shape.{low, size}
 use Rattle.chi_tracker.specs.Views.{PortView}
 use Rattle.chi_tracker.specs.Calls.{Owner, owner_in, swept_by, port_after_scan}
-use Rattle.chi_tracker.specs.Steps.{Shown, shown, solo, port_of, claims, byte_of, first_clear}
+use Rattle.chi_tracker.specs.Steps.{SeatPorts, shown, solo, port_of, claims, byte_of, first_clear}
 use Rattle.chi_tracker.specs.History.{port_in}
 use Rattle.chi_tracker.specs.declared.released.Released.{Released}
 use Rattle.chi_tracker.specs.Conduct.{Steps, Then, Each, One, Found, Looked, FoundTaken, FoundFree, Tried, FoundClear, SweptAt, SweptFor, Settled, SettledIn, PromisedAt, ReleaseActs, LookedInVain, LookedUntil, OweActs, SeeActs, TendActs, Does, HasStepped}
@@ -45,10 +45,10 @@ pub does_more : (p q r : Owner) (A : ℕ → Steps → Type 0) (i i' : ℕ) → 
 does_more p q r A i i' same next a b = subst (λ (j : ℕ). Does p (Each j A) r) (sym next) (does_then p q r (Each i A) (A i) same a b)
 
 -- one step, and what it found
-pub does_one : (p q : Owner) (k : Step) (r : ℕ) → Does p (λ steps. steps ≡ (k, r) ∷ []) q → Does p (One k) q
+pub does_one : (p q : Owner) (k : AtomicStep) (r : ℕ) → Does p (λ steps. steps ≡ (k, r) ∷ []) q → Does p (One k) q
 does_one p q k r d = (d.0, d.1, (r, d.2))
 
-pub does_found : (p q : Owner) (k : Step) (i b r : ℕ) → Does p (λ steps. steps ≡ (k, r) ∷ []) q → bit_at r i ≡ b → Does p (Found k i b) q
+pub does_found : (p q : Owner) (k : AtomicStep) (i b r : ℕ) → Does p (λ steps. steps ≡ (k, r) ∷ []) q → bit_at r i ≡ b → Does p (Found k i b) q
 does_found p q k i b r d at = (d.0, d.1, (r, d.2, at))
 
 -- a scan
@@ -111,11 +111,11 @@ swept-same : (t m : ℕ) (p : PortView) → (swept_by t m p).who ≡ p.who
 swept-same t zero p = refl
 swept-same t (suc m) p = refl
 
-pub swept_who : (m m' : Shown) (t i : ℕ) → m' ≡ solo (swept_by t i (port_of m)) → (port_of m').who ≡ (port_of m).who
+pub swept_who : (m m' : SeatPorts) (t i : ℕ) → m' ≡ solo (swept_by t i (port_of m)) → (port_of m').who ≡ (port_of m).who
 swept_who m m' t i is = ap (λ s. (port_of s).who) is ∙ swept-same t i (port_of m)
 
 -- the view after one claim more that found its bit set
-pub scan_next : (m m1 m2 : Shown) (t first e i i' old : ℕ) → first ≡ low (port_of m).shape t → m1 ≡ solo (port_after_scan t i (port_of m)) → m2 ≡ solo (claims t e old (port_of m1)) → old ≡ 1 → e ≡ first + i → 0 < i → i' ≡ suc i → m2 ≡ solo (port_after_scan t i' (port_of m))
+pub scan_next : (m m1 m2 : SeatPorts) (t first e i i' old : ℕ) → first ≡ low (port_of m).shape t → m1 ≡ solo (port_after_scan t i (port_of m)) → m2 ≡ solo (claims t e old (port_of m1)) → old ≡ 1 → e ≡ first + i → 0 < i → i' ≡ suc i → m2 ≡ solo (port_after_scan t i' (port_of m))
 scan_next m m1 m2 t first e i i' old at before step set place some next =
     let p : PortView = port_of m in let q : PortView = port_after_scan t i p in
     let F : Bool → ℕ → PortView = λ (b : Bool) (k : ℕ). record q { found = with_bit (cond b 0 q.found) k; scans = cond b (q.scans + 1) q.scans; scan_kind = cond b t q.scan_kind } in
@@ -165,8 +165,8 @@ pub saw_four : (m m0 m1 m2 m3 : Seat ℕ SeatView) (r0 r1 r2 r3 : ℕ) → lengt
     → Does (owner_in m) (SeeActs (port_in m3.me).seen) (owner_in m3)
 unfolding does_then
 saw_four m m0 m1 m2 m3 r0 r1 r2 r3 len s0 s1 s2 s3 =
-    let W : Shown → ℕ = λ (s : Shown). (port_of s).who in let S : Shown → List ℕ = λ (s : Shown). (port_of s).seen in
-    let E : Step → ℕ → Steps → Type 0 = λ (k : Step) (r : ℕ) (steps : Steps). steps ≡ (k, r) ∷ [] in
+    let W : SeatPorts → ℕ = λ (s : SeatPorts). (port_of s).who in let S : SeatPorts → List ℕ = λ (s : SeatPorts). (port_of s).seen in
+    let E : AtomicStep → ℕ → Steps → Type 0 = λ (k : AtomicStep) (r : ℕ) (steps : Steps). steps ≡ (k, r) ∷ [] in
     let w0 = ap W s0.view in let w1 = ap W s1.view ∙ w0 in let w2 = ap W s2.view ∙ w1 in
     let a = does_then (owner_in m) (owner_in m0) (owner_in m1) (E (See 0) r0) (E (See 1) r1) w0 s0.acts s1.acts in
     let b = does_then (owner_in m) (owner_in m1) (owner_in m2) (Then (E (See 0) r0) (E (See 1) r1)) (E (See 2) r2) w1 a s2.acts in
@@ -176,5 +176,5 @@ saw_four m m0 m1 m2 m3 r0 r1 r2 r3 len s0 s1 s2 s3 =
     first s3.acts.0 _ (See 3, r3) s3.acts.2 ∙ ap (λ z. (See 3, r3) ∷ z) (first s2.acts.0 _ (See 2, r2) s2.acts.2 ∙ ap (λ z. (See 2, r2) ∷ z) (first s1.acts.0 s0.acts.0 (See 1, r1) s1.acts.2 ∙ ap (λ z. (See 1, r1) ∷ z) s0.acts.2)) in
     (d.0, d.1, is ∙ subst (λ (ws : List ℕ). SeeActs ws ((See 3, r3) ∷ ((See 2, r2) ∷ ((See 1, r1) ∷ ((See 0, r0) ∷ []))))) (sym all) (four-seen r0 r1 r2 r3 (S (shown m.me)) len))
   where
-    first : (xs ys : Steps) (k : Step × ℕ) → xs ≡ k ∷ [] → xs ++ ys ≡ k ∷ ys
+    first : (xs ys : Steps) (k : AtomicStep × ℕ) → xs ≡ k ∷ [] → xs ++ ys ≡ k ∷ ys
     first xs ys k is = ap (λ zs. zs ++ ys) is

@@ -7,8 +7,8 @@ use lib.ListN.{get_elem?}
 use Rattle.chi_tracker.specs.declared.shape.Shape.{Shape}
 use Rattle.chi_tracker.specs.declared.view.SeatView.{SeatView}
 use Rattle.chi_tracker.specs.Acts.{Act}
-use Rattle.chi_tracker.specs.declared.step.Step.{Step}
-use Rattle.chi_tracker.specs.declared.step.Step.TheVariants.{Claim, Free, Note, Owe, Look, Settle, Promise, See, Spend, Return}
+use Rattle.chi_tracker.specs.declared.step.AtomicStep.{AtomicStep}
+use Rattle.chi_tracker.specs.declared.step.AtomicStep.TheVariants.{Claim, Free, Note, Owe, Look, Settle, Promise, See, Spend, Return}
 use Rattle.std.specs.Int.{bit_at}
 use Rattle.std.proofs.lemmas.Nat.Bits.{bit_at-zero}
 use Rattle.chi_tracker.specs.Sums.{total, with_bit, without_bit}
@@ -60,7 +60,7 @@ new-who s k (suc m) zero l = omega arith
 new-who s k (suc m) (suc n) l = omega (arith, new-who s (k + 1) m n (omega arith))
 
 -- a step leaves which port it is
-pub same_who : (k : Step) (r : ℕ) (p : PortView) → (effect k r p).who ≡ p.who
+pub same_who : (k : AtomicStep) (r : ℕ) (p : PortView) → (effect k r p).who ≡ p.who
 same_who (Claim t e) r p = refl
 same_who (Free e) r p = refl
 same_who (Note t) r p = refl
@@ -72,7 +72,7 @@ same_who (See i) r p = refl
 same_who (Spend t e) r p = refl
 same_who (Return t e) r p = refl
 
-pub same_shape : (k : Step) (r : ℕ) (p : PortView) → (effect k r p).shape ≡ p.shape
+pub same_shape : (k : AtomicStep) (r : ℕ) (p : PortView) → (effect k r p).shape ≡ p.shape
 same_shape (Claim t e) r p = refl
 same_shape (Free e) r p = refl
 same_shape (Note t) r p = refl
@@ -104,7 +104,7 @@ first_rule s shaped =
       fits = regroup s _ _ _ (opened s) (map one ps) (λ f. omega (arith, weigh-seats f ps)) (sound-seats s ps r.fits.sound.0) r.fits;
     }
 
-step_rule : (s : Shape) (ws : List ℕ) (ps : List PortView) (n : ℕ) (k : Step) (r : ℕ) → TrackerRule s (table_state (record { words = ws; ports = ps })) → n < length ps → (port_at ps n).who ≡ n → May k (port_at ps n) → r ≡ slice_index ws (word_of_step k n)
+step_rule : (s : Shape) (ws : List ℕ) (ps : List PortView) (n : ℕ) (k : AtomicStep) (r : ℕ) → TrackerRule s (table_state (record { words = ws; ports = ps })) → n < length ps → (port_at ps n).who ≡ n → May k (port_at ps n) → r ≡ slice_index ws (word_of_step k n)
     → TrackerRule s (table_state (record { words = set ws (word_of_step k n) (written k r); ports = set ps n (effect k r (port_at ps n)) })) × Learns k r (port_at ps n)
 step_rule s ws ps n k r rule l who may found =
     let x : PortView = port_at ps n in let at = seats-at ps n l in
@@ -136,7 +136,7 @@ still_there hand i e h = dite (ℕ_discrete e i)
     (λ d. sym (dropped_else hand i e d) ∙ h)
 
 -- what is in hand after a step was there before, or is an entry of a type
-pub hand_after : (k : Step) (r : ℕ) (p : PortView) (e : ℕ) → May k p → has e (effect k r p) ≡ 1 → (has e p ≡ 1) ⊎ ((t : ℕ) × (t < 4) × IsOf p.shape t e)
+pub hand_after : (k : AtomicStep) (r : ℕ) (p : PortView) (e : ℕ) → May k p → has e (effect k r p) ≡ 1 → (has e p ≡ 1) ⊎ ((t : ℕ) × (t < 4) × IsOf p.shape t e)
 hand_after (Claim t i) r p e may h = dite (ℕ_discrete e i)
     (λ q. inr (t, may.0, subst (IsOf p.shape t) (sym q) may.1))
     (λ d. inl (taken (bit_at r (i % 64) == 0) d h))

@@ -8,7 +8,7 @@ use Rattle.atomic_table.proofs.Lists.{set_else}
 use Rattle.chi_tracker.specs.declared.shape.Shape.{Shape}
 use Rattle.chi_tracker.specs.declared.view.SeatView.{SeatView}
 use Rattle.chi_tracker.specs.Acts.{Act, done_by}
-use Rattle.chi_tracker.specs.declared.step.Step.{Step}
+use Rattle.chi_tracker.specs.declared.step.AtomicStep.{AtomicStep}
 use Rattle.chi_tracker.specs.Sums.{total}
 use Rattle.chi_tracker.specs.Shape.{IsShape}
 use Rattle.chi_tracker.specs.Views.{PortView, new_port, new_ports}
@@ -90,7 +90,7 @@ parts (x ∷ xs) (y ∷ ys) b b' e l =
 idle-first : (n : ℕ) (xs ys : List Act) → done_by n (xs ++ ys) ≡ [] → done_by n xs ≡ []
 idle-first n [] ys e = refl
 idle-first n (x ∷ xs) ys e = dite (ℕ_discrete x.who n)
-    (λ q. absurd (let h : done_by n (x ∷ (xs ++ ys)) ≡ (x.step, x.found) ∷ done_by n (xs ++ ys) = subst (λ (u : ℕ). done_by u (x ∷ (xs ++ ys)) ≡ (x.step, x.found) ∷ done_by u (xs ++ ys)) q (done_mine x (xs ++ ys)) in let l = ap (λ (zs : List (Step × ℕ)). length zs) (sym h ∙ e) in omega arith))
+    (λ q. absurd (let h : done_by n (x ∷ (xs ++ ys)) ≡ (x.step, x.found) ∷ done_by n (xs ++ ys) = subst (λ (u : ℕ). done_by u (x ∷ (xs ++ ys)) ≡ (x.step, x.found) ∷ done_by u (xs ++ ys)) q (done_mine x (xs ++ ys)) in let l = ap (λ (zs : List (AtomicStep × ℕ)). length zs) (sym h ∙ e) in omega arith))
     (λ d. done_other n x xs d ∙ idle-first n xs ys (sym (done_other n x (xs ++ ys) d) ∙ e))
 
 sooner : (s : Shape) (acts later later' before before' : List Act) (ps : List PortView) → acts ≡ later ++ before → acts ≡ later' ++ before' → length later' ≤ length later → ArePortsOf s acts later ps → ArePortsOf s acts later' ps
@@ -103,7 +103,7 @@ sooner s acts later later' b b' (p ∷ ps) e e' l h =
 idle-last : (n : ℕ) (xs ys : List Act) → done_by n (xs ++ ys) ≡ [] → done_by n ys ≡ []
 idle-last n [] ys e = e
 idle-last n (x ∷ xs) ys e = dite (ℕ_discrete x.who n)
-    (λ q. absurd (let h : done_by n (x ∷ (xs ++ ys)) ≡ (x.step, x.found) ∷ done_by n (xs ++ ys) = subst (λ (u : ℕ). done_by u (x ∷ (xs ++ ys)) ≡ (x.step, x.found) ∷ done_by u (xs ++ ys)) q (done_mine x (xs ++ ys)) in let l = ap (λ (zs : List (Step × ℕ)). length zs) (sym h ∙ e) in omega arith))
+    (λ q. absurd (let h : done_by n (x ∷ (xs ++ ys)) ≡ (x.step, x.found) ∷ done_by n (xs ++ ys) = subst (λ (u : ℕ). done_by u (x ∷ (xs ++ ys)) ≡ (x.step, x.found) ∷ done_by u (xs ++ ys)) q (done_mine x (xs ++ ys)) in let l = ap (λ (zs : List (AtomicStep × ℕ)). length zs) (sym h ∙ e) in omega arith))
     (λ d. idle-last n xs ys (sym (done_other n x (xs ++ ys) d) ∙ e))
 
 idle-ports : (s : Shape) (acts later first more : List Act) (ps : List PortView) → later ≡ first ++ more → ArePortsOf s acts later ps → (k : ℕ) (d : PortView) → k < length ps → done_by (slice_index_or ps k d).who more ≡ []

@@ -10,8 +10,8 @@ use Rattle.chi_tracker.specs.declared.view.SeatView.{SeatView}
 use Rattle.chi_tracker.specs.Sums.{without_bit, with_bit}
 use Rattle.chi_tracker.specs.Views.{PortView, Sweep, has}
 use Rattle.chi_tracker.specs.Shape.{low}
-use Rattle.chi_tracker.specs.Steps.{Shown, shown, solo, port_of, byte_of, left_after, settles}
-use Rattle.chi_tracker.specs.Calls.{with_sweep, into_hand, port_after_scan, Ended, Tended, HasSameCredits}
+use Rattle.chi_tracker.specs.Steps.{SeatPorts, shown, solo, port_of, byte_of, left_after, settles}
+use Rattle.chi_tracker.specs.Calls.{with_sweep, into_hand, port_after_scan, LeavesHand, Tended, HasSameCredits}
 use Rattle.chi_tracker.specs.declared.released.Released.{Released}
 use Rattle.chi_tracker.specs.declared.released.Released.TheVariants.{Granted, Freed}
 use Rattle.chi_tracker.proofs.BitLaws.{dropped_here, dropped_else, with_else}
@@ -95,8 +95,8 @@ settling_clear first now next t agent word place entry old le lt sweep s table i
     let kind : p.sweep.kind ≡ place / 8 = ap (λ (x : Sweep). x.kind) sweep ∙ (let h : t ≡ place / 8 = omega arith in h) in
     let at : p.sweep.at ≡ agent = ap (λ (x : Sweep). x.at) sweep in
     let gone : left_after agent place q.sweep ≡ after = both_true p.sweep.at agent p.sweep.kind (place / 8) after left at kind in
-    let next_is : (shown next.me) ≡ solo (with_sweep (record p.sweep { left = after }) p) = is ∙ ap (λ o. solo (settles entry agent place o (port_of (shown now.me)))) zero_bit ∙ ap (λ (m : Shown). solo (settles entry agent place 0 (port_of m))) s.view ∙ ap (λ l. solo (with_sweep (record p.sweep { left = l }) p)) gone in
-    let left_is : (port_of (shown next.me)).sweep.left ≡ after = ap (λ (m : Shown). (port_of m).sweep.left) next_is in record {
+    let next_is : (shown next.me) ≡ solo (with_sweep (record p.sweep { left = after }) p) = is ∙ ap (λ o. solo (settles entry agent place o (port_of (shown now.me)))) zero_bit ∙ ap (λ (m : SeatPorts). solo (settles entry agent place 0 (port_of m))) s.view ∙ ap (λ l. solo (with_sweep (record p.sweep { left = l }) p)) gone in
+    let left_is : (port_of (shown next.me)).sweep.left ≡ after = ap (λ (m : SeatPorts). (port_of m).sweep.left) next_is in record {
       table = table ∙ s.table;
       view = next_is ∙ ap (λ l. solo (with_sweep (record p.sweep { left = l }) p)) (sym left_is);
       left = subst (IsSettled t word (place + 1)) (sym left_is) (settled_clear t word place left le lt s.left);
@@ -106,19 +106,19 @@ pub settling_all : (first now : Seat ℕ SeatView) (t word place : ℕ) → plac
 settling_all first now t word place e s = s.view ∙ ap (λ l. solo (with_sweep (record (port_of (shown first.me)).sweep { left = l }) (port_of (shown first.me)))) (settled_all t word (port_of (shown now.me)).sweep.left (subst (λ k. IsSettled t word k (port_of (shown now.me)).sweep.left) e s.left))
 
 -- what the end of a release leaves as it was
-pub ended_same : (p : PortView) (t e : ℕ) (r : Released) (q : PortView) → Ended p t e r q → HasSameCredits p q
+pub ended_same : (p : PortView) (t e : ℕ) (r : Released) (q : PortView) → LeavesHand p t e r q → HasSameCredits p q
 ended_same p t e (Granted m) q h = let is = h.1.1 in (ap (λ z. z.who) is, ap (λ z. z.shape) is, ap (λ z. z.seen) is, ap (λ z. z.retries) is, ap (λ z. z.spent) is, ap (λ z. z.returned) is)
 ended_same p t e Freed q is = (ap (λ z. z.who) is, ap (λ z. z.shape) is, ap (λ z. z.seen) is, ap (λ z. z.retries) is, ap (λ z. z.spent) is, ap (λ z. z.returned) is)
 
-pub ended_hand : (p : PortView) (t e : ℕ) (r : Released) (q : PortView) → Ended p t e r q → q.hand ≡ without_bit p.hand e
+pub ended_hand : (p : PortView) (t e : ℕ) (r : Released) (q : PortView) → LeavesHand p t e r q → q.hand ≡ without_bit p.hand e
 ended_hand p t e (Granted m) q h = ap (λ z. z.hand) h.1.1
 ended_hand p t e Freed q is = ap (λ z. z.hand) is
 
-pub ended_duty : (p : PortView) (t e : ℕ) (r : Released) (q : PortView) → Ended p t e r q → q.duty ≡ None
+pub ended_duty : (p : PortView) (t e : ℕ) (r : Released) (q : PortView) → LeavesHand p t e r q → q.duty ≡ None
 ended_duty p t e (Granted m) q h = ap (λ z. z.duty) h.1.1
 ended_duty p t e Freed q is = ap (λ z. z.duty) is
 
-pub ended_note : (p : PortView) (t e : ℕ) (r : Released) (q : PortView) → Ended p t e r q → q.noted ≡ p.noted
+pub ended_note : (p : PortView) (t e : ℕ) (r : Released) (q : PortView) → LeavesHand p t e r q → q.noted ≡ p.noted
 ended_note p t e (Granted m) q h = ap (λ z. z.noted) h.1.1
 ended_note p t e Freed q is = ap (λ z. z.noted) is
 
@@ -129,7 +129,7 @@ back_out h e i clear = dite (ℕ_discrete i e)
     (λ d. dropped_else (with_bit h e) e i d ∙ with_else h e i d)
 
 -- an entry that a call took to hand and released leaves the hand as it was
-pub paid_hand : (p x : PortView) (t e : ℕ) (r : Released) (q : PortView) → x.hand ≡ with_bit p.hand e → has e p ≡ 0 → Ended x t e r q → (i : ℕ) → has i q ≡ has i p
+pub paid_hand : (p x : PortView) (t e : ℕ) (r : Released) (q : PortView) → x.hand ≡ with_bit p.hand e → has e p ≡ 0 → LeavesHand x t e r q → (i : ℕ) → has i q ≡ has i p
 paid_hand p x t e r q is clear ended i = ap (λ z. bit_at z i) (ended_hand x t e r q ended ∙ ap (λ z. without_bit z e) is) ∙ back_out p.hand e i clear
 
 pub tended_hand : (p : PortView) (t : ℕ) (r : Option Released) (q : PortView) → Tended p t r q → (i : ℕ) → has i q ≡ has i p

@@ -11,10 +11,10 @@ use Rattle.chi_tracker.specs.declared.view.SeatView.{SeatView}
 use Rattle.chi_tracker.specs.Sums.{one_more, set_at, take_out}
 use Rattle.chi_tracker.specs.Shape.{low, size, IsOf, IsShape, count_of}
 use Rattle.chi_tracker.specs.Views.{PortView, has}
-use Rattle.chi_tracker.specs.Steps.{Shown, shown, solo, port_of, spends, returns_credit}
+use Rattle.chi_tracker.specs.Steps.{SeatPorts, shown, solo, port_of, spends, returns_credit}
 use Rattle.chi_tracker.specs.Acts.{Act}
 use Rattle.chi_tracker.specs.History.{IsAfter}
-use Rattle.chi_tracker.specs.Calls.{Owner, owner_of, owner_in, into_hand, port_after_scan, IsHeld, IsPortKept, owed_one, set_count, seen_of, IsLowestSeen, Ended, HasOneLess}
+use Rattle.chi_tracker.specs.Calls.{Owner, owner_of, owner_in, into_hand, port_after_scan, IsHeld, IsPortKept, owed_one, set_count, seen_of, IsLowestSeen, LeavesHand, HasOneLess}
 use Rattle.chi_tracker.proofs.Addition.{raised_here, raised_else}
 use Rattle.chi_tracker.proofs.BitLaws.{with_here, taken_here, taken_else}
 use Rattle.chi_tracker.proofs.Histories.{hand_inside}
@@ -40,20 +40,20 @@ set_else ns t u v d = get_or-set_other ns t u v 0 d
 pub inside_after : (history : List Act) (p : PortView) → IsAfter history p → (e : ℕ) → has e p ≡ 1 → e < low p.shape 4
 inside_after history p after e held = hand_inside p.shape history p.who e after.legal after.who (ap (has e) after.is ∙ held)
 
-pub held_after : (h : List Act) (m m' : Shown) (y : PortView) (n : ℕ) (s : Shape) (seen seen' due due' : List ℕ) → IsHeld m n s seen due → m' ≡ solo y → y.who ≡ (port_of m).who → y.shape ≡ (port_of m).shape → y.seen ≡ seen' → y.duty ≡ None → y.noted ≡ None
+pub held_after : (h : List Act) (m m' : SeatPorts) (y : PortView) (n : ℕ) (s : Shape) (seen seen' due due' : List ℕ) → IsHeld m n s seen due → m' ≡ solo y → y.who ≡ (port_of m).who → y.shape ≡ (port_of m).shape → y.seen ≡ seen' → y.duty ≡ None → y.noted ≡ None
     → ((t : ℕ) → t < 4 → slice_index due' t + (slice_index y.spent t + slice_index y.returned t) ≡ slice_index y.retries t) → ((t : ℕ) → t < 4 → slice_index due' t ≤ 8) → IsAfter h (port_of m') → IsHeld m' n s seen' due'
-held_after h m m' y n s seen seen' due due' held is who shape seen_is duty noted due_is few after = subst (λ (z : Shown). IsHeld z n s seen' due') (sym is)
+held_after h m m' y n s seen seen' due due' held is who shape seen_is duty noted due_is few after = subst (λ (z : SeatPorts). IsHeld z n s seen' due') (sym is)
     (record { alone = refl; who = who ∙ held.who; near = held.near; shape_is = shape ∙ held.shape_is; shaped = held.shaped; seen_is = seen_is; due_is = due_is; few = few; no_duty = duty; no_note = noted; inside = subst (λ (p : PortView). (e : ℕ) → has e p ≡ 1 → e < low p.shape 4) (ap port_of is) (inside_after h (port_of m') after) })
 
 -- after a scan
-pub scanned_held : (h : List Act) (m m' : Shown) (n : ℕ) (s : Shape) (seen due : List ℕ) (t first count : ℕ) (found : Option ℕ) → IsHeld m n s seen due
+pub scanned_held : (h : List Act) (m m' : SeatPorts) (n : ℕ) (s : Shape) (seen due : List ℕ) (t first count : ℕ) (found : Option ℕ) → IsHeld m n s seen due
     → IfSome found (λ e. IsOf (port_of m).shape t e × (has e (port_of m) ≡ 0) × (m' ≡ solo (into_hand e (port_after_scan t (e - first) (port_of m))))) → IfNone found (m' ≡ solo (port_after_scan t count (port_of m)))
     → IsAfter h (port_of m') → IsHeld m' n s seen due
 scanned_held h m m' n s seen due t first count (Some e) held some none after = held_after h m m' (into_hand e (port_after_scan t (e - first) (port_of m))) n s seen seen due due held some.2 refl refl held.seen_is held.no_duty held.no_note held.due_is held.few after
 scanned_held h m m' n s seen due t first count None held some none after = held_after h m m' (port_after_scan t count (port_of m)) n s seen seen due due held none refl refl held.seen_is held.no_duty held.no_note held.due_is held.few after
 
 -- after a credit of type t was owed
-module _ (m m' : Shown) (n : ℕ) (s : Shape) (seen due : List ℕ) (t : ℕ) (held : IsHeld m n s seen due) (lt : t < 4) (len : length due ≡ 4)
+module _ (m m' : SeatPorts) (n : ℕ) (s : Shape) (seen due : List ℕ) (t : ℕ) (held : IsHeld m n s seen due) (lt : t < 4) (len : length due ≡ 4)
     (few : slice_index (port_of m).retries t < 8 + (slice_index (port_of m).spent t + slice_index (port_of m).returned t))
     (owed : m' ≡ solo (record (port_of m) { noted = None; retries = one_more (port_of m).retries t })) (h : List Act) (after : IsAfter h (port_of m')) where
   abbrev x : PortView
@@ -74,7 +74,7 @@ module _ (m m' : Shown) (n : ℕ) (s : Shape) (seen due : List ℕ) (t : ℕ) (h
       after
 
 -- after a seen credit of type t was spent or returned
-module _ (m m1 : Shown) (n : ℕ) (s : Shape) (seen due : List ℕ) (t e : ℕ) (held : IsHeld m n s seen due) (lt : t < 4) (len : length due ≡ 4)
+module _ (m m1 : SeatPorts) (n : ℕ) (s : Shape) (seen due : List ℕ) (t e : ℕ) (held : IsHeld m n s seen due) (lt : t < 4) (len : length due ≡ 4)
     (some_due : slice_index (port_of m).spent t + slice_index (port_of m).returned t < slice_index (port_of m).retries t) (h : List Act) (after : IsAfter h (port_of m1)) where
   abbrev less : List ℕ
   less = slice_set due t (slice_index due t - 1)
@@ -102,13 +102,13 @@ module _ (m m1 : Shown) (n : ℕ) (s : Shape) (seen due : List ℕ) (t e : ℕ) 
   returned_held is = held_after h m m1 (returns_credit t e (port_of m)) n s seen (take_out seen e) due less held is refl refl (ap (λ z. take_out z e) held.seen_is) held.no_duty held.no_note
       (paid_due (port_of m).spent (one_more (port_of m).returned t) (omega (arith, raised_here (port_of m).returned t)) (λ u d. omega (arith, raised_else (port_of m).returned t u d))) paid_few after
 
-pub lowest_seen : (m : Shown) (n : ℕ) (s : Shape) (seen due : List ℕ) (t e : ℕ) → IsHeld m n s seen due → IsOf s t e → set_at seen e ≡ 1 → ((i : ℕ) → low s t ≤ i → i < e → set_at seen i ≡ 0) → IsLowestSeen (port_of m) t e
+pub lowest_seen : (m : SeatPorts) (n : ℕ) (s : Shape) (seen due : List ℕ) (t e : ℕ) → IsHeld m n s seen due → IsOf s t e → set_at seen e ≡ 1 → ((i : ℕ) → low s t ≤ i → i < e → set_at seen i ≡ 0) → IsLowestSeen (port_of m) t e
 lowest_seen m n s seen due t e held is set lowest =
     let P : Shape → List ℕ → Type 0 = λ sh sn. IsOf sh t e × (set_at sn e ≡ 1) × ((i : ℕ) → low sh t ≤ i → i < e → set_at sn i ≡ 0) in
     subst (λ (sh : Shape). P sh (port_of m).seen) (sym held.shape_is) (subst (P s) (sym held.seen_is) (is, set, lowest))
 
 -- what is due of a type once one is paid, and the places of a type's entries and of its number
-pub one_due : (m : Shown) (n : ℕ) (s : Shape) (seen due : List ℕ) (t : ℕ) → IsHeld m n s seen due → t < 4 → slice_index (port_of m).spent t + slice_index (port_of m).returned t < slice_index (port_of m).retries t → 1 ≤ slice_index due t
+pub one_due : (m : SeatPorts) (n : ℕ) (s : Shape) (seen due : List ℕ) (t : ℕ) → IsHeld m n s seen due → t < 4 → slice_index (port_of m).spent t + slice_index (port_of m).returned t < slice_index (port_of m).retries t → 1 ≤ slice_index due t
 one_due m n s seen due t held lt some = omega (arith, held.due_is t lt, some)
 
 pub in_bounds : (s : Shape) (t first count e : ℕ) → IsShape s → t < 4 → first ≡ low s t → count ≡ size s t → e < first + count → e < 256
@@ -124,36 +124,36 @@ pub kind_below : (k : ℕ) (ty : CreditType) → k ≡ credit_number ty → k < 
 kind_below k ty is = omega (arith, is, credit_below ty)
 
 -- a scan of a type that has entries is in range, and so is each entry of a type
-pub scan_range : (p : PortView) (m : Shown) (n : ℕ) (s : Shape) (seen due : List ℕ) (t k first count : ℕ) → IsHeld m n s seen due → p ≡ port_of m → k ≡ t → t < 4 → first ≡ low s t → count ≡ size s t → 0 < size p.shape t
+pub scan_range : (p : PortView) (m : SeatPorts) (n : ℕ) (s : Shape) (seen due : List ℕ) (t k first count : ℕ) → IsHeld m n s seen due → p ≡ port_of m → k ≡ t → t < 4 → first ≡ low s t → count ≡ size s t → 0 < size p.shape t
     → (first ≡ low (port_of m).shape k) × (count ≡ size (port_of m).shape k) × (0 < count) × (first + count ≤ 256)
 scan_range p m n s seen due t k first count held at is lt first_is count_is some =
     let some_here = ap (λ x. size x.shape t) at ∙ ap (λ z. size z t) held.shape_is in
     (rw (is, held.shape_is) first_is, rw (is, held.shape_is) count_is, omega (arith, some_here, some, count_is), omega (arith, first_is, count_is, in_range s t lt held.shaped.1))
 
-pub entry_as_byte : (m : Shown) (n : ℕ) (s : Shape) (seen due : List ℕ) (t k e : ℕ) → IsHeld m n s seen due → k ≡ t → t < 4 → IsOf (port_of m).shape k e → Fits w8 e
+pub entry_as_byte : (m : SeatPorts) (n : ℕ) (s : Shape) (seen due : List ℕ) (t k e : ℕ) → IsHeld m n s seen due → k ≡ t → t < 4 → IsOf (port_of m).shape k e → Fits w8 e
 entry_as_byte m n s seen due t k e held is lt of =
     let here = subst (λ (z : Shape). IsOf z t e) held.shape_is (subst (λ (u : ℕ). IsOf (port_of m).shape u e) is of) in as_byte e (omega (arith, here.1, in_range s t lt held.shaped.1))
 
 -- a held port with a seen credit of a type has a lowest one
-pub can_pick : (p : PortView) (m : Shown) (n : ℕ) (s : Shape) (seen due : List ℕ) (t first count : ℕ) → IsHeld m n s seen due → p ≡ port_of m → t < 4 → first ≡ low s t → count ≡ size s t → 0 < seen_of p t → (first + count ≤ 256) × (0 < set_count seen first count)
+pub can_pick : (p : PortView) (m : SeatPorts) (n : ℕ) (s : Shape) (seen due : List ℕ) (t first count : ℕ) → IsHeld m n s seen due → p ≡ port_of m → t < 4 → first ≡ low s t → count ≡ size s t → 0 < seen_of p t → (first + count ≤ 256) × (0 < set_count seen first count)
 can_pick p m n s seen due t first count held at lt first_is count_is some =
     let same = ap (λ x. seen_of x t) at ∙ (ap (λ (z : Shape). set_count (port_of m).seen (low z t) (size z t)) held.shape_is ∙ ap (λ (xs : List ℕ). set_count xs (low s t) (size s t)) held.seen_is) in
     (omega (arith, in_range s t lt held.shaped.1), rw (first_is, count_is) (omega (arith, same, some)))
 
 -- what is paid is in hand, with no duty
-pub paid_in_hand : (m m1 : Shown) (n : ℕ) (s : Shape) (seen due : List ℕ) (t e : ℕ) → IsHeld m n s seen due → m1 ≡ solo (returns_credit t e (port_of m)) → (m1 ≡ solo (port_of m1)) × ((port_of m1).duty ≡ None) × (has e (port_of m1) ≡ 1)
+pub paid_in_hand : (m m1 : SeatPorts) (n : ℕ) (s : Shape) (seen due : List ℕ) (t e : ℕ) → IsHeld m n s seen due → m1 ≡ solo (returns_credit t e (port_of m)) → (m1 ≡ solo (port_of m1)) × ((port_of m1).duty ≡ None) × (has e (port_of m1) ≡ 1)
 paid_in_hand m m1 n s seen due t e held is =
     (is ∙ ap solo (sym (ap port_of is)), ap (λ z. (port_of z).duty) is ∙ held.no_duty, ap (λ z. has e (port_of z)) is ∙ with_here (port_of m).hand e)
 
 -- and can be released
-pub paid_in_range : (m m1 : Shown) (n : ℕ) (s : Shape) (seen due : List ℕ) (t e : ℕ) → IsHeld m n s seen due → m1 ≡ solo (returns_credit t e (port_of m)) → t < 4 → IsOf s t e
+pub paid_in_range : (m m1 : SeatPorts) (n : ℕ) (s : Shape) (seen due : List ℕ) (t e : ℕ) → IsHeld m n s seen due → m1 ≡ solo (returns_credit t e (port_of m)) → t < 4 → IsOf s t e
     → (t < 4) × (s.agents ≡ (port_of m1).shape.agents) × (0 < s.agents) × (s.agents ≤ 8) × (e < 256) × IsOf (port_of m1).shape t e
 paid_in_range m m1 n s seen due t e held is lt of =
     let now : s ≡ (port_of m1).shape = sym (ap (λ z. (port_of z).shape) is ∙ held.shape_is) in
     (lt, ap (λ z. z.agents) now, held.shaped.2, held.shaped.3, omega (arith, of.1, in_range s t lt held.shaped.1), subst (λ (z : Shape). IsOf z t e) now of)
 
 -- after the end of a release
-pub ended_held : (h : List Act) (m m' : Shown) (n : ℕ) (s : Shape) (seen due : List ℕ) (t e : ℕ) (r : Released) → IsHeld m n s seen due → m' ≡ solo (port_of m') → Ended (port_of m) t e r (port_of m') → IsAfter h (port_of m') → IsHeld m' n s seen due
+pub ended_held : (h : List Act) (m m' : SeatPorts) (n : ℕ) (s : Shape) (seen due : List ℕ) (t e : ℕ) (r : Released) → IsHeld m n s seen due → m' ≡ solo (port_of m') → LeavesHand (port_of m) t e r (port_of m') → IsAfter h (port_of m') → IsHeld m' n s seen due
 ended_held h m m' n s seen due t e r held alone ended after =
     let same = ended_same (port_of m) t e r (port_of m') ended in
     held_after h m m' (port_of m') n s seen seen due due held alone same.0 same.1 (same.2 ∙ held.seen_is) (ended_duty (port_of m) t e r (port_of m') ended) (ended_note (port_of m) t e r (port_of m') ended ∙ held.no_note)
@@ -170,7 +170,7 @@ one_less p q t e lt le len is set shape seen =
     )
 
 -- the same of a held port whose seat went from m to m'
-pub spent_less : (p : PortView) (m m' : Shown) (n : ℕ) (s : Shape) (seen due : List ℕ) (t e : ℕ) → IsHeld m n s seen due → length seen ≡ 4 → p ≡ port_of m → t < 4 → IsOf p.shape t e → set_at p.seen e ≡ 1
+pub spent_less : (p : PortView) (m m' : SeatPorts) (n : ℕ) (s : Shape) (seen due : List ℕ) (t e : ℕ) → IsHeld m n s seen due → length seen ≡ 4 → p ≡ port_of m → t < 4 → IsOf p.shape t e → set_at p.seen e ≡ 1
     → (port_of m').shape ≡ (port_of m).shape → (port_of m').seen ≡ take_out (port_of m).seen e → HasOneLess t p (port_of m')
 spent_less p m m' n s seen due t e held len at lt is set shape after =
     let sh : p.shape ≡ s = ap (λ x. x.shape) at ∙ held.shape_is in

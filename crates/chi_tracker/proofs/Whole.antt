@@ -8,7 +8,7 @@ use Rattle.atomic_table.specs.Table.{State}
 use Rattle.chi_tracker.specs.declared.shape.Shape.{Shape}
 use Rattle.chi_tracker.specs.declared.view.SeatView.{SeatView}
 use Rattle.chi_tracker.specs.Acts.{Act, done_by}
-use Rattle.chi_tracker.specs.declared.step.Step.{Step}
+use Rattle.chi_tracker.specs.declared.step.AtomicStep.{AtomicStep}
 use Rattle.chi_tracker.specs.Sums.{total}
 use Rattle.chi_tracker.specs.Views.{PortView}
 use Rattle.chi_tracker.specs.Rule.{of_port}
@@ -25,7 +25,7 @@ use Rattle.chi_tracker.proofs.Balance.{whole, ones}
 no-last : (s : Shape) (acts later : List Act) (a : Act) (ps : List PortView) → ArePortsOf s acts (a ∷ later) ps → total (of_port a.who (λ _. 1)) ps ≡ 1 → ⊥
 no-last s acts later a [] h one = omega arith
 no-last s acts later a (p ∷ ps) h one = dite (ℕ_discrete p.who a.who)
-    (λ q. let e : done_by a.who (a ∷ later) ≡ [] = subst (λ (n : ℕ). done_by n (a ∷ later) ≡ []) q h.0.idle in let l = ap (λ (xs : List (Step × ℕ)). length xs) (sym (done_mine a later) ∙ e) in omega arith)
+    (λ q. let e : done_by a.who (a ∷ later) ≡ [] = subst (λ (n : ℕ). done_by n (a ∷ later) ≡ []) q h.0.idle in let l = ap (λ (xs : List (AtomicStep × ℕ)). length xs) (sym (done_mine a later) ∙ e) in omega arith)
     (λ d. no-last s acts later a ps h.1 (omega (arith, of_other a.who (λ _. 1) p d)))
 
 known-all : (s : Shape) (acts later history : List Act) (ps : List PortView) → Legal s acts → acts ≡ later ++ history → ArePortsOf s acts later ps → ((n : ℕ) → n < s.agents → total (of_port n (λ _. 1)) ps ≡ 1) → Legal s history × (acts ≡ history) × ArePortsOf s history [] ps
@@ -43,7 +43,7 @@ all_known s st id v r at many =
 port-later : (s : Shape) (later history : List Act) (n : ℕ) → done_by n later ≡ [] → port_at (history_outcome s (later ++ history)).ports n ≡ port_at (history_outcome s history).ports n
 port-later s [] history n idle = refl
 port-later s (a ∷ later) history n idle = dite (ℕ_discrete a.who n)
-    (λ q. absurd (let e : done_by a.who (a ∷ later) ≡ [] = subst (λ (m : ℕ). done_by m (a ∷ later) ≡ []) (sym q) idle in let l = ap (λ (xs : List (Step × ℕ)). length xs) (sym (done_mine a later) ∙ e) in omega arith))
+    (λ q. absurd (let e : done_by a.who (a ∷ later) ≡ [] = subst (λ (m : ℕ). done_by m (a ∷ later) ≡ []) (sym q) idle in let l = ap (λ (xs : List (AtomicStep × ℕ)). length xs) (sym (done_mine a later) ∙ e) in omega arith))
     (λ d. get_or-set_other (history_outcome s (later ++ history)).ports a.who n _ nobody (λ q. d (sym q)) ∙ port-later s later history n (sym (done_other n a later d) ∙ idle))
 
 legal-part : (s : Shape) (later history : List Act) → Legal s (later ++ history) → Legal s history

@@ -13,7 +13,7 @@ use Rattle.chi_tracker.specs.Views.{PortView, Sweep, has, IsDue, new_port, new_p
 use Rattle.chi_tracker.specs.declared.released.Released.{Released}
 use Rattle.chi_tracker.specs.declared.released.Released.TheVariants.{Granted, Freed}
 use Rattle.chi_tracker.specs.Words.{word_count}
-use Rattle.chi_tracker.specs.Steps.{Shown, shown, solo, port_of, no_shape, returns_credit}
+use Rattle.chi_tracker.specs.Steps.{SeatPorts, shown, solo, port_of, no_shape, returns_credit}
 use Rattle.chi_tracker.specs.History.{port_in}
 
 -- a tracker: which table its words are, its entries by type and its requesters
@@ -50,7 +50,7 @@ IsSeat table seat = (seat.table_id ≡ table) × (table.words ≡ word_count) ×
 -- what a port keeps between two calls: its seat stands for it alone, the seen credits and the credits
 -- due are those of its view, at most 8 of a type are due, no duty and no note is open, and what is in
 -- hand is one of the tracker's entries
-pub record IsHeld (me : Shown) (number : ℕ) (shape : Shape) (seen due : List ℕ) : Type 0 where
+pub record IsHeld (me : SeatPorts) (number : ℕ) (shape : Shape) (seen due : List ℕ) : Type 0 where
   pub alone : me ≡ solo (port_of me)
   pub who : (port_of me).who ≡ number
   pub near : number < shape.agents
@@ -169,13 +169,13 @@ freed_entry e p = record p { hand = without_bit p.hand e; duty = None; ended = w
 -- How the release of entry e of type t ends: granted to a requester, of which a place was settled, in a
 -- sweep that stands there; or freed, after a sweep of the type that has looked at every requester and has
 -- no bit left.
-abbrev pub Ended : PortView → ℕ → ℕ → Released → PortView → Type 0
-Ended p t e (Granted m) q = (m.0 < p.shape.agents) × ((left : ℕ) × (q ≡ granted_to m.0 e (stands_at t m.0 left p)))
-Ended p t e Freed q = q ≡ freed_entry e (swept_all t p)
+abbrev pub LeavesHand : PortView → ℕ → ℕ → Released → PortView → Type 0
+LeavesHand p t e (Granted m) q = (m.0 < p.shape.agents) × ((left : ℕ) × (q ≡ granted_to m.0 e (stands_at t m.0 left p)))
+LeavesHand p t e Freed q = q ≡ freed_entry e (swept_all t p)
 
 -- how the release of entry e ends, by the entry's type
-abbrev pub EndedAsItsType : PortView → ℕ → Released → PortView → Type 0
-EndedAsItsType p e released q = (t : ℕ) × (t < 4) × IsOf p.shape t e × Ended p t e released q
+abbrev pub LeavesHandAsItsType : PortView → ℕ → Released → PortView → Type 0
+LeavesHandAsItsType p e released q = (t : ℕ) × (t < 4) × IsOf p.shape t e × LeavesHand p t e released q
 
 -- How a tend of type t ends: where a sweep showed an owed credit of the type, an entry was claimed in a
 -- scan and ended as in a release, or each entry of the type was found claimed; or no requester showed a
@@ -183,7 +183,7 @@ EndedAsItsType p e released q = (t : ℕ) × (t < 4) × IsOf p.shape t e × Ende
 abbrev pub Tended : PortView → ℕ → Option Released → PortView → Type 0
 Tended p t (Some released) q =
     (x : PortView) × ShowsOwed t p x
-    × ((e : ℕ) × IsOf p.shape t e × (has e p ≡ 0) × Ended (into_hand e (port_after_scan t (e - low p.shape t) x)) t e released q)
+    × ((e : ℕ) × IsOf p.shape t e × (has e p ≡ 0) × LeavesHand (into_hand e (port_after_scan t (e - low p.shape t) x)) t e released q)
 Tended p t None q = (q ≡ swept_all t p) ⊎ ((x : PortView) × ShowsOwed t p x × (q ≡ port_after_scan t (size p.shape t) x))
 
 -- what a port knows of itself and of its credits is the same
@@ -193,7 +193,7 @@ HasSameCredits p q = (q.who ≡ p.who) × (q.shape ≡ p.shape) × (q.seen ≡ p
 -- the lowest seen credit of type t was returned, and its entry, which wasn't in hand, released
 abbrev pub HasReturned : ℕ → PortView → Released → PortView → Type 0
 HasReturned t p released q =
-    (e : ℕ) × IsLowestSeen p t e × (has e p ≡ 0) × Ended (returns_credit t e p) t e released q × HasSameCredits (returns_credit t e p) q
+    (e : ℕ) × IsLowestSeen p t e × (has e p ≡ 0) × LeavesHand (returns_credit t e p) t e released q × HasSameCredits (returns_credit t e p) q
 
 -- one seen credit less of type t, and as many of each other type
 abbrev pub HasOneLess : ℕ → PortView → PortView → Type 0

@@ -4,8 +4,8 @@ use Rattle.std.specs.Prelude.{◌≡◌, ◌⊎◌, ℕ, zero, suc, ◌+◌, ◌
 use Rattle.std.specs.Int.{bit_at}
 use Rattle.atomic_table.specs.declared.shared.Seat.{Seat}
 use Rattle.chi_tracker.specs.declared.view.SeatView.{SeatView}
-use Rattle.chi_tracker.specs.declared.step.Step.{Step}
-use Rattle.chi_tracker.specs.declared.step.Step.TheVariants.{Claim, Free, Note, Owe, Look, Settle, Promise, See}
+use Rattle.chi_tracker.specs.declared.step.AtomicStep.{AtomicStep}
+use Rattle.chi_tracker.specs.declared.step.AtomicStep.TheVariants.{Claim, Free, Note, Owe, Look, Settle, Promise, See}
 use Rattle.chi_tracker.specs.Shape.{low, size}
 use Rattle.chi_tracker.specs.Views.{PortView}
 use Rattle.chi_tracker.specs.declared.released.Released.{Released}
@@ -16,7 +16,7 @@ use Rattle.chi_tracker.specs.Calls.{Owner, owner_in}
 
 -- steps, each with the word that it found
 abbrev pub Steps : Type 0
-Steps = List (Step × ℕ)
+Steps = List (AtomicStep × ℕ)
 
 -- steps of which A holds, and then such of which B does
 abbrev pub Then : (Steps → Type 0) → (Steps → Type 0) → Steps → Type 0
@@ -28,15 +28,15 @@ Each zero A steps = steps ≡ []
 Each (suc n) A steps = Then (Each n A) (A n) steps
 
 -- one step, of whatever word it found
-abbrev pub One : Step → Steps → Type 0
+abbrev pub One : AtomicStep → Steps → Type 0
 One k steps = (r : ℕ) × (steps ≡ (k, r) ∷ [])
 
 -- one step, which found bit i of its word to be b
-abbrev pub Found : Step → ℕ → ℕ → Steps → Type 0
+abbrev pub Found : AtomicStep → ℕ → ℕ → Steps → Type 0
 Found k i b steps = (r : ℕ) × (steps ≡ (k, r) ∷ []) × (bit_at r i ≡ b)
 
 -- one look, which showed a word of which P holds
-abbrev pub Looked : Step → (ℕ → Type 0) → Steps → Type 0
+abbrev pub Looked : AtomicStep → (ℕ → Type 0) → Steps → Type 0
 Looked k P steps = (r : ℕ) × (steps ≡ (k, r) ∷ []) × P r
 
 -- claims of the entries from `first` on, n of them, each of which found its bit set
@@ -118,7 +118,7 @@ abbrev pub Does : Owner → (Steps → Type 0) → Owner → Type 0
 Does p A q = (steps : Steps) × Did p.port.who steps p.history q.history × A steps
 
 -- what a step of a port's seat comes to, which found the word r
-pub record HasStepped (k : Step) (old : Seat ℕ SeatView) (r : ℕ) (new : Seat ℕ SeatView) : Type 0 where
+pub record HasStepped (k : AtomicStep) (old : Seat ℕ SeatView) (r : ℕ) (new : Seat ℕ SeatView) : Type 0 where
   pub table : new.table_id ≡ old.table_id
   pub view : shown new.me ≡ solo (effect k r (port_in old.me))
   pub acts : Does (owner_in old) (λ steps. steps ≡ (k, r) ∷ []) (owner_in new)

@@ -5,7 +5,7 @@ use Rattle.atomic_table.specs.Table.{State, Me}
 use Rattle.chi_tracker.specs.declared.shape.Shape.{Shape}
 use Rattle.chi_tracker.specs.declared.view.SeatView.{SeatView}
 use Rattle.chi_tracker.specs.Acts.{Act, done_by}
-use Rattle.chi_tracker.specs.declared.step.Step.{Step}
+use Rattle.chi_tracker.specs.declared.step.AtomicStep.{AtomicStep}
 use Rattle.chi_tracker.specs.Sums.{total}
 use Rattle.chi_tracker.specs.Shape.{IsShape}
 use Rattle.chi_tracker.specs.Words.{word_count}
@@ -81,7 +81,7 @@ pub record IsAfter (history : List Act) (p : PortView) : Type 0 where
   pub is : port_at (history_outcome p.shape history).ports p.who ≡ p
 
 -- from the history `old` to `new` requester n did these steps, the last of them first, and others did theirs
-abbrev pub Did : ℕ → List (Step × ℕ) → List Act → List Act → Type 0
+abbrev pub Did : ℕ → List (AtomicStep × ℕ) → List Act → List Act → Type 0
 Did n steps old new = (later : List Act) × (new ≡ later ++ old) × (done_by n later ≡ steps)
 
 -- a seat of no port
@@ -110,7 +110,7 @@ abbrev pub longer : List Act → List Act → List Act
 longer xs ys = cond (ltb (length xs) (length ys)) ys xs
 
 -- a step of requester n that found the word r
-abbrev pub act : ℕ → Step → ℕ → Act
+abbrev pub act : ℕ → AtomicStep → ℕ → Act
 act n k r = record { who = n; step = k; found = r }
 
 -- The history goes on from `old` to a step of the port p, which is the port's next one: up to it others
@@ -127,7 +127,7 @@ abbrev pub port_in : Me ℕ SeatView → PortView
 port_in m = port_of (shown m)
 
 -- What a step tells: the history goes on to it, and the view goes by the step's effect.
-abbrev pub TakesEffect : Step → Me ℕ SeatView → ℕ → Me ℕ SeatView → Type 0
+abbrev pub TakesEffect : AtomicStep → Me ℕ SeatView → ℕ → Me ℕ SeatView → Type 0
 TakesEffect k m r w =
     (shown w ≡ solo (effect k r (port_in m)))
     × GoesOn (port_in m) (act (port_in m).who k r) m.0.history w.0.history

@@ -5,25 +5,25 @@ use Rattle.std.specs.Int.{bit_at}
 use Rattle.atomic_table.specs.Table.{Me}
 use Rattle.chi_tracker.specs.declared.shape.Shape.{Shape}
 use Rattle.chi_tracker.specs.declared.view.SeatView.{SeatView}
-use Rattle.chi_tracker.specs.declared.step.Step.{Step}
-use Rattle.chi_tracker.specs.declared.step.Step.TheVariants.{Claim, Free, Note, Owe, Look, Settle, Promise, See, Spend, Return}
+use Rattle.chi_tracker.specs.declared.step.AtomicStep.{AtomicStep}
+use Rattle.chi_tracker.specs.declared.step.AtomicStep.TheVariants.{Claim, Free, Note, Owe, Look, Settle, Promise, See, Spend, Return}
 use Rattle.chi_tracker.specs.Sums.{one_more, with_bit, without_bit, all_but, set_at, take_out}
 use Rattle.chi_tracker.specs.Shape.{low, IsOf}
 use Rattle.chi_tracker.specs.Words.{promise_word, owed_word}
-use Rattle.chi_tracker.specs.Views.{Duty, End, was_freed, was_promised, Sweep, PortView, has, CanOwe, new_port}
+use Rattle.chi_tracker.specs.Views.{Duty, HandEnd, was_freed, was_promised, Sweep, PortView, has, CanOwe, new_port}
 
 -- the seat of one port, of no history
 abbrev pub one : PortView → SeatView
 one p = record { ports = p ∷ []; history = [] }
 
 -- what of a seat's view its ports are, and the seat of one port
-abbrev pub Shown : Type 0
-Shown = List PortView × List (ℕ × ℕ)
+abbrev pub SeatPorts : Type 0
+SeatPorts = List PortView × List (ℕ × ℕ)
 
-abbrev pub shown : Me ℕ SeatView → Shown
+abbrev pub shown : Me ℕ SeatView → SeatPorts
 shown m = (m.0.ports, m.1)
 
-abbrev pub solo : PortView → Shown
+abbrev pub solo : PortView → SeatPorts
 solo p = (p ∷ [], [])
 
 abbrev pub no_shape : Shape
@@ -33,7 +33,7 @@ abbrev pub first_port : List PortView → PortView
 first_port [] = new_port no_shape 0
 first_port (p ∷ ps) = p
 
-abbrev pub port_of : Shown → PortView
+abbrev pub port_of : SeatPorts → PortView
 port_of s = first_port s.0
 
 -- claim e: the old bit clear, e comes to hand; set, e is found claimed. A scan is opened at the lowest
@@ -115,7 +115,7 @@ abbrev pub hand_without : Option Duty → ℕ → ℕ
 hand_without None hand = hand
 hand_without (Some d) hand = without_bit hand d.entry
 
-abbrev pub end_of : Option Duty → End → End
+abbrev pub end_of : Option Duty → HandEnd → HandEnd
 end_of None ended = ended
 end_of (Some d) ended = was_promised d.entry d.to
 
@@ -134,7 +134,7 @@ abbrev pub returns_credit : ℕ → ℕ → PortView → PortView
 returns_credit t e p = record p { hand = with_bit p.hand e; seen = take_out p.seen e; returned = one_more p.returned t }
 
 -- the word that a step of requester n is done on
-abbrev pub word_of_step : Step → ℕ → ℕ
+abbrev pub word_of_step : AtomicStep → ℕ → ℕ
 word_of_step (Claim t e) n = e / 64
 word_of_step (Free e) n = e / 64
 word_of_step (Note t) n = owed_word n
@@ -147,7 +147,7 @@ word_of_step (Spend t e) n = promise_word n (e / 64)
 word_of_step (Return t e) n = promise_word n (e / 64)
 
 -- a step's operation: what becomes of the word r
-abbrev pub written : Step → ℕ → ℕ
+abbrev pub written : AtomicStep → ℕ → ℕ
 written (Claim t e) r = bit_or r (2 ^ (e % 64))
 written (Free e) r = bit_and r (all_but (e % 64))
 written (Note t) r = r
@@ -160,7 +160,7 @@ written (Spend t e) r = bit_and r (all_but (e % 64))
 written (Return t e) r = bit_and r (all_but (e % 64))
 
 -- its effect: what becomes of the port's view, r being the word as it was found
-abbrev pub effect : Step → ℕ → PortView → PortView
+abbrev pub effect : AtomicStep → ℕ → PortView → PortView
 effect (Claim t e) r = claims t e (bit_at r (e % 64))
 effect (Free e) r = frees e
 effect (Note t) r = notes t r
@@ -173,7 +173,7 @@ effect (Spend t e) r = spends t e
 effect (Return t e) r = returns_credit t e
 
 -- when a port may do it
-abbrev pub May : Step → PortView → Type 0
+abbrev pub May : AtomicStep → PortView → Type 0
 May (Claim t e) p = (t < 4) × IsOf p.shape t e × (p.duty ≡ None)
 May (Free e) p = (e < 256) × (has e p ≡ 1) × (p.duty ≡ None)
 May (Note t) p = (t < 4) × CanOwe p t

@@ -10,10 +10,10 @@ pub record Duty : Type 0 where
   pub entry : ℕ
 
 -- where the last entry went that left the hand for good: freed, or promised to a requester
-pub data End : Type 0 where
-  no_end : End
-  was_freed : ℕ → End
-  was_promised : ℕ → ℕ → End
+pub data HandEnd : Type 0 where
+  no_end : HandEnd
+  was_freed : ℕ → HandEnd
+  was_promised : ℕ → ℕ → HandEnd
 
 -- how many sweeps were opened, and of the present one its type, the requester looked at last and the
 -- places that are left there: bit i of `left` is place i
@@ -42,7 +42,7 @@ pub record PortView : Type 0 where
   pub scans : ℕ
   pub scan_kind : ℕ
   pub sees : List ℕ
-  pub ended : End
+  pub ended : HandEnd
   pub sweep : Sweep
 
 -- entry e is in the port's hand

@@ -11,7 +11,7 @@ ghost use Rattle.chi_tracker.specs.Conduct.{Does, OweActs, One};
 
 use crate::law::{Board, PortSeat};
 use crate::sets::first_clear;
-use crate::step::Step;
+use crate::step::AtomicStep;
 use crate::steps::{look_step, owe_step, return_step, spend_step};
 
 /// Looks at the port's own word of owed credits and sets the lowest clear place of the type there.
@@ -55,8 +55,8 @@ pub(crate) fn pay(
     ensures held { has entry (port_in port_seat.old.me) ≡ 0 }
     ensures due { paid_of (port_in port_seat.old.me) ty < slice_index (port_in port_seat.old.me).retries ty }
     ensures acts { MatchBool returned
-        (Does (owner_in port_seat.old) (One (Step.Return ty entry)) (owner_in port_seat.new))
-        (Does (owner_in port_seat.old) (One (Step.Spend ty entry)) (owner_in port_seat.new)) }
+        (Does (owner_in port_seat.old) (One (AtomicStep.Return ty entry)) (owner_in port_seat.new))
+        (Does (owner_in port_seat.old) (One (AtomicStep.Spend ty entry)) (owner_in port_seat.new)) }
     ensures after { IsAfter port_seat.new.me.0.history (port_in port_seat.new.me) }
 {
     if returned {

@@ -1,8 +1,8 @@
 //! What each atomic step tells its caller.
 
 ghost use Rattle.std.specs.Prelude.{◌≡◌, [], ◌∷◌, ◌++◌};
-ghost use Rattle.chi_tracker.specs.declared.step.Step.{Step};
-ghost use Rattle.chi_tracker.specs.declared.step.Step.TheVariants.{Free};
+ghost use Rattle.chi_tracker.specs.declared.step.AtomicStep.{AtomicStep};
+ghost use Rattle.chi_tracker.specs.declared.step.AtomicStep.TheVariants.{Free};
 ghost use Rattle.chi_tracker.specs.Steps.{first_port};
 ghost use Rattle.chi_tracker.specs.History.{TakesEffect, longer, no_ports};
 ghost use Rattle.chi_tracker.specs.Calls.{rest_ports};
@@ -14,7 +14,7 @@ use std::marker::{Brand, PhantomData};
 /// A step, one of those that `specs/Acts.antt` lists. A caller picks it.
 /// Source: `docs/DECISIONS.md`, "The tracker".
 pub trait Pick {
-    ghost step: { Step };
+    ghost step: { AtomicStep };
 }
 
 impl Pick for Brand {

@@ -8,7 +8,7 @@ ghost use Rattle.chi_tracker.specs.Views.{has, new_port, IsDue, CanOwe};
 ghost use Rattle.chi_tracker.specs.History.{IsAfter};
 ghost use Rattle.chi_tracker.specs.Conduct.{Does, FoundFree, FoundTaken, One, Then, OweActs, SeeActs, ReleaseActs, TendActs};
 ghost use Rattle.chi_tracker.specs.Steps.{shown, solo, frees, spends};
-ghost use Rattle.chi_tracker.specs.Calls.{no_owner, scanned_all, owed_one, saw_all, seen_of, FoundAll, HasClaimed, IsLowestSeen, EndedAsItsType, Tended, HasReturned, HasSameCredits, HasOneLess};
+ghost use Rattle.chi_tracker.specs.Calls.{no_owner, scanned_all, owed_one, saw_all, seen_of, FoundAll, HasClaimed, IsLowestSeen, LeavesHandAsItsType, Tended, HasReturned, HasSameCredits, HasOneLess};
 
 use crate::law::PortSeat;
 use crate::marks::others;
@@ -17,7 +17,7 @@ use crate::released::Released;
 use crate::scan::scan;
 use crate::sets::{counts_by_type, lowest};
 use crate::shape::Shape;
-use crate::step::Step;
+use crate::step::AtomicStep;
 use crate::steps::{free_step, see_step};
 use crate::sweep::{release_entry, tend_type};
 use crate::tracker::Tracker;
@@ -169,7 +169,7 @@ impl Port {
         requires entry { has entry.0 self.old.port ≡ 1 }
         ensures table { self.new.table ≡ self.old.table }
         ensures port { self.new.port ≡ frees entry.0 self.old.port }
-        ensures acts { Does self.old (One (Step.Free entry.0)) self.new }
+        ensures acts { Does self.old (One (AtomicStep.Free entry.0)) self.new }
         ensures running { IsAfter self.new.history self.new.port }
     {
         let board = tracker.board();
@@ -267,7 +267,7 @@ impl Port {
         ensures mine { has result.0 self.new.port ≡ 1 }
         ensures entry { result.0 < low self.new.port.shape 4 }
         ensures fewer { HasOneLess (credit_number ty) self.old.port self.new.port }
-        ensures acts { Does self.old (One (Step.Spend (credit_number ty) result.0)) self.new }
+        ensures acts { Does self.old (One (AtomicStep.Spend (credit_number ty) result.0)) self.new }
         ensures running { IsAfter self.new.history self.new.port }
     {
         let board = tracker.board();
@@ -299,7 +299,7 @@ impl Port {
         requires table { self.old.table ≡ tracker.now.table }
         requires entry { has entry.0 self.old.port ≡ 1 }
         ensures table { self.new.table ≡ self.old.table }
-        ensures port { EndedAsItsType self.old.port entry.0 result self.new.port }
+        ensures port { LeavesHandAsItsType self.old.port entry.0 result self.new.port }
         ensures credits { HasSameCredits self.old.port self.new.port }
         ensures hand { self.new.port.hand ≡ without_bit self.old.port.hand entry.0 }
         ensures acts { (t : ℕ) × (t < 4) × IsOf self.old.port.shape t entry.0
@@ -332,7 +332,7 @@ impl Port {
         ensures hand { (i : ℕ) → has i self.new.port ≡ has i self.old.port }
         ensures fewer { HasOneLess (credit_number ty) self.old.port self.new.port }
         ensures acts { (e : ℕ) × IsLowestSeen self.old.port (credit_number ty) e
-            × Does self.old (Then (One (Step.Return (credit_number ty) e))
+            × Does self.old (Then (One (AtomicStep.Return (credit_number ty) e))
             (ReleaseActs self.old.port.shape.agents (credit_number ty) e result)) self.new }
         ensures running { IsAfter self.new.history self.new.port }
     {

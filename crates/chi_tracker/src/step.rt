@@ -4,7 +4,7 @@
 /// has two readings, and so has the spending of a seen credit. Place p of type t is 8 t + p.
 /// Source: `docs/PROTOCOL.md`, "Steps of the tracker".
 #[derive(Clone, Copy, Debug, PartialEq, Eq)]
-pub enum Step {
+pub enum AtomicStep {
     /// Claims, in a scan of a type, an entry.
     Claim(usize, usize),
     /// Frees an entry in hand.

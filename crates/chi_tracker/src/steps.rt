@@ -13,13 +13,13 @@ ghost use Rattle.chi_tracker.specs.Conduct.{HasStepped};
 use crate::law::{Board, PortSeat};
 use crate::marks::{bit, others};
 use crate::plays::{Atomic, Pick};
-use crate::step::Step;
+use crate::step::AtomicStep;
 use crate::words::{owed_word, promise_word};
 use std::marker::Brand;
 
 /// A step that only loads its word. Which step it is, `step`, is for its contract alone.
 #[inline(always)]
-fn load_word<T: Pick>(board: &Board, port_seat: &mut PortSeat, step: Step, word: usize) -> u64
+fn load_word<T: Pick>(board: &Board, port_seat: &mut PortSeat, step: AtomicStep, word: usize) -> u64
     requires picked { T.step ≡ step }
     requires seat { IsSeat board.now.table_id port_seat.old }
     requires may { May step (port_in port_seat.old.me) }
@@ -37,7 +37,7 @@ fn load_word<T: Pick>(board: &Board, port_seat: &mut PortSeat, step: Step, word:
 fn set_bits<T: Pick>(
     board: &Board,
     port_seat: &mut PortSeat,
-    step: Step,
+    step: AtomicStep,
     word: usize,
     mask: u64,
 ) -> u64
@@ -58,7 +58,7 @@ fn set_bits<T: Pick>(
 fn clear_bits<T: Pick>(
     board: &Board,
     port_seat: &mut PortSeat,
-    step: Step,
+    step: AtomicStep,
     word: usize,
     mask: u64,
 ) -> u64
@@ -77,15 +77,15 @@ fn clear_bits<T: Pick>(
 /// Claims the entry in a scan of the type, and answers the word of C as it was.
 pub(crate) fn claim_step(board: &Board, port_seat: &mut PortSeat, ty: usize, entry: usize) -> u64
     requires seat { IsSeat board.now.table_id port_seat.old }
-    requires may { May (Step.Claim ty entry) (port_in port_seat.old.me) }
+    requires may { May (AtomicStep.Claim ty entry) (port_in port_seat.old.me) }
     requires entry { entry < 256 }
-    ensures is { HasStepped (Step.Claim ty entry) port_seat.old result port_seat.new }
+    ensures is { HasStepped (AtomicStep.Claim ty entry) port_seat.old result port_seat.new }
     ensures held { has entry (port_in port_seat.old.me) ≤ bit_at result (entry % 64) }
 {
     set_bits::<Brand>(
         board,
         port_seat,
-        Step::Claim(ty, entry),
+        AtomicStep::Claim(ty, entry),
         entry / 64,
         bit(entry % 64),
     )
@@ -94,13 +94,13 @@ pub(crate) fn claim_step(board: &Board, port_seat: &mut PortSeat, ty: usize, ent
 /// Frees an entry in hand.
 pub(crate) fn free_step(board: &Board, port_seat: &mut PortSeat, entry: usize) -> u64
     requires seat { IsSeat board.now.table_id port_seat.old }
-    requires may { May (Step.Free entry) (port_in port_seat.old.me) }
-    ensures { HasStepped (Step.Free entry) port_seat.old result port_seat.new }
+    requires may { May (AtomicStep.Free entry) (port_in port_seat.old.me) }
+    ensures { HasStepped (AtomicStep.Free entry) port_seat.old result port_seat.new }
 {
     clear_bits::<Brand>(
         board,
         port_seat,
-        Step::Free(entry),
+        AtomicStep::Free(entry),
         entry / 64,
         others(entry % 64),
     )
@@ -109,26 +109,26 @@ pub(crate) fn free_step(board: &Board, port_seat: &mut PortSeat, entry: usize) -
 /// Looks at the port's own word of owed credits for a place of the type, and answers the word.
 pub(crate) fn look_step(board: &Board, port_seat: &mut PortSeat, number: usize, ty: usize) -> u64
     requires seat { IsSeat board.now.table_id port_seat.old }
-    requires may { May (Step.Note ty) (port_in port_seat.old.me) }
+    requires may { May (AtomicStep.Note ty) (port_in port_seat.old.me) }
     requires number { ((port_in port_seat.old.me).who ≡ number) × (number < 8) }
-    ensures is { HasStepped (Step.Note ty) port_seat.old result port_seat.new }
+    ensures is { HasStepped (AtomicStep.Note ty) port_seat.old result port_seat.new }
     ensures few { (bit_at result (first_clear (8 * ty) result) ≡ 0)
         × (first_clear (8 * ty) result < 8 * ty + 8) }
 {
-    load_word::<Brand>(board, port_seat, Step::Note(ty), owed_word(number))
+    load_word::<Brand>(board, port_seat, AtomicStep::Note(ty), owed_word(number))
 }
 
 /// Sets the noted place: one more credit is owed.
 pub(crate) fn owe_step(board: &Board, port_seat: &mut PortSeat, number: usize, place: usize) -> u64
     requires seat { IsSeat board.now.table_id port_seat.old }
-    requires may { May (Step.Owe place) (port_in port_seat.old.me) }
+    requires may { May (AtomicStep.Owe place) (port_in port_seat.old.me) }
     requires number { ((port_in port_seat.old.me).who ≡ number) × (number < 8) }
-    ensures { HasStepped (Step.Owe place) port_seat.old result port_seat.new }
+    ensures { HasStepped (AtomicStep.Owe place) port_seat.old result port_seat.new }
 {
     set_bits::<Brand>(
         board,
         port_seat,
-        Step::Owe(place),
+        AtomicStep::Owe(place),
         owed_word(number),
         bit(place),
     )
@@ -137,11 +137,16 @@ pub(crate) fn owe_step(board: &Board, port_seat: &mut PortSeat, number: usize, p
 /// Looks at the credits owed to a requester in a sweep of the type, and answers the word.
 pub(crate) fn sweep_step(board: &Board, port_seat: &mut PortSeat, ty: usize, agent: usize) -> u64
     requires seat { IsSeat board.now.table_id port_seat.old }
-    requires may { May (Step.Look ty agent) (port_in port_seat.old.me) }
+    requires may { May (AtomicStep.Look ty agent) (port_in port_seat.old.me) }
     requires agent { agent < 8 }
-    ensures { HasStepped (Step.Look ty agent) port_seat.old result port_seat.new }
+    ensures { HasStepped (AtomicStep.Look ty agent) port_seat.old result port_seat.new }
 {
-    load_word::<Brand>(board, port_seat, Step::Look(ty, agent), owed_word(agent))
+    load_word::<Brand>(
+        board,
+        port_seat,
+        AtomicStep::Look(ty, agent),
+        owed_word(agent),
+    )
 }
 
 /// Tries to settle a place of the entry's type at a requester, and answers the word as it was.
@@ -153,14 +158,14 @@ pub(crate) fn settle_step(
     entry: usize,
 ) -> u64
     requires seat { IsSeat board.now.table_id port_seat.old }
-    requires may { May (Step.Settle entry agent place) (port_in port_seat.old.me) }
+    requires may { May (AtomicStep.Settle entry agent place) (port_in port_seat.old.me) }
     requires agent { agent < 8 }
-    ensures { HasStepped (Step.Settle entry agent place) port_seat.old result port_seat.new }
+    ensures { HasStepped (AtomicStep.Settle entry agent place) port_seat.old result port_seat.new }
 {
     clear_bits::<Brand>(
         board,
         port_seat,
-        Step::Settle(entry, agent, place),
+        AtomicStep::Settle(entry, agent, place),
         owed_word(agent),
         others(place),
     )
@@ -174,14 +179,14 @@ pub(crate) fn promise_step(
     entry: usize,
 ) -> u64
     requires seat { IsSeat board.now.table_id port_seat.old }
-    requires may { May (Step.Promise entry agent) (port_in port_seat.old.me) }
+    requires may { May (AtomicStep.Promise entry agent) (port_in port_seat.old.me) }
     requires range { (agent < 8) × (entry < 256) }
-    ensures { HasStepped (Step.Promise entry agent) port_seat.old result port_seat.new }
+    ensures { HasStepped (AtomicStep.Promise entry agent) port_seat.old result port_seat.new }
 {
     set_bits::<Brand>(
         board,
         port_seat,
-        Step::Promise(entry, agent),
+        AtomicStep::Promise(entry, agent),
         promise_word(agent, entry / 64),
         bit(entry % 64),
     )
@@ -190,16 +195,16 @@ pub(crate) fn promise_step(
 /// Looks at one of the four words of what is promised to the port, and answers it.
 pub(crate) fn see_step(board: &Board, port_seat: &mut PortSeat, number: usize, part: usize) -> u64
     requires seat { IsSeat board.now.table_id port_seat.old }
-    requires may { May (Step.See part) (port_in port_seat.old.me) }
+    requires may { May (AtomicStep.See part) (port_in port_seat.old.me) }
     requires number { ((port_in port_seat.old.me).who ≡ number) × (number < 8) }
-    ensures is { HasStepped (Step.See part) port_seat.old result port_seat.new }
+    ensures is { HasStepped (AtomicStep.See part) port_seat.old result port_seat.new }
     ensures more { (i : ℕ) → i < 64
         → bit_at (slice_index (port_in port_seat.old.me).seen part) i ≤ bit_at result i }
 {
     load_word::<Brand>(
         board,
         port_seat,
-        Step::See(part),
+        AtomicStep::See(part),
         promise_word(number, part),
     )
 }
@@ -213,16 +218,16 @@ pub(crate) fn spend_step(
     entry: usize,
 ) -> u64
     requires seat { IsSeat board.now.table_id port_seat.old }
-    requires may { May (Step.Spend ty entry) (port_in port_seat.old.me) }
+    requires may { May (AtomicStep.Spend ty entry) (port_in port_seat.old.me) }
     requires number { ((port_in port_seat.old.me).who ≡ number) × (number < 8) × (entry < 256) }
-    ensures is { HasStepped (Step.Spend ty entry) port_seat.old result port_seat.new }
+    ensures is { HasStepped (AtomicStep.Spend ty entry) port_seat.old result port_seat.new }
     ensures held { has entry (port_in port_seat.old.me) ≡ 0 }
     ensures due { paid_of (port_in port_seat.old.me) ty < slice_index (port_in port_seat.old.me).retries ty }
 {
     clear_bits::<Brand>(
         board,
         port_seat,
-        Step::Spend(ty, entry),
+        AtomicStep::Spend(ty, entry),
         promise_word(number, entry / 64),
         others(entry % 64),
     )
@@ -237,16 +242,16 @@ pub(crate) fn return_step(
     entry: usize,
 ) -> u64
     requires seat { IsSeat board.now.table_id port_seat.old }
-    requires may { May (Step.Return ty entry) (port_in port_seat.old.me) }
+    requires may { May (AtomicStep.Return ty entry) (port_in port_seat.old.me) }
     requires number { ((port_in port_seat.old.me).who ≡ number) × (number < 8) × (entry < 256) }
-    ensures is { HasStepped (Step.Return ty entry) port_seat.old result port_seat.new }
+    ensures is { HasStepped (AtomicStep.Return ty entry) port_seat.old result port_seat.new }
     ensures held { has entry (port_in port_seat.old.me) ≡ 0 }
     ensures due { paid_of (port_in port_seat.old.me) ty < slice_index (port_in port_seat.old.me).retries ty }
 {
     clear_bits::<Brand>(
         board,
         port_seat,
-        Step::Return(ty, entry),
+        AtomicStep::Return(ty, entry),
         promise_word(number, entry / 64),
         others(entry % 64),
     )

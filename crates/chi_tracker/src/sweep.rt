@@ -5,14 +5,14 @@ ghost use Rattle.chi_tracker.specs.Shape.{low, size, IsOf};
 ghost use Rattle.chi_tracker.specs.Views.{PortView, has};
 ghost use Rattle.chi_tracker.specs.Steps.{shown, solo, byte_of, settles, promises};
 ghost use Rattle.chi_tracker.specs.History.{IsAfter, port_in};
-ghost use Rattle.chi_tracker.specs.Calls.{IsSeat, owner_in, with_sweep, stands_at, swept_all, granted_to, freed_entry, Ended, ShowsOwed, Tended};
+ghost use Rattle.chi_tracker.specs.Calls.{IsSeat, owner_in, with_sweep, stands_at, swept_all, granted_to, freed_entry, LeavesHand, ShowsOwed, Tended};
 ghost use Rattle.chi_tracker.specs.Conduct.{Does, Then, One, Found, FoundClear, Settled, SettledIn, PromisedAt, SweptFor, ReleaseActs, LookedUntil, LookedInVain, TendActs};
 
 use crate::law::{Board, PortSeat};
 use crate::marks::is_set;
 use crate::released::Released;
 use crate::scan::scan;
-use crate::step::Step;
+use crate::step::AtomicStep;
 use crate::steps::{free_step, promise_step, settle_step, sweep_step};
 use chi_flit::Agent;
 
@@ -43,7 +43,7 @@ fn settle_one(
         (shown port_seat.new.me ≡ solo (settles entry agent place 0 (port_in port_seat.old.me))) }
     ensures acts { MatchBool result
         (Does (owner_in port_seat.old) (Settled entry agent place) (owner_in port_seat.new))
-        (Does (owner_in port_seat.old) (Found (Step.Settle entry agent place) place 0) (owner_in port_seat.new)) }
+        (Does (owner_in port_seat.old) (Found (AtomicStep.Settle entry agent place) place 0) (owner_in port_seat.new)) }
     ensures after { IsAfter port_seat.new.me.0.history (port_in port_seat.new.me) }
 {
     let old = settle_step(board, port_seat, agent, place, entry);
@@ -113,7 +113,7 @@ fn settle_first(
         × (shown port_seat.new.me
         ≡ solo (granted_to m entry (stands_at ty m left (port_in port_seat.old.me)))))) }
     ensures acts { MatchOption result
-        (Does (owner_in port_seat.old) (Then (SweptFor ty entry agents) (One (Step.Free entry)))
+        (Does (owner_in port_seat.old) (Then (SweptFor ty entry agents) (One (AtomicStep.Free entry)))
         (owner_in port_seat.new))
         (λ m. Does (owner_in port_seat.old) (Then (SweptFor ty entry m) (PromisedAt ty entry m))
         (owner_in port_seat.new)) }
@@ -143,7 +143,7 @@ pub(crate) fn release_entry(
         × (agents ≤ 8) × (entry < 256) × IsOf (port_in port_seat.old.me).shape ty entry }
     ensures table { port_seat.new.table_id ≡ port_seat.old.table_id }
     ensures alone { shown port_seat.new.me ≡ solo (port_in port_seat.new.me) }
-    ensures view { Ended (port_in port_seat.old.me) ty entry result (port_in port_seat.new.me) }
+    ensures view { LeavesHand (port_in port_seat.old.me) ty entry result (port_in port_seat.new.me) }
     ensures acts { Does (owner_in port_seat.old) (ReleaseActs agents ty entry result) (owner_in port_seat.new) }
     ensures after { IsAfter port_seat.new.me.0.history (port_in port_seat.new.me) }
 {

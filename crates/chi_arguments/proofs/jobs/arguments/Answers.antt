@@ -3,7 +3,7 @@ use Rattle.std.proofs.Common.{[], ap, map, subst, ◌∙◌, ◌≡◌}
 use Rattle.std.proofs.lemmas.Result.{err_from_is_err_and}
 use Rattle.clap.specs.Words.{App, HasKind, fault_of, is_simple, is_simple_and_free, subcommand_of, subcommand_rows_of}
 use Rattle.chi_arguments.specs.CommandLines.{command_lines}
-use Rattle.chi_arguments.proofs.Asked.{are_free, are_simple, parsed, refused}
+use Rattle.chi_arguments.proofs.AskedCommand.{are_free, are_simple, parsed, refused}
 use Rattle.chi_arguments.proofs.jobs.arguments.Goals as goal
 
 pub returns-in_err-matches : goal.returns-in_err-matches

@@ -4,7 +4,7 @@ use Rattle.chi_script.specs.Checks.{line_of_check}
 use Rattle.chi_script.specs.Files.{lines_of}
 use Rattle.chi_chart.specs.Charts.{title_of}
 use Rattle.chi_chart.specs.Headings.{lines_behind}
-use Rattle.chi_chart.specs.Played.{Drawing, row_seen}
+use Rattle.chi_chart.specs.Played.{DrawnChart, row_seen}
 use Rattle.chi_chart.specs.Rows.{top}
 use Rattle.chi_chart.proofs.Enough.{chart_if_drawn, drawing_of, same_drawing, top_by}
 use Rattle.chi_chart.proofs.charts.chart_on.Goals as goal
@@ -14,7 +14,7 @@ returns g c =
     let script = c.args.script.now in
     let file = c.args.bytes.now in
     let title = map (λ heading. heading.items) c.in_ok-title.title.items in
-    let d : Drawing = record { config = c.config_of-config.result; checks = map line_of_check c.deref.result.now; part = c.args.part.now; lines = lines_of c.headings.new.self.bytes.now; top = c.in_ok-top.top } in
+    let d : DrawnChart = record { config = c.config_of-config.result; checks = map line_of_check c.deref.result.now; part = c.args.part.now; lines = lines_of c.headings.new.self.bytes.now; top = c.in_ok-top.top } in
     let named : title ≡ title_of file = search (rules, c.in_ok-title.ensures.headings) in
     let left : lines_of c.headings.new.self.bytes.now ≡ lines_behind (lines_of file) = search (rules, c.in_ok-title.ensures.left) in
     let high : c.in_ok-top.top ≡ top title = top_by (λ heading. heading.items) c.in_ok-title.title.items c.len.result c.in_ok-top.top (search (rules, c.in_ok-top.ensures)) (search (rules, c.len.ensures)) in

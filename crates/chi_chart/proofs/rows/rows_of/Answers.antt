@@ -4,19 +4,19 @@ use Rattle.std.proofs.Math.ListN.{drop_of_length-le}
 use Rattle.chi_script.specs.Checks.{line_of_check}
 use Rattle.chi_script.specs.Files.{lines_of}
 use Rattle.chi_script.specs.declared.checks.Check.{Check}
-use Rattle.chi_chart.specs.Played.{Drawing, IsDrawnRun, row_seen}
+use Rattle.chi_chart.specs.Played.{DrawnChart, IsDrawnRun, row_seen}
 use Rattle.chi_chart.proofs.Leads.{Led, led_first, led_further, led_to}
 use Rattle.chi_chart.proofs.rows.rows_of.Goals as goal
 
 pub loop-check-init : goal.loop-check-init
 loop-check-init g c =
     let made = c.in_ok-system.ensures.opening in
-    let d : Drawing = record { config = c.args.config.now; checks = map line_of_check c.args.checks.now; part = c.args.part.now; lines = lines_of c.args.lines.now; top = c.args.top } in
+    let d : DrawnChart = record { config = c.args.config.now; checks = map line_of_check c.args.checks.now; part = c.args.part.now; lines = lines_of c.args.lines.now; top = c.args.top } in
     led_first d made.0 c.in_ok-system.system _ made.1 (search rules)
 
 pub loop-check-preserved : goal.loop-check-preserved
 loop-check-preserved g c =
-    let d : Drawing = record { config = c.args.config.now; checks = map line_of_check c.args.checks.now; part = c.args.part.now; lines = lines_of c.args.lines.now; top = c.args.top } in
+    let d : DrawnChart = record { config = c.args.config.now; checks = map line_of_check c.args.checks.now; part = c.args.part.now; lines = lines_of c.args.lines.now; top = c.args.top } in
     let all = c.args.checks.now in
     let rows = map row_seen c.loop-check.rows.rows.items in
     let n = c.loop-check.check-index in
@@ -30,7 +30,7 @@ loop-check-preserved g c =
 
 pub returns : goal.returns
 returns g c =
-    let d : Drawing = record { config = c.args.config.now; checks = map line_of_check c.args.checks.now; part = c.args.part.now; lines = lines_of c.args.lines.now; top = c.args.top } in
+    let d : DrawnChart = record { config = c.args.config.now; checks = map line_of_check c.args.checks.now; part = c.args.part.now; lines = lines_of c.args.lines.now; top = c.args.top } in
     let all = c.args.checks.now in
     let rows = map row_seen c.loop-check.rows.rows.items in
     let past : length all ≤ c.loop-check.check-index = omega arith in

@@ -1,4 +1,4 @@
-use Rattle.chi_tracker.specs.declared.step.Step.TheVariants.{Spend, Return}
+use Rattle.chi_tracker.specs.declared.step.AtomicStep.TheVariants.{Spend, Return}
 use Rattle.chi_tracker.specs.Calls.{owner_in}
 use Rattle.chi_tracker.proofs.Conduct.{does_one}
 use Rattle.chi_tracker.proofs.paying.pay.Goals as goal

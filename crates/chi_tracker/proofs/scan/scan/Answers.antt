@@ -1,6 +1,6 @@
 use Rattle.std.proofs.Common.{rules, ◌≡◌, ◌+◌, ◌-◌, ◌%◌, refl, ap, arith}
 use Rattle.std.specs.Int.{bit_at}
-use Rattle.chi_tracker.specs.declared.step.Step.TheVariants.{Claim}
+use Rattle.chi_tracker.specs.declared.step.AtomicStep.TheVariants.{Claim}
 use Rattle.chi_tracker.specs.Steps.{shown, port_of}
 use Rattle.chi_tracker.specs.Calls.{owner_in}
 use Rattle.chi_tracker.specs.Conduct.{Found}

@@ -1,4 +1,4 @@
-use Rattle.chi_tracker.specs.declared.step.Step.TheVariants.{Claim}
+use Rattle.chi_tracker.specs.declared.step.AtomicStep.TheVariants.{Claim}
 use Rattle.chi_tracker.specs.History.{port_in}
 use Rattle.chi_tracker.proofs.Advance.{goes_learns}
 use Rattle.chi_tracker.proofs.steps.claim_step.Goals as goal

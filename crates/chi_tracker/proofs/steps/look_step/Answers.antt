@@ -1,4 +1,4 @@
-use Rattle.chi_tracker.specs.declared.step.Step.TheVariants.{Note}
+use Rattle.chi_tracker.specs.declared.step.AtomicStep.TheVariants.{Note}
 use Rattle.chi_tracker.specs.History.{port_in}
 use Rattle.chi_tracker.proofs.Advance.{goes_learns}
 use Rattle.std.proofs.Common.{arith}

@@ -1,5 +1,5 @@
 use Rattle.std.proofs.Common.{rules, ◌≡◌, ◌+◌, ◌<◌, refl, arith}
-use Rattle.chi_tracker.specs.declared.step.Step.TheVariants.{Look}
+use Rattle.chi_tracker.specs.declared.step.AtomicStep.TheVariants.{Look}
 use Rattle.chi_tracker.specs.Steps.{shown, byte_of}
 use Rattle.chi_tracker.specs.Calls.{owner_in}
 use Rattle.chi_tracker.specs.Conduct.{Looked}

@@ -1,6 +1,6 @@
 use Rattle.std.proofs.Common.{rules, ◌≡◌, ◌==◌, Some, cond, refl, ap, ◌∙◌}
 use Rattle.std.specs.Int.{bit_at}
-use Rattle.chi_tracker.specs.declared.step.Step.TheVariants.{Settle, Promise}
+use Rattle.chi_tracker.specs.declared.step.AtomicStep.TheVariants.{Settle, Promise}
 use Rattle.chi_tracker.specs.Steps.{port_of, duty_to}
 use Rattle.chi_tracker.specs.History.{port_in}
 use Rattle.chi_tracker.specs.Calls.{owner_in}

@@ -1,5 +1,5 @@
 use Rattle.std.proofs.Common.{refl, sym, ◌∙◌, subst}
-use Rattle.chi_tracker.specs.declared.step.Step.TheVariants.{Free}
+use Rattle.chi_tracker.specs.declared.step.AtomicStep.TheVariants.{Free}
 use Rattle.chi_tracker.specs.Steps.{shown, port_of, frees}
 use Rattle.chi_tracker.specs.Calls.{Owner, owner_in}
 use Rattle.chi_tracker.specs.Conduct.{Does, One}

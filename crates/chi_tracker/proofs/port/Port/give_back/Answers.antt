@@ -3,12 +3,12 @@ use Rattle.chi_flit.specs.Credit.{credit_number}
 use Rattle.chi_tracker.specs.Shape.{IsOf}
 use Rattle.chi_tracker.specs.Views.{PortView, has}
 use Rattle.chi_tracker.specs.Steps.{shown, port_of, returns_credit}
-use Rattle.chi_tracker.specs.Calls.{IsLowestSeen, Ended}
+use Rattle.chi_tracker.specs.Calls.{IsLowestSeen, LeavesHand}
 use Rattle.chi_tracker.proofs.Entries.{credit_below}
 use Rattle.chi_tracker.proofs.Upkeep.{held_of, owner_is, one_due, in_bounds, word_of, kind_below, returned_held, ended_held, can_pick, lowest_seen, paid_in_hand, paid_in_range, spent_less}
 use Rattle.chi_tracker.proofs.Sweeps.{ended_same, paid_hand}
 use Rattle.chi_tracker.specs.Calls.{Owner, owner_in}
-use Rattle.chi_tracker.specs.declared.step.Step.TheVariants.{Return}
+use Rattle.chi_tracker.specs.declared.step.AtomicStep.TheVariants.{Return}
 use Rattle.chi_tracker.specs.Conduct.{Does, One, Then, ReleaseActs}
 use Rattle.chi_tracker.proofs.Conduct.{give_release}
 use Rattle.chi_tracker.proofs.port.Port.give_back.Goals as goal
@@ -88,7 +88,7 @@ returns-clause-port g c =
     (lowest_seen (shown seat.me) i.number i.shape i.seen i.due t e held (omega (arith, found.within.0, c.first.ensures), omega (arith, found.within.1, c.first.ensures, c.count.ensures)) found.set (λ k le. found.lowest k (omega (arith, le, c.first.ensures)))) in
     let clear = subst (λ (p : PortView). has e p ≡ 0) (sym at) c.pay.ensures.held in
     let after = rw (ap port_of c.pay.ensures.view, c.number-kind.ensures) at c.release_entry-released.ensures.view in
-    let ended = subst (λ (p : PortView). Ended (returns_credit t e p) t e c.release_entry-released.result (port_of (shown c.release_entry-released.new.port_seat.me))) (sym at) after in
+    let ended = subst (λ (p : PortView). LeavesHand (returns_credit t e p) t e c.release_entry-released.result (port_of (shown c.release_entry-released.new.port_seat.me))) (sym at) after in
     (e, low, clear, ended, ended_same (returns_credit t e c.args.self.now.port) t e c.release_entry-released.result (port_of (shown c.release_entry-released.new.port_seat.me)) ended)
 
 pub returns-clause-hand : goal.returns-clause-hand

@@ -2,7 +2,7 @@
 use Rattle.std.proofs.Common.{◌≤◌, get_or, sym, arith, rules}
 use Rattle.chi_script.specs.Headers.{header_of_sizes}
 use Rattle.chi_script.proofs.LimitLemmas.{each_few}
-use Rattle.chi_script.proofs.headers.Sizes.header.Goals as goal
+use Rattle.chi_script.proofs.headers.SizeFields.header.Goals as goal
 
 pub overflow_cast-result-5 : goal.overflow_cast-result-5
 overflow_cast-result-5 c =

@@ -11,13 +11,13 @@ use Rattle.chi_homeline.specs.declared.serving.Waiting.{Waiting}
 use Rattle.chi_homeline.specs.declared.serving.Serving.{Serving}
 use Rattle.chi_homeline.specs.declared.serving.Serving.TheVariants.{Snooping, AwaitingCompAck, AwaitingWriteData}
 use Rattle.chi_homeline.specs.Home.{acks_for, served_slot, waiting_of}
-use Rattle.chi_line.specs.declared.seen.Where.{Where}
-use Rattle.chi_line.specs.declared.seen.Where.TheVariants.{Answered}
-use Rattle.chi_line.specs.declared.seen.Where.TheVariants as places
+use Rattle.chi_line.specs.declared.seen.Position.{Position}
+use Rattle.chi_line.specs.declared.seen.Position.TheVariants.{Answered}
+use Rattle.chi_line.specs.declared.seen.Position.TheVariants as places
 use Rattle.chi_line.specs.LineState.{LineState, rn_of, cells_of}
 use Rattle.chi_line.specs.Kept.{Kept, Lane, LaneKept, is_comp_unique, lane, snoops_for, writes_for}
 use Rattle.chi_line.specs.Step.{is_dbid, is_slot, line_uses, pending_slot, slot_served_for, waiting_slot}
-use Rattle.chi_line.specs.Places.{is_at_home, phase_at, response_at, Seen, agent_seen, sent_at, unasked_at, where_at, where_by}
+use Rattle.chi_line.specs.Places.{is_at_home, phase_at, response_at, RequestsShown, agent_seen, sent_at, unasked_at, position_at, position_by}
 
 -- none of the agent's requests at the line has the slot
 pub record Free (s : LineState) (n : ℕ) (slot : Slot) : Type 0 where
@@ -90,7 +90,7 @@ sent_shows s last n request slot low k pending sent same nowhere =
         let served : slot_served_for s.home.serving n ≡ Some request.slot = lane_sent s.home.serving s.home.filter.unique s.home.filter.owner last n (lane s n) request pending sent hq waits none lanes in
         cc ((or_parts (is_slot (waiting_slot (waiting_of s.home n)) slot) (is_slot (slot_served_for s.home.serving n) slot) hb).1, ap (λ (o : Option Slot). is_slot o slot) served, same)
 
-unasked_none : (x : Seen) (slot : Slot) → unasked_at x slot ≡ None → is_at_home x slot ≡ false
+unasked_none : (x : RequestsShown) (slot : Slot) → unasked_at x slot ≡ None → is_at_home x slot ≡ false
 unasked_none x slot none = go (is_at_home x slot) none
   where
     go : (b : Bool) → (if b then Some Answered else None) ≡ None → b ≡ false
@@ -98,7 +98,7 @@ unasked_none x slot none = go (is_at_home x slot) none
     go false none = refl
 
 -- a slot of which the line shows nothing isn't in use at it
-pub shows_unused : (s : LineState) (last : List ℕ) (n : ℕ) (slot : Slot) → n < 8 → Kept last s → where_at s n slot ≡ None → line_uses s n slot ≡ false
+pub shows_unused : (s : LineState) (last : List ℕ) (n : ℕ) (slot : Slot) → n < 8 → Kept last s → position_at s n slot ≡ None → line_uses s n slot ≡ false
 shows_unused s last n slot low k none = go (rn_of s n).pending refl none
   where
     home : Bool
@@ -110,24 +110,24 @@ shows_unused s last n slot low k none = go (rn_of s n).pending refl none
     at request Sent true pending phase same none = absurd (sent_shows s last n request slot low k pending phase same none)
     at request phase false pending is same none = unasked_none (agent_seen s n) slot none
 
-    go : (p : Option Pending) → (rn_of s n).pending ≡ p → where_by p (agent_seen s n) slot ≡ None → is_slot (pending_slot p) slot || home ≡ false
+    go : (p : Option Pending) → (rn_of s n).pending ≡ p → position_by p (agent_seen s n) slot ≡ None → is_slot (pending_slot p) slot || home ≡ false
     go None pending none = unasked_none (agent_seen s n) slot none
     go (Some request) pending none = at request request.phase (request.slot.0 == slot.0) pending refl refl none
 
 -- a slot that isn't in use at the line doesn't show
-pub unused_shows : (s : LineState) (n : ℕ) (slot : Slot) → line_uses s n slot ≡ false → where_at s n slot ≡ None
+pub unused_shows : (s : LineState) (n : ℕ) (slot : Slot) → line_uses s n slot ≡ false → position_at s n slot ≡ None
 unused_shows s n slot free = go (rn_of s n).pending free
   where
     at : (b : Bool) (phase : Phase) → b || is_at_home (agent_seen s n) slot ≡ false → (if b then phase_at phase (agent_seen s n) slot else unasked_at (agent_seen s n) slot) ≡ None
     at true phase free = absurd (cc (free))
     at false phase free = ap (λ (b : Bool). if b then Some Answered else None) free
 
-    go : (p : Option Pending) → is_slot (pending_slot p) slot || is_at_home (agent_seen s n) slot ≡ false → where_by p (agent_seen s n) slot ≡ None
+    go : (p : Option Pending) → is_slot (pending_slot p) slot || is_at_home (agent_seen s n) slot ≡ false → position_by p (agent_seen s n) slot ≡ None
     go None free = ap (λ (b : Bool). if b then Some Answered else None) free
     go (Some request) free = at (request.slot.0 == slot.0) request.phase free
 
 -- a line shows something of a slot exactly where the slot is in use at it
-pub shows_used : (s : LineState) (n : ℕ) (slot : Slot) (at : Where) → where_at s n slot ≡ Some at → line_uses s n slot ≡ true
+pub shows_used : (s : LineState) (n : ℕ) (slot : Slot) (at : Position) → position_at s n slot ≡ Some at → line_uses s n slot ≡ true
 shows_used s n slot at shows = go (line_uses s n slot) refl
   where
     go : (b : Bool) → line_uses s n slot ≡ b → b ≡ true

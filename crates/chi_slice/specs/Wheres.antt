@@ -1,2 +1,0 @@
--- Where a request is, passed on for the crates above. Declares nothing.
-pub use Rattle.chi_line.specs.declared.seen.Where.TheVariants.{Sent, Refused, Retried, Riding, Admitted, Answered, Closing}
