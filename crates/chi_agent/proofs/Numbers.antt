@@ -3,8 +3,7 @@ use Rattle.std.proofs.Common.{◌≡◌, ℕ, zero, suc, ◌+◌, ◌<◌, List,
 use Rattle.std.specs.List.{range_with_len, remove}
 use Rattle.std.proofs.lemmas.List.{append_assoc, length-map, map-append}
 use Rattle.std.proofs.lemmas.List.FromFn.{map-range_with_len_more}
-use Rattle.atomic_table.specs.Seated.{TableId}
-use Rattle.chi_tracker.specs.declared.shape.Shape.{Shape}
+use Rattle.chi_node.specs.Words.{TableId, Shape}
 use Rattle.chi_node.specs.Requester.{RequesterState, opening_requester}
 use Rattle.chi_node.specs.Parts.{opening_requesters}
 use Rattle.chi_audit.specs.Numbers.{numbers}

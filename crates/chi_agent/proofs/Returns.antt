@@ -5,7 +5,7 @@ use Rattle.std.specs.List.{remove, slice_index_or}
 use Rattle.chi_node.specs.Requester.{RequesterState}
 use Rattle.chi_node.specs.Calls.{IsSameRequester}
 use Rattle.chi_node.specs.Node.{AreOwn, IsOwn, NodeState}
-use Rattle.atomic_table.specs.Seated.{TableId}
+use Rattle.chi_node.specs.Words.{TableId}
 use Rattle.chi_audit.specs.Tallies.{IsFresh}
 use Rattle.chi_agent.specs.Script.{AreFresh, ScriptState}
 use Rattle.chi_agent.specs.Ended.{AreSame}

@@ -5,11 +5,8 @@ use Rattle.std.specs.List.{position_or_len}
 use Rattle.std.proofs.lemmas.List.Sums.{position_or_len_is}
 use Rattle.std.proofs.lemmas.Bool.{lt-ltb}
 use Rattle.chi_flit.specs.declared.numbers.Slot.{Slot}
-use Rattle.chi_credit.specs.declared.slot.SlotState.{SlotState}
-use Rattle.chi_credit.specs.declared.slot.SlotState.TheVariants.{Idle, Sent, Refused, Retried, Riding, Admitted, Closing, Cancelled}
-use Rattle.chi_credit.specs.declared.slot.SlotRecord.{SlotRecord}
-use Rattle.chi_credit.specs.Slot.{idle_slot, is_idle_state}
-use Rattle.chi_credit.specs.Account.{state_at, IsLowestIdle}
+use Rattle.chi_node.specs.Words.{SlotState, SlotRecord, idle_slot, is_idle_state, state_at, IsLowestIdle}
+use Rattle.chi_node.specs.SlotStates.{Idle, Sent, Refused, Retried, Riding, Admitted, Closing, Cancelled}
 use Rattle.chi_agent.specs.Choice.{is_idle_slot, lowest_idle_slot}
 
 not_idle : (state : SlotState) → state ≢ Idle → is_idle_state state ≡ false

@@ -22,10 +22,7 @@ use Rattle.chi_flit.specs.State.{is_valid}
 use Rattle.chi_slice.specs.Words.{is_clean_copy, pending_credit, resend_refusal, rn_of, Pending, Phase, Rn, Sizes}
 use Rattle.chi_slice.specs.Phases.{Sent, Retried}
 use Rattle.chi_slice.specs.Slice.{SliceState, are_in_range, line, action_refusal}
-use Rattle.chi_tracker.specs.Calls.{seen_of}
-use Rattle.chi_credit.specs.declared.slot.SlotRecord.{SlotRecord}
-use Rattle.chi_credit.specs.Slot.{is_idle_state}
-use Rattle.chi_credit.specs.Account.{riding_of}
+use Rattle.chi_node.specs.Words.{seen_of, SlotRecord, is_idle_state, riding_of}
 use Rattle.chi_node.specs.Calls.{arrival_refusal, is_own_step}
 use Rattle.chi_node.specs.Requester.{RequesterState}
 use Rattle.chi_agent.specs.declared.choice.Call.{Call}

@@ -7,7 +7,7 @@ use Rattle.chi_flit.specs.declared.refusal.Refusal.{Refusal}
 use Rattle.chi_flit.specs.declared.refusal.Refusal.TheVariants.{NotOpen}
 use Rattle.chi_slice.specs.Words.{Sizes}
 use Rattle.chi_slice.specs.Slice.{SliceState}
-use Rattle.chi_tracker.specs.declared.released.Released.{Released}
+use Rattle.chi_node.specs.Words.{Released}
 use Rattle.chi_node.specs.Agree.{KeepsAgreement}
 use Rattle.chi_node.specs.Credits.{GivesBack, Sees, Tends}
 use Rattle.chi_node.specs.Node.{IsSliceOf}

@@ -1,6 +1,6 @@
 -- A script, and whose it is (docs/FORMATS.md, "A turn").
 use Rattle.std.specs.Prelude.{ℕ, List, All, map}
-use Rattle.atomic_table.specs.Seated.{TableId}
+use Rattle.chi_node.specs.Words.{TableId}
 use Rattle.chi_flit.specs.declared.operation.Operation.{Operation}
 use Rattle.chi_audit.specs.Tallies.{WriterState, IsFresh}
 

@@ -9,9 +9,8 @@ use Rattle.chi_flit.specs.declared.numbers.Line.{Line}
 use Rattle.chi_flit.specs.declared.refusal.Refusal.{Refusal}
 use Rattle.chi_flit.specs.declared.refusal.Refusal.TheVariants as refusals
 use Rattle.chi_slice.specs.Slice.{SliceState}
-use Rattle.chi_credit.specs.declared.slot.SlotState.TheVariants.{Idle}
-use Rattle.chi_credit.specs.declared.slot.SlotRecord.{SlotRecord}
-use Rattle.chi_credit.specs.Account.{state_at}
+use Rattle.chi_node.specs.SlotStates.{Idle}
+use Rattle.chi_node.specs.Words.{SlotRecord, state_at}
 use Rattle.chi_node.specs.declared.answers.Arrived.{Arrived}
 use Rattle.chi_node.specs.declared.answers.Stepped.{Stepped}
 use Rattle.chi_node.specs.Agree.{Agree}

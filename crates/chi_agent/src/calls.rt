@@ -9,9 +9,8 @@ ghost use Rattle.chi_agent.specs.Turns.{action_by, ArrivalTried, ChoiceTried, St
 
 use crate::choice::{Call, Choice};
 use chi_flit::{Action, Line, Refusal, Step};
-use chi_node::{Requester, arrive_on, step_on};
+use chi_node::{Requester, Tracker, arrive_on, step_on};
 use chi_slice::Slice;
-use chi_tracker::Tracker;
 use std::alloc::Allocator;
 
 /// The requester tries a step at the line; why it was refused.

@@ -10,11 +10,9 @@ ghost use Rattle.chi_agent.specs.Turns.{after_issue, after_refusal, player_after
 use crate::calls::perform;
 use crate::choice::{Choice, choose, line_of};
 use crate::operations::{OperationPlace, Operations};
-use chi_credit::SlotState;
 use chi_flit::{Kind, Line, Refusal, Slot, Step};
-use chi_node::Requester;
+use chi_node::{Requester, SlotState, Tracker};
 use chi_slice::Slice;
-use chi_tracker::Tracker;
 use std::alloc::Allocator;
 
 /// An agent that plays its script: its requester, the operations that aren't finished, and what it met.

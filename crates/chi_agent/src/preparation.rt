@@ -9,8 +9,7 @@ ghost use Rattle.chi_node.specs.Requester.{give_back_refusal, tend_refusal};
 ghost use Rattle.chi_agent.specs.Lives.{tended_type, GivesBackIf, GivesBackSeen, GivesEach, Prepares, TendsIf};
 
 use chi_flit::{CreditType, Profile};
-use chi_node::Requester;
-use chi_tracker::Tracker;
+use chi_node::{Requester, Tracker};
 use std::alloc::Allocator;
 
 /// Gives back a credit of the type, if that isn't refused.

@@ -17,9 +17,8 @@ use crate::player::Player;
 use crate::progress::Progress;
 use crate::scripts::Script;
 use chi_audit::Tallies;
-use chi_node::{Node, Requester};
+use chi_node::{Node, Requester, Tracker};
 use chi_slice::Slice;
-use chi_tracker::Tracker;
 use std::alloc::Allocator;
 use std::sync::Wait;
 

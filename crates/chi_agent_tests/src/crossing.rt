@@ -10,9 +10,8 @@ use chi_flit::Step::{
     self, Issue, Load, RecvAck, RecvData, RecvDbid, RecvSnp, RecvSnpResp, RecvWrData, Start, Store,
 };
 use chi_flit::{Effect, Entry, Line, Slot, State, WordNo};
-use chi_node::{Arrived, Node, Stepped};
+use chi_node::{Arrived, Node, Released, Stepped};
 use chi_slice::{Config, LineView, Serving};
-use chi_tracker::Released;
 use std::process::Abort;
 use std::sync::Wait;
 

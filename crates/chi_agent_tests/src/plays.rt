@@ -4,11 +4,9 @@ ghost use Rattle.std.specs.Prelude.{◌≡◌, [], ◌∷◌};
 ghost use Rattle.chi_slice.specs.Words.{two_types};
 
 use chi_agent::{Operations, Player};
-use chi_credit::SlotState;
 use chi_flit::{Line, Operation, Slot, Task, WordNo};
-use chi_node::parts;
+use chi_node::{SlotState, Tracker, parts};
 use chi_slice::{Config, Slice};
-use chi_tracker::Tracker;
 use std::alloc::Global;
 use std::marker::Model;
 use std::process::Abort;
@@ -24,7 +22,7 @@ struct Table {
 impl Model for Table {
     ghost use Rattle.std.specs.Prelude.{ℕ, ◌≡◌, [], ◌∷◌};
     ghost use Rattle.chi_flit.specs.declared.credit.Profile.TheVariants.{Two};
-    ghost use Rattle.chi_tracker.specs.Calls.{shape_of};
+    ghost use Rattle.chi_node.specs.Words.{shape_of};
 
     ghost Value = { ℕ };
 

@@ -1,9 +1,8 @@
 -- What was played leads on: whatever answers the commands that are left get, the rows are those of a run; and
 -- they stand one below the other.
 use Rattle.std.proofs.Common.{◌≡◌, ℕ, Bool, true, false, List, [], ◌∷◌, ◌++◌, refl, sym, ◌∙◌, ap, subst, append_assoc, append-nil}
-use Rattle.atomic_table.specs.Seated.{TableId}
+use Rattle.chi_node.specs.Words.{TableId, PortView}
 use Rattle.chi_script.specs.Checks.{CheckLine}
-use Rattle.chi_tracker.specs.Views.{PortView}
 use Rattle.chi_node.specs.System.{SystemState, opening_system}
 use Rattle.chi_replay.specs.Checks.{commands_in}
 use Rattle.chi_replay.specs.Session.{machine_of, ports_of}

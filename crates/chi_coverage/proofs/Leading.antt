@@ -2,10 +2,9 @@
 -- count of a run.
 use Rattle.std.proofs.Common.{◌≡◌, ℕ, List, [], ◌∷◌, ◌++◌, Option, Result, Ok, Err, OnOk, refl, sym, ◌∙◌, ap, subst}
 use Rattle.std.specs.List.{flat_map}
-use Rattle.atomic_table.specs.Seated.{TableId}
+use Rattle.chi_node.specs.Words.{TableId, PortView}
 use Rattle.chi_script.specs.declared.commands.Command.{Command}
 use Rattle.chi_slice.specs.Words.{LineView, Sizes}
-use Rattle.chi_tracker.specs.Views.{PortView}
 use Rattle.chi_node.specs.System.{SystemState, opening_system}
 use Rattle.chi_replay.specs.Session.{SaysTurn, machine_of, ports_of}
 use Rattle.chi_replay.specs.Texts.{MayAnswer, Ending, opening_ports}

@@ -9,17 +9,11 @@ use Rattle.chi_flit.specs.declared.message.Msg.TheVariants as messages
 use Rattle.chi_flit.specs.declared.message.RspUp.{RspUp}
 use Rattle.chi_flit.specs.declared.message.RspUp.TheVariants.{CompAck, SnpRespI, SnpRespSC}
 use Rattle.chi_flit.specs.declared.numbers.Agent.{Agent}
-use Rattle.chi_filter.specs.Filter.{has_any}
-use Rattle.chi_homeline.specs.declared.serving.Serving.{Serving}
-use Rattle.chi_homeline.specs.declared.serving.Serving.TheVariants.{AwaitingCompAck, AwaitingWriteData, Idle, Snooping}
-use Rattle.chi_homeline.specs.declared.serving.SnoopAnswer.{SnoopAnswer}
-use Rattle.chi_homeline.specs.declared.serving.SnoopAnswer.TheVariants as answers
-use Rattle.chi_homeline.specs.Home.{Home, answer_taken, finished_as, home_after_completion, memory_after, snoop_answered}
-use Rattle.chi_line.specs.Step.{after_step, answered_by, data_answer, response_answer, where_some}
-use Rattle.chi_line.specs.Traffic.{flits_sent}
+use Rattle.chi_slice.specs.Words.{has_any, Serving, SnoopAnswer, Home, answer_taken, finished_as, home_after_completion, memory_after, snoop_answered, after_step, answered_by, data_answer, response_answer, where_some, flits_sent, LineState, cells_of, flit_of}
+use Rattle.chi_slice.specs.Servings.{AwaitingCompAck, AwaitingWriteData, Idle, Snooping}
+use Rattle.chi_slice.specs.SnoopAnswers as answers
 use Rattle.chi_slice.specs.Sendings.{answer_message, completion_sent, message_taken, words_sent}
 use Rattle.chi_slice.specs.Traffic.{flits_in}
-use Rattle.chi_slice.specs.Words.{LineState, cells_of, flit_of}
 use Rattle.chi_slice.proofs.Sendings.{sends}
 use Rattle.chi_library.specs.declared.flits.ChiFlit.{ChiFlit}
 use Rattle.chi_library.specs.Flits.{taken_told}

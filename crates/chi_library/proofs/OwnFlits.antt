@@ -20,26 +20,11 @@ use Rattle.chi_flit.specs.declared.snoop.Snoop.TheVariants.{SnpCleanInvalid, Snp
 use Rattle.chi_flit.specs.Kind.{snoop_of}
 use Rattle.chi_flit.specs.Message.{write_data_of}
 use Rattle.chi_flit.specs.Snoop.{answer_of}
-use Rattle.chi_filter.specs.Filter.{has_any}
-use Rattle.chi_wires.specs.Cell.{no_flits, with_message}
-use Rattle.chi_wires.specs.Flits.{cells_at}
-use Rattle.chi_homeline.specs.declared.serving.Serving.{Serving}
-use Rattle.chi_homeline.specs.declared.serving.Serving.TheVariants.{Idle, Snooping}
-use Rattle.chi_homeline.specs.declared.serving.Started.TheVariants.{Sends, Snoops}
-use Rattle.chi_homeline.specs.declared.serving.Waiting.{Waiting}
-use Rattle.chi_homeline.specs.Home.{Home, asks, completion_of, home_after_completion, started_as, started_sends_as, taken_up, waiting_of}
-use Rattle.chi_line.specs.declared.act.Conditions.{Conditions}
-use Rattle.chi_line.specs.Kept.{Kept, Lane, LaneKept, bit, is_dbid, is_retried, lane, snoops_for}
-use Rattle.chi_line.specs.Refused.{retry_refusal, step_refusal}
-use Rattle.chi_line.specs.Step.{after_step, completion_received, dbid_received_line, flits_after_start, issued_line, received_line, resent_line, retried_line, snooped_line, started_line, where_some}
-use Rattle.chi_line.specs.Traffic.{completion_ack, flits_sent, request_again, retry_ack, snoop_answer, start_flits, started_flits}
-use Rattle.chi_line.proofs.After.{IsRetried, dbid_there, flit_there, may_resend}
-use Rattle.chi_line.proofs.CopyKeeps.{IsSnooping, is_snooping, snoop_no_response}
-use Rattle.chi_line.proofs.CopyTables.{AnswerRow, answer_row, is_up}
-use Rattle.chi_line.proofs.Finds.{idle_is, response_finds_pending}
-use Rattle.chi_line.proofs.Sends.{CanStart, can_start}
+use Rattle.chi_slice.specs.Words.{has_any, no_flits, with_message, cells_at, Serving, Waiting, Home, asks, completion_of, home_after_completion, started_as, started_sends_as, taken_up, waiting_of, Conditions, Kept, Lane, LaneKept, bit, is_dbid, is_retried, lane, snoops_for, retry_refusal, step_refusal, after_step, completion_received, dbid_received_line, flits_after_start, issued_line, received_line, resent_line, retried_line, snooped_line, started_line, where_some, completion_ack, flits_sent, request_again, retry_ack, snoop_answer, start_flits, started_flits, Cells, Flit, LineState, Pending, cell_of, cells_of, flit, flit_of, rn_of}
+use Rattle.chi_slice.specs.Servings.{Idle, Snooping}
+use Rattle.chi_slice.specs.Starts.{Sends, Snoops}
+use Rattle.chi_slice.proofs.Passed.{IsRetried, dbid_there, flit_there, may_resend, IsSnooping, is_snooping, snoop_no_response, AnswerRow, answer_row, is_up, idle_is, response_finds_pending, CanStart, can_start}
 use Rattle.chi_slice.specs.Sendings.{message_taken}
-use Rattle.chi_slice.specs.Words.{Cells, Flit, LineState, Pending, cell_of, cells_of, flit, flit_of, rn_of}
 use Rattle.chi_library.specs.Flits.{taken_told}
 use Rattle.chi_library.specs.Standing.{ack_on, down_on, line_standing, message_on, snoops_standing, start_standing, up_on}
 

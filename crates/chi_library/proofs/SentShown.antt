@@ -5,13 +5,9 @@ use Rattle.chi_flit.specs.declared.action.Step.{Step}
 use Rattle.chi_flit.specs.declared.action.Step.TheVariants as steps
 use Rattle.chi_flit.specs.declared.refusal.Refusal.{Refusal}
 use Rattle.chi_flit.specs.declared.refusal.Refusal.TheVariants.{OutOfRange}
-use Rattle.chi_line.specs.declared.act.Conditions.{Conditions}
-use Rattle.chi_line.specs.Kept.{Kept}
-use Rattle.chi_line.specs.Refused.{line_refusal, step_refusal}
-use Rattle.chi_line.specs.Step.{after, after_step}
+use Rattle.chi_slice.specs.Words.{Conditions, Kept, line_refusal, step_refusal, after, after_step, LineState, Serving, cells_of, flit_of, flit_taken, flits_sent}
 use Rattle.chi_slice.specs.Sendings.{message_taken}
 use Rattle.chi_slice.specs.Slice.{SliceKept, SliceState, action_refusal, conditions_under, flits_refusal, is_in_range, last_of, line, no_terms, row_of_line, slice_after}
-use Rattle.chi_slice.specs.Words.{LineState, Serving, cells_of, flit_of, flit_taken, flits_sent}
 use Rattle.chi_slice.proofs.Rows.{InRange, in_range}
 use Rattle.chi_slice.proofs.Sendings.{takes, unseen_refused}
 use Rattle.chi_slice.proofs.Slices.{line_in_row-with_line}

@@ -1,6 +1,6 @@
 -- What the calls on a node refuse, do and tell, by C's numbers (docs/LIBRARY.md, "A node").
 use Rattle.std.specs.Prelude.{◌≡◌, ℕ, [], ◌∷◌, Bool, true, false, Option, Some, None, replicate}
-use Rattle.atomic_table.specs.Seated.{TableId}
+use Rattle.chi_node.specs.Words.{TableId, Released, Counts}
 use Rattle.chi_flit.specs.declared.action.Action.{Action}
 use Rattle.chi_flit.specs.declared.credit.CreditType.{CreditType}
 use Rattle.chi_flit.specs.declared.numbers.Agent.{Agent}
@@ -16,9 +16,7 @@ use Rattle.chi_node.specs.Calls.{is_own_step}
 use Rattle.chi_slice.specs.Audits.{IsAudited}
 use Rattle.chi_node.specs.Home.{node_flits_refusal, node_last, node_line, node_view_refusal}
 use Rattle.chi_node.specs.System.{SystemState, opening_system, agent_refusal, arrive_refusal, give_back_refusal_in, system_step_refusal, tend_refusal_in, ArrivesIn, GivesBackIn, Glances, SeesIn, StepsIn, TendsIn}
-use Rattle.chi_tracker.specs.declared.released.Released.{Released}
-use Rattle.chi_tracker.specs.declared.totals.Counts.{Counts}
-use Rattle.chi_tracker.specs.declared.released.Released.TheVariants.{Granted, Freed}
+use Rattle.chi_node.specs.Releases.{Granted, Freed}
 use Rattle.chi_library.specs.declared.actions.ChiAction.{ChiAction}
 use Rattle.chi_library.specs.declared.actions.ChiEffect.{ChiEffect}
 use Rattle.chi_library.specs.declared.node_told.ChiArrival.{ChiArrival}

@@ -3,8 +3,7 @@
 ghost use Rattle.std.specs.Prelude.{◌≡◌};
 ghost use Rattle.chi_library.specs.NodeCalls.{arrival_told, release_if, release_told, counts_told};
 
-use chi_node::Arrived;
-use chi_tracker::{Counts, Released};
+use chi_node::{Arrived, Counts, Released};
 
 /// What an arrival came to: `ChiArrival` of `chihome.h`.
 /// Source: `docs/PROTOCOL.md`, "A requester and its calls", Arrival.

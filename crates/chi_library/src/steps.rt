@@ -4,7 +4,7 @@ ghost use Rattle.std.specs.Prelude.{◌≡◌, ◌∷◌, [], IfOk, OnErr, OnOk,
 ghost use Rattle.chi_flit.specs.Kind.{snoop_of};
 ghost use Rattle.chi_flit.specs.Refusal.{refusal_of};
 ghost use Rattle.chi_flit.specs.declared.action.Step.TheVariants as steps;
-ghost use Rattle.chi_homeline.specs.Home.{completion_message};
+ghost use Rattle.chi_slice.specs.Words.{completion_message, answer_in, cell_of, effect_of, flit, flit_of, flit_taken, flits_sent, is_step_in_range, snoop_flits};
 ghost use Rattle.chi_library.specs.Actions.{action_of, no_effect};
 ghost use Rattle.chi_library.specs.Calls.{answer_number, output_of, state_after};
 ghost use Rattle.chi_library.specs.Flits.{no_sent, sent_told, taken_told};
@@ -15,7 +15,6 @@ ghost use Rattle.chi_library.specs.Standing.{ack_on, answer_listed, down_on, lis
 ghost use Rattle.chi_slice.specs.Sendings.{answer_message, completion_sent, message_taken};
 ghost use Rattle.chi_slice.specs.Slice.{CanAct, IsRow, action_refusal, line as line_of_slice, slice_after, slice_after_try};
 ghost use Rattle.chi_slice.specs.Traffic.{flits_in};
-ghost use Rattle.chi_slice.specs.Words.{answer_in, cell_of, effect_of, flit, flit_of, flit_taken, flits_sent, is_step_in_range, snoop_flits};
 
 use crate::actions::{ChiAction, ChiEffect, action_at, tell_effect};
 use crate::answers::{CLOSED, DONE, OUT_OF_RANGE};

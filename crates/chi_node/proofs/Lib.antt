@@ -19,3 +19,4 @@ pub mod Credits
 pub mod Headlines
 pub mod Nodes
 pub mod Ports
+pub mod Passed

@@ -12,3 +12,6 @@ pub mod System
 pub mod Headline
 pub mod Locked
 pub mod Node
+pub mod Words
+pub mod SlotStates
+pub mod Releases

@@ -8,10 +8,7 @@ use Rattle.chi_flit.specs.declared.refusal.Refusal.{Refusal}
 use Rattle.chi_flit.specs.declared.refusal.Refusal.TheVariants.{OutOfRange}
 use Rattle.chi_flit.specs.Credit.{credit_number}
 use Rattle.chi_flit.specs.Refusal.{refusal_of}
-use Rattle.chi_tracker.specs.declared.released.Released.{Released}
-use Rattle.chi_credit.specs.declared.slot.SlotRecord.{SlotRecord}
-use Rattle.chi_credit.specs.Slot.{idle_slot}
-use Rattle.chi_credit.specs.Account.{lowest_cancelled}
+use Rattle.chi_node.specs.Words.{Released, SlotRecord, idle_slot, lowest_cancelled}
 use Rattle.chi_node.specs.Requester.{RequesterState}
 use Rattle.chi_node.specs.Home.{HomeState}
 use Rattle.chi_node.specs.System.{GivesBackIn, IsSystem, SeesIn, SystemState, TendsIn, agent_refusal, give_back_refusal_in, requester_of, tend_refusal_in}

@@ -1,12 +1,11 @@
 -- A run of the commands of lines, each played as soon as it is read.
 use Rattle.std.proofs.Common.{◌≡◌, ℕ, ◌+◌, ◌==◌, true, List, [], ◌∷◌, ◌++◌, length, Result, Ok, Err, refl, sym, subst, append_assoc, append-nil}
-use Rattle.atomic_table.specs.Seated.{TableId}
+use Rattle.chi_node.specs.Words.{TableId, PortView}
 use Rattle.chi_script.specs.declared.commands.Command.{Command}
 use Rattle.chi_script.specs.declared.faults.Fault.{Fault}
 use Rattle.chi_script.specs.Files.{command_at, commands_of, lines_of}
 use Rattle.chi_script.proofs.CommandLoop.{with_front, goes_on, is_done}
 use Rattle.chi_slice.specs.Words.{Sizes}
-use Rattle.chi_tracker.specs.Views.{PortView}
 use Rattle.chi_node.specs.System.{SystemState, opening_system}
 use Rattle.chi_replay.specs.Session.{machine_of, ports_of}
 use Rattle.chi_replay.specs.Turns.{Machine, turn}

@@ -4,8 +4,7 @@ use Rattle.std.proofs.lemmas.Option.{slice_get-get_or}
 use Rattle.std.proofs.Math.ListN.{set}
 use Rattle.std.specs.Prelude.{Some, slice_get}
 use Rattle.chi_flit.specs.declared.numbers.Agent.{Agent}
-use Rattle.chi_tracker.specs.Views.{PortView}
-use Rattle.chi_credit.specs.declared.slot.SlotRecord.{SlotRecord}
+use Rattle.chi_node.specs.Words.{PortView, SlotRecord}
 use Rattle.chi_node.specs.Requester.{RequesterState, no_requester}
 use Rattle.chi_node.specs.Home.{HomeState}
 use Rattle.chi_node.specs.System.{IsSystem, OthersStay, SystemState, requester_of}

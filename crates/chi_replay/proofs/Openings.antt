@@ -4,14 +4,7 @@ use Rattle.std.proofs.lemmas.Nat.Bits.{bit_at-zero}
 use Rattle.std.specs.Prelude.{slice_index}
 use Rattle.std.specs.Int.{bit_at}
 use Rattle.std.specs.List.{range_with_len}
-use Rattle.atomic_table.specs.Seated.{TableId}
-use Rattle.chi_tracker.specs.declared.shape.Shape.{Shape}
-use Rattle.chi_tracker.specs.Sums.{set_at}
-use Rattle.chi_tracker.specs.Shape.{low, size}
-use Rattle.chi_tracker.specs.Views.{PortView, new_port, new_ports}
-use Rattle.chi_tracker.specs.Calls.{set_count, shape_of}
-use Rattle.chi_credit.specs.declared.slot.SlotRecord.{SlotRecord}
-use Rattle.chi_credit.specs.Account.{all_idle}
+use Rattle.chi_node.specs.Words.{TableId, Shape, set_at, low, size, PortView, new_port, new_ports, set_count, shape_of, SlotRecord, all_idle}
 use Rattle.chi_slice.specs.Words.{Sizes}
 use Rattle.chi_node.specs.Parts.{opening_requesters}
 use Rattle.chi_node.specs.Requester.{RequesterState, opening_requester}

@@ -30,8 +30,8 @@ use Rattle.chi_flit.specs.Snoop.{snoop_text}
 use Rattle.chi_flit.specs.State.{state_text}
 use Rattle.chi_slice.specs.Words.{Cells, LineView, Serving}
 use Rattle.chi_slice.specs.Servings as servings
-use Rattle.chi_tracker.specs.declared.released.Released.{Released}
-use Rattle.chi_tracker.specs.declared.released.Released.TheVariants.{Granted, Freed}
+use Rattle.chi_node.specs.Words.{Released}
+use Rattle.chi_node.specs.Releases.{Granted, Freed}
 use Rattle.chi_slice.specs.declared.audits.Audit.{Audit}
 use Rattle.chi_reply.specs.declared.credits.SeenCredits.{SeenCredits}
 use Rattle.chi_reply.specs.declared.replies.Reply.{Reply}

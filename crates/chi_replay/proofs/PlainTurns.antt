@@ -11,9 +11,8 @@ use Rattle.chi_flit.specs.declared.numbers.Line.{Line}
 use Rattle.chi_flit.specs.declared.numbers.Slot.{Slot}
 use Rattle.chi_flit.specs.declared.refusal.Refusal.{Refusal}
 use Rattle.chi_flit.specs.declared.refusal.Refusal.TheVariants.{OutOfRange}
-use Rattle.chi_credit.specs.declared.slot.SlotState.{SlotState}
-use Rattle.chi_credit.specs.declared.slot.SlotState.TheVariants as states
-use Rattle.chi_credit.specs.Account.{state_at}
+use Rattle.chi_node.specs.Words.{SlotState, state_at}
+use Rattle.chi_node.specs.SlotStates as states
 use Rattle.chi_slice.specs.Words.{cells_of, effect_of, line_view as shown_line}
 use Rattle.chi_node.specs.Calls.{arrival_refusal}
 use Rattle.chi_node.specs.Home.{node_flits_refusal, node_last, node_line, slice_of, node_view_refusal}

@@ -1,6 +1,6 @@
 -- What was played, as the text makes it.
 use Rattle.std.proofs.Common.{◌≡◌, ℕ, List, [], ◌∷◌, ◌++◌, sym, ◌∙◌, ap}
-use Rattle.chi_tracker.specs.Views.{PortView}
+use Rattle.chi_node.specs.Words.{PortView}
 use Rattle.chi_replay.specs.Turns.{TurnAnswer, Asks, Ends, Machine, Turn}
 use Rattle.chi_replay.specs.Texts.{Plays, ending}
 

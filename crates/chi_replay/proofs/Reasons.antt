@@ -9,14 +9,11 @@ use Rattle.chi_flit.specs.declared.credit.CreditType.{CreditType}
 use Rattle.chi_flit.specs.declared.refusal.Refusal.{Refusal}
 use Rattle.chi_flit.specs.declared.refusal.Refusal.TheVariants.{NoCredit, OutOfRange}
 use Rattle.chi_flit.specs.Credit.{credit_number}
-use Rattle.chi_tracker.specs.Calls.{seen_of}
-use Rattle.chi_tracker.specs.Shape.{low}
-use Rattle.chi_tracker.proofs.Entries.{credit_below}
+use Rattle.chi_node.specs.Words.{seen_of, low, lowest_cancelled, riding_of, SlotRecord}
+use Rattle.chi_node.proofs.Passed.{credit_below}
 use Rattle.chi_slice.specs.Words.{Sizes}
 use Rattle.chi_slice.specs.Slice.{SliceState, are_in_range, is_in_range, is_line_in_range}
 use Rattle.chi_slice.proofs.Rows.{both}
-use Rattle.chi_credit.specs.Account.{lowest_cancelled, riding_of}
-use Rattle.chi_credit.specs.declared.slot.SlotRecord.{SlotRecord}
 use Rattle.chi_node.specs.Parts.{is_of_profile}
 use Rattle.chi_node.specs.Requester.{RequesterState, has_entries_of, no_requester}
 use Rattle.chi_node.specs.Requester as requester

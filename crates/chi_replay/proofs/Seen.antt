@@ -8,13 +8,8 @@ use Rattle.std.specs.Int.{bit_at}
 use Rattle.chi_flit.specs.declared.credit.CreditType.{CreditType}
 use Rattle.chi_flit.specs.declared.credit.CreditType.TheVariants.{T0, T1, T2, T3}
 use Rattle.chi_flit.specs.Credit.{credit_number}
-use Rattle.chi_tracker.specs.declared.shape.Shape.{Shape}
-use Rattle.chi_tracker.specs.Sums.{set_at, take_out}
-use Rattle.chi_tracker.specs.Shape.{count_of, low, size}
-use Rattle.chi_tracker.specs.Views.{PortView}
-use Rattle.chi_tracker.specs.Calls.{HasOneLess, IsLowestSeen, seen_of, set_count}
-use Rattle.chi_tracker.proofs.BitLaws.{taken_else, taken_here}
-use Rattle.chi_tracker.proofs.Entries.{count_kept, count_moved, credit_below, in_range}
+use Rattle.chi_node.specs.Words.{Shape, set_at, take_out, count_of, low, size, PortView, HasOneLess, IsLowestSeen, seen_of, set_count}
+use Rattle.chi_node.proofs.Passed.{taken_else, taken_here, count_kept, count_moved, credit_below, in_range}
 use Rattle.chi_replay.specs.Ports.{seen_counts}
 use Rattle.chi_replay.specs.Turns.{less_one}
 

@@ -16,18 +16,10 @@ use Rattle.chi_flit.specs.declared.message.Request.{Request}
 use Rattle.chi_flit.specs.declared.refusal.Refusal.{Refusal}
 use Rattle.chi_flit.specs.Credit.{credit_number}
 use Rattle.chi_flit.specs.Refusal.{refusal_of}
-use Rattle.chi_tracker.specs.declared.released.Released.{Released}
-use Rattle.chi_tracker.specs.declared.totals.Counts.{Counts}
-use Rattle.chi_tracker.specs.Views.{PortView}
-use Rattle.chi_tracker.specs.Shape.{low, size}
-use Rattle.chi_tracker.specs.Calls.{owed_one, port_after_scan}
+use Rattle.chi_node.specs.Words.{Released, Counts, PortView, low, size, owed_one, port_after_scan, SlotRecord, SlotState, after_finish, slots_with_state, slot_record_at, state_at}
 use Rattle.chi_slice.specs.Words.{cells_of}
 use Rattle.chi_slice.specs.Slice.{SliceState}
-use Rattle.chi_credit.specs.declared.slot.SlotRecord.{SlotRecord}
-use Rattle.chi_credit.specs.declared.slot.SlotState.{SlotState}
-use Rattle.chi_credit.specs.declared.slot.SlotState.TheVariants as states
-use Rattle.chi_credit.specs.Slot.{after_finish}
-use Rattle.chi_credit.specs.Account.{slots_with_state, slot_record_at, state_at}
+use Rattle.chi_node.specs.SlotStates as states
 use Rattle.chi_node.specs.declared.answers.Arrived.{Arrived}
 use Rattle.chi_node.specs.declared.answers.Arrived.TheVariants.{Admitted, Retried}
 use Rattle.chi_node.specs.declared.answers.Stepped.{Stepped}

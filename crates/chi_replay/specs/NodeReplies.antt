@@ -4,8 +4,7 @@ use Rattle.chi_flit.specs.declared.action.Effect.{Effect}
 use Rattle.chi_flit.specs.declared.action.Effect.TheVariants as effects
 use Rattle.chi_flit.specs.declared.refusal.Refusal.{Refusal}
 use Rattle.chi_flit.specs.declared.credit.Profile.{Profile}
-use Rattle.chi_tracker.specs.declared.released.Released.{Released}
-use Rattle.chi_tracker.specs.declared.totals.Counts.{Counts}
+use Rattle.chi_node.specs.Words.{Released, Counts}
 use Rattle.chi_node.specs.declared.answers.Arrived.{Arrived}
 use Rattle.chi_node.specs.declared.answers.Arrived.TheVariants as arrivals
 use Rattle.chi_node.specs.declared.answers.Stepped.{Stepped}

@@ -4,12 +4,8 @@ use Rattle.std.specs.Prelude.{◌≡◌, ℕ, ◌<◌, ◌≤◌, List, [], ◌�
 use Rattle.chi_flit.specs.declared.numbers.Entry.{Entry}
 use Rattle.chi_flit.specs.declared.credit.CreditType.{CreditType}
 use Rattle.chi_flit.specs.Credit.{credit_number}
-use Rattle.chi_tracker.specs.declared.released.Released.{Released}
-use Rattle.chi_tracker.specs.Sums.{set_at}
-use Rattle.chi_tracker.specs.Views.{PortView, has}
-use Rattle.chi_tracker.specs.Steps.{returns_credit, spends}
-use Rattle.chi_tracker.specs.Calls.{LeavesHand, LeavesHandAsItsType, FoundAll, HasClaimed, IsLowestSeen, owed_one, saw_all, scanned_all, seen_of}
-use Rattle.chi_tracker.specs.Calls as calls
+use Rattle.chi_node.specs.Words.{Released, set_at, PortView, has, returns_credit, spends, LeavesHand, LeavesHandAsItsType, FoundAll, HasClaimed, IsLowestSeen, owed_one, saw_all, scanned_all, seen_of}
+use Rattle.chi_node.specs.Words as words
 
 -- An entry of the type that wasn't in hand comes to hand, in a scan that found the lower entries of the
 -- type claimed; or none does, in a scan that found each entry of the type claimed.
@@ -44,4 +40,4 @@ PortGivesBack before ty released after = (e : ℕ) × IsLowestSeen before (credi
 
 -- a free entry of the type is claimed and released, or none is
 abbrev pub PortTends : PortView → CreditType → Option Released → PortView → Type 0
-PortTends before ty released after = calls.Tended before (credit_number ty) released after
+PortTends before ty released after = words.Tended before (credit_number ty) released after

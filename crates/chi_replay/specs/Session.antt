@@ -2,7 +2,7 @@
 -- commands sees it (docs/FORMATS.md, "Replay files").
 use Rattle.std.specs.Prelude.{ℕ, List, map}
 use Rattle.chi_script.specs.declared.commands.Command.{Command}
-use Rattle.chi_tracker.specs.Views.{PortView}
+use Rattle.chi_node.specs.Words.{PortView}
 use Rattle.chi_node.specs.System.{SystemState}
 use Rattle.chi_replay.specs.Ports.{seen_counts}
 use Rattle.chi_replay.specs.Turns.{TurnAnswer, Machine, Turn, turn}

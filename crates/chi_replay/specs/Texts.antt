@@ -9,8 +9,7 @@ use Rattle.chi_script.specs.Files.{commands_of, lines_of}
 use Rattle.chi_slice.specs.Coherence.{IsCoherentSlice}
 use Rattle.chi_slice.specs.Words.{Sizes}
 use Rattle.chi_slice.specs.Slice.{SliceState}
-use Rattle.chi_tracker.specs.Views.{PortView, new_ports}
-use Rattle.chi_tracker.specs.Calls.{shape_of}
+use Rattle.chi_node.specs.Words.{PortView, new_ports, shape_of}
 use Rattle.chi_slice.specs.Audits.{loads_in, stores_in}
 use Rattle.chi_replay.specs.Ports.{PortClaims, PortGivesBack, PortOwes, PortReleases, PortSees, PortSpends, PortTends}
 use Rattle.chi_replay.specs.Turns.{TurnAnswer, TurnCall, Claim, Claimed, GiveBack, Glance, Glanced, Judge, Judged, Owe, Owed, Release, See, Saw, Spend, Spent, Tend, Tended, Went, Turn, Asks, Ends, Machine, machine_at_start, turn}

@@ -19,14 +19,10 @@ use Rattle.chi_flit.specs.declared.refusal.Refusal.TheVariants.{NoCredit, OutOfR
 use Rattle.chi_flit.specs.Credit.{credit_number}
 use Rattle.chi_script.specs.declared.commands.Command.{Command}
 use Rattle.chi_script.specs.declared.commands.Command.TheVariants as commands
-use Rattle.chi_tracker.specs.declared.released.Released.{Released}
+use Rattle.chi_node.specs.Words.{Released, SlotState, SlotRecord, after_finish, idle_slot, all_idle, lowest_cancelled, slots_with_state, riding_of, slot_record_at, state_at}
 use Rattle.chi_slice.specs.Words.{cells_of, effect_of, line_view, Sizes}
 use Rattle.chi_slice.specs.Slice.{SliceState}
-use Rattle.chi_credit.specs.declared.slot.SlotState.{SlotState}
-use Rattle.chi_credit.specs.declared.slot.SlotState.TheVariants as states
-use Rattle.chi_credit.specs.declared.slot.SlotRecord.{SlotRecord}
-use Rattle.chi_credit.specs.Slot.{after_finish, idle_slot}
-use Rattle.chi_credit.specs.Account.{all_idle, lowest_cancelled, slots_with_state, riding_of, slot_record_at, state_at}
+use Rattle.chi_node.specs.SlotStates as states
 use Rattle.chi_node.specs.declared.answers.Arrived.{Arrived}
 use Rattle.chi_node.specs.declared.answers.Arrived.TheVariants as arrivals
 use Rattle.chi_node.specs.AfterStep.{account_after}

@@ -4,9 +4,8 @@ ghost use Rattle.std.specs.Prelude.{◌≡◌};
 ghost use Rattle.chi_replay.specs.NodeReplies.{arrival_reply, give_back_reply, step_reply, tend_reply, totals_told};
 
 use chi_flit::{Effect, Profile, Refusal};
-use chi_node::{Arrived, Stepped};
+use chi_node::{Arrived, Counts, Released, Stepped};
 use chi_reply::{NodeTotals, Reply};
-use chi_tracker::{Counts, Released};
 
 /// What is answered to an arrival.
 pub(crate) fn arrival_reply(arrived: Result<Arrived, Refusal>) -> Reply

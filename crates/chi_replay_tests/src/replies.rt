@@ -2,8 +2,8 @@
 
 use crate::prints::prints;
 use chi_flit::{Agent, CreditType, Entry, Refusal, Slot};
+use chi_node::Released;
 use chi_reply::Reply;
-use chi_tracker::Released;
 
 #[test]
 fn prints_what_was_done(rt: HostRuntime) {

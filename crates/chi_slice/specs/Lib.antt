@@ -15,3 +15,5 @@ pub mod Records
 pub mod Traffic
 pub mod Sendings
 pub mod Idle
+pub mod SnoopAnswers
+pub mod Starts

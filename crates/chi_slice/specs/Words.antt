@@ -1,30 +1,34 @@
 -- What the crates above say of a slice in the words of the crates below it, passed on from one place. Declares
 -- nothing.
 pub use Rattle.chi_config.specs.Config.{Sizes, are_entries, are_in_limits, config_if, four_types, is_between, is_slice_count, sizes_of, two_types}
-pub use Rattle.chi_filter.specs.Filter.{is_in}
+pub use Rattle.chi_filter.specs.Filter.{has_any, is_in}
+pub use Rattle.chi_homeline.specs.Home.{Home, answer_taken, asks, completion_message, completion_of, finished_as, home_after_completion, memory_after, snoop_answered, started_as, started_sends_as, taken_up, waiting_of}
 pub use Rattle.chi_homeline.specs.declared.serving.Serving.{Serving}
+pub use Rattle.chi_homeline.specs.declared.serving.SnoopAnswer.{SnoopAnswer}
 pub use Rattle.chi_homeline.specs.declared.serving.Waiting.{Waiting}
-pub use Rattle.chi_journal.specs.declared.record.Record.{Record}
 pub use Rattle.chi_journal.specs.Journal.{IsLegal, is_full, part_of}
 pub use Rattle.chi_journal.specs.Record.{record_agent}
-pub use Rattle.chi_line.specs.declared.seen.Position.{Position}
-pub use Rattle.chi_line.specs.declared.view.CopyView.{CopyView}
-pub use Rattle.chi_line.specs.declared.view.LineView.{LineView}
-pub use Rattle.chi_line.specs.LineState.{LineState, cells_of, opening_line, rn_of}
+pub use Rattle.chi_journal.specs.declared.record.Record.{Record}
 pub use Rattle.chi_line.specs.Coherence.{Coherent}
+pub use Rattle.chi_line.specs.Kept.{Kept, Lane, LaneKept, bit, is_dbid, is_retried, lane, snoops_for}
+pub use Rattle.chi_line.specs.LineState.{LineState, cells_of, opening_line, rn_of}
 pub use Rattle.chi_line.specs.Meaning.{standing_of}
 pub use Rattle.chi_line.specs.Moves.{completed_to, if_moved, moved_slot, moved_to, requested_slot}
 pub use Rattle.chi_line.specs.Places.{position_at}
 pub use Rattle.chi_line.specs.Refused.{full_if, has_flit, line_refusal, marked_credit_refusal, no_flit_unless, retry_refusal, step_refusal}
-pub use Rattle.chi_line.specs.Step.{after_step, answer_in, completed_slot, data_answer, effect_of, is_comp, is_slot, is_step_in_range, issued_slot, pending_slot, record_of}
+pub use Rattle.chi_line.specs.Step.{after, after_step, answer_in, answered_by, completed_slot, completion_received, data_answer, dbid_received_line, effect_of, flits_after_start, is_comp, is_slot, is_step_in_range, issued_line, issued_slot, pending_slot, received_line, record_of, resent_line, response_answer, retried_line, snooped_line, started_line, where_some}
 pub use Rattle.chi_line.specs.Table.{IsAt, IsFound}
-pub use Rattle.chi_line.specs.Traffic.{flit_taken, flits_sent}
+pub use Rattle.chi_line.specs.Traffic.{completion_ack, flit_taken, flits_sent, request_again, retry_ack, snoop_answer, start_flits, started_flits}
 pub use Rattle.chi_line.specs.Types.{has_type, is_of_type, pending_credit, pending_kind_of, requested_kind_of}
 pub use Rattle.chi_line.specs.View.{line_view}
+pub use Rattle.chi_line.specs.declared.act.Conditions.{Conditions}
+pub use Rattle.chi_line.specs.declared.seen.Position.{Position}
+pub use Rattle.chi_line.specs.declared.view.CopyView.{CopyView}
+pub use Rattle.chi_line.specs.declared.view.LineView.{LineView}
+pub use Rattle.chi_rnline.specs.Rn.{Rn, is_clean_copy, load_refusal, resend_refusal, store_refusal}
 pub use Rattle.chi_rnline.specs.declared.pending.Pending.{Pending}
 pub use Rattle.chi_rnline.specs.declared.pending.Phase.{Phase}
-pub use Rattle.chi_rnline.specs.Rn.{Rn, is_clean_copy, load_refusal, resend_refusal, store_refusal}
-pub use Rattle.chi_wires.specs.declared.cells.Cells.{Cells}
-pub use Rattle.chi_wires.specs.Cell.{cell_of, no_flits}
+pub use Rattle.chi_wires.specs.Cell.{cell_of, no_flits, with_message}
 pub use Rattle.chi_wires.specs.Flight.{Flit, channel_number, flit, flit_of, in_flight, snoop_flits}
 pub use Rattle.chi_wires.specs.Flits.{cells_at}
+pub use Rattle.chi_wires.specs.declared.cells.Cells.{Cells}

@@ -5,7 +5,7 @@ use Rattle.std.proofs.lemmas.List.{length-map, map-append}
 use Rattle.std.proofs.lemmas.List.Elements.{All-push, All-tail}
 use Rattle.chi_flit.specs.declared.operation.Operation.{Operation}
 use Rattle.chi_script.specs.declared.operations.AgentOperation.{AgentOperation}
-use Rattle.atomic_table.specs.Seated.{TableId}
+use Rattle.chi_node.specs.Words.{TableId}
 use Rattle.chi_audit.specs.Numbers.{numbers}
 use Rattle.chi_audit.specs.Tallies.{IsFresh, WriterState}
 use Rattle.chi_storm.specs.Scripts.{agent_script, scripts_below}

@@ -9,7 +9,7 @@ use Rattle.chi_script.specs.declared.faults.Fault.TheVariants.{NoMemory, Write}
 use Rattle.chi_slice.specs.Words.{Sizes}
 use Rattle.chi_node.specs.Requester.{RequesterState}
 use Rattle.chi_node.specs.Parts.{opening_requesters}
-use Rattle.chi_tracker.specs.Calls.{shape_of}
+use Rattle.chi_node.specs.Words.{shape_of}
 use Rattle.chi_node.specs.Node.{AreOwn, NodeState}
 use Rattle.chi_agent.specs.Runs.{starts, AllLeave, KeepsTold, Start}
 use Rattle.chi_script.specs.declared.operations.AgentOperation.{AgentOperation}

@@ -2,9 +2,7 @@
 use Rattle.std.specs.Prelude.{◌≡◌, ◌↔◌, ℕ, ◌+◌, List, [], ◌∷◌, All, Bool, IsTrue, true, false, Option, Some, None, length, ⊤}
 use Rattle.std.specs.List.{count_by}
 use Rattle.chi_slice.specs.Words.{Sizes}
-use Rattle.chi_tracker.specs.declared.totals.Counts.{Counts}
-use Rattle.chi_tracker.specs.declared.totals.Credits.{Credits}
-use Rattle.chi_tracker.specs.Totals.{IsClosed, longest, views_of}
+use Rattle.chi_node.specs.Words.{Counts, Credits, IsClosed, longest, views_of}
 use Rattle.chi_slice.specs.Audits.{loads_in, stores_in}
 use Rattle.chi_slice.specs.Coherence.{IsCoherentSlice}
 use Rattle.chi_node.specs.Node.{IsSliceOf, NodeState, owners_of}

@@ -8,11 +8,10 @@ use crate::outcome::Outcome;
 use chi_agent::Ended;
 use chi_audit::Report;
 use chi_flit::Line;
-use chi_node::{Node, Requester, agree_with};
+use chi_node::{Counts, Node, Requester, agree_with};
 use chi_replay::totals_told;
 use chi_reply::StormTotals;
 use chi_slice::{Config, Slice, audit_of};
-use chi_tracker::Counts;
 use std::alloc::Allocator;
 use std::sync::Wait;
 

@@ -1,7 +1,7 @@
 -- The one script of one writer.
 use Rattle.std.proofs.Common.{◌≡◌, ◌<◌, List, [], ◌∷◌, ◌++◌, All, get_or, length, map, ◌∙◌, ap, subst, sym, arith, rules}
 use Rattle.std.proofs.lemmas.List.Elements.{All-nil, All-push}
-use Rattle.atomic_table.specs.Seated.{TableId}
+use Rattle.chi_node.specs.Words.{TableId}
 use Rattle.chi_audit.specs.Tallies.{IsFresh, WriterState, writer_agent}
 use Rattle.chi_audit.specs.Numbers.{numbers}
 use Rattle.chi_agent.specs.Script.{writer_of, AreFresh, ScriptState}
