@@ -1,8 +1,7 @@
 //! The deliveries of a line: which are enabled, and the one that is done.
 
-ghost use Rattle.std.specs.Prelude.{◌≡◌, ◌%◌, Bool, IfSome, is_some, length, map, slice_get};
+ghost use Rattle.std.specs.Prelude.{◌≡◌, ◌%◌, Bool, IfSome, length, map, slice_get};
 ghost use Rattle.std.specs.List.{filter};
-ghost use Rattle.chi_slice.specs.Words.{answer_in, data_answer};
 ghost use Rattle.chi_agent.specs.Choice.{call_of, deliveries, delivery, is_enabled, IsCall, IsOwnCall};
 ghost use Rattle.chi_agent.specs.declared.deliveries.Delivery.{Delivery as Kind};
 ghost use Rattle.chi_agent.specs.declared.deliveries.Delivery.TheVariants as variants;
@@ -10,8 +9,8 @@ ghost use Rattle.chi_agent.specs.declared.deliveries.Delivery.TheVariants as var
 use crate::choice::{Call, Choice};
 use crate::turn_line::TurnLine;
 use arrayvec::ArrayVec;
-use chi_flit::{DatUp, RspDown, RspUp, Step};
-use chi_slice::Cells;
+use chi_flit::Step;
+use chi_slice::has_flit;
 use std::alloc::Allocator;
 
 /// A delivery at a line: of a flit to the agent, or of one of the agent's to the home, or a start of the
@@ -79,42 +78,22 @@ fn deliveries() -> [Delivery; 10]
     ]
 }
 
-/// Whether an answer to a snoop is in flight.
-fn is_answer(cells: &Cells) -> bool
-    ensures { result ≡ is_some (answer_in cells.now) }
-{
-    match cells.rsp_up {
-        Some(RspUp::SnpRespI | RspUp::SnpRespSC) => true,
-        Some(RspUp::CompAck) | None => is_answer_data(cells.dat_up),
-    }
-}
-
-/// Whether data is an answer to a snoop.
-fn is_answer_data(sent: Option<DatUp>) -> bool
-    ensures { result ≡ is_some (data_answer sent) }
-{
-    match sent {
-        Some(DatUp::CopyBackWrData(..)) | None => false,
-        Some(_) => true,
-    }
-}
-
 /// Whether the delivery wouldn't be refused.
 fn is_enabled<A: Allocator>(here: &TurnLine<'_, A>, delivery: Delivery) -> bool
     ensures { result ≡ is_enabled here.now.slice.now here.now.agent.0 here.now.line delivery }
 {
     let flits = here.at.flits;
     match delivery {
-        Delivery::RecvSnp => flits.snp.is_some(),
-        Delivery::RecvRetry => matches!(flits.rsp_down, Some(RspDown::RetryAck(_))),
-        Delivery::RecvData => flits.dat_down.is_some(),
-        Delivery::RecvComp => matches!(flits.rsp_down, Some(RspDown::CompUC | RspDown::CompI)),
-        Delivery::RecvDbid => matches!(flits.rsp_down, Some(RspDown::CompDBIDResp)),
-        Delivery::Arrival => flits.req.is_some(),
+        Delivery::RecvSnp => has_flit(flits, Step::RecvSnp),
+        Delivery::RecvRetry => has_flit(flits, Step::RecvRetry),
+        Delivery::RecvData => has_flit(flits, Step::RecvData),
+        Delivery::RecvComp => has_flit(flits, Step::RecvComp),
+        Delivery::RecvDbid => has_flit(flits, Step::RecvDbid),
+        Delivery::Arrival => has_flit(flits, Step::Admit),
         Delivery::Start => here.at.home.why_no_start(here.agent).is_none(),
-        Delivery::RecvSnpResp => is_answer(flits),
-        Delivery::RecvAck => matches!(flits.rsp_up, Some(RspUp::CompAck)),
-        Delivery::RecvWrData => matches!(flits.dat_up, Some(DatUp::CopyBackWrData(..))),
+        Delivery::RecvSnpResp => has_flit(flits, Step::RecvSnpResp),
+        Delivery::RecvAck => has_flit(flits, Step::RecvAck),
+        Delivery::RecvWrData => has_flit(flits, Step::RecvWrData),
     }
 }
 
