@@ -27,7 +27,7 @@ pub use agree::{agree_with, agrees};
 pub use answers::{Arrived, Stepped};
 pub use calls::{arrive_agreed, arrive_on, step_agreed, step_on};
 pub use chi_credit::{SlotRecord, SlotState};
-pub use chi_tracker::{Counts, Credits, Port, Released, Totals, Tracker};
+pub use chi_tracker::{Counts, Port, Released, Totals, Tracker};
 pub use node::Node;
 pub use opening::parts;
 pub use requester::Requester;
