@@ -207,8 +207,9 @@ impl<A: Allocator> System<A> {
         Ok((place, at))
     }
 
-    /// The slice of a line.
-    fn slice_of(&self, line: Line) -> &Slice<A>
+    /// The slice of a line, lent: that whose index is the line's number modulo the number of slices.
+    /// Source: `docs/PROTOCOL.md`, "The system".
+    pub fn slice_of(&self, line: Line) -> &Slice<A>
         ensures slice { result.now ≡ slice_of self.now.home line.0 }
         ensures sizes { result.now.config ≡ self.now.home.config }
     {
