@@ -1,3 +1,4 @@
 pub mod Balance
+pub mod GrantLemmas
 pub mod Kept
 pub mod Steps

@@ -1,6 +1,7 @@
 pub mod Beats
 pub mod Cancels
 pub mod Changes
+pub mod Grants
 pub mod Ids
 pub mod Ledger
 pub mod Lines

@@ -3,6 +3,7 @@
 ghost use Rattle.std.specs.Prelude.{◌≡◌, ◌++◌, All, IfOk, OnOk, not};
 ghost use Rattle.std.specs.List.{filter};
 ghost use Rattle.std.specs.Map.{values_of};
+ghost use Rattle.chi_resolution.specs.Grants.{AreGrantsDue};
 ghost use Rattle.chi_resolution.specs.Ids.{with_id, without};
 ghost use Rattle.chi_resolution.specs.Ledger.{IsLedgerBalanced, booked};
 ghost use Rattle.chi_resolution.specs.Resolution.{after_beat, after_flit, acting_agent, allowed_of, data_after, ids_after, is_ack_of, is_released, nothing, placed, resolution_of, taken, waiting_after, with_data};
@@ -110,6 +111,9 @@ pub fn resolve<A: Allocator + Copy>(
 
     // Of each node and type: S + B ≤ G, B ≤ C, and G ≤ R unless grants may be early.
     ensures ledger { IfOk result (λ r. All (IsLedgerBalanced options.early_grants) r.accounts.items) }
+
+    // Each grant, by the flits before it: G < R, or with early grants less than R and the first attempts on their way.
+    ensures grants { IfOk result (λ r. AreGrantsDue options seen.now r.fault) }
 {
     let mut state = Resolver::new(alloc, seen.len())?;
     for (at, flit) in seen.iter().enumerate() {

@@ -4,6 +4,12 @@ use Rattle.chi_trace.specs.declared.columns.Column.{Column}
 use Rattle.chi_trace.specs.declared.columns.Column.TheVariants as columns
 use Rattle.chi_trace.specs.declared.faults.TraceFault.{TraceFault}
 use Rattle.chi_trace.specs.declared.faults.TraceFault.TheVariants.{BadWord, FewWords}
+use Rattle.chi_trace.specs.declared.fields.Address.{Address}
+use Rattle.chi_trace.specs.declared.fields.DbId.{DbId}
+use Rattle.chi_trace.specs.declared.fields.NodeId.{NodeId}
+use Rattle.chi_trace.specs.declared.fields.PcrdType.{PcrdType}
+use Rattle.chi_trace.specs.declared.fields.Resp.{Resp}
+use Rattle.chi_trace.specs.declared.fields.TxnId.{TxnId}
 use Rattle.chi_trace.specs.declared.flits.Seen.{Seen}
 use Rattle.chi_trace.specs.declared.opcodes.Opcode.{Opcode}
 use Rattle.chi_trace.specs.Columns.{Row, first_word_of, row_behind}
@@ -19,18 +25,40 @@ abbrev pub ◌>>=◌ : {A B : Type 0} → Result A Column → (A → Result B Co
 abbrev pub opcode_of : Row → Result Opcode Column
 opcode_of row = ok_or (channel_in row.channel) columns.Channel >>= λ channel. ok_or (opcode_in channel row.opcode) columns.Opcode
 
+-- a field of a flit with the opcode, as its column has it
+abbrev pub target_in : Opcode → Row → Result (Option NodeId) Column
+target_in opcode row = used_in (target_use opcode) row.target (node_of row.target) columns.Target
+
+abbrev pub txn_in : Opcode → Row → Result (Option TxnId) Column
+txn_in opcode row = used_in (txn_use opcode) row.txn (txn_of row.txn) columns.Txn
+
+abbrev pub address_in : Opcode → Row → Result (Option Address) Column
+address_in opcode row = used_in (address_use opcode) row.address (address_of row.address) columns.Address
+
+abbrev pub resp_in : Opcode → Row → Result (Option Resp) Column
+resp_in opcode row = used_in (resp_use opcode) row.resp (resp_of row.resp) columns.Resp
+
+abbrev pub dbid_in : Opcode → Option Resp → Row → Result (Option DbId) Column
+dbid_in opcode resp row = used_in (dbid_use opcode resp) row.dbid (dbid_of row.dbid) columns.Dbid
+
+abbrev pub allow_in : Opcode → Row → Result (Option Bool) Column
+allow_in opcode row = used_in (allow_use opcode) row.allow_retry (allow_of row.allow_retry) columns.AllowRetry
+
+abbrev pub pcrd_in : Opcode → Option Bool → Row → Result (Option PcrdType) Column
+pcrd_in opcode allow row = used_in (pcrd_use opcode allow) row.pcrd (pcrd_of row.pcrd) columns.Pcrd
+
 -- the flit of line n with these columns, or the first column that is wrong
 unfoldable pub seen_in : ℕ → Row → Result Seen Column
 seen_in n row = do
   opcode ← opcode_of row
   source ← ok_or (node_of row.source) columns.Source
-  target ← used_in (target_use opcode) row.target (node_of row.target) columns.Target
-  txn ← used_in (txn_use opcode) row.txn (txn_of row.txn) columns.Txn
-  address ← used_in (address_use opcode) row.address (address_of row.address) columns.Address
-  resp ← used_in (resp_use opcode) row.resp (resp_of row.resp) columns.Resp
-  dbid ← used_in (dbid_use opcode resp) row.dbid (dbid_of row.dbid) columns.Dbid
-  allow ← used_in (allow_use opcode) row.allow_retry (allow_of row.allow_retry) columns.AllowRetry
-  pcrd ← used_in (pcrd_use opcode allow) row.pcrd (pcrd_of row.pcrd) columns.Pcrd
+  target ← target_in opcode row
+  txn ← txn_in opcode row
+  address ← address_in opcode row
+  resp ← resp_in opcode row
+  dbid ← dbid_in opcode resp row
+  allow ← allow_in opcode row
+  pcrd ← pcrd_in opcode allow row
   payload ← ok_or (payload_of (form_of opcode) row.payload) columns.Data
   Ok (record {
     line = n;

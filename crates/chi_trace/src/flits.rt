@@ -4,7 +4,7 @@ ghost use Rattle.std.specs.Prelude.{◌≡◌};
 ghost use Rattle.std.specs.Option.{option_map};
 ghost use Rattle.chi_trace.specs.Columns.{row_of_columns};
 ghost use Rattle.chi_trace.specs.Faults.{TraceGives};
-ghost use Rattle.chi_trace.specs.Flits.{flit_at, is_comment_word, opcode_of, seen_in};
+ghost use Rattle.chi_trace.specs.Flits.{address_in, allow_in, dbid_in, flit_at, is_comment_word, opcode_of, pcrd_in, resp_in, seen_in, target_in, txn_in};
 ghost use Rattle.chi_trace.specs.Words.{blank_words};
 
 use crate::columns::{Column, Columns, columns_behind};
@@ -48,6 +48,70 @@ impl Columns<'_> {
         opcode_in(channel, self.opcode).ok_or(Column::Opcode)
     }
 
+    /// The target of a flit of the opcode.
+    fn target(&self, opcode: Opcode) -> Result<Option<NodeId>, Column>
+        ensures { result ≡ target_in opcode (row_of_columns self.now) }
+    {
+        let target = read_node(self.target);
+        used_in(target_use(opcode), self.target, target, Column::Target)
+    }
+
+    /// Its TXN.
+    fn txn(&self, opcode: Opcode) -> Result<Option<TxnId>, Column>
+        ensures { result ≡ txn_in opcode (row_of_columns self.now) }
+    {
+        used_in(txn_use(opcode), self.txn, read_txn(self.txn), Column::Txn)
+    }
+
+    /// Its address.
+    fn address(&self, opcode: Opcode) -> Result<Option<Address>, Column>
+        ensures { result ≡ address_in opcode (row_of_columns self.now) }
+    {
+        let address = read_address(self.address);
+        used_in(address_use(opcode), self.address, address, Column::Address)
+    }
+
+    /// Its RESP.
+    fn resp(&self, opcode: Opcode) -> Result<Option<Resp>, Column>
+        ensures { result ≡ resp_in opcode (row_of_columns self.now) }
+    {
+        used_in(
+            resp_use(opcode),
+            self.resp,
+            read_resp(self.resp),
+            Column::Resp,
+        )
+    }
+
+    /// The DBID of one with this RESP.
+    fn dbid(&self, opcode: Opcode, resp: Option<Resp>) -> Result<Option<DbId>, Column>
+        ensures { result ≡ dbid_in opcode resp (row_of_columns self.now) }
+    {
+        let dbid = read_dbid(self.dbid);
+        used_in(dbid_use(opcode, resp), self.dbid, dbid, Column::Dbid)
+    }
+
+    /// Its AllowRetry.
+    fn allow_retry(&self, opcode: Opcode) -> Result<Option<bool>, Column>
+        ensures { result ≡ allow_in opcode (row_of_columns self.now) }
+    {
+        let allow = read_allow(self.allow_retry);
+        used_in(
+            allow_use(opcode),
+            self.allow_retry,
+            allow,
+            Column::AllowRetry,
+        )
+    }
+
+    /// The credit type of one with this AllowRetry.
+    fn pcrd(&self, opcode: Opcode, allow_retry: Option<bool>) -> Result<Option<PcrdType>, Column>
+        ensures { result ≡ pcrd_in opcode allow_retry (row_of_columns self.now) }
+    {
+        let pcrd = read_pcrd(self.pcrd);
+        used_in(pcrd_use(opcode, allow_retry), self.pcrd, pcrd, Column::Pcrd)
+    }
+
     /// The flit that the columns of this line are, or the first column that is wrong: the channel, the
     /// opcode, and then the others in their order.
     #[tactic(auto, unfolding(crate::specs::Flits::seen_in))]
@@ -56,43 +120,13 @@ impl Columns<'_> {
     {
         let opcode = self.opcode()?;
         let source = read_node(self.source).ok_or(Column::Source)?;
-        let target = used_in(
-            target_use(opcode),
-            self.target,
-            read_node(self.target),
-            Column::Target,
-        )?;
-        let txn = used_in(txn_use(opcode), self.txn, read_txn(self.txn), Column::Txn)?;
-        let address = used_in(
-            address_use(opcode),
-            self.address,
-            read_address(self.address),
-            Column::Address,
-        )?;
-        let resp = used_in(
-            resp_use(opcode),
-            self.resp,
-            read_resp(self.resp),
-            Column::Resp,
-        )?;
-        let dbid = used_in(
-            dbid_use(opcode, resp),
-            self.dbid,
-            read_dbid(self.dbid),
-            Column::Dbid,
-        )?;
-        let allow_retry = used_in(
-            allow_use(opcode),
-            self.allow_retry,
-            read_allow(self.allow_retry),
-            Column::AllowRetry,
-        )?;
-        let pcrd = used_in(
-            pcrd_use(opcode, allow_retry),
-            self.pcrd,
-            read_pcrd(self.pcrd),
-            Column::Pcrd,
-        )?;
+        let target = self.target(opcode)?;
+        let txn = self.txn(opcode)?;
+        let address = self.address(opcode)?;
+        let resp = self.resp(opcode)?;
+        let dbid = self.dbid(opcode, resp)?;
+        let allow_retry = self.allow_retry(opcode)?;
+        let pcrd = self.pcrd(opcode, allow_retry)?;
         let payload = read_payload(form_of(opcode), self.payload).ok_or(Column::Data)?;
         Ok(Seen {
             line,
