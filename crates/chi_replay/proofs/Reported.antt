@@ -12,7 +12,7 @@ use Rattle.chi_replay.specs.Texts.{IsText, text}
 use Rattle.chi_replay.specs.Turns.{machine_at_start}
 use Rattle.chi_script.specs.declared.checks.Check.{Check}
 use Rattle.chi_script.specs.Checks.{CheckLine, line_of_check}
-use Rattle.chi_script.specs.CheckFiles.{check_file_of}
+use Rattle.chi_script.specs.CheckFiles.{check_file_of, most_check_bytes}
 use Rattle.chi_script.proofs.CheckFileLemmas.{front_enough}
 use Rattle.chi_replay.specs.Checks.{ComparesChecks, IsCheckReport, IsComparison, answers_in, commands_in}
 use Rattle.chi_replay.specs.Reports.{check_summary, difference, differing, differing_text, wanted_in}
@@ -92,7 +92,7 @@ on_file file lines bytes wanted differ hold found printed verdict = record {
 }
 
 -- the report on what was read is that on the input's file
-pub report_of_known : {T : Type 0} (left : Option (List ℕ)) (bytes : List ℕ) (hold_of : T → Bool) (bytes_of : T → List ℕ) (result : Result T Fault) → IfSome left (λ file. bytes ≡ take 1048577 file)
+pub report_of_known : {T : Type 0} (left : Option (List ℕ)) (bytes : List ℕ) (hold_of : T → Bool) (bytes_of : T → List ℕ) (result : Result T Fault) → IfSome left (λ file. bytes ≡ take (1 + most_check_bytes) file)
     → IfOk result (λ report. IsCheckReport bytes (hold_of report) (bytes_of report)) → IfOk result (λ report. IfSome left (λ file. IsCheckReport file (hold_of report) (bytes_of report)))
 report_of_known None bytes hold_of bytes_of (Ok report) front ok = tt
 report_of_known (Some file) bytes hold_of bytes_of (Ok report) front ok = record {

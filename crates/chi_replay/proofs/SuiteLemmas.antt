@@ -8,6 +8,7 @@ use Rattle.chi_script.specs.declared.faults.Fault.{Fault}
 use Rattle.chi_script.specs.declared.faults.Fault.TheVariants as faults
 use Rattle.chi_script.specs.Faults.{Fails}
 use Rattle.chi_script.specs.CheckFiles.{check_file_of}
+use Rattle.chi_script.specs.Files.{IsOneLine}
 use Rattle.chi_replay.specs.Checks.{IsComparison}
 use Rattle.chi_replay.specs.declared.suites.SuiteCounts.{SuiteCounts}
 use Rattle.chi_replay.specs.declared.suites.SuiteFile.{SuiteFile}
@@ -64,8 +65,8 @@ counts_more told file (answered checks answers) =
     (filtered (λ x. has_differing x.came) told it ∙ ap (λ (n : ℕ). length (filter (λ x. has_differing x.came) told) + n) (one_or_none it (length (differing checks answers) == 0)))
     (gathered (λ x. wanted_answers x.came) told it)
     (gathered (λ x. differing_of x.came) told it)
-counts_more told file (faulty fault) =
-    let it = check_of file (faulty fault) in
+counts_more told file (faulty fault hint) =
+    let it = check_of file (faulty fault hint) in
     counts_same _ _ _ _ _ _ _ _
     (filtered (λ x. is_answered x.came) told it ∙ omega arith)
     (filtered (λ x. has_differing x.came) told it ∙ omega arith)
@@ -97,27 +98,27 @@ state_more form count number told file came e =
     (sym (counts_more told file came))
 
 -- a faulty file was told
-pub goes_faulty : {T E : Type 0} (result : Result T E) (form : SuiteForm) (number : ℕ) (file : GivenFile) (fault : Fault) (old new : SuiteState) → OnOk result (MayCome file.bytes (faulty fault))
-    → OnOk result (new.text ≡ old.text ++ faulty_text form number file.name fault) → OnOk result (new.faults ≡ old.faults ++ faulty_line file.name fault)
+pub goes_faulty : {T E : Type 0} (result : Result T E) (form : SuiteForm) (number : ℕ) (file : GivenFile) (fault : Fault) (hint : List ℕ) (old new : SuiteState) → OnOk result (MayCome file.bytes (faulty fault hint))
+    → OnOk result (new.text ≡ old.text ++ faulty_text form number file.name fault hint) → OnOk result (new.faults ≡ old.faults ++ faulty_line file.name fault hint)
     → OnOk result (new.fault ≡ first_of old.fault (Some fault)) → OnOk result (new.counts ≡ old.counts) → OnOk result (SuiteGoesOn form number file old new)
-goes_faulty (Ok done) form number file fault old new may e f g h = (faulty fault, may, state_same _ _ _ _ _ _ _ _ e f g h)
-goes_faulty (Err lack) form number file fault old new may e f g h = may
+goes_faulty (Ok done) form number file fault hint old new may e f g h = (faulty fault hint, may, state_same _ _ _ _ _ _ _ _ e f g h)
+goes_faulty (Err lack) form number file fault hint old new may e f g h = may
 
 -- the fault is that of the file, where memory didn't run out
-pub may_fail : {T E : Type 0} (result : Result T E) (bytes : List ℕ) (fault : Fault) → Fails fault (check_file_of bytes) → OnOk result (fault ≢ faults.NoMemory) → OnOk result (MayCome (Some bytes) (faulty fault))
-may_fail (Err lack) bytes fault fails other = other
-may_fail (Ok done) bytes faults.NoMemory fails other = absurd (other refl)
-may_fail (Ok done) bytes (faults.BadHeader line) fails other = fails
-may_fail (Ok done) bytes (faults.BadCommand line) fails other = fails
-may_fail (Ok done) bytes (faults.MissingNewline line) fails other = fails
-may_fail (Ok done) bytes faults.TooLarge fails other = fails
-may_fail (Ok done) bytes faults.Read fails other = absurd fails
-may_fail (Ok done) bytes faults.Write fails other = absurd fails
+pub may_fail : {T E : Type 0} (result : Result T E) (bytes : List ℕ) (fault : Fault) (hint : List ℕ) → IsOneLine hint → Fails fault (check_file_of bytes) → OnOk result (fault ≢ faults.NoMemory) → OnOk result (MayCome (Some bytes) (faulty fault hint))
+may_fail (Err lack) bytes fault hint one fails other = other
+may_fail (Ok done) bytes faults.NoMemory hint one fails other = absurd (other refl)
+may_fail (Ok done) bytes (faults.BadHeader line) hint one fails other = (fails, one)
+may_fail (Ok done) bytes (faults.BadCommand line) hint one fails other = (fails, one)
+may_fail (Ok done) bytes (faults.MissingNewline line) hint one fails other = (fails, one)
+may_fail (Ok done) bytes faults.TooLarge hint one fails other = (fails, one)
+may_fail (Ok done) bytes faults.Read hint one fails other = absurd fails
+may_fail (Ok done) bytes faults.Write hint one fails other = absurd fails
 
 -- a file that couldn't be read
-pub may_be_lost : {T E : Type 0} (result : Result T E) (bytes : Option (List ℕ)) → bytes ≡ None → OnOk result (MayCome bytes (faulty faults.Read))
+pub may_be_lost : {T E : Type 0} (result : Result T E) (bytes : Option (List ℕ)) → bytes ≡ None → OnOk result (MayCome bytes (faulty faults.Read []))
 may_be_lost (Err lack) bytes e = tt
-may_be_lost (Ok done) None e = refl
+may_be_lost (Ok done) None e = (refl, refl)
 may_be_lost (Ok done) (Some bytes) e = absurd (cc (e))
 
 -- a checked file was told

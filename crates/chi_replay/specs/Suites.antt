@@ -6,6 +6,7 @@ use Rattle.chi_script.specs.declared.faults.Fault.{Fault}
 use Rattle.chi_script.specs.declared.faults.Fault.TheVariants as faults
 use Rattle.chi_script.specs.Checks.{CheckLine}
 use Rattle.chi_script.specs.CheckFiles.{check_file_of}
+use Rattle.chi_script.specs.Files.{IsOneLine}
 use Rattle.chi_replay.specs.declared.suites.SuiteCounts.{SuiteCounts}
 use Rattle.chi_replay.specs.declared.suites.SuiteFile.{SuiteFile}
 use Rattle.chi_replay.specs.declared.suites.SuiteForm.{SuiteForm}
@@ -24,17 +25,18 @@ given name bytes = record { name = name; bytes = bytes }
 abbrev pub given_of : SuiteFile → GivenFile
 given_of file = given file.name.now (option_map (λ bytes. bytes.now) file.bytes)
 
--- what comes of the check of a file: its checks with the answers of their commands, or its fault
+-- what comes of the check of a file: its checks with the answers of their commands, or its fault, and a hint, which is
+-- what more is told of it
 pub data SuiteResult : Type 0 where
   answered : List CheckLine → List (List ℕ) → SuiteResult
-  faulty : Fault → SuiteResult
+  faulty : Fault → List ℕ → SuiteResult
 
 -- what may come of a file of these bytes: just what its check alone finds
 abbrev pub MayCome : Option (List ℕ) → SuiteResult → Type 0
 MayCome None (answered checks answers) = ⊥
-MayCome None (faulty fault) = fault ≡ faults.Read
+MayCome None (faulty fault hint) = (fault ≡ faults.Read) × IsOneLine hint
 MayCome (Some bytes) (answered checks answers) = IsAnswered bytes checks answers
-MayCome (Some bytes) (faulty fault) = check_file_of bytes ≡ Err fault
+MayCome (Some bytes) (faulty fault hint) = (check_file_of bytes ≡ Err fault) × IsOneLine hint
 
 -- a file, and what came of it
 pub record FileCheck : Type 0 where
@@ -47,15 +49,15 @@ IsFileCheck told = MayCome told.file.bytes told.came
 -- the answers that are wanted in a file, and those that differ
 abbrev pub wanted_answers : SuiteResult → List CheckLine
 wanted_answers (answered checks answers) = wanted_in checks
-wanted_answers (faulty fault) = []
+wanted_answers (faulty fault hint) = []
 
 abbrev pub differing_of : SuiteResult → List CheckedAnswer
 differing_of (answered checks answers) = differing checks answers
-differing_of (faulty fault) = []
+differing_of (faulty fault hint) = []
 
 abbrev pub is_answered : SuiteResult → Bool
 is_answered (answered checks answers) = true
-is_answered (faulty fault) = false
+is_answered (faulty fault hint) = false
 
 -- some answer of the file differs
 abbrev pub has_differing : SuiteResult → Bool
@@ -72,12 +74,12 @@ fault_words faults.Read = codes "cannot read"
 fault_words faults.Write = codes "cannot write"
 
 -- the line on a faulty file, for standard error
-abbrev pub faulty_line : List ℕ → Fault → List ℕ
-faulty_line name fault = codes "chihome: " ++ (name ++ (codes ": " ++ (fault_words fault ++ (10 ∷ []))))
+abbrev pub faulty_line : List ℕ → Fault → List ℕ → List ℕ
+faulty_line name fault hint = codes "chihome: " ++ (name ++ (codes ": " ++ (fault_words fault ++ (hint ++ (10 ∷ [])))))
 
 abbrev pub fault_line : List ℕ → SuiteResult → List ℕ
 fault_line name (answered checks answers) = []
-fault_line name (faulty fault) = faulty_line name fault
+fault_line name (faulty fault hint) = faulty_line name fault hint
 
 -- a test point of TAP: its number and its name
 abbrev pub test_point : Bool → ℕ → List ℕ → List ℕ
@@ -88,8 +90,8 @@ test_point false number name = codes "not ok " ++ (decimal number ++ (codes " - 
 abbrev pub found_point : ℕ → List ℕ → List ℕ → ℕ → ℕ → List ℕ
 found_point number name lines wanted differ = test_point (differ == 0) number name ++ (lines ++ (codes "# " ++ check_summary wanted differ))
 
-abbrev pub faulty_point : ℕ → List ℕ → Fault → List ℕ
-faulty_point number name fault = test_point false number name ++ (codes "# " ++ (fault_words fault ++ (10 ∷ [])))
+abbrev pub faulty_point : ℕ → List ℕ → Fault → List ℕ → List ℕ
+faulty_point number name fault hint = test_point false number name ++ (codes "# " ++ (fault_words fault ++ (hint ++ (10 ∷ []))))
 
 -- what stands before each line on an answer that differs
 abbrev pub front_of : SuiteForm → List ℕ → List ℕ
@@ -102,15 +104,15 @@ found_text Lines number name lines wanted differ = lines
 found_text Tap number name lines wanted differ = found_point number name lines wanted differ
 
 -- what is told of a faulty file
-abbrev pub faulty_text : SuiteForm → ℕ → List ℕ → Fault → List ℕ
-faulty_text Lines number name fault = []
-faulty_text Tap number name fault = faulty_point number name fault
+abbrev pub faulty_text : SuiteForm → ℕ → List ℕ → Fault → List ℕ → List ℕ
+faulty_text Lines number name fault hint = []
+faulty_text Tap number name fault hint = faulty_point number name fault hint
 
 -- what is told of the file of this number and name
 abbrev pub file_text : SuiteForm → ℕ → List ℕ → SuiteResult → List ℕ
 file_text form number name (answered checks answers) =
     found_text form number name (differing_text (front_of form name) checks answers) (length (wanted_in checks)) (length (differing checks answers))
-file_text form number name (faulty fault) = faulty_text form number name fault
+file_text form number name (faulty fault hint) = faulty_text form number name fault hint
 
 -- the same of each of the files from this number on
 abbrev pub files_text : SuiteForm → ℕ → List FileCheck → List ℕ
@@ -120,7 +122,7 @@ files_text form number (it ∷ rest) = file_text form number it.file.name it.cam
 -- the first fault
 abbrev pub fault_of : SuiteResult → Option Fault
 fault_of (answered checks answers) = None
-fault_of (faulty fault) = Some fault
+fault_of (faulty fault hint) = Some fault
 
 abbrev pub first_of : Option Fault → Option Fault → Option Fault
 first_of None later = later
@@ -187,7 +189,7 @@ new_counts old wanted differ = record {
 
 abbrev pub counts_with : SuiteCounts → SuiteResult → SuiteCounts
 counts_with old (answered checks answers) = new_counts old (length (wanted_in checks)) (length (differing checks answers))
-counts_with old (faulty fault) = old
+counts_with old (faulty fault hint) = old
 
 -- one file more
 abbrev pub state_with : SuiteForm → ℕ → List ℕ → SuiteState → SuiteResult → SuiteState

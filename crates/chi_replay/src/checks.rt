@@ -12,9 +12,9 @@ ghost use Rattle.chi_replay.specs.Checks.{ComparesChecks, IsCheckReport, IsCompa
 use crate::replays::config_of;
 use crate::reports::{Comparison, compare, write_summary};
 use crate::runs::run;
-use chi_devices::{Failed, Input, Output, read_all};
+use chi_devices::{Failed, Input, Output, read_most};
 use chi_flit::NoMemory;
-use chi_script::{Check, CheckFile, Command, Fault, read_checks};
+use chi_script::{Check, CheckFile, Command, Fault, MOST_CHECK_BYTES, read_checks};
 use std::alloc::{AllocError, Allocator};
 
 /// The commands of the checks, in order. Refused where memory for the list runs out.
@@ -109,7 +109,7 @@ fn report_of_input<A: Allocator + Copy, I: Input>(
     ensures err { IfErr result
         (NoText check_file_of (I.left input.old) (I.failures input.old) (I.failures input.new)) }
 {
-    let bytes = read_all(alloc, input)?;
+    let bytes = read_most(alloc, input, MOST_CHECK_BYTES + 1)?;
     report_of(alloc, &bytes)
 }
 

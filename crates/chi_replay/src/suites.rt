@@ -6,7 +6,7 @@ ghost use Rattle.chi_replay.specs.Suites.{IsSuiteReport, SuiteGoesOn, fault_word
 use crate::checks::compare_file;
 use crate::reports::{Comparison, write_summary};
 use chi_flit::NoMemory;
-use chi_script::Fault;
+use chi_script::{Fault, hint_at};
 use std::alloc::Allocator;
 use std::fmt;
 use std::io::Write;
@@ -164,7 +164,7 @@ impl<A: Allocator + Copy> SuiteRun<A> {
     {
         match file.bytes {
             Some(bytes) => self.add_bytes(alloc, form, number, file.name, bytes),
-            None => self.add_fault(form, number, file.name, Fault::Read),
+            None => self.add_fault(form, number, file.name, Fault::Read, ""),
         }
     }
 
@@ -194,7 +194,10 @@ impl<A: Allocator + Copy> SuiteRun<A> {
         let front = front_of(alloc, form, name)?;
         match compare_file(alloc, &front, bytes) {
             Ok(found) => self.add_found(form, number, name, &found),
-            Err(fault) => self.add_fault(form, number, name, fault),
+            Err(fault) => {
+                let hint = hint_at(alloc, bytes, fault)?;
+                self.add_fault(form, number, name, fault, hint.as_str())
+            }
         }
     }
 
@@ -223,18 +226,20 @@ impl<A: Allocator + Copy> SuiteRun<A> {
         }
     }
 
-    /// Tells that the file of this number and name is faulty. Refused where memory runs out, or ran out before.
+    /// Tells that the file of this number and name is faulty, and the hint. Refused where memory runs out, or ran out
+    /// before.
     fn add_fault(
         &mut self,
         form: SuiteForm,
         number: usize,
         name: &str,
         fault: Fault,
+        hint: &str,
     ) -> Result<(), NoMemory>
         ensures text { OnOk result (self.new.text.items
-            ≡ self.old.text.items ++ faulty_text form number name.now fault) }
+            ≡ self.old.text.items ++ faulty_text form number name.now fault hint.now) }
         ensures faults { OnOk result (string_bytes self.new.faults
-            ≡ string_bytes self.old.faults ++ faulty_line name.now fault) }
+            ≡ string_bytes self.old.faults ++ faulty_line name.now fault hint.now) }
         ensures fault { OnOk result (self.new.fault ≡ first_of self.old.fault (Some fault)) }
         ensures counts { OnOk result (self.new.counts ≡ self.old.counts) }
         ensures memory { OnOk result (fault ≢ Fault.NoMemory) }
@@ -245,9 +250,9 @@ impl<A: Allocator + Copy> SuiteRun<A> {
         let words = FaultWords(fault);
         if form == SuiteForm::Tap {
             writeln!(self.text, "not ok {number} - {name}").map_err(|_| NoMemory)?;
-            writeln!(self.text, "# {words}").map_err(|_| NoMemory)?;
+            writeln!(self.text, "# {words}{hint}").map_err(|_| NoMemory)?;
         }
-        writeln!(self.faults, "chihome: {name}: {words}").map_err(|_| NoMemory)?;
+        writeln!(self.faults, "chihome: {name}: {words}{hint}").map_err(|_| NoMemory)?;
         self.fault = self.fault.or(Some(fault));
         Ok(())
     }

@@ -13,7 +13,7 @@ use Rattle.chi_script.specs.Words.{words_of}
 use Rattle.chi_script.proofs.HeaderLemmas.{header_line, header_line_again}
 use Rattle.chi_script.proofs.LineLemmas.{parts_of}
 use Rattle.chi_script.specs.Checks.{CheckLine, check_of, is_comment}
-use Rattle.chi_script.specs.CheckFiles.{check_at, check_file_of, checks_at, checks_of, check_script_of}
+use Rattle.chi_script.specs.CheckFiles.{most_check_bytes, check_at, check_file_of, checks_at, checks_of, check_script_of}
 use Rattle.chi_script.specs.CheckSpelling.{AreChecks, AreHeaderAndChecks, IsCheckFile, IsCheckLine, IsComment}
 use Rattle.chi_script.proofs.CheckLemmas.{check_again, check_no_comment, check_read, comment_again, comment_read, header_no_comment}
 
@@ -112,19 +112,19 @@ fits : (b : Bool) (read : Result (Header × List CheckLine) Fault) (x : Header �
 fits true read x e = cc
 fits false read x e = (refl, e)
 
-not_above : (n : ℕ) → nat_lt 1048576 n ≡ false → n ≤ 1048576
-not_above n e = grind (arith, nat_tests)
+not_above : (most n : ℕ) → nat_lt most n ≡ false → n ≤ most
+not_above most n e = grind (arith, nat_tests)
 
-pub not_large : (n : ℕ) → n ≤ 1048576 → nat_lt 1048576 n ≡ false
-not_large n le = grind (arith, nat_tests)
+not_large : (most n : ℕ) → n ≤ most → nat_lt most n ≡ false
+not_large most n le = grind (arith, nat_tests)
 
 pub file_read : (header : Header) (checks : List CheckLine) (file : List ℕ) → check_file_of file ≡ Ok (header, checks) → IsCheckFile header checks file
 unfolding check_file_of
 file_read header checks file e =
-    let size = fits (nat_lt 1048576 (length file)) (check_script_of 1 (lines_of file)) (header, checks) e in
+    let size = fits (nat_lt most_check_bytes (length file)) (check_script_of 1 (lines_of file)) (header, checks) e in
     let parts = parts_of (λ b. b == 10) file in
     let read = lines_read 1 header checks parts.0 parts.1 (ap (check_script_of 1) (sym parts.2) ∙ size.1) in
-    record { size = not_above (length file) size.0; lines = read.lines; closed = parts.2 ∙ read.closed; text = read.text }
+    record { size = not_above most_check_bytes (length file) size.0; lines = read.lines; closed = parts.2 ∙ read.closed; text = read.text }
 
 -- lines that something stands behind
 some_behind : (lines : List (List ℕ)) → (first : List ℕ) × (others : List (List ℕ)) × (lines ++ [] ∷ [] ≡ first ∷ others)
@@ -168,21 +168,42 @@ lines_again n header checks (line ∷ lines) (inr is) = header_line_first n head
 
 pub file_again : (header : Header) (checks : List CheckLine) (file : List ℕ) → IsCheckFile header checks file → check_file_of file ≡ Ok (header, checks)
 unfolding check_file_of
-file_again header checks file is = rw (not_large (length file) is.size, is.closed) (lines_again 1 header checks is.lines is.text)
+file_again header checks file is = rw (not_large most_check_bytes (length file) is.size, is.closed) (lines_again 1 header checks is.lines is.text)
 
--- one byte more than a file may have is enough of it
-large : (n : ℕ) → 1048576 < n → nat_lt 1048576 n ≡ true
-large n more = grind (arith, nat_tests)
+-- one byte more than a check file may have is enough of it
+large : (most n : ℕ) → most < n → nat_lt most n ≡ true
+large most n more = grind (arith, nat_tests)
 
-too_large : (file : List ℕ) → 1048576 < length file → check_file_of file ≡ Err TooLarge
+at_most : (most n : ℕ) → nat_lt most n ≡ false → n ≤ 1 + most
+at_most most n is = grind (arith, nat_tests)
+
+above : (most n : ℕ) → nat_lt most n ≡ true → most < n
+above most n is = grind (arith, nat_tests)
+
+still_above : (most : ℕ) (file : List ℕ) → most < length file → most < length (take (1 + most) file)
+still_above most file more = omega (arith, more, length-take (1 + most) file)
+
+pub too_large : (file : List ℕ) → most_check_bytes < length file → check_file_of file ≡ Err TooLarge
 unfolding check_file_of
-too_large file more = rw (large (length file) more) refl
+too_large file more = rw (large most_check_bytes (length file) more) refl
 
-enough : (file : List ℕ) (b : Bool) → nat_lt 1048576 (length file) ≡ b → check_file_of (take 1048577 file) ≡ check_file_of file
-enough file false is = let small : length file ≤ 1048577 = grind (arith, nat_tests) in ap check_file_of (take_all 1048577 file small)
+-- of a file that isn't too large that is all
+pub all_taken : (file : List ℕ) → nat_lt most_check_bytes (length file) ≡ false → take (1 + most_check_bytes) file ≡ file
+all_taken file is = take_all (1 + most_check_bytes) file (at_most most_check_bytes (length file) is)
+
+enough : (file : List ℕ) (b : Bool) → nat_lt most_check_bytes (length file) ≡ b → check_file_of (take (1 + most_check_bytes) file) ≡ check_file_of file
+enough file false is = ap check_file_of (all_taken file is)
 enough file true is =
-    let more : 1048576 < length file = grind (arith, nat_tests) in
-    too_large (take 1048577 file) (omega (arith, length-take 1048577 file)) ∙ sym (too_large file more)
+    let more : most_check_bytes < length file = above most_check_bytes (length file) is in
+    too_large (take (1 + most_check_bytes) file) (still_above most_check_bytes file more) ∙ sym (too_large file more)
 
-pub front_enough : (file : List ℕ) → check_file_of (take 1048577 file) ≡ check_file_of file
-front_enough file = enough file (nat_lt 1048576 (length file)) refl
+pub front_enough : (file : List ℕ) → check_file_of (take (1 + most_check_bytes) file) ≡ check_file_of file
+front_enough file = enough file (nat_lt most_check_bytes (length file)) refl
+
+-- of a good file all was taken
+whole_if : (file : List ℕ) (b : Bool) (read : Header × List CheckLine) → nat_lt most_check_bytes (length file) ≡ b → check_file_of file ≡ Ok read → take (1 + most_check_bytes) file ≡ file
+whole_if file false read is good = all_taken file is
+whole_if file true read is good = absurd (cc (good, too_large file (above most_check_bytes (length file) is)))
+
+pub whole : (file : List ℕ) (read : Header × List CheckLine) → check_file_of file ≡ Ok read → take (1 + most_check_bytes) file ≡ file
+whole file read good = whole_if file (nat_lt most_check_bytes (length file)) read refl good

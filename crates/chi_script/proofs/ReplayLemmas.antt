@@ -1,5 +1,6 @@
 -- A replay file is a check file in which no answer is wanted.
-use Rattle.std.proofs.Common.{◌≡◌, ℕ, ◌+◌, ◌==◌, nat_lt, Bool, true, false, cond, List, [], ◌∷◌, length, map, None, Result, Ok, Err, refl, ap, subst, ◌∙◌}
+use Rattle.std.proofs.Common.{◌≡◌, ℕ, ◌+◌, ◌==◌, nat_lt, Bool, true, false, cond, List, [], ◌∷◌, length, map, None, Result, Ok, Err, refl, ap, subst, ◌∙◌, arith}
+use Rattle.std.proofs.lemmas.Bool.Decides.{nat_tests}
 use Rattle.std.specs.List.{All}
 use Rattle.std.proofs.lemmas.List.Elements.{All-nil, All-cons}
 use Rattle.chi_script.specs.declared.commands.Command.{Command}
@@ -13,7 +14,7 @@ use Rattle.chi_script.specs.Words.{words_of}
 use Rattle.chi_script.proofs.CommandLemmas.{line_read}
 use Rattle.chi_script.proofs.HeaderLemmas.{header_line}
 use Rattle.chi_script.specs.Checks.{CheckLine, is_comment}
-use Rattle.chi_script.specs.CheckFiles.{check_file_of, checks_at, checks_of, check_script_of}
+use Rattle.chi_script.specs.CheckFiles.{most_check_bytes, check_file_of, checks_at, checks_of, check_script_of}
 use Rattle.chi_script.specs.CheckSpelling.{IsReplayed}
 use Rattle.chi_script.proofs.CheckLemmas.{header_no_comment, made}
 use Rattle.chi_script.proofs.CheckFileLemmas.{bound, check_at_again, taken}
@@ -74,8 +75,12 @@ fits : (b : Bool) (read : Result (Header × List Command) Fault) (x : Header × 
 fits true read x e = cc
 fits false read x e = (refl, e)
 
+-- what fits a replay file fits a check file
+fits_both : (n : ℕ) → nat_lt 1048576 n ≡ false → nat_lt most_check_bytes n ≡ false
+fits_both n e = grind (arith, nat_tests)
+
 pub file_replayed : (header : Header) (commands : List Command) (file : List ℕ) → file_of file ≡ Ok (header, commands) → IsReplayed header commands (check_file_of file)
 unfolding file_of check_file_of
 file_replayed header commands file e =
     let size = fits (nat_lt 1048576 (length file)) (replay_of (lines_of file)) (header, commands) e in
-    rw size.0 (lines_replayed header commands (lines_of file) size.1)
+    rw (fits_both (length file) size.0) (lines_replayed header commands (lines_of file) size.1)

@@ -7,6 +7,10 @@ use Rattle.chi_script.specs.declared.faults.Fault.TheVariants.{BadHeader, BadCom
 use Rattle.chi_script.specs.Files.{◌>>=◌, lines_of, header_at}
 use Rattle.chi_script.specs.Checks.{CheckLine, check_of, is_comment}
 
+-- the most bytes that a check file may have
+abbrev pub most_check_bytes : ℕ
+most_check_bytes = 16777216
+
 -- the check that line n is
 abbrev pub check_at : ℕ → List ℕ → Result CheckLine Fault
 check_at n line = ok_or (check_of n line) (BadCommand n)
@@ -38,4 +42,4 @@ check_script_of n (line ∷ next ∷ rest) =
 
 -- a file's header and checks, or its first fault
 unfoldable pub check_file_of : List ℕ → Result (Header × List CheckLine) Fault
-check_file_of file = if nat_lt 1048576 (length file) then Err TooLarge else check_script_of 1 (lines_of file)
+check_file_of file = if nat_lt most_check_bytes (length file) then Err TooLarge else check_script_of 1 (lines_of file)

@@ -7,6 +7,7 @@ use Rattle.chi_script.specs.declared.headers.Header.{Header}
 use Rattle.chi_script.specs.Files.{lines_of}
 use Rattle.chi_script.specs.Spelling.{IsHeaderLine, IsLine}
 use Rattle.chi_script.specs.Checks.{CheckLine, arrow}
+use Rattle.chi_script.specs.CheckFiles.{most_check_bytes}
 
 -- a line without bytes, or one that begins with #
 abbrev pub IsComment : List ℕ → Type 0
@@ -40,9 +41,9 @@ AreHeaderAndChecks n header checks (line ∷ lines) =
     ⊎ (IsHeaderLine header line × AreChecks (n + 1) checks lines)
 
 -- a file that is this header and these checks: lines with a line end behind each, and no more bytes than a
--- file may have
+-- check file may have
 pub record IsCheckFile (header : Header) (checks : List CheckLine) (file : List ℕ) : Type 0 where
-  pub size : length file ≤ 1048576
+  pub size : length file ≤ most_check_bytes
   pub lines : List (List ℕ)
   pub closed : lines_of file ≡ lines ++ [] ∷ []
   pub text : AreHeaderAndChecks 1 header checks lines

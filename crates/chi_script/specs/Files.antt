@@ -19,6 +19,10 @@ abbrev pub ◌>>=◌ : {A B : Type 0} → Result A Fault → (A → Result B Fau
 abbrev pub lines_of : List ℕ → List (List ℕ)
 lines_of file = slice_split (λ b. b == 10) file
 
+-- a text that is one line, without its line end
+abbrev pub IsOneLine : List ℕ → Type 0
+IsOneLine text = lines_of text ≡ text ∷ []
+
 -- the header that line n is
 abbrev pub header_at : ℕ → List ℕ → Result Header Fault
 header_at n line = ok_or (header_of (words_of line)) (BadHeader n)

@@ -5,13 +5,17 @@ ghost use Rattle.chi_script.specs.Faults.{Gives};
 ghost use Rattle.chi_script.specs.Files.{lines_of};
 ghost use Rattle.chi_script.specs.Headers.{is_in_limits};
 ghost use Rattle.chi_script.specs.Checks.{line_of_check};
-ghost use Rattle.chi_script.specs.CheckFiles.{check_file_of, checks_of, check_script_of, with_check_line};
+ghost use Rattle.chi_script.specs.CheckFiles.{check_file_of, checks_of, check_script_of, most_check_bytes, with_check_line};
 
 use crate::checks::{Check, check_in, is_comment};
 use crate::faults::Fault;
-use crate::files::{MOST_BYTES, first_line, header_in};
+use crate::files::{first_line, header_in};
 use crate::headers::Header;
 use std::alloc::Allocator;
+
+/// The most bytes that a check file may have.
+/// Source: `docs/FORMATS.md`, "Check files".
+pub const MOST_CHECK_BYTES: usize = 16_777_216;
 
 /// A good check file: the sizes of the system, and the commands in order, each with the answer that is
 /// wanted of it, where one is.
@@ -25,7 +29,7 @@ pub struct CheckFile<'a, A: Allocator> {
 
 /// The header and the checks of a check file, which is read whole.
 ///
-/// `TooLarge` where the file has more than `MOST_BYTES` bytes, before all else. Otherwise the first
+/// `TooLarge` where the file has more than `MOST_CHECK_BYTES` bytes, before all else. Otherwise the first
 /// faulty line is told, comments aside: `BadHeader`, `BadCommand`, or `MissingNewline` where bytes stand
 /// behind the last line end. A file of comments alone is `BadHeader`, at the line behind them. `NoMemory`
 /// where memory runs out.
@@ -38,7 +42,7 @@ pub fn read_checks<'a, A: Allocator + Copy>(
     ensures { Gives (λ script. (script.header, map line_of_check script.checks.items)) result
         (check_file_of bytes.now) }
 {
-    if bytes.len() > MOST_BYTES {
+    if bytes.len() > MOST_CHECK_BYTES {
         return Err(Fault::TooLarge);
     }
     read_lines(alloc, bytes)
@@ -46,7 +50,7 @@ pub fn read_checks<'a, A: Allocator + Copy>(
 
 /// The header and the checks of the lines from line 1 on.
 fn read_lines<'a, A: Allocator + Copy>(alloc: A, bytes: &'a [u8]) -> Result<CheckFile<'a, A>, Fault>
-    requires { length bytes.now ≤ 1048576 }
+    requires { length bytes.now ≤ most_check_bytes }
     ensures { Gives (λ script. (script.header, map line_of_check script.checks.items)) result
         (check_script_of 1 (lines_of bytes.now)) }
 {
@@ -74,7 +78,7 @@ fn checks_from<'a, A: Allocator + Copy>(
     bytes: &'a [u8],
     first: usize,
 ) -> Result<Vec<Check<'a>, A>, Fault>
-    requires { first + length bytes.now ≤ 1048577 }
+    requires { first + length bytes.now ≤ 1 + most_check_bytes }
     ensures { Gives (λ checks. map line_of_check checks.items) result
         (checks_of first (lines_of bytes.now)) }
 {

@@ -35,7 +35,7 @@ pub(crate) fn is_comment(line: &[u8]) -> bool
 }
 
 /// What stands before the line's first arrow, and what behind it, where there is one.
-fn parts(line: &[u8]) -> (&[u8], Option<&[u8]>)
+pub(crate) fn parts(line: &[u8]) -> (&[u8], Option<&[u8]>)
     ensures front { result.0.now ≡ (parts_of line.now).0 }
     ensures answer { option_map (λ text. text.now) result.1 ≡ (parts_of line.now).1 }
 {

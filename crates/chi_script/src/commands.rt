@@ -269,7 +269,7 @@ fn step_with_two(verb: &[u8], third: &[u8], fourth: &[u8]) -> Option<Step>
 
 /// The kind of request that the word names.
 #[tactic(auto, unfolding(crate::specs::Commands::kind_named))]
-fn read_kind(word: &[u8]) -> Option<Kind>
+pub(crate) fn read_kind(word: &[u8]) -> Option<Kind>
     ensures { result ≡ kind_named word.now }
 {
     if is(word, "ReadNotSharedDirty") {

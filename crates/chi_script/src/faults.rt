@@ -21,7 +21,7 @@ pub enum Fault {
     BadCommand(usize),
     /// This line, counted from 1, is the last and no line end follows it.
     MissingNewline(usize),
-    /// The file has more than 1,048,576 bytes.
+    /// The file has more bytes than one of its kind may have.
     TooLarge,
     /// The input failed.
     Read,

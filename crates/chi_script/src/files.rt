@@ -13,7 +13,7 @@ use crate::words::read_words;
 use memchr::memchr;
 use std::alloc::Allocator;
 
-/// The most bytes that a file may have.
+/// The most bytes that a replay file or a storm file may have.
 /// Source: `docs/PROTOCOL.md`, "Limits".
 pub const MOST_BYTES: usize = 1_048_576;
 

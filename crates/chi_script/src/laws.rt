@@ -1,6 +1,6 @@
 //! Laws of the grammars: what is read is what is written, in the words of the page on each kind of file.
 
-ghost use Rattle.std.specs.Prelude.{◌≡◌, ℕ, List, take, true};
+ghost use Rattle.std.specs.Prelude.{◌≡◌, ℕ, ◌+◌, List, take, true};
 ghost use Rattle.chi_script.specs.declared.headers.Header.{Header};
 ghost use Rattle.chi_script.specs.Words.{number_of};
 ghost use Rattle.chi_script.specs.Headers.{is_in_limits, line_header};
@@ -8,7 +8,7 @@ ghost use Rattle.chi_script.specs.Commands.{line_command};
 ghost use Rattle.chi_script.specs.Files.{file_of};
 ghost use Rattle.chi_script.specs.Spelling.{FilesAll, FilesOnly, IsNumber, IsLine, IsHeaderLine, ReadsAll, ReadsOnly};
 ghost use Rattle.chi_script.specs.Checks.{check_of};
-ghost use Rattle.chi_script.specs.CheckFiles.{check_file_of};
+ghost use Rattle.chi_script.specs.CheckFiles.{check_file_of, most_check_bytes};
 ghost use Rattle.chi_script.specs.CheckSpelling.{IsCheckFile, IsCheckLine, IsReplayed};
 ghost use Rattle.chi_script.specs.Operations.{line_operation};
 ghost use Rattle.chi_script.specs.StormSpelling.{IsOperationLine, IsStormFile};
@@ -52,7 +52,7 @@ pub fn checks_are_lines()
 
 /// A file is read as a header and checks exactly where it is lines, each with a line end behind it, that are
 /// comments, the header and the checks in their order, the header within the limits and before all checks,
-/// and has no more bytes than a file may have.
+/// and has no more bytes than a check file may have.
 /// Source: `docs/FORMATS.md`, "Check files", and `docs/PROTOCOL.md`, "Limits".
 pub fn check_files_are_lines()
     ensures read { FilesOnly check_file_of (λ script. IsCheckFile script.0 script.1) }
@@ -65,10 +65,11 @@ pub fn replays_are_check_files()
     ensures { FilesOnly file_of (λ script file. IsReplayed script.0 script.1 (check_file_of file)) }
 {}
 
-/// One byte more than a file may have is enough of it: the rest changes nothing.
+/// One byte more than a check file may have is enough of it: the rest changes nothing.
 /// Source: `docs/FORMATS.md`, "Check files".
 pub fn check_front_is_enough()
-    ensures { (file : List ℕ) → check_file_of (take 1048577 file) ≡ check_file_of file }
+    ensures { (file : List ℕ) → check_file_of (take (1 + most_check_bytes) file)
+        ≡ check_file_of file }
 {}
 
 /// A line is read as an operation exactly where it is the one spelling of it, with one space between two

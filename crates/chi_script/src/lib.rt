@@ -11,6 +11,7 @@ mod faults;
 mod files;
 mod good_lines;
 mod headers;
+mod hints;
 mod laws;
 mod numbers;
 mod operations;
@@ -19,13 +20,14 @@ mod storms;
 mod usual_lines;
 mod words;
 
-pub use check_files::{CheckFile, read_checks};
+pub use check_files::{CheckFile, MOST_CHECK_BYTES, read_checks};
 pub use checks::Check;
 pub use commands::{Command, read_command};
 pub use faults::Fault;
 pub use files::{MOST_BYTES, ReplayFile, command_in, first_line, header_in, read_file, read_head};
 pub use good_lines::check_lines;
 pub use headers::{Header, read_header};
+pub use hints::hint_at;
 pub use laws::{
     check_files_are_lines, check_front_is_enough, checks_are_lines, commands_are_lines,
     headers_are_lines, numbers_are_decimal, operations_are_lines, replay_front_is_enough,

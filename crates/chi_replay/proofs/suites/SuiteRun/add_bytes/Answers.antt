@@ -2,6 +2,7 @@
 use Rattle.std.proofs.Common.{Some, string_bytes}
 use Rattle.chi_script.specs.Faults.{Fails}
 use Rattle.chi_script.specs.CheckFiles.{check_file_of}
+use Rattle.chi_script.specs.Files.{IsOneLine}
 use Rattle.chi_replay.specs.Checks.{IsComparison}
 use Rattle.chi_replay.specs.Suites.{given}
 use Rattle.chi_replay.proofs.SuiteLemmas.{goes_faulty, goes_found, may_fail, state_in}
@@ -18,7 +19,8 @@ returns-in-Ok g c =
 pub returns : goal.returns
 returns g c =
     let fails : Fails c.in-Err.fault (check_file_of c.args.bytes.now) = c.in-Err.ensures.err in
-    goes_faulty c.add_fault.result c.args.form c.args.number (given c.args.name.now (Some c.args.bytes.now)) c.in-Err.fault
+    let one : IsOneLine c.as_str.result.now = rw c.as_str.ensures.value c.in_ok-hint-in-Err.ensures in
+    goes_faulty c.add_fault.result c.args.form c.args.number (given c.args.name.now (Some c.args.bytes.now)) c.in-Err.fault c.as_str.result.now
     (state_in c.args.self.now.text.items (string_bytes c.args.self.now.faults) c.args.self.now.fault c.args.self.now.counts)
     (state_in c.add_fault.new.self.text.items (string_bytes c.add_fault.new.self.faults) c.add_fault.new.self.fault c.add_fault.new.self.counts)
-    (may_fail c.add_fault.result c.args.bytes.now c.in-Err.fault fails c.add_fault.ensures.memory) c.add_fault.ensures.text c.add_fault.ensures.faults c.add_fault.ensures.fault c.add_fault.ensures.counts
+    (may_fail c.add_fault.result c.args.bytes.now c.in-Err.fault c.as_str.result.now one fails c.add_fault.ensures.memory) c.add_fault.ensures.text c.add_fault.ensures.faults c.add_fault.ensures.fault c.add_fault.ensures.counts
