@@ -5,9 +5,15 @@ use Rattle.std.specs.Prelude.{option_to_list}
 use Rattle.chi_coverage.specs.declared.cells.Cell.{Cell}
 use Rattle.chi_coverage.specs.Counts.{counted}
 use Rattle.chi_coverage.specs.declared.scenes.Scene.{Scene}
-use Rattle.chi_coverage.specs.declared.tables.Named.{Named}
+use Rattle.chi_coverage.specs.declared.named.Named.{Named}
+use Rattle.chi_coverage.specs.declared.past.Past.{Past}
 use Rattle.chi_coverage.specs.Coverage.{cells_shown, listed}
-use Rattle.chi_coverage.specs.Steps.{cells_seen, limit_cells, message_cells, named_of, outcome_cells, scene_cells, scene_named}
+use Rattle.chi_coverage.specs.Messages.{message_cells}
+use Rattle.chi_coverage.specs.Named.{named_of}
+use Rattle.chi_coverage.specs.Outcomes.{limit_cells, outcome_cells}
+use Rattle.chi_coverage.specs.Past.{past_cells}
+use Rattle.chi_coverage.specs.Scenes.{scene_named}
+use Rattle.chi_coverage.specs.Steps.{cells_seen, scene_cells}
 use Rattle.chi_flit.specs.declared.credit.Profile.{Profile}
 use Rattle.chi_script.specs.declared.commands.Command.{Command}
 use Rattle.chi_slice.specs.Words.{LineView, Sizes}
@@ -20,31 +26,38 @@ counted_append counts (cell ∷ one) other = counted_append (slice_set counts (c
 pub listed_append : (one other : List (Option Cell)) → listed (one ++ other) ≡ listed one ++ listed other
 listed_append one other = flat_map-append (λ cell. option_to_list cell) one other
 
--- four lists of cells, counted one after the other
-pub counted_four : (start a b c d : List ℕ) (p q r s : List (Option Cell)) → a ≡ counted start (listed p) → b ≡ counted a (listed q) → c ≡ counted b (listed r) → d ≡ counted c (listed s)
-    → d ≡ counted start (listed (p ++ (q ++ (r ++ s))))
-counted_four start a b c d p q r s e f g h =
-    let lists : listed (p ++ (q ++ (r ++ s))) ≡ listed p ++ (listed q ++ (listed r ++ listed s)) =
-    listed_append p (q ++ (r ++ s)) ∙ ap (λ (x : List Cell). listed p ++ x) (listed_append q (r ++ s) ∙ ap (λ (x : List Cell). listed q ++ x) (listed_append r s)) in
-    let all : counted start (listed p ++ (listed q ++ (listed r ++ listed s))) ≡ counted (counted (counted (counted start (listed p)) (listed q)) (listed r)) (listed s) =
-    counted_append start (listed p) (listed q ++ (listed r ++ listed s))
-    ∙ (counted_append (counted start (listed p)) (listed q) (listed r ++ listed s) ∙ counted_append (counted (counted start (listed p)) (listed q)) (listed r) (listed s)) in
-    h ∙ (ap (λ (x : List ℕ). counted x (listed s)) (g ∙ ap (λ (x : List ℕ). counted x (listed r)) (f ∙ ap (λ (x : List ℕ). counted x (listed q)) e))
+-- five lists of cells, counted one after the other
+pub counted_five : (start a b c d e : List ℕ) (p q r s t : List (Option Cell)) → a ≡ counted start (listed p) → b ≡ counted a (listed q) → c ≡ counted b (listed r) → d ≡ counted c (listed s)
+    → e ≡ counted d (listed t) → e ≡ counted start (listed (p ++ (q ++ (r ++ (s ++ t)))))
+counted_five start a b c d e p q r s t f g h i j =
+    let lists : listed (p ++ (q ++ (r ++ (s ++ t)))) ≡ listed p ++ (listed q ++ (listed r ++ (listed s ++ listed t))) =
+    listed_append p (q ++ (r ++ (s ++ t))) ∙ ap (λ (x : List Cell). listed p ++ x) (listed_append q (r ++ (s ++ t))
+    ∙ ap (λ (x : List Cell). listed q ++ x) (listed_append r (s ++ t) ∙ ap (λ (x : List Cell). listed r ++ x) (listed_append s t))) in
+    let all : counted start (listed p ++ (listed q ++ (listed r ++ (listed s ++ listed t)))) ≡ counted (counted (counted (counted (counted start (listed p)) (listed q)) (listed r)) (listed s)) (listed t) =
+    counted_append start (listed p) (listed q ++ (listed r ++ (listed s ++ listed t)))
+    ∙ (counted_append (counted start (listed p)) (listed q) (listed r ++ (listed s ++ listed t))
+    ∙ (counted_append (counted (counted start (listed p)) (listed q)) (listed r) (listed s ++ listed t)
+    ∙ counted_append (counted (counted (counted start (listed p)) (listed q)) (listed r)) (listed s) (listed t))) in
+    j ∙ (ap (λ (x : List ℕ). counted x (listed t)) (i ∙ ap (λ (x : List ℕ). counted x (listed s)) (h ∙ ap (λ (x : List ℕ). counted x (listed r)) (g ∙ ap (λ (x : List ℕ). counted x (listed q)) f)))
     ∙ (sym all ∙ ap (counted start) (sym lists)))
 
 -- the cells of a step, counted table by table
-pub counted_seen : {T E : Type 0} (result : Result T E) (config : Sizes) (command : Command) (before : Option LineView) (line : List ℕ) (after : Option LineView) (named : Named) (scene : Option Scene) (profile : Profile)
-    (start a b c d : List ℕ) (p q r s : List (Option Cell)) → named ≡ named_of command → scene ≡ scene_named before named.agent → profile ≡ config.profile
+pub counted_seen : {T E : Type 0} (result : Result T E) (config : Sizes) (past : Past) (command : Command) (before : Option LineView) (line : List ℕ) (after : Option LineView) (named : Named) (scene : Option Scene)
+    (profile : Profile) (start a b c d e : List ℕ) (p q r s t : List (Option Cell)) → named ≡ named_of command → scene ≡ scene_named before named.agent → profile ≡ config.profile
     → p ≡ outcome_cells config named scene line → q ≡ limit_cells config named line → r ≡ scene_cells profile named scene line after → s ≡ message_cells named scene line
-    → a ≡ counted start (listed p) → b ≡ counted a (listed q) → c ≡ counted b (listed r) → OnOk result (d ≡ counted c (listed s))
-    → OnOk result (d ≡ counted start (cells_shown config command before line after))
-counted_seen (Err lack) config command before line after named scene profile start a b c d p q r s e1 e2 e3 f1 f2 f3 f4 g1 g2 g3 g4 = g4
-counted_seen (Ok done) config command before line after named scene profile start a b c d p q r s e1 e2 e3 f1 f2 f3 f4 g1 g2 g3 g4 =
-    let one : p ++ (q ++ (r ++ s)) ≡ outcome_cells config named scene line ++ (limit_cells config named line ++ (scene_cells profile named scene line after ++ message_cells named scene line)) =
-    ap (λ (x : List (Option Cell)). x ++ (q ++ (r ++ s))) f1 ∙ ap (λ (x : List (Option Cell)). outcome_cells config named scene line ++ x)
-    (ap (λ (x : List (Option Cell)). x ++ (r ++ s)) f2 ∙ ap (λ (x : List (Option Cell)). limit_cells config named line ++ x)
-    (ap (λ (x : List (Option Cell)). x ++ s) f3 ∙ ap (λ (x : List (Option Cell)). scene_cells profile named scene line after ++ x) f4)) in
-    let two = ap (λ (x : Profile). outcome_cells config named scene line ++ (limit_cells config named line ++ (scene_cells x named scene line after ++ message_cells named scene line))) e3 in
-    let three = ap (λ (x : Option Scene). cells_seen config named x line after) e2 in
-    let four = ap (λ (x : Named). cells_seen config x (scene_named before x.agent) line after) e1 in
-    counted_four start a b c d p q r s g1 g2 g3 g4 ∙ ap (λ (x : List (Option Cell)). counted start (listed x)) (one ∙ (two ∙ (three ∙ four)))
+    → t ≡ past_cells config past named scene line after
+    → a ≡ counted start (listed p) → b ≡ counted a (listed q) → c ≡ counted b (listed r) → d ≡ counted c (listed s) → OnOk result (e ≡ counted d (listed t))
+    → OnOk result (e ≡ counted start (cells_shown config past command before line after))
+counted_seen (Err lack) config past command before line after named scene profile start a b c d e p q r s t e1 e2 e3 f1 f2 f3 f4 f5 g1 g2 g3 g4 g5 = g5
+counted_seen (Ok done) config past command before line after named scene profile start a b c d e p q r s t e1 e2 e3 f1 f2 f3 f4 f5 g1 g2 g3 g4 g5 =
+    let one : p ++ (q ++ (r ++ (s ++ t)))
+    ≡ outcome_cells config named scene line ++ (limit_cells config named line ++ (scene_cells profile named scene line after ++ (message_cells named scene line ++ past_cells config past named scene line after))) =
+    ap (λ (x : List (Option Cell)). x ++ (q ++ (r ++ (s ++ t)))) f1 ∙ ap (λ (x : List (Option Cell)). outcome_cells config named scene line ++ x)
+    (ap (λ (x : List (Option Cell)). x ++ (r ++ (s ++ t))) f2 ∙ ap (λ (x : List (Option Cell)). limit_cells config named line ++ x)
+    (ap (λ (x : List (Option Cell)). x ++ (s ++ t)) f3 ∙ ap (λ (x : List (Option Cell)). scene_cells profile named scene line after ++ x)
+    (ap (λ (x : List (Option Cell)). x ++ t) f4 ∙ ap (λ (x : List (Option Cell)). message_cells named scene line ++ x) f5))) in
+    let two = ap (λ (x : Profile). outcome_cells config named scene line ++ (limit_cells config named line
+    ++ (scene_cells x named scene line after ++ (message_cells named scene line ++ past_cells config past named scene line after)))) e3 in
+    let three = ap (λ (x : Option Scene). cells_seen config past named x line after) e2 in
+    let four = ap (λ (x : Named). cells_seen config past x (scene_named before x.agent) line after) e1 in
+    counted_five start a b c d e p q r s t g1 g2 g3 g4 g5 ∙ ap (λ (x : List (Option Cell)). counted start (listed x)) (one ∙ (two ∙ (three ∙ four)))

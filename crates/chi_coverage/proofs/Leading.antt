@@ -1,7 +1,6 @@
 -- What was played leads on: whatever answers the commands that are left get, what was counted with their cells is the
 -- count of a run.
 use Rattle.std.proofs.Common.{◌≡◌, ℕ, List, [], ◌∷◌, ◌++◌, Option, Result, Ok, Err, OnOk, refl, sym, ◌∙◌, ap, subst}
-use Rattle.std.specs.List.{flat_map}
 use Rattle.chi_node.specs.Words.{TableId, PortView}
 use Rattle.chi_script.specs.declared.commands.Command.{Command}
 use Rattle.chi_slice.specs.Words.{LineView, Sizes}
@@ -13,30 +12,35 @@ use Rattle.chi_replay.proofs.Openings.{opening_machine, opening_views}
 use Rattle.chi_replay.proofs.Playing.{made_plays}
 use Rattle.chi_coverage.specs.declared.cells.Cell.{Cell}
 use Rattle.chi_coverage.specs.Counts.{counted, IsCountedRun, IsCountedStep}
-use Rattle.chi_coverage.specs.Coverage.{PlayedStep, cells_of_step, cells_shown, played_steps, view_in}
-use Rattle.chi_coverage.specs.Steps.{named_of}
+use Rattle.chi_coverage.specs.declared.past.Past.{Past}
+use Rattle.chi_coverage.specs.Coverage.{PlayedStep, cells_of_step, cells_of_steps, cells_shown, past_of_step, past_shown, played_steps, view_in}
+use Rattle.chi_coverage.specs.Named.{named_of}
+use Rattle.chi_coverage.specs.Past.{no_past}
 use Rattle.chi_coverage.proofs.Counting.{counted_append}
 
-abbrev pub run_cells : Sizes → Machine → List Command → List TurnAnswer → List Cell
-run_cells config m commands answers = flat_map (cells_of_step config) (played_steps m commands answers)
+abbrev pub run_cells : Sizes → Past → Machine → List Command → List TurnAnswer → List Cell
+run_cells config past m commands answers = cells_of_steps config past (played_steps m commands answers)
 
-abbrev pub LeadsOn : Sizes → List Command → (start now : List ℕ) → Machine → List PortView → List Command → Type 0
-LeadsOn config all start now m ports rest = (answers : List TurnAnswer) → MayAnswer m ports rest answers → IsCountedRun config all start (counted now (run_cells config m rest answers))
+abbrev pub LeadsOn : Sizes → List Command → (start now : List ℕ) → Past → Machine → List PortView → List Command → Type 0
+LeadsOn config all start now past m ports rest =
+    (answers : List TurnAnswer) → MayAnswer m ports rest answers → IsCountedRun config all start (counted now (run_cells config past m rest answers))
 
-leads_from : (config : Sizes) (all : List Command) (start : List ℕ) → LeadsOn config all start start (machine_at_start config) (opening_ports config) all
+leads_from : (config : Sizes) (all : List Command) (start : List ℕ) → LeadsOn config all start start no_past (machine_at_start config) (opening_ports config) all
 leads_from config all start = λ answers allowed. record { answers = answers; allowed = allowed; is = refl }
 
 -- before the first command
-pub leads_first : (config : Sizes) (all : List Command) (start : List ℕ) (z : TableId) (y : SystemState) → y ≡ opening_system config z → LeadsOn config all start start (machine_of y) (ports_of y) all
-leads_first config all start z y is =
-    subst (λ (m : Machine). LeadsOn config all start start m (ports_of y) all) (sym (opening_machine config z y is))
-    (subst (λ (ports : List PortView). LeadsOn config all start start (machine_at_start config) ports all) (sym (opening_views config z y is)) (leads_from config all start))
+pub leads_first : (config : Sizes) (all : List Command) (start : List ℕ) (past : Past) (z : TableId) (y : SystemState) → past ≡ no_past → y ≡ opening_system config z
+    → LeadsOn config all start start past (machine_of y) (ports_of y) all
+leads_first config all start past z y none is =
+    subst (λ (p : Past). LeadsOn config all start start p (machine_of y) (ports_of y) all) (sym none)
+    (subst (λ (m : Machine). LeadsOn config all start start no_past m (ports_of y) all) (sym (opening_machine config z y is))
+    (subst (λ (ports : List PortView). LeadsOn config all start start no_past (machine_at_start config) ports all) (sym (opening_views config z y is)) (leads_from config all start)))
 
 -- after one more command
-pub leads_further : (config : Sizes) (all : List Command) (start now now' : List ℕ) (old new : SystemState) (command : Command) (rest : List Command)
-    → LeadsOn config all start now (machine_of old) (ports_of old) (command ∷ rest) → IsCountedStep config old new command now now'
-    → LeadsOn config all start now' (machine_of new) (ports_of new) rest
-leads_further config all start now now' old new command rest leads played = λ later allowed.
+pub leads_further : (config : Sizes) (all : List Command) (start now now' : List ℕ) (past past' : Past) (old new : SystemState) (command : Command) (rest : List Command)
+    → LeadsOn config all start now past (machine_of old) (ports_of old) (command ∷ rest) → IsCountedStep config past past' old new command now now'
+    → LeadsOn config all start now' past' (machine_of new) (ports_of new) rest
+leads_further config all start now now' past past' old new command rest leads played = λ later allowed.
     let mine = played.answers in
     let said = played.said in
     let whole = leads (mine ++ later) (mine, later, said, machine_of new, ports_of new, refl, played.plays, allowed) in
@@ -44,35 +48,41 @@ leads_further config all start now now' old new command rest leads played = λ l
     let first : PlayedStep = record { command = command; answer = said ++ (10 ∷ []); before = old.home; after = new.home } in
     let steps : played_steps (machine_of old) (command ∷ rest) (mine ++ later) ≡ first ∷ played_steps (machine_of new) rest later =
     ap (λ (x : Ending). record { command = command; answer = x.said ++ (10 ∷ []); before = old.home; after = x.state.home } ∷ played_steps x.state rest x.left) made in
-    let cells : run_cells config (machine_of old) (command ∷ rest) (mine ++ later) ≡ cells_of_step config first ++ run_cells config (machine_of new) rest later =
-    ap (flat_map (cells_of_step config)) steps in
-    let same : counted now (run_cells config (machine_of old) (command ∷ rest) (mine ++ later)) ≡ counted now' (run_cells config (machine_of new) rest later) =
-    ap (counted now) cells ∙ (counted_append now (cells_of_step config first) (run_cells config (machine_of new) rest later)
-    ∙ ap (λ (counts : List ℕ). counted counts (run_cells config (machine_of new) rest later)) (sym played.is)) in
+    let cells : run_cells config past (machine_of old) (command ∷ rest) (mine ++ later)
+    ≡ cells_of_step config past first ++ run_cells config (past_of_step config past first) (machine_of new) rest later =
+    ap (cells_of_steps config past) steps in
+    let left : cells_of_step config past first ++ run_cells config (past_of_step config past first) (machine_of new) rest later
+    ≡ cells_of_step config past first ++ run_cells config past' (machine_of new) rest later =
+    ap (λ (p : Past). cells_of_step config past first ++ run_cells config p (machine_of new) rest later) (sym played.leaves) in
+    let same : counted now (run_cells config past (machine_of old) (command ∷ rest) (mine ++ later)) ≡ counted now' (run_cells config past' (machine_of new) rest later) =
+    ap (counted now) (cells ∙ left) ∙ (counted_append now (cells_of_step config past first) (run_cells config past' (machine_of new) rest later)
+    ∙ ap (λ (counts : List ℕ). counted counts (run_cells config past' (machine_of new) rest later)) (sym played.is)) in
     subst (IsCountedRun config all start) same whole
 
 -- after the last command
-pub leads_to : (config : Sizes) (all : List Command) (start now : List ℕ) (m : Machine) (ports : List PortView) → LeadsOn config all start now m ports [] → IsCountedRun config all start now
-leads_to config all start now m ports leads = leads [] refl
+pub leads_to : (config : Sizes) (all : List Command) (start now : List ℕ) (past : Past) (m : Machine) (ports : List PortView) → LeadsOn config all start now past m ports [] → IsCountedRun config all start now
+leads_to config all start now past m ports leads = leads [] refl
 
--- the counts so far and the node lead on with the commands that are left
-pub record Led (config : Sizes) (all : List Command) (start now : List ℕ) (system : SystemState) (rest : List Command) : Type 0 where
-  pub leads : LeadsOn config all start now (machine_of system) (ports_of system) rest
+-- the counts so far, what the steps left and the node lead on with the commands that are left
+pub record Led (config : Sizes) (all : List Command) (start now : List ℕ) (past : Past) (system : SystemState) (rest : List Command) : Type 0 where
+  pub leads : LeadsOn config all start now past (machine_of system) (ports_of system) rest
 
 -- a command was played, and what it said and what stood at its line was counted
-pub counted_step : {T E : Type 0} (result : Result T E) (config : Sizes) (old new : SystemState) (command : Command) (counts counts' start text line : List ℕ) (before after : Option LineView)
+pub counted_step : {T E : Type 0} (result : Result T E) (config : Sizes) (past past' : Past) (old new : SystemState) (command : Command) (counts counts' start text line : List ℕ) (before after : Option LineView)
     → start ≡ [] → SaysTurn command old new start text → line ≡ text → before ≡ view_in old.home (named_of command).line → after ≡ view_in new.home (named_of command).line
-    → OnOk result (counts' ≡ counted counts (cells_shown config command before line after)) → OnOk result (IsCountedStep config old new command counts counts')
-counted_step (Err lack) config old new command counts counts' start text line before after none says same seen left made = made
-counted_step (Ok done) config old new command counts counts' start text line before after none says same seen left made =
+    → counts' ≡ counted counts (cells_shown config past command before line after) → OnOk result (past' ≡ past_shown config past command before line) → OnOk result (IsCountedStep config past past' old new command counts counts')
+counted_step (Err lack) config past past' old new command counts counts' start text line before after none says same seen left made follows = follows
+counted_step (Ok done) config past past' old new command counts counts' start text line before after none says same seen left made follows =
     let said : line ≡ says.1 ++ (10 ∷ []) = same ∙ (says.3 ∙ ap (λ (l : List ℕ). l ++ (says.1 ++ (10 ∷ []))) none) in
     record {
       answers = says.0;
       said = says.1;
       plays = says.2;
-      is = made ∙ (ap (λ (v : Option LineView). counted counts (cells_shown config command v line after)) seen
-          ∙ (ap (λ (v : Option LineView). counted counts (cells_shown config command (view_in old.home (named_of command).line) line v)) left
-          ∙ ap (λ (l : List ℕ). counted counts (cells_shown config command (view_in old.home (named_of command).line) l (view_in new.home (named_of command).line))) said));
+      is = made ∙ (ap (λ (v : Option LineView). counted counts (cells_shown config past command v line after)) seen
+          ∙ (ap (λ (v : Option LineView). counted counts (cells_shown config past command (view_in old.home (named_of command).line) line v)) left
+          ∙ ap (λ (l : List ℕ). counted counts (cells_shown config past command (view_in old.home (named_of command).line) l (view_in new.home (named_of command).line))) said));
+      leaves = follows ∙ (ap (λ (v : Option LineView). past_shown config past command v line) seen
+          ∙ ap (λ (l : List ℕ). past_shown config past command (view_in old.home (named_of command).line) l) said);
     }
 
 -- the same run, of equal sizes and commands

@@ -20,6 +20,8 @@ use Rattle.chi_coverage.specs.declared.cells.Cell.{Cell}
 use Rattle.chi_coverage.specs.declared.cells.Cell.TheVariants as cells
 use Rattle.chi_coverage.specs.declared.cells.Form.{Form}
 use Rattle.chi_coverage.specs.declared.cells.Form.TheVariants as forms
+use Rattle.chi_coverage.specs.declared.cells.Found.{Found}
+use Rattle.chi_coverage.specs.declared.cells.Found.TheVariants as founds
 use Rattle.chi_coverage.specs.declared.cells.Reason.{Reason}
 use Rattle.chi_coverage.specs.declared.cells.Reason.TheVariants as reasons
 use Rattle.chi_coverage.specs.declared.cells.Shown.{Shown}
@@ -30,7 +32,7 @@ use Rattle.chi_coverage.specs.declared.cells.Verb.{Verb}
 use Rattle.chi_coverage.specs.declared.cells.Verb.TheVariants as verbs
 use Rattle.chi_coverage.specs.Counts.{count_at, counted}
 use Rattle.chi_coverage.specs.Coverage.{times_met}
-use Rattle.chi_coverage.specs.Places.{arrival_place, bool_place, cell_place, credit_place, form_place, is_cell, kind_place, place_count, profile_place, reason_place, shown_place, snoop_place, stage_place, place_of_state, verb_place}
+use Rattle.chi_coverage.specs.Places.{arrival_place, bool_place, cell_place, credit_place, form_place, found_place, is_cell, kind_place, place_count, profile_place, reason_place, shown_place, snoop_place, stage_place, place_of_state, verb_place}
 
 bool_low : (x : Bool) → bool_place x ≤ 1
 bool_low true = omega arith
@@ -68,6 +70,12 @@ credit_low credits.T0 = omega arith
 credit_low credits.T1 = omega arith
 credit_low credits.T2 = omega arith
 credit_low credits.T3 = omega arith
+
+found_low : (x : Found) → found_place x ≤ 3
+found_low founds.Nothing = omega arith
+found_low founds.One = omega arith
+found_low founds.TwoOfAType = omega arith
+found_low founds.SeveralTypes = omega arith
 
 stage_low : (x : Stage) → stage_place x ≤ 4
 stage_low stages.Sent = omega arith
@@ -192,6 +200,15 @@ cell_low cells.IssueBehindAck = omega arith
 cell_low cells.IssueBehindWrite = omega arith
 cell_low cells.OwnGrant = omega arith
 cell_low cells.TendIdle = omega arith
+cell_low (cells.RetryTaken kind granted) = omega (arith, kind_low kind, bool_low granted)
+cell_low (cells.Seen found) = omega (arith, found_low found)
+cell_low (cells.NotReturned cancelled seen) = omega (arith, bool_low cancelled, bool_low seen)
+cell_low (cells.BeforeFull verb pending) = omega (arith, verb_low verb, bool_low pending)
+cell_low cells.LoadBehindStore = omega arith
+cell_low cells.FullElsewhere = omega arith
+cell_low cells.SharedData = omega arith
+cell_low cells.MemoryBehindShared = omega arith
+cell_low cells.ReadBehindPassed = omega arith
 
 more_same : (b : Bool) (n m : ℕ) (d : Cell) (xs : List Cell) → b ≡ true → m ≡ n + 1 → m + length xs ≡ n + length (cond b (d ∷ xs) xs)
 more_same true n m d xs e f = omega (arith, f)

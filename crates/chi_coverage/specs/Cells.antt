@@ -1,5 +1,5 @@
--- The cells of the protocol's tables (docs/PROTOCOL.md): their names, and which no run reaches.
-use Rattle.std.specs.Prelude.{ℕ, List, ◌++◌, Bool, true, false, codes}
+-- The cells of the protocol's tables (docs/PROTOCOL.md): their names, which no run reaches, and short lists of them.
+use Rattle.std.specs.Prelude.{ℕ, List, [], ◌∷◌, ◌++◌, Bool, true, false, Option, Some, None, codes}
 use Rattle.chi_flit.specs.declared.credit.Profile.TheVariants as profiles
 use Rattle.chi_flit.specs.declared.kind.Kind.{Kind}
 use Rattle.chi_flit.specs.declared.kind.Kind.TheVariants as kinds
@@ -16,6 +16,8 @@ use Rattle.chi_coverage.specs.declared.cells.Cell.{Cell}
 use Rattle.chi_coverage.specs.declared.cells.Cell.TheVariants as cells
 use Rattle.chi_coverage.specs.declared.cells.Form.{Form}
 use Rattle.chi_coverage.specs.declared.cells.Form.TheVariants as forms
+use Rattle.chi_coverage.specs.declared.cells.Found.{Found}
+use Rattle.chi_coverage.specs.declared.cells.Found.TheVariants as founds
 use Rattle.chi_coverage.specs.declared.cells.Reason.{Reason}
 use Rattle.chi_coverage.specs.declared.cells.Reason.TheVariants as reasons
 use Rattle.chi_coverage.specs.declared.cells.Shown.{Shown}
@@ -86,6 +88,12 @@ shown_name showns.Flagged = codes "n has the flag"
 shown_name showns.Named = codes "n is named without the flag"
 shown_name showns.Owner = codes "n is the owner"
 
+abbrev pub found_text : Found → List ℕ
+found_text founds.Nothing = codes "none"
+found_text founds.One = codes "one"
+found_text founds.TwoOfAType = codes "two of a type"
+found_text founds.SeveralTypes = codes "of two types"
+
 abbrev pub stage_text : Stage → List ℕ
 stage_text stages.Sent = codes "its first attempt in flight"
 stage_text stages.RetryAck = codes "RetryAck in flight"
@@ -120,6 +128,7 @@ unfoldable pub cell_text : Cell → List ℕ
 cell_text (cells.Done verb) = verb_text verb ++ codes ": done"
 cell_text (cells.Refused verb reason) = verb_text verb ++ (codes ": refused " ++ reason_text reason)
 cell_text (cells.BothFit verbs.Start) = codes "start: 6 before 5"
+cell_text (cells.BothFit verbs.Resend) = codes "resend: 2 before 12"
 cell_text (cells.BothFit verb) = verb_text verb ++ codes ": 3 before 2"
 cell_text (cells.DoneIn verb state) = verb_text verb ++ (codes ": done in " ++ state_text state)
 cell_text (cells.CompFinds state) = codes "comp: Comp_UC finds " ++ state_text state
@@ -138,7 +147,7 @@ cell_text (cells.Crossed snoop kind state) = snoop_text snoop ++ (codes " crosse
 cell_text (cells.CrossedAt kind stage) = codes "a snoop crosses " ++ (kind_text kind ++ (codes ", " ++ stage_text stage))
 cell_text (cells.WriteAsked kind state) = codes "dbid: " ++ (kind_text kind ++ (codes " in " ++ state_text state))
 cell_text (cells.WriteTaken kind state) = codes "wrdata: " ++ (kind_text kind ++ (codes ", " ++ form_text (forms.CopyBackWrData state)))
-cell_text (cells.BehindWrite verb) = verb_text verb ++ codes ": behind write data in flight"
+cell_text (cells.BehindWrite verb) = codes "wrdata: a " ++ (verb_text verb ++ codes " came behind it")
 cell_text cells.WriteBesideOwner = codes "write data beside another owner"
 cell_text (cells.Message form) = form_text form
 cell_text cells.NoMessage = codes "none"
@@ -159,6 +168,19 @@ cell_text (cells.Released verb true) = verb_text verb ++ codes ": granted"
 cell_text (cells.Released verb false) = verb_text verb ++ codes ": freed"
 cell_text cells.OwnGrant = codes "granted to itself"
 cell_text cells.TendIdle = codes "tend: idle"
+cell_text (cells.RetryTaken kind true) = codes "retryack: " ++ (kind_text kind ++ codes ", the grant first")
+cell_text (cells.RetryTaken kind false) = codes "retryack: " ++ (kind_text kind ++ codes ", RetryAck first")
+cell_text (cells.Seen found) = codes "see: " ++ found_text found
+cell_text (cells.BeforeFull verb true) = verb_text verb ++ codes ": 3 before 1"
+cell_text (cells.BeforeFull verb false) = verb_text verb ++ codes ": 2 before 1"
+cell_text cells.LoadBehindStore = codes "a load behind a store"
+cell_text cells.FullElsewhere = codes "full in one slice, not in another"
+cell_text cells.SharedData = codes "ReadShared: CompData_SC with the data of SnpRespData_SD"
+cell_text cells.MemoryBehindShared = codes "ReadShared: CompData_SC with memory, behind such data"
+cell_text cells.ReadBehindPassed = codes "a read behind SnpRespData_SC_PD of the owner"
+cell_text (cells.NotReturned true seen) = codes "giveback: refused 12 no credit is seen"
+cell_text (cells.NotReturned false true) = codes "giveback: refused 12 a credit is seen, and no slot is cancelled"
+cell_text (cells.NotReturned false false) = codes "giveback: refused 12 no slot is cancelled"
 
 unfoldable pub section_text : Cell → List ℕ
 section_text (cells.Done a) = codes "The actions"
@@ -194,6 +216,15 @@ section_text (cells.CancelRefused a) = codes "A requester and its calls"
 section_text (cells.Released a b) = codes "Steps of the tracker"
 section_text cells.OwnGrant = codes "Steps of the tracker"
 section_text cells.TendIdle = codes "Steps of the tracker"
+section_text (cells.RetryTaken a b) = codes "A requester and its calls"
+section_text (cells.Seen a) = codes "A requester and its calls"
+section_text (cells.BeforeFull a b) = codes "The actions"
+section_text cells.LoadBehindStore = codes "The journal and last values"
+section_text cells.FullElsewhere = codes "The journal and last values"
+section_text cells.SharedData = codes "Completion"
+section_text cells.MemoryBehindShared = codes "Completion"
+section_text cells.ReadBehindPassed = codes "The filter"
+section_text (cells.NotReturned a b) = codes "The actions"
 
 -- which no run reaches (docs/DECISIONS.md, "The suite")
 abbrev pub is_write_unreachable : Kind → State → Bool
@@ -226,3 +257,17 @@ is_unreachable (cells.WriteAsked kind state) = is_write_unreachable kind state
 is_unreachable (cells.WriteTaken kind state) = is_write_unreachable kind state
 is_unreachable (cells.Released verbs.Tend granted) = true
 is_unreachable other = false
+
+-- no cell, and one or two
+abbrev pub no_cells : List (Option Cell)
+no_cells = None ∷ None ∷ None ∷ []
+
+abbrev pub one_cell : Option Cell → List (Option Cell)
+one_cell a = a ∷ None ∷ None ∷ []
+
+abbrev pub two_cells : Option Cell → Option Cell → List (Option Cell)
+two_cells a b = a ∷ b ∷ None ∷ []
+
+abbrev pub cell_if : Bool → Cell → Option Cell
+cell_if true cell = Some cell
+cell_if false cell = None

@@ -1,6 +1,5 @@
 -- Of the code alone, no public promise cites it: counts by place, as cells are counted (docs/FORMATS.md, "Coverage").
 use Rattle.std.specs.Prelude.{◌≡◌, ℕ, ◌+◌, ◌++◌, List, [], ◌∷◌, Ok, Option, slice_index, slice_set}
-use Rattle.std.specs.List.{flat_map}
 use Rattle.chi_script.specs.declared.commands.Command.{Command}
 use Rattle.chi_script.specs.declared.faults.Fault.{Fault}
 use Rattle.chi_script.specs.declared.headers.Header.{Header}
@@ -15,7 +14,9 @@ use Rattle.chi_replay.specs.Texts.{MayAnswer, Plays, opening_ports}
 use Rattle.chi_replay.specs.Turns.{TurnAnswer, machine_at_start, turn}
 use Rattle.chi_slice.specs.Words.{Sizes}
 use Rattle.chi_coverage.specs.declared.cells.Cell.{Cell}
-use Rattle.chi_coverage.specs.Coverage.{CoverCame, MayCover, cells_covered, cells_of_step, cover_fault, cover_fault_line, played_steps}
+use Rattle.chi_coverage.specs.declared.past.Past.{Past}
+use Rattle.chi_coverage.specs.Coverage.{CoverCame, MayCover, cells_covered, cells_of_step, cells_of_steps, cover_fault, cover_fault_line, past_of_step, played_steps}
+use Rattle.chi_coverage.specs.Past.{no_past}
 use Rattle.chi_coverage.specs.Places.{cell_place}
 
 -- one more in the place of each of the cells
@@ -26,18 +27,19 @@ counted counts (cell ∷ cells) = counted (slice_set counts (cell_place cell) (s
 abbrev pub count_at : List ℕ → Cell → ℕ
 count_at counts cell = slice_index counts (cell_place cell)
 
--- a command was played on a node, which went on so, and the cells of its step were counted
-pub record IsCountedStep (config : Sizes) (old new : SystemState) (command : Command) (before after : List ℕ) : Type 0 where
+-- a command was played on a node, which went on so, and the cells of its step were counted behind the steps before
+pub record IsCountedStep (config : Sizes) (past later : Past) (old new : SystemState) (command : Command) (before after : List ℕ) : Type 0 where
   pub answers : List TurnAnswer
   pub said : List ℕ
   pub plays : Plays (turn (machine_of old) command) (ports_of old) answers said (machine_of new) (ports_of new)
-  pub is : after ≡ counted before (cells_of_step config (record { command = command; answer = said ++ (10 ∷ []); before = old.home; after = new.home }))
+  pub is : after ≡ counted before (cells_of_step config past (record { command = command; answer = said ++ (10 ∷ []); before = old.home; after = new.home }))
+  pub leaves : later ≡ past_of_step config past (record { command = command; answer = said ++ (10 ∷ []); before = old.home; after = new.home })
 
 -- all commands were played on a new node, and the cells of the run were counted
 pub record IsCountedRun (config : Sizes) (all : List Command) (before after : List ℕ) : Type 0 where
   pub answers : List TurnAnswer
   pub allowed : MayAnswer (machine_at_start config) (opening_ports config) all answers
-  pub is : after ≡ counted before (flat_map (cells_of_step config) (played_steps (machine_at_start config) all answers))
+  pub is : after ≡ counted before (cells_of_steps config no_past (played_steps (machine_at_start config) all answers))
 
 -- so of the commands of a header and checks, and of a good file
 abbrev pub IsCountedScript : Header → List CheckLine → List ℕ → List ℕ → Type 0

@@ -18,10 +18,14 @@ use Rattle.chi_replay.specs.Suites.{GivenFile, faulty_line, first_of}
 use Rattle.chi_replay.specs.Texts.{MayAnswer, ending, opening_ports}
 use Rattle.chi_replay.specs.Turns.{TurnAnswer, Machine, machine_at_start, turn}
 use Rattle.chi_coverage.specs.declared.cells.Cell.{Cell}
+use Rattle.chi_coverage.specs.declared.past.Past.{Past}
 use Rattle.chi_coverage.specs.Cells.{cell_text, is_unreachable, section_text}
 use Rattle.chi_coverage.specs.Lists.{all_cells}
+use Rattle.chi_coverage.specs.Named.{named_of}
+use Rattle.chi_coverage.specs.Past.{no_past, past_after}
 use Rattle.chi_coverage.specs.Places.{is_cell}
-use Rattle.chi_coverage.specs.Steps.{cells_seen, named_of, scene_named}
+use Rattle.chi_coverage.specs.Scenes.{scene_named}
+use Rattle.chi_coverage.specs.Steps.{cells_seen}
 
 -- a step of a run: a command, the line that answers it, with its end, and the home before and after
 pub record PlayedStep : Type 0 where
@@ -51,17 +55,30 @@ abbrev pub view_in : HomeState → Option Line → Option LineView
 view_in home None = None
 view_in home (Some l) = view_unless (node_view_refusal home l.0) (line_view (node_line home l.0) (node_last home l.0))
 
--- the cells that a step is in, on a node of these sizes
+-- the cells that a step is in, on a node of these sizes, by what the steps before have left
 abbrev pub listed : List (Option Cell) → List Cell
 listed cells = flat_map (λ cell. option_to_list cell) cells
 
-abbrev pub cells_shown : Sizes → Command → Option LineView → List ℕ → Option LineView → List Cell
-cells_shown sizes command before answer after =
-    listed (cells_seen sizes (named_of command) (scene_named before (named_of command).agent) answer after)
+abbrev pub cells_shown : Sizes → Past → Command → Option LineView → List ℕ → Option LineView → List Cell
+cells_shown sizes past command before answer after =
+    listed (cells_seen sizes past (named_of command) (scene_named before (named_of command).agent) answer after)
 
-abbrev pub cells_of_step : Sizes → PlayedStep → List Cell
-cells_of_step sizes step =
-    cells_shown sizes step.command (view_in step.before (named_of step.command).line) step.answer (view_in step.after (named_of step.command).line)
+abbrev pub cells_of_step : Sizes → Past → PlayedStep → List Cell
+cells_of_step sizes past step =
+    cells_shown sizes past step.command (view_in step.before (named_of step.command).line) step.answer (view_in step.after (named_of step.command).line)
+
+-- what a step leaves to those behind it
+abbrev pub past_shown : Sizes → Past → Command → Option LineView → List ℕ → Past
+past_shown sizes past command before answer =
+    past_after sizes past (named_of command) (scene_named before (named_of command).agent) answer
+
+abbrev pub past_of_step : Sizes → Past → PlayedStep → Past
+past_of_step sizes past step = past_shown sizes past step.command (view_in step.before (named_of step.command).line) step.answer
+
+-- the cells of steps, one after the other
+abbrev pub cells_of_steps : Sizes → Past → List PlayedStep → List Cell
+cells_of_steps sizes past [] = []
+cells_of_steps sizes past (step ∷ rest) = cells_of_step sizes past step ++ cells_of_steps sizes (past_of_step sizes past step) rest
 
 -- how often a cell stands among cells
 abbrev pub times_met : Cell → List Cell → ℕ
@@ -75,7 +92,7 @@ pub record IsCovered (file : List ℕ) (cells : List Cell) : Type 0 where
   pub good : check_file_of file ≡ Ok (header, checks)
   pub answers : List TurnAnswer
   pub allowed : MayAnswer (machine_at_start (node_sizes header)) (opening_ports (node_sizes header)) (commands_in checks) answers
-  pub are : cells ≡ flat_map (cells_of_step (node_sizes header)) (played_steps (machine_at_start (node_sizes header)) (commands_in checks) answers)
+  pub are : cells ≡ cells_of_steps (node_sizes header) no_past (played_steps (machine_at_start (node_sizes header)) (commands_in checks) answers)
 
 -- what comes of a file: the cells of its steps, or its fault
 pub data CoverCame : Type 0 where

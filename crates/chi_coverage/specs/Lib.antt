@@ -3,6 +3,17 @@ pub mod Places
 pub mod Lists
 pub mod Scenes
 pub mod Said
+pub mod Named
+pub mod Refused
+pub mod Outcomes
+pub mod Completions
+pub mod Requests
+pub mod Snoops
+pub mod Messages
+pub mod Accounts
+pub mod Journals
+pub mod Sharing
+pub mod Past
 pub mod Steps
 pub mod Coverage
 pub mod Counts

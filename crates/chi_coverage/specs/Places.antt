@@ -16,6 +16,8 @@ use Rattle.chi_coverage.specs.declared.cells.Cell.{Cell}
 use Rattle.chi_coverage.specs.declared.cells.Cell.TheVariants as cells
 use Rattle.chi_coverage.specs.declared.cells.Form.{Form}
 use Rattle.chi_coverage.specs.declared.cells.Form.TheVariants as forms
+use Rattle.chi_coverage.specs.declared.cells.Found.{Found}
+use Rattle.chi_coverage.specs.declared.cells.Found.TheVariants as founds
 use Rattle.chi_coverage.specs.declared.cells.Reason.{Reason}
 use Rattle.chi_coverage.specs.declared.cells.Reason.TheVariants as reasons
 use Rattle.chi_coverage.specs.declared.cells.Shown.{Shown}
@@ -27,7 +29,7 @@ use Rattle.chi_coverage.specs.declared.cells.Verb.TheVariants as verbs
 
 -- how many places there are
 abbrev pub place_count : ℕ
-place_count = 2816
+place_count = 2891
 
 abbrev pub bool_place : Bool → ℕ
 bool_place true = 1
@@ -65,6 +67,12 @@ credit_place credits.T0 = 0
 credit_place credits.T1 = 1
 credit_place credits.T2 = 2
 credit_place credits.T3 = 3
+
+abbrev pub found_place : Found → ℕ
+found_place founds.Nothing = 0
+found_place founds.One = 1
+found_place founds.TwoOfAType = 2
+found_place founds.SeveralTypes = 3
 
 abbrev pub stage_place : Stage → ℕ
 stage_place stages.Sent = 0
@@ -192,6 +200,15 @@ cell_place cells.IssueBehindAck = 2812
 cell_place cells.IssueBehindWrite = 2813
 cell_place cells.OwnGrant = 2814
 cell_place cells.TendIdle = 2815
+cell_place (cells.RetryTaken kind granted) = 2816 + (2 * kind_place kind) + bool_place granted
+cell_place (cells.Seen found) = 2832 + found_place found
+cell_place (cells.NotReturned cancelled seen) = 2836 + (2 * bool_place cancelled) + bool_place seen
+cell_place (cells.BeforeFull verb pending) = 2840 + (2 * verb_place verb) + bool_place pending
+cell_place cells.LoadBehindStore = 2886
+cell_place cells.FullElsewhere = 2887
+cell_place cells.SharedData = 2888
+cell_place cells.MemoryBehindShared = 2889
+cell_place cells.ReadBehindPassed = 2890
 
 abbrev pub is_cell : Cell → Cell → Bool
 is_cell one other = cell_place one == cell_place other

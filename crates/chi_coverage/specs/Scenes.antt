@@ -41,3 +41,8 @@ scene_of view agent = record {
 abbrev pub scene_at : Option LineView → Agent → Option Scene
 scene_at None agent = None
 scene_at (Some view) agent = if nat_lt agent.0 8 then Some (scene_of view agent) else None
+
+-- so of the agent that a command names, where it names one
+abbrev pub scene_named : Option LineView → Option Agent → Option Scene
+scene_named view None = None
+scene_named view (Some agent) = scene_at view agent

@@ -1,7 +1,7 @@
 //! The cells of the protocol's tables.
 
 ghost use Rattle.std.specs.Prelude.{◌≡◌, Some};
-ghost use Rattle.chi_coverage.specs.Cells.{cell_text, form_text, is_crossing_unreachable, is_unreachable, is_write_unreachable, reason_text, section_text, shown_name, stage_text, verb_text};
+ghost use Rattle.chi_coverage.specs.Cells.{cell_if, cell_text, form_text, found_text, is_crossing_unreachable, is_unreachable, is_write_unreachable, reason_text, section_text, shown_name, stage_text, verb_text};
 
 use chi_flit::{CreditType, Kind, Profile, Snoop, State};
 use std::fmt;
@@ -117,6 +117,17 @@ pub(crate) enum Arrival {
     Resent,
 }
 
+/// What a `see` finds.
+/// Source: `docs/PROTOCOL.md`, "A requester and its calls".
+#[derive(Clone, Copy)]
+pub(crate) enum Found {
+    Nothing,
+    One,
+    TwoOfAType,
+    /// One each of several types.
+    SeveralTypes,
+}
+
 /// The form of a message, without the slot and the data.
 /// Source: `docs/PROTOCOL.md`, "Messages".
 #[derive(Clone, Copy)]
@@ -175,7 +186,7 @@ pub(crate) enum Cell {
     WriteAsked(Kind, State),
     /// Write data of the form comes home.
     WriteTaken(Kind, State),
-    /// A store or a drop behind write data in flight.
+    /// Write data comes home behind which there was a store, or a drop.
     BehindWrite(Verb),
     /// Write data comes home while another agent is the owner.
     WriteBesideOwner,
@@ -201,12 +212,39 @@ pub(crate) enum Cell {
     Cancel(Kind, State),
     /// The same, refused.
     CancelRefused(Kind),
+    /// The RetryAck to a request of the kind is taken, and a grant was seen before it or wasn't.
+    RetryTaken(Kind, bool),
+    /// A `see` finds so many credits.
+    Seen(Found),
+    /// No credit is given back: whether a slot is cancelled, and whether a credit is seen.
+    NotReturned(bool, bool),
+    /// The command is refused, and 1 would fit too; whether for a pending request.
+    BeforeFull(Verb, bool),
+    /// A load in whose journal a store is.
+    LoadBehindStore,
+    /// A journal is full, and that of another slice isn't.
+    FullElsewhere,
+    /// A ReadShared gets the data of SnpRespData_SD; or the memory's, where one got such data before.
+    SharedData,
+    MemoryBehindShared,
+    /// A read is completed at its start, of a line whose owner passed its duty.
+    ReadBehindPassed,
     /// The command's entry is granted on, or freed.
     Released(Verb, bool),
     /// An entry is granted to the agent that releases it.
     OwnGrant,
     /// Nobody is owed a credit of the type, or no entry of it is free.
     TendIdle,
+}
+
+/// No cell at all.
+pub(crate) const NO_CELLS: [Option<Cell>; 3] = [None, None, None];
+
+/// The cell, where the condition holds.
+pub(crate) fn cell_if(holds: bool, cell: Cell) -> Option<Cell>
+    ensures { result ≡ cell_if holds cell }
+{
+    if holds { Some(cell) } else { None }
 }
 
 impl Verb {
@@ -307,6 +345,27 @@ impl fmt::Display for Shown {
     }
 }
 
+impl Found {
+    fn name(self) -> &'static str
+        ensures { result.now ≡ found_text self }
+    {
+        match self {
+            Found::Nothing => "none",
+            Found::One => "one",
+            Found::TwoOfAType => "two of a type",
+            Found::SeveralTypes => "of two types",
+        }
+    }
+}
+
+impl fmt::Display for Found {
+    ghost output = { λ found. Some (found_text found) };
+
+    fn fmt<W: fmt::Write>(&self, f: &mut fmt::Formatter<W>) -> fmt::Result {
+        f.write_str(self.name())
+    }
+}
+
 impl Stage {
     fn name(self) -> &'static str
         ensures { result.now ≡ stage_text self }
@@ -369,14 +428,17 @@ impl Cell {
             | Cell::Refused(..)
             | Cell::BothFit(_)
             | Cell::DoneIn(..)
+            | Cell::NotReturned(..)
+            | Cell::BeforeFull(..)
             | Cell::CompFinds(_) => "The actions",
             Cell::Issue(..) | Cell::Retry(..) => "Kinds of request",
             Cell::Start(..) => "Start",
             Cell::Answer(..) | Cell::AnswerOf(..) => "Answers of snooped agents",
-            Cell::Completion(..) => "Completion",
+            Cell::Completion(..) | Cell::SharedData | Cell::MemoryBehindShared => "Completion",
             Cell::Snooped(..) | Cell::Crossed(..) | Cell::CrossedAt(..) => "Answers to snoops",
             Cell::WriteAsked(..) | Cell::WriteTaken(..) | Cell::BehindWrite(_) => "Write data",
-            Cell::WriteBesideOwner => "The filter",
+            Cell::WriteBesideOwner | Cell::ReadBehindPassed => "The filter",
+            Cell::LoadBehindStore | Cell::FullElsewhere => "The journal and last values",
             Cell::Message(_) | Cell::NoMessage => "Messages",
             Cell::Types(_) | Cell::OtherSlice | Cell::EightAgents => "Limits",
             Cell::IssueBehindAck | Cell::IssueBehindWrite => "Slots and accounts",
@@ -384,7 +446,9 @@ impl Cell {
             | Cell::Resend(..)
             | Cell::ResendRefused(..)
             | Cell::Cancel(..)
-            | Cell::CancelRefused(_) => "A requester and its calls",
+            | Cell::CancelRefused(_)
+            | Cell::RetryTaken(..)
+            | Cell::Seen(_) => "A requester and its calls",
             Cell::Released(..) | Cell::OwnGrant | Cell::TendIdle => "Steps of the tracker",
         }
     }
@@ -441,6 +505,7 @@ impl fmt::Display for Cell {
             Cell::Done(verb) => write!(f, "{verb}: done"),
             Cell::Refused(verb, reason) => write!(f, "{verb}: refused {reason}"),
             Cell::BothFit(Verb::Start) => f.write_str("start: 6 before 5"),
+            Cell::BothFit(Verb::Resend) => f.write_str("resend: 2 before 12"),
             Cell::BothFit(verb) => write!(f, "{verb}: 3 before 2"),
             Cell::DoneIn(verb, state) => write!(f, "{verb}: done in {state}"),
             Cell::CompFinds(state) => write!(f, "comp: Comp_UC finds {state}"),
@@ -462,7 +527,7 @@ impl fmt::Display for Cell {
                 let form = Form::CopyBackWrData(*state);
                 write!(f, "wrdata: {kind}, {form}")
             }
-            Cell::BehindWrite(verb) => write!(f, "{verb}: behind write data in flight"),
+            Cell::BehindWrite(verb) => write!(f, "wrdata: a {verb} came behind it"),
             Cell::WriteBesideOwner => f.write_str("write data beside another owner"),
             Cell::Message(form) => write!(f, "{form}"),
             Cell::NoMessage => f.write_str("none"),
@@ -487,6 +552,27 @@ impl fmt::Display for Cell {
             Cell::Released(verb, false) => write!(f, "{verb}: freed"),
             Cell::OwnGrant => f.write_str("granted to itself"),
             Cell::TendIdle => f.write_str("tend: idle"),
+            Cell::RetryTaken(kind, true) => write!(f, "retryack: {kind}, the grant first"),
+            Cell::RetryTaken(kind, false) => write!(f, "retryack: {kind}, RetryAck first"),
+            Cell::Seen(found) => write!(f, "see: {found}"),
+            Cell::BeforeFull(verb, true) => write!(f, "{verb}: 3 before 1"),
+            Cell::BeforeFull(verb, false) => write!(f, "{verb}: 2 before 1"),
+            Cell::LoadBehindStore => f.write_str("a load behind a store"),
+            Cell::FullElsewhere => f.write_str("full in one slice, not in another"),
+            Cell::SharedData => {
+                f.write_str("ReadShared: CompData_SC with the data of SnpRespData_SD")
+            }
+            Cell::MemoryBehindShared => {
+                f.write_str("ReadShared: CompData_SC with memory, behind such data")
+            }
+            Cell::ReadBehindPassed => f.write_str("a read behind SnpRespData_SC_PD of the owner"),
+            Cell::NotReturned(true, _) => f.write_str("giveback: refused 12 no credit is seen"),
+            Cell::NotReturned(false, true) => {
+                f.write_str("giveback: refused 12 a credit is seen, and no slot is cancelled")
+            }
+            Cell::NotReturned(false, false) => {
+                f.write_str("giveback: refused 12 no slot is cancelled")
+            }
         }
     }
 }

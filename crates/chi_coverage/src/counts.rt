@@ -4,12 +4,15 @@ ghost use Rattle.std.specs.Prelude.{◌≡◌, [], ◌∷◌, OnOk, length};
 ghost use Rattle.chi_coverage.specs.Coverage.{cells_shown, listed};
 ghost use Rattle.chi_coverage.specs.Counts.{counted};
 ghost use Rattle.chi_coverage.specs.Places.{place_count};
-ghost use Rattle.chi_coverage.specs.Steps.{scene_named};
 
 use crate::cells::Cell;
-use crate::scenes::{Scene, scene_at};
-use crate::tables::{limit_cells, message_cells, named_of, outcome_cells, scene_cells};
-use chi_flit::{Agent, NoMemory};
+use crate::messages::message_cells;
+use crate::named::named_of;
+use crate::outcomes::{limit_cells, outcome_cells};
+use crate::past::{Past, past_cells};
+use crate::scenes::scene_named;
+use crate::steps::scene_cells;
+use chi_flit::NoMemory;
 use chi_script::Command;
 use chi_slice::{Config, LineView};
 
@@ -36,28 +39,19 @@ fn count_cells(counts: &mut [u64], cells: &[Option<Cell>]) -> Result<(), NoMemor
     Ok(())
 }
 
-/// What stands of the agent that a command names, where it names one.
-fn scene_named(view: &Option<LineView>, agent: Option<Agent>) -> Option<Scene>
-    ensures { result ≡ scene_named view.now agent }
-{
-    match agent {
-        Some(agent) => scene_at(view, agent),
-        None => None,
-    }
-}
-
-/// One more of each cell of a step.
+/// One more of each cell of a step, behind the steps before.
 pub(crate) fn count_step(
     counts: &mut [u64],
     config: &Config,
+    past: &Past,
     command: Command,
     before: &Option<LineView>,
     line: &[u8],
     after: &Option<LineView>,
 ) -> Result<(), NoMemory>
     requires { length counts.old ≡ place_count }
-    ensures { OnOk result (counts.new
-        ≡ counted counts.old (cells_shown config.now command before.now line.now after.now)) }
+    ensures { OnOk result (counts.new ≡ counted counts.old
+        (cells_shown config.now past.now command before.now line.now after.now)) }
 {
     let named = named_of(command);
     let scene = scene_named(before, named.agent);
@@ -65,5 +59,9 @@ pub(crate) fn count_step(
     count_cells(counts, &outcome_cells(config, &named, &scene, line))?;
     count_cells(counts, &limit_cells(config, &named, line))?;
     count_cells(counts, &scene_cells(profile, &named, &scene, line, after))?;
-    count_cells(counts, &message_cells(&named, &scene, line))
+    count_cells(counts, &message_cells(&named, &scene, line))?;
+    count_cells(
+        counts,
+        &past_cells(config, past, &named, &scene, line, after),
+    )
 }

@@ -3,16 +3,27 @@
 //! Source: `docs/FORMATS.md`, "Coverage".
 #![tactic(auto)]
 
+mod accounts;
 mod answers;
 mod cells;
+mod completions;
 mod counts;
 mod coverage;
+mod journals;
 mod laws;
 mod lists;
+mod messages;
+mod named;
+mod outcomes;
+mod past;
 mod places;
+mod refused;
+mod requests;
 mod runs;
 mod scenes;
-mod tables;
+mod sharing;
+mod snoops;
+mod steps;
 
 pub use coverage::{CoverReport, cover};
 pub use laws::cells_are_apart;

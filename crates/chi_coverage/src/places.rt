@@ -1,15 +1,15 @@
 //! The place of each cell in the table of counts.
 
 ghost use Rattle.std.specs.Prelude.{◌≡◌, ◌≤◌, ◌<◌};
-ghost use Rattle.chi_coverage.specs.Places.{arrival_place, bool_place, cell_place, credit_place, form_place, kind_place, place_count, profile_place, reason_place, shown_place, snoop_place, pair_place, stage_place, place_of_state, verb_place};
+ghost use Rattle.chi_coverage.specs.Places.{arrival_place, bool_place, cell_place, credit_place, form_place, found_place, kind_place, place_count, profile_place, reason_place, shown_place, snoop_place, pair_place, stage_place, place_of_state, verb_place};
 
-use crate::cells::{Arrival, Cell, Form, Reason, Shown, Stage, Verb};
+use crate::cells::{Arrival, Cell, Form, Found, Reason, Shown, Stage, Verb};
 use chi_flit::{CreditType, Kind, Profile, Snoop, State};
 
 /// How many places there are.
-pub(crate) const PLACES: usize = 2816;
+pub(crate) const PLACES: usize = 2891;
 
-fn bool_place(is: bool) -> usize
+pub(crate) fn bool_place(is: bool) -> usize
     ensures is { result ≡ bool_place is }
     ensures low { result ≤ 1 }
 {
@@ -67,7 +67,7 @@ fn snoop_place(snoop: Snoop) -> usize
     }
 }
 
-fn credit_place(credit: CreditType) -> usize
+pub(crate) fn credit_place(credit: CreditType) -> usize
     ensures is { result ≡ credit_place credit }
     ensures low { result ≤ 3 }
 {
@@ -76,6 +76,18 @@ fn credit_place(credit: CreditType) -> usize
         CreditType::T1 => 1,
         CreditType::T2 => 2,
         CreditType::T3 => 3,
+    }
+}
+
+fn found_place(found: Found) -> usize
+    ensures is { result ≡ found_place found }
+    ensures low { result ≤ 3 }
+{
+    match found {
+        Found::Nothing => 0,
+        Found::One => 1,
+        Found::TwoOfAType => 2,
+        Found::SeveralTypes => 3,
     }
 }
 
@@ -258,6 +270,17 @@ impl Cell {
             Cell::IssueBehindWrite => 2813,
             Cell::OwnGrant => 2814,
             Cell::TendIdle => 2815,
+            Cell::RetryTaken(kind, granted) => { 2816 + 2 * kind_place(kind) + bool_place(granted) }
+            Cell::Seen(found) => 2832 + found_place(found),
+            Cell::NotReturned(cancelled, seen) => {
+                2836 + 2 * bool_place(cancelled) + bool_place(seen)
+            }
+            Cell::BeforeFull(verb, pending) => 2840 + 2 * verb_place(verb) + bool_place(pending),
+            Cell::LoadBehindStore => 2886,
+            Cell::FullElsewhere => 2887,
+            Cell::SharedData => 2888,
+            Cell::MemoryBehindShared => 2889,
+            Cell::ReadBehindPassed => 2890,
         }
     }
 }

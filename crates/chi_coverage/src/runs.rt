@@ -9,7 +9,8 @@ ghost use Rattle.chi_coverage.specs.Counts.{IsCountedFile, IsCountedRun, IsCount
 ghost use Rattle.chi_coverage.specs.Places.{place_count};
 
 use crate::counts::count_step;
-use crate::tables::named_of;
+use crate::named::named_of;
+use crate::past::Past;
 use chi_flit::{Line, NoMemory};
 use chi_node::System;
 use chi_replay::{answer, commands_of, config_of};
@@ -33,18 +34,21 @@ fn count_command<A: Allocator, B: Allocator>(
     system: &mut System<A>,
     command: &Command,
     text: &mut String<B>,
+    past: &mut Past,
     counts: &mut [u64],
 ) -> Result<(), NoMemory>
     requires { length counts.old ≡ place_count }
-    ensures { OnOk result
-        (IsCountedStep config.now system.old system.new command.now counts.old counts.new) }
+    ensures { OnOk result (IsCountedStep config.now past.old past.new
+        system.old system.new command.now counts.old counts.new) }
 {
     let line = named_of(*command).line;
     let before = view_in(system, line);
     text.clear();
     answer(system, *command, text)?;
     let after = view_in(system, line);
-    count_step(counts, config, *command, &before, text.as_bytes(), &after)
+    let said = text.as_bytes();
+    count_step(counts, config, past, *command, &before, said, &after)?;
+    past.follow(config, *command, &before, said)
 }
 
 /// Plays the commands on a new node of that size, and counts the cells of each step. Refused where memory
@@ -60,8 +64,9 @@ fn count_run<A: Allocator + Copy>(
 {
     let mut system = System::new(alloc, config)?;
     let mut text = String::new(alloc);
+    let mut past = Past::new();
     for command in commands {
-        count_command(config, &mut system, command, &mut text, counts)?;
+        count_command(config, &mut system, command, &mut text, &mut past, counts)?;
     }
     Ok(())
 }

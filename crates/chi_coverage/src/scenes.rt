@@ -1,7 +1,7 @@
 //! What stands of one agent and one line.
 
 ghost use Rattle.std.specs.Prelude.{◌≡◌, ◌<◌};
-ghost use Rattle.chi_coverage.specs.Scenes.{any_other, is_other, owner_seen, scene_of, scene_at};
+ghost use Rattle.chi_coverage.specs.Scenes.{any_other, is_other, owner_seen, scene_at, scene_named, scene_of};
 
 use chi_flit::{Agent, State};
 use chi_slice::{Cells, LineView, Pending, Serving, Waiting};
@@ -108,5 +108,15 @@ fn scene_of(view: &LineView, agent: Agent) -> Scene
         owner: owner_seen(view.owner, agent),
         serving: view.serving,
         awaits_others: any_other(&view.awaited, agent),
+    }
+}
+
+/// What stands of the agent that a command names, where it names one.
+pub(crate) fn scene_named(view: &Option<LineView>, agent: Option<Agent>) -> Option<Scene>
+    ensures { result ≡ scene_named view.now agent }
+{
+    match agent {
+        Some(agent) => scene_at(view, agent),
+        None => None,
     }
 }

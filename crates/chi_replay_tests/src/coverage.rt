@@ -29,7 +29,7 @@ fn steps_of_good_files_are_counted_and_faulty_files_told(rt: HostRuntime) {
     let told = match cover(rt.alloc(), &FILES, false) {
         Ok(report) => {
             report.text.starts_with(b"The actions: load: done: 0\n")
-                && report.text.ends_with(b"covered 7 of 488 cells\n")
+                && report.text.ends_with(b"covered 7 of 519 cells\n")
                 && report.faults.as_str()
                     == "chihome: b: line 4: bad command\nchihome: c: cannot read\n"
                 && report.fault == Some(Fault::BadCommand(4))

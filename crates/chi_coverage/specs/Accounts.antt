@@ -1,0 +1,123 @@
+-- What the answers so far show of an agent's account, by credit type: its seen credits, which are those that its latest `see`
+-- showed, less one for each spent or given back; and its Riding and its Cancelled slots (docs/FORMATS.md, "The text of a
+-- replay"; docs/PROTOCOL.md, "Slots and accounts"). And the cells that it shows ("A requester and its calls").
+use Rattle.std.specs.Prelude.{ℕ, ◌+◌, ◌-◌, ◌==◌, nat_lt, List, [], ◌∷◌, Bool, true, false, ◌||◌, Option, Some, None, length, replicate, slice_index, slice_set, if◌then◌else◌}
+use Rattle.chi_flit.specs.declared.credit.CreditType.{CreditType}
+use Rattle.chi_flit.specs.declared.credit.Profile.{Profile}
+use Rattle.chi_flit.specs.declared.message.Request.{Request}
+use Rattle.chi_flit.specs.declared.refusal.Refusal.{Refusal}
+use Rattle.chi_flit.specs.declared.refusal.Refusal.TheVariants as refusals
+use Rattle.chi_flit.specs.Credit.{credit_type_of}
+use Rattle.chi_slice.specs.Words.{Pending}
+use Rattle.chi_coverage.specs.declared.accounts.AccountView.{AccountView}
+use Rattle.chi_coverage.specs.declared.cells.Cell.{Cell}
+use Rattle.chi_coverage.specs.declared.cells.Cell.TheVariants as cells
+use Rattle.chi_coverage.specs.declared.cells.Found.{Found}
+use Rattle.chi_coverage.specs.declared.cells.Found.TheVariants as founds
+use Rattle.chi_coverage.specs.declared.cells.Verb.{Verb}
+use Rattle.chi_coverage.specs.declared.cells.Verb.TheVariants as verbs
+use Rattle.chi_coverage.specs.declared.scenes.Scene.{Scene}
+use Rattle.chi_coverage.specs.Places.{bool_place, credit_place}
+
+abbrev pub no_account : AccountView
+no_account = record { seen = replicate 4 0; riding = replicate 4 0; cancelled = replicate 4 0 }
+
+abbrev pub number_of : List ℕ → CreditType → ℕ
+number_of numbers ty = slice_index numbers (credit_place ty)
+
+-- one more of a type, and one less
+abbrev pub one_more : List ℕ → CreditType → List ℕ
+one_more numbers ty = slice_set numbers (credit_place ty) (number_of numbers ty + 1)
+
+abbrev pub one_less : List ℕ → CreditType → List ℕ
+one_less numbers ty = slice_set numbers (credit_place ty) (number_of numbers ty - 1)
+
+-- the numbers of `ok credits C0 C1` or `ok credits C0 C1 C2 C3`: a digit each, since no more than eight are due
+abbrev pub digit_at : List ℕ → ℕ → ℕ
+digit_at line place = if nat_lt place (length line) then slice_index line place - 48 else 0
+
+abbrev pub credits_said : List ℕ → List ℕ
+credits_said line = digit_at line 11 ∷ digit_at line 13 ∷ digit_at line 15 ∷ digit_at line 17 ∷ []
+
+-- a seen credit is beyond those for Riding slots; and a slot is Cancelled
+abbrev pub has_spare : AccountView → CreditType → Bool
+has_spare account ty = nat_lt (number_of account.riding ty) (number_of account.seen ty)
+
+abbrev pub has_cancelled : AccountView → CreditType → Bool
+has_cancelled account ty = nat_lt 0 (number_of account.cancelled ty)
+
+-- what a call leaves that is done, a row each: see, resend, cancel, arrive of a resent request, give back
+abbrev pub after_see : List ℕ → AccountView → AccountView
+after_see line account = record { seen = credits_said line; riding = account.riding; cancelled = account.cancelled }
+
+abbrev pub after_resend : Profile → Option Pending → AccountView → AccountView
+after_resend profile None account = account
+after_resend profile (Some pending) account =
+    record { seen = account.seen; riding = one_more account.riding (credit_type_of profile pending.kind); cancelled = account.cancelled }
+
+abbrev pub after_cancel : Profile → Option Pending → AccountView → AccountView
+after_cancel profile None account = account
+after_cancel profile (Some pending) account =
+    record { seen = account.seen; riding = account.riding; cancelled = one_more account.cancelled (credit_type_of profile pending.kind) }
+
+abbrev pub after_spend : CreditType → AccountView → AccountView
+after_spend ty account = record { seen = one_less account.seen ty; riding = one_less account.riding ty; cancelled = account.cancelled }
+
+abbrev pub after_arrival : Profile → Option Request → AccountView → AccountView
+after_arrival profile None account = account
+after_arrival profile (Some request) account = if request.allow_retry then account else after_spend (credit_type_of profile request.kind) account
+
+abbrev pub after_return : Option CreditType → AccountView → AccountView
+after_return None account = account
+after_return (Some ty) account = record { seen = one_less account.seen ty; riding = account.riding; cancelled = one_less account.cancelled ty }
+
+abbrev pub account_after : Verb → Profile → Option CreditType → Option Scene → List ℕ → AccountView → AccountView
+account_after verbs.See profile ty before line account = after_see line account
+account_after verbs.GiveBack profile ty before line account = after_return ty account
+account_after verbs.Resend profile ty (Some scene) line account = after_resend profile scene.pending account
+account_after verbs.Cancel profile ty (Some scene) line account = after_cancel profile scene.pending account
+account_after verbs.Arrive profile ty (Some scene) line account = after_arrival profile scene.flits.req account
+account_after verb profile ty before line account = account
+
+-- what a `see` finds: nothing, one credit, two of a type, or one each of several types
+abbrev pub some_place : List ℕ → ℕ → ℕ
+some_place numbers ty = bool_place (nat_lt 0 (slice_index numbers ty))
+
+abbrev pub types_seen : List ℕ → ℕ
+types_seen numbers = some_place numbers 0 + some_place numbers 1 + some_place numbers 2 + some_place numbers 3
+
+abbrev pub is_two : List ℕ → ℕ → Bool
+is_two numbers ty = nat_lt 1 (slice_index numbers ty)
+
+abbrev pub has_two : List ℕ → Bool
+has_two numbers = is_two numbers 0 || (is_two numbers 1 || (is_two numbers 2 || is_two numbers 3))
+
+abbrev pub found_in : List ℕ → Found
+found_in numbers = if has_two numbers then founds.TwoOfAType else (
+    if types_seen numbers == 0 then founds.Nothing else (if types_seen numbers == 1 then founds.One else founds.SeveralTypes))
+
+-- a RetryAck is taken: the grant came first where a credit of its request's type is to spare
+abbrev pub retry_cell : Profile → Option Pending → AccountView → Option Cell
+retry_cell profile None account = None
+retry_cell profile (Some pending) account = Some (cells.RetryTaken pending.kind (has_spare account (credit_type_of profile pending.kind)))
+
+-- a resend is refused for its copy's state: 12 would fit too where no credit is to spare
+abbrev pub spare_cell : Bool → Option Cell
+spare_cell true = None
+spare_cell false = Some (cells.BothFit verbs.Resend)
+
+abbrev pub resend_cell : Profile → Option Pending → AccountView → Option Cell
+resend_cell profile None account = None
+resend_cell profile (Some pending) account = spare_cell (has_spare account (credit_type_of profile pending.kind))
+
+-- why no credit is given back
+abbrev pub return_cell : Option CreditType → AccountView → Option Cell
+return_cell None account = None
+return_cell (Some ty) account = Some (cells.NotReturned (has_cancelled account ty) (has_spare account ty))
+
+abbrev pub account_cell : Option Refusal → Verb → Option Scene → Profile → Option CreditType → List ℕ → AccountView → Option Cell
+account_cell None verbs.See before profile ty line account = Some (cells.Seen (found_in (credits_said line)))
+account_cell None verbs.RetryAck (Some scene) profile ty line account = retry_cell profile scene.pending account
+account_cell (Some refusals.WrongState) verbs.Resend (Some scene) profile ty line account = resend_cell profile scene.pending account
+account_cell (Some refusals.NoCredit) verbs.GiveBack before profile ty line account = return_cell ty account
+account_cell refusal verb before profile ty line account = None

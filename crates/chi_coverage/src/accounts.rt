@@ -1,0 +1,298 @@
+//! What the answers so far show of an agent's account, and the cells that it shows.
+
+ghost use Rattle.std.specs.Prelude.{◌≡◌, ◌<◌, ◌≤◌, IfOk};
+ghost use Rattle.chi_coverage.specs.Accounts.{account_after, account_cell, after_arrival, after_cancel, after_resend, after_return, after_see, after_spend, credits_said, digit_at, found_in, has_cancelled, has_spare, has_two, number_of, one_less, one_more, resend_cell, retry_cell, return_cell, some_place, types_seen};
+ghost use Rattle.chi_coverage.specs.Said.{refusal_in};
+
+use crate::answers::refusal_in;
+use crate::cells::{Cell, Found, Verb};
+use crate::named::Named;
+use crate::places::{bool_place, credit_place};
+use crate::scenes::Scene;
+use chi_flit::{CreditType, NoMemory, Profile, Refusal, Request, credit_type};
+use chi_slice::Pending;
+
+/// What the answers so far show of an agent's account, by credit type.
+/// Source: `docs/FORMATS.md`, "The text of a replay", and `docs/PROTOCOL.md`, "Slots and accounts".
+#[derive(Clone, Copy)]
+pub(crate) struct AccountView {
+    /// The seen credits.
+    pub(crate) seen: [u64; 4],
+    /// The Riding and the Cancelled slots.
+    pub(crate) riding: [u64; 4],
+    pub(crate) cancelled: [u64; 4],
+}
+
+/// That of a new node.
+pub(crate) const NO_ACCOUNT: AccountView = AccountView {
+    seen: [0; 4],
+    riding: [0; 4],
+    cancelled: [0; 4],
+};
+
+/// The number of the type.
+fn number_of(numbers: &[u64; 4], credit: CreditType) -> u64
+    ensures { result ≡ number_of numbers.now credit }
+{
+    numbers[credit_place(credit)]
+}
+
+/// One more of the type. Refused where the number is too large, as only endless memory could have it.
+fn one_more(numbers: &[u64; 4], credit: CreditType) -> Result<[u64; 4], NoMemory>
+    ensures { IfOk result (λ more. more ≡ one_more numbers.now credit) }
+{
+    let place = credit_place(credit);
+    let mut more = *numbers;
+    more[place] = more[place].checked_add(1).ok_or(NoMemory)?;
+    Ok(more)
+}
+
+/// One less of the type.
+fn one_less(numbers: &[u64; 4], credit: CreditType) -> [u64; 4]
+    ensures { result ≡ one_less numbers.now credit }
+{
+    let place = credit_place(credit);
+    let mut less = *numbers;
+    less[place] = less[place].saturating_sub(1);
+    less
+}
+
+/// The digit at a place of a line.
+fn digit_at(line: &[u8], place: usize) -> u64
+    ensures { result ≡ digit_at line.now place }
+{
+    if place < line.len() {
+        u64::from(line[place]).saturating_sub(48)
+    } else {
+        0
+    }
+}
+
+/// The numbers of a `see`.
+fn credits_said(line: &[u8]) -> [u64; 4]
+    ensures { result ≡ credits_said line.now }
+{
+    [
+        digit_at(line, 11),
+        digit_at(line, 13),
+        digit_at(line, 15),
+        digit_at(line, 17),
+    ]
+}
+
+impl AccountView {
+    /// Whether a seen credit of the type is beyond those for the Riding slots.
+    fn has_spare(&self, credit: CreditType) -> bool
+        ensures { result ≡ has_spare self.now credit }
+    {
+        number_of(&self.riding, credit) < number_of(&self.seen, credit)
+    }
+
+    /// Whether a slot of the type is Cancelled.
+    fn has_cancelled(&self, credit: CreditType) -> bool
+        ensures { result ≡ has_cancelled self.now credit }
+    {
+        number_of(&self.cancelled, credit) > 0
+    }
+
+    /// After a `see`.
+    fn after_see(&self, line: &[u8]) -> AccountView
+        ensures { result ≡ after_see line.now self.now }
+    {
+        AccountView {
+            seen: credits_said(line),
+            riding: self.riding,
+            cancelled: self.cancelled,
+        }
+    }
+
+    /// After the pending request was sent again. Refused as `one_more` is.
+    fn after_resend(
+        &self,
+        profile: Profile,
+        pending: Option<Pending>,
+    ) -> Result<AccountView, NoMemory>
+        ensures { IfOk result (λ account. account ≡ after_resend profile pending self.now) }
+    {
+        match pending {
+            Some(pending) => Ok(AccountView {
+                seen: self.seen,
+                riding: one_more(&self.riding, credit_type(profile, pending.kind))?,
+                cancelled: self.cancelled,
+            }),
+            None => Ok(*self),
+        }
+    }
+
+    /// After the pending request was cancelled. Refused as `one_more` is.
+    fn after_cancel(
+        &self,
+        profile: Profile,
+        pending: Option<Pending>,
+    ) -> Result<AccountView, NoMemory>
+        ensures { IfOk result (λ account. account ≡ after_cancel profile pending self.now) }
+    {
+        match pending {
+            Some(pending) => Ok(AccountView {
+                seen: self.seen,
+                riding: self.riding,
+                cancelled: one_more(&self.cancelled, credit_type(profile, pending.kind))?,
+            }),
+            None => Ok(*self),
+        }
+    }
+
+    /// After a credit of the type was spent for a resent request.
+    fn after_spend(&self, credit: CreditType) -> AccountView
+        ensures { result ≡ after_spend credit self.now }
+    {
+        AccountView {
+            seen: one_less(&self.seen, credit),
+            riding: one_less(&self.riding, credit),
+            cancelled: self.cancelled,
+        }
+    }
+
+    /// After the request in flight arrived.
+    fn after_arrival(&self, profile: Profile, request: Option<Request>) -> AccountView
+        ensures { result ≡ after_arrival profile request self.now }
+    {
+        match request {
+            Some(request) => {
+                if request.allow_retry {
+                    *self
+                } else {
+                    self.after_spend(credit_type(profile, request.kind))
+                }
+            }
+            None => *self,
+        }
+    }
+
+    /// After a credit was given back.
+    fn after_return(&self, credit: Option<CreditType>) -> AccountView
+        ensures { result ≡ after_return credit self.now }
+    {
+        match credit {
+            Some(credit) => AccountView {
+                seen: one_less(&self.seen, credit),
+                riding: self.riding,
+                cancelled: one_less(&self.cancelled, credit),
+            },
+            None => *self,
+        }
+    }
+
+    /// After a command of the agent that is done, with what stood at its line. Refused as `one_more` is.
+    pub(crate) fn after(
+        &self,
+        profile: Profile,
+        named: &Named,
+        before: &Option<Scene>,
+        line: &[u8],
+    ) -> Result<AccountView, NoMemory>
+        ensures { IfOk result (λ account. account
+            ≡ account_after named.now.verb profile named.now.credit before.now line.now self.now) }
+    {
+        match (named.verb, before) {
+            (Verb::See, _) => Ok(self.after_see(line)),
+            (Verb::GiveBack, _) => Ok(self.after_return(named.credit)),
+            (Verb::Resend, Some(scene)) => self.after_resend(profile, scene.pending),
+            (Verb::Cancel, Some(scene)) => self.after_cancel(profile, scene.pending),
+            (Verb::Arrive, Some(scene)) => Ok(self.after_arrival(profile, scene.flits.req)),
+            _ => Ok(*self),
+        }
+    }
+}
+
+/// One where there is a credit of the type.
+fn some_place(numbers: &[u64; 4], ty: usize) -> usize
+    requires { ty < 4 }
+    ensures is { result ≡ some_place numbers.now ty }
+    ensures low { result ≤ 1 }
+{
+    bool_place(numbers[ty] > 0)
+}
+
+/// Of how many types there are credits.
+fn types_seen(numbers: &[u64; 4]) -> usize
+    ensures { result ≡ types_seen numbers.now }
+{
+    some_place(numbers, 0)
+        + some_place(numbers, 1)
+        + some_place(numbers, 2)
+        + some_place(numbers, 3)
+}
+
+/// Whether there are two credits of a type.
+fn has_two(numbers: &[u64; 4]) -> bool
+    ensures { result ≡ has_two numbers.now }
+{
+    numbers[0] > 1 || numbers[1] > 1 || numbers[2] > 1 || numbers[3] > 1
+}
+
+/// What a `see` finds.
+fn found_in(numbers: &[u64; 4]) -> Found
+    ensures { result ≡ found_in numbers.now }
+{
+    if has_two(numbers) {
+        Found::TwoOfAType
+    } else if types_seen(numbers) == 0 {
+        Found::Nothing
+    } else if types_seen(numbers) == 1 {
+        Found::One
+    } else {
+        Found::SeveralTypes
+    }
+}
+
+/// The cell of a RetryAck that is taken.
+fn retry_cell(profile: Profile, pending: Option<Pending>, account: &AccountView) -> Option<Cell>
+    ensures { result ≡ retry_cell profile pending account.now }
+{
+    let kind = pending?.kind;
+    let granted = account.has_spare(credit_type(profile, kind));
+    Some(Cell::RetryTaken(kind, granted))
+}
+
+/// The cell of a resend that is refused for its copy's state.
+fn resend_cell(profile: Profile, pending: Option<Pending>, account: &AccountView) -> Option<Cell>
+    ensures { result ≡ resend_cell profile pending account.now }
+{
+    if account.has_spare(credit_type(profile, pending?.kind)) {
+        None
+    } else {
+        Some(Cell::BothFit(Verb::Resend))
+    }
+}
+
+/// The cell of a credit that isn't given back.
+fn return_cell(credit: Option<CreditType>, account: &AccountView) -> Option<Cell>
+    ensures { result ≡ return_cell credit account.now }
+{
+    let credit = credit?;
+    let cancelled = account.has_cancelled(credit);
+    Some(Cell::NotReturned(cancelled, account.has_spare(credit)))
+}
+
+/// The cell that an agent's account shows.
+pub(crate) fn account_cell(
+    profile: Profile,
+    named: &Named,
+    before: &Option<Scene>,
+    line: &[u8],
+    account: &AccountView,
+) -> Option<Cell>
+    ensures { result ≡ account_cell (refusal_in line.now) named.now.verb before.now
+        profile named.now.credit line.now account.now }
+{
+    match (refusal_in(line), named.verb, before) {
+        (None, Verb::See, _) => Some(Cell::Seen(found_in(&credits_said(line)))),
+        (None, Verb::RetryAck, Some(scene)) => retry_cell(profile, scene.pending, account),
+        (Some(Refusal::WrongState), Verb::Resend, Some(scene)) => {
+            resend_cell(profile, scene.pending, account)
+        }
+        (Some(Refusal::NoCredit), Verb::GiveBack, _) => return_cell(named.credit, account),
+        _ => None,
+    }
+}

@@ -1,0 +1,78 @@
+//! The cells of the messages that are shown in flight.
+
+ghost use Rattle.std.specs.Prelude.{◌≡◌};
+ghost use Rattle.chi_coverage.specs.Messages.{flight_cells, is_flight_empty, message_cell, message_cells, message_form};
+
+use crate::answers::refusal_in;
+use crate::cells::{Cell, Form, Verb, cell_if};
+use crate::named::Named;
+use crate::scenes::Scene;
+use chi_flit::{Channel, DatUp, Msg, RspDown, RspUp};
+use chi_slice::Cells;
+
+/// The form of a message.
+fn message_form(message: Msg) -> Form
+    ensures { result ≡ message_form message }
+{
+    match message {
+        Msg::Req(request) => Form::Request(request.kind, request.allow_retry),
+        Msg::Snp(snoop) => Form::Snp(snoop),
+        Msg::RspDown(RspDown::RetryAck(credit)) => Form::RetryAck(credit),
+        Msg::RspDown(RspDown::CompUC) => Form::CompUC,
+        Msg::RspDown(RspDown::CompI) => Form::CompI,
+        Msg::RspDown(RspDown::CompDBIDResp) => Form::CompDBIDResp,
+        Msg::DatDown(data) => Form::CompData(data.unique),
+        Msg::RspUp(RspUp::SnpRespI) => Form::SnpRespI,
+        Msg::RspUp(RspUp::SnpRespSC) => Form::SnpRespSC,
+        Msg::RspUp(RspUp::CompAck) => Form::CompAck,
+        Msg::DatUp(DatUp::SnpRespDataIPD(_)) => Form::SnpRespDataIPD,
+        Msg::DatUp(DatUp::SnpRespDataSCPD(_)) => Form::SnpRespDataSCPD,
+        Msg::DatUp(DatUp::SnpRespDataSD(_)) => Form::SnpRespDataSD,
+        Msg::DatUp(DatUp::CopyBackWrData(form, _)) => Form::CopyBackWrData(form),
+    }
+}
+
+/// The cell of the message on a channel.
+fn message_cell(cells: &Cells, channel: Channel) -> Option<Cell>
+    ensures { result ≡ message_cell cells.now channel }
+{
+    Some(Cell::Message(message_form(cells.get(channel)?)))
+}
+
+/// Whether no message is in flight.
+fn is_flight_empty(cells: &Cells) -> bool
+    ensures { result ≡ is_flight_empty cells.now }
+{
+    cells.req.is_none()
+        && cells.snp.is_none()
+        && cells.rsp_down.is_none()
+        && cells.dat_down.is_none()
+        && cells.rsp_up.is_none()
+        && cells.dat_up.is_none()
+}
+
+/// The cells of what is shown in flight.
+fn flight_cells(cells: &Cells) -> [Option<Cell>; 7]
+    ensures { result ≡ flight_cells cells.now }
+{
+    let none = is_flight_empty(cells);
+    [
+        message_cell(cells, Channel::Req),
+        message_cell(cells, Channel::Snp),
+        message_cell(cells, Channel::RspDown),
+        message_cell(cells, Channel::DatDown),
+        message_cell(cells, Channel::RspUp),
+        message_cell(cells, Channel::DatUp),
+        cell_if(none, Cell::NoMessage),
+    ]
+}
+
+/// The cells of a `flits` that isn't refused.
+pub(crate) fn message_cells(named: &Named, before: &Option<Scene>, line: &[u8]) -> [Option<Cell>; 7]
+    ensures { result ≡ message_cells named.now before.now line.now }
+{
+    match (refusal_in(line), named.verb, before) {
+        (None, Verb::Flits, Some(scene)) => flight_cells(&scene.flits),
+        _ => [None, None, None, None, None, None, None],
+    }
+}
