@@ -91,15 +91,19 @@ fn reason_number(reason: LineFault) -> u8
         LineFault::NothingToRetry => 6,
         LineFault::ServedRetry => 7,
         LineFault::NobodyAsks(_) => 8,
-        LineFault::Busy => 9,
+        LineFault::EarlySnoop(_)
+        | LineFault::EarlyCompletion(_)
+        | LineFault::EarlyEvict(_)
+        | LineFault::EarlyCopyBack(_) => 9,
         LineFault::SnoopedTwice => 10,
         LineFault::NothingToAnswer => 11,
         LineFault::Answer(_, _) => 12,
         LineFault::Words(_) => 13,
-        LineFault::NothingToComplete => 14,
+        LineFault::NoRead | LineFault::NoCleanUnique | LineFault::NoEvict | LineFault::NoCopyBack =>
+            14,
         LineFault::Snoops(_) => 15,
         LineFault::Form => 16,
-        LineFault::NotAwaited => 17,
+        LineFault::NoAckAwaited | LineFault::NoWriteDataAwaited => 17,
         LineFault::WriteForm(_) => 18,
         _ => 19,
     }

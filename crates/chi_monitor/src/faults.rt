@@ -27,6 +27,18 @@ pub enum WrongSnoops {
     OfAnother,
 }
 
+/// What the home awaits for the request that it serves, before it serves another one at the line.
+/// Source: `docs/TRACES.md`, "Rules".
+#[derive(Clone, Copy, Debug, PartialEq, Eq)]
+pub enum Awaited {
+    /// Answers to its snoops.
+    Answers,
+    /// A CompAck.
+    Ack,
+    /// Write data.
+    WriteData,
+}
+
 /// Why no run of the model sends the flit that was seen next, or does the load or the store.
 /// Source: `docs/TRACES.md`, "Explanations".
 #[derive(Clone, Copy, Debug, PartialEq, Eq)]
@@ -47,8 +59,8 @@ pub enum LineFault {
     ServedRetry,
     /// A snoop, and no request that waits asks for it of this node.
     NobodyAsks(Snoop),
-    /// A snoop, and the home awaits a CompAck or write data.
-    Busy,
+    /// A snoop, and the home awaits this for an earlier request.
+    EarlySnoop(Awaited),
     /// A second snoop to the node for one request.
     SnoopedTwice,
     /// An answer, and the node has no snoop to answer.
@@ -57,14 +69,28 @@ pub enum LineFault {
     Answer(Reach, Snoop),
     /// Data that isn't what the sender has: these words, as far as they are known.
     Words(Known),
-    /// A completion, and no request of the node that it completes waits.
-    NothingToComplete,
+    /// CompData, and no read of the node waits.
+    NoRead,
+    /// Comp_UC, and no CleanUnique of the node waits.
+    NoCleanUnique,
+    /// Comp_I, and no Evict of the node waits.
+    NoEvict,
+    /// CompDBIDResp, and no copy-back of the node waits.
+    NoCopyBack,
+    /// CompData or Comp_UC, and the home awaits this for an earlier request.
+    EarlyCompletion(Awaited),
+    /// Comp_I, and the home awaits this for another request.
+    EarlyEvict(Awaited),
+    /// CompDBIDResp, and the home awaits this for another request.
+    EarlyCopyBack(Awaited),
     /// A completion, and others are to be snooped before it, or were snooped for another request.
     Snoops(WrongSnoops),
     /// A completion in another form than the filter says.
     Form,
-    /// A CompAck or write data, and the home doesn't await it from this node.
-    NotAwaited,
+    /// A CompAck, and the home doesn't await one of this node.
+    NoAckAwaited,
+    /// Write data, and the home doesn't await any of this node.
+    NoWriteDataAwaited,
     /// Write data in another form than that of the copy, whose state is this.
     WriteForm(State),
     /// A load, and the requester has no copy.
@@ -140,6 +166,54 @@ impl fmt::Display for WrongSnoops {
     }
 }
 
+impl fmt::Display for Awaited {
+    fn fmt<W: fmt::Write>(&self, f: &mut fmt::Formatter<W>) -> fmt::Result {
+        f.write_str(match self {
+            Awaited::Answers => "answers to snoops",
+            Awaited::Ack => "a CompAck",
+            Awaited::WriteData => "write data",
+        })
+    }
+}
+
+impl LineFault {
+    /// What has to do with what the home awaits, and with the request that a flit is for.
+    fn write_stage<W: fmt::Write>(&self, f: &mut fmt::Formatter<W>) -> fmt::Result {
+        match self {
+            LineFault::EarlySnoop(awaited) => {
+                write!(
+                    f,
+                    "the home awaits {awaited} there before it snoops for another request"
+                )
+            }
+            LineFault::EarlyCompletion(awaited) => {
+                write!(
+                    f,
+                    "the home awaits {awaited} there before it completes another request"
+                )
+            }
+            LineFault::EarlyEvict(awaited) => {
+                write!(
+                    f,
+                    "the home awaits {awaited} there before it completes an Evict"
+                )
+            }
+            LineFault::EarlyCopyBack(awaited) => {
+                write!(
+                    f,
+                    "the home awaits {awaited} there before it asks for write data"
+                )
+            }
+            LineFault::NoRead => f.write_str("no read of it waits there"),
+            LineFault::NoCleanUnique => f.write_str("no CleanUnique of it waits there"),
+            LineFault::NoEvict => f.write_str("no Evict of it waits there"),
+            LineFault::NoCopyBack => f.write_str("no copy-back of it waits there"),
+            LineFault::NoAckAwaited => f.write_str("the home awaits no CompAck of it there"),
+            _ => f.write_str("the home awaits no write data of it there"),
+        }
+    }
+}
+
 impl fmt::Display for LineFault {
     fn fmt<W: fmt::Write>(&self, f: &mut fmt::Formatter<W>) -> fmt::Result {
         match self {
@@ -158,7 +232,6 @@ impl fmt::Display for LineFault {
             LineFault::NobodyAsks(snoop) => {
                 write!(f, "no request that waits asks for {snoop} of it now")
             }
-            LineFault::Busy => f.write_str("the home awaits a CompAck or write data there"),
             LineFault::SnoopedTwice => f.write_str("it was snooped for this request already"),
             LineFault::NothingToAnswer => f.write_str("no snoop to it is unanswered"),
             LineFault::Answer(states, snoop) => {
@@ -166,16 +239,15 @@ impl fmt::Display for LineFault {
                 write!(f, "its copy is {states}, and {own}")
             }
             LineFault::Words(known) => write!(f, "its sender has the words {known}"),
-            LineFault::NothingToComplete => f.write_str("no request of it that it completes waits"),
             LineFault::Snoops(wrong) => write!(f, "{wrong}"),
             LineFault::Form => f.write_str("the home's filter says the other form"),
-            LineFault::NotAwaited => f.write_str("the home doesn't await it"),
             LineFault::WriteForm(state) => write!(f, "its copy is {state}, which has another form"),
             LineFault::NoCopy => f.write_str("its copy is I, which no load reads"),
             LineFault::Word(word, value) => { write!(f, "word {word} of its copy is {value:x}") }
             LineFault::NoStore(states) => {
                 write!(f, "its copy is {states}, which no store writes")
             }
+            other => other.write_stage(f),
         }
     }
 }

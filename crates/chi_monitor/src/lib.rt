@@ -12,14 +12,16 @@ mod line;
 mod line_monitor;
 mod monitor;
 mod open_flits;
+mod parts;
 mod requester;
 mod search;
 mod values;
 
 pub use choices::allowed;
 pub use explained::{NoExplanation, explain_flits, first_fault};
-pub use faults::{LineFault, Reach, WrongSnoops};
+pub use faults::{Awaited, LineFault, Reach, WrongSnoops};
 pub use monitor::{FirstFault, Monitor, NotExplained, NotTaken};
 pub use open_flits::OpenFlits;
+pub use parts::{PartSeen, words_of_run};
 pub use search::Witness;
 pub use values::Known;

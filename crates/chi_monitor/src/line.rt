@@ -2,14 +2,13 @@
 
 ghost use Rattle.std.specs.Prelude.{◌<◌};
 
-use crate::faults::{LineFault, Reach, WrongSnoops};
+use crate::faults::{Awaited, LineFault, Reach, WrongSnoops};
 use crate::filter::{AgentSet, KnownFilter, NOBODY, has, has_any, with_mark};
 use crate::requester::{Asked, Given, KnownRequester, Stage};
-use crate::values::{Known, Unknown, UnknownWords, Values};
+use crate::values::{Known, SeenWords, Unknown, UnknownWords, Values};
 use chi_explain::{StoreListing, WitnessItem};
 use chi_flit::{
-    Agent, CompData, DatUp, Data, Kind, Msg, NO_DATA, RspUp, Slot, Snoop, State, Step, WordNo,
-    answer,
+    Agent, DatUp, Data, Kind, Msg, NO_DATA, RspUp, Slot, Snoop, State, Step, WordNo, answer,
 };
 use std::alloc::Allocator;
 
@@ -74,6 +73,11 @@ enum Answer {
 
 const SLOT: Slot = Slot(0);
 
+/// Whether the words that were seen are all 0.
+fn are_zeros(seen: &SeenWords) -> bool {
+    seen.iter().all(|word| word.unwrap_or(0) == 0)
+}
+
 impl<A: Allocator + Copy> Search<A> {
     /// A line that nobody has a copy of, and nothing is known of its memory.
     pub fn new(alloc: A, stores: StoreListing) -> Result<Search<A>, LineFault> {
@@ -114,6 +118,22 @@ impl<A: Allocator> Search<A> {
         requires { agent.0 < 8 }
     {
         self.values.line(&self.at(agent).words)
+    }
+
+    /// The words of the data that the agent has been sent, or else of its copy.
+    pub fn words_at(&self, agent: Agent) -> UnknownWords
+        requires { agent.0 < 8 }
+    {
+        let side = self.at(agent);
+        match side.given {
+            Some(Given::Data(_, words)) => words,
+            Some(Given::Unique) | None => side.words,
+        }
+    }
+
+    /// The values of words, as far as they are known; 0 where they aren't.
+    pub fn values_of(&self, words: &UnknownWords) -> Data {
+        self.values.line(words)
     }
 
     /// The dirty words that an agent has given for the completion that is next; those of memory where none has.
@@ -307,8 +327,9 @@ impl<A: Allocator> Search<A> {
                 group.snooped = with_mark(group.snooped, agent, true);
                 group
             }
-            Service::AwaitingAck(_) | Service::AwaitingWriteData(_, _) => {
-                return Err(LineFault::Busy);
+            Service::AwaitingAck(_) => return Err(LineFault::EarlySnoop(Awaited::Ack)),
+            Service::AwaitingWriteData(_, _) => {
+                return Err(LineFault::EarlySnoop(Awaited::WriteData));
             }
         };
         if !has_any(&group.may_be) || group.snoop != snoop {
@@ -322,8 +343,8 @@ impl<A: Allocator> Search<A> {
         Ok(())
     }
 
-    /// The agent's answer to its snoop.
-    pub fn answer(&mut self, agent: Agent, message: &Msg) -> Result<(), LineFault>
+    /// The agent's answer to its snoop, whose data, if it has any, has these words.
+    pub fn answer(&mut self, agent: Agent, message: &Msg, seen: &SeenWords) -> Result<(), LineFault>
         requires { agent.0 < 8 }
     {
         let mut side = self.at(agent);
@@ -333,7 +354,7 @@ impl<A: Allocator> Search<A> {
         let Service::Snooping(mut group) = self.service else {
             return Err(LineFault::NothingToAnswer);
         };
-        let (next, given) = self.answered(agent, &mut side, snoop, message)?;
+        let (next, given) = self.answered(agent, &mut side, snoop, message, seen)?;
         self.act(agent, Step::RecvSnp)?;
         side.base = next;
         side.snoop = None;
@@ -352,6 +373,7 @@ impl<A: Allocator> Search<A> {
         side: &mut KnownRequester,
         snoop: Snoop,
         message: &Msg,
+        seen: &SeenWords,
     ) -> Result<(State, Answer), LineFault> {
         let fault = LineFault::Answer(self.reach(side), snoop);
         let leaves = answer(side.base, snoop, NO_DATA).0;
@@ -373,7 +395,7 @@ impl<A: Allocator> Search<A> {
                 }
                 State::I | State::SC | State::UC | State::UD | State::SD => Err(fault),
             },
-            Msg::DatUp(message) => self.answered_by_data(agent, side, snoop, message),
+            Msg::DatUp(message) => self.answered_by_data(agent, side, snoop, message, seen),
             Msg::RspUp(RspUp::CompAck)
             | Msg::Req(_)
             | Msg::Snp(_)
@@ -389,22 +411,23 @@ impl<A: Allocator> Search<A> {
         side: &mut KnownRequester,
         snoop: Snoop,
         message: &DatUp,
+        seen: &SeenWords,
     ) -> Result<(State, Answer), LineFault> {
         let fault = LineFault::Answer(self.reach(side), snoop);
-        let (leaves, data) = match message {
-            DatUp::SnpRespDataIPD(data) => (State::I, data),
-            DatUp::SnpRespDataSCPD(data) => (State::SC, data),
-            DatUp::SnpRespDataSD(data) => (State::SD, data),
+        let leaves = match message {
+            DatUp::SnpRespDataIPD(_) => State::I,
+            DatUp::SnpRespDataSCPD(_) => State::SC,
+            DatUp::SnpRespDataSD(_) => State::SD,
             DatUp::CopyBackWrData(_, _) => return Err(fault),
         };
         match side.base {
             State::UC | State::UD if side.is_free() && self.may_hide() => {
-                side.words = self.values.known_line(data)?;
+                side.words = self.values.seen_line(seen)?;
                 let words = side.words;
                 self.store_all(agent, &words)?;
             }
             State::UD | State::SD => {
-                if !self.values.are_now(&side.words, data) {
+                if !self.values.are_now(&side.words, seen) {
                     return Err(LineFault::Words(self.values.known(&side.words)));
                 }
             }
@@ -498,7 +521,10 @@ impl<A: Allocator> Search<A> {
                 self.fill(group.at, agent);
                 self.take_answers()
             }
-            Service::AwaitingAck(_) | Service::AwaitingWriteData(_, _) => Err(LineFault::Busy),
+            Service::AwaitingAck(_) => Err(LineFault::EarlyCompletion(Awaited::Ack)),
+            Service::AwaitingWriteData(_, _) => {
+                Err(LineFault::EarlyCompletion(Awaited::WriteData))
+            }
         }
     }
 
@@ -558,25 +584,30 @@ impl<A: Allocator> Search<A> {
         Ok(given)
     }
 
-    /// The data of the agent's read.
-    pub fn complete_read(&mut self, agent: Agent, message: &CompData) -> Result<(), LineFault>
+    /// The data of the agent's read, for a unique copy or a shared one, with these words.
+    pub fn complete_read(
+        &mut self,
+        agent: Agent,
+        unique: bool,
+        seen: &SeenWords,
+    ) -> Result<(), LineFault>
         requires { agent.0 < 8 }
     {
         let mut side = self.at(agent);
         let kind = match side.waiting() {
             Some(kind @ (Kind::ReadNotSharedDirty | Kind::ReadShared | Kind::ReadUnique)) => kind,
-            Some(_) | None => return Err(LineFault::NothingToComplete),
+            Some(_) | None => return Err(LineFault::NoRead),
         };
         let given = self.begin(agent, kind)?;
         let alone = matches!(kind, Kind::ReadUnique) || !has_any(&self.filter.others(agent));
-        if message.unique != alone {
+        if unique != alone {
             return Err(LineFault::Form);
         }
         let words = match (kind, given) {
             (Kind::ReadShared, Some(words)) if !alone => words,
             _ => self.memory,
         };
-        if !self.values.are_now(&words, &message.words) {
+        if !self.values.are_now(&words, seen) {
             return Err(LineFault::Words(self.values.known(&words)));
         }
         if alone {
@@ -599,7 +630,7 @@ impl<A: Allocator> Search<A> {
         let mut side = self.at(agent);
         match side.waiting() {
             Some(Kind::CleanUnique) => {}
-            Some(_) | None => return Err(LineFault::NothingToComplete),
+            Some(_) | None => return Err(LineFault::NoCleanUnique),
         }
         let _ = self.begin(agent, Kind::CleanUnique)?;
         self.filter.only(agent);
@@ -617,7 +648,7 @@ impl<A: Allocator> Search<A> {
         let mut side = self.at(agent);
         match self.service {
             Service::AwaitingAck(served) if served.0 == agent.0 => {}
-            _ => return Err(LineFault::NotAwaited),
+            _ => return Err(LineFault::NoAckAwaited),
         }
         match side.given {
             Some(Given::Data(state, words)) => {
@@ -633,7 +664,7 @@ impl<A: Allocator> Search<A> {
                     other => other,
                 };
             }
-            None => return Err(LineFault::NotAwaited),
+            None => return Err(LineFault::NoAckAwaited),
         }
         side.given = None;
         side.asked = None;
@@ -642,9 +673,14 @@ impl<A: Allocator> Search<A> {
         self.act(agent, Step::RecvAck)
     }
 
-    /// Whether nothing is served.
-    fn is_idle(&self) -> bool {
-        matches!(self.service, Service::Idle)
+    /// What the home awaits for the request that it serves; `None` where it serves none.
+    fn awaited(&self) -> Option<Awaited> {
+        match self.service {
+            Service::Idle => None,
+            Service::Snooping(_) => Some(Awaited::Answers),
+            Service::AwaitingAck(_) => Some(Awaited::Ack),
+            Service::AwaitingWriteData(_, _) => Some(Awaited::WriteData),
+        }
     }
 
     /// Comp_I of the agent's Evict.
@@ -654,10 +690,10 @@ impl<A: Allocator> Search<A> {
         let mut side = self.at(agent);
         match side.waiting() {
             Some(Kind::Evict) => {}
-            Some(_) | None => return Err(LineFault::NothingToComplete),
+            Some(_) | None => return Err(LineFault::NoEvict),
         }
-        if !self.is_idle() {
-            return Err(LineFault::Busy);
+        if let Some(awaited) = self.awaited() {
+            return Err(LineFault::EarlyEvict(awaited));
         }
         self.act(agent, Step::Admit)?;
         self.act(agent, Step::Start)?;
@@ -675,10 +711,10 @@ impl<A: Allocator> Search<A> {
         let mut side = self.at(agent);
         let kind = match side.waiting() {
             Some(kind) if kind.is_copy_back() => kind,
-            Some(_) | None => return Err(LineFault::NothingToComplete),
+            Some(_) | None => return Err(LineFault::NoCopyBack),
         };
-        if !self.is_idle() {
-            return Err(LineFault::Busy);
+        if let Some(awaited) = self.awaited() {
+            return Err(LineFault::EarlyCopyBack(awaited));
         }
         self.act(agent, Step::Admit)?;
         self.act(agent, Step::Start)?;
@@ -688,22 +724,22 @@ impl<A: Allocator> Search<A> {
         Ok(())
     }
 
-    /// The agent's write data.
-    pub fn write(&mut self, agent: Agent, form: State, data: &Data) -> Result<(), LineFault>
+    /// The agent's write data, with these words.
+    pub fn write(&mut self, agent: Agent, form: State, seen: &SeenWords) -> Result<(), LineFault>
         requires { agent.0 < 8 }
     {
         let mut side = self.at(agent);
         let kind = match self.service {
             Service::AwaitingWriteData(served, kind) if served.0 == agent.0 => kind,
-            _ => return Err(LineFault::NotAwaited),
+            _ => return Err(LineFault::NoWriteDataAwaited),
         };
         if form != side.base {
             return Err(LineFault::WriteForm(side.base));
         }
         let (same, has) = match form {
-            State::I => (*data == NO_DATA, Known([Some(0); 8])),
+            State::I => (are_zeros(seen), Known([Some(0); 8])),
             State::SC | State::UC | State::UD | State::SD => (
-                self.values.are_now(&side.words, data),
+                self.values.are_now(&side.words, seen),
                 self.values.known(&side.words),
             ),
         };

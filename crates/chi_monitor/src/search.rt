@@ -6,6 +6,7 @@ ghost use Rattle.chi_monitor.specs.Places.{IsWithin};
 use crate::explained::NoExplanation;
 use crate::faults::LineFault;
 use crate::line::{Draft, Search};
+use crate::values::SeenWords;
 use chi_explain::{Observed, SentFlit, StoreListing, WitnessItem};
 use chi_flit::{DatUp, Data, Msg, RspDown, RspUp, Step};
 use std::alloc::Allocator;
@@ -72,10 +73,19 @@ pub(crate) fn line_behind<A: Allocator + Copy>(
     Ok(search)
 }
 
-/// Takes what was seen next.
+/// Takes what was seen next, with all words of its data.
 pub(crate) fn take<A: Allocator>(search: &mut Search<A>, seen: &Observed) -> Result<(), LineFault> {
+    take_part(search, seen, &words_in(seen))
+}
+
+/// Takes what was seen next, whose data, if it has any, has these words.
+pub(crate) fn take_part<A: Allocator>(
+    search: &mut Search<A>,
+    seen: &Observed,
+    words: &SeenWords,
+) -> Result<(), LineFault> {
     match seen {
-        Observed::Flit(flit) => take_flit(search, flit),
+        Observed::Flit(flit) => take_flit(search, flit, words),
         Observed::Load(agent, word, value) if agent.0 < 8 && word.0 < 8 => {
             search.load(*agent, *word, *value)
         }
@@ -86,8 +96,43 @@ pub(crate) fn take<A: Allocator>(search: &mut Search<A>, seen: &Observed) -> Res
     }
 }
 
+/// All words of the data of what was seen; none where it has no data.
+pub(crate) fn words_in(seen: &Observed) -> SeenWords {
+    match seen {
+        Observed::Flit(flit) => match &flit.message {
+            Msg::DatDown(read) => whole(&read.words),
+            Msg::DatUp(written) => written_words(written),
+            Msg::Req(_) | Msg::Snp(_) | Msg::RspDown(_) | Msg::RspUp(_) => [None; 8],
+        },
+        Observed::Load(_, _, _) | Observed::Store(_, _, _) => [None; 8],
+    }
+}
+
+/// The words of data to the home.
+fn written_words(written: &DatUp) -> SeenWords {
+    match written {
+        DatUp::SnpRespDataIPD(words)
+        | DatUp::SnpRespDataSCPD(words)
+        | DatUp::SnpRespDataSD(words)
+        | DatUp::CopyBackWrData(_, words) => whole(words),
+    }
+}
+
+/// Words that were all seen.
+fn whole(words: &Data) -> SeenWords {
+    let mut seen = [None; 8];
+    for (place, word) in seen.iter_mut().zip(words) {
+        *place = Some(*word);
+    }
+    seen
+}
+
 /// Takes the next flit.
-fn take_flit<A: Allocator>(search: &mut Search<A>, flit: &SentFlit) -> Result<(), LineFault> {
+fn take_flit<A: Allocator>(
+    search: &mut Search<A>,
+    flit: &SentFlit,
+    words: &SeenWords,
+) -> Result<(), LineFault> {
     let agent = flit.agent;
     if agent.0 >= 8 {
         return Err(LineFault::NoAgent);
@@ -100,10 +145,10 @@ fn take_flit<A: Allocator>(search: &mut Search<A>, flit: &SentFlit) -> Result<()
         Msg::RspDown(RspDown::CompUC) => search.complete_unique(agent),
         Msg::RspDown(RspDown::CompI) => search.complete_evict(agent),
         Msg::RspDown(RspDown::CompDBIDResp) => search.ask_write_data(agent),
-        Msg::DatDown(message) => search.complete_read(agent, message),
+        Msg::DatDown(message) => search.complete_read(agent, message.unique, words),
         Msg::RspUp(RspUp::CompAck) => search.acknowledge(agent),
-        Msg::DatUp(DatUp::CopyBackWrData(form, data)) => search.write(agent, *form, data),
-        message @ (Msg::RspUp(_) | Msg::DatUp(_)) => search.answer(agent, message),
+        Msg::DatUp(DatUp::CopyBackWrData(form, _)) => search.write(agent, *form, words),
+        message @ (Msg::RspUp(_) | Msg::DatUp(_)) => search.answer(agent, message, words),
     }
 }
 

@@ -14,6 +14,9 @@ const MANY: usize = 512;
 /// The words of a line.
 pub(crate) type UnknownWords = [Unknown; 8];
 
+/// The words of data that were seen; the others may be any.
+pub(crate) type SeenWords = [Option<u64>; 8];
+
 /// The words of a line, as far as they are known.
 #[derive(Clone, Copy, Debug, PartialEq, Eq)]
 pub struct Known(pub [Option<u64>; 8]);
@@ -114,11 +117,11 @@ impl<A: Allocator> Values<A> {
         Ok(words)
     }
 
-    /// The words of a line that has these values.
-    pub fn known_line(&mut self, values: &Data) -> Result<UnknownWords, AllocError> {
+    /// The words of a line that has these values, of those that were seen.
+    pub fn seen_line(&mut self, values: &SeenWords) -> Result<UnknownWords, AllocError> {
         let mut words = [Unknown(0); 8];
         for (word, value) in words.iter_mut().zip(values) {
-            *word = self.add(Some(*value))?;
+            *word = self.add(*value)?;
         }
         Ok(words)
     }
@@ -131,18 +134,21 @@ impl<A: Allocator> Values<A> {
         }
     }
 
-    /// Whether the word may have the value.
-    fn may_be(&self, word: Unknown, value: u64) -> bool {
-        match self.known_word(word) {
-            Some(known) => known == value,
-            None => true,
+    /// Whether the word may have the value, if one was seen.
+    fn may_be(&self, word: Unknown, value: Option<u64>) -> bool {
+        match (self.known_word(word), value) {
+            (Some(known), Some(value)) => known == value,
+            (_, None) | (None, _) => true,
         }
     }
 
-    /// The word has the value from now on.
-    fn bind(&mut self, word: Unknown, value: u64) {
+    /// The word has the value from now on, if one was seen.
+    fn bind(&mut self, word: Unknown, value: Option<u64>) {
+        if value.is_none() {
+            return;
+        }
         if let Some(shown) = self.shown.get_mut(word.0) {
-            *shown = Some(value);
+            *shown = value;
         }
     }
 
@@ -153,15 +159,15 @@ impl<A: Allocator> Values<A> {
 
     /// Whether the word may have the value; then it has it from now on.
     pub fn is_now(&mut self, word: Unknown, value: u64) -> bool {
-        let may = self.may_be(word, value);
+        let may = self.may_be(word, Some(value));
         if may {
-            self.bind(word, value);
+            self.bind(word, Some(value));
         }
         may
     }
 
-    /// Whether the words may have these values; then they have them from now on.
-    pub fn are_now(&mut self, words: &UnknownWords, values: &Data) -> bool {
+    /// Whether the words may have these values, of those that were seen; then they have them from now on.
+    pub fn are_now(&mut self, words: &UnknownWords, values: &SeenWords) -> bool {
         let may = words
             .iter()
             .zip(values)
