@@ -2,6 +2,7 @@
 use Rattle.std.proofs.Common.{◌≡◌, List, ℕ, Bool, true, false, Option, Some, None, option_map, refl, ap, ◌∙◌, if◌then◌else◌}
 use Rattle.chi_flit.specs.declared.action.Step.TheVariants as steps
 use Rattle.chi_flit.specs.declared.credit.Profile.{Profile}
+use Rattle.chi_flit.specs.declared.kind.Kind.{Kind}
 use Rattle.chi_flit.specs.declared.message.DatUp.{DatUp}
 use Rattle.chi_flit.specs.declared.message.DatUp.TheVariants.{CopyBackWrData, SnpRespDataIPD, SnpRespDataSCPD, SnpRespDataSD}
 use Rattle.chi_flit.specs.declared.message.Msg.{Msg}
@@ -12,12 +13,12 @@ use Rattle.chi_flit.specs.declared.numbers.Agent.{Agent}
 use Rattle.chi_slice.specs.Words.{has_any, Serving, SnoopAnswer, Home, answer_taken, finished_as, home_after_completion, memory_after, snoop_answered, after_step, answered_by, data_answer, response_answer, where_some, flits_sent, LineState, cells_of, flit_of}
 use Rattle.chi_slice.specs.Servings.{AwaitingCompAck, AwaitingWriteData, Idle, Snooping}
 use Rattle.chi_slice.specs.SnoopAnswers as answers
-use Rattle.chi_slice.specs.Sendings.{answer_message, completion_sent, message_taken, words_sent}
+use Rattle.chi_slice.specs.Sendings.{answer_message, completed_for, completion_sent, message_taken, words_sent}
 use Rattle.chi_slice.specs.Traffic.{flits_in}
 use Rattle.chi_slice.proofs.Sendings.{sends}
 use Rattle.chi_library.specs.declared.flits.ChiFlit.{ChiFlit}
 use Rattle.chi_library.specs.Flits.{taken_told}
-use Rattle.chi_library.specs.Standing.{words_due}
+use Rattle.chi_library.specs.Standing.{completed_standing, completion_standing, words_due}
 
 -- that the request completes leaves the memory
 finished_memory : (serving : Serving) (home : Home) → (finished_as serving home).memory ≡ home.memory
@@ -61,11 +62,25 @@ by_answer s agent (Some SnpRespI) is =
 by_answer s agent (Some SnpRespSC) is =
     ap (λ (o : Option RspUp). due_by agent (option_map messages.RspUp o) (snoop_answered s.home agent answers.SC).memory) is ∙ answered_memory s.home agent answers.SC
 
+-- the completion, by what is served before the answer and after it
+by_serving : (after : Serving) (home : Home) (kind : Kind) (agent : Agent) (words : List ℕ) → completed_standing after agent kind home.filter.unique words ≡ flits_in (completed_for after kind agent words home)
+by_serving Idle home kind agent words = refl
+by_serving (Snooping served asked slot) home kind agent words = refl
+by_serving (AwaitingCompAck served slot) home kind agent words = refl
+by_serving (AwaitingWriteData served asked slot) home kind agent words = refl
+
+by_home : (before : Serving) (home : Home) (words : List ℕ) → completion_standing before home.serving home.filter.unique words ≡ flits_in (completion_sent before words home)
+by_home Idle home words = refl
+by_home (Snooping agent kind slot) home words = by_serving home.serving home kind agent words
+by_home (AwaitingCompAck agent slot) home words = refl
+by_home (AwaitingWriteData agent kind slot) home words = refl
+
 pub answered : (profile : Profile) (s : LineState) (agent : Agent) (taken : ChiFlit) → taken ≡ (taken_told (flit_of agent (message_taken (cells_of s agent.0) steps.RecvSnpResp))).flit
-    → flits_in (completion_sent s.home.serving (words_due taken (after_step profile s agent steps.RecvSnpResp).home.memory) (after_step profile s agent steps.RecvSnpResp).home)
-    ≡ flits_sent profile s agent steps.RecvSnpResp
+    → completion_standing s.home.serving (after_step profile s agent steps.RecvSnpResp).home.serving (after_step profile s agent steps.RecvSnpResp).home.filter.unique
+    (words_due taken (after_step profile s agent steps.RecvSnpResp).home.memory) ≡ flits_sent profile s agent steps.RecvSnpResp
 answered profile s agent taken is =
     let left : Home = (after_step profile s agent steps.RecvSnpResp).home in
-    ap (λ (words : List ℕ). flits_in (completion_sent s.home.serving words left))
+    by_home s.home.serving left (words_due taken left.memory)
+    ∙ (ap (λ (words : List ℕ). flits_in (completion_sent s.home.serving words left))
     (ap (λ (f : ChiFlit). words_due f left.memory) is ∙ by_answer s agent (cells_of s agent.0).rsp_up refl)
-    ∙ sends profile s agent steps.RecvSnpResp
+    ∙ sends profile s agent steps.RecvSnpResp)

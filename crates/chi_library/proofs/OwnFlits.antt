@@ -1,18 +1,16 @@
--- The flits that a step sent to or from its own agent, or as snoops, stand after it where they are read.
-use Rattle.std.proofs.Common.{◌≡◌, ℕ, ◌+◌, ◌<◌, List, [], ◌∷◌, Bool, true, false, Option, Some, None, is_some, option_map, refl, sym, ap, ◌∙◌, subst, length, slice_set, get_or-set_same, if◌then◌else◌, arith}
+-- The flits that a step sent stand after it where they are read.
+use Rattle.std.proofs.Common.{◌≡◌, ℕ, ◌+◌, ◌<◌, List, [], ◌∷◌, Bool, true, false, ◌==◌, Option, Some, None, is_some, option_map, refl, sym, ap, ◌∙◌, subst, length, slice_set, get_or-set_same, if◌then◌else◌, arith}
 use Rattle.chi_flit.specs.declared.action.Step.{Step}
 use Rattle.chi_flit.specs.declared.action.Step.TheVariants as steps
 use Rattle.chi_flit.specs.declared.credit.Profile.{Profile}
 use Rattle.chi_flit.specs.declared.kind.Kind.{Kind}
 use Rattle.chi_flit.specs.declared.kind.Kind.TheVariants.{ReadNotSharedDirty, ReadShared, ReadUnique, CleanUnique, Evict, WriteBackFull, WriteCleanFull, WriteEvictFull}
 use Rattle.chi_flit.specs.declared.message.Channel.TheVariants as channels
-use Rattle.chi_flit.specs.declared.message.CompData.{CompData}
 use Rattle.chi_flit.specs.declared.message.Msg.{Msg}
 use Rattle.chi_flit.specs.declared.message.Msg.TheVariants as messages
 use Rattle.chi_flit.specs.declared.message.Request.{Request}
 use Rattle.chi_flit.specs.declared.message.RspDown.{RspDown}
 use Rattle.chi_flit.specs.declared.message.RspDown.TheVariants.{CompDBIDResp, CompI, CompUC, RetryAck}
-use Rattle.chi_flit.specs.declared.message.RspUp.TheVariants.{CompAck}
 use Rattle.chi_flit.specs.declared.numbers.Agent.{Agent}
 use Rattle.chi_flit.specs.declared.numbers.Slot.{Slot}
 use Rattle.chi_flit.specs.declared.snoop.Snoop.{Snoop}
@@ -20,13 +18,15 @@ use Rattle.chi_flit.specs.declared.snoop.Snoop.TheVariants.{SnpCleanInvalid, Snp
 use Rattle.chi_flit.specs.Kind.{snoop_of}
 use Rattle.chi_flit.specs.Message.{write_data_of}
 use Rattle.chi_flit.specs.Snoop.{answer_of}
-use Rattle.chi_slice.specs.Words.{has_any, no_flits, with_message, cells_at, Serving, Waiting, Home, asks, completion_of, home_after_completion, started_as, started_sends_as, taken_up, waiting_of, Conditions, Kept, Lane, LaneKept, bit, is_dbid, is_retried, lane, snoops_for, retry_refusal, step_refusal, after_step, completion_received, dbid_received_line, flits_after_start, issued_line, received_line, resent_line, retried_line, snooped_line, started_line, where_some, completion_ack, flits_sent, request_again, retry_ack, snoop_answer, start_flits, started_flits, Cells, Flit, LineState, Pending, cell_of, cells_of, flit, flit_of, rn_of}
+use Rattle.chi_slice.specs.Words.{has_any, no_flits, with_message, cells_at, Serving, Waiting, Home, asks, completion_of, home_after_completion, started_as, started_sends_as, taken_up, waiting_of, Conditions, Kept, Lane, LaneKept, bit, is_dbid, is_retried, lane, snoops_for, retry_refusal, step_refusal, after_step, dbid_received_line, flits_after_start, resent_line, retried_line, snooped_line, started_line, where_some, completion_ack, flits_sent, request_again, retry_ack, snoop_answer, start_flits, started_flits, Cells, Flit, LineState, Pending, cell_of, cells_of, flit, flit_of, rn_of}
 use Rattle.chi_slice.specs.Servings.{Idle, Snooping}
 use Rattle.chi_slice.specs.Starts.{Sends, Snoops}
 use Rattle.chi_slice.proofs.Passed.{IsRetried, dbid_there, flit_there, may_resend, IsSnooping, is_snooping, snoop_no_response, AnswerRow, answer_row, is_up, idle_is, response_finds_pending, CanStart, can_start}
 use Rattle.chi_slice.specs.Sendings.{message_taken}
+use Rattle.chi_library.specs.declared.flits.ChiFlit.{ChiFlit}
 use Rattle.chi_library.specs.Flits.{taken_told}
-use Rattle.chi_library.specs.Standing.{ack_on, down_on, line_standing, message_on, snoops_standing, start_standing, up_on}
+use Rattle.chi_library.specs.Standing.{ack_standing, completion_standing, down_on, line_standing, snoops_standing, start_standing, up_on, words_due}
+use Rattle.chi_library.proofs.AnswerFlits.{answered}
 
 within : (n : ℕ) (flits : List Cells) → n < 8 → length flits ≡ 8 → n < length flits
 within n flits low long = subst (λ (m : ℕ). n < m) (sym long) low
@@ -34,10 +34,6 @@ within n flits low long = subst (λ (m : ℕ). n < m) (sym long) low
 -- the cells that were put are read again
 put : (flits : List Cells) (n : ℕ) (c : Cells) → n < length flits → cells_at (slice_set flits n c) n ≡ c
 put flits n c low = get_or-set_same flits n c no_flits low
-
-issued : (s : LineState) (agent : Agent) (kind : Kind) (slot : Slot) → agent.0 < length s.flits
-    → flit_of agent (cell_of (cells_of (issued_line s agent.0 kind slot) agent.0) channels.Req) ≡ flit agent (messages.Req (record { kind = kind; slot = slot; allow_retry = true })) ∷ []
-issued s agent kind slot low = ap (λ (c : Cells). flit_of agent (cell_of c channels.Req)) (put s.flits agent.0 _ low)
 
 retried : (profile : Profile) (s : LineState) (agent : Agent) (request : Option Request) → retry_refusal request ≡ None → agent.0 < length s.flits
     → flit_of agent (cell_of (cells_of (where_some s request (retried_line profile s agent.0)) agent.0) channels.RspDown) ≡ flit_of agent (retry_ack profile request)
@@ -49,11 +45,6 @@ resent : (s : LineState) (agent : Agent) (pending : Option Pending) → is_some 
 resent s agent None there low = absurd (cc (there))
 resent s agent (Some request) there low = ap (λ (c : Cells). flit_of agent (cell_of c channels.Req)) (put s.flits agent.0 _ low)
 
-data_received : (s : LineState) (agent : Agent) (message : Option CompData) → is_some message ≡ true → agent.0 < length s.flits
-    → flit_of agent (cell_of (cells_of (where_some s message (received_line s agent.0)) agent.0) channels.RspUp) ≡ flit agent (messages.RspUp CompAck) ∷ []
-data_received s agent None there low = absurd (cc (there))
-data_received s agent (Some message) there low = ap (λ (c : Cells). flit_of agent (cell_of c channels.RspUp)) (put s.flits agent.0 _ low)
-
 dbid_received : (s : LineState) (agent : Agent) (pending : Option Pending) → is_some pending ≡ true → agent.0 < length s.flits
     → flit_of agent (cell_of (cells_of (where_some s pending (λ (request : Pending). dbid_received_line s agent.0 request.kind)) agent.0) channels.DatUp)
     ≡ flit agent (messages.DatUp (write_data_of (rn_of s agent.0).state (rn_of s agent.0).words)) ∷ []
@@ -61,13 +52,15 @@ dbid_received s agent None there low = absurd (cc (there))
 dbid_received s agent (Some request) there low = ap (λ (c : Cells). flit_of agent (cell_of c channels.DatUp)) (put s.flits agent.0 _ low)
 
 -- RecvComp: the number of the message that was taken tells which it was
-comp_received : (s : LineState) (agent : Agent) (response : Option RspDown) → agent.0 < length s.flits
-    → flit_of agent (message_on (cells_of (completion_received s agent.0 response) agent.0) (ack_on (taken_told (flit_of agent (option_map messages.RspDown response))).flit.message)) ≡ flit_of agent (completion_ack response)
-comp_received s agent None low = refl
-comp_received s agent (Some (RetryAck ty)) low = refl
-comp_received s agent (Some CompUC) low = ap (λ (c : Cells). flit_of agent (cell_of c channels.RspUp)) (put s.flits agent.0 _ low)
-comp_received s agent (Some CompI) low = refl
-comp_received s agent (Some CompDBIDResp) low = refl
+abbrev acked : Agent → ℕ → List Flit
+acked agent message = if message == 7 then ack_standing agent else []
+
+comp_received : (agent : Agent) (response : Option RspDown) → acked agent (taken_told (flit_of agent (option_map messages.RspDown response))).flit.message ≡ flit_of agent (completion_ack response)
+comp_received agent None = refl
+comp_received agent (Some (RetryAck ty)) = refl
+comp_received agent (Some CompUC) = refl
+comp_received agent (Some CompI) = refl
+comp_received agent (Some CompDBIDResp) = refl
 
 -- RecvSnp: beside a snoop no response is in flight
 abbrev up_flit : Agent → Cells → List Flit
@@ -169,45 +162,40 @@ begun home flits agent WriteCleanFull slot idle none low = down_put flits agent 
 begun home flits agent WriteEvictFull slot idle none low = down_put flits agent (messages.RspDown CompDBIDResp) refl none low
 
 started : (s : LineState) (agent : Agent) (waiting : Option Waiting) → is_some waiting ≡ true → s.home.serving ≡ Idle → (cells_of s agent.0).rsp_down ≡ None → agent.0 < length s.flits
-    → line_standing (where_some s waiting (started_line s agent)) agent 0 steps.Start ≡ started_flits s.home agent waiting
+    → stands_by agent (where_some s waiting (started_line s agent)).home (where_some s waiting (started_line s agent)).flits ≡ started_flits s.home agent waiting
 started s agent None there idle none low = absurd (cc (there))
 started s agent (Some request) there idle none low = begun s.home s.flits agent request.kind request.slot idle none low
 
--- each step but the one whose flit may be another agent's
-abbrev pub IsOwn : Step → Type 0
-IsOwn steps.RecvSnpResp = ⊥
-IsOwn other = Unit {0}
-
-pub stands : (c : Conditions) (last : List ℕ) (s : LineState) (agent : Agent) (message : ℕ) (step : Step) → agent.0 < 8 → Kept last s → step_refusal c s agent step ≡ None → IsOwn step
-    → message ≡ (taken_told (flit_of agent (message_taken (cells_of s agent.0) step))).flit.message
-    → line_standing (after_step c.profile s agent step) agent message step ≡ flits_sent c.profile s agent step
-stands c last s agent message (steps.Load word) low k may own is = refl
-stands c last s agent message (steps.Store word value) low k may own is = refl
-stands c last s agent message steps.Drop low k may own is = refl
-stands c last s agent message (steps.Issue kind slot) low k may own is = issued s agent kind slot (within agent.0 s.flits low k.flits)
-stands c last s agent message steps.Admit low k may own is = refl
-stands c last s agent message steps.Retry low k may own is = retried c.profile s agent (cells_of s agent.0).req may (within agent.0 s.flits low k.flits)
-stands c last s agent message steps.RecvRetry low k may own is = refl
-stands c last s agent message steps.Resend low k may own is =
+pub stands : (c : Conditions) (last : List ℕ) (s : LineState) (agent : Agent) (before : Serving) (taken : ChiFlit) (step : Step) → agent.0 < 8 → Kept last s → step_refusal c s agent step ≡ None
+    → before ≡ s.home.serving → taken ≡ (taken_told (flit_of agent (message_taken (cells_of s agent.0) step))).flit
+    → line_standing (after_step c.profile s agent step) agent before taken step ≡ flits_sent c.profile s agent step
+stands c last s agent before taken (steps.Load word) low k may served is = refl
+stands c last s agent before taken (steps.Store word value) low k may served is = refl
+stands c last s agent before taken steps.Drop low k may served is = refl
+stands c last s agent before taken (steps.Issue kind slot) low k may served is = refl
+stands c last s agent before taken steps.Admit low k may served is = refl
+stands c last s agent before taken steps.Retry low k may served is = retried c.profile s agent (cells_of s agent.0).req may (within agent.0 s.flits low k.flits)
+stands c last s agent before taken steps.RecvRetry low k may served is = refl
+stands c last s agent before taken steps.Resend low k may served is =
     let retried_one : IsRetried (rn_of s agent.0).pending = may_resend c s agent may in
     resent s agent (rn_of s agent.0).pending (ap is_some retried_one.is) (within agent.0 s.flits low k.flits)
-stands c last s agent message steps.Cancel low k may own is = refl
-stands c last s agent message steps.Start low k may own is =
+stands c last s agent before taken steps.Cancel low k may served is = refl
+stands c last s agent before taken steps.Start low k may served is =
     let can : CanStart s.home agent.0 = can_start s.home agent.0 may in
     started s agent (waiting_of s.home agent.0) can.is_waiting (idle_is s.home.serving can.idle)
     (waits_alone s.home.serving s.home.filter.unique s.home.filter.owner last agent.0 (lane s agent.0) can.request can.waits (k.lanes agent.0 low))
     (within agent.0 s.flits low k.flits)
-stands c last s agent message steps.RecvSnp low k may own is =
+stands c last s agent before taken steps.RecvSnp low k may served is =
     let there = flit_there (is_some (cells_of s agent.0).snp) may in
     snooped s agent (cells_of s agent.0).snp there (no_response last s agent.0 (cells_of s agent.0).snp refl there low k) (within agent.0 s.flits low k.flits)
-stands c last s agent message steps.RecvSnpResp low k may own is = absurd own
-stands c last s agent message steps.RecvData low k may own is =
-    data_received s agent (cells_of s agent.0).dat_down (flit_there (is_some (cells_of s agent.0).dat_down) may) (within agent.0 s.flits low k.flits)
-stands c last s agent message steps.RecvComp low k may own is =
-    ap (λ (m : ℕ). flit_of agent (message_on (cells_of (completion_received s agent.0 (cells_of s agent.0).rsp_down) agent.0) (ack_on m))) is
-    ∙ comp_received s agent (cells_of s agent.0).rsp_down (within agent.0 s.flits low k.flits)
-stands c last s agent message steps.RecvAck low k may own is = refl
-stands c last s agent message steps.RecvDbid low k may own is =
+stands c last s agent before taken steps.RecvSnpResp low k may served is =
+    let left : Home = (after_step c.profile s agent steps.RecvSnpResp).home in
+    ap (λ (v : Serving). completion_standing v left.serving left.filter.unique (words_due taken left.memory)) served ∙ answered c.profile s agent taken is
+stands c last s agent before taken steps.RecvData low k may served is = refl
+stands c last s agent before taken steps.RecvComp low k may served is =
+    ap (λ (f : ChiFlit). acked agent f.message) is ∙ comp_received agent (cells_of s agent.0).rsp_down
+stands c last s agent before taken steps.RecvAck low k may served is = refl
+stands c last s agent before taken steps.RecvDbid low k may served is =
     let here = dbid_there (cells_of s agent.0).rsp_down (flit_there (is_dbid (cells_of s agent.0).rsp_down) may) in
     dbid_received s agent (rn_of s agent.0).pending (response_finds_pending last s agent.0 CompDBIDResp low k here) (within agent.0 s.flits low k.flits)
-stands c last s agent message steps.RecvWrData low k may own is = refl
+stands c last s agent before taken steps.RecvWrData low k may served is = refl

@@ -1,30 +1,34 @@
 -- Of the code alone, no public promise cites it: where the flits that an action sent stand after it
 -- (docs/PROTOCOL.md, "The actions" and "Messages").
-use Rattle.std.specs.Prelude.{ℕ, List, [], ◌∷◌, map, Bool, Option, Some, None, ◌==◌, if◌then◌else◌}
-use Rattle.chi_flit.specs.declared.action.Action.{Action}
+use Rattle.std.specs.Prelude.{ℕ, List, [], ◌∷◌, Bool, true, Option, Some, None, replicate, ◌==◌, if◌then◌else◌}
 use Rattle.chi_flit.specs.declared.action.Step.{Step}
 use Rattle.chi_flit.specs.declared.action.Step.TheVariants as steps
+use Rattle.chi_flit.specs.declared.kind.Kind.{Kind}
 use Rattle.chi_flit.specs.declared.message.Channel.{Channel}
 use Rattle.chi_flit.specs.declared.message.Channel.TheVariants as channels
 use Rattle.chi_flit.specs.declared.message.Msg.{Msg}
+use Rattle.chi_flit.specs.declared.message.Msg.TheVariants as messages
 use Rattle.chi_flit.specs.declared.message.RspDown.{RspDown}
 use Rattle.chi_flit.specs.declared.message.RspUp.{RspUp}
+use Rattle.chi_flit.specs.declared.message.RspUp.TheVariants.{CompAck}
 use Rattle.chi_flit.specs.declared.numbers.Agent.{Agent}
-use Rattle.chi_flit.specs.declared.refusal.Refusal.{Refusal}
+use Rattle.chi_flit.specs.declared.numbers.Slot.{Slot}
 use Rattle.chi_flit.specs.declared.snoop.Snoop.{Snoop}
 use Rattle.chi_flit.specs.Kind.{snoop_of}
-use Rattle.chi_slice.specs.Sendings.{completion_sent}
-use Rattle.chi_slice.specs.Servings.{Idle, Snooping}
-use Rattle.chi_slice.specs.Slice.{SliceState, flits_refusal, line}
-use Rattle.chi_slice.specs.Traffic.{flits_in}
-use Rattle.chi_slice.specs.Words.{Cells, Flit, LineState, Serving, cell_of, cells_of, flit_of, snoop_flits}
+use Rattle.chi_slice.specs.Servings.{AwaitingCompAck, Snooping}
+use Rattle.chi_slice.specs.Words.{Cells, Flit, LineState, Serving, cell_of, cells_of, completion_message, flit, flit_of, snoop_flits}
 use Rattle.chi_library.specs.declared.flits.ChiFlit.{ChiFlit}
 use Rattle.chi_library.specs.declared.flits.ChiSent.{ChiSent}
-use Rattle.chi_library.specs.Calls.{told_unless}
-use Rattle.chi_library.specs.Flits.{no_sent, sent_told}
+use Rattle.chi_library.specs.Flits.{data_told, no_sent, sent_told}
 
 abbrev pub opened_sent : Agent → ℕ → ChiSent
 opened_sent agent channel = record no_sent { agent = agent.0; channel = channel }
+
+abbrev pub data_sent : Agent → ℕ → ℕ → List ℕ → ChiSent
+data_sent agent channel message words = record { agent = agent.0; channel = channel; reserved = replicate 6 0; flit = data_told message words }
+
+abbrev pub read_data : Bool → List ℕ → Msg
+read_data unique words = messages.DatDown (record { unique = unique; words = words })
 
 -- a flit that is told over what was told before, if there is one
 abbrev pub told_or : List Flit → ChiSent → ChiSent
@@ -44,23 +48,16 @@ abbrev pub down_on : Option RspDown → Channel
 down_on None = channels.DatDown
 down_on (Some response) = channels.RspDown
 
--- a CompAck, where the message that was taken is Comp_UC
-abbrev pub ack_on : ℕ → Option Channel
-ack_on message = if message == 7 then Some channels.RspUp else None
+-- the request of an issue, and a CompAck
+abbrev pub first_request : Kind → Slot → Msg
+first_request kind slot = messages.Req (record { kind = kind; slot = slot; allow_retry = true })
 
--- the channel of the flit that a step sent, by the cells of its agent after it and the message that it took
-abbrev pub sent_on : Cells → ℕ → Step → Option Channel
-sent_on cells message (steps.Issue kind slot) = Some channels.Req
-sent_on cells message steps.Retry = Some channels.RspDown
-sent_on cells message steps.Resend = Some channels.Req
-sent_on cells message steps.RecvSnp = Some (up_on cells.rsp_up)
-sent_on cells message steps.RecvData = Some channels.RspUp
-sent_on cells message steps.RecvComp = ack_on message
-sent_on cells message steps.RecvDbid = Some channels.DatUp
-sent_on cells message other = None
+abbrev pub ack_standing : Agent → List Flit
+ack_standing agent = flit agent (messages.RspUp CompAck) ∷ []
 
-abbrev pub own_standing : Agent → Cells → ℕ → Step → List Flit
-own_standing agent cells message step = flit_of agent (message_on cells (sent_on cells message step))
+-- what stands on a channel between an agent and the home
+abbrev pub cell_standing : Agent → Cells → Channel → List Flit
+cell_standing agent cells channel = flit_of agent (cell_of cells channel)
 
 -- what a start sent
 abbrev pub snoops_standing : Option Snoop → List Bool → List Flit
@@ -69,40 +66,33 @@ snoops_standing (Some snoop) agents = snoop_flits 0 agents snoop
 
 abbrev pub start_standing : Agent → Serving → List Bool → Cells → List Flit
 start_standing agent (Snooping served kind slot) awaited cells = snoops_standing (snoop_of kind) awaited
-start_standing agent other awaited cells = flit_of agent (cell_of cells (down_on cells.rsp_down))
+start_standing agent other awaited cells = cell_standing agent cells (down_on cells.rsp_down)
 
-abbrev pub line_start_standing : LineState → Agent → List Flit
-line_start_standing s agent = start_standing agent s.home.serving s.home.awaited (cells_of s agent.0)
-
-abbrev pub line_standing : LineState → Agent → ℕ → Step → List Flit
-line_standing s agent message steps.Start = line_start_standing s agent
-line_standing s agent message step = own_standing agent (cells_of s agent.0) message step
-
-abbrev pub start_listed : SliceState → Action → List ChiSent
-start_listed s action = told_unless (flits_refusal s action.agent.0 action.line.0) [] (map sent_told (line_start_standing (line s action.line.0) action.agent))
-
--- what the home serves before an answer
-abbrev pub served_if : Option Refusal → Serving → Serving
-served_if None serving = serving
-served_if (Some refusal) serving = Idle
-
-abbrev pub served_before : SliceState → Action → Step → Serving
-served_before s action steps.RecvSnpResp = served_if (flits_refusal s action.agent.0 action.line.0) (line s action.line.0).home.serving
-served_before s action other = Idle
-
--- the data of a completion: that of SnpRespData_SD where the answer was that, else the memory after it
+-- the data of a completion that an answer brought: that of SnpRespData_SD where the answer was that, else the memory
+-- after it
 abbrev pub words_due : ChiFlit → List ℕ → List ℕ
 words_due taken memory = if taken.message == 17 then taken.words else memory
 
--- the completion that an answer brought to what was served before it
-abbrev pub completion_told : Serving → ChiFlit → LineState → List Flit
-completion_told serving taken s = flits_in (completion_sent serving (words_due taken s.home.memory) s.home)
+-- the completion that an answer brought, by what the home served before it and what it serves after it
+abbrev pub completed_standing : Serving → Agent → Kind → Bool → List ℕ → List Flit
+completed_standing (AwaitingCompAck served slot) agent kind unique words = flit agent (completion_message kind unique words) ∷ []
+completed_standing other agent kind unique words = []
 
-abbrev pub answer_listed : SliceState → Action → Serving → ChiFlit → List ChiSent
-answer_listed s action serving taken = told_unless (flits_refusal s action.agent.0 action.line.0) [] (map sent_told (completion_told serving taken (line s action.line.0)))
+abbrev pub completion_standing : Serving → Serving → Bool → List ℕ → List Flit
+completion_standing (Snooping agent kind slot) after unique words = completed_standing after agent kind unique words
+completion_standing other after unique words = []
 
--- what is listed of a step after it
-abbrev pub listed_by : SliceState → Action → Serving → ChiFlit → Step → List ChiSent
-listed_by s action serving taken steps.Start = start_listed s action
-listed_by s action serving taken steps.RecvSnpResp = answer_listed s action serving taken
-listed_by s action serving taken step = map sent_told (own_standing action.agent (cells_of (line s action.line.0) action.agent.0) taken.message step)
+-- what a step sent, by the line after it, what the home served before it, and the message that it took: a CompAck where
+-- that is Comp_UC
+abbrev pub line_standing : LineState → Agent → Serving → ChiFlit → Step → List Flit
+line_standing s agent before taken (steps.Issue kind slot) = flit agent (first_request kind slot) ∷ []
+line_standing s agent before taken steps.Retry = cell_standing agent (cells_of s agent.0) channels.RspDown
+line_standing s agent before taken steps.Resend = cell_standing agent (cells_of s agent.0) channels.Req
+line_standing s agent before taken steps.Start = start_standing agent s.home.serving s.home.awaited (cells_of s agent.0)
+line_standing s agent before taken steps.RecvSnp = cell_standing agent (cells_of s agent.0) (up_on (cells_of s agent.0).rsp_up)
+line_standing s agent before taken steps.RecvSnpResp =
+    completion_standing before s.home.serving s.home.filter.unique (words_due taken s.home.memory)
+line_standing s agent before taken steps.RecvData = ack_standing agent
+line_standing s agent before taken steps.RecvComp = if taken.message == 7 then ack_standing agent else []
+line_standing s agent before taken steps.RecvDbid = cell_standing agent (cells_of s agent.0) channels.DatUp
+line_standing s agent before taken other = []

@@ -3,12 +3,12 @@
 ghost use Rattle.std.specs.Prelude.{◌≡◌, Some, length, option_map};
 ghost use Rattle.chi_flit.specs.declared.message.Msg.TheVariants as messages;
 ghost use Rattle.chi_slice.specs.Words.{cell_of, channel_number, flit, flit_of};
-ghost use Rattle.chi_library.specs.Standing.{opened_sent, told_or};
+ghost use Rattle.chi_library.specs.Standing.{data_sent, opened_sent, read_data, told_or};
 ghost use Rattle.chi_library.specs.Flits.{dat_down_message, dat_up_told, flit_told, flits_told, no_flit, request_told, response_told, rsp_up_message, sent_told, snoop_message, write_message};
 
 use crate::numbers::{flag_number, kind_number};
 use chi_flit::{
-    Agent, Channel, CompData, DatUp, Msg, NO_DATA, Request, RspDown, RspUp, Snoop, State,
+    Agent, Channel, CompData, DatUp, Data, Msg, NO_DATA, Request, RspDown, RspUp, Snoop, State,
 };
 use chi_slice::Cells;
 
@@ -148,29 +148,39 @@ fn write_message(state: State) -> u8
     }
 }
 
+/// The number of the message of a response with data to the home.
+#[inline(always)]
+fn dat_up_message(response: &DatUp) -> u8
+    ensures { result ≡ (dat_up_told response.now).message }
+{
+    match response {
+        DatUp::SnpRespDataIPD(_) => 15,
+        DatUp::SnpRespDataSCPD(_) => 16,
+        DatUp::SnpRespDataSD(_) => 17,
+        DatUp::CopyBackWrData(state, _) => write_message(*state),
+    }
+}
+
+/// The data of a response with data to the home.
+#[inline(always)]
+fn dat_up_words(response: &DatUp) -> &Data
+    ensures { result.now ≡ (dat_up_told response.now).words }
+{
+    match response {
+        DatUp::SnpRespDataIPD(words)
+        | DatUp::SnpRespDataSCPD(words)
+        | DatUp::SnpRespDataSD(words)
+        | DatUp::CopyBackWrData(_, words) => words,
+    }
+}
+
 /// Tells a response with data to the home, where all numbers are 0.
 fn tell_dat_up(flit: &mut ChiFlit, response: &DatUp)
     requires { flit.old ≡ no_flit }
     ensures { flit.new ≡ dat_up_told response.now }
 {
-    match response {
-        DatUp::SnpRespDataIPD(words) => {
-            flit.message = 15;
-            flit.words = *words;
-        }
-        DatUp::SnpRespDataSCPD(words) => {
-            flit.message = 16;
-            flit.words = *words;
-        }
-        DatUp::SnpRespDataSD(words) => {
-            flit.message = 17;
-            flit.words = *words;
-        }
-        DatUp::CopyBackWrData(state, words) => {
-            flit.message = write_message(*state);
-            flit.words = *words;
-        }
-    }
+    flit.message = dat_up_message(response);
+    flit.words = *dat_up_words(response);
 }
 
 /// Tells a message: each number once, and those that stay 0, nearly all of them, all together.
@@ -253,6 +263,54 @@ pub(crate) fn tell_snoop(told: &mut ChiSent, agent: Agent, snoop: Snoop)
     told.flit.message = snoop_message(snoop);
 }
 
+/// Tells a request with its agent.
+pub(crate) fn tell_req(told: &mut ChiSent, agent: Agent, request: &Request)
+    ensures { told.new ≡ sent_told (flit agent (messages.Req request.now)) }
+{
+    open_sent(told, agent, 0);
+    tell_request(&mut told.flit, request);
+}
+
+/// Tells a response without data of its agent.
+pub(crate) fn tell_rsp_up(told: &mut ChiSent, agent: Agent, response: RspUp)
+    ensures { told.new ≡ sent_told (flit agent (messages.RspUp response)) }
+{
+    open_sent(told, agent, 4);
+    told.flit.message = rsp_up_message(response);
+}
+
+/// Tells a response without data to its agent.
+pub(crate) fn tell_rsp_down(told: &mut ChiSent, agent: Agent, response: &RspDown)
+    ensures { told.new ≡ sent_told (flit agent (messages.RspDown response.now)) }
+{
+    open_sent(told, agent, 2);
+    tell_response(&mut told.flit, response);
+}
+
+/// Tells the data of a read to its agent.
+pub(crate) fn tell_dat_down(told: &mut ChiSent, agent: Agent, unique: bool, words: &Data)
+    ensures { told.new ≡ sent_told (flit agent (read_data unique words.now)) }
+{
+    tell_data(told, agent, 3, dat_down_message(unique), words);
+}
+
+/// Tells a flit with data: each number once.
+#[inline(always)]
+fn tell_data(told: &mut ChiSent, agent: Agent, channel: u8, message: u8, words: &Data)
+    ensures { told.new ≡ data_sent agent channel message words.now }
+{
+    told.agent = agent.0;
+    told.channel = channel;
+    told.reserved = [0; 6];
+    told.flit.message = message;
+    told.flit.kind = 0;
+    told.flit.slot = 0;
+    told.flit.allow_retry = 0;
+    told.flit.credit = 0;
+    told.flit.reserved = [0; 3];
+    told.flit.words = *words;
+}
+
 /// Blanks a flit, but for its agent and its channel.
 fn open_sent(told: &mut ChiSent, agent: Agent, channel: u8)
     ensures { told.new ≡ opened_sent agent channel }
@@ -270,8 +328,7 @@ fn put_request(told: &mut ChiSent, agent: Agent, request: &Option<Request>) -> u
 {
     match request {
         Some(request) => {
-            open_sent(told, agent, 0);
-            tell_request(&mut told.flit, request);
+            tell_req(told, agent, request);
             1
         }
         None => 0,
@@ -301,8 +358,7 @@ fn put_response(told: &mut ChiSent, agent: Agent, response: &Option<RspDown>) ->
 {
     match response {
         Some(response) => {
-            open_sent(told, agent, 2);
-            tell_response(&mut told.flit, response);
+            tell_rsp_down(told, agent, response);
             1
         }
         None => 0,
@@ -317,9 +373,7 @@ fn put_data(told: &mut ChiSent, agent: Agent, sent: &Option<CompData>) -> u8
 {
     match sent {
         Some(sent) => {
-            open_sent(told, agent, 3);
-            told.flit.message = dat_down_message(sent.unique);
-            told.flit.words = sent.words;
+            tell_dat_down(told, agent, sent.unique, &sent.words);
             1
         }
         None => 0,
@@ -334,8 +388,7 @@ fn put_rsp_up(told: &mut ChiSent, agent: Agent, response: Option<RspUp>) -> u8
 {
     match response {
         Some(response) => {
-            open_sent(told, agent, 4);
-            told.flit.message = rsp_up_message(response);
+            tell_rsp_up(told, agent, response);
             1
         }
         None => 0,
@@ -350,8 +403,13 @@ fn put_dat_up(told: &mut ChiSent, agent: Agent, response: &Option<DatUp>) -> u8
 {
     match response {
         Some(response) => {
-            open_sent(told, agent, 5);
-            tell_dat_up(&mut told.flit, response);
+            tell_data(
+                told,
+                agent,
+                5,
+                dat_up_message(response),
+                dat_up_words(response),
+            );
             1
         }
         None => 0,

@@ -19,6 +19,7 @@ mod node_told;
 mod numbers;
 mod observed;
 mod records;
+mod sent;
 mod sizes;
 mod slice_calls;
 mod slice_handle;

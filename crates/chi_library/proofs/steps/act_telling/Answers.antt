@@ -27,7 +27,8 @@ returns-clause-sent c =
     let told = told_is c.args.slice.now c.args.action c.tell_taken.new.taken
     (c.tell_taken.ensures ∙ ap (λ (k : Cells). told_or (flit_of c.args.action.agent (message_taken k c.args.action.step)) no_sent) cells) in
     let same : action_in c.in_ok-at.at c.args.action.step ≡ c.args.action = search (rules, c.in_ok-at.ensures.agent, c.in_ok-at.ensures.line) in
-    let may : action_refusal c.args.slice.now c.args.action ≡ None = search (rules, c.in_ok-done.ensures.refusal, same) in
-    let done : c.act_in.new.self ≡ slice_after c.args.slice.now c.args.action = search (rules, c.in_ok-done.ensures.after) in
-    sent_is c.args.slice.now c.act_in.new.self c.args.action c.served_before-serving.result c.tell_taken.new.taken.flit c.args.sent.now _ _
-    c.in_ok-at.ensures.kept may done c.served_before-serving.ensures (ap (λ (t : ChiSent). t.flit) told) c.list_sent-count.ensures
+    let may : action_refusal c.args.slice.now c.args.action ≡ None = search (rules, c.in_ok-given.ensures.refusal, same) in
+    let done : c.act_in_row.new.slice ≡ slice_after c.args.slice.now c.args.action = search (rules, c.in_ok-given.ensures.after) in
+    let served : c.serving-before.result ≡ (line c.args.slice.now c.args.action.line.0).home.serving = search (rules, c.serving-before.ensures, c.home_in.ensures) in
+    sent_is c.args.slice.now c.act_in_row.new.slice c.args.action c.serving-before.result c.tell_taken.new.taken.flit c.args.sent.now _ _
+    c.in_ok-at.ensures.kept may done served (ap (λ (t : ChiSent). t.flit) told) c.list_sent.ensures

@@ -2,9 +2,9 @@
 use Rattle.std.proofs.Common.{List, slice_set, refl}
 use Rattle.chi_library.specs.declared.flits.ChiSent.{ChiSent}
 use Rattle.chi_library.proofs.Listings.{listed_one}
-use Rattle.chi_library.proofs.steps.list_one.Goals as goal
+use Rattle.chi_library.proofs.sent.list_issued.Goals as goal
 
 pub returns : goal.returns
 returns c =
-    let now : List ChiSent = slice_set c.args.sent.now 0 c.tell_sent.new.told in
-    listed_one _ c.tell_sent.new.told 7 c.args.sent.now now c.told-sent refl c.tell_sent.ensures
+    let now : List ChiSent = slice_set c.args.sent.now 0 c.tell_req.new.told in
+    listed_one _ c.tell_req.new.told 7 c.args.sent.now now c.told-sent refl c.tell_req.ensures

@@ -3,8 +3,8 @@ use Rattle.std.proofs.Common.{rules, arith, ◌≡◌, ◌+◌, ◌<◌, ◌∷�
 use Rattle.chi_library.specs.declared.flits.ChiSent.{ChiSent}
 use Rattle.chi_library.proofs.Listings.{listing_ends, listing_more, listing_same, listing_starts}
 use Rattle.chi_library.proofs.SentLists.{few_sent, next_marked, next_unmarked, none_from, told_from}
-use Rattle.chi_library.proofs.steps.list_snoops.Goals as goal
-use Rattle.chi_library.proofs.steps.list_snoops.Goals.{then-agents-from, else-agents-from}
+use Rattle.chi_library.proofs.sent.list_snoops.Goals as goal
+use Rattle.chi_library.proofs.sent.list_snoops.Goals.{then-agents-from, else-agents-from}
 
 pub loop-agent-init : goal.loop-agent-init
 loop-agent-init c =
