@@ -1,6 +1,6 @@
 -- The cells of loads, stores, drops and requests (docs/PROTOCOL.md, "The actions", "Kinds of request", "Start" and "A requester
 -- and its calls").
-use Rattle.std.specs.Prelude.{ℕ, List, [], ◌∷◌, Bool, true, false, ◌&&◌, not, Option, Some, None, if◌then◌else◌}
+use Rattle.std.specs.Prelude.{ℕ, List, [], ◌∷◌, Bool, true, false, Option, Some, None, if◌then◌else◌}
 use Rattle.chi_flit.specs.declared.credit.Profile.{Profile}
 use Rattle.chi_flit.specs.declared.kind.Kind.{Kind}
 use Rattle.chi_flit.specs.declared.message.DatUp.{DatUp}
