@@ -207,7 +207,7 @@ static void node_answers(void) {
     HOLDS(chi_node_tend(&node, 0, 4, &release) == CHI_OutOfRange && chi_node_tend(&node, 0, 1, &release) == CHI_OK);
     HOLDS(chi_node_give_back(&node, 0, 0, &release) == CHI_NoCredit && release.release == CHI_NotReleased);
     HOLDS(chi_node_arrive(&node, 0, 0, &arrival) == CHI_NoFlit && arrival.arrival == CHI_NotArrived);
-    ChiAction actions[] = {admit, {.step = CHI_Retry}, {.step = 17}, {.step = CHI_Issue, .kind = 8}, {.line = 2, .step = CHI_Load},
+    ChiAction actions[] = {admit, {.step = CHI_Retry}, {.step = 17}, {.step = CHI_Issue, .kind = 8}, {.line = 64, .step = CHI_Load},
         {.agent = 2, .step = CHI_Load}, {.step = CHI_Load, .word = 8}, {.step = CHI_Issue, .slot = 8}};
     for (size_t place = 0; place < sizeof actions / sizeof *actions; place++) {
         memset(&effect, 255, sizeof effect);
@@ -221,7 +221,7 @@ static void node_answers(void) {
     HOLDS(chi_node_arrive_flits(&node, 0, 0, &arrival, sent, &count, &taken) == CHI_NoFlit && count == 0);
     HOLDS(taken.flit.message == CHI_NoMessage && arrival.arrival == CHI_NotArrived);
     HOLDS(chi_node_arrive_flits(&node, 2, 0, &arrival, sent, &count, &taken) == CHI_OutOfRange && count == 0);
-    HOLDS(chi_node_arrive_flits(&node, 0, 2, &arrival, sent, &count, &taken) == CHI_OutOfRange && count == 0);
+    HOLDS(chi_node_arrive_flits(&node, 0, 64, &arrival, sent, &count, &taken) == CHI_OutOfRange && count == 0);
     HOLDS(chi_node_agrees(&node) == CHI_OK && chi_node_totals(&node, &totals) == CHI_OK && totals.free[0] == 1);
     HOLDS(chi_node_audit(&node, &audit) == CHI_OK && audit.coherent == 1);
     HOLDS(chi_node_close(&node) == CHI_OK && node.at == NULL);
