@@ -350,6 +350,13 @@ uint8_t chi_node_arrive(ChiNode *node, uint8_t agent, uint8_t line, ChiArrival *
  * "A requester and its calls", says; CHI_OutOfRange also of CHI_Admit and CHI_Retry, which are chi_node_arrive's. */
 uint8_t chi_node_step(ChiNode *node, const ChiAction *action, ChiEffect *effect, ChiRelease *release);
 
+/* As chi_node_arrive and as chi_node_step, and tell the flits that were sent and the one that was taken, as chi_slice_step
+ * tells them: of an arrival the request, and the RetryAck where it was retried. */
+uint8_t chi_node_arrive_flits(ChiNode *node, uint8_t agent, uint8_t line, ChiArrival *arrival, ChiSent sent[8],
+                              uint8_t *count, ChiSent *taken);
+uint8_t chi_node_step_flits(ChiNode *node, const ChiAction *action, ChiEffect *effect, ChiRelease *release,
+                            ChiSent sent[8], uint8_t *count, ChiSent *taken);
+
 /* The agent looks at what is promised to it. CHI_OutOfRange of the agent. */
 uint8_t chi_node_see(ChiNode *node, uint8_t agent, ChiCredits *credits);
 

@@ -327,6 +327,22 @@ struct Served {
     Release release;
 };
 
+/* What an arrival came to, the flits that it sent, and the one that it took. */
+struct ArrivalFlits {
+    Arrival arrival;
+    Some<Sent, CHI_MostSent> sent;
+    std::optional<Sent> taken;
+};
+
+/* What an action of a node gives, where the entry of a completed request went, the flits that it sent, and the one that
+ * it took. */
+struct ServedFlits {
+    Effect effect;
+    Release release;
+    Some<Sent, CHI_MostSent> sent;
+    std::optional<Sent> taken;
+};
+
 /* Entries that are free, in hand and promised, and credits that are owed, by type. */
 struct Totals {
     Counts free = {};
@@ -657,6 +673,26 @@ class Node {
         ChiRelease release;
         const std::uint8_t answer = chi_node_step(&handle_, &told, &effect, &release);
         return layout::outcome(answer, Served{layout::effect(effect), layout::release(release)});
+    }
+
+    /* As arrive and as step, and tell also the flits that were sent, and the one that was taken. */
+    Outcome<ArrivalFlits> arrive_flits(std::uint8_t agent, std::uint8_t line) {
+        ChiArrival arrival;
+        ChiSent sent[CHI_MostSent], taken;
+        std::uint8_t count = 0;
+        const std::uint8_t answer = chi_node_arrive_flits(&handle_, agent, line, &arrival, sent, &count, &taken);
+        return layout::outcome(
+            answer, ArrivalFlits{layout::arrival(arrival), layout::sent(sent, count), layout::sent(taken)});
+    }
+    Outcome<ServedFlits> step_flits(const Action &action) {
+        const ChiAction told = layout::action(action);
+        ChiEffect effect;
+        ChiRelease release;
+        ChiSent sent[CHI_MostSent], taken;
+        std::uint8_t count = 0;
+        const std::uint8_t answer = chi_node_step_flits(&handle_, &told, &effect, &release, sent, &count, &taken);
+        return layout::outcome(answer, ServedFlits{layout::effect(effect), layout::release(release),
+                                                   layout::sent(sent, count), layout::sent(taken)});
     }
 
     /* The agent looks at what is promised to it: the seen credits by type. OutOfRange. */

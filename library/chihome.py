@@ -456,6 +456,8 @@ _CALLS = {
     "chi_node_open": (c_uint8, [_node, POINTER(_ChiConfig)]),
     "chi_node_arrive": (c_uint8, [_node, c_uint8, c_uint8, _arrival]),
     "chi_node_step": (c_uint8, [_node, _action, _effect, _release]),
+    "chi_node_arrive_flits": (c_uint8, [_node, c_uint8, c_uint8, _arrival, _sent, _count, _sent]),
+    "chi_node_step_flits": (c_uint8, [_node, _action, _effect, _release, _sent, _count, _sent]),
     "chi_node_see": (c_uint8, [_node, c_uint8, POINTER(_ChiCredits)]),
     "chi_node_give_back": (c_uint8, [_node, c_uint8, c_uint8, _release]),
     "chi_node_tend": (c_uint8, [_node, c_uint8, c_uint8, _release]),
@@ -688,6 +690,24 @@ class Served(NamedTuple):
 
     effect: Effect
     release: Release
+
+
+class ArrivalFlits(NamedTuple):
+    """What an arrival came to, the flits that it sent, and the one that it took."""
+
+    arrival: Arrival
+    sent: Tuple[Sent, ...]
+    taken: Optional[Sent]
+
+
+class ServedFlits(NamedTuple):
+    """What an action of a node gives, where the entry of a completed request went, the flits that it sent, and the one
+    that it took."""
+
+    effect: Effect
+    release: Release
+    sent: Tuple[Sent, ...]
+    taken: Optional[Sent]
 
 
 class Totals(NamedTuple):
@@ -970,6 +990,24 @@ class Node(_Handle):
         action = _action_of(step, agent, line, kind, slot, word, value)
         _check(self._calls.chi_node_step(byref(self._handle), byref(action), byref(effect), byref(release)))
         return Served(_effect_in(effect), _release_in(release))
+
+    def arrive_flits(self, agent: int, line: int) -> ArrivalFlits:
+        """The agent's request in flight at the line arrives as by `arrive`, and what the arrival sent and took is told:
+        the request, and the RetryAck where it was retried."""
+        arrival, sent, count, taken = _ChiArrival(), (_ChiSent * MostSent)(), c_uint8(), _ChiSent()
+        _check(self._calls.chi_node_arrive_flits(byref(self._handle), _byte(agent), _byte(line), byref(arrival), sent,
+                                                 byref(count), byref(taken)))
+        return ArrivalFlits(_arrival_in(arrival), tuple(map(_sent_in, sent[:count.value])), _sent_in(taken))
+
+    def step_flits(self, step: Step, agent: int, line: int, kind: Kind = Kind.ReadNotSharedDirty, slot: int = 0,
+                   word: int = 0, value: int = 0) -> ServedFlits:
+        """Does an action as `step` does it, and tells also the flits that it sent, and the one that it took."""
+        effect, release, sent, count, taken = _ChiEffect(), _ChiRelease(), (_ChiSent * MostSent)(), c_uint8(), _ChiSent()
+        action = _action_of(step, agent, line, kind, slot, word, value)
+        _check(self._calls.chi_node_step_flits(byref(self._handle), byref(action), byref(effect), byref(release), sent,
+                                               byref(count), byref(taken)))
+        return ServedFlits(_effect_in(effect), _release_in(release), tuple(map(_sent_in, sent[:count.value])),
+                           _sent_in(taken))
 
     def see(self, agent: int) -> Tuple[int, ...]:
         """The agent looks at what is promised to it: the seen credits by type. OutOfRange."""

@@ -161,6 +161,15 @@ u8 chi_dpi_slice_requests(void *slice, u8 agent, u8 line, u8 *pending, u8 *pendi
     return answer;
 }
 
+static void tell_sent(const ChiSent *sent, u8 count, u64 *agents, u64 *channels, u64 *messages) {
+    *agents = *channels = *messages = 0;
+    for (int place = 0; place < count; place++) {
+        *agents |= (u64)sent[place].agent << 8 * place;
+        *channels |= (u64)sent[place].channel << 8 * place;
+        *messages |= (u64)sent[place].flit.message << 8 * place;
+    }
+}
+
 u8 chi_dpi_slice_step(void *slice, u8 agent, u8 line, u8 step, u8 kind, u8 slot, u8 word, u64 value, u8 *effect,
                       u8 *completed, u64 *loaded, u8 *count, u64 *agents, u64 *channels, u64 *messages, u8 *taken_channel,
                       u8 *taken_message, u8 *taken_kind, u8 *taken_slot, u8 *taken_allow_retry, u8 *taken_credit,
@@ -172,12 +181,7 @@ u8 chi_dpi_slice_step(void *slice, u8 agent, u8 line, u8 step, u8 kind, u8 slot,
     *effect = told.effect;
     *completed = told.slot;
     *loaded = told.value;
-    *agents = *channels = *messages = 0;
-    for (int place = 0; place < *count; place++) {
-        *agents |= (u64)sent[place].agent << 8 * place;
-        *channels |= (u64)sent[place].channel << 8 * place;
-        *messages |= (u64)sent[place].flit.message << 8 * place;
-    }
+    tell_sent(sent, *count, agents, channels, messages);
     *taken_channel = taken.channel;
     tell_flit(&taken.flit, taken_message, taken_kind, taken_slot, taken_allow_retry, taken_credit, taken_data);
     return answer;
@@ -258,6 +262,41 @@ u8 chi_dpi_node_step(void *node, u8 agent, u8 line, u8 step, u8 kind, u8 slot, u
     *loaded = told.value;
     *release = went.release;
     *granted = went.agent;
+    return answer;
+}
+
+u8 chi_dpi_node_arrive_flits(void *node, u8 agent, u8 line, u8 *arrival, u8 *entry, u8 *credit, u8 *count, u64 *agents,
+                             u64 *channels, u64 *messages, u8 *taken_channel, u8 *taken_message, u8 *taken_kind,
+                             u8 *taken_slot, u8 *taken_allow_retry, u8 *taken_credit, u32 *taken_data) {
+    ChiArrival told;
+    ChiSent sent[CHI_MostSent], taken;
+    u8 answer = chi_node_arrive_flits(NODE(node), agent, line, &told, sent, count, &taken);
+    *arrival = told.arrival;
+    *entry = told.entry;
+    *credit = told.credit;
+    tell_sent(sent, *count, agents, channels, messages);
+    *taken_channel = taken.channel;
+    tell_flit(&taken.flit, taken_message, taken_kind, taken_slot, taken_allow_retry, taken_credit, taken_data);
+    return answer;
+}
+
+u8 chi_dpi_node_step_flits(void *node, u8 agent, u8 line, u8 step, u8 kind, u8 slot, u8 word, u64 value, u8 *effect,
+                           u8 *completed, u64 *loaded, u8 *release, u8 *granted, u8 *count, u64 *agents, u64 *channels,
+                           u64 *messages, u8 *taken_channel, u8 *taken_message, u8 *taken_kind, u8 *taken_slot,
+                           u8 *taken_allow_retry, u8 *taken_credit, u32 *taken_data) {
+    ChiAction action = action_of(agent, line, step, kind, slot, word, value);
+    ChiEffect told;
+    ChiRelease went;
+    ChiSent sent[CHI_MostSent], taken;
+    u8 answer = chi_node_step_flits(NODE(node), &action, &told, &went, sent, count, &taken);
+    *effect = told.effect;
+    *completed = told.slot;
+    *loaded = told.value;
+    *release = went.release;
+    *granted = went.agent;
+    tell_sent(sent, *count, agents, channels, messages);
+    *taken_channel = taken.channel;
+    tell_flit(&taken.flit, taken_message, taken_kind, taken_slot, taken_allow_retry, taken_credit, taken_data);
     return answer;
 }
 

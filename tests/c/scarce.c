@@ -185,7 +185,16 @@ static void node_answers(void) {
     ChiAudit audit;
     ChiFlits flits;
     ChiLine shown;
+    ChiSent sent[CHI_MostSent], taken;
+    uint8_t count = 255;
     HOLDS(chi_node_step(&node, &admit, &effect, &release) == CHI_Closed);
+    memset(&taken, 0, sizeof taken);
+    HOLDS(chi_node_step_flits(&node, &admit, &effect, &release, sent, &count, &taken) == CHI_Closed && count == 0);
+    HOLDS(is_blank(&taken, sizeof taken) && effect.effect == CHI_Nothing && release.release == CHI_NotReleased);
+    count = 255;
+    memset(&taken, 0, sizeof taken);
+    HOLDS(chi_node_arrive_flits(&node, 0, 0, &arrival, sent, &count, &taken) == CHI_Closed && count == 0);
+    HOLDS(is_blank(&taken, sizeof taken) && arrival.arrival == CHI_NotArrived);
     HOLDS(chi_node_arrive(&node, 0, 0, &arrival) == CHI_Closed && chi_node_see(&node, 0, &credits) == CHI_Closed);
     HOLDS(chi_node_give_back(&node, 0, 0, &release) == CHI_Closed && chi_node_tend(&node, 0, 0, &release) == CHI_Closed);
     HOLDS(chi_node_show(&node, 0, &shown) == CHI_Closed && chi_node_flits(&node, 0, 0, &flits) == CHI_Closed);
@@ -198,6 +207,21 @@ static void node_answers(void) {
     HOLDS(chi_node_tend(&node, 0, 4, &release) == CHI_OutOfRange && chi_node_tend(&node, 0, 1, &release) == CHI_OK);
     HOLDS(chi_node_give_back(&node, 0, 0, &release) == CHI_NoCredit && release.release == CHI_NotReleased);
     HOLDS(chi_node_arrive(&node, 0, 0, &arrival) == CHI_NoFlit && arrival.arrival == CHI_NotArrived);
+    ChiAction actions[] = {admit, {.step = CHI_Retry}, {.step = 17}, {.step = CHI_Issue, .kind = 8}, {.line = 64, .step = CHI_Load},
+        {.agent = 2, .step = CHI_Load}, {.step = CHI_Load, .word = 8}, {.step = CHI_Issue, .slot = 8}};
+    for (size_t place = 0; place < sizeof actions / sizeof *actions; place++) {
+        memset(&effect, 255, sizeof effect);
+        memset(&taken, 255, sizeof taken);
+        count = 255;
+        HOLDS(chi_node_step_flits(&node, &actions[place], &effect, &release, sent, &count, &taken) == CHI_OutOfRange);
+        HOLDS(count == 0 && effect.effect == CHI_Nothing && effect.slot == 0 && release.release == CHI_NotReleased);
+        HOLDS(taken.flit.message == CHI_NoMessage && taken.flit.words[7] == 0);
+    }
+    memset(&taken, 255, sizeof taken);
+    HOLDS(chi_node_arrive_flits(&node, 0, 0, &arrival, sent, &count, &taken) == CHI_NoFlit && count == 0);
+    HOLDS(taken.flit.message == CHI_NoMessage && arrival.arrival == CHI_NotArrived);
+    HOLDS(chi_node_arrive_flits(&node, 2, 0, &arrival, sent, &count, &taken) == CHI_OutOfRange && count == 0);
+    HOLDS(chi_node_arrive_flits(&node, 0, 64, &arrival, sent, &count, &taken) == CHI_OutOfRange && count == 0);
     HOLDS(chi_node_agrees(&node) == CHI_OK && chi_node_totals(&node, &totals) == CHI_OK && totals.free[0] == 1);
     HOLDS(chi_node_audit(&node, &audit) == CHI_OK && audit.coherent == 1);
     HOLDS(chi_node_close(&node) == CHI_OK && node.at == NULL);

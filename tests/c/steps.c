@@ -4,6 +4,7 @@
  * chi_slice_refusal would let be done, of each step once, with the lowest slot. */
 #include "chihome.h"
 #include "drawn.h"
+#include "told.h"
 
 #include <inttypes.h>
 #include <stdio.h>
@@ -13,49 +14,14 @@ enum { AGENTS = 4, LINES = 4, MANY = 1000000 };
 
 static ChiSlice one, other;
 
-static int is_same(const ChiFlit *flit, const ChiFlit *wanted) {
-    return flit->message == wanted->message && flit->kind == wanted->kind && flit->slot == wanted->slot &&
-        flit->allow_retry == wanted->allow_retry && flit->credit == wanted->credit &&
-        memcmp(flit->words, wanted->words, sizeof flit->words) == 0;
-}
-
 static int is_action(const ChiAction *action, const ChiAction *wanted) {
     return action->agent == wanted->agent && action->line == wanted->line && action->step == wanted->step &&
         action->kind == wanted->kind && action->slot == wanted->slot && action->word == wanted->word &&
         action->value == wanted->value;
 }
 
-/* What no call writes: an array of flits or actions is filled with it before each. */
-enum { UNWRITTEN = 0xA5 };
-
-static int is_unwritten(const void *from, size_t size) {
-    const unsigned char *bytes = from;
-    for (size_t place = 0; place < size; place++)
-        if (bytes[place] != UNWRITTEN) return 0;
-    return 1;
-}
-
-static int is_blank(const ChiSent *sent) {
-    static const ChiFlit NONE;
-    return sent->agent == 0 && sent->channel == 0 && is_same(&sent->flit, &NONE);
-}
-
 static void read_flits(uint8_t line, ChiFlits *flits) {
     for (uint8_t agent = 0; agent < AGENTS; agent++) HOLDS(chi_slice_flits(&other, agent, line, &flits[agent]) == CHI_OK);
-}
-
-/* Takes a flit out of those in flight, and puts those that were sent to them. */
-static void move_flits(ChiFlits *flits, const ChiSent *sent, uint8_t count, const ChiSent *taken) {
-    static const ChiFlit NONE;
-    if (taken->flit.message != CHI_NoMessage) {
-        HOLDS(is_same(&flits[taken->agent].channels[taken->channel], &taken->flit));
-        flits[taken->agent].channels[taken->channel] = NONE;
-    }
-    for (uint8_t place = 0; place < count; place++) {
-        ChiFlit *cell = &flits[sent[place].agent].channels[sent[place].channel];
-        HOLDS(cell->message == CHI_NoMessage && sent[place].flit.message != CHI_NoMessage);
-        *cell = sent[place].flit;
-    }
 }
 
 static int tell_flits(const ChiAction *action) {
@@ -73,9 +39,7 @@ static int tell_flits(const ChiAction *action) {
     HOLDS(is_unwritten(&sent[count], (size_t)(CHI_MostSent - count) * sizeof *sent));
     read_flits(line, after);
     move_flits(before, sent, count, &taken);
-    for (int agent = 0; agent < AGENTS; agent++)
-        for (int channel = 0; channel < 6; channel++)
-            HOLDS(is_same(&before[agent].channels[channel], &after[agent].channels[channel]));
+    are_same(before, after, AGENTS);
     return answer == CHI_OK;
 }
 

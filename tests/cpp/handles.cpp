@@ -111,6 +111,23 @@ static void copies() {
     HOLDS(model.act(action(0, Step::Start)) && copy == closed);
 }
 
+static void node_flits() {
+    Node model = *Node::open(sizes(2, 1)), closed;
+    const ServedFlits issued = *model.step_flits(action(1, Step::Issue));
+    HOLDS(issued.sent.size() == 1 && issued.sent[0].agent == 1 && issued.sent[0].channel == Channel::Req && !issued.taken);
+    HOLDS(issued.release.form == ReleaseForm::NotReleased && model.step_flits(action(0, Step::Issue)));
+    const ArrivalFlits admitted = *model.arrive_flits(1, 0), retried = *model.arrive_flits(0, 0);
+    HOLDS(admitted.arrival.entry == 0 && admitted.sent.empty() && admitted.taken->flit.kind == Kind::ReadShared);
+    HOLDS(retried.arrival.credit == 0 && retried.sent.size() == 1 && retried.taken->flit.message == Message::Request);
+    HOLDS(retried.sent[0].flit.message == Message::RetryAck && retried.sent[0].flit.credit == 0);
+    HOLDS((*model.step_flits(action(1, Step::Start))).sent[0].flit.words && model.step_flits(action(1, Step::RecvData)));
+    const ServedFlits served = *model.step_flits(action(1, Step::RecvAck));
+    HOLDS(served.effect.completed == 0 && served.release.agent == 0 && served.taken->flit.message == Message::CompAck);
+    HOLDS(model.arrive_flits(1, 0).answer() == Answer::NoFlit && closed.arrive_flits(0, 0).answer() == Answer::Closed);
+    HOLDS(model.step_flits(action(0, Step::Admit)).answer() == Answer::OutOfRange);
+    HOLDS(closed.step_flits(action(0, Step::Load)).answer() == Answer::Closed);
+}
+
 static void new_calls() {
     Slice model = *Slice::open(sizes(2, 1));
     const Stepped issued = *model.step(action(1, Step::Issue));
@@ -155,6 +172,7 @@ int main() {
 #ifdef NEW_CALLS
     copies();
     new_calls();
+    node_flits();
 #endif
     return failures == 0 ? 0 : 1;
 }

@@ -302,6 +302,32 @@ class Nodes(unittest.TestCase):
             self.assertEqual(node.audit(), chihome.Audit(1, 0, True))
             self.assertEqual(node.show(0).named, {0})
 
+    @has("chi_node_step_flits")
+    def test_flits(self):
+        with chihome.Node(agents=2, lines=1, entries=(1, 1)) as node:
+            no_release = chihome.Release(ReleaseForm.NotReleased)
+            requests = [chihome.Sent(agent, Channel.Req, chihome.Flit(Message.Request, Kind.ReadShared, 0, True))
+                        for agent in (0, 1)]
+            for agent in (0, 1):
+                self.assertEqual(node.step_flits(Step.Issue, agent, 0, kind=Kind.ReadShared),
+                                 (chihome.Effect(), no_release, (requests[agent],), None))
+            self.assertEqual(node.arrive_flits(0, 0), (chihome.Arrival(entry=0), (), requests[0]))
+            retry = chihome.Sent(1, Channel.RspDown, chihome.Flit(Message.RetryAck, credit=0))
+            self.assertEqual(node.arrive_flits(1, 0), (chihome.Arrival(credit=0), (retry,), requests[1]))
+            data = chihome.Sent(0, Channel.DatDown, chihome.Flit(Message.CompData_UC, words=(0,) * 8))
+            self.assertEqual(node.step_flits(Step.Start, 0, 0).sent, (data,))
+            self.assertEqual(node.step_flits(Step.RecvData, 0, 0).taken, data)
+            ack = chihome.Sent(0, Channel.RspUp, chihome.Flit(Message.CompAck))
+            self.assertEqual(node.step_flits(Step.RecvAck, 0, 0), (
+                chihome.Effect(completed=0), chihome.Release(ReleaseForm.Granted, 1), (), ack))
+            with self.assertRaises(chihome.NoFlit):
+                node.arrive_flits(0, 0)
+            with self.assertRaises(chihome.OutOfRange):
+                node.step_flits(Step.Retry, 1, 0)
+        for call in (lambda: node.arrive_flits(0, 0), lambda: node.step_flits(Step.Load, 0, 0)):
+            with self.assertRaises(chihome.Closed):
+                call()
+
     def test_refusals(self):
         with chihome.Node(agents=1, lines=1, entries=(1, 1, 1, 1)) as node:
             self.assertEqual(node.see(0), (0, 0, 0, 0))

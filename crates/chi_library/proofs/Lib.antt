@@ -9,3 +9,4 @@ mod MonitorHandles
 mod OwnFlits
 mod AnswerFlits
 mod SentShown
+mod NodeSent

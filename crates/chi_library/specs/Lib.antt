@@ -6,6 +6,7 @@ pub mod Flits
 pub mod Lines
 pub mod Records
 pub mod NodeCalls
+pub mod NodeFlits
 pub mod NodeHandle
 pub mod SliceHandle
 pub mod SliceCalls

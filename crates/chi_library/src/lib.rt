@@ -15,6 +15,7 @@ mod monitor_handle;
 mod monitor_told;
 mod node_calls;
 mod node_handle;
+mod node_steps;
 mod node_told;
 mod numbers;
 mod observed;

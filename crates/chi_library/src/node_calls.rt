@@ -372,7 +372,7 @@ fn is_own_step(step: Step) -> bool
 }
 
 /// The action of a requester's own that C's numbers name.
-fn own_action_at(action: &ChiAction) -> Option<Action>
+pub(crate) fn own_action_at(action: &ChiAction) -> Option<Action>
     ensures action { result ≡ own_of action.now }
     ensures own { IsOwnAction result }
 {
