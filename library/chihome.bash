@@ -1,5 +1,9 @@
 # Completion of chihome's command line in bash: the commands, the options of each and their words, and files. The command
 # lines are those of docs/FORMATS.md, "The program", which library/install puts here.
+_chihome_files() {
+    compopt -o filenames 2> /dev/null
+    mapfile -t COMPREPLY < <(compgen -f -- "$1")
+}
 _chihome() {
     local synopsis='@SYNOPSIS@'
     local word=${COMP_WORDS[COMP_CWORD]} before=${COMP_WORDS[COMP_CWORD - 1]} line words
@@ -13,15 +17,15 @@ _chihome() {
     words=$(sed -nE "s/.*\[$before ([^]]*)\].*/\1/p" <<< "$line")
     case $words in
         '') ;;
+        FILE) _chihome_files "$word"; return ;;
         *[A-Z]*) return ;;
         *) mapfile -t COMPREPLY < <(compgen -W "${words//|/ }" -- "$word"); return ;;
     esac
     case $word in
         -*) mapfile -t COMPREPLY < <(compgen -W "$(grep -oE -e '--[a-z-]+' <<< "$line")" -- "$word") ;;
         *)
-            [[ $line == *FILE* ]] || return
-            compopt -o filenames 2> /dev/null
-            mapfile -t COMPREPLY < <(compgen -f -- "$word")
+            [[ $line == *"${COMP_WORDS[1]} FILE"* ]] || return
+            _chihome_files "$word"
             ;;
     esac
 }

@@ -63,9 +63,9 @@ storm_line = with_rule (with_rule (with_rule (new_app (codes "storm")) file_rule
 abbrev pub cover_line : App
 cover_line = with_rule (with_rule (new_app (codes "cover")) files_rule) (flag_rule (codes "missing"))
 
--- `draw [--seed N] --commands M [--wild P] [--drain] HEADER`
+-- `draw [--seed N] --commands M [--wild P] [--weights FILE] [--drain] HEADER`
 abbrev pub draw_line : App
-draw_line = with_rule (with_rule (with_rule (with_rule (with_rule (new_app (codes "draw")) header_rule) (option_rule (codes "seed"))) (option_rule (codes "commands"))) (option_rule (codes "wild"))) (flag_rule (codes "drain"))
+draw_line = with_rule (with_rule (with_rule (with_rule (with_rule (with_rule (new_app (codes "draw")) header_rule) (option_rule (codes "seed"))) (option_rule (codes "commands"))) (option_rule (codes "wild"))) (option_rule (codes "weights"))) (flag_rule (codes "drain"))
 
 -- a command has these words, and none of its arguments is one of its subcommands' too
 pub record IsCommand (app : App) (command : Command) : Type 0 where
@@ -84,8 +84,8 @@ command_lines =
 -- what a command line asks for: the replay of a file, the check of files, as TAP or not, a chart, of one line alone where one is
 -- given, and of these rows, the explanation of a trace, with its types of credit, the stores that it lists, whether grants may come early, and the one line
 -- that is written where one is given, a storm with its seed and its turns, the cells that files reach, or those alone that they don't,
--- or a check file with this header that is drawn, by its seed, the number of its commands, how many in a hundred are drawn from all, and
--- whether it goes on until nothing is in flight
+-- or a check file with this header that is drawn, by its seed, the number of its commands, how many in a hundred are drawn from all, the
+-- file of weights where one is given, and whether it goes on until nothing is in flight
 pub data AskedCommand : Type 0 where
   replay : Text → AskedCommand
   check : List Text → Bool → AskedCommand
@@ -93,7 +93,7 @@ pub data AskedCommand : Type 0 where
   explain : Text → Types → StoreListing → Bool → Option Address → AskedCommand
   storm : Text → ℕ → ℕ → AskedCommand
   cover : List Text → Bool → AskedCommand
-  draw : Text → ℕ → ℕ → ℕ → Bool → AskedCommand
+  draw : Text → ℕ → ℕ → ℕ → Option Text → Bool → AskedCommand
 
 -- behind `replay` stands the path
 abbrev pub replay_in : List Row → Option AskedCommand
@@ -139,7 +139,7 @@ draw_in rows = do
   seed ← seed_of (first_of (codes "seed") rows)
   commands ← commands_option (first_of (codes "commands") rows)
   wild ← wild_option (first_of (codes "wild") rows)
-  Some (draw header seed commands wild (is_given (first_of (codes "drain") rows)))
+  Some (draw header seed commands wild (first_of (codes "weights") rows) (is_given (first_of (codes "drain") rows)))
 
 -- what a subcommand and what stands behind it ask for
 abbrev pub asked_behind : Text × List Row → Option AskedCommand
@@ -169,7 +169,7 @@ asked_by (Chart path only rows) = chart path.now only rows
 asked_by (Explain path types stores early only) = explain path.now types stores early only
 asked_by (Storm path seed turns) = storm path.now seed turns
 asked_by (Cover paths missing) = cover (map (λ path. path.now) paths.items) missing
-asked_by (Draw header seed commands wild drain) = draw header.now seed commands wild drain
+asked_by (Draw header seed commands wild weights drain) = draw header.now seed commands wild (option_map (λ path. path.now) weights) drain
 
 -- the job is what was asked for, and the words are bad where nothing is; memory may run out at any words
 abbrev pub IsAsked : Option AskedCommand → Result Job ArgFault → Type 0

@@ -68,7 +68,8 @@ pub enum Job<'a> {
         /// Whether only the cells that none of them reaches are listed.
         missing: bool,
     },
-    /// `draw [--seed N] --commands M [--wild P] [--drain] HEADER`: writes a check file of commands that are drawn.
+    /// `draw [--seed N] --commands M [--wild P] [--weights FILE] [--drain] HEADER`: writes a check file of commands that
+    /// are drawn.
     Draw {
         /// The header of the file.
         header: &'a str,
@@ -78,6 +79,8 @@ pub enum Job<'a> {
         commands: u64,
         /// How many commands in a hundred are drawn from all, 0 to 100; none where it isn't given.
         wild: u8,
+        /// The path of the file that says how often each verb is drawn, where one is given.
+        weights: Option<&'a str>,
         /// Whether commands follow until nothing is in flight.
         drain: bool,
     },
@@ -155,6 +158,9 @@ const COMMANDS: &str = "commands";
 
 /// The option that says how many of them are drawn from all.
 const WILD: &str = "wild";
+
+/// The option that is the path of a file of weights.
+const WEIGHTS: &str = "weights";
 
 /// The option that says that deliveries follow.
 const DRAIN: &str = "drain";
@@ -246,6 +252,7 @@ fn draw_command<'a>(alloc: Global) -> Result<Command<'a>, AllocError>
         .arg(option(alloc, SEED))?
         .arg(option(alloc, COMMANDS))?
         .arg(option(alloc, WILD))?
+        .arg(option(alloc, WEIGHTS))?
         .arg(flag(alloc, DRAIN))
 }
 
@@ -391,12 +398,14 @@ fn read_draw<'a>(matches: &ArgMatches<'a>) -> Option<Job<'a>>
     let seed = seed(text_of(matches, SEED))?;
     let commands = commands(text_of(matches, COMMANDS))?;
     let wild = wild(text_of(matches, WILD))?;
+    let weights = text_of(matches, WEIGHTS);
     let drain = is_given(text_of(matches, DRAIN));
     Some(Job::Draw {
         header,
         seed,
         commands,
         wild,
+        weights,
         drain,
     })
 }

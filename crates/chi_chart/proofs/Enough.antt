@@ -1,17 +1,15 @@
 -- From a run to the chart of its checks, and from what was read to the input's file.
-use Rattle.std.proofs.Common.{◌≡◌, ℕ, ◌<◌, ◌≤◌, nat_lt, Bool, true, false, List, [], ◌∷◌, Option, Some, None, Result, Ok, Err, IfOk, IfSome, length, map, refl, sym, ap, subst, ◌∙◌, take, arith}
-use Rattle.std.proofs.lemmas.Bool.Decides.{nat_tests}
-use Rattle.std.proofs.lemmas.List.{length-map, take_all}
+use Rattle.std.proofs.Common.{◌≡◌, ℕ, ◌+◌, false, List, [], ◌∷◌, Option, Some, None, Result, Ok, Err, IfOk, IfSome, length, map, sym, ap, subst, ◌∙◌, take}
+use Rattle.std.proofs.lemmas.List.{length-map}
 use Rattle.chi_flit.specs.declared.refusal.NoMemory.{NoMemory}
 use Rattle.chi_script.specs.declared.faults.Fault.{Fault}
-use Rattle.chi_script.specs.declared.faults.Fault.TheVariants.{TooLarge}
 use Rattle.chi_script.specs.declared.headers.Header.{Header}
 use Rattle.chi_script.specs.Files.{lines_of}
 use Rattle.chi_script.specs.Headers.{node_sizes}
 use Rattle.chi_slice.specs.Words.{Sizes}
 use Rattle.chi_script.specs.Checks.{CheckLine}
-use Rattle.chi_script.specs.CheckFiles.{check_file_of}
-use Rattle.chi_script.proofs.CheckFileLemmas.{front_enough}
+use Rattle.chi_script.specs.CheckFiles.{most_check_bytes, check_file_of}
+use Rattle.chi_script.proofs.CheckFileLemmas.{front_enough, whole}
 use Rattle.chi_chart.specs.declared.frame.Layout.{Layout}
 use Rattle.chi_chart.specs.declared.rows.ChartPart.{ChartPart}
 use Rattle.chi_chart.specs.Charts.{IsChart, IsChartOf, IsLayout, title_of}
@@ -54,26 +52,11 @@ pub chart_if_drawn : {T : Type 0} (bytes_of : T → List ℕ) (result : Result T
 chart_if_drawn bytes_of (Ok text) file header checks part d title rows bottom layout is named run laid drawn = chart_of_run file header checks part d title rows bottom layout (bytes_of text) is named run laid drawn
 chart_if_drawn bytes_of (Err fault) file header checks part d title rows bottom layout is named run laid drawn = drawn
 
--- of a good file all was read
-large : (n : ℕ) → 1048576 < n → nat_lt 1048576 n ≡ true
-large n more = grind (arith, nat_tests)
-
-too_large : (file : List ℕ) → 1048576 < length file → check_file_of file ≡ Err TooLarge
-unfolding check_file_of
-too_large file more = rw (large (length file) more) refl
-
-whole_if : (file : List ℕ) (b : Bool) (read : Header × List CheckLine) → nat_lt 1048576 (length file) ≡ b → check_file_of file ≡ Ok read → take 1048577 file ≡ file
-whole_if file false read is good = let small : length file ≤ 1048577 = grind (arith, nat_tests) in take_all 1048577 file small
-whole_if file true read is good =
-    let more : 1048576 < length file = grind (arith, nat_tests) in
-    let bad = too_large file more in absurd (cc (good, bad))
-
 -- the chart of what was read is that of the input's file
-pub chart_of_known : {T : Type 0} (left : Option (List ℕ)) (bytes : List ℕ) (part : ChartPart) (bytes_of : T → List ℕ) (result : Result T Fault) → IfSome left (λ file. bytes ≡ take 1048577 file)
+pub chart_of_known : {T : Type 0} (left : Option (List ℕ)) (bytes : List ℕ) (part : ChartPart) (bytes_of : T → List ℕ) (result : Result T Fault) → IfSome left (λ file. bytes ≡ take (1 + most_check_bytes) file)
     → IfOk result (λ text. IsChartOf part bytes (bytes_of text)) → IfOk result (λ text. IfSome left (λ file. IsChartOf part file (bytes_of text)))
 chart_of_known None bytes part bytes_of (Ok text) front ok = tt
 chart_of_known (Some file) bytes part bytes_of (Ok text) front ok =
     let good = sym (front_enough file) ∙ (sym (ap check_file_of front) ∙ ok.good) in
-    let whole = whole_if file (nat_lt 1048576 (length file)) (ok.header, ok.checks) refl good in
-    subst (λ (b : List ℕ). IsChartOf part b (bytes_of text)) (front ∙ whole) ok
+    subst (λ (b : List ℕ). IsChartOf part b (bytes_of text)) (front ∙ whole file (ok.header, ok.checks) good) ok
 chart_of_known left bytes part bytes_of (Err fault) front ok = ok

@@ -13,10 +13,10 @@ use crate::frame::Layout;
 use crate::headings::LeftLines;
 use crate::picture::svg_of;
 use crate::rows::{ChartPart, below_headings, rows_of};
-use chi_devices::{Failed, Input, Output, read_all};
+use chi_devices::{Failed, Input, Output, read_most};
 use chi_flit::NoMemory;
 use chi_replay::config_of;
-use chi_script::{CheckFile, Fault, Header, read_checks};
+use chi_script::{CheckFile, Fault, Header, MOST_CHECK_BYTES, read_checks};
 use std::alloc::Allocator;
 
 /// How a chart of a node of a header's sizes is laid out.
@@ -82,7 +82,7 @@ fn chart_of_input<A: Allocator + Copy, I: Input>(
     ensures err { IfErr result
         (NoText check_file_of (I.left input.old) (I.failures input.old) (I.failures input.new)) }
 {
-    let bytes = read_all(alloc, input)?;
+    let bytes = read_most(alloc, input, MOST_CHECK_BYTES + 1)?;
     chart_of(alloc, &bytes, part)
 }
 

@@ -9,6 +9,7 @@ use Rattle.chi_script.specs.declared.faults.Fault.{Fault}
 use Rattle.chi_script.specs.declared.faults.Fault.TheVariants as faults
 use Rattle.chi_script.specs.Faults.{Fails}
 use Rattle.chi_script.specs.CheckFiles.{check_file_of}
+use Rattle.chi_script.specs.Files.{IsOneLine}
 use Rattle.chi_replay.specs.declared.suites.SuiteFile.{SuiteFile}
 use Rattle.chi_replay.specs.Suites.{GivenFile, faulty_line, first_of, given, given_of}
 use Rattle.chi_coverage.specs.declared.cells.Cell.{Cell}
@@ -63,22 +64,22 @@ state_more start told file came =
     (sym (first_more told it))
 
 -- a faulty file was told
-pub goes_unread : {T E : Type 0} (result : Result T E) (file : GivenFile) (fault : Fault) (old new : CoverState) → OnOk result (MayCover file.bytes (unread fault))
-    → OnOk result (new.counts ≡ old.counts) → OnOk result (new.faults ≡ old.faults ++ faulty_line file.name fault) → OnOk result (new.fault ≡ first_of old.fault (Some fault))
+pub goes_unread : {T E : Type 0} (result : Result T E) (file : GivenFile) (fault : Fault) (hint : List ℕ) (old new : CoverState) → OnOk result (MayCover file.bytes (unread fault hint))
+    → OnOk result (new.counts ≡ old.counts) → OnOk result (new.faults ≡ old.faults ++ faulty_line file.name fault hint) → OnOk result (new.fault ≡ first_of old.fault (Some fault))
     → OnOk result (CoverGoesOn file old new)
-goes_unread (Ok done) file fault old new may e f g = (unread fault, may, state_same _ _ _ _ _ _ e f g)
-goes_unread (Err lack) file fault old new may e f g = may
+goes_unread (Ok done) file fault hint old new may e f g = (unread fault hint, may, state_same _ _ _ _ _ _ e f g)
+goes_unread (Err lack) file fault hint old new may e f g = may
 
 -- the fault is that of the file, where memory didn't run out
-pub may_be_faulty : {T E : Type 0} (result : Result T E) (bytes : List ℕ) (fault : Fault) → Fails fault (check_file_of bytes) → OnOk result (fault ≢ faults.NoMemory) → OnOk result (MayCover (Some bytes) (unread fault))
-may_be_faulty (Err lack) bytes fault fails other = other
-may_be_faulty (Ok done) bytes faults.NoMemory fails other = absurd (other refl)
-may_be_faulty (Ok done) bytes (faults.BadHeader line) fails other = fails
-may_be_faulty (Ok done) bytes (faults.BadCommand line) fails other = fails
-may_be_faulty (Ok done) bytes (faults.MissingNewline line) fails other = fails
-may_be_faulty (Ok done) bytes faults.TooLarge fails other = fails
-may_be_faulty (Ok done) bytes faults.Read fails other = absurd fails
-may_be_faulty (Ok done) bytes faults.Write fails other = absurd fails
+pub may_be_faulty : {T E : Type 0} (result : Result T E) (bytes : List ℕ) (fault : Fault) (hint : List ℕ) → IsOneLine hint → Fails fault (check_file_of bytes) → OnOk result (fault ≢ faults.NoMemory) → OnOk result (MayCover (Some bytes) (unread fault hint))
+may_be_faulty (Err lack) bytes fault hint one fails other = other
+may_be_faulty (Ok done) bytes faults.NoMemory hint one fails other = absurd (other refl)
+may_be_faulty (Ok done) bytes (faults.BadHeader line) hint one fails other = (fails, one)
+may_be_faulty (Ok done) bytes (faults.BadCommand line) hint one fails other = (fails, one)
+may_be_faulty (Ok done) bytes (faults.MissingNewline line) hint one fails other = (fails, one)
+may_be_faulty (Ok done) bytes faults.TooLarge hint one fails other = (fails, one)
+may_be_faulty (Ok done) bytes faults.Read hint one fails other = absurd fails
+may_be_faulty (Ok done) bytes faults.Write hint one fails other = absurd fails
 
 -- of a faulty file nothing was counted
 pub keeps_counts : {T E : Type 0} (result : Result T E) (fault : Fault) (old mid new : List ℕ) → (fault ≢ faults.NoMemory → mid ≡ old) → OnOk result (fault ≢ faults.NoMemory) → OnOk result (new ≡ mid) → OnOk result (new ≡ old)
@@ -86,9 +87,9 @@ keeps_counts (Ok done) fault old mid new kept other same = same ∙ kept other
 keeps_counts (Err lack) fault old mid new kept other same = same
 
 -- a file that couldn't be read
-pub may_be_unread : {T E : Type 0} (result : Result T E) (bytes : Option (List ℕ)) → bytes ≡ None → OnOk result (MayCover bytes (unread faults.Read))
+pub may_be_unread : {T E : Type 0} (result : Result T E) (bytes : Option (List ℕ)) → bytes ≡ None → OnOk result (MayCover bytes (unread faults.Read []))
 may_be_unread (Err lack) bytes e = tt
-may_be_unread (Ok done) None e = refl
+may_be_unread (Ok done) None e = (refl, refl)
 may_be_unread (Ok done) (Some bytes) e = absurd (cc (e))
 
 -- a good file was counted

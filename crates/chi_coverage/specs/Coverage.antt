@@ -10,6 +10,7 @@ use Rattle.chi_script.specs.declared.faults.Fault.TheVariants as faults
 use Rattle.chi_script.specs.declared.headers.Header.{Header}
 use Rattle.chi_script.specs.Checks.{CheckLine}
 use Rattle.chi_script.specs.CheckFiles.{check_file_of}
+use Rattle.chi_script.specs.Files.{IsOneLine}
 use Rattle.chi_script.specs.Headers.{node_sizes}
 use Rattle.chi_slice.specs.Words.{line_view, LineView, Sizes}
 use Rattle.chi_node.specs.Home.{HomeState, node_last, node_line, node_view_refusal}
@@ -94,16 +95,16 @@ pub record IsCovered (file : List ℕ) (cells : List Cell) : Type 0 where
   pub allowed : MayAnswer (machine_at_start (node_sizes header)) (opening_ports (node_sizes header)) (commands_in checks) answers
   pub are : cells ≡ cells_of_steps (node_sizes header) no_past (played_steps (machine_at_start (node_sizes header)) (commands_in checks) answers)
 
--- what comes of a file: the cells of its steps, or its fault
+-- what comes of a file: the cells of its steps, or its fault, and a hint, which is what more is told of it
 pub data CoverCame : Type 0 where
   covered : List Cell → CoverCame
-  unread : Fault → CoverCame
+  unread : Fault → List ℕ → CoverCame
 
 abbrev pub MayCover : Option (List ℕ) → CoverCame → Type 0
 MayCover None (covered cells) = ⊥
-MayCover None (unread fault) = fault ≡ faults.Read
+MayCover None (unread fault hint) = (fault ≡ faults.Read) × IsOneLine hint
 MayCover (Some bytes) (covered cells) = IsCovered bytes cells
-MayCover (Some bytes) (unread fault) = check_file_of bytes ≡ Err fault
+MayCover (Some bytes) (unread fault hint) = (check_file_of bytes ≡ Err fault) × IsOneLine hint
 
 -- a file, and what came of it
 pub record FileCover : Type 0 where
@@ -115,11 +116,11 @@ IsFileCover told = MayCover told.file.bytes told.came
 
 abbrev pub cells_covered : CoverCame → List Cell
 cells_covered (covered cells) = cells
-cells_covered (unread fault) = []
+cells_covered (unread fault hint) = []
 
 abbrev pub cover_fault : CoverCame → Option Fault
 cover_fault (covered cells) = None
-cover_fault (unread fault) = Some fault
+cover_fault (unread fault hint) = Some fault
 
 abbrev pub first_cover_fault : List FileCover → Option Fault
 first_cover_fault [] = None
@@ -128,7 +129,7 @@ first_cover_fault (it ∷ rest) = first_of (cover_fault it.came) (first_cover_fa
 -- the line on a faulty file, for standard error
 abbrev pub cover_fault_line : List ℕ → CoverCame → List ℕ
 cover_fault_line name (covered cells) = []
-cover_fault_line name (unread fault) = faulty_line name fault
+cover_fault_line name (unread fault hint) = faulty_line name fault hint
 
 -- a cell's line, where it was done so often
 abbrev pub cell_line : Cell → List ℕ → List ℕ

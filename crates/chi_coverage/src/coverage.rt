@@ -14,7 +14,7 @@ use crate::places::PLACES;
 use crate::runs::count_file;
 use chi_flit::NoMemory;
 use chi_replay::SuiteFile;
-use chi_script::Fault;
+use chi_script::{Fault, hint_at};
 use std::alloc::Allocator;
 use std::fmt;
 use std::io::Write;
@@ -93,7 +93,7 @@ impl<A: Allocator + Copy> CoverRun<A> {
     {
         match file.bytes {
             Some(bytes) => self.add_bytes(alloc, file.name, bytes),
-            None => self.add_fault(file.name, Fault::Read),
+            None => self.add_fault(file.name, Fault::Read, ""),
         }
     }
 
@@ -114,15 +114,18 @@ impl<A: Allocator + Copy> CoverRun<A> {
     {
         match count_file(alloc, bytes, self.counts.as_mut_slice()) {
             Ok(()) => Ok(()),
-            Err(fault) => self.add_fault(name, fault),
+            Err(fault) => {
+                let hint = hint_at(alloc, bytes, fault)?;
+                self.add_fault(name, fault, hint.as_str())
+            }
         }
     }
 
-    /// Tells that the file of this name is faulty. Refused where memory runs out, or ran out before.
-    fn add_fault(&mut self, name: &str, fault: Fault) -> Result<(), NoMemory>
+    /// Tells that the file of this name is faulty, and the hint. Refused where memory runs out, or ran out before.
+    fn add_fault(&mut self, name: &str, fault: Fault, hint: &str) -> Result<(), NoMemory>
         ensures counts { OnOk result (self.new.counts.items ≡ self.old.counts.items) }
         ensures faults { OnOk result (string_bytes self.new.faults
-            ≡ string_bytes self.old.faults ++ faulty_line name.now fault) }
+            ≡ string_bytes self.old.faults ++ faulty_line name.now fault hint.now) }
         ensures fault { OnOk result (self.new.fault ≡ first_of self.old.fault (Some fault)) }
         ensures memory { OnOk result (fault ≢ Fault.NoMemory) }
     {
@@ -130,7 +133,7 @@ impl<A: Allocator + Copy> CoverRun<A> {
             return Err(NoMemory);
         }
         let words = FaultWords(fault);
-        writeln!(self.faults, "chihome: {name}: {words}").map_err(|_| NoMemory)?;
+        writeln!(self.faults, "chihome: {name}: {words}{hint}").map_err(|_| NoMemory)?;
         self.fault = self.fault.or(Some(fault));
         Ok(())
     }

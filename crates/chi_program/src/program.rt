@@ -12,17 +12,18 @@ ghost use Rattle.chi_replay.specs.Suites.{given_of};
 use chi_arguments::{ArgFault, Job, RowRange, arguments};
 use chi_chart::{ChartPart, chart};
 use chi_coverage::cover;
-use chi_devices::{FileInput, Output, StandardOutput, read_all};
+use chi_devices::{FileInput, MemoryInput, Output, StandardOutput, read_all, read_most};
 use chi_flit::Line;
 use chi_replay::{SuiteFile, SuiteForm, check, check_suite, replay};
 use chi_resolution::Options;
-use chi_script::Fault;
-use chi_stimulus::{DrawOptions, draw};
+use chi_script::{Fault, MOST_CHECK_BYTES, hint_at};
+use chi_stimulus::{DrawOptions, draw, read_weights};
 use chi_storm::storm;
 use chi_trace::Address;
 use chi_verdict::{TraceOutcome, explain};
 use std::alloc::Global;
 use std::env::Args;
+use std::fmt::Write;
 use std::io::ErrorKind;
 use std::rt::{Clock, Env, Files};
 use std::sync::Wait;
@@ -89,9 +90,9 @@ enum End {
     Unfinished,
     /// An answer of a check differs from the one that is wanted.
     Differs,
-    /// Of several files that were checked some are faulty, which was told; this is the first fault.
+    /// A file is faulty, or some of several, which was told; this is the first fault.
     Faulty(Fault),
-    /// The file is no trace.
+    /// The file is no trace, or no file of weights.
     Malformed,
     /// Some flit of a trace isn't explained.
     Unexplained,
@@ -171,15 +172,17 @@ fn follow<R: Env + Files + AllocGlobal + Print + Eprint + Threads + Wait + Clock
             seed,
             commands,
             wild,
+            weights,
             drain,
         } => {
             let options = DrawOptions {
                 seed,
                 commands,
                 wild,
+                weights: None,
                 drain,
             };
-            Ok(draw_file(rt, header, options)?)
+            Ok(draw_by(rt, header, options, weights)?)
         }
     }
 }
@@ -233,12 +236,30 @@ fn check_files<R: Files + AllocGlobal + Print + Eprint>(
     }
 }
 
-/// Checks the file at the path, and writes to standard output what came of it.
-fn check_file<R: Files + AllocGlobal + Print>(rt: &R, path: &str) -> Result<End, Fault> {
+/// The bytes of the check file at the path; `Read` where it can't be read, `NoMemory` where memory runs out.
+fn bytes_of<R: Files + AllocGlobal>(rt: &R, path: &str) -> Result<Vec<u8>, Fault> {
     let mut input = FileInput::open(rt, path)?;
+    read_most(rt.alloc(), &mut input, MOST_CHECK_BYTES + 1)
+}
+
+/// Tells a fault on standard error, of a file whose bytes these are, and what is wrong with its line.
+fn tell<R: AllocGlobal + Eprint>(rt: &R, bytes: &[u8], fault: Fault) -> Result<End, Fault> {
+    let hint = hint_at(rt.alloc(), bytes, fault)?;
+    let mut text = String::new(rt.alloc());
+    write!(text, "{fault}{hint}").map_err(|_| Fault::NoMemory)?;
+    let _ = rt.eprintln(text.as_str());
+    Ok(End::Faulty(fault))
+}
+
+/// Checks the file at the path, and writes to standard output what came of it.
+fn check_file<R: Files + AllocGlobal + Print + Eprint>(rt: &R, path: &str) -> Result<End, Fault> {
+    let bytes = bytes_of(rt, path)?;
+    let mut input = MemoryInput::new(&bytes, u64::MAX);
     let mut output = StandardOutput::new(io::writer(rt));
-    let hold = check(rt.alloc(), &mut input, &mut output)?;
-    Ok(check_end(hold))
+    match check(rt.alloc(), &mut input, &mut output) {
+        Ok(hold) => Ok(check_end(hold)),
+        Err(fault) => tell(rt, &bytes, fault),
+    }
 }
 
 /// Checks each of the files at the paths. A line for each that is faulty or can't be read is on standard error.
@@ -307,7 +328,7 @@ fn read_file<R: Files + AllocGlobal>(rt: &R, path: &str) -> Result<Option<Vec<u8
         Err(Fault::NoMemory) => return Err(Fault::NoMemory),
         Err(_) => return Ok(None),
     };
-    match read_all(rt.alloc(), &mut input) {
+    match read_most(rt.alloc(), &mut input, MOST_CHECK_BYTES + 1) {
         Ok(bytes) => Ok(Some(bytes)),
         Err(Fault::NoMemory) => Err(Fault::NoMemory),
         Err(_) => Ok(None),
@@ -350,15 +371,18 @@ fn part_of(line: Option<Line>, rows: RowRange) -> ChartPart
 }
 
 /// Writes this part of the chart of the file at the path to standard output.
-fn chart_file<R: Files + AllocGlobal + Print>(
+fn chart_file<R: Files + AllocGlobal + Print + Eprint>(
     rt: &R,
     path: &str,
     part: ChartPart,
 ) -> Result<End, Fault> {
-    let mut input = FileInput::open(rt, path)?;
+    let bytes = bytes_of(rt, path)?;
+    let mut input = MemoryInput::new(&bytes, u64::MAX);
     let mut output = StandardOutput::new(io::writer(rt));
-    chart(rt.alloc(), &mut input, &mut output, &part)?;
-    Ok(End::Done)
+    match chart(rt.alloc(), &mut input, &mut output, &part) {
+        Ok(()) => Ok(End::Done),
+        Err(fault) => tell(rt, &bytes, fault),
+    }
 }
 
 /// Runs the storm of the file at the path, and writes to standard output what came of it.
@@ -401,15 +425,43 @@ fn cover_files<R: Files + AllocGlobal + Print + Eprint>(
     Ok(suite_end(report.fault, true))
 }
 
-/// Draws a check file with this header, and writes it to standard output.
-fn draw_file<R: AllocGlobal + Print>(
+/// Draws a check file with this header, by the weights of the file at this path where one is given, and writes it to
+/// standard output. Of a faulty file of weights a line is on standard error.
+fn draw_by<R: Files + AllocGlobal + Print + Eprint>(
     rt: &R,
     header: &str,
     options: DrawOptions,
+    path: Option<&str>,
+) -> Result<End, Fault> {
+    let Some(path) = path else {
+        return draw_file(rt, header, &options);
+    };
+    let mut input = FileInput::open(rt, path)?;
+    let bytes = read_all(rt.alloc(), &mut input)?;
+    match read_weights(&bytes) {
+        Ok(weights) => {
+            let mut options = options;
+            options.weights = Some(weights);
+            draw_file(rt, header, &options)
+        }
+        Err(fault) => {
+            let _ = rt.eprintln(fault);
+            Ok(End::Malformed)
+        }
+    }
+}
+
+/// Draws a check file with this header, and writes it to standard output.
+fn draw_file<R: AllocGlobal + Print + Eprint>(
+    rt: &R,
+    header: &str,
+    options: &DrawOptions,
 ) -> Result<End, Fault> {
     let mut output = StandardOutput::new(io::writer(rt));
-    let drawn = draw(rt.alloc(), header, &options, &mut output)?;
-    Ok(draw_end(drawn))
+    match draw(rt.alloc(), header, options, &mut output) {
+        Ok(drawn) => Ok(draw_end(drawn)),
+        Err(fault) => tell(rt, header.as_bytes(), fault),
+    }
 }
 
 /// The end of a file that was drawn, or not.

@@ -173,13 +173,15 @@ fn a_chart_with_other_options_or_lines_is_bad(rt: HostRuntime) {
     are_bad(&rt, &BAD_CHARTS);
 }
 
-/// Command lines of a drawn file, each with its seed, its commands, how many in a hundred are wild, and whether it drains.
-const DRAWS: [(&[&str], u64, u64, u8, bool); 4] = [
+/// Command lines of a drawn file, each with its seed, its commands, how many in a hundred are wild, its file of
+/// weights, and whether it drains.
+const DRAWS: [(&[&str], u64, u64, u8, Option<&str>, bool); 4] = [
     (
         &["chihome", "draw", "--commands", "1", "node"],
         1,
         1,
         0,
+        None,
         false,
     ),
     (
@@ -187,6 +189,7 @@ const DRAWS: [(&[&str], u64, u64, u8, bool); 4] = [
         1,
         10_000_000,
         0,
+        None,
         true,
     ),
     (
@@ -204,6 +207,7 @@ const DRAWS: [(&[&str], u64, u64, u8, bool); 4] = [
         7,
         20,
         100,
+        None,
         false,
     ),
     (
@@ -212,6 +216,8 @@ const DRAWS: [(&[&str], u64, u64, u8, bool); 4] = [
             "draw",
             "--drain",
             "--wild=5",
+            "--weights",
+            "w",
             "--seed=0",
             "--commands=9",
             "node",
@@ -219,14 +225,15 @@ const DRAWS: [(&[&str], u64, u64, u8, bool); 4] = [
         0,
         9,
         5,
+        Some("w"),
         true,
     ),
 ];
 
 #[test]
 fn a_drawn_file_has_its_header_and_its_options(rt: HostRuntime) {
-    for (words, seed, commands, wild, drain) in &DRAWS {
-        drawn(&rt, words, *seed, *commands, *wild, *drain);
+    for (words, seed, commands, wild, weights, drain) in &DRAWS {
+        drawn(&rt, words, *seed, *commands, *wild, *weights, *drain);
     }
 }
 
@@ -237,6 +244,7 @@ fn drawn<'a>(
     seed: u64,
     commands: u64,
     wild: u8,
+    weights: Option<&'a str>,
     drain: bool,
 ) {
     let job = Job::Draw {
@@ -244,13 +252,15 @@ fn drawn<'a>(
         seed,
         commands,
         wild,
+        weights,
         drain,
     };
     assert!(rt; arguments(rt.alloc(), words) == Ok(job), "{words:?}");
 }
 
-/// Other command lines than `draw HEADER --commands M [--seed N] [--wild P] [--drain]`.
-const BAD_DRAWS: [&[&str]; 13] = [
+/// Other command lines than `draw HEADER --commands M [--seed N] [--wild P] [--weights FILE] [--drain]`.
+const BAD_DRAWS: [&[&str]; 14] = [
+    &["chihome", "draw", "node", "--commands", "1", "--weights"],
     &["chihome", "draw"],
     &["chihome", "draw", "node"],
     &["chihome", "draw", "--commands", "1"],

@@ -4,7 +4,7 @@ use crate::comparison::same;
 use chi_flit::{Agent, Line, Profile};
 use chi_replay::answers_are_lines;
 use chi_script::{
-    Check, Command, Fault, MOST_BYTES, check_files_are_lines, check_front_is_enough,
+    Check, Command, Fault, MOST_CHECK_BYTES, check_files_are_lines, check_front_is_enough,
     checks_are_lines, read_checks, replays_are_check_files,
 };
 use std::alloc::{AllocError, Global};
@@ -142,7 +142,7 @@ fn the_first_faulty_line_is_told(rt: HostRuntime) {
 #[test]
 fn a_file_above_the_limit_is_too_large(rt: HostRuntime) -> Result<(), AllocError> {
     let mut file = Vec::from_slice(rt.alloc(), b"node 1 1 1 1 1 4\n")?;
-    file.resize(MOST_BYTES, b'\n')?;
+    file.resize(MOST_CHECK_BYTES, b'\n')?;
     same(&rt, fault_of(rt.alloc(), &file), None);
     file.push(b'\n')?;
     same(&rt, fault_of(rt.alloc(), &file), Some(Fault::TooLarge));

@@ -31,7 +31,7 @@ fn steps_of_good_files_are_counted_and_faulty_files_told(rt: HostRuntime) {
             report.text.starts_with(b"The actions: load: done: 0\n")
                 && report.text.ends_with(b"covered 7 of 519 cells\n")
                 && report.faults.as_str()
-                    == "chihome: b: line 4: bad command\nchihome: c: cannot read\n"
+                    == "chihome: b: line 4: bad command: a word is missing, expected load N L W\nchihome: c: cannot read\n"
                 && report.fault == Some(Fault::BadCommand(4))
         }
         Err(_) => false,

@@ -17,7 +17,7 @@ const FILES: [SuiteFile<'static>; 5] = [
     },
     SuiteFile {
         name: "c",
-        bytes: Some(b"node 1 1 1 1 1 4\nsee 0 -> ok\nse 0\n"),
+        bytes: Some(b"node 1 1 1 1 1 4\nsee 0 -> ok\nsee 0 1\n"),
     },
     SuiteFile {
         name: "d",
@@ -38,10 +38,11 @@ const LINES: &[u8] = b"b: line 3: wanted ok, is ok credits 0 0\n\
 const TAP: &[u8] = b"TAP version 13\n1..5\nok 1 - a\n# checked 1 answers\nnot ok 2 - b\n\
     # line 3: wanted ok, is ok credits 0 0\n\
     # line 4: wanted ok, is ok loads 0 stores 0 coherent\n# 2 of 2 answers differ\n\
-    not ok 3 - c\n# line 3: bad command\nnot ok 4 - d\n# cannot read\nok 5 - e\n# checked 0 answers\n";
+    not ok 3 - c\n# line 3: bad command: 1, expected no more than see N\nnot ok 4 - d\n# cannot read\nok 5 - e\n# checked 0 answers\n";
 
 /// What is told of the faulty ones.
-const FAULTS: &str = "chihome: c: line 3: bad command\nchihome: d: cannot read\n";
+const FAULTS: &str =
+    "chihome: c: line 3: bad command: 1, expected no more than see N\nchihome: d: cannot read\n";
 
 /// The check of the files prints and tells this, with this first fault.
 fn tells(

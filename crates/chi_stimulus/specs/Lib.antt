@@ -1,2 +1,3 @@
 pub mod SecondPass
 pub mod Stimulus
+pub mod Weights

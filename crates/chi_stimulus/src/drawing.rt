@@ -3,18 +3,19 @@
 ghost use Rattle.std.specs.Prelude.{◌<◌};
 
 use crate::candidates::{act, find};
+use crate::options::DrawOptions;
 use crate::shortage::Shortage;
 use crate::spelled::Spelled;
 use crate::words::Words;
 use chi_flit::{Agent, CreditType, Line, Profile, Slot, Step, WordNo};
 use chi_node::System;
 use chi_replay::answer;
-use chi_script::{Command, MOST_BYTES};
+use chi_script::{Command, MOST_CHECK_BYTES};
 use chi_slice::Config;
 use std::alloc::Allocator;
 
 /// How often a place is drawn at which a command may be enabled.
-const TRIES: u8 = 16;
+pub(crate) const TRIES: u8 = 16;
 
 /// A node, and the text so far.
 #[derive(Drop)]
@@ -90,19 +91,22 @@ impl<A: Allocator> Drawing<A> {
 
     /// Whether a file may be as large as the text.
     fn fits(&self) -> Result<(), Shortage> {
-        if self.text.len() > MOST_BYTES {
+        if self.text.len() > MOST_CHECK_BYTES {
             Err(Shortage::Room)
         } else {
             Ok(())
         }
     }
 
-    /// Puts a command behind the text: any one, so many times in a hundred, and else one that is enabled.
-    pub(crate) fn add(&mut self, wild: u8) -> Result<(), Shortage> {
-        if self.words.below(100) < wild {
-            self.add_any()
-        } else {
-            self.add_enabled()
+    /// Puts a command behind the text: any one, so many times in a hundred, and else one that is enabled, by the
+    /// weights where there are some.
+    pub(crate) fn add(&mut self, options: &DrawOptions) -> Result<(), Shortage> {
+        if self.words.below(100) < options.wild {
+            return self.add_any();
+        }
+        match &options.weights {
+            Some(weights) => self.add_weighted(weights),
+            None => self.add_enabled(),
         }
     }
 
@@ -166,7 +170,7 @@ impl<A: Allocator> Drawing<A> {
     }
 
     /// Issues a request.
-    fn request(&mut self) -> Result<bool, Shortage> {
+    pub(crate) fn request(&mut self) -> Result<bool, Shortage> {
         for _ in 0..TRIES {
             let (agent, line) = (self.agent(), self.line());
             let kind = self.words.kind();
@@ -209,19 +213,19 @@ impl<A: Allocator> Drawing<A> {
     }
 
     /// One of the agents.
-    fn agent(&mut self) -> Agent {
+    pub(crate) fn agent(&mut self) -> Agent {
         let agents = self.system.config().agents();
         Agent(self.words.below(agents))
     }
 
     /// One of the lines.
-    fn line(&mut self) -> Line {
+    pub(crate) fn line(&mut self) -> Line {
         let lines = self.system.config().lines();
         Line(self.words.below(lines))
     }
 
     /// One of the credit types.
-    fn credit(&mut self) -> Option<CreditType> {
+    pub(crate) fn credit(&mut self) -> Option<CreditType> {
         let types = match self.system.config().profile() {
             Profile::Two => 2,
             Profile::Four => 4,

@@ -15,8 +15,13 @@ mod second_pass;
 mod shortage;
 mod spelled;
 mod stimulus;
+mod verbs;
+mod weighted;
+mod weights;
 mod wild;
 mod words;
 
 pub use options::DrawOptions;
 pub use stimulus::draw;
+pub use verbs::Verb;
+pub use weights::{Weights, WeightsFault, WrongWords, read_weights};

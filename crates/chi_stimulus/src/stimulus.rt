@@ -14,8 +14,11 @@ use crate::second_pass::is_good;
 use crate::shortage::Shortage;
 use chi_devices::{Failed, Output};
 use chi_replay::config_of;
-use chi_script::{Fault, Header, header_in};
+use chi_script::{Fault, Header, MOST_CHECK_BYTES, header_in};
 use std::alloc::Allocator;
+
+/// The fewest bytes of a command with its answer and its line end, as `snp 0 0 -> ok`.
+const LEAST_BYTES: u64 = 14;
 
 /// The header, and commands that are drawn, each with its answer. That they are as they should be is found by the
 /// second pass.
@@ -27,10 +30,13 @@ fn drawn_text<A: Allocator + Copy>(
 ) -> Result<String<A>, Shortage>
     requires { is_in_limits header.now ≡ true }
 {
+    if options.commands > MOST_CHECK_BYTES as u64 / LEAST_BYTES {
+        return Err(Shortage::Room);
+    }
     let config = config_of(header);
     let mut drawing = Drawing::new(alloc, line, &config, options.seed)?;
     for _ in 0..options.commands {
-        drawing.add(options.wild)?;
+        drawing.add(options)?;
     }
     if options.drain {
         drawing.settle()?;

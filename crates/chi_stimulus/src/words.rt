@@ -30,6 +30,14 @@ impl Words {
         (self.rng.next_word() % u32::from(end)) as u8
     }
 
+    /// A number below this one, of 32 bits.
+    pub(crate) fn under(&mut self, end: u32) -> u32
+        requires { 0 < end }
+        ensures { result < end }
+    {
+        self.rng.next_word() % end
+    }
+
     /// A place in a list of this length.
     pub(crate) fn place(&mut self, length: usize) -> usize
         requires { 0 < length }

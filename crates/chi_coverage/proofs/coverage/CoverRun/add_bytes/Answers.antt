@@ -4,6 +4,7 @@ use Rattle.std.proofs.Math.ListN.{drop_of_length-le}
 use Rattle.std.proofs.lemmas.List.{take_all}
 use Rattle.chi_script.specs.Faults.{Fails}
 use Rattle.chi_script.specs.CheckFiles.{check_file_of}
+use Rattle.chi_script.specs.Files.{IsOneLine}
 use Rattle.chi_replay.specs.Suites.{given}
 use Rattle.chi_coverage.specs.Counts.{IsCountedFile}
 use Rattle.chi_coverage.proofs.Covering.{cover_state, goes_counted, goes_unread, keeps_counts, may_be_faulty}
@@ -39,10 +40,11 @@ returns-in-Err g c =
     let long : length old ≡ n = omega (arith, c.args.self.now.counts.ok.0) in
     let kept : length new ≡ n = omega (arith, c.count_file.auto.counts, ap length c.as_mut_slice.ensures.value, long) in
     let fails : Fails c.in-Err.fault (check_file_of c.args.bytes.now) = c.in-Err.ensures.err in
-    goes_unread c.add_fault.result (given c.args.name.now (Some c.args.bytes.now)) c.in-Err.fault
+    let one : IsOneLine c.as_str.result.now = rw c.as_str.ensures.value c.in_ok-hint-in-Err.ensures in
+    goes_unread c.add_fault.result (given c.args.name.now (Some c.args.bytes.now)) c.in-Err.fault c.as_str.result.now
     (cover_state old (string_bytes c.args.self.now.faults) c.args.self.now.fault)
     (cover_state c.add_fault.new.self.counts.items (string_bytes c.add_fault.new.self.faults) c.add_fault.new.self.fault)
-    (may_be_faulty c.add_fault.result c.args.bytes.now c.in-Err.fault fails c.add_fault.ensures.memory)
+    (may_be_faulty c.add_fault.result c.args.bytes.now c.in-Err.fault c.as_str.result.now one fails c.add_fault.ensures.memory)
     (keeps_counts c.add_fault.result c.in-Err.fault old (written n new old) c.add_fault.new.self.counts.items
     (λ other. is_written n new old long kept ∙ (c.in-Err.ensures.kept other ∙ c.as_mut_slice.ensures.value)) c.add_fault.ensures.memory c.add_fault.ensures.counts)
     c.add_fault.ensures.faults c.add_fault.ensures.fault

@@ -1,0 +1,153 @@
+//! The verbs that are drawn.
+
+ghost use Rattle.std.specs.Prelude.{◌≡◌};
+ghost use Rattle.chi_stimulus.specs.Weights.{delivery_named, verb_named};
+
+use chi_flit::Step;
+use chi_script::{Command, is};
+
+/// A verb that is drawn.
+/// Source: `docs/FORMATS.md`, "Drawn files".
+#[derive(Clone, Copy, Debug, PartialEq, Eq)]
+pub enum Verb {
+    Load,
+    Store,
+    Drop,
+    Issue,
+    Arrive,
+    Start,
+    Snp,
+    SnpResp,
+    RetryAck,
+    Resend,
+    Cancel,
+    Data,
+    Comp,
+    Dbid,
+    Ack,
+    WrData,
+    See,
+    GiveBack,
+    Tend,
+}
+
+/// How many verbs there are.
+pub(crate) const COUNT: usize = 19;
+
+/// The verbs, each at its place.
+pub(crate) const VERBS: [Verb; COUNT] = [
+    Verb::Load,
+    Verb::Store,
+    Verb::Drop,
+    Verb::Issue,
+    Verb::Arrive,
+    Verb::Start,
+    Verb::Snp,
+    Verb::SnpResp,
+    Verb::RetryAck,
+    Verb::Resend,
+    Verb::Cancel,
+    Verb::Data,
+    Verb::Comp,
+    Verb::Dbid,
+    Verb::Ack,
+    Verb::WrData,
+    Verb::See,
+    Verb::GiveBack,
+    Verb::Tend,
+];
+
+impl Verb {
+    /// The verb of this name; `None` for every other word.
+    /// Source: `docs/FORMATS.md`, "Drawn files".
+    #[tactic(auto, unfolding(crate::specs::Weights::verb_named))]
+    pub(crate) fn named(word: &[u8]) -> Option<Verb>
+        ensures { result ≡ verb_named word.now }
+    {
+        if is(word, "load") {
+            Some(Verb::Load)
+        } else if is(word, "store") {
+            Some(Verb::Store)
+        } else if is(word, "drop") {
+            Some(Verb::Drop)
+        } else if is(word, "issue") {
+            Some(Verb::Issue)
+        } else if is(word, "see") {
+            Some(Verb::See)
+        } else if is(word, "giveback") {
+            Some(Verb::GiveBack)
+        } else if is(word, "tend") {
+            Some(Verb::Tend)
+        } else {
+            Verb::delivery_named(word)
+        }
+    }
+
+    /// The same of those that go on with a request.
+    #[tactic(auto, unfolding(crate::specs::Weights::delivery_named))]
+    fn delivery_named(word: &[u8]) -> Option<Verb>
+        ensures { result ≡ delivery_named word.now }
+    {
+        if is(word, "arrive") {
+            Some(Verb::Arrive)
+        } else if is(word, "start") {
+            Some(Verb::Start)
+        } else if is(word, "snp") {
+            Some(Verb::Snp)
+        } else if is(word, "snpresp") {
+            Some(Verb::SnpResp)
+        } else if is(word, "retryack") {
+            Some(Verb::RetryAck)
+        } else if is(word, "resend") {
+            Some(Verb::Resend)
+        } else if is(word, "cancel") {
+            Some(Verb::Cancel)
+        } else if is(word, "data") {
+            Some(Verb::Data)
+        } else if is(word, "comp") {
+            Some(Verb::Comp)
+        } else if is(word, "dbid") {
+            Some(Verb::Dbid)
+        } else if is(word, "ack") {
+            Some(Verb::Ack)
+        } else if is(word, "wrdata") {
+            Some(Verb::WrData)
+        } else {
+            None
+        }
+    }
+
+    /// The verb of a command; `None` where it is none that is drawn.
+    pub(crate) fn of_command(command: &Command) -> Option<Verb> {
+        match *command {
+            Command::Arrive { .. } => Some(Verb::Arrive),
+            Command::See { .. } => Some(Verb::See),
+            Command::GiveBack { .. } => Some(Verb::GiveBack),
+            Command::Tend { .. } => Some(Verb::Tend),
+            Command::Act(action) => Verb::of_step(action.action().step),
+            Command::Totals | Command::Audit | Command::Show { .. } | Command::Flits { .. } => None,
+        }
+    }
+
+    /// The verb of a step.
+    fn of_step(step: Step) -> Option<Verb> {
+        match step {
+            Step::Load(_) => Some(Verb::Load),
+            Step::Store(..) => Some(Verb::Store),
+            Step::Drop => Some(Verb::Drop),
+            Step::Issue(..) => Some(Verb::Issue),
+            Step::Admit | Step::Retry => None,
+            Step::RecvRetry => Some(Verb::RetryAck),
+            Step::Resend => Some(Verb::Resend),
+            Step::Cancel => Some(Verb::Cancel),
+            Step::Start => Some(Verb::Start),
+            Step::RecvSnp => Some(Verb::Snp),
+            Step::RecvSnpResp => Some(Verb::SnpResp),
+            Step::RecvData => Some(Verb::Data),
+            Step::RecvComp => Some(Verb::Comp),
+            Step::RecvAck => Some(Verb::Ack),
+            Step::RecvDbid => Some(Verb::Dbid),
+            Step::RecvWrData => Some(Verb::WrData),
+        }
+    }
+}

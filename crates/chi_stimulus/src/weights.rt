@@ -1,0 +1,223 @@
+//! Files of weights: how often each verb is drawn.
+
+ghost use Rattle.std.specs.Prelude.{◌≡◌, ◌==◌, IfErr, IfNone, IfOk, IfSome, None, OnOk, Some, false, true};
+ghost use Rattle.chi_script.specs.Checks.{is_comment};
+ghost use Rattle.chi_script.specs.Files.{lines_of};
+ghost use Rattle.chi_script.specs.Words.{words_of};
+ghost use Rattle.chi_stimulus.specs.Weights.{first_wrong, is_weight_line, weight_in, weight_of};
+
+use crate::verbs::{COUNT, VERBS, Verb};
+use chi_script::{first_line, first_word, number};
+use std::fmt;
+
+/// The most bytes of a wrong word that are shown.
+const SHOWN: usize = 40;
+
+/// How often each verb is drawn beside the others.
+/// Source: `docs/FORMATS.md`, "Drawn files".
+#[derive(Clone, Copy, Debug, PartialEq, Eq)]
+pub struct Weights {
+    /// The weight of each verb, at the place of the verb.
+    by_place: [u16; COUNT],
+}
+
+/// What is wrong with a line of a file of weights.
+/// Source: `docs/FORMATS.md`, "Drawn files".
+#[derive(Clone, Copy, Debug, PartialEq, Eq)]
+pub enum WrongWords<'a> {
+    /// This word stands in the place of a verb.
+    Verb(&'a [u8]),
+    /// This word stands in the place of a weight.
+    Weight(&'a [u8]),
+    /// There is no weight.
+    Missing,
+    /// This stands behind the weight.
+    Behind(&'a [u8]),
+    /// No line end closes the line.
+    Open,
+}
+
+/// A file that is no file of weights.
+/// Source: `docs/FORMATS.md`, "Drawn files".
+#[derive(Clone, Copy, Debug, PartialEq, Eq)]
+pub struct WeightsFault<'a> {
+    /// Its first wrong line, counted from 1.
+    pub line: usize,
+    pub wrong: WrongWords<'a>,
+}
+
+/// A word of a file, of which bytes that aren't printable are shown as `?`.
+#[derive(Clone, Copy)]
+struct Shown<'a>(&'a [u8]);
+
+impl fmt::Display for Shown<'_> {
+    fn fmt<W: fmt::Write>(&self, f: &mut fmt::Formatter<W>) -> fmt::Result {
+        if self.0.is_empty() {
+            return f.write_str("no word");
+        }
+        for byte in self.0.iter().take(SHOWN) {
+            let shown = if byte.is_ascii_graphic() { *byte } else { b'?' };
+            f.write_char(char::from(shown))?;
+        }
+        if self.0.len() > SHOWN {
+            f.write_str("..")?;
+        }
+        Ok(())
+    }
+}
+
+impl fmt::Display for WrongWords<'_> {
+    fn fmt<W: fmt::Write>(&self, f: &mut fmt::Formatter<W>) -> fmt::Result {
+        match self {
+            WrongWords::Verb(word) => {
+                let word = Shown(word);
+                write!(
+                    f,
+                    "{word}, expected load, store, drop, issue, arrive, start, snp, snpresp, "
+                )?;
+                f.write_str(
+                    "retryack, resend, cancel, data, comp, dbid, ack, wrdata, see, giveback or tend",
+                )
+            }
+            WrongWords::Weight(word) => {
+                let word = Shown(word);
+                write!(f, "{word}, expected a weight, 0 to 1000")
+            }
+            WrongWords::Missing => f.write_str("a word is missing, expected VERB WEIGHT"),
+            WrongWords::Behind(word) => {
+                let word = Shown(word);
+                write!(f, "{word}, expected no more than VERB WEIGHT")
+            }
+            WrongWords::Open => f.write_str("missing newline"),
+        }
+    }
+}
+
+impl fmt::Display for WeightsFault<'_> {
+    fn fmt<W: fmt::Write>(&self, f: &mut fmt::Formatter<W>) -> fmt::Result {
+        let (line, wrong) = (self.line, self.wrong);
+        write!(f, "chihome: line {line}: {wrong}")
+    }
+}
+
+/// The weights that a file says: a line for a verb has the verb and its weight, and a comment is as in a check file.
+/// A verb that no line names has weight 1; of two lines on a verb the later one says its weight.
+///
+/// Refused at the first line that is neither, or that no line end closes.
+/// Source: `docs/FORMATS.md`, "Drawn files".
+pub fn read_weights(bytes: &[u8]) -> Result<Weights, WeightsFault<'_>>
+    ensures ok { OnOk result (first_wrong 1 (lines_of bytes.now) ≡ None) }
+    ensures err { IfErr result (λ fault. first_wrong 1 (lines_of bytes.now) ≡ Some fault.line) }
+{
+    let mut weights = Weights {
+        by_place: [1; COUNT],
+    };
+    let mut rest = bytes;
+    let mut number = 1;
+    while let Some((line, after)) = first_line(rest) {
+        if let Some(wrong) = weights.add(line) {
+            return Err(WeightsFault {
+                line: number,
+                wrong,
+            });
+        }
+        rest = after;
+        number += 1;
+    }
+    if rest.is_empty() {
+        Ok(weights)
+    } else {
+        Err(WeightsFault {
+            line: number,
+            wrong: WrongWords::Open,
+        })
+    }
+}
+
+/// Whether a line is a comment.
+fn is_comment(line: &[u8]) -> bool
+    ensures { result ≡ is_comment line.now }
+{
+    match line {
+        [] => true,
+        [first, ..] => *first == b'#',
+    }
+}
+
+/// The weight that a word says.
+fn weight_in(word: &[u8]) -> Option<u16>
+    ensures { result ≡ weight_in word.now }
+{
+    match number(word)? {
+        weight @ 0..=1_000 => Some(weight as u16),
+        _ => None,
+    }
+}
+
+/// The verb and the weight that a line says.
+fn weight_of(line: &[u8]) -> Result<(Verb, u16), WrongWords<'_>>
+    ensures ok { IfOk result (λ said. weight_of (words_of line.now) ≡ Some (said.0, said.1)) }
+    ensures err { IfErr result (λ _. weight_of (words_of line.now) ≡ None) }
+{
+    let Some((verb, rest)) = first_word(line) else {
+        return Err(WrongWords::Missing);
+    };
+    if let Some((_, behind)) = first_word(rest) {
+        return Err(WrongWords::Behind(behind));
+    }
+    match (Verb::named(verb), weight_in(rest)) {
+        (Some(verb), Some(weight)) => Ok((verb, weight)),
+        (None, _) => Err(WrongWords::Verb(verb)),
+        (_, None) => Err(WrongWords::Weight(rest)),
+    }
+}
+
+impl Weights {
+    /// Takes a line; what is wrong with it, if anything.
+    fn add<'a>(&mut self, line: &'a [u8]) -> Option<WrongWords<'a>>
+        ensures wrong { IfSome result (λ _. is_weight_line line.now ≡ false) }
+        ensures right { IfNone result (is_weight_line line.now ≡ true) }
+    {
+        if is_comment(line) {
+            return None;
+        }
+        match weight_of(line) {
+            Ok((verb, weight)) => {
+                self.set(verb, weight);
+                None
+            }
+            Err(wrong) => Some(wrong),
+        }
+    }
+
+    /// Gives the verb this weight.
+    pub(crate) fn set(&mut self, verb: Verb, weight: u16) {
+        for place in 0..COUNT {
+            if VERBS[place] == verb {
+                self.by_place[place] = weight;
+            }
+        }
+    }
+
+    /// The sum of all weights.
+    pub(crate) fn sum(&self) -> u32 {
+        let mut sum: u32 = 0;
+        for weight in &self.by_place {
+            sum = sum.saturating_add(u32::from(*weight));
+        }
+        sum
+    }
+
+    /// The verb in whose weight this number falls; none where it is behind them all.
+    pub(crate) fn verb_at(&self, number: u32) -> Option<Verb> {
+        let mut left = number;
+        for place in 0..COUNT {
+            let weight = u32::from(self.by_place[place]);
+            if left < weight {
+                return Some(VERBS[place]);
+            }
+            left -= weight;
+        }
+        None
+    }
+}
