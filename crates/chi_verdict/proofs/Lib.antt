@@ -1,4 +1,5 @@
 mod LineLemmas
 mod SortLemmas
 mod VerdictLemmas
+mod UnseenLemmas
 mod WritingLemmas

@@ -1,6 +1,7 @@
 -- What is said of a report, from what its parts say.
 use Rattle.std.proofs.Common.{◌≡◌, ◌≢◌, ◌∙◌, ◌-◌, ◌<◌, ℕ, Bool, true, false, not, List, length, nat_lt, take, Option, Some, None, Result, Ok, Err, IfErr, IfOk, IfSome, refl, subst, sym, ap, arith, if◌then◌else◌}
 use Rattle.std.specs.List.{count_by}
+use Rattle.std.specs.Map.{values_of}
 use Rattle.std.proofs.lemmas.Bool.{lt-ltb, ltb-false, ltb-true}
 use Rattle.std.proofs.lemmas.List.{length-take, take_all}
 use Rattle.chi_slice.specs.Words.{Sizes}
@@ -12,6 +13,7 @@ use Rattle.chi_trace.specs.declared.faults.TraceFault.TheVariants.{NoMemory, Too
 use Rattle.chi_trace.specs.declared.fields.Address.{Address}
 use Rattle.chi_trace.specs.declared.flits.Seen.{Seen}
 use Rattle.chi_resolution.specs.Resolution.{resolution_of}
+use Rattle.chi_resolution.specs.declared.beats.OpenData.{OpenData}
 use Rattle.chi_resolution.specs.declared.lines.Resolved.{Resolved}
 use Rattle.chi_resolution.specs.declared.reasons.IdFault.{IdFault}
 use Rattle.chi_resolution.specs.declared.resolution.Options.{Options}
@@ -21,7 +23,8 @@ use Rattle.chi_verdict.specs.declared.reports.TraceStop.{TraceStop}
 use Rattle.chi_verdict.specs.declared.reports.TraceTotals.{TraceTotals}
 use Rattle.chi_verdict.specs.Lines.{AreLinesExplained}
 use Rattle.chi_verdict.specs.Texts.{BeginsWith, IsOutcomeText, malformed_front}
-use Rattle.chi_verdict.specs.Verdicts.{IsFlitsReport, IsTraceJudged, IsReport, IsReportOn, IsStop, is_seen_access, trace_outcome_of, verdict_sizes}
+use Rattle.chi_verdict.specs.Unseen.{AreFilled}
+use Rattle.chi_verdict.specs.Verdicts.{IsFlitsReport, IsTraceJudged, IsReport, IsReportOn, IsStop, Items, is_seen_access, items_of_table, items_with, trace_outcome_of, verdict_sizes}
 
 -- the same fact in other words
 pub carried : {X E : Type 0} (P Q : X → Type 0) (r : Result X E) → ((x : X) → P x → Q x) → IfOk r P → IfOk r Q
@@ -61,31 +64,36 @@ malformed_report options only read fault outcome text (Ok x) fails is other said
 malformed_report options only read fault outcome text (Err e) fails is other said = tt
 
 -- what was judged is the trace's resolution
-moved : (config config' : Sizes) (stores : StoreListing) (seen : List Seen) (fault fault' : Option IdFault) (items items' waiting waiting' : List Resolved) (outcome : TraceOutcome) → config ≡ config' → fault ≡ fault' → items ≡ items' → waiting ≡ waiting'
-    → IsTraceJudged config stores seen fault items waiting outcome → IsTraceJudged config' stores seen fault' items' waiting' outcome
-moved config config' stores seen fault fault' items items' waiting waiting' outcome size same_fault same same_waiting is =
-    subst (λ (w : List Resolved). IsTraceJudged config' stores seen fault' items' w outcome) same_waiting
-    (subst (λ (i : List Resolved). IsTraceJudged config' stores seen fault' i waiting outcome) same
-    (subst (λ (f : Option IdFault). IsTraceJudged config' stores seen f items waiting outcome) same_fault
-    (subst (λ (c : Sizes). IsTraceJudged c stores seen fault items waiting outcome) size is)))
+moved : (config config' : Sizes) (stores : StoreListing) (seen : List Seen) (fault fault' : Option IdFault) (items items' : Items) (outcome : TraceOutcome) → config ≡ config' → fault ≡ fault' → items ≡ items'
+    → IsTraceJudged config stores seen fault items outcome → IsTraceJudged config' stores seen fault' items' outcome
+moved config config' stores seen fault fault' items items' outcome size same_fault same is =
+    subst (λ (i : Items). IsTraceJudged config' stores seen fault' i outcome) same
+    (subst (λ (f : Option IdFault). IsTraceJudged config' stores seen f items outcome) same_fault
+    (subst (λ (c : Sizes). IsTraceJudged c stores seen fault items outcome) size is))
 
-pub flits_report : {R E : Type 0} (options : Options) (only : Option Address) (seen : List Seen) (judged : Result TraceTotals TraceStop) (config : Sizes) (fault : Option IdFault) (items waiting : List Resolved) (outcome : R → TraceOutcome) (text : R → List ℕ) (r : Result R E)
-    → config ≡ verdict_sizes options.types → fault ≡ (resolution_of options seen).fault → items ≡ (resolution_of options seen).progress.table.flits → waiting ≡ (resolution_of options seen).progress.table.waiting
-    → IsTraceJudged config options.stores seen fault items waiting (trace_outcome_of judged) → IfOk r (λ x. outcome x ≡ trace_outcome_of judged) → IfOk r (λ x. IsOutcomeText seen only (outcome x) (text x)) → IfOk r (λ x. IsFlitsReport options only seen (outcome x) (text x))
-flits_report options only seen judged config fault items waiting outcome text (Ok x) size same_fault same same_waiting of is told = record {
-  verdict = subst (λ (o : TraceOutcome). IsTraceJudged (verdict_sizes options.types) options.stores seen (resolution_of options seen).fault (resolution_of options seen).progress.table.flits (resolution_of options seen).progress.table.waiting o) (sym is)
-      (moved config (verdict_sizes options.types) options.stores seen fault (resolution_of options seen).fault items (resolution_of options seen).progress.table.flits waiting (resolution_of options seen).progress.table.waiting (trace_outcome_of judged) size same_fault same same_waiting of);
+same_items : (flits flits' : List Resolved) (unfinished unfinished' : List OpenData) (waiting waiting' : List Resolved) → flits ≡ flits' → unfinished ≡ unfinished' → waiting ≡ waiting' → items_with flits unfinished waiting ≡ items_with flits' unfinished' waiting'
+same_items flits flits' unfinished unfinished' waiting waiting' same same_unfinished same_waiting = λ i. items_with (same i) (same_unfinished i) (same_waiting i)
+
+pub flits_report : {R E : Type 0} (options : Options) (only : Option Address) (seen : List Seen) (judged : Result TraceTotals TraceStop) (config : Sizes) (fault : Option IdFault) (items : List Resolved) (unfinished : List OpenData) (waiting : List Resolved) (outcome : R → TraceOutcome) (text : R → List ℕ) (r : Result R E)
+    → config ≡ verdict_sizes options.types → fault ≡ (resolution_of options seen).fault → items ≡ (resolution_of options seen).progress.table.flits → unfinished ≡ values_of (resolution_of options seen).progress.table.unfinished → waiting ≡ (resolution_of options seen).progress.table.waiting
+    → IsTraceJudged config options.stores seen fault (items_with items unfinished waiting) (trace_outcome_of judged) → IfOk r (λ x. outcome x ≡ trace_outcome_of judged) → IfOk r (λ x. IsOutcomeText seen only (outcome x) (text x)) → IfOk r (λ x. IsFlitsReport options only seen (outcome x) (text x))
+flits_report options only seen judged config fault items unfinished waiting outcome text (Ok x) size same_fault same same_unfinished same_waiting of is told = record {
+  verdict = subst (λ (o : TraceOutcome). IsTraceJudged (verdict_sizes options.types) options.stores seen (resolution_of options seen).fault (items_of_table (resolution_of options seen).progress.table) o) (sym is)
+      (moved config (verdict_sizes options.types) options.stores seen fault (resolution_of options seen).fault (items_with items unfinished waiting) (items_of_table (resolution_of options seen).progress.table) (trace_outcome_of judged) size same_fault
+      (same_items items (resolution_of options seen).progress.table.flits unfinished (values_of (resolution_of options seen).progress.table.unfinished) waiting (resolution_of options seen).progress.table.waiting same same_unfinished same_waiting) of);
   told = told;
 }
-flits_report options only seen judged config fault items waiting outcome text (Err e) size same_fault same same_waiting of is told = tt
+flits_report options only seen judged config fault items unfinished waiting outcome text (Err e) size same_fault same same_unfinished same_waiting of is told = tt
 
-pub judged : (config : Sizes) (stores : StoreListing) (seen : List Seen) (fault : Option IdFault) (items waiting : List Resolved) (actions lines : ℕ) (r : Result TraceTotals TraceStop) → AreLinesExplained config stores items actions lines
+pub judged : (config : Sizes) (stores : StoreListing) (seen : List Seen) (fault : Option IdFault) (items whole : List Resolved) (unfinished : List OpenData) (waiting : List Resolved) (actions lines : ℕ) (r : Result TraceTotals TraceStop) → AreFilled unfinished items whole → AreLinesExplained config stores whole actions lines
     → IfOk r (λ total. fault ≡ None) → IfOk r (λ total. total.flits ≡ count_by (λ one. not (is_seen_access one)) seen) → IfOk r (λ total. total.accesses ≡ count_by is_seen_access seen - length waiting) → IfOk r (λ total. total.actions ≡ actions) → IfOk r (λ total. total.lines ≡ lines)
-    → IfErr r (IsStop fault) → IsTraceJudged config stores seen fault items waiting (trace_outcome_of r)
-judged config stores seen fault items waiting actions lines (Ok total) known allowed flits accesses same_actions same_lines err = record {
+    → IfErr r (IsStop fault) → IsTraceJudged config stores seen fault (items_with items unfinished waiting) (trace_outcome_of r)
+judged config stores seen fault items whole unfinished waiting actions lines (Ok total) filled known allowed flits accesses same_actions same_lines err = record {
   allowed = allowed;
   flits = flits;
   accesses = accesses;
-  lines = subst (λ (n : ℕ). AreLinesExplained config stores items total.actions n) (sym same_lines) (subst (λ (n : ℕ). AreLinesExplained config stores items n lines) (sym same_actions) known);
+  whole = whole;
+  filled = filled;
+  lines = subst (λ (n : ℕ). AreLinesExplained config stores whole total.actions n) (sym same_lines) (subst (λ (n : ℕ). AreLinesExplained config stores whole n lines) (sym same_actions) known);
 }
-judged config stores seen fault items waiting actions lines (Err stop) known allowed flits accesses same_actions same_lines err = err
+judged config stores seen fault items whole unfinished waiting actions lines (Err stop) filled known allowed flits accesses same_actions same_lines err = err

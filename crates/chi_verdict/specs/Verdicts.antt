@@ -2,6 +2,7 @@
 use Rattle.std.specs.Prelude.{◌≡◌, ◌<◌, ◌+◌, ◌-◌, ℕ, Bool, true, false, not, List, [], ◌∷◌, Option, Some, None, Result, Ok, Err, IfSome, IsErrOf, length}
 use Rattle.std.specs.Io.KnownBytes.{Appends, Keeps}
 use Rattle.std.specs.List.{count_by}
+use Rattle.std.specs.Map.{values_of}
 use Rattle.chi_devices.specs.Devices.{AppendsFront}
 use Rattle.chi_script.specs.declared.faults.Fault.{Fault}
 use Rattle.chi_script.specs.declared.faults.Fault.TheVariants as faults
@@ -13,7 +14,9 @@ use Rattle.chi_trace.specs.declared.fields.Address.{Address}
 use Rattle.chi_trace.specs.declared.flits.Seen.{Seen}
 use Rattle.chi_trace.specs.declared.opcodes.Opcode.{Opcode}
 use Rattle.chi_trace.specs.declared.opcodes.Opcode.TheVariants.{Load, Store}
+use Rattle.chi_resolution.specs.Changes.{Open}
 use Rattle.chi_resolution.specs.Resolution.{resolution_of, Outcome}
+use Rattle.chi_resolution.specs.declared.beats.OpenData.{OpenData}
 use Rattle.chi_resolution.specs.declared.ledger.Types.{Types}
 use Rattle.chi_resolution.specs.declared.ledger.Types.TheVariants.{Two, Four, Any}
 use Rattle.chi_resolution.specs.declared.lines.Resolved.{Resolved}
@@ -26,6 +29,7 @@ use Rattle.chi_verdict.specs.declared.reports.TraceStop.TheVariants.{Ids, Flit, 
 use Rattle.chi_verdict.specs.declared.reports.TraceTotals.{TraceTotals}
 use Rattle.chi_verdict.specs.Lines.{AreLinesExplained}
 use Rattle.chi_verdict.specs.Texts.{BeginsWith, IsOutcomeText, malformed_front}
+use Rattle.chi_verdict.specs.Unseen.{AreFilled}
 
 -- a node of one line with eight agents, and as many records as a journal may have
 abbrev pub verdict_sizes : Types → Sizes
@@ -42,13 +46,28 @@ is_access other = false
 abbrev pub is_seen_access : Seen → Bool
 is_seen_access seen = is_access seen.opcode
 
--- the ids and the ledger allow all the flits, and each line's flits, loads and stores are explained; so many there
--- are, but for the loads and stores that wait
-pub record IsAllExplained (config : Sizes) (stores : StoreListing) (seen : List Seen) (fault : Option IdFault) (items waiting : List Resolved) (totals : TraceTotals) : Type 0 where
+-- what a trace is resolved to, as far as its verdict needs it: the items of all lines, the data that lacks words at the
+-- end, and the loads and stores that wait
+pub record Items : Type 0 where
+  pub flits : List Resolved
+  pub unfinished : List OpenData
+  pub waiting : List Resolved
+
+abbrev pub items_with : List Resolved → List OpenData → List Resolved → Items
+items_with flits unfinished waiting = record { flits = flits; unfinished = unfinished; waiting = waiting }
+
+abbrev pub items_of_table : Open → Items
+items_of_table table = items_with table.flits (values_of table.unfinished) table.waiting
+
+-- the ids and the ledger allow all the flits, and each line's flits, loads and stores are explained, with some words in
+-- place of those that lack; so many there are, but for the loads and stores that wait
+pub record IsAllExplained (config : Sizes) (stores : StoreListing) (seen : List Seen) (fault : Option IdFault) (items : Items) (totals : TraceTotals) : Type 0 where
   pub allowed : fault ≡ None
   pub flits : totals.flits ≡ count_by (λ one. not (is_seen_access one)) seen
-  pub accesses : totals.accesses ≡ count_by is_seen_access seen - length waiting
-  pub lines : AreLinesExplained config stores items totals.actions totals.lines
+  pub accesses : totals.accesses ≡ count_by is_seen_access seen - length items.waiting
+  pub whole : List Resolved
+  pub filled : AreFilled items.unfinished items.flits whole
+  pub lines : AreLinesExplained config stores whole totals.actions totals.lines
 
 -- a flit before the first that the ids or the ledger don't allow
 abbrev pub IsBefore : ℕ → Option IdFault → Type 0
@@ -64,17 +83,17 @@ IsStop fault (Long line) = fault ≡ None
 IsStop fault (Undone line) = fault ≡ None
 
 -- what comes of flits that are resolved so
-abbrev pub IsTraceJudged : Sizes → StoreListing → List Seen → Option IdFault → List Resolved → List Resolved → TraceOutcome → Type 0
-IsTraceJudged config stores seen fault items waiting (Explained totals) = IsAllExplained config stores seen fault items waiting totals
-IsTraceJudged config stores seen fault items waiting (Faulty stop) = IsStop fault stop
-IsTraceJudged config stores seen fault items waiting (Malformed cause) = ⊥
+abbrev pub IsTraceJudged : Sizes → StoreListing → List Seen → Option IdFault → Items → TraceOutcome → Type 0
+IsTraceJudged config stores seen fault items (Explained totals) = IsAllExplained config stores seen fault items totals
+IsTraceJudged config stores seen fault items (Faulty stop) = IsStop fault stop
+IsTraceJudged config stores seen fault items (Malformed cause) = ⊥
 
 abbrev pub trace_outcome_of : Result TraceTotals TraceStop → TraceOutcome
 trace_outcome_of (Ok totals) = Explained totals
 trace_outcome_of (Err stop) = Faulty stop
 
 abbrev pub IsVerdictOf : Options → List Seen → Outcome → TraceOutcome → Type 0
-IsVerdictOf options seen resolved outcome = IsTraceJudged (verdict_sizes options.types) options.stores seen resolved.fault resolved.progress.table.flits resolved.progress.table.waiting outcome
+IsVerdictOf options seen resolved outcome = IsTraceJudged (verdict_sizes options.types) options.stores seen resolved.fault (items_of_table resolved.progress.table) outcome
 
 -- what comes of the flits of a trace, and is told of them
 pub record IsFlitsReport (options : Options) (only : Option Address) (seen : List Seen) (outcome : TraceOutcome) (text : List ℕ) : Type 0 where

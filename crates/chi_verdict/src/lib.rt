@@ -13,6 +13,7 @@ mod malformed;
 mod names;
 mod open_texts;
 mod reports;
+mod unseen;
 
 pub use explanations::explain;
 pub use lines::{LineTotals, Obstacle, explain_lines};

@@ -3,7 +3,7 @@
 ghost use Rattle.std.specs.Prelude.{◌≡◌, ◌≢◌, ◌-◌, IfErr, IfOk, IfSome, None, Some, not, string_bytes};
 ghost use Rattle.std.specs.List.{count_by, slice_get};
 ghost use Rattle.chi_verdict.specs.Texts.{BeginsWith, IsOutcomeText, access_text, explained_line, malformed_front, flit_number_of, numbered, stop_front};
-ghost use Rattle.chi_verdict.specs.Verdicts.{IsFlitsReport, IsTraceJudged, IsReport, IsStop, is_access, is_seen_access, trace_outcome_of, verdict_sizes};
+ghost use Rattle.chi_verdict.specs.Verdicts.{IsFlitsReport, IsTraceJudged, IsReport, IsStop, is_access, is_seen_access, items_with, trace_outcome_of, verdict_sizes};
 ghost use Rattle.chi_trace.specs.declared.faults.TraceFault.TheVariants as faults;
 ghost use Rattle.chi_verdict.specs.declared.reports.TraceOutcome.TheVariants as outcomes;
 
@@ -13,6 +13,7 @@ use crate::lines::{LineTotals, Obstacle, explain_lines};
 use crate::malformed::malformed_text;
 use crate::names::{LineName, NodeName, ObservedName, SeenName, joined, kept, requester_of};
 use crate::open_texts::write_open;
+use crate::unseen::fill_data;
 use chi_explain::{Observed, StoreListing};
 use chi_flit::{NoMemory, Profile};
 use chi_monitor::{LineFault, allowed, explain_flits};
@@ -137,11 +138,14 @@ fn judge<A: Allocator + Copy>(
     resolution: &mut Resolution<A>,
 ) -> Result<Result<TraceTotals, TraceStop>, NoMemory>
     ensures { IfOk result (λ judged.
-        IsTraceJudged config.now stores seen.now resolution.old.fault resolution.old.flits.items
-        resolution.old.waiting.items (trace_outcome_of judged)) }
+        IsTraceJudged config.now stores seen.now resolution.old.fault
+        (items_with resolution.old.flits.items resolution.old.unfinished.items
+        resolution.old.waiting.items) (trace_outcome_of judged)) }
 {
     let fault = resolution.fault;
     let waiting = resolution.waiting.len();
+    let unfinished = resolution.unfinished.as_slice();
+    fill_data(alloc, stores, &mut resolution.flits, unfinished)?;
     match explain_lines(alloc, config, stores, &mut resolution.flits) {
         Ok(totals) => Ok(total_of(seen, waiting, totals, fault)),
         Err(obstacle) => match first_stop(obstacle, fault) {
