@@ -20,8 +20,8 @@ use Rattle.chi_coverage.specs.declared.cells.Cell.{Cell}
 use Rattle.chi_coverage.specs.declared.cells.Cell.TheVariants as cells
 use Rattle.chi_coverage.specs.declared.cells.Form.{Form}
 use Rattle.chi_coverage.specs.declared.cells.Form.TheVariants as forms
-use Rattle.chi_coverage.specs.declared.cells.Found.{Found}
-use Rattle.chi_coverage.specs.declared.cells.Found.TheVariants as founds
+use Rattle.chi_coverage.specs.declared.cells.CreditsFound.{CreditsFound}
+use Rattle.chi_coverage.specs.declared.cells.CreditsFound.TheVariants as founds
 use Rattle.chi_coverage.specs.declared.cells.Reason.{Reason}
 use Rattle.chi_coverage.specs.declared.cells.Reason.TheVariants as reasons
 use Rattle.chi_coverage.specs.declared.cells.Shown.{Shown}
@@ -71,7 +71,7 @@ credit_low credits.T1 = omega arith
 credit_low credits.T2 = omega arith
 credit_low credits.T3 = omega arith
 
-found_low : (x : Found) → found_place x ≤ 3
+found_low : (x : CreditsFound) → found_place x ≤ 3
 found_low founds.Nothing = omega arith
 found_low founds.One = omega arith
 found_low founds.TwoOfAType = omega arith

@@ -12,8 +12,8 @@ use Rattle.chi_slice.specs.Words.{Pending}
 use Rattle.chi_coverage.specs.declared.accounts.AccountView.{AccountView}
 use Rattle.chi_coverage.specs.declared.cells.Cell.{Cell}
 use Rattle.chi_coverage.specs.declared.cells.Cell.TheVariants as cells
-use Rattle.chi_coverage.specs.declared.cells.Found.{Found}
-use Rattle.chi_coverage.specs.declared.cells.Found.TheVariants as founds
+use Rattle.chi_coverage.specs.declared.cells.CreditsFound.{CreditsFound}
+use Rattle.chi_coverage.specs.declared.cells.CreditsFound.TheVariants as founds
 use Rattle.chi_coverage.specs.declared.cells.Verb.{Verb}
 use Rattle.chi_coverage.specs.declared.cells.Verb.TheVariants as verbs
 use Rattle.chi_coverage.specs.declared.scenes.Scene.{Scene}
@@ -22,15 +22,15 @@ use Rattle.chi_coverage.specs.Places.{bool_place, credit_place}
 abbrev pub no_account : AccountView
 no_account = record { seen = replicate 4 0; riding = replicate 4 0; cancelled = replicate 4 0 }
 
-abbrev pub number_of : List ℕ → CreditType → ℕ
-number_of numbers ty = slice_index numbers (credit_place ty)
+abbrev pub count_at_type : List ℕ → CreditType → ℕ
+count_at_type numbers ty = slice_index numbers (credit_place ty)
 
 -- one more of a type, and one less
-abbrev pub one_more : List ℕ → CreditType → List ℕ
-one_more numbers ty = slice_set numbers (credit_place ty) (number_of numbers ty + 1)
+abbrev pub one_credit_more : List ℕ → CreditType → List ℕ
+one_credit_more numbers ty = slice_set numbers (credit_place ty) (count_at_type numbers ty + 1)
 
 abbrev pub one_less : List ℕ → CreditType → List ℕ
-one_less numbers ty = slice_set numbers (credit_place ty) (number_of numbers ty - 1)
+one_less numbers ty = slice_set numbers (credit_place ty) (count_at_type numbers ty - 1)
 
 -- the numbers of `ok credits C0 C1` or `ok credits C0 C1 C2 C3`: a digit each, since no more than eight are due
 abbrev pub digit_at : List ℕ → ℕ → ℕ
@@ -40,11 +40,11 @@ abbrev pub credits_said : List ℕ → List ℕ
 credits_said line = digit_at line 11 ∷ digit_at line 13 ∷ digit_at line 15 ∷ digit_at line 17 ∷ []
 
 -- a seen credit is beyond those for Riding slots; and a slot is Cancelled
-abbrev pub has_spare : AccountView → CreditType → Bool
-has_spare account ty = nat_lt (number_of account.riding ty) (number_of account.seen ty)
+abbrev pub has_spare_credit : AccountView → CreditType → Bool
+has_spare_credit account ty = nat_lt (count_at_type account.riding ty) (count_at_type account.seen ty)
 
 abbrev pub has_cancelled : AccountView → CreditType → Bool
-has_cancelled account ty = nat_lt 0 (number_of account.cancelled ty)
+has_cancelled account ty = nat_lt 0 (count_at_type account.cancelled ty)
 
 -- what a call leaves that is done, a row each: see, resend, cancel, arrive of a resent request, give back
 abbrev pub after_see : List ℕ → AccountView → AccountView
@@ -53,12 +53,12 @@ after_see line account = record { seen = credits_said line; riding = account.rid
 abbrev pub after_resend : Profile → Option Pending → AccountView → AccountView
 after_resend profile None account = account
 after_resend profile (Some pending) account =
-    record { seen = account.seen; riding = one_more account.riding (credit_type_of profile pending.kind); cancelled = account.cancelled }
+    record { seen = account.seen; riding = one_credit_more account.riding (credit_type_of profile pending.kind); cancelled = account.cancelled }
 
 abbrev pub after_cancel : Profile → Option Pending → AccountView → AccountView
 after_cancel profile None account = account
 after_cancel profile (Some pending) account =
-    record { seen = account.seen; riding = account.riding; cancelled = one_more account.cancelled (credit_type_of profile pending.kind) }
+    record { seen = account.seen; riding = account.riding; cancelled = one_credit_more account.cancelled (credit_type_of profile pending.kind) }
 
 abbrev pub after_spend : CreditType → AccountView → AccountView
 after_spend ty account = record { seen = one_less account.seen ty; riding = one_less account.riding ty; cancelled = account.cancelled }
@@ -71,13 +71,13 @@ abbrev pub after_return : Option CreditType → AccountView → AccountView
 after_return None account = account
 after_return (Some ty) account = record { seen = one_less account.seen ty; riding = account.riding; cancelled = one_less account.cancelled ty }
 
-abbrev pub account_after : Verb → Profile → Option CreditType → Option Scene → List ℕ → AccountView → AccountView
-account_after verbs.See profile ty before line account = after_see line account
-account_after verbs.GiveBack profile ty before line account = after_return ty account
-account_after verbs.Resend profile ty (Some scene) line account = after_resend profile scene.pending account
-account_after verbs.Cancel profile ty (Some scene) line account = after_cancel profile scene.pending account
-account_after verbs.Arrive profile ty (Some scene) line account = after_arrival profile scene.flits.req account
-account_after verb profile ty before line account = account
+abbrev pub told_account_after : Verb → Profile → Option CreditType → Option Scene → List ℕ → AccountView → AccountView
+told_account_after verbs.See profile ty before line account = after_see line account
+told_account_after verbs.GiveBack profile ty before line account = after_return ty account
+told_account_after verbs.Resend profile ty (Some scene) line account = after_resend profile scene.pending account
+told_account_after verbs.Cancel profile ty (Some scene) line account = after_cancel profile scene.pending account
+told_account_after verbs.Arrive profile ty (Some scene) line account = after_arrival profile scene.flits.req account
+told_account_after verb profile ty before line account = account
 
 -- what a `see` finds: nothing, one credit, two of a type, or one each of several types
 abbrev pub some_place : List ℕ → ℕ → ℕ
@@ -92,14 +92,14 @@ is_two numbers ty = nat_lt 1 (slice_index numbers ty)
 abbrev pub has_two : List ℕ → Bool
 has_two numbers = is_two numbers 0 || (is_two numbers 1 || (is_two numbers 2 || is_two numbers 3))
 
-abbrev pub found_in : List ℕ → Found
+abbrev pub found_in : List ℕ → CreditsFound
 found_in numbers = if has_two numbers then founds.TwoOfAType else (
     if types_seen numbers == 0 then founds.Nothing else (if types_seen numbers == 1 then founds.One else founds.SeveralTypes))
 
 -- a RetryAck is taken: the grant came first where a credit of its request's type is to spare
 abbrev pub retry_cell : Profile → Option Pending → AccountView → Option Cell
 retry_cell profile None account = None
-retry_cell profile (Some pending) account = Some (cells.RetryTaken pending.kind (has_spare account (credit_type_of profile pending.kind)))
+retry_cell profile (Some pending) account = Some (cells.RetryTaken pending.kind (has_spare_credit account (credit_type_of profile pending.kind)))
 
 -- a resend is refused for its copy's state: 12 would fit too where no credit is to spare
 abbrev pub spare_cell : Bool → Option Cell
@@ -108,12 +108,12 @@ spare_cell false = Some (cells.BothFit verbs.Resend)
 
 abbrev pub resend_cell : Profile → Option Pending → AccountView → Option Cell
 resend_cell profile None account = None
-resend_cell profile (Some pending) account = spare_cell (has_spare account (credit_type_of profile pending.kind))
+resend_cell profile (Some pending) account = spare_cell (has_spare_credit account (credit_type_of profile pending.kind))
 
 -- why no credit is given back
 abbrev pub return_cell : Option CreditType → AccountView → Option Cell
 return_cell None account = None
-return_cell (Some ty) account = Some (cells.NotReturned (has_cancelled account ty) (has_spare account ty))
+return_cell (Some ty) account = Some (cells.NotReturned (has_cancelled account ty) (has_spare_credit account ty))
 
 abbrev pub account_cell : Option Refusal → Verb → Option Scene → Profile → Option CreditType → List ℕ → AccountView → Option Cell
 account_cell None verbs.See before profile ty line account = Some (cells.Seen (found_in (credits_said line)))

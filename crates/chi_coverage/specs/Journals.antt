@@ -21,8 +21,8 @@ journal_after verbs.Store journal = record { records = journal.records + 1; has_
 journal_after verb journal = journal
 
 -- a load behind a store, and a journal that is full, while that of some slice has room
-abbrev pub is_full : Sizes → JournalView → Bool
-is_full sizes journal = journal.records == sizes.journal
+abbrev pub is_journal_full : Sizes → JournalView → Bool
+is_journal_full sizes journal = journal.records == sizes.journal
 
 abbrev pub journal_cell : Option Refusal → Verb → (store full room : Bool) → Option Cell
 journal_cell None verbs.Load store full room = cell_if store cells.LoadBehindStore

@@ -14,8 +14,8 @@ use Rattle.chi_coverage.specs.declared.cells.Cell.{Cell}
 use Rattle.chi_coverage.specs.declared.cells.Cell.TheVariants as cells
 use Rattle.chi_coverage.specs.declared.cells.Form.{Form}
 use Rattle.chi_coverage.specs.declared.cells.Form.TheVariants as forms
-use Rattle.chi_coverage.specs.declared.cells.Found.{Found}
-use Rattle.chi_coverage.specs.declared.cells.Found.TheVariants as founds
+use Rattle.chi_coverage.specs.declared.cells.CreditsFound.{CreditsFound}
+use Rattle.chi_coverage.specs.declared.cells.CreditsFound.TheVariants as founds
 use Rattle.chi_coverage.specs.declared.cells.Reason.{Reason}
 use Rattle.chi_coverage.specs.declared.cells.Reason.TheVariants as reasons
 use Rattle.chi_coverage.specs.declared.cells.Shown.{Shown}
@@ -192,7 +192,7 @@ cancelled_table =
     ∷ (WriteEvictFull, SC ∷ I ∷ [])
     ∷ []
 
-abbrev pub every_find : List Found
+abbrev pub every_find : List CreditsFound
 every_find = founds.Nothing ∷ founds.One ∷ founds.TwoOfAType ∷ founds.SeveralTypes ∷ []
 
 abbrev pub call_cells : List Cell

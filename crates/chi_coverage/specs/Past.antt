@@ -14,8 +14,8 @@ use Rattle.chi_coverage.specs.declared.named.Named.{Named}
 use Rattle.chi_coverage.specs.declared.past.Past.{Past}
 use Rattle.chi_coverage.specs.declared.scenes.Scene.{Scene}
 use Rattle.chi_coverage.specs.declared.sharing.Sharing.{Sharing}
-use Rattle.chi_coverage.specs.Accounts.{account_after, account_cell, no_account}
-use Rattle.chi_coverage.specs.Journals.{is_full, journal_after, journal_cell, no_journal}
+use Rattle.chi_coverage.specs.Accounts.{told_account_after, account_cell, no_account}
+use Rattle.chi_coverage.specs.Journals.{is_journal_full, journal_after, journal_cell, no_journal}
 use Rattle.chi_coverage.specs.Said.{refusal_in}
 use Rattle.chi_coverage.specs.Sharing.{data_cell, no_sharing, passed_cell, sharing_after}
 
@@ -36,8 +36,8 @@ abbrev pub sharing_of : Past → Line → Sharing
 sharing_of past l = if nat_lt l.0 64 then slice_index_or past.lines l.0 no_sharing else no_sharing
 
 -- they become others
-abbrev pub with_account : Past → Agent → AccountView → Past
-with_account past agent account =
+abbrev pub with_told_account : Past → Agent → AccountView → Past
+with_told_account past agent account =
     if nat_lt agent.0 8 then record { accounts = slice_set past.accounts agent.0 account; journals = past.journals; lines = past.lines } else past
 
 abbrev pub with_journal : Past → ℕ → JournalView → Past
@@ -52,7 +52,7 @@ with_sharing past l line =
 abbrev pub with_agent_step : Profile → Named → Option Scene → List ℕ → Option Agent → Past → Past
 with_agent_step profile named before line None past = past
 with_agent_step profile named before line (Some agent) past =
-    with_account past agent (account_after named.verb profile named.credit before line (account_of past agent))
+    with_told_account past agent (told_account_after named.verb profile named.credit before line (account_of past agent))
 
 abbrev pub with_journal_step : Sizes → Verb → Option Line → Past → Past
 with_journal_step sizes verb None past = past
@@ -85,7 +85,7 @@ any_room sizes past =
 abbrev pub journal_shown : Sizes → Option Refusal → Verb → Past → Option Line → Option Cell
 journal_shown sizes refusal verb past None = None
 journal_shown sizes refusal verb past (Some l) =
-    journal_cell refusal verb (journal_at past (journal_number sizes l)).has_store (is_full sizes (journal_at past (journal_number sizes l))) (any_room sizes past)
+    journal_cell refusal verb (journal_at past (journal_number sizes l)).has_store (is_journal_full sizes (journal_at past (journal_number sizes l))) (any_room sizes past)
 
 abbrev pub data_shown : Option Refusal → Named → Past → Option Agent → Option Line → Option Scene → Option LineView → Option Cell
 data_shown None named past (Some agent) (Some l) (Some scene) after = data_cell named.verb agent scene after (sharing_of past l)

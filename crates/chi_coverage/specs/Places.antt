@@ -16,8 +16,8 @@ use Rattle.chi_coverage.specs.declared.cells.Cell.{Cell}
 use Rattle.chi_coverage.specs.declared.cells.Cell.TheVariants as cells
 use Rattle.chi_coverage.specs.declared.cells.Form.{Form}
 use Rattle.chi_coverage.specs.declared.cells.Form.TheVariants as forms
-use Rattle.chi_coverage.specs.declared.cells.Found.{Found}
-use Rattle.chi_coverage.specs.declared.cells.Found.TheVariants as founds
+use Rattle.chi_coverage.specs.declared.cells.CreditsFound.{CreditsFound}
+use Rattle.chi_coverage.specs.declared.cells.CreditsFound.TheVariants as founds
 use Rattle.chi_coverage.specs.declared.cells.Reason.{Reason}
 use Rattle.chi_coverage.specs.declared.cells.Reason.TheVariants as reasons
 use Rattle.chi_coverage.specs.declared.cells.Shown.{Shown}
@@ -68,7 +68,7 @@ credit_place credits.T1 = 1
 credit_place credits.T2 = 2
 credit_place credits.T3 = 3
 
-abbrev pub found_place : Found → ℕ
+abbrev pub found_place : CreditsFound → ℕ
 found_place founds.Nothing = 0
 found_place founds.One = 1
 found_place founds.TwoOfAType = 2

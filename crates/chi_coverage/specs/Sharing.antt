@@ -24,14 +24,14 @@ abbrev pub no_sharing : Sharing
 no_sharing = record { shared = false; passed = false }
 
 -- after an answer to a snoop
-abbrev pub after_answer : Option Form → OwnerSeen → Sharing → Sharing
-after_answer (Some forms.SnpRespDataSD) owner line = record { shared = true; passed = line.passed }
-after_answer (Some forms.SnpRespDataSCPD) owners.Itself line = record { shared = line.shared; passed = true }
-after_answer form owner line = line
+abbrev pub shared_after_answer : Option Form → OwnerSeen → Sharing → Sharing
+shared_after_answer (Some forms.SnpRespDataSD) owner line = record { shared = true; passed = line.passed }
+shared_after_answer (Some forms.SnpRespDataSCPD) owners.Itself line = record { shared = line.shared; passed = true }
+shared_after_answer form owner line = line
 
 -- after a command that is done
 abbrev pub sharing_after : Verb → Option Scene → Sharing → Sharing
-sharing_after verbs.SnpResp (Some scene) line = after_answer (answered_form scene.flits) scene.owner line
+sharing_after verbs.SnpResp (Some scene) line = shared_after_answer (answered_form scene.flits) scene.owner line
 sharing_after verb before line = line
 
 -- whose data a ReadShared gets in CompData_SC: that of the SnpRespData_SD just taken, or the memory's, where a read before got such

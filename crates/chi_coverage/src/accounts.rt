@@ -1,11 +1,11 @@
 //! What the answers so far show of an agent's account, and the cells that it shows.
 
 ghost use Rattle.std.specs.Prelude.{◌≡◌, ◌<◌, ◌≤◌, IfOk};
-ghost use Rattle.chi_coverage.specs.Accounts.{account_after, account_cell, after_arrival, after_cancel, after_resend, after_return, after_see, after_spend, credits_said, digit_at, found_in, has_cancelled, has_spare, has_two, number_of, one_less, one_more, resend_cell, retry_cell, return_cell, some_place, types_seen};
+ghost use Rattle.chi_coverage.specs.Accounts.{told_account_after, account_cell, after_arrival, after_cancel, after_resend, after_return, after_see, after_spend, credits_said, digit_at, found_in, has_cancelled, has_spare_credit, has_two, count_at_type, one_less, one_credit_more, resend_cell, retry_cell, return_cell, some_place, types_seen};
 ghost use Rattle.chi_coverage.specs.Said.{refusal_in};
 
 use crate::answers::refusal_in;
-use crate::cells::{Cell, Found, Verb};
+use crate::cells::{Cell, CreditsFound, Verb};
 use crate::named::Named;
 use crate::places::{bool_place, credit_place};
 use crate::scenes::Scene;
@@ -31,15 +31,15 @@ pub(crate) const NO_ACCOUNT: AccountView = AccountView {
 };
 
 /// The number of the type.
-fn number_of(numbers: &[u64; 4], credit: CreditType) -> u64
-    ensures { result ≡ number_of numbers.now credit }
+fn count_at_type(numbers: &[u64; 4], credit: CreditType) -> u64
+    ensures { result ≡ count_at_type numbers.now credit }
 {
     numbers[credit_place(credit)]
 }
 
 /// One more of the type. Refused where the number is too large, as only endless memory could have it.
-fn one_more(numbers: &[u64; 4], credit: CreditType) -> Result<[u64; 4], NoMemory>
-    ensures { IfOk result (λ more. more ≡ one_more numbers.now credit) }
+fn one_credit_more(numbers: &[u64; 4], credit: CreditType) -> Result<[u64; 4], NoMemory>
+    ensures { IfOk result (λ more. more ≡ one_credit_more numbers.now credit) }
 {
     let place = credit_place(credit);
     let mut more = *numbers;
@@ -82,17 +82,17 @@ fn credits_said(line: &[u8]) -> [u64; 4]
 
 impl AccountView {
     /// Whether a seen credit of the type is beyond those for the Riding slots.
-    fn has_spare(&self, credit: CreditType) -> bool
-        ensures { result ≡ has_spare self.now credit }
+    fn has_spare_credit(&self, credit: CreditType) -> bool
+        ensures { result ≡ has_spare_credit self.now credit }
     {
-        number_of(&self.riding, credit) < number_of(&self.seen, credit)
+        count_at_type(&self.riding, credit) < count_at_type(&self.seen, credit)
     }
 
     /// Whether a slot of the type is Cancelled.
     fn has_cancelled(&self, credit: CreditType) -> bool
         ensures { result ≡ has_cancelled self.now credit }
     {
-        number_of(&self.cancelled, credit) > 0
+        count_at_type(&self.cancelled, credit) > 0
     }
 
     /// After a `see`.
@@ -106,7 +106,7 @@ impl AccountView {
         }
     }
 
-    /// After the pending request was sent again. Refused as `one_more` is.
+    /// After the pending request was sent again. Refused as `one_credit_more` is.
     fn after_resend(
         &self,
         profile: Profile,
@@ -117,14 +117,14 @@ impl AccountView {
         match pending {
             Some(pending) => Ok(AccountView {
                 seen: self.seen,
-                riding: one_more(&self.riding, credit_type(profile, pending.kind))?,
+                riding: one_credit_more(&self.riding, credit_type(profile, pending.kind))?,
                 cancelled: self.cancelled,
             }),
             None => Ok(*self),
         }
     }
 
-    /// After the pending request was cancelled. Refused as `one_more` is.
+    /// After the pending request was cancelled. Refused as `one_credit_more` is.
     fn after_cancel(
         &self,
         profile: Profile,
@@ -136,7 +136,7 @@ impl AccountView {
             Some(pending) => Ok(AccountView {
                 seen: self.seen,
                 riding: self.riding,
-                cancelled: one_more(&self.cancelled, credit_type(profile, pending.kind))?,
+                cancelled: one_credit_more(&self.cancelled, credit_type(profile, pending.kind))?,
             }),
             None => Ok(*self),
         }
@@ -183,7 +183,7 @@ impl AccountView {
         }
     }
 
-    /// After a command of the agent that is done, with what stood at its line. Refused as `one_more` is.
+    /// After a command of the agent that is done, with what stood at its line. Refused as `one_credit_more` is.
     pub(crate) fn after(
         &self,
         profile: Profile,
@@ -192,7 +192,7 @@ impl AccountView {
         line: &[u8],
     ) -> Result<AccountView, NoMemory>
         ensures { IfOk result (λ account. account
-            ≡ account_after named.now.verb profile named.now.credit before.now line.now self.now) }
+            ≡ told_account_after named.now.verb profile named.now.credit before.now line.now self.now) }
     {
         match (named.verb, before) {
             (Verb::See, _) => Ok(self.after_see(line)),
@@ -232,17 +232,17 @@ fn has_two(numbers: &[u64; 4]) -> bool
 }
 
 /// What a `see` finds.
-fn found_in(numbers: &[u64; 4]) -> Found
+fn found_in(numbers: &[u64; 4]) -> CreditsFound
     ensures { result ≡ found_in numbers.now }
 {
     if has_two(numbers) {
-        Found::TwoOfAType
+        CreditsFound::TwoOfAType
     } else if types_seen(numbers) == 0 {
-        Found::Nothing
+        CreditsFound::Nothing
     } else if types_seen(numbers) == 1 {
-        Found::One
+        CreditsFound::One
     } else {
-        Found::SeveralTypes
+        CreditsFound::SeveralTypes
     }
 }
 
@@ -251,7 +251,7 @@ fn retry_cell(profile: Profile, pending: Option<Pending>, account: &AccountView)
     ensures { result ≡ retry_cell profile pending account.now }
 {
     let kind = pending?.kind;
-    let granted = account.has_spare(credit_type(profile, kind));
+    let granted = account.has_spare_credit(credit_type(profile, kind));
     Some(Cell::RetryTaken(kind, granted))
 }
 
@@ -259,7 +259,7 @@ fn retry_cell(profile: Profile, pending: Option<Pending>, account: &AccountView)
 fn resend_cell(profile: Profile, pending: Option<Pending>, account: &AccountView) -> Option<Cell>
     ensures { result ≡ resend_cell profile pending account.now }
 {
-    if account.has_spare(credit_type(profile, pending?.kind)) {
+    if account.has_spare_credit(credit_type(profile, pending?.kind)) {
         None
     } else {
         Some(Cell::BothFit(Verb::Resend))
@@ -272,7 +272,7 @@ fn return_cell(credit: Option<CreditType>, account: &AccountView) -> Option<Cell
 {
     let credit = credit?;
     let cancelled = account.has_cancelled(credit);
-    Some(Cell::NotReturned(cancelled, account.has_spare(credit)))
+    Some(Cell::NotReturned(cancelled, account.has_spare_credit(credit)))
 }
 
 /// The cell that an agent's account shows.

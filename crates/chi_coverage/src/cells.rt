@@ -1,7 +1,7 @@
 //! The cells of the protocol's tables.
 
 ghost use Rattle.std.specs.Prelude.{◌≡◌, Some};
-ghost use Rattle.chi_coverage.specs.Cells.{cell_if, cell_text, form_text, found_text, is_crossing_unreachable, is_unreachable, is_write_unreachable, reason_text, section_text, shown_name, stage_text, verb_text};
+ghost use Rattle.chi_coverage.specs.Cells.{cell_if, cell_text, form_text, credits_text, is_crossing_unreachable, is_unreachable, is_write_unreachable, reason_text, section_text, shown_name, stage_text, verb_text};
 
 use chi_flit::{CreditType, Kind, Profile, Snoop, State};
 use std::fmt;
@@ -120,7 +120,7 @@ pub(crate) enum Arrival {
 /// What a `see` finds.
 /// Source: `docs/PROTOCOL.md`, "A requester and its calls".
 #[derive(Clone, Copy)]
-pub(crate) enum Found {
+pub(crate) enum CreditsFound {
     Nothing,
     One,
     TwoOfAType,
@@ -215,7 +215,7 @@ pub(crate) enum Cell {
     /// The RetryAck to a request of the kind is taken, and a grant was seen before it or wasn't.
     RetryTaken(Kind, bool),
     /// A `see` finds so many credits.
-    Seen(Found),
+    Seen(CreditsFound),
     /// No credit is given back: whether a slot is cancelled, and whether a credit is seen.
     NotReturned(bool, bool),
     /// The command is refused, and 1 would fit too; whether for a pending request.
@@ -345,21 +345,21 @@ impl fmt::Display for Shown {
     }
 }
 
-impl Found {
+impl CreditsFound {
     fn name(self) -> &'static str
-        ensures { result.now ≡ found_text self }
+        ensures { result.now ≡ credits_text self }
     {
         match self {
-            Found::Nothing => "none",
-            Found::One => "one",
-            Found::TwoOfAType => "two of a type",
-            Found::SeveralTypes => "of two types",
+            CreditsFound::Nothing => "none",
+            CreditsFound::One => "one",
+            CreditsFound::TwoOfAType => "two of a type",
+            CreditsFound::SeveralTypes => "of two types",
         }
     }
 }
 
-impl fmt::Display for Found {
-    ghost output = { λ found. Some (found_text found) };
+impl fmt::Display for CreditsFound {
+    ghost output = { λ found. Some (credits_text found) };
 
     fn fmt<W: fmt::Write>(&self, f: &mut fmt::Formatter<W>) -> fmt::Result {
         f.write_str(self.name())

@@ -3,7 +3,7 @@
 ghost use Rattle.std.specs.Prelude.{◌≡◌};
 ghost use Rattle.chi_coverage.specs.Lists.{all_cells};
 
-use crate::cells::{Arrival, Cell, Form, Found, Reason, Shown, Stage, Verb};
+use crate::cells::{Arrival, Cell, CreditsFound, Form, Reason, Shown, Stage, Verb};
 use chi_flit::{CreditType, Kind, Profile, Snoop, State};
 
 /// All of them, by the tables.
@@ -557,10 +557,10 @@ const CELLS: [Cell; 565] = [
     Cell::RetryTaken(Kind::WriteCleanFull, false),
     Cell::RetryTaken(Kind::WriteEvictFull, true),
     Cell::RetryTaken(Kind::WriteEvictFull, false),
-    Cell::Seen(Found::Nothing),
-    Cell::Seen(Found::One),
-    Cell::Seen(Found::TwoOfAType),
-    Cell::Seen(Found::SeveralTypes),
+    Cell::Seen(CreditsFound::Nothing),
+    Cell::Seen(CreditsFound::One),
+    Cell::Seen(CreditsFound::TwoOfAType),
+    Cell::Seen(CreditsFound::SeveralTypes),
     Cell::Released(Verb::Ack, true),
     Cell::Released(Verb::Ack, false),
     Cell::Released(Verb::WrData, true),

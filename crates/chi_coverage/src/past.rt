@@ -2,7 +2,7 @@
 
 ghost use Rattle.std.specs.Prelude.{◌≡◌, OnOk};
 ghost use Rattle.chi_coverage.specs.Coverage.{past_shown};
-ghost use Rattle.chi_coverage.specs.Past.{account_of, account_shown, any_room, data_shown, has_room, journal_at, journal_number, journal_shown, no_past, past_after, past_cells, passed_shown, sharing_of, with_account, with_agent_step, with_journal, with_journal_step, with_line_step, with_sharing};
+ghost use Rattle.chi_coverage.specs.Past.{account_of, account_shown, any_room, data_shown, has_room, journal_at, journal_number, journal_shown, no_past, past_after, past_cells, passed_shown, sharing_of, with_told_account, with_agent_step, with_journal, with_journal_step, with_line_step, with_sharing};
 
 use crate::accounts::{AccountView, NO_ACCOUNT, account_cell};
 use crate::answers::refusal_in;
@@ -80,7 +80,7 @@ impl Past {
 
     /// An agent's account becomes another one.
     fn set_account(&mut self, agent: Agent, account: AccountView)
-        ensures { self.new ≡ with_account self.old agent account }
+        ensures { self.new ≡ with_told_account self.old agent account }
     {
         if agent.0 < 8 {
             self.accounts[usize::from(agent.0)] = account;

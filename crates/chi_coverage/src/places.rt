@@ -3,7 +3,7 @@
 ghost use Rattle.std.specs.Prelude.{◌≡◌, ◌≤◌, ◌<◌};
 ghost use Rattle.chi_coverage.specs.Places.{arrival_place, bool_place, cell_place, credit_place, form_place, found_place, kind_place, place_count, profile_place, reason_place, shown_place, snoop_place, pair_place, stage_place, place_of_state, verb_place};
 
-use crate::cells::{Arrival, Cell, Form, Found, Reason, Shown, Stage, Verb};
+use crate::cells::{Arrival, Cell, CreditsFound, Form, Reason, Shown, Stage, Verb};
 use chi_flit::{CreditType, Kind, Profile, Snoop, State};
 
 /// How many places there are.
@@ -79,15 +79,15 @@ pub(crate) fn credit_place(credit: CreditType) -> usize
     }
 }
 
-fn found_place(found: Found) -> usize
+fn found_place(found: CreditsFound) -> usize
     ensures is { result ≡ found_place found }
     ensures low { result ≤ 3 }
 {
     match found {
-        Found::Nothing => 0,
-        Found::One => 1,
-        Found::TwoOfAType => 2,
-        Found::SeveralTypes => 3,
+        CreditsFound::Nothing => 0,
+        CreditsFound::One => 1,
+        CreditsFound::TwoOfAType => 2,
+        CreditsFound::SeveralTypes => 3,
     }
 }
 

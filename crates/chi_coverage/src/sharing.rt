@@ -1,7 +1,7 @@
 //! What dirty data has done at a line so far, and the cells of reads that it shows.
 
 ghost use Rattle.std.specs.Prelude.{◌≡◌};
-ghost use Rattle.chi_coverage.specs.Sharing.{after_answer, answer_data_cell, data_cell, is_shared_read, is_shared_start, memory_cell, passed_cell, sharing_after, start_data_cell};
+ghost use Rattle.chi_coverage.specs.Sharing.{shared_after_answer, answer_data_cell, data_cell, is_shared_read, is_shared_start, memory_cell, passed_cell, sharing_after, start_data_cell};
 
 use crate::cells::{Cell, Form, Verb, cell_if};
 use crate::completions::completion_cell;
@@ -28,8 +28,8 @@ pub(crate) const NO_SHARING: Sharing = Sharing {
 
 impl Sharing {
     /// After an answer to a snoop.
-    fn after_answer(&self, form: Option<Form>, owner: OwnerSeen) -> Sharing
-        ensures { result ≡ after_answer form owner self.now }
+    fn shared_after_answer(&self, form: Option<Form>, owner: OwnerSeen) -> Sharing
+        ensures { result ≡ shared_after_answer form owner self.now }
     {
         match (form, owner) {
             (Some(Form::SnpRespDataSD), _) => Sharing {
@@ -50,7 +50,7 @@ impl Sharing {
     {
         match (verb, before) {
             (Verb::SnpResp, Some(scene)) => {
-                self.after_answer(answered_form(&scene.flits), scene.owner)
+                self.shared_after_answer(answered_form(&scene.flits), scene.owner)
             }
             _ => *self,
         }

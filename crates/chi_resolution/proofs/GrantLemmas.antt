@@ -19,11 +19,11 @@ use Rattle.chi_resolution.specs.declared.reasons.IdReason.TheVariants.{Lacks}
 use Rattle.chi_resolution.specs.declared.resolution.Allowed.{Allowed}
 use Rattle.chi_resolution.specs.declared.resolution.Options.{Options}
 use Rattle.chi_resolution.specs.Changes.{Open, booking_of, change_by, change_of, credit_change, early_of, granted, granted_booking, may_grant, received}
-use Rattle.chi_resolution.specs.Grants.{AreGrantsDue, IsDue, IsDueAs, IsTaken, MayBeGranted}
+use Rattle.chi_resolution.specs.Grants.{AreGrantsDue, IsGrantDue, IsGrantDueAs, IsFlitTaken, MayBeGranted}
 use Rattle.chi_resolution.specs.Ledger.{held_of}
 use Rattle.chi_resolution.specs.Nodes.{agent_of, ends_of, home_in, sides_of, way_of}
 use Rattle.chi_resolution.specs.Reasons.{◌>>=◌}
-use Rattle.chi_resolution.specs.Resolution.{Outcome, Progress, allowed_of, ended, nothing, resolution_of, resolved_from, taken}
+use Rattle.chi_resolution.specs.Resolution.{IdOutcome, IdProgress, allowed_of, ended, nothing, resolution_of, resolved_from, taken}
 use Rattle.chi_resolution.proofs.Balance.{each, each_of, if_so}
 
 -- what holds anyway holds of a result
@@ -81,7 +81,7 @@ typed options table ends target (Some pcrd) same =
     if_so _ _ _ (λ booking. IfSome target (λ target. MayBeGranted options table target pcrd)) (λ may.
     due_to options table ends.requester target pcrd same (may_grant_more (held_of ends.requester pcrd table.accounts).account (early_of options table ends.requester pcrd) may))
 
-grant_due : (options : Options) (table : Open) (ends : Ends) (seen : Seen) → IfSome seen.target (λ target. target ≡ ends.requester) → IfOk (granted options table ends seen) (λ booking. IsDueAs opcodes.PCrdGrant options table seen)
+grant_due : (options : Options) (table : Open) (ends : Ends) (seen : Seen) → IfSome seen.target (λ target. target ≡ ends.requester) → IfOk (granted options table ends seen) (λ booking. IsGrantDueAs opcodes.PCrdGrant options table seen)
 unfolding granted
 grant_due options table ends seen same = typed options table ends seen.target seen.pcrd same
 
@@ -89,14 +89,14 @@ booked_due : (booking : Result Booking IdReason) (P : Type 0) → IfOk booking (
 booked_due (Ok booking) P is = is
 booked_due (Err reason) P is = tt
 
-by_opcode : (opcode : Opcode) (options : Options) (table : Open) (ends : Ends) (seen : Seen) → IsTargetAs opcode seen ends.requester → IfOk (change_by opcode options table ends seen) (λ change. IsDueAs opcode options table seen)
+by_opcode : (opcode : Opcode) (options : Options) (table : Open) (ends : Ends) (seen : Seen) → IsTargetAs opcode seen ends.requester → IfOk (change_by opcode options table ends seen) (λ change. IsGrantDueAs opcode options table seen)
 by_opcode (opcodes.Request kind) options table ends seen is = anyway (change_by (opcodes.Request kind) options table ends seen) (Unit {0}) tt
 by_opcode opcodes.PCrdReturn options table ends seen is = anyway (change_by opcodes.PCrdReturn options table ends seen) (Unit {0}) tt
 by_opcode (opcodes.Snoop snoop) options table ends seen is = anyway (change_by (opcodes.Snoop snoop) options table ends seen) (Unit {0}) tt
 by_opcode opcodes.RetryAck options table ends seen is = anyway (change_by opcodes.RetryAck options table ends seen) (Unit {0}) tt
 by_opcode opcodes.Comp options table ends seen is = anyway (change_by opcodes.Comp options table ends seen) (Unit {0}) tt
 by_opcode opcodes.CompDBIDResp options table ends seen is = anyway (change_by opcodes.CompDBIDResp options table ends seen) (Unit {0}) tt
-by_opcode opcodes.PCrdGrant options table ends seen is = booked_due (granted options table ends seen) (IsDueAs opcodes.PCrdGrant options table seen) (grant_due options table ends seen is)
+by_opcode opcodes.PCrdGrant options table ends seen is = booked_due (granted options table ends seen) (IsGrantDueAs opcodes.PCrdGrant options table seen) (grant_due options table ends seen is)
 by_opcode opcodes.SnpResp options table ends seen is = anyway (change_by opcodes.SnpResp options table ends seen) (Unit {0}) tt
 by_opcode opcodes.CompAck options table ends seen is = anyway (change_by opcodes.CompAck options table ends seen) (Unit {0}) tt
 by_opcode opcodes.CompData options table ends seen is = anyway (change_by opcodes.CompData options table ends seen) (Unit {0}) tt
@@ -105,44 +105,44 @@ by_opcode opcodes.CopyBackWrData options table ends seen is = anyway (change_by 
 by_opcode opcodes.Load options table ends seen is = anyway (change_by opcodes.Load options table ends seen) (Unit {0}) tt
 by_opcode opcodes.Store options table ends seen is = anyway (change_by opcodes.Store options table ends seen) (Unit {0}) tt
 
-change_due : (options : Options) (table : Open) (ends : Ends) (seen : Seen) → IsTargetAs seen.opcode seen ends.requester → IfOk (change_of options table ends seen) (λ change. IsDue options table seen)
+change_due : (options : Options) (table : Open) (ends : Ends) (seen : Seen) → IsTargetAs seen.opcode seen ends.requester → IfOk (change_of options table ends seen) (λ change. IsGrantDue options table seen)
 unfolding change_of
 change_due options table ends seen is =
-    each_of (change_by seen.opcode options table ends seen) _ (λ change. IsDue options table seen) (λ change. IsDue options table seen) (by_opcode seen.opcode options table ends seen is)
-    (λ change due. anyway (received table ends seen.opcode change) (IsDue options table seen) due)
+    each_of (change_by seen.opcode options table ends seen) _ (λ change. IsGrantDue options table seen) (λ change. IsGrantDue options table seen) (by_opcode seen.opcode options table ends seen is)
+    (λ change due. anyway (received table ends seen.opcode change) (IsGrantDue options table seen) due)
 
-step_due : (options : Options) (progress : Progress) (seen : Seen) → IfOk (allowed_of options progress seen) (λ allowed. IsDue options progress.table seen)
+step_due : (options : Options) (progress : IdProgress) (seen : Seen) → IfOk (allowed_of options progress seen) (λ allowed. IsGrantDue options progress.table seen)
 unfolding allowed_of
 step_due options progress seen =
-    each_of (ends_of progress.home progress.requesters seen) _ (λ ends. IsTargetAs seen.opcode seen ends.requester) (λ (allowed : Allowed). IsDue options progress.table seen) (requester_is progress.home progress.requesters seen) (λ ends is.
-    each_of (change_of options progress.table ends seen) _ (λ change. IsDue options progress.table seen) (λ (allowed : Allowed). IsDue options progress.table seen) (change_due options progress.table ends seen is) (λ change due. due))
+    each_of (ends_of progress.home progress.requesters seen) _ (λ ends. IsTargetAs seen.opcode seen ends.requester) (λ (allowed : Allowed). IsGrantDue options progress.table seen) (requester_is progress.home progress.requesters seen) (λ ends is.
+    each_of (change_of options progress.table ends seen) _ (λ change. IsGrantDue options progress.table seen) (λ (allowed : Allowed). IsGrantDue options progress.table seen) (change_due options progress.table ends seen is) (λ change due. due))
 
 -- the next flit is taken, or is the fault
-now_due : (options : Options) (at number : ℕ) (progress : Progress) (seen : Seen) (next : Result Allowed IdReason) (rest : Allowed → Outcome) → number ≡ at
-    → IfOk next (λ allowed. IsDue options progress.table seen) → IsTaken number (ended at progress next rest).fault → IsDue options progress.table seen
+now_due : (options : Options) (at number : ℕ) (progress : IdProgress) (seen : Seen) (next : Result Allowed IdReason) (rest : Allowed → IdOutcome) → number ≡ at
+    → IfOk next (λ allowed. IsGrantDue options progress.table seen) → IsFlitTaken number (ended at progress next rest).fault → IsGrantDue options progress.table seen
 now_due options at number progress seen (Ok allowed) rest same due is = due
 now_due options at number progress seen (Err reason) rest same due is = absurd (omega (arith, is, same))
 
 -- a later one
-then_due : (at number : ℕ) (progress : Progress) (next : Result Allowed IdReason) (rest shorter : Allowed → Outcome) (P : Progress → Type 0) → at ≤ number
-    → ((allowed : Allowed) → IsTaken number (rest allowed).fault → P (shorter allowed).progress) → IsTaken number (ended at progress next rest).fault → P (ended at progress next shorter).progress
+then_due : (at number : ℕ) (progress : IdProgress) (next : Result Allowed IdReason) (rest shorter : Allowed → IdOutcome) (P : IdProgress → Type 0) → at ≤ number
+    → ((allowed : Allowed) → IsFlitTaken number (rest allowed).fault → P (shorter allowed).progress) → IsFlitTaken number (ended at progress next rest).fault → P (ended at progress next shorter).progress
 then_due at number progress (Ok allowed) rest shorter P low h is = h allowed is
 then_due at number progress (Err reason) rest shorter P low h is = absurd (omega (arith, is, low))
 
-from_due : (options : Options) (at number : ℕ) (progress : Progress) (before : List Seen) (seen : Seen) (rest : List Seen) → number ≡ at + length before
-    → IsTaken number (resolved_from options at progress (before ++ (seen ∷ rest))).fault → IsDue options (resolved_from options at progress before).progress.table seen
+from_due : (options : Options) (at number : ℕ) (progress : IdProgress) (before : List Seen) (seen : Seen) (rest : List Seen) → number ≡ at + length before
+    → IsFlitTaken number (resolved_from options at progress (before ++ (seen ∷ rest))).fault → IsGrantDue options (resolved_from options at progress before).progress.table seen
 unfolding resolved_from
 from_due options at number progress [] seen rest same is =
     now_due options at number progress seen (allowed_of options progress seen) (λ allowed. resolved_from options (at + 1) (taken at allowed progress) rest) (omega (arith, same)) (step_due options progress seen) is
 from_due options at number progress (first ∷ before) seen rest same is =
     then_due at number progress (allowed_of options progress first) (λ allowed. resolved_from options (at + 1) (taken at allowed progress) (before ++ (seen ∷ rest))) (λ allowed. resolved_from options (at + 1) (taken at allowed progress) before)
-    (λ behind. IsDue options behind.table seen) (omega (arith, same))
+    (λ behind. IsGrantDue options behind.table seen) (omega (arith, same))
     (λ allowed. from_due options (at + 1) number (taken at allowed progress) before seen rest (omega (arith, same))) is
 
 -- all grants of a trace
 pub trace_due : (options : Options) (trace : List Seen) → AreGrantsDue options trace (resolution_of options trace).fault
 trace_due options trace before seen rest is at =
-    from_due options 0 (length before) nothing before seen rest (omega arith) (subst (λ (t : List Seen). IsTaken (length before) (resolution_of options t).fault) is at)
+    from_due options 0 (length before) nothing before seen rest (omega arith) (subst (λ (t : List Seen). IsFlitTaken (length before) (resolution_of options t).fault) is at)
 
 -- the fault is known to be this
 pub due_where : {R E : Type 0} (options : Options) (trace : List Seen) (result : Result R E) (of : R → Option IdFault) (fault : Option IdFault) → IfOk result (λ r. of r ≡ fault) → AreGrantsDue options trace fault

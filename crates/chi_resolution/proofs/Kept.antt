@@ -39,7 +39,7 @@ use Rattle.chi_resolution.specs.Messages.{answer_form, completion_response, mess
 use Rattle.chi_resolution.specs.Nodes.{ends_of}
 use Rattle.chi_resolution.specs.Reasons.{needed_address, needed_allow_retry, buffer_of, needed_dbid, needed_pcrd, needed_resp, needed_txn, value_in, words_in}
 use Rattle.chi_resolution.specs.declared.resolution.Allowed.{Allowed}
-use Rattle.chi_resolution.specs.Resolution.{Outcome, Progress, open_after, ended, nothing, resolution_of, resolved_from, allowed_of, taken}
+use Rattle.chi_resolution.specs.Resolution.{IdOutcome, IdProgress, open_after, ended, nothing, resolution_of, resolved_from, allowed_of, taken}
 use Rattle.chi_resolution.proofs.Balance.{IsKept, booked_all_balanced, booked_balanced, each, each_of, held_balanced, if_not, if_so, more_cancelled, more_granted, more_in_vain, more_resent, more_returned, more_retried}
 
 -- what a flit of a line books, if anything
@@ -248,21 +248,21 @@ after_kept early at (Flit flit) table is all = booked_all_balanced early flit.bo
 after_kept early at (Credit booking) table is all = booked_balanced early booking table.accounts is all
 after_kept early at (Beat further) table is all = all
 
-abbrev ProgressKept : Bool → Progress → Type 0
+abbrev ProgressKept : Bool → IdProgress → Type 0
 ProgressKept early progress = TableKept early progress.table
 
-step_kept : (options : Options) (progress : Progress) (seen : Seen) → ProgressKept options.early_grants progress → IfOk (allowed_of options progress seen) (λ allowed. ChangeKept options.early_grants allowed.change)
+step_kept : (options : Options) (progress : IdProgress) (seen : Seen) → ProgressKept options.early_grants progress → IfOk (allowed_of options progress seen) (λ allowed. ChangeKept options.early_grants allowed.change)
 unfolding allowed_of
 step_kept options progress seen all =
     each (ends_of progress.home progress.requesters seen) _ (λ allowed. ChangeKept options.early_grants allowed.change) (λ ends.
     each_of (change_of options progress.table ends seen) _ (ChangeKept options.early_grants) (λ allowed. ChangeKept options.early_grants allowed.change) (change_kept options progress.table ends seen all) (λ change is. is))
 
-ended_kept : (early : Bool) (at : ℕ) (progress : Progress) (next : Result Allowed IdReason) (rest : Allowed → Outcome) → ProgressKept early progress → IfOk next (λ allowed. ChangeKept early allowed.change)
+ended_kept : (early : Bool) (at : ℕ) (progress : IdProgress) (next : Result Allowed IdReason) (rest : Allowed → IdOutcome) → ProgressKept early progress → IfOk next (λ allowed. ChangeKept early allowed.change)
     → ((allowed : Allowed) → ChangeKept early allowed.change → ProgressKept early (rest allowed).progress) → ProgressKept early (ended at progress next rest).progress
 ended_kept early at progress (Ok allowed) rest all is h = h allowed is
 ended_kept early at progress (Err reason) rest all is h = all
 
-from_kept : (options : Options) (at : ℕ) (progress : Progress) (seen : List Seen) → ProgressKept options.early_grants progress → ProgressKept options.early_grants (resolved_from options at progress seen).progress
+from_kept : (options : Options) (at : ℕ) (progress : IdProgress) (seen : List Seen) → ProgressKept options.early_grants progress → ProgressKept options.early_grants (resolved_from options at progress seen).progress
 unfolding resolved_from
 from_kept options at progress [] all = all
 from_kept options at progress (seen ∷ rest) all =

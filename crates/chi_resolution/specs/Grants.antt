@@ -18,20 +18,20 @@ MayBeGranted options table node pcrd =
     (held_of node pcrd table.accounts).account.granted < (held_of node pcrd table.accounts).account.retried + early_of options table node pcrd
 
 -- a grant is of a credit that may be granted to its target then
-abbrev pub IsDueAs : Opcode → Options → Open → Seen → Type 0
-IsDueAs PCrdGrant options table seen = IfSome seen.target (λ node. IfSome seen.pcrd (λ pcrd. MayBeGranted options table node pcrd))
-IsDueAs other options table seen = Unit {0}
+abbrev pub IsGrantDueAs : Opcode → Options → Open → Seen → Type 0
+IsGrantDueAs PCrdGrant options table seen = IfSome seen.target (λ node. IfSome seen.pcrd (λ pcrd. MayBeGranted options table node pcrd))
+IsGrantDueAs other options table seen = Unit {0}
 
-abbrev pub IsDue : Options → Open → Seen → Type 0
-IsDue options table seen = IsDueAs seen.opcode options table seen
+abbrev pub IsGrantDue : Options → Open → Seen → Type 0
+IsGrantDue options table seen = IsGrantDueAs seen.opcode options table seen
 
 -- the flit of this number comes before the first that isn't allowed
-abbrev pub IsTaken : ℕ → Option IdFault → Type 0
-IsTaken number None = Unit {0}
-IsTaken number (Some fault) = number < fault.at
+abbrev pub IsFlitTaken : ℕ → Option IdFault → Type 0
+IsFlitTaken number None = Unit {0}
+IsFlitTaken number (Some fault) = number < fault.at
 
 -- each grant of the trace that is taken is due by the flits before it
 abbrev pub AreGrantsDue : Options → List Seen → Option IdFault → Type 0
 AreGrantsDue options trace fault =
-    (before : List Seen) (seen : Seen) (rest : List Seen) → trace ≡ before ++ (seen ∷ rest) → IsTaken (length before) fault
-    → IsDue options (resolution_of options before).progress.table seen
+    (before : List Seen) (seen : Seen) (rest : List Seen) → trace ≡ before ++ (seen ∷ rest) → IsFlitTaken (length before) fault
+    → IsGrantDue options (resolution_of options before).progress.table seen

@@ -32,19 +32,19 @@ use Rattle.chi_resolution.specs.Nodes.{ends_of, with_home, with_requester}
 use Rattle.chi_resolution.specs.Reasons.{◌>>=◌}
 
 -- the nodes so far, and what is open
-pub record Progress : Type 0 where
+pub record IdProgress : Type 0 where
   pub home : Option NodeId
   pub requesters : List NodeId
   pub table : Open
 
-abbrev pub progress_of : Option NodeId → List NodeId → List (KeyNumbers × OpenId) → List (KeyNumbers × OpenData) → List CreditLedger → List Resolved → List Resolved → Progress
+abbrev pub progress_of : Option NodeId → List NodeId → List (KeyNumbers × OpenId) → List (KeyNumbers × OpenData) → List CreditLedger → List Resolved → List Resolved → IdProgress
 progress_of home requesters ids unfinished accounts flits waiting = record {
   home = home;
   requesters = requesters;
   table = record { ids = ids; unfinished = unfinished; accounts = accounts; flits = flits; waiting = waiting };
 }
 
-abbrev pub nothing : Progress
+abbrev pub nothing : IdProgress
 nothing = progress_of None [] [] [] [] [] []
 
 -- the id of a key is free, if one is, and another one open
@@ -118,14 +118,14 @@ open_after at (Credit booking) table = record table { accounts = booked booking 
 open_after at (Beat further) table = after_beat further table
 
 -- the nodes of the next flit, and what it does
-unfoldable pub allowed_of : Options → Progress → Seen → Result Allowed IdReason
+unfoldable pub allowed_of : Options → IdProgress → Seen → Result Allowed IdReason
 allowed_of options progress seen = do
   ends ← ends_of progress.home progress.requesters seen
   change ← change_of options progress.table ends seen
   Ok (record { ends = ends; change = change })
 
 -- the flit of number at is taken
-abbrev pub taken : ℕ → Allowed → Progress → Progress
+abbrev pub taken : ℕ → Allowed → IdProgress → IdProgress
 taken at allowed progress = record {
   home = with_home allowed.ends progress.home;
   requesters = with_requester allowed.ends progress.requesters;
@@ -133,17 +133,17 @@ taken at allowed progress = record {
 }
 
 -- all flits that are allowed, and the first that isn't
-pub record Outcome : Type 0 where
-  pub progress : Progress
+pub record IdOutcome : Type 0 where
+  pub progress : IdProgress
   pub fault : Option IdFault
 
-abbrev pub ended : ℕ → Progress → Result Allowed IdReason → (Allowed → Outcome) → Outcome
+abbrev pub ended : ℕ → IdProgress → Result Allowed IdReason → (Allowed → IdOutcome) → IdOutcome
 ended at progress (Ok allowed) rest = rest allowed
 ended at progress (Err reason) rest = record { progress = progress; fault = Some (record { at = at; reason = reason }) }
 
-unfoldable pub resolved_from : Options → ℕ → Progress → List Seen → Outcome
+unfoldable pub resolved_from : Options → ℕ → IdProgress → List Seen → IdOutcome
 resolved_from options at progress [] = record { progress = progress; fault = None }
 resolved_from options at progress (seen ∷ rest) = ended at progress (allowed_of options progress seen) (λ allowed. resolved_from options (at + 1) (taken at allowed progress) rest)
 
-abbrev pub resolution_of : Options → List Seen → Outcome
+abbrev pub resolution_of : Options → List Seen → IdOutcome
 resolution_of options seen = resolved_from options 0 nothing seen

@@ -65,9 +65,9 @@ struct Resolver<A: Allocator> {
 }
 
 impl<A: Allocator> Model for Resolver<A> {
-    ghost use Rattle.chi_resolution.specs.Resolution.{Progress, progress_of};
+    ghost use Rattle.chi_resolution.specs.Resolution.{IdProgress, progress_of};
 
-    ghost Value = { Progress };
+    ghost Value = { IdProgress };
 
     ghost view = { λ s.
         progress_of s.nodes.home s.nodes.requesters.items s.ids.entries s.unfinished.entries

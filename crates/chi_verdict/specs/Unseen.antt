@@ -12,19 +12,19 @@ use Rattle.chi_resolution.specs.declared.beats.OpenData.{OpenData}
 use Rattle.chi_resolution.specs.declared.lines.Resolved.{Resolved}
 
 -- the words that the beats have had, and these in place of those that lack
-abbrev pub word_of : List (Option ℕ) → List ℕ → ℕ → ℕ
-word_of beats others n = unwrap_or (slice_index_or beats n None) (slice_index_or others n 0)
+abbrev pub filled_word : List (Option ℕ) → List ℕ → ℕ → ℕ
+filled_word beats others n = unwrap_or (slice_index_or beats n None) (slice_index_or others n 0)
 
 abbrev pub words_with : List (Option ℕ) → List ℕ → List ℕ
 words_with beats others =
-    word_of beats others 0
-    ∷ word_of beats others 1
-    ∷ word_of beats others 2
-    ∷ word_of beats others 3
-    ∷ word_of beats others 4
-    ∷ word_of beats others 5
-    ∷ word_of beats others 6
-    ∷ word_of beats others 7
+    filled_word beats others 0
+    ∷ filled_word beats others 1
+    ∷ filled_word beats others 2
+    ∷ filled_word beats others 3
+    ∷ filled_word beats others 4
+    ∷ filled_word beats others 5
+    ∷ filled_word beats others 6
+    ∷ filled_word beats others 7
     ∷ []
 
 -- data with these words

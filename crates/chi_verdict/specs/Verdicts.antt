@@ -15,7 +15,7 @@ use Rattle.chi_trace.specs.declared.flits.Seen.{Seen}
 use Rattle.chi_trace.specs.declared.opcodes.Opcode.{Opcode}
 use Rattle.chi_trace.specs.declared.opcodes.Opcode.TheVariants.{Load, Store}
 use Rattle.chi_resolution.specs.Changes.{Open}
-use Rattle.chi_resolution.specs.Resolution.{resolution_of, Outcome}
+use Rattle.chi_resolution.specs.Resolution.{resolution_of, IdOutcome}
 use Rattle.chi_resolution.specs.declared.beats.OpenData.{OpenData}
 use Rattle.chi_resolution.specs.declared.ledger.Types.{Types}
 use Rattle.chi_resolution.specs.declared.ledger.Types.TheVariants.{Two, Four, Any}
@@ -92,7 +92,7 @@ abbrev pub trace_outcome_of : Result TraceTotals TraceStop → TraceOutcome
 trace_outcome_of (Ok totals) = Explained totals
 trace_outcome_of (Err stop) = Faulty stop
 
-abbrev pub IsVerdictOf : Options → List Seen → Outcome → TraceOutcome → Type 0
+abbrev pub IsVerdictOf : Options → List Seen → IdOutcome → TraceOutcome → Type 0
 IsVerdictOf options seen resolved outcome = IsTraceJudged (verdict_sizes options.types) options.stores seen resolved.fault (items_of_table resolved.progress.table) outcome
 
 -- what comes of the flits of a trace, and is told of them
