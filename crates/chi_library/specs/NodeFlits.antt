@@ -1,6 +1,6 @@
 -- The flits that a node's calls sent and took, by C's numbers (docs/LIBRARY.md, "A node"): those of their action at its
 -- line (docs/PROTOCOL.md, "The actions" and "Messages").
-use Rattle.std.specs.Prelude.{ℕ, List, [], map, Option, Some, None, ◌==◌, if◌then◌else◌}
+use Rattle.std.specs.Prelude.{List, [], map, Option, Some, None, ◌==◌, if◌then◌else◌}
 use Rattle.chi_flit.specs.declared.action.Action.{Action}
 use Rattle.chi_flit.specs.declared.action.Step.{Step}
 use Rattle.chi_flit.specs.declared.action.Step.TheVariants.{Admit, Retry}

@@ -181,6 +181,7 @@ fn is_in_range(step: Step) -> bool
 }
 
 /// Lists the flits that a step sent, by what stands after it, and answers how many they are.
+#[inline(always)]
 pub(crate) fn list_sent(
     slice: &Slice<Global>,
     at: AgentRow,
