@@ -32,8 +32,8 @@ returns-in-Ok g c =
     (cover_state (written n new old) (string_bytes c.args.self.now.faults) c.args.self.now.fault)
     (subst (λ (l : List ℕ). IsCountedFile c.args.bytes.now old l) (sym (is_written n new old long kept)) file) refl refl
 
-pub returns-in-Err : goal.returns-in-Err
-returns-in-Err g c =
+pub returns-in_ok-hint-in-Err : goal.returns-in_ok-hint-in-Err
+returns-in_ok-hint-in-Err g c =
     let n = c.args.self.now.counts.len in
     let old = c.args.self.now.counts.items in
     let new = c.count_file.new.counts in
