@@ -48,10 +48,10 @@ IsTakenAs m l None answer m' = (answer ≡ 10) × (m' ≡ m)
 IsTakenAs m l (Some seen) answer m' =
     (taken : Result (Unit {0}) NotTaken) × (answer ≡ taken_number taken) × IsObserved (flit_refusal m seen.agent.0 l) m l seen taken m'
 
-abbrev pub IsFlitTaken : Option MonitorState → ℕ → Option SentFlit → ℕ → Option MonitorState → Type 0
-IsFlitTaken None l seen answer new = (answer ≡ 255) × (new ≡ None)
-IsFlitTaken (Some m) l seen answer None = ⊥
-IsFlitTaken (Some m) l seen answer (Some m') = IsTakenAs m l seen answer m'
+abbrev pub IsFlitAnswered : Option MonitorState → ℕ → Option SentFlit → ℕ → Option MonitorState → Type 0
+IsFlitAnswered None l seen answer new = (answer ≡ 255) × (new ≡ None)
+IsFlitAnswered (Some m) l seen answer None = ⊥
+IsFlitAnswered (Some m) l seen answer (Some m') = IsTakenAs m l seen answer m'
 
 -- the reasons of faults, in the order of docs/LIBRARY.md, "A monitor"
 abbrev pub reason_number : LineFault → ℕ

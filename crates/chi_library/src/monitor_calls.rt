@@ -2,7 +2,7 @@
 
 ghost use Rattle.std.specs.Prelude.{◌≡◌, IfOk, None, Some, replicate};
 ghost use Rattle.chi_library.specs.Calls.{IsOpeningCall, answer_number, output_of};
-ghost use Rattle.chi_library.specs.MonitorCalls.{IsExplainedAs, IsExplainedIf, IsFlitTaken, IsTakenAs, IsMonitorOf, all_open_told, fault_told, watched_refusal, monitor_config, no_fault, none_open};
+ghost use Rattle.chi_library.specs.MonitorCalls.{IsExplainedAs, IsExplainedIf, IsFlitAnswered, IsTakenAs, IsMonitorOf, all_open_told, fault_told, watched_refusal, monitor_config, no_fault, none_open};
 ghost use Rattle.chi_library.specs.Numbers.{number_if};
 ghost use Rattle.chi_library.specs.Observed.{observed_of};
 ghost use Rattle.chi_monitor.specs.Watched.{open_flits_at, opening_monitor};
@@ -62,7 +62,7 @@ pub extern "C" fn chi_monitor_flit(
     line: u8,
     sent: &ChiSent,
 ) -> u8
-    ensures { IsFlitTaken monitor.old.value line (observed_of sent.now) result monitor.new.value }
+    ensures { IsFlitAnswered monitor.old.value line (observed_of sent.now) result monitor.new.value }
 {
     match monitor.take(alloc) {
         Some(mut held) => {
