@@ -40,8 +40,8 @@ abbrev pub credits_said : List ℕ → List ℕ
 credits_said line = digit_at line 11 ∷ digit_at line 13 ∷ digit_at line 15 ∷ digit_at line 17 ∷ []
 
 -- a seen credit is beyond those for Riding slots; and a slot is Cancelled
-abbrev pub has_spare_credit : AccountView → CreditType → Bool
-has_spare_credit account ty = nat_lt (count_at_type account.riding ty) (count_at_type account.seen ty)
+abbrev pub has_unused_credit : AccountView → CreditType → Bool
+has_unused_credit account ty = nat_lt (count_at_type account.riding ty) (count_at_type account.seen ty)
 
 abbrev pub has_cancelled : AccountView → CreditType → Bool
 has_cancelled account ty = nat_lt 0 (count_at_type account.cancelled ty)
@@ -99,7 +99,7 @@ found_in numbers = if has_two numbers then founds.TwoOfAType else (
 -- a RetryAck is taken: the grant came first where a credit of its request's type is to spare
 abbrev pub retry_cell : Profile → Option Pending → AccountView → Option Cell
 retry_cell profile None account = None
-retry_cell profile (Some pending) account = Some (cells.RetryTaken pending.kind (has_spare_credit account (credit_type_of profile pending.kind)))
+retry_cell profile (Some pending) account = Some (cells.RetryTaken pending.kind (has_unused_credit account (credit_type_of profile pending.kind)))
 
 -- a resend is refused for its copy's state: 12 would fit too where no credit is to spare
 abbrev pub spare_cell : Bool → Option Cell
@@ -108,12 +108,12 @@ spare_cell false = Some (cells.BothFit verbs.Resend)
 
 abbrev pub resend_cell : Profile → Option Pending → AccountView → Option Cell
 resend_cell profile None account = None
-resend_cell profile (Some pending) account = spare_cell (has_spare_credit account (credit_type_of profile pending.kind))
+resend_cell profile (Some pending) account = spare_cell (has_unused_credit account (credit_type_of profile pending.kind))
 
 -- why no credit is given back
 abbrev pub return_cell : Option CreditType → AccountView → Option Cell
 return_cell None account = None
-return_cell (Some ty) account = Some (cells.NotReturned (has_cancelled account ty) (has_spare_credit account ty))
+return_cell (Some ty) account = Some (cells.NotReturned (has_cancelled account ty) (has_unused_credit account ty))
 
 abbrev pub account_cell : Option Refusal → Verb → Option Scene → Profile → Option CreditType → List ℕ → AccountView → Option Cell
 account_cell None verbs.See before profile ty line account = Some (cells.Seen (found_in (credits_said line)))

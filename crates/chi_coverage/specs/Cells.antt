@@ -88,11 +88,11 @@ shown_name showns.Flagged = codes "n has the flag"
 shown_name showns.Named = codes "n is named without the flag"
 shown_name showns.Owner = codes "n is the owner"
 
-abbrev pub credits_text : CreditsFound → List ℕ
-credits_text founds.Nothing = codes "none"
-credits_text founds.One = codes "one"
-credits_text founds.TwoOfAType = codes "two of a type"
-credits_text founds.SeveralTypes = codes "of two types"
+abbrev pub credits_found_text : CreditsFound → List ℕ
+credits_found_text founds.Nothing = codes "none"
+credits_found_text founds.One = codes "one"
+credits_found_text founds.TwoOfAType = codes "two of a type"
+credits_found_text founds.SeveralTypes = codes "of two types"
 
 abbrev pub stage_text : Stage → List ℕ
 stage_text stages.Sent = codes "its first attempt in flight"
@@ -170,7 +170,7 @@ cell_text cells.OwnGrant = codes "granted to itself"
 cell_text cells.TendIdle = codes "tend: idle"
 cell_text (cells.RetryTaken kind true) = codes "retryack: " ++ (kind_text kind ++ codes ", the grant first")
 cell_text (cells.RetryTaken kind false) = codes "retryack: " ++ (kind_text kind ++ codes ", RetryAck first")
-cell_text (cells.Seen found) = codes "see: " ++ credits_text found
+cell_text (cells.Seen found) = codes "see: " ++ credits_found_text found
 cell_text (cells.BeforeFull verb true) = verb_text verb ++ codes ": 3 before 1"
 cell_text (cells.BeforeFull verb false) = verb_text verb ++ codes ": 2 before 1"
 cell_text cells.LoadBehindStore = codes "a load behind a store"

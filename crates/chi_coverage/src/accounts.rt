@@ -1,7 +1,7 @@
 //! What the answers so far show of an agent's account, and the cells that it shows.
 
 ghost use Rattle.std.specs.Prelude.{◌≡◌, ◌<◌, ◌≤◌, IfOk};
-ghost use Rattle.chi_coverage.specs.Accounts.{told_account_after, account_cell, after_arrival, after_cancel, after_resend, after_return, after_see, after_spend, credits_said, digit_at, found_in, has_cancelled, has_spare_credit, has_two, count_at_type, one_less, one_credit_more, resend_cell, retry_cell, return_cell, some_place, types_seen};
+ghost use Rattle.chi_coverage.specs.Accounts.{told_account_after, account_cell, after_arrival, after_cancel, after_resend, after_return, after_see, after_spend, credits_said, digit_at, found_in, has_cancelled, has_unused_credit, has_two, count_at_type, one_less, one_credit_more, resend_cell, retry_cell, return_cell, some_place, types_seen};
 ghost use Rattle.chi_coverage.specs.Said.{refusal_in};
 
 use crate::answers::refusal_in;
@@ -82,8 +82,8 @@ fn credits_said(line: &[u8]) -> [u64; 4]
 
 impl AccountView {
     /// Whether a seen credit of the type is beyond those for the Riding slots.
-    fn has_spare_credit(&self, credit: CreditType) -> bool
-        ensures { result ≡ has_spare_credit self.now credit }
+    fn has_unused_credit(&self, credit: CreditType) -> bool
+        ensures { result ≡ has_unused_credit self.now credit }
     {
         count_at_type(&self.riding, credit) < count_at_type(&self.seen, credit)
     }
@@ -251,7 +251,7 @@ fn retry_cell(profile: Profile, pending: Option<Pending>, account: &AccountView)
     ensures { result ≡ retry_cell profile pending account.now }
 {
     let kind = pending?.kind;
-    let granted = account.has_spare_credit(credit_type(profile, kind));
+    let granted = account.has_unused_credit(credit_type(profile, kind));
     Some(Cell::RetryTaken(kind, granted))
 }
 
@@ -259,7 +259,7 @@ fn retry_cell(profile: Profile, pending: Option<Pending>, account: &AccountView)
 fn resend_cell(profile: Profile, pending: Option<Pending>, account: &AccountView) -> Option<Cell>
     ensures { result ≡ resend_cell profile pending account.now }
 {
-    if account.has_spare_credit(credit_type(profile, pending?.kind)) {
+    if account.has_unused_credit(credit_type(profile, pending?.kind)) {
         None
     } else {
         Some(Cell::BothFit(Verb::Resend))
@@ -272,7 +272,7 @@ fn return_cell(credit: Option<CreditType>, account: &AccountView) -> Option<Cell
 {
     let credit = credit?;
     let cancelled = account.has_cancelled(credit);
-    Some(Cell::NotReturned(cancelled, account.has_spare_credit(credit)))
+    Some(Cell::NotReturned(cancelled, account.has_unused_credit(credit)))
 }
 
 /// The cell that an agent's account shows.

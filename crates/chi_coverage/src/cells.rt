@@ -1,7 +1,7 @@
 //! The cells of the protocol's tables.
 
 ghost use Rattle.std.specs.Prelude.{◌≡◌, Some};
-ghost use Rattle.chi_coverage.specs.Cells.{cell_if, cell_text, form_text, credits_text, is_crossing_unreachable, is_unreachable, is_write_unreachable, reason_text, section_text, shown_name, stage_text, verb_text};
+ghost use Rattle.chi_coverage.specs.Cells.{cell_if, cell_text, form_text, credits_found_text, is_crossing_unreachable, is_unreachable, is_write_unreachable, reason_text, section_text, shown_name, stage_text, verb_text};
 
 use chi_flit::{CreditType, Kind, Profile, Snoop, State};
 use std::fmt;
@@ -347,7 +347,7 @@ impl fmt::Display for Shown {
 
 impl CreditsFound {
     fn name(self) -> &'static str
-        ensures { result.now ≡ credits_text self }
+        ensures { result.now ≡ credits_found_text self }
     {
         match self {
             CreditsFound::Nothing => "none",
@@ -359,7 +359,7 @@ impl CreditsFound {
 }
 
 impl fmt::Display for CreditsFound {
-    ghost output = { λ found. Some (credits_text found) };
+    ghost output = { λ found. Some (credits_found_text found) };
 
     fn fmt<W: fmt::Write>(&self, f: &mut fmt::Formatter<W>) -> fmt::Result {
         f.write_str(self.name())
