@@ -1,3 +1,4 @@
 pub mod Equal
+pub mod Below
 pub mod Keeps
 pub mod Without

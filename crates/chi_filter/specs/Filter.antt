@@ -10,6 +10,10 @@ pub record FilterState : Type 0 where
   pub unique : Bool
   pub owner : Option Agent
 
+-- the filter of these parts
+abbrev pub filter_of_parts : List Bool → Bool → Option Agent → FilterState
+filter_of_parts named unique owner = record { named = named; unique = unique; owner = owner }
+
 -- the empty set
 abbrev pub nobody : List Bool
 nobody = replicate 8 false
@@ -82,3 +86,16 @@ pub record IsFilter (f : FilterState) : Type 0 where
   pub flag_names_no_other : f.unique ≡ true → (n m : ℕ) → n < 8 → m < 8 → is_named f n ≡ true → is_named f m ≡ true → n ≡ m
   -- the owner is one of the named
   pub owner_named : (n : ℕ) → owned_by f.owner n ≡ true → is_named f n ≡ true
+
+-- what is tested of a filter's parts: whether one agent at most is in a set, and whether an owner is in it
+abbrev pub IsAlone : List Bool → ℕ → ℕ → Type 0
+IsAlone set n m = is_in set n ≡ true → is_in set m ≡ true → n ≡ m
+
+abbrev pub AreApart : List Bool → ℕ → Type 0
+AreApart set n = (m : ℕ) → m < 8 → IsAlone set n m
+
+abbrev pub HasOneAtMost : List Bool → Type 0
+HasOneAtMost set = (n : ℕ) → n < 8 → AreApart set n
+
+abbrev pub IsOwnerIn : List Bool → Option Agent → Type 0
+IsOwnerIn set owner = (n : ℕ) → owned_by owner n ≡ true → is_in set n ≡ true

@@ -1,7 +1,7 @@
 //! The agents that may hold one line.
 
-ghost use Rattle.std.specs.Prelude.{◌≡◌, ◌<◌, true, ⊤};
-ghost use Rattle.chi_filter.specs.Filter.{FilterState, IsFilter, filter_with, empty_filter, has_any, is_named, only_named, others_than, owner_ended, owner_made, owner_set, owner_without, filter_without, filter_without_flag};
+ghost use Rattle.std.specs.Prelude.{◌≡◌, ◌<◌, ◌↔◌, IfSome, IsTrue, is_some, true, ⊤};
+ghost use Rattle.chi_filter.specs.Filter.{AreApart, FilterState, HasOneAtMost, IsAlone, IsFilter, IsOwnerIn, filter_of_parts, filter_with, empty_filter, has_any, is_named, only_named, others_than, owner_ended, owner_made, owner_set, owner_without, filter_without, filter_without_flag, is_in};
 
 use crate::sets::{only_set, others_than};
 use chi_flit::Agent;
@@ -35,6 +35,64 @@ fn owner_set(owner: Option<Agent>) -> [bool; 8]
         Some(owner) if owner.0 < 8 => only_set(owner),
         Some(_) | None => [false; 8],
     }
+}
+
+/// Whether these parts are a filter's.
+fn is_filter(named: &[bool; 8], unique: bool, owner: Option<Agent>) -> bool
+    ensures { IsTrue result ↔ IsFilter (filter_of_parts named.now unique owner) }
+{
+    let alone = has_any(named) && has_one_at_most(named);
+    (!unique || alone) && is_owner_in(named, owner)
+}
+
+/// Whether an owner, if there is one, is in a set.
+fn is_owner_in(agents: &[bool; 8], owner: Option<Agent>) -> bool
+    ensures { IsTrue result ↔ IsOwnerIn agents.now owner }
+{
+    match owner {
+        Some(owner) => is_in(agents, owner),
+        None => true,
+    }
+}
+
+/// Whether an agent is in a set.
+#[tactic(auto, using(std::proofs::lemmas::List::get_or_past))]
+fn is_in(agents: &[bool; 8], agent: Agent) -> bool
+    ensures { result ≡ is_in agents.now agent.0 }
+{
+    agent.0 < 8 && agents[usize::from(agent.0)]
+}
+
+/// Whether one agent at most is in a set.
+fn has_one_at_most(agents: &[bool; 8]) -> bool
+    ensures { IsTrue result ↔ HasOneAtMost agents.now }
+{
+    let mut alone = true;
+    for agent in 0..8 {
+        alone &= is_alone(agents, agent);
+    }
+    alone
+}
+
+/// Whether nobody but the agent is in a set, if it is.
+fn is_alone(agents: &[bool; 8], agent: usize) -> bool
+    requires { agent < 8 }
+    ensures { IsTrue result ↔ AreApart agents.now agent }
+{
+    let mut alone = true;
+    for other in 0..8 {
+        alone &= is_alone_beside(agents, agent, other);
+    }
+    alone
+}
+
+/// Whether not two agents are in a set.
+fn is_alone_beside(agents: &[bool; 8], agent: usize, other: usize) -> bool
+    requires agent { agent < 8 }
+    requires other { other < 8 }
+    ensures { IsTrue result ↔ IsAlone agents.now agent other }
+{
+    agent == other || !agents[agent] || !agents[other]
 }
 
 /// The agents that the home names as possible holders of a line, a flag that is set only where one agent
@@ -85,6 +143,25 @@ impl Filter {
             unique: false,
             owner: None,
         }
+    }
+
+    /// The filter that names these agents, a mark for each agent number, with this flag and this owner.
+    ///
+    /// `None` exactly where that is no filter: the flag is set and not one agent alone is named, or the owner
+    /// isn't named.
+    /// Source: `docs/PROTOCOL.md`, "The filter".
+    pub fn of_parts(named: [bool; 8], unique: bool, owner: Option<Agent>) -> Option<Filter>
+        ensures parts { IfSome result (λ filter. filter ≡ filter_of_parts named unique owner) }
+        ensures exactly { IsTrue (is_some result) ↔ IsFilter (filter_of_parts named unique owner) }
+    {
+        if !is_filter(&named, unique, owner) {
+            return None;
+        }
+        Some(Filter {
+            named,
+            unique,
+            owner,
+        })
     }
 
     /// Names the agent; the flag stays only where the agent was named already, and who else is named and

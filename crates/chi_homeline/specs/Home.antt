@@ -43,6 +43,10 @@ pub record Home : Type 0 where
 abbrev pub nothing_waits : List (Option Waiting)
 nothing_waits = replicate 8 None
 
+-- the home of these parts
+abbrev pub home_of_parts : List ℕ → FilterState → Serving → List Bool → List (Option Waiting) → Home
+home_of_parts memory filter serving awaited waiting = record { memory = memory; filter = filter; serving = serving; awaited = awaited; waiting = waiting }
+
 -- memory 0, nobody named, nothing served, nothing waiting
 abbrev pub idle_home : Home
 idle_home = record { memory = no_words; filter = empty_filter; serving = Idle; awaited = nobody; waiting = nothing_waits }

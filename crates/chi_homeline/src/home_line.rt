@@ -1,9 +1,9 @@
 //! One line at the home.
 
-ghost use Rattle.std.specs.Prelude.{◌≡◌, ◌<◌, ℕ, List, IfOk, OnErr, None, Some, false, is_some, true, ⊤};
+ghost use Rattle.std.specs.Prelude.{◌≡◌, ◌<◌, ◌↔◌, ℕ, List, IfSome, IsTrue, IfOk, OnErr, None, Some, false, is_some, true, ⊤};
 ghost use Rattle.chi_flit.specs.Refusal.{refusal_of};
 ghost use Rattle.chi_filter.specs.Filter.{is_named};
-ghost use Rattle.chi_homeline.specs.Home.{Home, home_after_ack, acks_for, home_after_admit, answer_taken, asks, home_after_completion, completes_unique, completion_form, data_to_send, finished_home, finished_sends, idle_home, leaves, home_after_service, served_kind, served_sends, served_slot, snoop_answered, snoop_answered_sends, start_refusal, home_after_start, started_as, started_sends, started_with, waiting_of, writes_for, home_after_write};
+ghost use Rattle.chi_homeline.specs.Home.{Home, IsServedInRange, home_of_parts, home_after_ack, acks_for, home_after_admit, answer_taken, asks, home_after_completion, completes_unique, completion_form, data_to_send, finished_home, finished_sends, idle_home, leaves, home_after_service, served_kind, served_sends, served_slot, snoop_answered, snoop_answered_sends, start_refusal, home_after_start, started_as, started_sends, started_with, waiting_of, writes_for, home_after_write};
 ghost use Rattle.chi_flit.specs.declared.kind.Kind.{Kind};
 ghost use Rattle.chi_flit.specs.declared.numbers.Slot.{Slot};
 ghost use Rattle.chi_homeline.specs.declared.serving.Completion.{Completion};
@@ -55,6 +55,18 @@ impl Clone for HomeLine {
     }
 }
 
+/// Whether the agent that is served, if one is, is one of the eight.
+fn is_served_in_range(serving: Serving) -> bool
+    ensures { IsTrue result ↔ IsServedInRange serving }
+{
+    match serving {
+        Serving::Idle => true,
+        Serving::Snooping { agent, .. }
+        | Serving::AwaitingCompAck { agent, .. }
+        | Serving::AwaitingWriteData { agent, .. } => agent.0 < 8,
+    }
+}
+
 impl HomeLine {
     /// A line that nobody holds and whose memory is 0, with nothing waiting or served.
     /// Source: `docs/PROTOCOL.md`, "One line".
@@ -68,6 +80,33 @@ impl HomeLine {
             awaited: [false; 8],
             waiting: [None; 8],
         }
+    }
+
+    /// What a home keeps of a line, of these parts: arrays go by agent number.
+    ///
+    /// `None` exactly where the agent that is served, if one is, isn't one of the eight.
+    /// Source: `docs/PROTOCOL.md`, "One line".
+    pub fn of_parts(
+        memory: Data,
+        filter: Filter,
+        serving: Serving,
+        awaited: [bool; 8],
+        waiting: [Option<Waiting>; 8],
+    ) -> Option<HomeLine>
+        ensures parts { IfSome result (λ home. home
+            ≡ home_of_parts memory filter serving awaited waiting) }
+        ensures exactly { IsTrue (is_some result) ↔ IsServedInRange serving }
+    {
+        if !is_served_in_range(serving) {
+            return None;
+        }
+        Some(HomeLine {
+            memory,
+            filter,
+            serving,
+            awaited,
+            waiting,
+        })
     }
 
     /// Lets the agent's request in: it waits, in place of any that waited. All else stays.

@@ -27,6 +27,10 @@ pub record Rn : Type 0 where
   pub words : List ℕ
   pub pending : Option Pending
 
+-- a copy in a state and with its data, and what is pending
+abbrev pub rn_of_parts : State → List ℕ → Option Pending → Rn
+rn_of_parts state words pending = record { state = state; words = words; pending = pending }
+
 -- no copy, and nothing pending
 abbrev pub no_line : Rn
 no_line = record { state = I; words = no_words; pending = None }

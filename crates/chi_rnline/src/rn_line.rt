@@ -1,7 +1,7 @@
 //! One requester's copy and pending request of one line.
 
 ghost use Rattle.std.specs.Prelude.{◌≡◌, ◌<◌, OnErr, IfOk, Some, None, true, false, is_some, ⊤};
-ghost use Rattle.chi_rnline.specs.Rn.{Rn, cancel_refusal, rn_after_cancel, rn_after_comp, dbid_taken, drop_refusal, rn_after_drop, rn_after_evict, is_clean_copy, issue_refusal, rn_after_issue, load_refusal, may_resend, no_line, rn_after_data, request_message, resend_refusal, rn_after_resend, rn_after_retry, rn_after_snoop, state_after_clean, state_after_comp, state_after_write, store_refusal, rn_after_store, word_of};
+ghost use Rattle.chi_rnline.specs.Rn.{Rn, cancel_refusal, rn_of_parts, rn_after_cancel, rn_after_comp, dbid_taken, drop_refusal, rn_after_drop, rn_after_evict, is_clean_copy, issue_refusal, rn_after_issue, load_refusal, may_resend, no_line, rn_after_data, request_message, resend_refusal, rn_after_resend, rn_after_retry, rn_after_snoop, state_after_clean, state_after_comp, state_after_write, store_refusal, rn_after_store, word_of};
 ghost use Rattle.chi_rnline.specs.declared.pending.Pending.{Pending};
 ghost use Rattle.chi_flit.specs.Message.{write_data_of};
 ghost use Rattle.chi_flit.specs.Refusal.{refusal_of};
@@ -59,6 +59,18 @@ impl RnLine {
             state: State::I,
             words: NO_DATA,
             pending: None,
+        }
+    }
+
+    /// A line with this copy, and with this request pending.
+    /// Source: `docs/PROTOCOL.md`, "One line".
+    pub fn of_parts(state: State, words: Data, pending: Option<Pending>) -> RnLine
+        ensures { result ≡ rn_of_parts state words pending }
+    {
+        RnLine {
+            state,
+            words,
+            pending,
         }
     }
 

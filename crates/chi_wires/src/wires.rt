@@ -56,6 +56,14 @@ impl Wires {
         }
     }
 
+    /// What is in flight in these cells of the agents, by their numbers.
+    /// Source: `docs/PROTOCOL.md`, "Messages".
+    pub fn of_parts(cells: [Cells; 8]) -> Wires
+        ensures { result ≡ cells }
+    {
+        Wires { cells }
+    }
+
     /// The cells of all agents, by their numbers.
     /// Source: `docs/PROTOCOL.md`, "Messages".
     pub fn all(&self) -> [Cells; 8]
