@@ -3,6 +3,7 @@ use Rattle.std.specs.Prelude.{ℕ, ◌+◌, ◌/◌, ◌%◌, List, [], ◌∷�
 use Rattle.chi_flit.specs.declared.credit.Profile.{Profile}
 use Rattle.chi_flit.specs.declared.credit.Profile.TheVariants.{Two, Four}
 
+-- (a journal of 0 records keeps none, and has no end)
 pub record Sizes : Type 0 where
   pub agents : ℕ
   pub lines : ℕ
@@ -42,7 +43,7 @@ are_entries profile entries = false
 abbrev pub are_in_limits : Sizes → Bool
 are_in_limits c =
     is_between 1 8 c.agents
-    && (is_between 1 64 c.lines && (is_slice_count c.slices && (nat_le c.slices c.lines && (is_between 1 65536 c.journal && are_entries c.profile c.entries))))
+    && (is_between 1 64 c.lines && (is_slice_count c.slices && (nat_le c.slices c.lines && (nat_le c.journal 65536 && are_entries c.profile c.entries))))
 
 -- the sizes, where they are in the limits
 abbrev pub config_if : Sizes → Option Sizes

@@ -65,13 +65,13 @@ fn are_sizes(agents: u8, lines: u8, slices: u8, journal: u32) -> bool
     ensures { result
         ≡ (is_between 1 8 agents &&
         (is_between 1 64 lines &&
-        (is_slice_count slices && (nat_le slices lines && is_between 1 65536 journal)))) }
+        (is_slice_count slices && (nat_le slices lines && nat_le journal 65536)))) }
 {
     is_between(1, 8, u32::from(agents))
         && is_between(1, 64, u32::from(lines))
         && is_slice_count(slices)
         && slices <= lines
-        && is_between(1, 65536, journal)
+        && journal <= 65536
 }
 
 /// Whether there may be so many entries of two types.
@@ -92,8 +92,8 @@ fn are_four_entries(entries: [u16; 4]) -> bool
 
 impl Config {
     /// A node of two credit types, with `t0` and `t1` entries of them: `agents` requesters, `lines` lines
-    /// in `slices` slices, and `journal` records a slice. `None` exactly where a number is outside its
-    /// limits.
+    /// in `slices` slices, and `journal` records a slice, where 0 keeps none and has no end. `None` exactly
+    /// where a number is outside its limits.
     /// Source: `docs/PROTOCOL.md`, "Limits".
     pub fn new(agents: u8, lines: u8, slices: u8, t0: u16, t1: u16, journal: u32) -> Option<Config>
         ensures { result ≡ config_if (two_types agents lines slices t0 t1 journal) }
@@ -112,7 +112,8 @@ impl Config {
     }
 
     /// A node of four credit types, with so many entries of each: `agents` requesters, `lines` lines in
-    /// `slices` slices, and `journal` records a slice. `None` exactly where a number is outside its limits.
+    /// `slices` slices, and `journal` records a slice, where 0 keeps none and has no end. `None` exactly where
+    /// a number is outside its limits.
     /// Source: `docs/PROTOCOL.md`, "Limits".
     pub fn four(
         agents: u8,
@@ -212,7 +213,8 @@ impl Config {
         self.entries
     }
 
-    /// The number of records that the journal of a slice may have, 1 to 65,536.
+    /// The number of records that the journal of a slice may have, up to 65,536; 0 where it keeps none, and has
+    /// no end.
     /// Source: `docs/PROTOCOL.md`, "Limits".
     pub fn journal(&self) -> u32
         ensures value { result ≡ self.now.journal }

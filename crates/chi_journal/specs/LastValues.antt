@@ -1,5 +1,4 @@
--- Of the representation alone: a table of the words of each line (docs/PROTOCOL.md, "The journal and last
--- values").
+-- A table of the words of each line (docs/PROTOCOL.md, "The journal and last values").
 use Rattle.std.specs.Prelude.{ℕ, List, [], get_or, slice_set}
 use Rattle.chi_journal.specs.declared.record.Record.{Record}
 use Rattle.chi_journal.specs.declared.record.Record.TheVariants.{Load, Store}

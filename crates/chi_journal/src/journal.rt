@@ -1,20 +1,23 @@
 //! A journal of loads and stores with a limit.
 
-ghost use Rattle.std.specs.Prelude.{◌≡◌, ◌<◌, ◌≤◌, ◌↔◌, length, IfOk, OnErr, IsTrue};
+ghost use Rattle.std.specs.Prelude.{◌≡◌, ◌<◌, ◌≤◌, ◌↔◌, false, length, IfNone, IfOk, IfSome, OnErr, IsTrue};
 ghost use Rattle.chi_flit.specs.Refusal.{refusal_of};
 ghost use Rattle.chi_journal.specs.Record.{record_agent, record_line, record_word};
-ghost use Rattle.chi_journal.specs.Journal.{IsLegal, Log, append_refusal, log_with, is_full, last_value, last_words, loads_of, opening_log, part_of, stores_of};
+ghost use Rattle.chi_journal.specs.Journal.{IsLegalLog, Log, LogKept, append_refusal, keeps_records, line_words, load_count, log_with, is_full, opening_log, part_count, store_count, unrecorded_log, word_value};
+ghost use Rattle.chi_journal.specs.LastValues.{words_in_row};
+ghost use Rattle.chi_journal.specs.Totals.{are_counts, most_counted};
 
 use crate::last_values::LastValues;
 use crate::record::Record;
 use crate::totals::JournalTotals;
-use chi_flit::{Agent, Data, Line, NoMemory, Refusal, WordNo};
+use chi_flit::{Agent, Data, Line, NO_DATA, NoMemory, Refusal, WordNo};
 use std::alloc::Allocator;
 use std::marker::Model;
 
-/// The loads and stores that were answered, in their order, up to a limit. Contracts see it as a `Log`:
-/// the records, the limit, and the number of lines. No question walks over the records: how many there
-/// are of each sort, the last values and whether they are legal are kept beside them.
+/// The loads and stores that were answered, in their order, up to a limit; or, where the limit is 0, no
+/// records, and no end. Contracts see it as a `Log`: the records, the limit, the number of lines, and what is
+/// kept of loads and stores without records. No question walks over the records: how many there are of each
+/// sort, the last values and whether they are legal are kept beside them.
 /// Source: `docs/PROTOCOL.md`, "The journal and last values".
 #[derive(Drop)]
 pub struct Journal<A: Allocator> {
@@ -25,21 +28,20 @@ pub struct Journal<A: Allocator> {
 }
 
 impl<A: Allocator> Model for Journal<A> {
-    ghost use Rattle.std.specs.Prelude.{length};
     ghost use Rattle.std.specs.Vec.{vec_capacity};
     ghost use Rattle.chi_journal.specs.Journal.{Log};
-    ghost use Rattle.chi_journal.specs.Tracked.{IsTracked};
+    ghost use Rattle.chi_journal.specs.Tracked.{IsJournal, log_of};
 
     ghost Value = { Log };
 
-    ghost view = { λ journal. record { entries = journal.records.items; limit = journal.limit; lines = length journal.last } };
+    ghost view = { λ journal. log_of journal.records.items journal.limit journal.last journal.totals };
 
-    ghost invariant = { λ journal. IsTracked journal.records.items journal.limit (vec_capacity journal.records) journal.last journal.totals };
+    ghost invariant = { λ journal. IsJournal journal.records.items journal.limit (vec_capacity journal.records) journal.last journal.totals };
 }
 
 impl<A: Allocator + Copy> Journal<A> {
-    /// An empty journal for so many lines, with room for `limit` records: all memory that it ever needs
-    /// is found here. Refused where it runs out.
+    /// An empty journal for so many lines, with room for `limit` records, or, for a limit of 0, one without
+    /// records and without an end: all memory that it ever needs is found here. Refused where it runs out.
     /// Source: `docs/PROTOCOL.md`, "The journal and last values".
     pub fn with_limit(alloc: A, lines: u8, limit: u32) -> Result<Journal<A>, NoMemory>
         ensures { IfOk result (λ journal. journal ≡ opening_log lines limit) }
@@ -52,6 +54,30 @@ impl<A: Allocator + Copy> Journal<A> {
             last,
             totals: JournalTotals::new(),
         })
+    }
+
+    /// A journal of limit 0, which keeps no records, with these last words of each line and these totals; `None`
+    /// where a count is above 2^58 - 1. All memory that it ever needs is found here; refused where it runs out.
+    /// Source: `docs/PROTOCOL.md`, "The journal and last values".
+    #[tactic(auto, using(crate::proofs::Append::unrecorded_journal))]
+    pub fn without_records(
+        alloc: A,
+        words: &[Data],
+        totals: JournalTotals,
+    ) -> Result<Option<Journal<A>>, NoMemory>
+        ensures some { IfOk result (λ made. IfSome made
+            (λ journal. journal ≡ unrecorded_log words.now totals)) }
+        ensures none { IfOk result (λ made. IfNone made (are_counts totals ≡ false)) }
+    {
+        if !totals.are_counts() {
+            return Ok(None);
+        }
+        Ok(Some(Journal {
+            records: Vec::new(alloc),
+            limit: 0,
+            last: LastValues::of_words(alloc, words)?,
+            totals,
+        }))
     }
 
     /// A journal that is the same, in memory of this allocator: all memory that it ever needs is found
@@ -73,9 +99,10 @@ impl<A: Allocator + Copy> Journal<A> {
 }
 
 impl<A: Allocator> Journal<A> {
-    /// Appends a record, as the last one; the limit and the number of lines stay. It takes no memory.
+    /// Appends a record, as the last one; where the limit is 0 the last values and the totals follow it, and
+    /// no record is kept. The limit and the number of lines stay. It takes no memory.
     ///
-    /// Refused 1 (JournalFull) where the journal holds exactly its limit; nothing changes then.
+    /// Refused 1 (JournalFull) where the journal has a limit and holds exactly as many; nothing changes then.
     /// Conditions: the record's agent is below 8, its line below the number of lines, and its word below
     /// 8.
     /// Source: `docs/PROTOCOL.md`, "Refusals".
@@ -93,16 +120,18 @@ impl<A: Allocator> Journal<A> {
         let last = self.last.value(entry.line(), entry.word());
         self.totals.count(entry, last);
         self.last.follow(entry);
-        self.records.push_reserved(entry);
+        if self.limit > 0 {
+            self.records.push_reserved(entry);
+        }
         Ok(())
     }
 
-    /// Whether the journal holds exactly its limit.
+    /// Whether the journal has a limit, and holds exactly as many records.
     /// Source: `docs/PROTOCOL.md`, "The journal and last values".
     pub fn is_full(&self) -> bool
         ensures { result ≡ is_full self.now }
     {
-        self.records.len() == self.limit as usize
+        self.limit > 0 && self.records.len() == self.limit as usize
     }
 
     /// The value of the last store to a word, or 0 where there is none.
@@ -112,7 +141,7 @@ impl<A: Allocator> Journal<A> {
     pub fn last(&self, line: Line, word: WordNo) -> u64
         requires line { line.0 < self.now.lines }
         requires word { word.0 < 8 }
-        ensures { result ≡ last_value self.now.entries line.0 word.0 }
+        ensures { result ≡ word_value self.now line.0 word.0 }
     {
         self.last.value(line, word)
     }
@@ -123,34 +152,36 @@ impl<A: Allocator> Journal<A> {
     /// Source: `docs/PROTOCOL.md`, "The journal and last values".
     pub fn last_words(&self, line: Line) -> Data
         requires { line.0 < self.now.lines }
-        ensures { result ≡ last_words self.now.entries line.0 }
+        ensures { result ≡ line_words self.now line.0 }
     {
         self.last.words(line)
     }
 
-    /// How many loads there are.
+    /// How many loads there were, at most 2^58 - 1.
     /// Source: `docs/PROTOCOL.md`, "The journal and last values".
-    pub fn loads(&self) -> u32
-        ensures { result ≡ loads_of self.now.entries }
+    pub fn loads(&self) -> u64
+        ensures is { result ≡ load_count self.now }
+        ensures few { result ≤ most_counted }
     {
         self.totals.loads
     }
 
-    /// How many stores there are.
+    /// How many stores there were, at most 2^58 - 1.
     /// Source: `docs/PROTOCOL.md`, "The journal and last values".
-    pub fn stores(&self) -> u32
-        ensures { result ≡ stores_of self.now.entries }
+    pub fn stores(&self) -> u64
+        ensures is { result ≡ store_count self.now }
+        ensures few { result ≤ most_counted }
     {
         self.totals.stores
     }
 
-    /// How many records of the agent there are. All records are no more than the limit.
+    /// How many loads and stores of the agent there were. All records are no more than the limit.
     ///
     /// Conditions: the agent's number is below 8.
     /// Source: `docs/PROTOCOL.md`, "The journal and last values".
-    pub fn part_len(&self, agent: Agent) -> u32
+    pub fn part_len(&self, agent: Agent) -> u64
         requires { agent.0 < 8 }
-        ensures is { result ≡ length (part_of self.now.entries agent.0) }
+        ensures is { result ≡ part_count self.now agent.0 }
         ensures within { length self.now.entries ≤ self.now.limit }
     {
         self.totals.parts[usize::from(agent.0)]
@@ -159,9 +190,37 @@ impl<A: Allocator> Journal<A> {
     /// Whether each load had the value that was stored last before it.
     /// Source: `docs/PROTOCOL.md`, "The journal and last values".
     pub fn legal(&self) -> bool
-        ensures { IsTrue result ↔ IsLegal self.now.entries }
+        ensures { IsTrue result ↔ IsLegalLog self.now }
     {
         self.totals.legal
+    }
+
+    /// The last words of a line by loads and stores that have no record: each 0 where records are kept.
+    ///
+    /// Conditions: the line is below the number of lines.
+    /// Source: `docs/PROTOCOL.md`, "The journal and last values".
+    #[tactic(auto, using(crate::proofs::Append::no_words_at))]
+    pub fn unrecorded_words(&self, line: Line) -> Data
+        requires { line.0 < self.now.lines }
+        ensures { result ≡ words_in_row self.now.words line.0 }
+    {
+        if self.limit > 0 {
+            NO_DATA
+        } else {
+            self.last.words(line)
+        }
+    }
+
+    /// The totals of loads and stores that have no record: nothing is counted where records are kept.
+    /// Source: `docs/PROTOCOL.md`, "The journal and last values".
+    pub fn unrecorded_totals(&self) -> JournalTotals
+        ensures { result ≡ self.now.totals }
+    {
+        if self.limit > 0 {
+            JournalTotals::new()
+        } else {
+            self.totals
+        }
     }
 
     /// How many records there are.
@@ -172,7 +231,7 @@ impl<A: Allocator> Journal<A> {
         self.records.len()
     }
 
-    /// How many records there may be.
+    /// How many records there may be; 0 where none are kept, and there is no end.
     /// Source: `docs/PROTOCOL.md`, "The journal and last values".
     pub fn limit(&self) -> u32
         ensures { result ≡ self.now.limit }
@@ -183,13 +242,14 @@ impl<A: Allocator> Journal<A> {
     /// The number of lines whose last values are kept.
     /// Source: `docs/PROTOCOL.md`, "The journal and last values".
     pub fn lines(&self) -> usize
-        ensures { result ≡ self.now.lines }
+        ensures is { result ≡ self.now.lines }
+        ensures kept { LogKept self.now }
     {
         self.last.lines()
     }
 
-    /// Whether the journals are the same: their records in their order, their limits, and their numbers of
-    /// lines.
+    /// Whether the journals are the same: their records in their order, their limits, their numbers of lines,
+    /// and what is kept without records.
     /// Source: `docs/PROTOCOL.md`, "The journal and last values".
     #[tactic(auto, using(crate::proofs::Equal::all_entries))]
     pub fn equals(&self, other: &Journal<A>) -> bool
@@ -198,9 +258,21 @@ impl<A: Allocator> Journal<A> {
         self.limit == other.limit
             && self.lines() == other.lines()
             && self.records() == other.records()
+            && (self.limit > 0 || self.has_same_totals(other))
     }
 
-    /// The records, in their order.
+    /// Whether the last values and the totals are the same.
+    #[tactic(auto, using(crate::proofs::Equal::totals))]
+    fn has_same_totals(&self, other: &Journal<A>) -> bool
+        requires own { keeps_records self.now ≡ false }
+        requires others { keeps_records other.now ≡ false }
+        ensures { IsTrue result
+            ↔ (self.now.words ≡ other.now.words) × (self.now.totals ≡ other.now.totals) }
+    {
+        self.last.equals(&other.last) && self.totals == other.totals
+    }
+
+    /// The records, in their order; none where the limit is 0.
     /// Source: `docs/PROTOCOL.md`, "The journal and last values".
     pub fn records(&self) -> &[Record]
         ensures { result.now ≡ self.now.entries }

@@ -1,6 +1,6 @@
 //! The last value of each word of each line.
 
-ghost use Rattle.std.specs.Prelude.{◌≡◌, ◌<◌, length, replicate, IfOk};
+ghost use Rattle.std.specs.Prelude.{◌≡◌, ◌<◌, ◌↔◌, length, replicate, IfOk, IsTrue};
 ghost use Rattle.chi_flit.specs.Message.{no_words};
 ghost use Rattle.chi_journal.specs.Record.{record_line, record_word};
 ghost use Rattle.chi_journal.specs.LastValues.{rows_after, value_at, words_in_row};
@@ -37,6 +37,15 @@ impl<A: Allocator> LastValues<A> {
         Ok(LastValues { rows })
     }
 
+    /// Lines of these words. Refused where memory runs out.
+    pub fn of_words(alloc: A, words: &[Data]) -> Result<LastValues<A>, NoMemory>
+        ensures { IfOk result (λ last. last ≡ words.now) }
+    {
+        let mut rows = Vec::with_capacity(alloc, words.len())?;
+        rows.extend_from_slice(words)?;
+        Ok(LastValues { rows })
+    }
+
     /// The same words, in memory of this allocator. Refused where it runs out.
     pub fn clone_in(&self, alloc: A) -> Result<LastValues<A>, NoMemory>
         ensures { IfOk result (λ last. last ≡ self.now) }
@@ -44,6 +53,21 @@ impl<A: Allocator> LastValues<A> {
         let mut rows = Vec::with_capacity(alloc, self.rows.len())?;
         rows.extend_from_slice(&self.rows)?;
         Ok(LastValues { rows })
+    }
+
+    /// The words of each line.
+    fn rows(&self) -> &[Data]
+        ensures { result.now ≡ self.now }
+    {
+        &self.rows
+    }
+
+    /// Whether the words are the same.
+    #[tactic(auto, using(crate::proofs::Equal::all_rows))]
+    pub fn equals(&self, other: &LastValues<A>) -> bool
+        ensures { IsTrue result ↔ (self.now ≡ other.now) }
+    {
+        self.rows() == other.rows()
     }
 
     /// The number of lines.

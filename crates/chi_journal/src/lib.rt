@@ -10,3 +10,4 @@ mod totals;
 
 pub use journal::Journal;
 pub use record::Record;
+pub use totals::{JournalTotals, counted};

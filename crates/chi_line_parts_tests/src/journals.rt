@@ -75,3 +75,32 @@ fn answers_no_memory_where_a_growth_is_refused(rt: HostRuntime) {
         Ok(64),
     );
 }
+
+#[test]
+fn keeps_no_records_and_has_no_end_where_the_limit_is_0(rt: HostRuntime) {
+    let mut journal = Journal::with_limit(rt.alloc(), 2, 0).expect(&rt, "memory for no records");
+    same(&rt, journal.append(STORE), Ok(()));
+    same(&rt, journal.append(STORE), Ok(()));
+    same(&rt, journal.append(STORE), Ok(()));
+    same(&rt, journal.append(LOAD), Ok(()));
+    assert!(rt; journal.records().is_empty() && !journal.is_full());
+    same(&rt, journal.stores(), 3);
+    same(&rt, journal.loads(), 1);
+    same(&rt, journal.part_len(Agent(5)), 3);
+    same(&rt, journal.part_len(Agent(2)), 1);
+    same(&rt, journal.last(Line(1), WordNo(7)), 9);
+    assert!(rt; !journal.legal());
+}
+
+#[test]
+fn compares_what_is_kept_without_records(rt: HostRuntime) {
+    let mut one = Journal::with_limit(rt.alloc(), 2, 0).expect(&rt, "memory for no records");
+    let mut other = one
+        .clone_in(rt.alloc())
+        .expect(&rt, "memory for no records");
+    assert!(rt; one.equals(&other) && one.legal());
+    same(&rt, one.append(STORE), Ok(()));
+    assert!(rt; !one.equals(&other));
+    same(&rt, other.append(STORE), Ok(()));
+    assert!(rt; one.equals(&other));
+}

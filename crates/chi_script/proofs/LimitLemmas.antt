@@ -7,8 +7,8 @@ use Rattle.std.proofs.lemmas.List.Sums.{get_or-le-sum_by}
 use Rattle.chi_flit.specs.declared.credit.Profile.{Profile}
 use Rattle.chi_flit.specs.declared.credit.Profile.TheVariants.{Two, Four}
 use Rattle.chi_script.specs.declared.headers.Header.{Header}
-use Rattle.chi_config.specs.Config.{are_entries, is_between, is_slice_count}
-use Rattle.chi_script.specs.Headers.{is_in_limits, IsInLimits}
+use Rattle.chi_config.specs.Config.{are_entries, are_in_limits, is_between, is_slice_count}
+use Rattle.chi_script.specs.Headers.{is_in_limits, node_sizes, IsInLimits}
 
 from_to : (least most n : ℕ) → is_between least most n ≡ true → (least ≤ n) × (n ≤ most)
 from_to least most n e = (grind (arith, nat_tests), grind (arith, nat_tests))
@@ -50,11 +50,12 @@ both false b e = cc
 
 pub limits_of : (header : Header) → is_in_limits header ≡ true → IsInLimits header
 limits_of header e =
-    let agents = both (is_between 1 8 header.agents) _ e in
+    let kept = both (nat_le 1 header.journal) _ e in
+    let agents = both (is_between 1 8 header.agents) _ kept.1 in
     let lines = both (is_between 1 64 header.lines) _ agents.1 in
     let slices = both (is_slice_count header.slices) _ lines.1 in
     let few = both (nat_le header.slices header.lines) _ slices.1 in
-    let journal = both (is_between 1 65536 header.journal) _ few.1 in
+    let journal = both (nat_le header.journal 65536) _ few.1 in
     let types = counted header.profile header.entries journal.1 in
     let count = slice_count header.slices slices.0 in
     record {
@@ -63,17 +64,22 @@ limits_of header e =
       slices = (count.0, count.1, no_more header.slices header.lines few.0);
       entries = types.some;
       total = types.total;
-      journal = from_to 1 65536 header.journal journal.0;
+      journal = (no_more 1 header.journal kept.0, no_more header.journal 65536 journal.0);
     }
+
+-- the sizes are those of a node
+pub node_in_limits : (header : Header) → is_in_limits header ≡ true → are_in_limits (node_sizes header) ≡ true
+node_in_limits header e = (both (nat_le 1 header.journal) _ e).1
 
 -- the entries are those of the profile
 pub entries_fit : (header : Header) → is_in_limits header ≡ true → are_entries header.profile header.entries ≡ true
 entries_fit header e =
-    let agents = both (is_between 1 8 header.agents) _ e in
+    let kept = both (nat_le 1 header.journal) _ e in
+    let agents = both (is_between 1 8 header.agents) _ kept.1 in
     let lines = both (is_between 1 64 header.lines) _ agents.1 in
     let slices = both (is_slice_count header.slices) _ lines.1 in
     let few = both (nat_le header.slices header.lines) _ slices.1 in
-    (both (is_between 1 65536 header.journal) _ few.1).1
+    (both (nat_le header.journal 65536) _ few.1).1
 
 -- a profile of two types has entries of these alone
 pub none_left : (t0 t1 t2 t3 : ℕ) → are_entries Two (t0 ∷ t1 ∷ t2 ∷ t3 ∷ []) ≡ true → (t2 ≡ 0) × (t3 ≡ 0)

@@ -15,9 +15,9 @@ is_from least most n = nat_le least n && nat_le n most
 abbrev pub node_sizes : Header → config.Sizes
 node_sizes header = config.sizes_of header.agents header.lines header.slices header.entries header.journal header.profile
 
--- the limits are those of a node
+-- the limits are those of a node whose journals keep records
 abbrev pub is_in_limits : Header → Bool
-is_in_limits header = config.are_in_limits (node_sizes header)
+is_in_limits header = nat_le 1 header.journal && config.are_in_limits (node_sizes header)
 
 -- the credit types: T0 T1 K, or T0 T1 T2 T3 K; a type that the profile lacks has no entries
 abbrev pub types_of : List (List ℕ) → Option CreditTypes

@@ -137,11 +137,12 @@ impl SizeFields {
         ensures { result ≡ is_in_limits (header_of_sizes self.now) }
     {
         let entries = self.entries;
-        is_from(1, 8, self.agents)
+        1 <= self.journal
+            && is_from(1, 8, self.agents)
             && is_from(1, 64, self.lines)
             && is_slice_count(self.slices)
             && self.slices <= self.lines
-            && is_from(1, 65_536, self.journal)
+            && self.journal <= 65_536
             && are_entries(self.profile, entries)
     }
 
