@@ -1,4 +1,5 @@
 pub mod Equal
+pub mod Keeping
 pub mod Frame
 pub mod Lanes
 pub mod Facts

@@ -4,6 +4,7 @@ pub mod Refused
 pub mod Snooped
 pub mod Clean
 pub mod Kept
+pub mod Keeping
 pub mod StepOf
 pub mod View
 pub mod Places

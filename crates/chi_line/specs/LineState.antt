@@ -12,6 +12,10 @@ pub record LineState : Type 0 where
   pub home : Home
   pub flits : List Cells
 
+-- the line of these parts
+abbrev pub line_of_parts : List Rn → Home → List Cells → LineState
+line_of_parts requesters home flits = record { requesters = requesters; home = home; flits = flits }
+
 -- what the agent n keeps of the line
 abbrev pub rn_of : LineState → ℕ → Rn
 rn_of s n = slice_index_or s.requesters n no_line

@@ -67,7 +67,7 @@ fn ended_slot(home: &HomeLine, there: bool) -> Option<Slot>
 }
 
 /// The slot of the request that is served.
-fn served_slot(serving: Serving) -> Option<Slot>
+pub(crate) fn served_slot(serving: Serving) -> Option<Slot>
     ensures { result ≡ served_slot serving }
 {
     match serving {

@@ -5,7 +5,7 @@ ghost use Rattle.std.specs.Prelude.{◌≡◌, ◌<◌, [], ⊤};
 ghost use Rattle.chi_flit.specs.declared.message.Channel.{Channel};
 ghost use Rattle.chi_wires.specs.Cell.{cell_of};
 ghost use Rattle.chi_wires.specs.Flight.{flit_of, in_flight, is_at};
-ghost use Rattle.chi_line.specs.LineState.{cells_of, opening_line, rn_of};
+ghost use Rattle.chi_line.specs.LineState.{cells_of, line_of_parts, opening_line, rn_of};
 
 use chi_flit::Agent;
 use chi_homeline::HomeLine;
@@ -62,6 +62,19 @@ impl CoherentLine {
         }
     }
 
+    /// The line of these parts: what the requesters keep of it, by agent number, what the home does, and what
+    /// is in flight. Whether it keeps what every line keeps is for `keeps` to say.
+    /// Source: `docs/PROTOCOL.md`, "One line".
+    pub fn of_parts(requesters: [RnLine; 8], home: HomeLine, flits: Wires) -> CoherentLine
+        ensures { result ≡ line_of_parts requesters home flits }
+    {
+        CoherentLine {
+            requesters,
+            home,
+            flits,
+        }
+    }
+
     /// The agent's copy and pending request, lent.
     ///
     /// Conditions: the agent's number is below 8.
@@ -85,6 +98,22 @@ impl CoherentLine {
             ≡ flit_of agent (cell_of result.now channel) }
     {
         self.flits.cells(agent)
+    }
+
+    /// The copies and pending requests of all agents, by their numbers, lent.
+    /// Source: `docs/PROTOCOL.md`, "One line".
+    pub fn copies(&self) -> &[RnLine; 8]
+        ensures { result.now ≡ self.now.requesters }
+    {
+        &self.requesters
+    }
+
+    /// What is in flight to and from all agents, lent.
+    /// Source: `docs/PROTOCOL.md`, "Messages".
+    pub fn all_flits(&self) -> &Wires
+        ensures { result.now ≡ self.now.flits }
+    {
+        &self.flits
     }
 
     /// What the home keeps of the line, lent.
