@@ -6,6 +6,7 @@ use Rattle.std.proofs.Math.ListN.{set}
 use Rattle.chi_flit.specs.declared.numbers.Agent.{Agent}
 use Rattle.chi_flit.specs.declared.numbers.Line.{Line}
 use Rattle.chi_flit.specs.declared.numbers.Slot.{Slot}
+use Rattle.chi_flit.specs.declared.numbers.WordNo.{WordNo}
 use Rattle.chi_flit.specs.declared.action.Action.{Action}
 use Rattle.chi_flit.specs.declared.action.Step.{Step}
 use Rattle.chi_flit.specs.declared.action.Step.TheVariants as steps
@@ -16,7 +17,7 @@ use Rattle.chi_flit.specs.declared.refusal.Refusal.TheVariants.{OutOfRange}
 use Rattle.chi_flit.specs.State.{is_valid}
 use Rattle.chi_flit.specs.declared.credit.Profile.{Profile}
 use Rattle.chi_journal.specs.declared.record.Record.{Record}
-use Rattle.chi_journal.specs.Journal.{Log, is_full, last_words}
+use Rattle.chi_journal.specs.Journal.{Log, is_full, line_words}
 use Rattle.chi_rnline.specs.Rn.{load_refusal, store_refusal, word_of}
 use Rattle.chi_line.specs.declared.act.Conditions.{Conditions}
 use Rattle.chi_line.specs.LineState.{LineState, cells_of, opening_line, rn_of}
@@ -36,7 +37,7 @@ use Rattle.chi_slice.specs.Recorded.{CanAppend, done_record, record_by}
 use Rattle.chi_slice.specs.Slice.{KeepsSliceFlits, IsStep, OtherLinesStay, SliceKept, SliceState, slice_after, completes, conditions_under, entry_of, is_in_range, is_slot_used, last_of, line, line_in_row, range_refusal, log_after, action_refusal, refused_under, row_count, row_of_line, uses}
 use Rattle.chi_slice.proofs.Refusing.{allowed_alone, conditions_of}
 use Rattle.chi_slice.proofs.Rows.{InRange, in_range, rows_apart}
-use Rattle.chi_slice.proofs.Slices.{FitsLine, kept_with_entry, line_in_row-with_line, line_in_row-with_other}
+use Rattle.chi_slice.proofs.Slices.{FitsLine, FitsRoom, kept_with_entry, line_in_row-with_line, line_in_row-with_other}
 
 -- a slot that is in use nowhere in the slice isn't in use at the line in a row
 pub unused_at : (s : SliceState) (n : ℕ) (slot : Slot) (row : ℕ) → uses s n slot ≡ false → row < length s.lines → line_uses (line_in_row s row) n slot ≡ false
@@ -90,10 +91,10 @@ abbrev Fits : Log → ℕ → Option Record → Type 0
 Fits log l entry = FitsLine log l entry × CanAppend log entry
 
 step_fits : (c : Conditions) (log : Log) (s : LineState) (agent : Agent) (l : Line) (step : Step) → agent.0 < 8 → l.0 < log.lines → is_step_in_range step ≡ true → c.journal_full ≡ is_full log
-    → step_refusal c s agent step ≡ None → Kept (last_words log.entries l.0) s → Fits log l.0 (step_record s agent l step)
+    → step_refusal c s agent step ≡ None → Kept (line_words log l.0) s → Fits log l.0 (step_record s agent l step)
 step_fits c log s agent l (steps.Load word) low below inside full may k =
     let by = neither (load_refusal (rn_of s agent.0)) (full_if c.journal_full) may in
-    ((refl, valid_word (last_words log.entries l.0) s agent.0 word.0 low k by.0), (low, below, grind (arith, inside), sym full ∙ not_full c.journal_full by.1))
+    ((refl, valid_word (line_words log l.0) s agent.0 word.0 low k by.0), (low, below, grind (arith, inside), sym full ∙ not_full c.journal_full by.1))
 step_fits c log s agent l (steps.Store word value) low below inside full may k =
     let by = neither (store_refusal (rn_of s agent.0)) (full_if c.journal_full) may in
     ((refl, tt), (low, below, grind (arith, inside), sym full ∙ not_full c.journal_full by.1))
@@ -105,13 +106,26 @@ entry_fits s action k may =
     step_fits (conditions_of s action) s.journal (line s action.line.0) action.agent action.line action.step inside.agent (subst (λ (n : ℕ). action.line.0 < n) (sym k.journal_lines) inside.low) inside.step refl
     may.by_line (k.lines action.line.0 inside.line)
 
+abbrev word_in : WordNo → Step → WordNo
+word_in other (steps.Load word) = word
+word_in other step = other
+
+-- a load that isn't refused has the value last stored to its word
+pub load_effect : (log : Log) (s : LineState) (agent : Agent) (l : Line) (step : Step) → FitsLine log l.0 (step_record s agent l step) → (word : WordNo) → step ≡ steps.Load word → step_effect s agent step ≡ Value (get_or (line_words log l.0) word.0 0)
+load_effect log s agent l (steps.Load own) fits word is = ap Value fits.1 ∙ ap (λ (w : WordNo). Value (get_or (line_words log l.0) w.0 0)) (ap (word_in own) is)
+load_effect log s agent l other fits word is = absurd (cc (is))
+
+room_fits : (log : Log) (entry : Option Record) → CanAppend log entry → FitsRoom log entry
+room_fits log None may = tt
+room_fits log (Some entry) may = may.3
+
 -- an action that isn't refused keeps what a slice keeps
 pub kept_acted : (s : SliceState) (action : Action) → SliceKept s → Allowed s action → SliceKept (slice_after s action)
 kept_acted s action k may =
     let inside : InRange s action = in_range s action k may.inside in
     kept_with_entry s action.line.0 (after s.config.profile (line s action.line.0) action) (entry_of s action) inside.line k
     (kept_after (conditions_of s action) (last_of s action.line.0) (line s action.line.0) action inside.agent may.by_line (λ free. names_unused s action k may) (k.lines action.line.0 inside.line))
-    (entry_fits s action k may).0
+    (entry_fits s action k may).0 (room_fits s.journal (entry_of s action) (entry_fits s action k may).1)
 
 -- the record of a step by its effect is the step's record
 record_is : (s : LineState) (agent : Agent) (l : Line) (step : Step) → done_record agent l step (step_effect s agent step) ≡ step_record s agent l step

@@ -14,8 +14,8 @@ use Rattle.chi_slice.specs.declared.terms.Terms.{Terms}
 use Rattle.chi_slice.specs.Index.{Indexed, moved_in}
 use Rattle.chi_slice.specs.Recorded.{record_by}
 use Rattle.chi_slice.specs.Slice.{KeepsSliceFlits, IsStep, OtherLinesStay, SliceKept, SliceState, slice_after, line, moved_by, log_after, refused_under}
-use Rattle.chi_slice.specs.Protocol.{SliceStep}
-use Rattle.chi_slice.proofs.Acts.{Allowed, Call, Ready, acted_others, acted_protocol, acted_step, allowed_here, balanced, changed, kept_acted, refused_here}
+use Rattle.chi_slice.specs.Protocol.{HasLastValue, SliceStep}
+use Rattle.chi_slice.proofs.Acts.{Allowed, Call, Ready, acted_others, acted_protocol, acted_step, allowed_here, balanced, changed, entry_fits, kept_acted, load_effect, refused_here}
 use Rattle.chi_slice.proofs.Follows.{followed_by, index_after, indexed_acted}
 
 -- of the slice as it was, and as it is then
@@ -26,6 +26,7 @@ pub record Ended (old : SliceState) (terms : Terms) (action : Action) (effect : 
   pub step : IsStep old action effect new
   pub flits : KeepsSliceFlits old action new
   pub protocol : SliceStep old action effect new
+  pub loads : HasLastValue old action effect
   pub others : OtherLinesStay old new action.line.0
   pub effect_is : effect ≡ effect_of (line old action.line.0) action
   pub slot_is : slot ≡ moved_by old action
@@ -57,6 +58,7 @@ end_of {s} {terms} {action} {row} {conditions} {at} {at'} {effect} {slot} {to} p
       step = subst (λ (e : Effect). IsStep s action e (record s { lines = set s.lines row at'; journal = journal' })) (sym effect_is) (subst (λ (v : SliceState). IsStep s action (effect_of (line s action.line.0) action) v) (sym new) (acted_step s action r.kept may));
       flits = subst (λ (v : SliceState). KeepsSliceFlits s action v) (sym new) (balanced r call);
       protocol = subst (λ (e : Effect). SliceStep s action e (record s { lines = set s.lines row at'; journal = journal' })) (sym effect_is) (subst (λ (v : SliceState). SliceStep s action (effect_of (line s action.line.0) action) v) (sym new) (acted_protocol s action r.kept may (balanced r call)));
+      loads = λ word is. effect_is ∙ load_effect s.journal (line s action.line.0) action.agent action.line action.step (entry_fits s action r.kept may).0 word is;
       others = subst (λ (v : SliceState). OtherLinesStay s v action.line.0) (sym new) (acted_others s action r.kept may);
       effect_is = effect_is;
       slot_is = move.slot_is ∙ ap (λ (l : LineState). moved_slot l action.agent action.step) r.line_is;

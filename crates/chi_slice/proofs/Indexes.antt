@@ -33,7 +33,7 @@ with_wide places n slot place wide = go (is_slot_of n slot)
 numbers_apart : (n m k l : ℕ) → k < 8 → l < 8 → m * 8 + l ≡ n * 8 + k → (m ≡ n) × (k ≡ l)
 numbers_apart n m k l low at same = (omega arith, omega arith)
 
-with_other : (places : List (Option RequestPlace)) (n m : ℕ) (slot other : Slot) (place : Option RequestPlace) → (m ≡ n → slot.0 ≡ other.0 → ⊥) → place_of (with_place places n slot place) m other ≡ place_of places m other
+pub with_other : (places : List (Option RequestPlace)) (n m : ℕ) (slot other : Slot) (place : Option RequestPlace) → (m ≡ n → slot.0 ≡ other.0 → ⊥) → place_of (with_place places n slot place) m other ≡ place_of places m other
 with_other places n m slot other place apart = go (is_slot_of n slot) (is_slot_of m other) refl refl
   where
     go : (b c : Bool) → is_slot_of n slot ≡ b → is_slot_of m other ≡ c
@@ -46,7 +46,7 @@ with_other places n m slot other place apart = go (is_slot_of n slot) (is_slot_o
     go true false here there = refl
     go false c here there = refl
 
-with_same : (places : List (Option RequestPlace)) (n : ℕ) (slot : Slot) (place : Option RequestPlace) → length places ≡ 64 → n < 8 → slot.0 < 8 → place_of (with_place places n slot place) n slot ≡ place
+pub with_same : (places : List (Option RequestPlace)) (n : ℕ) (slot : Slot) (place : Option RequestPlace) → length places ≡ 64 → n < 8 → slot.0 < 8 → place_of (with_place places n slot place) n slot ≡ place
 with_same places n slot place wide low at =
     ap (λ (b : Bool). if b then get_or (if b then set places (place_number n slot) place else places) (place_number n slot) None else None) (in_eight n slot low at)
     ∙ get_or-set_same places (place_number n slot) place None (omega (arith, low, at, wide))

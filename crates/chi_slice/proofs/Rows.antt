@@ -27,6 +27,7 @@ pub record InLimits (config : Sizes) : Type 0 where
   pub slices : config.slices ≤ config.lines
   pub some_slice : 1 ≤ config.slices
   pub count : is_slice_count config.slices ≡ true
+  pub journal : config.journal ≤ 65536
 
 least : (n : ℕ) → is_slice_count n ≡ true → 1 ≤ n
 least zero h = absurd (cc (h))
@@ -47,6 +48,7 @@ in_limits config h =
       some_line = at_most 1 config.lines l'.0;
       slices = at_most config.slices config.lines m.0;
       some_slice = least config.slices s.0;
+      journal = at_most config.journal 65536 (both (nat_le config.journal 65536) _ m.1).0;
       count = s.0;
     }
 

@@ -1,7 +1,7 @@
 -- Coherence of a slice: of each of its lines, and of its journal (Arm IHI 0050 B, 4.1; docs/PROTOCOL.md,
 -- "Coherence" and "The journal and last values").
 use Rattle.std.specs.Prelude.{◌≡◌, ℕ, true}
-use Rattle.chi_journal.specs.Journal.{IsLegal}
+use Rattle.chi_journal.specs.Journal.{IsLegalLog}
 use Rattle.chi_line.specs.Coherence.{Coherent}
 use Rattle.chi_line.specs.Meaning.{standing_of}
 use Rattle.chi_slice.specs.Slice.{SliceState, is_line_in_range, last_of, line}
@@ -15,5 +15,5 @@ AreLinesCoherent s = (l : ℕ) → IsLineCoherent s l
 
 pub record IsCoherentSlice (s : SliceState) : Type 0 where
   pub lines : AreLinesCoherent s
-  -- each load in the journal had the value that was stored last before it
-  pub journal : IsLegal s.journal.entries
+  -- each load had the value that was stored last before it
+  pub journal : IsLegalLog s.journal

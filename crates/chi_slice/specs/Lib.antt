@@ -2,6 +2,7 @@ pub mod Recorded
 pub mod Slice
 pub mod Run
 pub mod Index
+pub mod Loading
 pub mod Table
 pub mod Coherence
 pub mod Verdict

@@ -1,10 +1,12 @@
 -- An action on a slice by the protocol alone: what refuses it, and what it does (docs/PROTOCOL.md, "The actions",
 -- "Refusals" and "One line").
-use Rattle.std.specs.Prelude.{◌≡◌, ℕ, [], Bool, true, false, not, Option}
+use Rattle.std.specs.Prelude.{◌≡◌, ℕ, [], Bool, true, false, not, Option, get_or}
 use Rattle.std.specs.List.{list_any}
 use Rattle.chi_flit.specs.declared.numbers.Agent.{Agent}
+use Rattle.chi_flit.specs.declared.numbers.WordNo.{WordNo}
 use Rattle.chi_flit.specs.declared.action.Action.{Action}
 use Rattle.chi_flit.specs.declared.action.Effect.{Effect}
+use Rattle.chi_flit.specs.declared.action.Effect.TheVariants.{Value}
 use Rattle.chi_flit.specs.declared.action.Step.{Step}
 use Rattle.chi_flit.specs.declared.action.Step.TheVariants as steps
 use Rattle.chi_flit.specs.declared.refusal.Refusal.{Refusal}
@@ -16,7 +18,7 @@ use Rattle.chi_line.specs.LineState.{LineState}
 use Rattle.chi_line.specs.Meaning.{standing_of}
 use Rattle.chi_line.specs.Protocol.{LineStep, Standing, opening}
 use Rattle.chi_line.specs.RefusalRows.{HasRoom, Room, refusal_row, refused_if, uses_slot}
-use Rattle.chi_slice.specs.Slice.{SliceState, is_in_range, is_line_in_range, line, log_after}
+use Rattle.chi_slice.specs.Slice.{SliceState, is_in_range, is_line_in_range, last_of, line, log_after}
 
 -- a slice in the opening state: each of its lines is, and its journal has no record
 pub record IsOpening (s : SliceState) : Type 0 where
@@ -43,6 +45,10 @@ abbrev pub refused : SliceState → Action → Option Refusal
 refused s action =
     refused_if (not (is_in_range s action)) OutOfRange
     (refusal_row (room_for s action.agent action.step) (standing_of (line s action.line.0)) action.agent action.step)
+
+-- a load that is done has the value last stored to its word
+abbrev pub HasLastValue : SliceState → Action → Effect → Type 0
+HasLastValue s action effect = (word : WordNo) → action.step ≡ steps.Load word → effect ≡ Value (get_or (last_of s action.line.0) word.0 0)
 
 -- an action is enabled where its numbers are in their ranges, there is room for it, and its line has a step by it
 pub record IsEnabled (s : SliceState) (action : Action) : Type 0 where

@@ -11,7 +11,7 @@ use Rattle.chi_flit.specs.declared.action.Effect.{Effect}
 use Rattle.chi_flit.specs.declared.refusal.Refusal.{Refusal}
 use Rattle.chi_flit.specs.declared.refusal.Refusal.TheVariants.{OutOfRange}
 use Rattle.chi_journal.specs.declared.record.Record.{Record}
-use Rattle.chi_journal.specs.Journal.{IsLegal, Log, log_with, is_full, last_words, opening_log}
+use Rattle.chi_journal.specs.Journal.{IsLegalLog, Log, LogKept, line_words, log_with, is_full, opening_log}
 use Rattle.chi_config.specs.Config.{Sizes, are_in_limits}
 use Rattle.chi_slice.specs.declared.agent_line.AgentRow.{AgentRow}
 use Rattle.chi_slice.specs.declared.terms.Terms.{Terms}
@@ -187,7 +187,7 @@ completes s action = slot_unless (action_refusal s action) (effect_of (line s ac
 
 -- the values last stored to the words of a line
 abbrev pub last_of : SliceState → ℕ → List ℕ
-last_of s l = last_words s.journal.entries l
+last_of s l = line_words s.journal l
 
 -- what a slice keeps: each of its lines keeps what a line keeps, with the values last stored to it by the
 -- journal, and each load in the journal had the value last stored before it
@@ -198,4 +198,5 @@ pub record SliceKept (s : SliceState) : Type 0 where
   pub lines : (l : ℕ) → is_line_in_range s l ≡ true → Kept (last_of s l) (line s l)
   pub journal_lines : s.journal.lines ≡ s.config.lines
   pub journal_limit : s.journal.limit ≡ s.config.journal
-  pub legal : IsLegal s.journal.entries
+  pub journal : LogKept s.journal
+  pub legal : IsLegalLog s.journal

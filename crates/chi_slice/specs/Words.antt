@@ -6,7 +6,8 @@ pub use Rattle.chi_homeline.specs.Home.{Home, answer_taken, asks, completion_mes
 pub use Rattle.chi_homeline.specs.declared.serving.Serving.{Serving}
 pub use Rattle.chi_homeline.specs.declared.serving.SnoopAnswer.{SnoopAnswer}
 pub use Rattle.chi_homeline.specs.declared.serving.Waiting.{Waiting}
-pub use Rattle.chi_journal.specs.Journal.{IsLegal, is_full, part_of}
+pub use Rattle.chi_journal.specs.Journal.{IsLegalLog, Log, LogKept, is_full, keeps_records, load_count, part_count, part_of, store_count}
+pub use Rattle.chi_journal.specs.Totals.{counted, most_counted}
 pub use Rattle.chi_journal.specs.Record.{record_agent}
 pub use Rattle.chi_journal.specs.declared.record.Record.{Record}
 pub use Rattle.chi_line.specs.Coherence.{Coherent}

@@ -29,8 +29,8 @@ pub fn audit_of<A: Allocator>(slices: &[Slice<A>]) -> Audit
     let (mut loads, mut stores, mut coherent) = (0, 0, true);
     for slice in slices {
         let journal = slice.journal();
-        loads += u64::from(journal.loads());
-        stores += u64::from(journal.stores());
+        loads += journal.loads();
+        stores += journal.stores();
         coherent &= check_slice(slice);
     }
     Audit {

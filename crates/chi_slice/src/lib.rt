@@ -5,6 +5,7 @@
 mod agent_line;
 mod audits;
 mod laws;
+mod loading;
 mod places;
 mod records;
 mod slice;
@@ -17,7 +18,7 @@ pub use audits::{Audit, audit_of, check_slice};
 pub use chi_config::Config;
 pub use chi_flit::{Action, Effect, Step};
 pub use chi_homeline::{HomeLine, Serving, Waiting};
-pub use chi_journal::{Journal, Record};
+pub use chi_journal::{Journal, Record, counted};
 pub use chi_line::{CopyView, LineView, Position, has_flit, pending_credit};
 pub use chi_rnline::{Pending, Phase, RnLine};
 pub use chi_wires::{Cells, cells_of};

@@ -121,6 +121,17 @@ impl RequestPlaces {
         }
     }
 
+    /// Gives an agent's slot this place, or none; outside the eight of each nothing changes.
+    pub fn set(&mut self, agent: Agent, slot: Slot, place: Option<RequestPlace>)
+        ensures { self.new ≡ with_place self.old agent.0 slot place }
+    {
+        let spot = match place {
+            Some(RequestPlace { line, at }) => SlotPlace { line, at: Some(at) },
+            None => SlotPlace::NONE,
+        };
+        self.put(agent, slot, spot);
+    }
+
     /// Follows an action of the agent on a line: the slot whose request was moved, if one was, has its new
     /// place on the line, or none.
     pub fn follow(&mut self, agent: Agent, line: Line, slot: Option<Slot>, to: Option<Position>)

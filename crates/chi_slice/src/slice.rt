@@ -2,7 +2,7 @@
 
 ghost use Rattle.std.specs.Prelude.{◌≡◌, ◌↔◌, ℕ, ◌<◌, ◌&&◌, nat_lt, true, false, None, Some, is_some, replicate, IfErr, IfOk, IfSome, IsTrue, OnOk, OnErr};
 ghost use Rattle.chi_flit.specs.Refusal.{refusal_of};
-ghost use Rattle.chi_journal.specs.Journal.{IsLegal};
+ghost use Rattle.chi_journal.specs.Journal.{IsLegalLog};
 ghost use Rattle.chi_line.specs.Coherence.{Coherent};
 ghost use Rattle.chi_line.specs.LineState.{cells_of, opening_line, rn_of};
 ghost use Rattle.chi_line.specs.Meaning.{standing_of};
@@ -15,12 +15,14 @@ ghost use Rattle.chi_slice.specs.Coherence.{IsCoherentSlice};
 ghost use Rattle.chi_config.specs.Config.{are_in_limits};
 ghost use Rattle.chi_slice.specs.Idle.{lowest_idle};
 ghost use Rattle.chi_slice.specs.Index.{HasType, IsInside, IsShown, SlotsInRange, is_slot_of, typed_at};
-ghost use Rattle.chi_slice.specs.Protocol.{IsEnabled, IsOpening, SliceStep, refused};
+ghost use Rattle.chi_slice.specs.Loading.{IsLoadable};
+ghost use Rattle.chi_slice.specs.Protocol.{HasLastValue, IsEnabled, IsOpening, SliceStep, refused};
 ghost use Rattle.chi_slice.specs.Run.{IsRun};
-ghost use Rattle.chi_slice.specs.Slice.{CanAct, KeepsSliceFlits, IsRow, IsStep, OtherLinesStay, SliceKept, slice_after, action_in, are_in_range, completes, conditions_under, entry_of, flits_refusal, is_in_range, is_line_in_range, is_slot_used, last_of, line as line_of_slice, moved_by, no_terms, opening_slice, range_refusal, log_after, action_refusal, refused_under, row_count, row_of_line, run_after, run_done, uses, view_refusal};
+ghost use Rattle.chi_slice.specs.Slice.{CanAct, KeepsSliceFlits, IsRow, IsStep, OtherLinesStay, SliceKept, slice_after, action_in, are_in_range, completes, conditions_under, entry_of, flits_refusal, is_in_range, is_line_in_range, is_slot_used, last_of, line as line_of_slice, moved_by, no_terms, opening_slice, range_refusal, log_after, action_refusal, refused_under, row_count, row_of_line, run_after, run_done, slice_with, uses, view_refusal};
 ghost use Rattle.chi_slice.specs.Table.{IsByTable};
 
 use crate::agent_line::{AgentLine, AgentRow};
+use crate::loading::{are_parts_kept, places_in};
 use crate::places::{RequestPlace, RequestPlaces};
 use crate::records::{is_step_in_range, note};
 use crate::terms::{Done, Terms};
@@ -109,7 +111,7 @@ fn are_same_lines(one: &[chi_line::CoherentLine], other: &[chi_line::CoherentLin
 }
 
 /// How many lines are in the slice.
-fn row_count(config: &Config, index: u8) -> u8
+pub(crate) fn row_count(config: &Config, index: u8) -> u8
     requires { index < config.now.slices }
     ensures count { result ≡ row_count config.now index }
     ensures limits { are_in_limits config.now ≡ true }
@@ -166,6 +168,39 @@ impl<A: Allocator + Copy> Slice<A> {
 }
 
 impl<A: Allocator> Slice<A> {
+    /// The slice of that index in a node of that size, of these lines in the order of their rows, and this
+    /// journal. Takes no memory.
+    ///
+    /// `None` exactly where these make no slice: the index or the number of lines isn't that of a slice of such a
+    /// node, a line or the journal doesn't keep what it keeps in every slice, or a slot is in use at two lines
+    /// or has a number above 7.
+    /// Source: `docs/PROTOCOL.md`, "One line", "What a line keeps" and "Agreement".
+    pub fn of_parts(
+        config: &Config,
+        index: u8,
+        lines: Vec<chi_line::CoherentLine, A>,
+        journal: Journal<A>,
+    ) -> Option<Slice<A>>
+        ensures parts { IfSome result (λ slice. slice
+            ≡ slice_with config.now index lines.items journal) }
+        ensures exactly { IsTrue (is_some result)
+            ↔ IsLoadable (slice_with config.now index lines.items journal) }
+    {
+        if !are_parts_kept(config, index, &lines, &journal) {
+            return None;
+        }
+        match places_in(config, index, &lines) {
+            Some(places) => Some(Slice {
+                config: *config,
+                index,
+                lines,
+                journal,
+                places,
+            }),
+            None => None,
+        }
+    }
+
     /// The row of an action's line, where all its numbers are in their ranges and its line is in this slice.
     fn row_in_range(&self, action: Action) -> Option<u8>
         ensures inside { is_some result ≡ is_in_range self.now action }
@@ -248,7 +283,7 @@ impl<A: Allocator> Slice<A> {
     }
 
     /// Does one action. It changes its own line alone, by the action's row, and puts the record of a load or
-    /// store into the journal; it takes no memory. No flit is lost or made: those in flight for the line
+    /// store into the journal; it takes no memory. A load has the value last stored to its word. No flit is lost or made: those in flight for the line
     /// afterwards, with the one that the action takes, are those before, with those that it sends.
     ///
     /// Refused 10 (OutOfRange) for a number outside its range or a line of another slice, then in the
@@ -263,6 +298,7 @@ impl<A: Allocator> Slice<A> {
         ensures numbers { IfErr result (λ refusal. is_of_actions refusal ≡ true) }
         ensures enabled { IsEnabled self.old action ↔ (refusal_of result ≡ None) }
         ensures protocol { IfOk result (λ effect. SliceStep self.old action effect self.new) }
+        ensures loads { IfOk result (λ effect. HasLastValue self.old action effect) }
         ensures refusal { refusal_of result ≡ action_refusal self.old action }
         ensures step { IfOk result (λ effect. IsStep self.old action effect self.new) }
         ensures journal { OnOk result
@@ -291,6 +327,7 @@ impl<A: Allocator> Slice<A> {
         ensures refusal { refusal_of result ≡ refused_under terms self.old action }
         ensures step { IfOk result (λ done. IsStep self.old action done.effect self.new) }
         ensures protocol { IfOk result (λ done. SliceStep self.old action done.effect self.new) }
+        ensures loads { IfOk result (λ done. HasLastValue self.old action done.effect) }
         ensures journal { OnOk result
             (self.new.journal ≡ log_after self.old.journal (entry_of self.old action)) }
         ensures flits { OnOk result (KeepsSliceFlits self.old action self.new) }
@@ -382,6 +419,7 @@ impl<A: Allocator> Slice<A> {
         ensures step { IfOk result (λ done. IsStep self.old (action_in at step) done.effect self.new) }
         ensures protocol { IfOk result
             (λ done. SliceStep self.old (action_in at step) done.effect self.new) }
+        ensures loads { IfOk result (λ done. HasLastValue self.old (action_in at step) done.effect) }
         ensures journal { OnOk result
             (self.new.journal
             ≡ log_after self.old.journal (entry_of self.old (action_in at step))) }
@@ -597,7 +635,7 @@ impl<A: Allocator> Slice<A> {
     /// Source: `docs/PROTOCOL.md`, "The journal and last values".
     pub fn journal(&self) -> &Journal<A>
         ensures journal { result.now ≡ self.now.journal }
-        ensures legal { IsLegal self.now.journal.entries }
+        ensures legal { IsLegalLog self.now.journal }
         ensures kept { SliceKept self.now }
         ensures slots { SlotsInRange self.now }
     {
@@ -614,8 +652,18 @@ impl<A: Allocator> Slice<A> {
         let _ = self.journal();
     }
 
+    /// The lines of the slice in the order of their rows, lent: line `l` of the node is in row `l / slices`.
+    /// Whoever asks for them knows that `of_parts` makes this slice of its parts.
+    /// Source: `docs/PROTOCOL.md`, "One line".
+    pub fn lines(&self) -> &[chi_line::CoherentLine]
+        ensures lines { result.now ≡ self.now.lines }
+        ensures parts { IsLoadable self.now }
+    {
+        &self.lines
+    }
+
     /// Whether the slices are the same: their sizes and their places in the node, each line with its flits,
-    /// and the records of the journal. One walk over both, up to the first difference; it takes no memory.
+    /// and the journal. One walk over both, up to the first difference; it takes no memory.
     /// Source: `docs/PROTOCOL.md`, "The system".
     pub fn equals(&self, other: &Slice<A>) -> bool
         ensures { IsTrue result ↔ (self.now ≡ other.now) }

@@ -9,11 +9,15 @@ mod memory;
 #[cfg(test)]
 mod moves;
 #[cfg(test)]
+mod parts;
+#[cfg(test)]
 mod readers;
 #[cfg(test)]
 mod refusals;
 #[cfg(test)]
 mod refused;
+#[cfg(test)]
+mod reloaded;
 #[cfg(test)]
 mod retries;
 #[cfg(test)]

@@ -88,7 +88,7 @@ fn one_request_at_another_line_is_a_difference(rt: HostRuntime) {
 }
 
 /// Agents, lines and room for records of nodes of which each differs from the first.
-const SIZES: [(u8, u8, u32); 4] = [(2, 2, 8), (3, 2, 8), (2, 1, 8), (2, 2, 9)];
+const SIZES: [(u8, u8, u32); 5] = [(2, 2, 8), (3, 2, 8), (2, 1, 8), (2, 2, 9), (2, 2, 0)];
 
 /// Whether the opening slices of a node of these sizes and of one of the first sizes are found equal.
 fn equals_first(rt: &impl Abort, alloc: Global, sizes: (u8, u8, u32)) -> bool {
@@ -156,4 +156,26 @@ fn a_copy_has_room_for_all_records(rt: HostRuntime) {
         follows(&rt, &mut slice, &mut copy, *step);
     }
     assert!(&rt; copy.journal().limit() == 8 && copy.journal().len() == 2);
+}
+
+/// Whether a slice, whose journal keeps no records, does each move as one that keeps eight does it.
+fn goes_without_records(rt: &impl Abort, alloc: Global, run: Run) {
+    let mut slice = slice_of(rt, alloc, run.agents, 2, 0);
+    let mut other = slice_of(rt, alloc, run.agents, 2, 8);
+    for step in run.moves {
+        let mut copy = copy_of(rt, alloc, &slice);
+        follows(rt, &mut slice, &mut copy, *step);
+        answer(&mut other, at(step.0, step.1)).ok();
+    }
+    let (kept, wanted) = (slice.journal(), other.journal());
+    assert!(rt; kept.records().is_empty() && kept.legal());
+    assert!(rt; kept.loads() == wanted.loads() && kept.stores() == wanted.stores());
+    assert!(rt; kept.last_words(Line(0)) == wanted.last_words(Line(0)));
+}
+
+#[test]
+fn a_journal_without_records_keeps_counts_and_last_values(rt: HostRuntime) {
+    for run in RUNS {
+        goes_without_records(&rt, rt.alloc(), run);
+    }
 }

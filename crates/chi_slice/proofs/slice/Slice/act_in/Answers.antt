@@ -58,5 +58,8 @@ returns-clause-slot g c = (end g c).slot_is
 pub returns-clause-after : goal.returns-clause-after
 returns-clause-after g c = (end g c).after
 
+pub returns-clause-loads : goal.returns-clause-loads
+returns-clause-loads g c = (end g c).loads
+
 pub returns-clause-protocol : goal.returns-clause-protocol
 returns-clause-protocol g c = (end g c).protocol

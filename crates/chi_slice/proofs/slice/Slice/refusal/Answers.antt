@@ -1,9 +1,20 @@
 -- What the line says, on the terms, is what the slice says.
-use Rattle.std.proofs.Common.{◌≡◌, ◌∙◌, sym}
+use Rattle.std.proofs.Common.{◌≡◌, ◌∙◌, ap, sym}
+use Rattle.chi_slice.specs.declared.terms.Terms.{Terms}
 use Rattle.chi_slice.specs.Slice.{no_terms, refused_under}
 use Rattle.chi_slice.proofs.Acts.{out_refused, ready, refused_now}
 use Rattle.chi_slice.proofs.Refusing.{allowed_alone}
 use Rattle.chi_slice.proofs.slice.Slice.refusal.Goals as goal
+
+pub returns-in-Ok-clause-refusal : goal.returns-in-Ok-clause-refusal
+returns-in-Ok-clause-refusal g c =
+    c.refusal.ensures ∙ refused_now c.self.view_is (ready c.args.self.now c.args.terms c.args.action c.self.invariant.0 c.self.view_is c.in-Ok.ensures.refusal c.in-Ok.ensures.row c.in-Ok.ensures.conditions c.index.ensures)
+
+pub returns-in-Ok-clause-alone : goal.returns-in-Ok-clause-alone
+returns-in-Ok-clause-alone g c = λ alone.
+    let told : c.refusal.result ≡ refused_under c.args.terms c.args.self.now c.args.action =
+    c.refusal.ensures ∙ refused_now c.self.view_is (ready c.args.self.now c.args.terms c.args.action c.self.invariant.0 c.self.view_is c.in-Ok.ensures.refusal c.in-Ok.ensures.row c.in-Ok.ensures.conditions c.index.ensures) in
+    told ∙ ap (λ (t : Terms). refused_under t c.args.self.now c.args.action) alone
 
 pub returns-in-Ok-clause-allowed : goal.returns-in-Ok-clause-allowed
 returns-in-Ok-clause-allowed g c = λ none.
