@@ -1,0 +1,36 @@
+-- Why bytes are not made a slice, and what is printed of it (docs/SNAPSHOTS.md).
+use Rattle.std.specs.Prelude.{◌≡◌, ℕ, List, ◌++◌, take, length, codes}
+use Rattle.chi_config.specs.Config.{Sizes}
+use Rattle.chi_snapshot.specs.Bytes.{one_byte}
+use Rattle.chi_snapshot.specs.Snapshot.{head_bytes, sizes_bytes}
+use Rattle.chi_snapshot.specs.declared.faults.LoadFault.{LoadFault}
+use Rattle.chi_snapshot.specs.declared.faults.LoadFault.TheVariants.{NoMemory, OtherVersion, OtherSize, Damaged}
+
+abbrev pub load_fault_text : LoadFault → List ℕ
+load_fault_text NoMemory = codes "NoMemory"
+load_fault_text OtherVersion = codes "OtherVersion"
+load_fault_text OtherSize = codes "OtherSize"
+load_fault_text Damaged = codes "Damaged"
+
+-- bytes begin with these
+abbrev pub HasFront : List ℕ → List ℕ → Type 0
+HasFront front bytes = front ≡ take (length front) bytes
+
+-- what the bytes of a slice of these sizes and this index begin with
+abbrev pub front_bytes : Sizes → ℕ → List ℕ
+front_bytes config index = head_bytes ++ sizes_bytes config ++ one_byte index
+
+-- what a refusal says of the bytes: they are of another version only where they begin with "CHIS" and with no head, and of another
+-- size only where they begin with the head, and not as the bytes of a slice of these sizes and this index do
+abbrev pub IsFaultOf : Sizes → ℕ → List ℕ → LoadFault → Type 0
+IsFaultOf config index bytes NoMemory = Unit {0}
+IsFaultOf config index bytes OtherVersion = HasFront (take 4 head_bytes) bytes × (¬ HasFront head_bytes bytes)
+IsFaultOf config index bytes OtherSize = HasFront head_bytes bytes × (¬ HasFront (front_bytes config index) bytes)
+IsFaultOf config index bytes Damaged = Unit {0}
+
+-- a refusal for what stands behind the front
+abbrev pub IsBehindFront : LoadFault → Type 0
+IsBehindFront NoMemory = Unit {0}
+IsBehindFront OtherVersion = ⊥
+IsBehindFront OtherSize = ⊥
+IsBehindFront Damaged = Unit {0}

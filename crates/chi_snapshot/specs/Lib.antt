@@ -1,0 +1,5 @@
+pub mod Bytes
+pub mod Parts
+pub mod JournalBytes
+pub mod Snapshot
+pub mod Faults
