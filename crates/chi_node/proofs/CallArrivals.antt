@@ -154,7 +154,7 @@ pub keeps_arrival : (s s' : SliceState) (r r' : RequesterState) (l : Line) (requ
 keeps_arrival s s' r r' l request arrived can agrees a after =
     let k : ArrivalKept s r r' l arrived = arrival_kept s r r' l request arrived can agrees a in
     let ready : Ready s (agent_of r) l (arrival_step arrived) r = ready_by s (agent_of r) l (arrival_step arrived) r refl can.kept can.numbers k.allowed agrees can.requester in
-    subst (λ (z : SliceState). KeepsAgreement s z r r') (sym after) (keeps s (agent_of r) l (arrival_step arrived) r r' can.kept ready.here ready.moves refl k.follows)
+    subst (λ (z : SliceState). KeepsAgreement s z r r') (sym after) (keeps s (agent_of r) l (arrival_step arrived) r r' can.kept ready.low ready.here ready.moves refl k.follows)
 
 -- what the slice did, in the row of its requester, is what the arrival came to, and it has no effect
 no_effect : (s : SliceState) (at : AgentRow) (arrived : Arrived) → effect_of (line s at.line.0) (action_in at (arrival_step arrived)) ≡ Nothing

@@ -1,5 +1,5 @@
 -- The requesters of a new node agree with its slices.
-use Rattle.std.proofs.Common.{◌≡◌, ℕ, ◌<◌, true, None, refl, sym, ◌∙◌, ap, arith}
+use Rattle.std.proofs.Common.{◌≡◌, ℕ, ◌<◌, Bool, true, false, None, refl, sym, ◌∙◌, ap, arith, get_or, nat_lt, replicate, if◌then◌else◌}
 use Rattle.std.proofs.lemmas.List.{get_or-replicate}
 use Rattle.atomic_table.specs.Seated.{TableId}
 use Rattle.chi_flit.specs.declared.numbers.Slot.{Slot}
@@ -31,6 +31,11 @@ opening_shows config index n l slot limits inside low here =
 opening_nowhere : (k l : ℕ) → k < 8 → position_of_record (slot_record_at all_idle k) l ≡ None
 opening_nowhere k l low = ap (λ (x : SlotRecord). position_of_record x l) (get_or-replicate 8 k idle_slot idle_slot low) ∙ record_nowhere idle_slot l refl
 
+-- an opening journal counts nothing
+part_at : (b : Bool) (n : ℕ) → n < 8 → ◌≡◌ {A = ℕ} (if b then 0 else get_or {A = ℕ} (replicate {A = ℕ} 8 0) n 0) 0
+part_at true n low = refl
+part_at false n low = get_or-replicate 8 n 0 0 low
+
 opening_agrees : (config : Sizes) (table : TableId) (shape : Shape) (index number : ℕ) → are_in_limits config ≡ true → index < config.slices → number < config.agents → Agree (opening_slice config index) (opening_requester table shape number)
 opening_agrees config table shape index number limits inside near =
     let in_config : InLimits config = in_limits config limits in
@@ -43,7 +48,7 @@ opening_agrees config table shape index number limits inside near =
           type = λ where_is is. absurd (not_shown where_is none is);
         };
       };
-      count = get_or-replicate 8 index 0 0 first;
+      count = get_or-replicate 8 index 0 0 first ∙ sym (part_at (nat_lt 0 config.journal) number low);
     }
 
 pub all_agree : (config : Sizes) (table : TableId) (shape : Shape) → are_in_limits config ≡ true → AgreeAtOpening config table shape

@@ -16,7 +16,7 @@ use Rattle.chi_slice.proofs.Rows.{InLimits, both, in_limits}
 -- what the limits say of the entries
 limits_of : (config : Sizes) → are_in_limits config ≡ true → are_entries config.profile config.entries ≡ true
 limits_of config h =
-    (both (is_between 1 65536 config.journal) (are_entries config.profile config.entries) (both (nat_le config.slices config.lines) _ (both (is_slice_count config.slices) _ (both (is_between 1 64 config.lines) _ (both (is_between 1 8 config.agents) _ h).1).1).1).1).1
+    (both (nat_le config.journal 65536) (are_entries config.profile config.entries) (both (nat_le config.slices config.lines) _ (both (is_slice_count config.slices) _ (both (is_between 1 64 config.lines) _ (both (is_between 1 8 config.agents) _ h).1).1).1).1).1
 
 few : (profile : Profile) (entries : List ℕ) (agents : ℕ) → are_entries profile entries ≡ true → low (shape_of entries agents) 4 ≤ 256
 few Two (t0 ∷ t1 ∷ t2 ∷ t3 ∷ []) agents h = grind (arith, nat_tests, h)

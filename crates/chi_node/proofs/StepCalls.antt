@@ -1,8 +1,6 @@
 -- A step that isn't refused, of a requester that agrees: what it asks of the account is met.
-use Rattle.std.proofs.Common.{◌≡◌, ◌≢◌, ℕ, ◌<◌, ◌≤◌, ◌==◌, ◌&&◌, ◌||◌, Bool, true, false, not, nat_le, nat_lt, Option, Some, None, length, refl, sym, ap, ◌∙◌, subst, subst₂, if◌then◌else◌, arith}
+use Rattle.std.proofs.Common.{◌≡◌, ℕ, ◌<◌, ◌==◌, ◌&&◌, ◌||◌, Bool, true, false, not, nat_lt, Option, Some, None, refl, sym, ap, ◌∙◌, subst, subst₂, if◌then◌else◌, arith}
 use Rattle.std.proofs.lemmas.Bool.{ltb-true}
-use Rattle.std.specs.Prelude.{slice_index}
-use Rattle.std.specs.Option.{option_or}
 use Rattle.chi_flit.specs.declared.numbers.Agent.{Agent}
 use Rattle.chi_flit.specs.declared.numbers.Line.{Line}
 use Rattle.chi_flit.specs.declared.numbers.Slot.{Slot}
@@ -14,20 +12,19 @@ use Rattle.chi_flit.specs.declared.credit.CreditType.{CreditType}
 use Rattle.chi_flit.specs.declared.credit.CreditType.TheVariants as types
 use Rattle.chi_flit.specs.declared.kind.Kind.{Kind}
 use Rattle.chi_flit.specs.declared.credit.Profile.{Profile}
-use Rattle.chi_flit.specs.declared.refusal.Refusal.{Refusal}
 use Rattle.chi_flit.specs.declared.refusal.Refusal.TheVariants.{OutOfRange}
 use Rattle.chi_flit.specs.Credit.{credit_number, credit_type_of}
 use Rattle.chi_tracker.specs.Calls.{seen_of}
 use Rattle.chi_tracker.specs.declared.released.Released.{Released}
-use Rattle.chi_slice.specs.Words.{are_entries, are_in_limits, cells_of, effect_of, full_if, has_type, is_between, is_comp, is_full, is_of_type, is_slice_count, line_refusal, load_refusal, marked_credit_refusal as line_credit_refusal, part_of, pending_credit, pending_kind_of}
-use Rattle.chi_slice.specs.Words.{pending_slot, resend_refusal, rn_of, store_refusal, Pending, Sizes}
-use Rattle.chi_slice.proofs.Passed.{flit_there, issue_allowed, neither, part_fits}
+use Rattle.chi_slice.specs.Words.{cells_of, effect_of, has_type, is_comp, is_of_type, line_refusal, marked_credit_refusal as line_credit_refusal, pending_credit, pending_kind_of}
+use Rattle.chi_slice.specs.Words.{pending_slot, resend_refusal, rn_of, Pending}
+use Rattle.chi_slice.proofs.Passed.{flit_there, issue_allowed, neither}
 use Rattle.chi_slice.specs.Index.{SlotsInRange}
 use Rattle.chi_slice.specs.Slice.{SliceKept, SliceState, slice_after, conditions_under, is_in_range, is_slot_used, line, moved_by, action_refusal, refused_under}
 use Rattle.chi_slice.proofs.Refusing.{allowed_alone}
 use Rattle.chi_slice.specs.Positions as places
 use Rattle.chi_slice.proofs.Acts.{Allowed, allowed, kept_acted}
-use Rattle.chi_slice.proofs.Rows.{InRange, at_most, both, in_range}
+use Rattle.chi_slice.proofs.Rows.{InRange, both, in_range}
 use Rattle.chi_slice.proofs.SliceMoves.{slice_moves}
 use Rattle.chi_credit.specs.declared.slot.SlotState.{SlotState}
 use Rattle.chi_credit.specs.declared.slot.SlotState.TheVariants as states
@@ -75,28 +72,6 @@ can_step s r action terms both agrees own mine is may = record { both = both; ag
 pub ready_of : (s : SliceState) (agent : Agent) (l : Line) (step : Step) (r : RequesterState) → CanStep s r (action_of agent l step) → Ready s agent l step r
 ready_of s agent l step r can = ready_by s agent l step r can.own can.both.slice can.both.slots (allowed_alone (terms_of r step) s (action_of agent l step) can.may) can.agrees can.both.requester
 
--- a journal that isn't full has room for the count
-not_full : (b : Bool) → full_if b ≡ None → b ≡ false
-not_full true h = absurd (cc (h))
-not_full false h = refl
-
-few_records : (config : Sizes) → are_in_limits config ≡ true → config.journal ≤ 65536
-few_records config h = at_most config.journal 65536 (both (nat_le 1 config.journal) (nat_le config.journal 65536)
-    (both (is_between 1 65536 config.journal) (are_entries config.profile config.entries) (both (nat_le config.slices config.lines) _ (both (is_slice_count config.slices) _ (both (is_between 1 64 config.lines) _ (both (is_between 1 8 config.agents) _ h).1).1).1).1).0).1
-
-apart_by : (a b : ℕ) → (a == b) ≡ false → a ≢ b
-apart_by a b h e = grind (arith, h, e)
-
-room_of : (s : SliceState) (r : RequesterState) (action : Action) → CanStep s r action → is_full s.journal ≡ false → slice_index r.counts s.index < 65536
-room_of s r action can unfull =
-    let few : s.config.journal ≤ 65536 = few_records s.config can.both.slice.config in
-    let limit : s.journal.limit ≡ s.config.journal = can.both.slice.journal_limit in
-    let part : length (part_of s.journal.entries r.number) ≤ length s.journal.entries = part_fits s.journal.entries r.number in
-    let within : length s.journal.entries ≤ s.journal.limit = can.both.within in
-    let other : length s.journal.entries ≢ s.journal.limit = apart_by (length s.journal.entries) s.journal.limit unfull in
-    let count : slice_index r.counts s.index ≡ length (part_of s.journal.entries r.number) = can.agrees.count in
-    omega arith
-
 -- its line doesn't refuse it
 inside : (s : SliceState) (r : RequesterState) (action : Action) → CanStep s r action → is_in_range s action ≡ true
 inside s r action can = (allowed s action (allowed_alone (terms_of r action.step) s action can.may)).inside
@@ -134,9 +109,6 @@ has_credit s r agent l slot can is typed =
     free_credit r s.config.profile rn.pending slot (slot_record_at r.slots slot.0).credit is (both (has_type s.config.profile (slot_record_at r.slots slot.0).credit (pending_kind_of rn.pending slot)) _ typed).0
     (neither (resend_refusal rn) (line_credit_refusal (spare_credits r) (pending_credit s.config.profile rn.pending)) (by_line s r (action_of agent l steps.Resend) can)).1
 
-counted : (s : SliceState) (r : RequesterState) (agent : Agent) (l : Line) (step : Step) (first : Option Refusal) → CanStep s r (action_of agent l step) → option_or first (full_if (is_full s.journal)) ≡ None → (s.index < 8) × (slice_index r.counts s.index < 65536)
-counted s r agent l step first can may = ((ready_of s agent l step r can).index, room_of s r (action_of agent l step) can (not_full (is_full s.journal) (neither first (full_if (is_full s.journal)) may).1))
-
 idle_slot : (s : SliceState) (r : RequesterState) (agent : Agent) (l : Line) (kind : Kind) (slot : Slot) → CanStep s r (action_of agent l (steps.Issue kind slot)) → (slot.0 < 8) × (state_at r.slots slot.0 ≡ states.Idle)
 idle_slot s r agent l kind slot can =
     let action : Action = action_of agent l (steps.Issue kind slot) in
@@ -149,11 +121,11 @@ idle_slot s r agent l kind slot can =
 pub fine : (s : SliceState) (agent : Agent) (l : Line) (step : Step) (r : RequesterState) → CanStep s r (action_of agent l step) → Fine s agent l step r (effect_of (line s l.0) (action_of agent l step))
 fine s agent l (steps.Load word) r can =
     let ready = ready_of s agent l (steps.Load word) r can in
-    fine_load s agent l (steps.Load word) r _ ready (counted s r agent l (steps.Load word) (load_refusal (rn_of (line s l.0) agent.0)) can (by_line s r (action_of agent l (steps.Load word)) can), no_slot_moves s agent l (steps.Load word) r ready refl)
+    fine_load s agent l (steps.Load word) r _ ready (ready.index, no_slot_moves s agent l (steps.Load word) r ready refl)
 fine s agent l (steps.Store word value) r can =
     let ready = ready_of s agent l (steps.Store word value) r can in
     fine_step s agent l (steps.Store word value) r ready
-    (counted s r agent l (steps.Store word value) (store_refusal (rn_of (line s l.0) agent.0)) can (by_line s r (action_of agent l (steps.Store word value)) can), no_slot_moves s agent l (steps.Store word value) r ready refl)
+    (ready.index, no_slot_moves s agent l (steps.Store word value) r ready refl)
 fine s agent l (steps.Issue kind slot) r can =
     let ready = ready_of s agent l (steps.Issue kind slot) r can in
     let idle = idle_slot s r agent l kind slot can in
@@ -204,8 +176,8 @@ step_kept s s' r r' action at effect released can is after place finishes =
     let legal = (kept_acted s action can.both.slice (allowed s action (allowed_alone (terms_of r action.step) s action can.may))).legal in
     let follows = (fine s action.agent action.line action.step r can).after released r' (subst₂ (λ (p : StepSubject) (e : Effect). Finishes p action.step e released r r') place is finishes) in
     subst (λ (z : SliceState). StepKept s z action r r') (sym after) (record {
-      agreement = keeps s action.agent action.line action.step r r' can.both.slice ready.here ready.moves can.own follows;
-      history = counts_step s action.agent action.line action.step r r' can.both.slice ready.here can.own follows can.agrees legal;
+      agreement = keeps s action.agent action.line action.step r r' can.both.slice ready.low ready.here ready.moves can.own follows;
+      history = counts_step s action.agent action.line action.step r r' can.both.slice ready.low ready.here can.own follows can.agrees legal;
     })
 
 pub place_is : (s s' : SliceState) (action : Action) (l : Line) (index : ℕ) (profile : Profile) (slot : Option Slot) → s' ≡ slice_after s action → l ≡ action.line → index ≡ s'.index → profile ≡ s'.config.profile → slot ≡ moved_by s action

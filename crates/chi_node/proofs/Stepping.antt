@@ -1,5 +1,5 @@
 -- A step of a requester that agrees with a slice: its account has the slot as the step needs it, and follows.
-use Rattle.std.proofs.Common.{◌≡◌, ℕ, ◌+◌, ◌<◌, List, true, Option, Some, None, is_some, length, slice_set, refl, sym, ◌∙◌, ap, subst, arith, get_or-set_same, get_or-set_other}
+use Rattle.std.proofs.Common.{◌≡◌, ℕ, ◌<◌, List, true, Option, Some, None, is_some, length, slice_set, refl, sym, ◌∙◌, ap, subst, arith, get_or-set_same, get_or-set_other}
 use Rattle.std.specs.Prelude.{slice_index, IfNone, IfSome}
 use mathlib.Core.Logic.{dite}
 use native.Mathlib.Decide.{dec_le}
@@ -17,7 +17,7 @@ use Rattle.chi_flit.specs.Credit.{credit_type_of}
 use Rattle.chi_tracker.specs.declared.released.Released.{Released}
 use Rattle.chi_tracker.specs.Acts.{Act}
 use Rattle.chi_tracker.specs.Views.{PortView}
-use Rattle.chi_slice.specs.Words.{cells_of, completed_slot, completed_to, if_moved, is_comp, is_of_type, is_slot, issued_slot, moved_slot, moved_to, record_of, position_at, Record, Position}
+use Rattle.chi_slice.specs.Words.{counted, cells_of, completed_slot, completed_to, if_moved, is_comp, is_of_type, is_slot, issued_slot, moved_slot, moved_to, record_of, position_at, Record, Position}
 use Rattle.chi_slice.specs.Positions as places
 use Rattle.chi_slice.specs.Index.{SlotsInRange}
 use Rattle.chi_slice.proofs.Passed.{Moved, always_moves, completed_from, moved_from, unused_shows}
@@ -91,12 +91,12 @@ no_slot_moves s agent l step r ready none = none_moves s agent l step r.slots re
 
 -- the counts
 counts_stay : (s : SliceState) (entry : Option Record) (counts : List ℕ) → entry ≡ None → CountsFollow s entry counts counts
-counts_stay s entry counts none = subst (λ (o : Option Record). CountsFollow s o counts counts) (sym none) (record { here = omega arith; there = λ other away. refl })
+counts_stay s entry counts none = subst (λ (o : Option Record). CountsFollow s o counts counts) (sym none) (record { here = refl; there = λ other away. refl })
 
-counts_grow : (s : SliceState) (entry : Record) (counts : List ℕ) → s.index < 8 → length counts ≡ 8 → CountsFollow s (Some entry) counts (slice_set counts s.index (slice_index counts s.index + 1))
+counts_grow : (s : SliceState) (entry : Record) (counts : List ℕ) → s.index < 8 → length counts ≡ 8 → CountsFollow s (Some entry) counts (slice_set counts s.index (counted (slice_index counts s.index)))
 counts_grow s entry counts low eight = record {
-  here = get_or-set_same counts s.index (slice_index counts s.index + 1) 0 (omega arith);
-  there = λ other away. get_or-set_other counts s.index other (slice_index counts s.index + 1) 0 away;
+  here = get_or-set_same counts s.index (counted (slice_index counts s.index)) 0 (omega arith);
+  there = λ other away. get_or-set_other counts s.index other (counted (slice_index counts s.index)) 0 away;
 }
 
 counts_follow : (s : SliceState) (agent : Agent) (l : Line) (step : Step) (r : RequesterState) → Ready s agent l step r → CountsFollow s (record_of (line s l.0) (action_of agent l step)) r.counts (counts_after (place_at s (action_of agent l step)) step r.counts)

@@ -1,6 +1,6 @@
 -- What a step does to its own agent's account and counts (docs/PROTOCOL.md, "A requester and its calls").
 -- What completes a request does more, and stands apart.
-use Rattle.std.specs.Prelude.{◌≡◌, ℕ, ◌+◌, ◌<◌, ⊤, true, List, Option, Some, None, IfSome, IfNone, slice_index, slice_set}
+use Rattle.std.specs.Prelude.{◌≡◌, ℕ, ◌<◌, ⊤, true, List, Option, Some, None, IfSome, IfNone, slice_index, slice_set}
 use Rattle.chi_flit.specs.declared.numbers.Slot.{Slot}
 use Rattle.chi_flit.specs.declared.numbers.Entry.{Entry}
 use Rattle.chi_flit.specs.declared.action.Step.{Step}
@@ -17,6 +17,7 @@ use Rattle.chi_credit.specs.declared.slot.SlotState.TheVariants.{Admitted, Idle,
 use Rattle.chi_credit.specs.declared.slot.SlotRecord.{SlotRecord}
 use Rattle.chi_credit.specs.Slot.{after_answer, after_finish, can_be_answered, in_state, is_admitted, opened_slot}
 use Rattle.chi_credit.specs.Account.{riding_of, slot_record_at, state_at, type_at}
+use Rattle.chi_slice.specs.Words.{counted}
 use Rattle.chi_node.specs.declared.steps.StepSubject.{StepSubject}
 use Rattle.chi_node.specs.Requester.{Acted, RequesterState, with_both}
 
@@ -36,10 +37,10 @@ account_after at steps.RecvComp slots = changed_at at.slot after_answer slots
 account_after at steps.RecvDbid slots = changed_at at.slot after_answer slots
 account_after at other slots = slots
 
--- how many loads and stores each slice answered, after a step at a place
+-- how many loads and stores each slice answered, up to the most that is counted, after a step at a place
 abbrev pub counts_after : StepSubject → Step → List ℕ → List ℕ
-counts_after at (steps.Load word) counts = slice_set counts at.index (slice_index counts at.index + 1)
-counts_after at (steps.Store word value) counts = slice_set counts at.index (slice_index counts at.index + 1)
+counts_after at (steps.Load word) counts = slice_set counts at.index (counted (slice_index counts at.index))
+counts_after at (steps.Store word value) counts = slice_set counts at.index (counted (slice_index counts at.index))
 counts_after at other counts = counts
 
 -- the requester after a step at a place
@@ -57,8 +58,8 @@ CanResend r s = (state_at r.slots s ≡ Retried) × (riding_of r.slots (type_at 
 
 -- when a step can be followed: its slot is in the state that the step needs
 abbrev pub CanFollow : StepSubject → Step → RequesterState → Type 0
-CanFollow at (steps.Load word) r = (at.index < 8) × (slice_index r.counts at.index < 65536)
-CanFollow at (steps.Store word value) r = (at.index < 8) × (slice_index r.counts at.index < 65536)
+CanFollow at (steps.Load word) r = at.index < 8
+CanFollow at (steps.Store word value) r = at.index < 8
 CanFollow at (steps.Issue kind slot) r = (slot.0 < 8) × (state_at r.slots slot.0 ≡ Idle)
 CanFollow at steps.RecvRetry r = SlotMeets at.slot (λ s. state_at r.slots s ≡ Refused)
 CanFollow at steps.Resend r = SlotMeets at.slot (CanResend r)

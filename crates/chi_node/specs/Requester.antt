@@ -1,11 +1,12 @@
 -- A requester: its port and its account, what its calls of the port did, and why they are refused
 -- (docs/PROTOCOL.md, "A requester and its calls").
-use Rattle.std.specs.Prelude.{◌≡◌, ℕ, ◌<◌, ◌≤◌, List, [], Bool, ◌&&◌, nat_lt, Option, Some, None, length, replicate, slice_index, slice_set, ◌+◌, if◌then◌else◌}
+use Rattle.std.specs.Prelude.{◌≡◌, ℕ, ◌<◌, ◌≤◌, List, [], Bool, ◌&&◌, nat_lt, Option, Some, None, length, replicate, slice_index, slice_set, if◌then◌else◌}
 use Rattle.atomic_table.specs.Seated.{TableId}
 use Rattle.chi_flit.specs.declared.refusal.Refusal.{Refusal}
 use Rattle.chi_flit.specs.declared.refusal.Refusal.TheVariants.{OutOfRange, NoCredit}
 use Rattle.chi_tracker.specs.declared.shape.Shape.{Shape}
 use Rattle.chi_tracker.specs.Shape.{low, size}
+use Rattle.chi_slice.specs.Words.{counted}
 use Rattle.chi_tracker.specs.Views.{PortView, has, new_port}
 use Rattle.chi_tracker.specs.declared.released.Released.{Released}
 use Rattle.chi_tracker.specs.Steps.{no_shape, returns_credit}
@@ -79,7 +80,7 @@ with_both port history slots r = record r { port = port; history = history; slot
 
 -- one more load or store was answered by the slice of that index
 abbrev pub with_count : ℕ → RequesterState → RequesterState
-with_count index r = record r { counts = slice_set r.counts index (slice_index r.counts index + 1) }
+with_count index r = record r { counts = slice_set r.counts index (counted (slice_index r.counts index)) }
 
 -- the lowest slot of type t that is Cancelled is so
 abbrev pub HasCancelled : RequesterState → ℕ → Type 0

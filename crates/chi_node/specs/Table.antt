@@ -1,8 +1,8 @@
 -- Agreement by the rows of the table (docs/PROTOCOL.md, "Agreement").
-use Rattle.std.specs.Prelude.{◌≡◌, ◌↔◌, ℕ, ◌<◌, true, Option, length, slice_index}
+use Rattle.std.specs.Prelude.{◌≡◌, ◌↔◌, ℕ, ◌<◌, true, Option, slice_index}
 use Rattle.chi_flit.specs.declared.credit.Profile.{Profile}
 use Rattle.chi_flit.specs.declared.numbers.Slot.{Slot}
-use Rattle.chi_slice.specs.Words.{is_of_type, part_of, IsAt, IsFound, LineState, Position}
+use Rattle.chi_slice.specs.Words.{is_of_type, part_count, IsAt, IsFound, LineState, Position}
 use Rattle.chi_slice.specs.Slice.{SliceState, is_line_in_range, line}
 use Rattle.chi_credit.specs.declared.slot.SlotRecord.{SlotRecord}
 use Rattle.chi_credit.specs.Account.{slot_record_at}
@@ -19,7 +19,7 @@ pub record ShowsByTable (profile : Profile) (z : LineState) (n : ℕ) (slot : Sl
 pub record MatchesByTable (s : SliceState) (n : ℕ) (slot : Slot) (x : SlotRecord) : Type 0 where
   pub lines : (l : ℕ) → is_line_in_range s l ≡ true → ShowsByTable s.config.profile (line s l) n slot x l
 
--- so of each slot, and the count for the slice is the length of the requester's part of the journal
+-- so of each slot, and the count for the slice is how many loads and stores of the requester its journal counts
 pub record AgreeByTable (s : SliceState) (r : RequesterState) : Type 0 where
   pub slots : (slot : Slot) → slot.0 < 8 → MatchesByTable s r.number slot (slot_record_at r.slots slot.0)
-  pub count : slice_index r.counts s.index ≡ length (part_of s.journal.entries r.number)
+  pub count : slice_index r.counts s.index ≡ part_count s.journal r.number

@@ -1,7 +1,7 @@
 //! Whether a requester agrees with a slice.
 
 ghost use Rattle.std.specs.Prelude.{◌≡◌, ◌<◌, ◌↔◌, ℕ, All, IsTrue, Some, length, slice_index};
-ghost use Rattle.chi_slice.specs.Words.{part_of};
+ghost use Rattle.chi_slice.specs.Words.{part_count};
 ghost use Rattle.chi_credit.specs.Account.{slot_record_at};
 ghost use Rattle.chi_slice.specs.Slice.{SliceKept};
 ghost use Rattle.chi_node.specs.Requester.{RequesterKept};
@@ -57,11 +57,11 @@ pub(crate) fn all_agree<A: Allocator>(slices: &[Slice<A>], requesters: &[Request
     found
 }
 
-/// Whether the requester's count for the slice is the length of its part of the journal.
+/// Whether the requester's count for the slice is how many of its loads and stores the journal counts.
 fn has_count<A: Allocator>(slice: &Slice<A>, requester: &Requester) -> bool
     ensures is { IsTrue result
         ↔ (slice_index requester.now.counts slice.now.index
-        ≡ length (part_of slice.now.journal.entries requester.now.number)) }
+        ≡ part_count slice.now.journal requester.now.number) }
     ensures slice { SliceKept slice.now }
     ensures requester { RequesterKept requester.now.port.shape.sizes requester.now }
 {

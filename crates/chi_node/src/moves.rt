@@ -9,15 +9,16 @@ ghost use Rattle.chi_node.specs.Requester.{with_count, with_slots};
 use crate::requester::Requester;
 use chi_credit::SlotState;
 use chi_flit::{CreditType, Line, Slot};
+use chi_slice::counted;
 
 impl Requester {
-    /// The slice of that index answered one more load or store.
+    /// The slice of that index answered one more load or store; at most 2^58 - 1 are counted.
     pub(crate) fn count_access(&mut self, index: u8)
-        requires index { index < 8 }
-        requires room { slice_index self.old.counts index < 65536 }
+        requires { index < 8 }
         ensures { self.new ≡ with_count index self.old }
     {
-        self.counts[usize::from(index)] += 1;
+        let place = usize::from(index);
+        self.counts[place] = counted(self.counts[place]);
     }
 
     /// The first attempt of a request of this line and credit type was sent: Idle becomes Sent.

@@ -31,7 +31,7 @@ pub struct Requester {
     pub(crate) entries: [u16; 4],
     pub(crate) port: Port,
     pub(crate) account: Account,
-    pub(crate) counts: [u32; 8],
+    pub(crate) counts: [u64; 8],
 }
 
 impl Model for Requester {
@@ -115,11 +115,11 @@ impl Requester {
         self.port.seen()
     }
 
-    /// How many loads and stores the slice of that index answered the requester.
+    /// How many loads and stores the slice of that index answered the requester, at most 2^58 - 1.
     ///
     /// Condition: the index is below 8.
     /// Source: `docs/PROTOCOL.md`, "A requester and its calls".
-    pub fn count(&self, index: u8) -> u32
+    pub fn count(&self, index: u8) -> u64
         requires { index < 8 }
         ensures { result ≡ slice_index self.now.counts index }
     {
