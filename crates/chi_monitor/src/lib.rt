@@ -5,6 +5,7 @@
 #![tactic(auto)]
 
 mod choices;
+mod completions;
 mod explained;
 mod faults;
 mod filter;
@@ -14,8 +15,11 @@ mod monitor;
 mod open_flits;
 mod parts;
 mod requester;
+mod requests;
 mod search;
+mod snoops;
 mod values;
+mod writes;
 
 pub use choices::allowed;
 pub use explained::{NoExplanation, explain_flits, first_fault};
