@@ -44,18 +44,18 @@ no_header line (Ok sizes) gives = tt
 no_header line (Err fault) gives = fault_is line fault gives
 
 -- what was drawn for the sizes of a line was drawn for the line
-written : (line : List ℕ) (sizes : Header) (options : DrawOptions) (old new : Option (List ℕ)) (good : Bool) → line_header line ≡ Some sizes → WritesDrawn sizes options old new good → WritesStimulus line options old new good
-written line sizes options old new true is drawn = (drawn.0, drawn.1 line is, drawn.2)
+written : (line : List ℕ) (sizes : Header) (options : DrawOptions) (old new : Option (List ℕ)) (good : Bool) → line_header line ≡ Some sizes → WritesDrawn line sizes options old new good → WritesStimulus line options old new good
+written line sizes options old new true is drawn = (drawn.0, drawn.1 is, drawn.2)
 written line sizes options old new false is keeps = keeps
 
 pub drawn_ok : (line : List ℕ) (sizes : Header) (options : DrawOptions) (old new : Option (List ℕ)) (result : Result Bool Fault) → line_header line ≡ Some sizes
-    → IfOk result (WritesDrawn sizes options old new) → IfOk result (WritesStimulus line options old new)
+    → IfOk result (WritesDrawn line sizes options old new) → IfOk result (WritesStimulus line options old new)
 drawn_ok line sizes options old new (Ok good) is ok = written line sizes options old new good is ok
 drawn_ok line sizes options old new (Err fault) is ok = tt
 
 pub drawn_front : (line : List ℕ) (sizes : Header) (options : DrawOptions) (old new : Option (List ℕ)) (result : Result Bool Fault) → line_header line ≡ Some sizes
-    → AtWrite result (WritesDrawnFront sizes options old new) → AtWrite result (WritesStimulusFront line options old new)
-drawn_front line sizes options old new result is front at = ((front at).0, (front at).1 line is, (front at).2)
+    → AtWrite result (WritesDrawnFront line sizes options old new) → AtWrite result (WritesStimulusFront line options old new)
+drawn_front line sizes options old new result is front at = ((front at).0, (front at).1 is, (front at).2)
 
 draw_fault : (line : List ℕ) (fault : Fault) → IsDrawFault fault → NoStimulus line fault
 draw_fault line NoMemory is = tt

@@ -1,3 +1,8 @@
-pub mod SecondPass
+pub mod Lots
+pub mod Spelled
+pub mod Proposals
+pub mod Drafts
+pub mod Goes
 pub mod Stimulus
+pub mod SecondPass
 pub mod Weights

@@ -11,6 +11,7 @@ use Rattle.chi_script.specs.Headers.{line_header}
 use Rattle.chi_devices.specs.Devices.{AppendsFront}
 use Rattle.chi_replay.specs.Checks.{IsAnswered}
 use Rattle.chi_stimulus.specs.declared.options.DrawOptions.{DrawOptions}
+use Rattle.chi_stimulus.specs.Drafts.{IsDrawnBy}
 
 -- an answer that tells no refusal
 abbrev pub IsNoRefusal : List ℕ → Type 0
@@ -23,7 +24,7 @@ pub record HasCommands (options : DrawOptions) (count : ℕ) : Type 0 where
 
 -- A good check file of the sizes that the line says. Its commands give just the answers that stand behind them, on
 -- a new node of that size and where the tracker answers so; and where none may be any command, none of them is
--- refused.
+-- refused. It is a function of the line, the options, and the tracker's answers to what was tried.
 pub record IsStimulus (line : List ℕ) (options : DrawOptions) (file : List ℕ) : Type 0 where
   pub checks : List CheckLine
   pub answers : List (List ℕ)
@@ -32,6 +33,7 @@ pub record IsStimulus (line : List ℕ) (options : DrawOptions) (file : List ℕ
   pub told : map (λ check. check.wanted) checks ≡ map Some answers
   pub count : HasCommands options (length checks)
   pub enabled : options.wild ≡ 0 → All IsNoRefusal answers
+  pub drawn : IsDrawnBy line answered.header options file
 
 -- one such file was written, no more; or, where it is told that none was, nothing
 abbrev pub WritesStimulus : List ℕ → DrawOptions → Option (List ℕ) → Option (List ℕ) → Bool → Type 0

@@ -1,35 +1,79 @@
 //! A node, and the text of the commands that were drawn for it so far.
 
-ghost use Rattle.std.specs.Prelude.{◌<◌};
+ghost use Rattle.std.specs.Prelude.{◌≡◌, [], ◌∷◌, ◌++◌, IfOk, OnOk, string_bytes};
+ghost use Rattle.chi_replay.specs.Session.{SaysTurn};
+ghost use Rattle.chi_stimulus.specs.Drafts.{adding, adding_any, adding_enabled, for_each, is_plain, keeping, proposing, seeking, trying};
+ghost use Rattle.chi_stimulus.specs.Goes.{Goes, IsBlank, IsPlan, with_note};
+ghost use Rattle.chi_stimulus.specs.Lots.{lot_now, past_lot, past_word, word_now};
 
-use crate::candidates::{act, find};
-use crate::options::DrawOptions;
+use crate::operands::Operands;
+use crate::plan::Plan;
+use crate::proposals::{any_command, command_by};
+use crate::second_pass::is_plain;
 use crate::shortage::Shortage;
 use crate::spelled::Spelled;
-use crate::words::Words;
-use chi_flit::{Agent, CreditType, Line, Profile, Slot, Step, WordNo};
+use crate::words::{Lot, Words};
+use chi_flit::Agent;
 use chi_node::System;
 use chi_replay::answer;
 use chi_script::{Command, MOST_CHECK_BYTES};
 use chi_slice::Config;
 use std::alloc::Allocator;
-
-/// How often a place is drawn at which a command may be enabled.
-pub(crate) const TRIES: u8 = 16;
+use std::marker::Model;
 
 /// A node, and the text so far.
 #[derive(Drop)]
 pub(crate) struct Drawing<A: Allocator> {
-    pub(crate) system: System<A>,
-    pub(crate) words: Words,
+    system: System<A>,
+    words: Words,
+    /// How many commands there are.
+    count: u64,
     /// The header, and each command with its answer.
-    pub(crate) text: String<A>,
-    /// How many commands these are.
-    pub(crate) count: u64,
+    text: String<A>,
     /// The answer of the command that was tried last.
     said: String<A>,
-    /// What the line waits for that was looked at last.
-    pub(crate) found: Vec<Command, A>,
+    /// Whether a command was kept since this was last cleared.
+    done: bool,
+}
+
+impl<A: Allocator> Model for Drawing<A> {
+    ghost use Rattle.std.specs.Prelude.{string_bytes};
+    ghost use Rattle.chi_stimulus.specs.Goes.{DrawingState};
+
+    ghost Value = { DrawingState };
+
+    ghost view = { λ d.
+        record {
+          system = d.system;
+          words = d.words;
+          count = d.count;
+          text = string_bytes d.text;
+          said = string_bytes d.said;
+          done = d.done;
+        } };
+}
+
+/// Does a command, and makes its answer all that is said.
+fn say<A: Allocator>(
+    system: &mut System<A>,
+    command: &Command,
+    said: &mut String<A>,
+) -> Result<(), Shortage>
+    ensures { OnOk result
+        (SaysTurn command.now system.old system.new [] (string_bytes said.new)) }
+{
+    said.clear();
+    answer(system, *command, said)?;
+    Ok(())
+}
+
+/// A header and its line end.
+fn header_line<A: Allocator>(alloc: A, header: &str) -> Result<String<A>, Shortage>
+    ensures { IfOk result (λ text. string_bytes text ≡ header.now ++ (10 ∷ [])) }
+{
+    let mut text = String::new(alloc);
+    writeln!(text, "{header}")?;
+    Ok(text)
 }
 
 impl<A: Allocator + Copy> Drawing<A> {
@@ -39,53 +83,94 @@ impl<A: Allocator + Copy> Drawing<A> {
         header: &str,
         config: &Config,
         seed: u64,
-    ) -> Result<Drawing<A>, Shortage> {
+    ) -> Result<Drawing<A>, Shortage>
+        ensures { IfOk result (λ drawing. IsBlank header.now config.now seed drawing) }
+    {
         let system = System::new(alloc, config)?;
-        let mut text = String::new(alloc);
-        text.push_str(header)?;
-        text.push('\n')?;
+        let text = header_line(alloc, header)?;
         Ok(Drawing {
             system,
             words: Words::new(seed),
-            text,
             count: 0,
+            text,
             said: String::new(alloc),
-            found: Vec::new(alloc),
+            done: false,
         })
     }
 }
 
 impl<A: Allocator> Drawing<A> {
-    /// Does the command, which then stands in the text with its answer.
-    pub(crate) fn put(&mut self, command: &Command) -> Result<(), Shortage> {
-        self.said.clear();
-        answer(&mut self.system, *command, &mut self.said)?;
-        self.write(command)
+    /// The text so far.
+    pub(crate) fn into_text(self) -> String<A>
+        ensures { string_bytes result ≡ self.text }
+    {
+        self.text
     }
 
-    /// The same where it isn't refused; else nothing. Answers whether it was done.
-    pub(crate) fn tries(&mut self, command: &Command) -> Result<bool, Shortage> {
-        self.said.clear();
-        answer(&mut self.system, *command, &mut self.said)?;
-        if self.said.as_bytes().starts_with(b"refused") {
-            return Ok(false);
-        }
-        self.write(command)?;
-        Ok(true)
+    /// Whether a command was kept since this was last cleared.
+    pub(crate) fn is_done(&self) -> bool
+        ensures { result ≡ self.now.done }
+    {
+        self.done
+    }
+
+    /// Makes it so.
+    pub(crate) fn set_done(&mut self, done: bool)
+        ensures { self.new ≡ record self.old { done = done } }
+    {
+        self.done = done;
+    }
+
+    /// How many commands there are.
+    fn count(&self) -> u64
+        ensures { result ≡ self.now.count }
+    {
+        self.count
+    }
+
+    /// The next word.
+    fn word(&mut self) -> u32
+        ensures word { result ≡ word_now self.old.words }
+        ensures place { self.new ≡ record self.old { words = past_word self.old.words } }
+    {
+        self.words.next()
+    }
+
+    /// The next five words.
+    fn lot(&mut self) -> Lot
+        ensures lot { result ≡ lot_now self.old.words }
+        ensures place { self.new ≡ record self.old { words = past_lot self.old.words } }
+    {
+        self.words.lot()
+    }
+
+    /// Does the command, and keeps its answer.
+    fn play(&mut self, command: &Command) -> Result<(), Shortage>
+        ensures says { OnOk result
+            (SaysTurn command.now self.old.system self.new.system [] self.new.said) }
+        ensures same { OnOk result (self.new ≡ record self.old {
+          system = self.new.system;
+          said = self.new.said;
+        }) }
+    {
+        say(&mut self.system, command, &mut self.said)
+    }
+
+    /// Whether what was played last isn't refused.
+    fn is_enabled(&self) -> bool
+        ensures { result ≡ is_plain self.now.said }
+    {
+        is_plain(self.said.as_bytes())
     }
 
     /// Puts the command behind the text, with the answer that it was given.
-    fn write(&mut self, command: &Command) -> Result<(), Shortage> {
-        let command = Spelled(command);
-        write!(self.text, "{command} -> ")?;
-        self.text.push_str(self.said.as_str())?;
-        self.count = self.count.saturating_add(1);
-        self.fits()
-    }
-
-    /// Puts a comment behind the text.
-    pub(crate) fn remark(&mut self, comment: &str) -> Result<(), Shortage> {
-        writeln!(self.text, "# {comment}")?;
+    fn note(&mut self, command: &Command) -> Result<(), Shortage>
+        ensures { OnOk result (self.new ≡ with_note command.now self.old) }
+    {
+        let spelled = Spelled(*command);
+        let said = self.said.as_str();
+        write!(self.text, "{spelled} -> {said}")?;
+        self.count = self.count.wrapping_add(1);
         self.fits()
     }
 
@@ -98,138 +183,113 @@ impl<A: Allocator> Drawing<A> {
         }
     }
 
-    /// Puts a command behind the text: any one, so many times in a hundred, and else one that is enabled, by the
-    /// weights where there are some.
-    pub(crate) fn add(&mut self, options: &DrawOptions) -> Result<(), Shortage> {
-        if self.words.below(100) < options.wild {
-            return self.add_any();
-        }
-        match &options.weights {
-            Some(weights) => self.add_weighted(weights),
-            None => self.add_enabled(),
-        }
+    /// Does the command, which then stands in the text with its answer.
+    pub(crate) fn keep(&mut self, command: &Command) -> Result<(), Shortage>
+        ensures { OnOk result (Goes (keeping command.now) self.old self.new) }
+    {
+        self.play(command)?;
+        self.note(command)
     }
 
-    /// Puts an enabled command behind the text.
-    fn add_enabled(&mut self) -> Result<(), Shortage> {
-        let done = match self.words.below(100) {
-            0..=54 => self.advance()?,
-            55..=69 => self.request()?,
-            70..=87 => self.access()?,
-            _ => self.own_call()?,
-        };
-        if done || self.advance()? || self.request()? {
+    /// The same where it isn't refused, and then one was kept; else nothing.
+    pub(crate) fn tries(&mut self, command: &Command) -> Result<(), Shortage>
+        ensures { OnOk result (Goes (trying command.now) self.old self.new) }
+    {
+        self.play(command)?;
+        if !self.is_enabled() {
             return Ok(());
         }
-        // (a look is never refused)
-        let agent = self.agent();
-        self.put(&Command::See { agent })
+        self.note(command)?;
+        self.set_done(true);
+        Ok(())
     }
 
-    /// Does something that a line waits for, of the first line from a random one on where that is enabled.
-    pub(crate) fn advance(&mut self) -> Result<bool, Shortage> {
-        let lines = self.system.config().lines();
-        let first = self.words.below(lines);
-        for more in 0..lines {
-            let line = Line((first + more) % lines);
-            if self.advance_at(line)? {
-                return Ok(true);
+    /// Puts a comment behind the text.
+    pub(crate) fn remark(&mut self, comment: &str) -> Result<(), Shortage>
+        ensures { OnOk result
+            (self.new ≡ record self.old {
+              text = self.old.text ++ (comment.now ++ (10 ∷ []));
+            }) }
+    {
+        writeln!(self.text, "{comment}")?;
+        self.fits()
+    }
+
+    /// Puts so many commands behind the text.
+    pub(crate) fn add_all(&mut self, plan: &Plan, commands: u64) -> Result<(), Shortage>
+        requires { IsPlan plan.now }
+        ensures { OnOk result (Goes (for_each commands (λ _. adding plan.now)) self.old self.new) }
+    {
+        for _ in 0..commands {
+            self.add(plan)?;
+        }
+        Ok(())
+    }
+
+    /// Puts a command behind the text: any one, so many times in a hundred, and else one that is enabled.
+    pub(crate) fn add(&mut self, plan: &Plan) -> Result<(), Shortage>
+        requires { IsPlan plan.now }
+        ensures { OnOk result (Goes (adding plan.now) self.old self.new) }
+    {
+        if self.word() % 100 < u32::from(plan.wild) {
+            self.add_any(plan)
+        } else {
+            self.add_enabled(plan)
+        }
+    }
+
+    /// Puts any command behind the text.
+    fn add_any(&mut self, plan: &Plan) -> Result<(), Shortage>
+        requires { IsPlan plan.now }
+        ensures { OnOk result (Goes (adding_any plan.now) self.old self.new) }
+    {
+        let lot = self.lot();
+        let count = self.count();
+        self.keep(&any_command(plan, &lot, count))
+    }
+
+    /// Puts an enabled command behind the text: of a verb by weight, else of any that is drawn, else a look, which is
+    /// never refused.
+    fn add_enabled(&mut self, plan: &Plan) -> Result<(), Shortage>
+        requires { IsPlan plan.now }
+        ensures { OnOk result (Goes (adding_enabled plan.now) self.old self.new) }
+    {
+        self.set_done(false);
+        self.seek(plan, false)?;
+        self.seek(plan, true)?;
+        if self.is_done() {
+            return Ok(());
+        }
+        self.keep(&Command::See { agent: Agent(0) })
+    }
+
+    /// Tries one proposal after the other, until one is kept.
+    fn seek(&mut self, plan: &Plan, even: bool) -> Result<(), Shortage>
+        requires { IsPlan plan.now }
+        ensures { OnOk result (Goes (seeking plan.now even) self.old self.new) }
+    {
+        for _ in 0..plan.tries {
+            if self.is_done() {
+                return Ok(());
+            }
+            self.propose(plan, even)?;
+        }
+        Ok(())
+    }
+
+    /// Tries one proposal: of a verb by weight, or of each verb with one chance.
+    fn propose(&mut self, plan: &Plan, even: bool) -> Result<(), Shortage>
+        requires { IsPlan plan.now }
+        ensures { OnOk result (Goes (proposing plan.now even) self.old self.new) }
+    {
+        let lot = self.lot();
+        match plan.weights.verb_by(even, lot.verb) {
+            None => Ok(()),
+            Some(verb) => {
+                let count = self.count();
+                let operands = Operands::new(plan, &lot);
+                self.tries(&command_by(verb, &operands, count))
             }
         }
-        Ok(false)
-    }
-
-    /// Does something that the line waits for, where anything is enabled.
-    fn advance_at(&mut self, line: Line) -> Result<bool, Shortage> {
-        self.look(line)?;
-        let count = self.found.len();
-        if count == 0 {
-            return Ok(false);
-        }
-        let first = self.words.place(count);
-        for more in 0..count {
-            let place = (first + more) % count;
-            if let Some(command) = self.found.get(place).copied()
-                && self.tries(&command)?
-            {
-                return Ok(true);
-            }
-        }
-        Ok(false)
-    }
-
-    /// Finds what the line waits for.
-    pub(crate) fn look(&mut self, line: Line) -> Result<(), Shortage> {
-        match self.system.view(line) {
-            Ok(view) => find(&mut self.found, line, &view),
-            Err(_) => {
-                self.found.clear();
-                Ok(())
-            }
-        }
-    }
-
-    /// Issues a request.
-    pub(crate) fn request(&mut self) -> Result<bool, Shortage> {
-        for _ in 0..TRIES {
-            let (agent, line) = (self.agent(), self.line());
-            let kind = self.words.kind();
-            let slot = Slot(self.words.below(8));
-            let command = act(agent, line, Step::Issue(kind, slot));
-            if self.tries(&command)? {
-                return Ok(true);
-            }
-        }
-        Ok(false)
-    }
-
-    /// Loads or stores a word, or drops a copy.
-    fn access(&mut self) -> Result<bool, Shortage> {
-        for _ in 0..TRIES {
-            let (agent, line) = (self.agent(), self.line());
-            let word = WordNo(self.words.below(8));
-            let command = match self.words.below(8) {
-                0..=3 => act(agent, line, Step::Load(word)),
-                4..=6 => act(agent, line, Step::Store(word, self.count)),
-                _ => act(agent, line, Step::Drop),
-            };
-            if self.tries(&command)? {
-                return Ok(true);
-            }
-        }
-        Ok(false)
-    }
-
-    /// A call that a requester does by itself: it looks, gives a credit back, or tends a type.
-    fn own_call(&mut self) -> Result<bool, Shortage> {
-        let agent = self.agent();
-        let credit = self.credit();
-        let command = match self.words.below(8) {
-            0..=4 => Command::See { agent },
-            5..=6 => Command::GiveBack { agent, credit },
-            _ => Command::Tend { agent, credit },
-        };
-        self.tries(&command)
-    }
-
-    /// One of the agents.
-    pub(crate) fn agent(&mut self) -> Agent {
-        let agents = self.system.config().agents();
-        Agent(self.words.below(agents))
-    }
-
-    /// One of the lines.
-    pub(crate) fn line(&mut self) -> Line {
-        let lines = self.system.config().lines();
-        Line(self.words.below(lines))
-    }
-
-    /// One of the credit types.
-    pub(crate) fn credit(&mut self) -> Option<CreditType> {
-        let types = match self.system.config().profile() {
-            Profile::Two => 2,
-            Profile::Four => 4,
-        };
-        self.words.credit(types)
     }
 }

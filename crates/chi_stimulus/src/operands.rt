@@ -1,46 +1,114 @@
 //! Operands that are drawn.
 
-ghost use Rattle.std.specs.Prelude.{◌<◌, ◌+◌};
+ghost use Rattle.std.specs.Prelude.{◌≡◌, ◌<◌, ◌%◌};
+ghost use Rattle.chi_flit.specs.Numbers.{credit_of};
+ghost use Rattle.chi_stimulus.specs.Proposals.{kind_at, near, near_operands_of, operands_at, operands_of};
 
-use crate::words::Words;
+use crate::plan::Plan;
+use crate::words::Lot;
 use chi_flit::{CreditType, Kind};
 
-impl Words {
-    /// One of the kinds of request.
-    pub(crate) fn kind(&mut self) -> Kind {
-        match self.below(8) {
-            0 => Kind::ReadNotSharedDirty,
-            1 => Kind::ReadShared,
-            2 => Kind::ReadUnique,
-            3 => Kind::CleanUnique,
-            4 => Kind::Evict,
-            5 => Kind::WriteBackFull,
-            6 => Kind::WriteCleanFull,
-            _ => Kind::WriteEvictFull,
+/// The operands of a command: it takes those that its verb asks for. The number is that of a word or a slot.
+#[derive(Clone, Copy)]
+pub(crate) struct Operands {
+    pub(crate) agent: u8,
+    pub(crate) line: u8,
+    pub(crate) number: u8,
+    pub(crate) kind: Kind,
+    pub(crate) credit: Option<CreditType>,
+}
+
+/// The kind of request of a number below 8.
+pub(crate) fn kind_at(number: u32) -> Kind
+    ensures { result ≡ kind_at number }
+{
+    match number {
+        0 => Kind::ReadNotSharedDirty,
+        1 => Kind::ReadShared,
+        2 => Kind::ReadUnique,
+        3 => Kind::CleanUnique,
+        4 => Kind::Evict,
+        5 => Kind::WriteBackFull,
+        6 => Kind::WriteCleanFull,
+        _ => Kind::WriteEvictFull,
+    }
+}
+
+/// The credit type of a number; none has a number above 3.
+pub(crate) fn credit_of(number: u32) -> Option<CreditType>
+    ensures { result ≡ credit_of number }
+{
+    match number {
+        0 => Some(CreditType::T0),
+        1 => Some(CreditType::T1),
+        2 => Some(CreditType::T2),
+        3 => Some(CreditType::T3),
+        _ => None,
+    }
+}
+
+/// By a word, a number below the end.
+fn below(end: u8, word: u32) -> u8
+    requires { 0 < end }
+    ensures { result ≡ word % end }
+{
+    (word % u32::from(end)) as u8
+}
+
+/// By a word, a number below the end, one of the two behind it, or 255.
+fn near(end: u8, word: u32) -> u8
+    requires { end < 254 }
+    ensures { result ≡ near end word }
+{
+    if word % 32 == 0 {
+        255
+    } else {
+        below(end + 2, word / 32)
+    }
+}
+
+impl Operands {
+    /// Operands in their ranges.
+    pub(crate) fn new(plan: &Plan, lot: &Lot) -> Operands
+        requires agents { 0 < plan.now.agents }
+        requires lines { 0 < plan.now.lines }
+        requires types { 0 < plan.now.types }
+        ensures { result ≡ operands_of plan.now lot.now }
+    {
+        Operands {
+            agent: below(plan.agents, lot.agent),
+            line: below(plan.lines, lot.line),
+            number: below(8, lot.first),
+            kind: kind_at(lot.second % 8),
+            credit: credit_of(lot.second % u32::from(plan.types)),
         }
     }
 
-    /// The credit type of a number below this one; none has a number above 3.
-    pub(crate) fn credit(&mut self, end: u8) -> Option<CreditType>
-        requires { 0 < end }
+    /// Operands near their ranges.
+    pub(crate) fn near(plan: &Plan, lot: &Lot) -> Operands
+        requires agents { plan.now.agents < 254 }
+        requires lines { plan.now.lines < 254 }
+        ensures { result ≡ near_operands_of plan.now lot.now }
     {
-        match self.below(end) {
-            0 => Some(CreditType::T0),
-            1 => Some(CreditType::T1),
-            2 => Some(CreditType::T2),
-            3 => Some(CreditType::T3),
-            _ => None,
+        Operands {
+            agent: near(plan.agents, lot.agent),
+            line: near(plan.lines, lot.line),
+            number: near(8, lot.first),
+            kind: kind_at(lot.second % 8),
+            credit: credit_of(lot.second % 5),
         }
     }
 
-    /// A number near the range that ends before this one: in it, one of the two behind it, or 255.
-    pub(crate) fn near(&mut self, end: u8) -> u8
-        requires { end + 2 < 256 }
+    /// An agent and a line alone.
+    pub(crate) fn at(agent: u8, line: u8) -> Operands
+        ensures { result ≡ operands_at agent line }
     {
-        if self.below(32) == 0 {
-            255
-        } else {
-            self.below(end + 2)
+        Operands {
+            agent,
+            line,
+            number: 0,
+            kind: Kind::ReadShared,
+            credit: None,
         }
     }
 }

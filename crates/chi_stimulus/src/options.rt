@@ -12,7 +12,7 @@ pub struct DrawOptions {
     pub commands: u64,
     /// How many commands in a hundred are any command, which may be refused; all others are enabled.
     pub wild: u8,
-    /// How often each verb is drawn, for the commands that are enabled; as ever where none is given.
+    /// How often each verb is proposed, for the commands that are enabled; as usual where none is given.
     pub weights: Option<Weights>,
     /// Whether commands follow that bring the node to rest.
     pub drain: bool,

@@ -1,98 +1,127 @@
 //! Bringing a node to rest: nothing is in flight, and each entry is free.
 
+ghost use Rattle.std.specs.Prelude.{◌+◌, ◌≤◌, OnOk};
+ghost use Rattle.chi_stimulus.specs.Drafts.{looking, looking_at, returning, round, rounding, settling, settling_if, walking, walking_agents, walking_line};
+ghost use Rattle.chi_stimulus.specs.Goes.{Goes};
+
 use crate::drawing::Drawing;
+use crate::operands::{Operands, credit_of};
+use crate::plan::Plan;
+use crate::proposals::{command_by, rest_verb};
 use crate::shortage::Shortage;
-use chi_flit::{Agent, CreditType, Line};
+use chi_flit::Agent;
 use chi_script::Command;
 use std::alloc::Allocator;
 
-/// How many commands bring a node to rest at most, for each agent at each line.
-const MOST_EACH: u32 = 100;
-
-/// The credit types, by their numbers.
-const TYPES: [CreditType; 4] = [
-    CreditType::T0,
-    CreditType::T1,
-    CreditType::T2,
-    CreditType::T3,
-];
-
-/// Whether some number isn't 0.
-fn is_any(counts: [u32; 4]) -> bool {
-    counts != [0; 4]
-}
-
 impl<A: Allocator> Drawing<A> {
-    /// Puts commands behind the text that bring the node to rest. Where they are too many, or don't get there,
-    /// a comment says so.
-    pub(crate) fn settle(&mut self) -> Result<(), Shortage> {
-        let places = u32::from(self.system.config().agents())
-            * u32::from(self.system.config().lines());
-        for _ in 0..places * MOST_EACH {
-            if !self.settle_more()? {
-                break;
-            }
-        }
-        if !self.is_at_rest()? {
-            self.remark("not at rest")?;
+    /// Brings the node to rest, if that is asked for.
+    pub(crate) fn settle_if(&mut self, plan: &Plan, drain: bool) -> Result<(), Shortage>
+        ensures { OnOk result (Goes (settling_if drain plan.now) self.old self.new) }
+    {
+        if drain { self.settle(plan) } else { Ok(()) }
+    }
+
+    /// Puts commands behind the text that bring the node to rest, round after round, until one keeps none but looks.
+    /// Where that isn't reached a comment says so.
+    fn settle(&mut self, plan: &Plan) -> Result<(), Shortage>
+        ensures { OnOk result (Goes (settling plan.now) self.old self.new) }
+    {
+        self.set_done(true);
+        self.rounds(plan)?;
+        if self.is_done() {
+            return self.remark("# not at rest");
         }
         Ok(())
     }
 
-    /// One command more; false where none is left that helps.
-    fn settle_more(&mut self) -> Result<bool, Shortage> {
-        Ok(self.advance()? || self.give_back()? || self.see_promises()? || self.tend()?)
-    }
-
-    /// Gives a credit back, where some agent can.
-    fn give_back(&mut self) -> Result<bool, Shortage> {
-        for number in 0..self.system.config().agents() {
-            let agent = Agent(number);
-            for ty in TYPES {
-                let credit = Some(ty);
-                if self.tries(&Command::GiveBack { agent, credit })? {
-                    return Ok(true);
-                }
+    /// Goes on round after round.
+    fn rounds(&mut self, plan: &Plan) -> Result<(), Shortage>
+        ensures { OnOk result (Goes (rounding plan.now) self.old self.new) }
+    {
+        for _ in 0..plan.rounds {
+            if !self.is_done() {
+                return Ok(());
             }
+            self.round(plan)?;
         }
-        Ok(false)
+        Ok(())
     }
 
-    /// Lets an agent look, where an entry is promised.
-    fn see_promises(&mut self) -> Result<bool, Shortage> {
-        if !is_any(self.system.glance().promised) {
-            return Ok(false);
+    /// One round: deliveries, starts and resends; and where there is none, looks, resends and cancels.
+    fn round(&mut self, plan: &Plan) -> Result<(), Shortage>
+        ensures { OnOk result (Goes (round plan.now) self.old self.new) }
+    {
+        self.set_done(false);
+        self.walk(plan, 0, 11)?;
+        if self.is_done() {
+            return Ok(());
         }
-        let agents = self.system.config().agents();
-        let agent = Agent(self.words.below(agents));
-        self.tries(&Command::See { agent })
+        self.look(plan)?;
+        self.walk(plan, 10, 2)
     }
 
-    /// Tends a type, where a credit is owed and an entry free.
-    fn tend(&mut self) -> Result<bool, Shortage> {
-        let counts = self.system.glance();
-        let agent = Agent(0);
-        for (ty, (owed, free)) in TYPES.iter().zip(counts.owed.iter().zip(counts.free)) {
-            let credit = Some(*ty);
-            if *owed > 0 && free > 0 && self.tries(&Command::Tend { agent, credit })? {
-                return Ok(true);
-            }
+    /// Tries so many of the commands to rest, from a place on, of each agent at each line.
+    fn walk(&mut self, plan: &Plan, from: u8, count: u8) -> Result<(), Shortage>
+        requires { from + count ≤ 255 }
+        ensures { OnOk result (Goes (walking plan.now from count) self.old self.new) }
+    {
+        for line in 0..plan.lines {
+            self.walk_line(plan, from, count, line)?;
         }
-        Ok(false)
+        Ok(())
     }
 
-    /// Whether each entry is free, and no line waits for anything.
-    fn is_at_rest(&mut self) -> Result<bool, Shortage> {
-        let counts = self.system.glance();
-        if is_any(counts.hand) || is_any(counts.promised) || is_any(counts.owed) {
-            return Ok(false);
+    /// The same at a line.
+    fn walk_line(&mut self, plan: &Plan, from: u8, count: u8, line: u8) -> Result<(), Shortage>
+        requires { from + count ≤ 255 }
+        ensures { OnOk result (Goes (walking_line plan.now from count line) self.old self.new) }
+    {
+        for more in 0..count {
+            self.walk_agents(plan, from + more, line)?;
         }
-        for number in 0..self.system.config().lines() {
-            self.look(Line(number))?;
-            if !self.found.is_empty() {
-                return Ok(false);
-            }
+        Ok(())
+    }
+
+    /// Tries one of the commands to rest, of each agent at a line.
+    fn walk_agents(&mut self, plan: &Plan, place: u8, line: u8) -> Result<(), Shortage>
+        ensures { OnOk result (Goes (walking_agents plan.now place line) self.old self.new) }
+    {
+        let verb = rest_verb(place);
+        for agent in 0..plan.agents {
+            let operands = Operands::at(agent, line);
+            self.tries(&command_by(verb, &operands, 0))?;
         }
-        Ok(true)
+        Ok(())
+    }
+
+    /// Lets each agent look, and give a credit of each type back.
+    fn look(&mut self, plan: &Plan) -> Result<(), Shortage>
+        ensures { OnOk result (Goes (looking plan.now) self.old self.new) }
+    {
+        for agent in 0..plan.agents {
+            self.look_at(plan, agent)?;
+        }
+        Ok(())
+    }
+
+    /// The same of an agent.
+    fn look_at(&mut self, plan: &Plan, agent: u8) -> Result<(), Shortage>
+        ensures { OnOk result (Goes (looking_at plan.now agent) self.old self.new) }
+    {
+        let looks = Agent(agent);
+        self.keep(&Command::See { agent: looks })?;
+        self.give_back(plan, agent)
+    }
+
+    /// Gives a credit of each type back, where that isn't refused.
+    fn give_back(&mut self, plan: &Plan, agent: u8) -> Result<(), Shortage>
+        ensures { OnOk result (Goes (returning plan.now agent) self.old self.new) }
+    {
+        for ty in 0..plan.types {
+            let credit = credit_of(u32::from(ty));
+            let agent = Agent(agent);
+            self.tries(&Command::GiveBack { agent, credit })?;
+        }
+        Ok(())
     }
 }

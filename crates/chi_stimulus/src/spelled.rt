@@ -1,48 +1,83 @@
 //! The text of a command.
 
-use chi_flit::Step;
+ghost use Rattle.std.specs.Prelude.{◌≡◌, Some};
+ghost use Rattle.chi_stimulus.specs.Spelled.{drawn_command, drawn_operands, drawn_type, drawn_word};
+
+use chi_flit::{CreditType, Step};
 use chi_script::Command;
 use std::fmt;
 
-/// A command. It prints as a file has it; a credit type that is none is 4.
-#[derive(Clone, Copy)]
-pub(crate) struct Spelled<'a>(pub(crate) &'a Command);
+/// A command. It prints as a file has it, a credit type that is none as 4.
+/// Source: `docs/FORMATS.md`, "Replay files".
+#[derive(Drop)]
+pub(crate) struct Spelled(pub(crate) Command);
 
-impl fmt::Display for Spelled<'_> {
+/// A credit type, or a number that is none.
+#[derive(Drop)]
+struct Typed(Option<CreditType>);
+
+/// What stands behind the agent and the line of a step.
+#[derive(Drop)]
+struct Behind(Step);
+
+impl fmt::Display for Spelled {
+    ghost output = { λ spelled. Some (drawn_command spelled.0) };
+
     fn fmt<W: fmt::Write>(&self, f: &mut fmt::Formatter<W>) -> fmt::Result {
-        match *self.0 {
-            Command::Totals => f.write_str("totals"),
-            Command::Audit => f.write_str("audit"),
+        match self.0 {
+            Command::Totals => write!(f, "totals"),
+            Command::Audit => write!(f, "audit"),
             Command::Show { line } => write!(f, "show {line}"),
             Command::Flits { agent, line } => write!(f, "flits {agent} {line}"),
             Command::Arrive { agent, line } => write!(f, "arrive {agent} {line}"),
             Command::See { agent } => write!(f, "see {agent}"),
             Command::GiveBack { agent, credit } => {
-                let number = credit.map_or(4, |ty| ty.number());
-                write!(f, "giveback {agent} {number}")
+                let credit = Typed(credit);
+                write!(f, "giveback {agent} {credit}")
             }
             Command::Tend { agent, credit } => {
-                let number = credit.map_or(4, |ty| ty.number());
-                write!(f, "tend {agent} {number}")
+                let credit = Typed(credit);
+                write!(f, "tend {agent} {credit}")
             }
             Command::Act(action) => {
                 let action = action.action();
-                let verb = verb_of(action.step);
+                let word = drawn_word(action.step);
                 let (agent, line) = (action.agent, action.line);
-                write!(f, "{verb} {agent} {line}")?;
-                match action.step {
-                    Step::Load(word) => write!(f, " {word}"),
-                    Step::Store(word, value) => write!(f, " {word} {value}"),
-                    Step::Issue(kind, slot) => write!(f, " {kind} {slot}"),
-                    _ => Ok(()),
-                }
+                let operands = Behind(action.step);
+                write!(f, "{word} {agent} {line}{operands}")
             }
         }
     }
 }
 
-/// The verb of a step.
-fn verb_of(step: Step) -> &'static str {
+impl fmt::Display for Typed {
+    ghost output = { λ typed. Some (drawn_type typed.0) };
+
+    fn fmt<W: fmt::Write>(&self, f: &mut fmt::Formatter<W>) -> fmt::Result {
+        match self.0 {
+            Some(credit) => write!(f, "{credit}"),
+            None => write!(f, "4"),
+        }
+    }
+}
+
+impl fmt::Display for Behind {
+    ghost output = { λ operands. Some (drawn_operands operands.0) };
+
+    fn fmt<W: fmt::Write>(&self, f: &mut fmt::Formatter<W>) -> fmt::Result {
+        match self.0 {
+            Step::Load(word) => write!(f, " {word}"),
+            Step::Store(word, value) => write!(f, " {word} {value}"),
+            Step::Issue(kind, slot) => write!(f, " {kind} {slot}"),
+            _ => Ok(()),
+        }
+    }
+}
+
+/// The word of a step.
+fn drawn_word(step: Step) -> &'static str
+    ensures { result.now ≡ drawn_word step }
+{
     match step {
         Step::Load(_) => "load",
         Step::Store(..) => "store",

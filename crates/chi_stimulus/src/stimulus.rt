@@ -1,15 +1,17 @@
 //! From a header and options to the file that is written.
 
-ghost use Rattle.std.specs.Prelude.{◌≡◌, ◌≢◌, ◌+◌, ◌^◌, ◌<◌, ◌⊎◌, IfErr, IfOk, Err, None, Some, true};
+ghost use Rattle.std.specs.Prelude.{◌≡◌, ◌≢◌, ◌+◌, ◌^◌, ◌<◌, ◌⊎◌, IfErr, IfOk, Err, None, Some, string_bytes, true};
 ghost use Rattle.std.specs.Io.KnownBytes.{Keeps};
 ghost use Rattle.chi_script.specs.Headers.{is_in_limits, line_header};
 ghost use Rattle.chi_script.specs.declared.faults.Fault.TheVariants.{BadHeader, NoMemory};
 ghost use Rattle.chi_replay.specs.Replays.{AtWrite};
+ghost use Rattle.chi_stimulus.specs.Drafts.{IsDrawnBy};
 ghost use Rattle.chi_stimulus.specs.SecondPass.{IsDrawFault, NoHeader, WritesDrawn, WritesDrawnFront};
 ghost use Rattle.chi_stimulus.specs.Stimulus.{NoStimulus, WritesStimulus, WritesStimulusFront};
 
 use crate::drawing::Drawing;
 use crate::options::DrawOptions;
+use crate::plan::Plan;
 use crate::second_pass::is_good;
 use crate::shortage::Shortage;
 use chi_devices::{Failed, Output};
@@ -20,8 +22,7 @@ use std::alloc::Allocator;
 /// The fewest bytes of a command with its answer and its line end, as `snp 0 0 -> ok`.
 const LEAST_BYTES: u64 = 14;
 
-/// The header, and commands that are drawn, each with its answer. That they are as they should be is found by the
-/// second pass.
+/// The header, and commands that are drawn, each with its answer.
 fn drawn_text<A: Allocator + Copy>(
     alloc: A,
     line: &str,
@@ -29,34 +30,37 @@ fn drawn_text<A: Allocator + Copy>(
     options: &DrawOptions,
 ) -> Result<String<A>, Shortage>
     requires { is_in_limits header.now ≡ true }
+    ensures { IfOk result
+        (λ text. IsDrawnBy line.now header.now options.now (string_bytes text)) }
 {
     if options.commands > MOST_CHECK_BYTES as u64 / LEAST_BYTES {
         return Err(Shortage::Room);
     }
     let config = config_of(header);
+    let plan = Plan::new(header, options);
     let mut drawing = Drawing::new(alloc, line, &config, options.seed)?;
-    for _ in 0..options.commands {
-        drawing.add(options)?;
-    }
-    if options.drain {
-        drawing.settle()?;
-    }
-    Ok(drawing.text)
+    drawing.add_all(&plan, options.commands)?;
+    drawing.settle_if(&plan, options.drain)?;
+    Ok(drawing.into_text())
 }
 
 /// Writes the text where the second pass finds it good, and answers whether it does.
 fn hand_out<A: Allocator + Copy, O: Output>(
     alloc: A,
+    line: &str,
     sizes: &Header,
     options: &DrawOptions,
     text: &[u8],
     output: &mut O,
 ) -> Result<bool, Fault>
-    requires { O.failures output.old + 1 < 2 ^ 64 }
-    ensures ok { IfOk result (WritesDrawn sizes.now options.now (O.written output.old) (O.written output.new)) }
+    requires writes { O.failures output.old + 1 < 2 ^ 64 }
+    requires drawn { IsDrawnBy line.now sizes.now options.now text.now }
+    ensures ok { IfOk result
+        (WritesDrawn line.now sizes.now options.now (O.written output.old) (O.written output.new)) }
     ensures write { AtWrite result (O.failures output.new ≡ O.failures output.old + 1) }
     ensures front { AtWrite result
-        (WritesDrawnFront sizes.now options.now (O.written output.old) (O.written output.new)) }
+        (WritesDrawnFront line.now sizes.now options.now
+        (O.written output.old) (O.written output.new)) }
     ensures kept { IfErr result
         (λ fault. fault ≢ Fault.Write → Keeps (O.written output.old) (O.written output.new)) }
     ensures err { IfErr result IsDrawFault }
@@ -81,16 +85,18 @@ fn draw_for<A: Allocator + Copy, O: Output>(
 ) -> Result<bool, Fault>
     requires writes { O.failures output.old + 1 < 2 ^ 64 }
     requires limits { is_in_limits sizes.now ≡ true }
-    ensures ok { IfOk result (WritesDrawn sizes.now options.now (O.written output.old) (O.written output.new)) }
+    ensures ok { IfOk result
+        (WritesDrawn line.now sizes.now options.now (O.written output.old) (O.written output.new)) }
     ensures write { AtWrite result (O.failures output.new ≡ O.failures output.old + 1) }
     ensures front { AtWrite result
-        (WritesDrawnFront sizes.now options.now (O.written output.old) (O.written output.new)) }
+        (WritesDrawnFront line.now sizes.now options.now
+        (O.written output.old) (O.written output.new)) }
     ensures kept { IfErr result
         (λ fault. fault ≢ Fault.Write → Keeps (O.written output.old) (O.written output.new)) }
     ensures err { IfErr result IsDrawFault }
 {
     match drawn_text(alloc, line, sizes, options) {
-        Ok(text) => hand_out(alloc, sizes, options, text.as_bytes(), output),
+        Ok(text) => hand_out(alloc, line, sizes, options, text.as_bytes(), output),
         Err(Shortage::Memory) => Err(Fault::NoMemory),
         Err(Shortage::Room) => Err(Fault::TooLarge),
     }
@@ -108,16 +114,17 @@ fn sizes_of<A: Allocator>(alloc: A, header: &str) -> Result<Header, Fault>
 
 /// Draws a check file by the seed, and writes it: the header as it is given, and so many commands, each with its
 /// answer behind the arrow. Each is enabled where it stands, but for those that may be any command: so many in a
-/// hundred, with the refusals that they get. With `drain` commands follow until nothing is in flight and every
-/// entry is free, or, where that isn't reached, a comment that says so.
+/// hundred, with the refusals that they get. With `drain` commands follow, round after round, until one keeps none
+/// but looks, or, where that isn't reached, a comment that says so.
 ///
 /// At `Ok(true)` a good check file with that header was written, no more: it has so many commands, or at least so
 /// many with `drain`; on a new node of that size each gives the answer that stands behind it, under answers that
-/// the tracker may give; and where `wild` is 0 none of them is refused. At `Ok(false)` the text that was made is no
-/// such file, and nothing was written: it is never seen. `BadHeader` of line 1 where the line is no header within the
+/// the tracker may give; and where `wild` is 0 none of them is refused. It is `drawn_file` of the header, the options
+/// and the answers that the tracker gave to what was tried. At `Ok(false)` the text that was made is no such file, and
+/// nothing was written: it is never seen. `BadHeader` of line 1 where the line is no header within the
 /// limits, `TooLarge` where the file would have more bytes than a check file may have, and `NoMemory` where
 /// memory runs out; nothing is written then. `Write` comes only where the output counted a failure, and a beginning
-/// of such a file was written then. That the file is a function of the arguments is tested.
+/// of such a file was written then.
 ///
 /// Condition: the output's count of failures is below 2 ^ 64 - 1.
 /// Source: `docs/FORMATS.md`, "Drawn files".

@@ -1,10 +1,10 @@
 //! The verbs that are drawn.
 
-ghost use Rattle.std.specs.Prelude.{◌≡◌};
+ghost use Rattle.std.specs.Prelude.{◌≡◌, slice_get};
+ghost use Rattle.chi_stimulus.specs.Proposals.{all_verbs};
 ghost use Rattle.chi_stimulus.specs.Weights.{delivery_named, verb_named};
 
-use chi_flit::Step;
-use chi_script::{Command, is};
+use chi_script::is;
 
 /// A verb that is drawn.
 /// Source: `docs/FORMATS.md`, "Drawn files".
@@ -117,37 +117,21 @@ impl Verb {
         }
     }
 
-    /// The verb of a command; `None` where it is none that is drawn.
-    pub(crate) fn of_command(command: &Command) -> Option<Verb> {
-        match *command {
-            Command::Arrive { .. } => Some(Verb::Arrive),
-            Command::See { .. } => Some(Verb::See),
-            Command::GiveBack { .. } => Some(Verb::GiveBack),
-            Command::Tend { .. } => Some(Verb::Tend),
-            Command::Act(action) => Verb::of_step(action.action().step),
-            Command::Totals | Command::Audit | Command::Show { .. } | Command::Flits { .. } => None,
-        }
+    /// The verb at a place.
+    pub(crate) fn at(place: usize) -> Option<Verb>
+        ensures { result ≡ slice_get all_verbs place }
+    {
+        verb_in(&VERBS, place)
     }
+}
 
-    /// The verb of a step.
-    fn of_step(step: Step) -> Option<Verb> {
-        match step {
-            Step::Load(_) => Some(Verb::Load),
-            Step::Store(..) => Some(Verb::Store),
-            Step::Drop => Some(Verb::Drop),
-            Step::Issue(..) => Some(Verb::Issue),
-            Step::Admit | Step::Retry => None,
-            Step::RecvRetry => Some(Verb::RetryAck),
-            Step::Resend => Some(Verb::Resend),
-            Step::Cancel => Some(Verb::Cancel),
-            Step::Start => Some(Verb::Start),
-            Step::RecvSnp => Some(Verb::Snp),
-            Step::RecvSnpResp => Some(Verb::SnpResp),
-            Step::RecvData => Some(Verb::Data),
-            Step::RecvComp => Some(Verb::Comp),
-            Step::RecvAck => Some(Verb::Ack),
-            Step::RecvDbid => Some(Verb::Dbid),
-            Step::RecvWrData => Some(Verb::WrData),
-        }
+/// The verb at a place of some.
+fn verb_in(verbs: &[Verb], place: usize) -> Option<Verb>
+    ensures { result ≡ slice_get verbs.now place }
+{
+    if place < verbs.len() {
+        Some(verbs[place])
+    } else {
+        None
     }
 }

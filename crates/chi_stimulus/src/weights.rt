@@ -1,9 +1,10 @@
 //! Files of weights: how often each verb is drawn.
 
-ghost use Rattle.std.specs.Prelude.{◌≡◌, ◌==◌, IfErr, IfNone, IfOk, IfSome, None, OnOk, Some, false, true};
+ghost use Rattle.std.specs.Prelude.{◌≡◌, ◌==◌, ◌≤◌, length, sum, IfErr, IfNone, IfOk, IfSome, None, OnOk, Some, false, true};
 ghost use Rattle.chi_script.specs.Checks.{is_comment};
 ghost use Rattle.chi_script.specs.Files.{lines_of};
 ghost use Rattle.chi_script.specs.Words.{words_of};
+ghost use Rattle.chi_stimulus.specs.Proposals.{even_verb, place_from, verb_by, weighted_verb};
 ghost use Rattle.chi_stimulus.specs.Weights.{first_wrong, is_weight_line, weight_in, weight_of};
 
 use crate::verbs::{COUNT, VERBS, Verb};
@@ -13,12 +14,17 @@ use std::fmt;
 /// The most bytes of a wrong word that are shown.
 const SHOWN: usize = 40;
 
-/// How often each verb is drawn beside the others.
+/// The weights where none are given.
+pub(crate) const USUAL: [u16; COUNT] = [
+    40, 40, 20, 300, 200, 200, 200, 200, 200, 200, 10, 200, 200, 200, 200, 200, 5, 40, 1,
+];
+
+/// How often each verb is proposed beside the others.
 /// Source: `docs/FORMATS.md`, "Drawn files".
 #[derive(Clone, Copy, Debug, PartialEq, Eq)]
 pub struct Weights {
     /// The weight of each verb, at the place of the verb.
-    by_place: [u16; COUNT],
+    pub(crate) by_place: [u16; COUNT],
 }
 
 /// What is wrong with a line of a file of weights.
@@ -191,7 +197,7 @@ impl Weights {
     }
 
     /// Gives the verb this weight.
-    pub(crate) fn set(&mut self, verb: Verb, weight: u16) {
+    fn set(&mut self, verb: Verb, weight: u16) {
         for place in 0..COUNT {
             if VERBS[place] == verb {
                 self.by_place[place] = weight;
@@ -199,25 +205,62 @@ impl Weights {
         }
     }
 
-    /// The sum of all weights.
-    pub(crate) fn sum(&self) -> u32 {
-        let mut sum: u32 = 0;
-        for weight in &self.by_place {
-            sum = sum.saturating_add(u32::from(*weight));
+    /// The verb of a word: by the weights, or of all verbs with one chance, and none then whose weight is 0.
+    pub(crate) fn verb_by(&self, even: bool, word: u32) -> Option<Verb>
+        ensures { result ≡ verb_by even self.now.by_place word }
+    {
+        if even {
+            self.even_verb(word)
+        } else {
+            weighted_verb(&self.by_place, word)
         }
-        sum
     }
 
-    /// The verb in whose weight this number falls; none where it is behind them all.
-    pub(crate) fn verb_at(&self, number: u32) -> Option<Verb> {
-        let mut left = number;
-        for place in 0..COUNT {
-            let weight = u32::from(self.by_place[place]);
-            if left < weight {
-                return Some(VERBS[place]);
-            }
-            left -= weight;
+    /// The verb of a word, of all verbs with one chance; none whose weight is 0.
+    fn even_verb(&self, word: u32) -> Option<Verb>
+        ensures { result ≡ even_verb self.now.by_place word }
+    {
+        let place = word % 19;
+        if self.by_place[place as usize] == 0 {
+            None
+        } else {
+            Verb::at(place as usize)
         }
-        None
     }
+}
+
+/// The verb of a word, by the weights; none where all are 0.
+fn weighted_verb(weights: &[u16], word: u32) -> Option<Verb>
+    requires { length weights.now ≤ 19 }
+    ensures { result ≡ weighted_verb weights.now word }
+{
+    let sum = sum_of(weights);
+    if sum == 0 {
+        return None;
+    }
+    let place = place_of(weights, word % sum)?;
+    Verb::at(place)
+}
+
+/// The sum of weights.
+fn sum_of(weights: &[u16]) -> u32
+    requires { length weights.now ≤ 19 }
+    ensures { result ≡ sum weights.now }
+{
+    weights.iter().map(|weight| u32::from(*weight)).sum()
+}
+
+/// The place in whose weight the number falls; none where it is behind them all.
+fn place_of(weights: &[u16], number: u32) -> Option<usize>
+    ensures { result ≡ place_from 0 weights.now number }
+{
+    let mut left = number;
+    for place in 0..weights.len() {
+        let weight = u32::from(weights[place]);
+        if left < weight {
+            return Some(place);
+        }
+        left -= weight;
+    }
+    None
 }

@@ -1,0 +1,60 @@
+-- Of the code alone, no public promise cites it: what a drawing has come to, as the definition of a drawing sees it
+-- (docs/FORMATS.md, "Drawn files").
+use Rattle.std.specs.Prelude.{◌≡◌, ℕ, ◌+◌, ◌%◌, ◌^◌, ◌<◌, List, [], ◌∷◌, ◌++◌, Bool, false, codes}
+use Rattle.chi_node.specs.Words.{PortView, TableId}
+use Rattle.chi_node.specs.System.{SystemState, opening_system}
+use Rattle.chi_slice.specs.Words.{Sizes}
+use Rattle.chi_script.specs.declared.commands.Command.{Command}
+use Rattle.chi_replay.specs.Session.{SaysTurn, machine_of, ports_of}
+use Rattle.chi_replay.specs.Texts.{Permits}
+use Rattle.chi_replay.specs.Turns.{TurnAnswer}
+use Rattle.rand_chacha.specs.ChaCha.{ChaCha}
+use Rattle.chi_stimulus.specs.declared.plan.Plan.{Plan}
+use Rattle.chi_stimulus.specs.Drafts.{Asks, Draft, Drawn, Ends}
+use Rattle.chi_stimulus.specs.Lots.{seeded}
+use Rattle.chi_stimulus.specs.Spelled.{drawn_command}
+
+-- a node, the place in the words, the commands so far, their text, what the last one was answered, and whether one was kept
+pub record DrawingState : Type 0 where
+  pub system : SystemState
+  pub words : ChaCha
+  pub count : ℕ
+  pub text : List ℕ
+  pub said : List ℕ
+  pub done : Bool
+
+abbrev pub as_drawn : DrawingState → Drawn
+as_drawn d = record { state = machine_of d.system; words = d.words; count = d.count; text = d.text; done = d.done }
+
+-- a draft, gone through with just these answers, which the tracker may give
+abbrev pub Follows : Draft → List PortView → List TurnAnswer → Drawn → List PortView → Type 0
+Follows (Ends d) old [] end new = (end ≡ d) × (new ≡ old)
+Follows (Ends d) old (answer ∷ answers) end new = ⊥
+Follows (Asks call next) old [] end new = ⊥
+Follows (Asks call next) old (answer ∷ answers) end new = (mid : List PortView) × Permits old call answer mid × Follows (next answer) mid answers end new
+
+-- a drawing went on so
+abbrev pub Goes : (Drawn → Draft) → DrawingState → DrawingState → Type 0
+Goes draft old new = (tracked : List TurnAnswer) × Follows (draft (as_drawn old)) (ports_of old.system) tracked (as_drawn new) (ports_of new.system)
+
+-- a command's turn was played, and only its answer is known
+pub record IsPlayed (command : Command) (old new : DrawingState) : Type 0 where
+  pub says : SaysTurn command old.system new.system [] new.said
+  pub same : new ≡ record old { system = new.system; said = new.said }
+
+-- the command stands in the text with what was said
+abbrev pub with_note : Command → DrawingState → DrawingState
+with_note command d = record d { count = (d.count + 1) % 2 ^ 64; text = d.text ++ (drawn_command command ++ (codes " -> " ++ d.said)) }
+
+-- a new node, and a header
+abbrev pub IsBlank : List ℕ → Sizes → ℕ → DrawingState → Type 0
+IsBlank line config seed d = (z : TableId)
+    × (d ≡ record { system = opening_system config z; words = seeded seed; count = 0; text = line ++ (10 ∷ []); said = []; done = false })
+
+-- the ranges of operands aren't empty, and there is room behind them
+pub record IsPlan (plan : Plan) : Type 0 where
+  pub agents : 0 < plan.agents
+  pub lines : 0 < plan.lines
+  pub types : 0 < plan.types
+  pub few_agents : plan.agents < 254
+  pub few_lines : plan.lines < 254

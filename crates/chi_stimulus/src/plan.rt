@@ -1,0 +1,73 @@
+//! What stays the same while commands are drawn.
+
+ghost use Rattle.std.specs.Prelude.{◌≡◌, true};
+ghost use Rattle.chi_script.specs.Headers.{is_in_limits};
+ghost use Rattle.chi_stimulus.specs.Drafts.{plan_of, types_in, weights_in};
+ghost use Rattle.chi_stimulus.specs.Goes.{IsPlan};
+
+use crate::options::DrawOptions;
+use crate::weights::{USUAL, Weights};
+use chi_flit::Profile;
+use chi_script::Header;
+
+/// How many proposals are tried for a command by weights, and as many without.
+const TRIES: u32 = 1000;
+
+/// How many rounds bring a node to rest at most.
+const ROUNDS: u32 = 1000;
+
+/// What stays the same while commands are drawn.
+#[derive(Clone, Copy)]
+pub(crate) struct Plan {
+    /// How many agents, lines and credit types there are.
+    pub(crate) agents: u8,
+    pub(crate) lines: u8,
+    pub(crate) types: u8,
+    /// How many commands in a hundred are any command.
+    pub(crate) wild: u8,
+    pub(crate) weights: Weights,
+    /// How many proposals are tried for a command by weights, and as many without.
+    pub(crate) tries: u32,
+    /// How many rounds bring the node to rest at most.
+    pub(crate) rounds: u32,
+}
+
+/// How many credit types a profile has.
+fn types_in(profile: Profile) -> u8
+    ensures { result ≡ types_in profile }
+{
+    match profile {
+        Profile::Two => 2,
+        Profile::Four => 4,
+    }
+}
+
+/// The weights that are given, or the usual ones.
+fn weights_in(weights: Option<Weights>) -> Weights
+    ensures { result ≡ weights_in weights }
+{
+    match weights {
+        Some(weights) => weights,
+        None => Weights { by_place: USUAL },
+    }
+}
+
+impl Plan {
+    /// The plan for a node of these sizes, by the options.
+    #[tactic(auto, using(crate::proofs::Drafted::is_plan))]
+    pub(crate) fn new(header: &Header, options: &DrawOptions) -> Plan
+        requires { is_in_limits header.now ≡ true }
+        ensures is { result ≡ plan_of header.now options.now }
+        ensures ranges { IsPlan result }
+    {
+        Plan {
+            agents: header.agents,
+            lines: header.lines,
+            types: types_in(header.profile),
+            wild: options.wild,
+            weights: weights_in(options.weights),
+            tries: TRIES,
+            rounds: ROUNDS,
+        }
+    }
+}
