@@ -14,12 +14,13 @@
  *
  * Each call answers CHI_OK, or the number of a refusal, after which nothing has changed; CHI_Closed of a closed
  * handle, which is not touched; and an opening of an open handle CHI_AlreadyOpen, which stays. Where a call is not
- * done, all numbers of what it tells are 0, so also such a count. Only the openings take memory, chi_slice_copy, and a
+ * done, all numbers of what it tells are 0, so also such a count. Only the openings take memory, chi_slice_copy, chi_node_slice, and a
  * monitor's calls.
  */
 #ifndef CHIHOME_H
 #define CHIHOME_H
 
+#include <stddef.h>
 #include <stdint.h>
 
 /* The version of this header; chi_version() is that of the library. */
@@ -44,8 +45,11 @@ enum ChiAnswer {
     CHI_OutOfRange = 10, /* also of a number that is none of an enum's */
     CHI_NotOpen = 11,    /* never answered: the requesters of a node agree with its slices */
     CHI_NoCredit = 12,
-    CHI_NotKept = 252, /* of a monitor: no flits are kept */
-    CHI_Fault = 253,   /* of a monitor: no run of the model sends the flit */
+    CHI_OtherVersion = 249, /* of a snapshot: it is of another version */
+    CHI_OtherSize = 250,    /* of a snapshot: it is of another node, or of another slice of the node */
+    CHI_Damaged = 251,      /* of a snapshot: it is none, or not as it was saved */
+    CHI_NotKept = 252,      /* of a monitor: no flits are kept */
+    CHI_Fault = 253,        /* of a monitor: no run of the model sends the flit */
     CHI_AlreadyOpen = 254,
     CHI_Closed = 255
 };
@@ -164,7 +168,7 @@ typedef struct {
     uint8_t slices;      /* 1, 2, 4 or 8, and no more than lines: line l is in slice l mod slices */
     uint8_t profile;     /* ChiProfile */
     uint16_t entries[4]; /* of the tracker, by credit type; in CHI_Two the last two are 0 */
-    uint32_t journal;    /* records of a slice, 1 to 65,536 */
+    uint32_t journal;    /* records of a slice, 1 to 65,536; 0: none are kept, and none are refused 1 */
 } ChiConfig;
 
 /* An action. Fields that its step does not read may hold anything. */
@@ -277,7 +281,7 @@ typedef struct {
     uint32_t owed[4];
 } ChiTotals;
 
-/* What is in the journals of a node, and the verdict on its lines. */
+/* The loads and stores of a slice or a node, and the verdict on its lines. */
 typedef struct {
     uint64_t loads;
     uint64_t stores;
@@ -318,8 +322,11 @@ uint8_t chi_slice_show(ChiSlice *slice, uint8_t line, ChiLine *shown);
  * outside the node, or the line in another slice. */
 uint8_t chi_slice_flits(ChiSlice *slice, uint8_t agent, uint8_t line, ChiFlits *flits);
 
-/* Tells the record of a place in the journal, from 0. CHI_OutOfRange behind its end. */
+/* Tells the record of a place in the journal, from 0. CHI_OutOfRange behind its end, and of a journal without records. */
 uint8_t chi_slice_journal(ChiSlice *slice, uint32_t place, ChiRecord *entry);
+
+/* Tells how many loads and stores there were, and whether each line is coherent and the journal legal, as always. */
+uint8_t chi_slice_audit(ChiSlice *slice, ChiAudit *audit);
 
 /* Copies the slice of `from`: `to` holds a slice that is the same, which takes its own memory, and what `to` held before
  * is closed. `from` stays, and each goes on by itself. CHI_NoMemory, and CHI_Closed where `from` is closed: `to` is then
@@ -327,8 +334,19 @@ uint8_t chi_slice_journal(ChiSlice *slice, uint32_t place, ChiRecord *entry);
 uint8_t chi_slice_copy(ChiSlice *to, ChiSlice *from);
 
 /* Tells whether two slices are the same: 1 where they have the same sizes and index, each line with its flits is the same,
- * and the journals have the same records, and else 0. Nothing is done. CHI_Closed where one of them is closed. */
+ * and the journals keep the same, and else 0. Nothing is done. CHI_Closed where one of them is closed. */
 uint8_t chi_slice_equal(ChiSlice *one, ChiSlice *other, uint8_t *equal);
+
+/* Writes the slice into `bytes`, where there is room for `room` of them: `length` is how many it has, and those behind
+ * stay. CHI_JournalFull where there is room for fewer: then nothing is written, and `length` is how many there would be. So
+ * with no room it tells how much is wanted. CHI_NoMemory, and CHI_Closed: nothing is written, and `length` is 0. `bytes`
+ * isn't null, and `length` isn't in it. */
+uint8_t chi_slice_save(ChiSlice *slice, uint8_t *bytes, size_t room, size_t *length);
+
+/* Opens the slice `index` of a node of these sizes as it was saved in these bytes, `length` of them. CHI_OutOfRange as by
+ * chi_slice_open; CHI_OtherVersion, CHI_OtherSize and CHI_Damaged where the bytes are of no such slice; CHI_NoMemory. The
+ * handle is closed then. CHI_AlreadyOpen. `bytes` isn't null. */
+uint8_t chi_slice_load(ChiSlice *slice, const ChiConfig *config, uint8_t index, const uint8_t *bytes, size_t length);
 
 /* Closes the handle, and frees the slice. */
 uint8_t chi_slice_close(ChiSlice *slice);
@@ -379,6 +397,13 @@ uint8_t chi_node_agrees(ChiNode *node);
 
 /* Tells how many loads and stores there were, and whether each line is coherent and each journal legal, as always. */
 uint8_t chi_node_audit(ChiNode *node, ChiAudit *audit);
+
+/* Copies the slice of a line of the node, that whose index is the line modulo the slices, as chi_slice_copy copies one: `to`
+ * holds the same slice, without the node's tracker and requesters. */
+uint8_t chi_node_slice(ChiSlice *to, ChiNode *from, uint8_t line);
+
+/* Tells whether the slice of a line of the node is the same as a slice, as chi_slice_equal tells it. */
+uint8_t chi_node_slice_equal(ChiNode *node, uint8_t line, ChiSlice *slice, uint8_t *equal);
 
 /* Closes the handle, and frees the node. */
 uint8_t chi_node_close(ChiNode *node);
@@ -439,7 +464,7 @@ const char *chi_step_name(uint8_t step);       /* ChiStep: "Load" */
 const char *chi_kind_name(uint8_t kind);       /* ChiKind: "ReadShared" */
 const char *chi_message_name(uint8_t message); /* ChiMessage: "CompData_UC" */
 const char *chi_state_name(uint8_t state);     /* ChiState: "UC" */
-const char *chi_refusal_name(uint8_t answer);  /* ChiAnswer: "NoFlit", and "OK", "NotKept", "Fault", "AlreadyOpen" and "Closed" */
+const char *chi_refusal_name(uint8_t answer);  /* ChiAnswer: "NoFlit", and "OK", "Damaged", "Closed" and so on */
 const char *chi_reason_name(uint8_t reason);   /* ChiReason: "NobodyAsks" */
 
 /* Why no run of the model sends a flit, in words: a ChiReason's text, and "?" of another number. */

@@ -37,6 +37,9 @@ enum class Answer : std::uint8_t {
     OutOfRange = CHI_OutOfRange,
     NotOpen = CHI_NotOpen,
     NoCredit = CHI_NoCredit,
+    OtherVersion = CHI_OtherVersion,
+    OtherSize = CHI_OtherSize,
+    Damaged = CHI_Damaged,
     NotKept = CHI_NotKept,
     Fault = CHI_Fault,
     AlreadyOpen = CHI_AlreadyOpen,
@@ -551,6 +554,21 @@ class Slice {
         return layout::outcome(answer, std::move(opened));
     }
 
+    /* Slice `index` of a node of these sizes as it was saved in `length` bytes. OtherVersion, OtherSize and Damaged where they
+     * are of no such slice; OutOfRange as by open; NoMemory. */
+    static Outcome<Slice> load(const Config &config, std::uint8_t index, const std::uint8_t *bytes, std::size_t length) {
+        Slice loaded;
+        const ChiConfig sizes = layout::config(config);
+        const std::uint8_t answer = chi_slice_load(&loaded.handle_, &sizes, index, bytes, length);
+        return layout::outcome(answer, std::move(loaded));
+    }
+
+    /* Writes the slice into `bytes`, where there is room for `room` of them: tells how many it has in `length`. JournalFull
+     * where there is room for fewer, and then nothing is written; NoMemory. No other slice has the same bytes. */
+    Answer save(std::uint8_t *bytes, std::size_t room, std::size_t &length) {
+        return Answer(chi_slice_save(&handle_, bytes, room, &length));
+    }
+
     /* Does an action, and tells what it gives. Refused as docs/PROTOCOL.md, "The actions", says. */
     Outcome<Effect> act(const Action &action) {
         const ChiAction told = layout::action(action);
@@ -607,6 +625,13 @@ class Slice {
         return layout::outcome(answer, Record{entry.store != 0, entry.agent, entry.line, entry.word, entry.value});
     }
 
+    /* How many loads and stores there were, and whether each line is coherent and the journal legal, as always. */
+    Outcome<Audit> audit() {
+        ChiAudit told;
+        const std::uint8_t answer = chi_slice_audit(&handle_, &told);
+        return layout::outcome(answer, Audit{told.loads, told.stores, told.coherent != 0});
+    }
+
     /* A slice that is the same, in memory of its own: each goes on by itself. NoMemory. */
     Outcome<Slice> copy() const {
         Slice copied;
@@ -614,7 +639,7 @@ class Slice {
         return layout::outcome(answer, std::move(copied));
     }
 
-    /* Whether the slices are the same: their sizes and index, each line with its flits, and the journal's records. Two
+    /* Whether the slices are the same: their sizes and index, each line with its flits, and the journal. Two
      * closed ones are, and a closed one is the same as no open one. */
     friend bool operator==(const Slice &one, const Slice &other) noexcept {
         if (&one == &other || !one.is_open() || !other.is_open()) return one.is_open() == other.is_open();
@@ -630,6 +655,7 @@ class Slice {
     Answer close() noexcept { return is_open() ? Answer(chi_slice_close(&handle_)) : Answer::Closed; }
 
   private:
+    friend class Node;
     mutable ChiSlice handle_ = {nullptr}; /* each call leaves it as it is, and may write it meanwhile */
 };
 
@@ -745,6 +771,20 @@ class Node {
         ChiAudit told;
         const std::uint8_t answer = chi_node_audit(&handle_, &told);
         return layout::outcome(answer, Audit{told.loads, told.stores, told.coherent != 0});
+    }
+
+    /* The slice of a line, without tracker and requesters, in memory of its own: each goes on by itself. NoMemory. */
+    Outcome<Slice> slice(std::uint8_t line) {
+        Slice copied;
+        const std::uint8_t answer = chi_node_slice(&copied.handle_, &handle_, line);
+        return layout::outcome(answer, std::move(copied));
+    }
+
+    /* Whether the slice of a line is the same as this one. */
+    Outcome<bool> has_slice(std::uint8_t line, const Slice &slice) {
+        std::uint8_t equal = 0;
+        const std::uint8_t answer = chi_node_slice_equal(&handle_, line, &slice.handle_, &equal);
+        return layout::outcome(answer, equal != 0);
     }
 
     bool is_open() const { return handle_.at != nullptr; }

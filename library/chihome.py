@@ -29,7 +29,7 @@ import ctypes
 import enum
 import itertools
 import os
-from ctypes import POINTER, byref, c_char_p, c_uint8, c_uint16, c_uint32, c_uint64, c_void_p
+from ctypes import POINTER, byref, c_char_p, c_size_t, c_uint8, c_uint16, c_uint32, c_uint64, c_void_p
 from pathlib import Path
 from typing import Dict, FrozenSet, Iterator, List, NamedTuple, Optional, Sequence, Tuple
 
@@ -53,6 +53,9 @@ class Answer(enum.IntEnum):
     OutOfRange = 10
     NotOpen = 11
     NoCredit = 12
+    OtherVersion = 249
+    OtherSize = 250
+    Damaged = 251
     NotKept = 252
     Fault = 253
     AlreadyOpen = 254
@@ -307,6 +310,24 @@ class NoCredit(Refused):
     number, name = Answer.NoCredit, "NoCredit"
 
 
+class OtherVersion(Refused):
+    """a snapshot of another version"""
+
+    number, name = Answer.OtherVersion, "OtherVersion"
+
+
+class OtherSize(Refused):
+    """a snapshot of another node, or of another slice of the node"""
+
+    number, name = Answer.OtherSize, "OtherSize"
+
+
+class Damaged(Refused):
+    """no snapshot, or not as it was saved"""
+
+    number, name = Answer.Damaged, "Damaged"
+
+
 class NotKept(Refused):
     """the monitor keeps no flits"""
 
@@ -437,6 +458,7 @@ class _ChiMonitor(ctypes.Structure):
 # The calls of chihome.h: what each returns and takes.
 
 _slice, _node, _action, _count = POINTER(_ChiSlice), POINTER(_ChiNode), POINTER(_ChiAction), POINTER(c_uint8)
+_bytes = POINTER(c_uint8)
 _effect, _sent, _release = POINTER(_ChiEffect), POINTER(_ChiSent), POINTER(_ChiRelease)
 _arrival, _line, _flits = POINTER(_ChiArrival), POINTER(_ChiLine), POINTER(_ChiFlits)
 _monitor = POINTER(_ChiMonitor)
@@ -450,8 +472,11 @@ _CALLS = {
     "chi_slice_show": (c_uint8, [_slice, c_uint8, _line]),
     "chi_slice_flits": (c_uint8, [_slice, c_uint8, c_uint8, _flits]),
     "chi_slice_journal": (c_uint8, [_slice, c_uint32, POINTER(_ChiRecord)]),
+    "chi_slice_audit": (c_uint8, [_slice, POINTER(_ChiAudit)]),
     "chi_slice_copy": (c_uint8, [_slice, _slice]),
     "chi_slice_equal": (c_uint8, [_slice, _slice, _count]),
+    "chi_slice_save": (c_uint8, [_slice, _bytes, c_size_t, POINTER(c_size_t)]),
+    "chi_slice_load": (c_uint8, [_slice, POINTER(_ChiConfig), c_uint8, _bytes, c_size_t]),
     "chi_slice_close": (c_uint8, [_slice]),
     "chi_node_open": (c_uint8, [_node, POINTER(_ChiConfig)]),
     "chi_node_arrive": (c_uint8, [_node, c_uint8, c_uint8, _arrival]),
@@ -466,6 +491,8 @@ _CALLS = {
     "chi_node_totals": (c_uint8, [_node, POINTER(_ChiTotals)]),
     "chi_node_agrees": (c_uint8, [_node]),
     "chi_node_audit": (c_uint8, [_node, POINTER(_ChiAudit)]),
+    "chi_node_slice": (c_uint8, [_slice, _node, c_uint8]),
+    "chi_node_slice_equal": (c_uint8, [_node, c_uint8, _slice, _count]),
     "chi_node_close": (c_uint8, [_node]),
     "chi_monitor_open": (c_uint8, [_monitor, c_uint8, c_uint8, c_uint32]),
     "chi_monitor_flit": (c_uint8, [_monitor, c_uint8, _sent]),
@@ -941,6 +968,12 @@ class Slice(_Handle):
             except OutOfRange:
                 return
 
+    def audit(self) -> Audit:
+        """How many loads and stores there were, and whether each line is coherent and the journal legal, as always."""
+        audit = _ChiAudit()
+        _check(self._calls.chi_slice_audit(byref(self._handle), byref(audit)))
+        return Audit(audit.loads, audit.stores, bool(audit.coherent))
+
     def copy(self) -> Slice:
         """A slice that is the same, in memory of its own: each goes on by itself. NoMemory."""
         copied = Slice.__new__(Slice)
@@ -949,8 +982,31 @@ class Slice(_Handle):
         _check(self._calls.chi_slice_copy(byref(copied._handle), byref(self._handle)))
         return copied
 
+    def save(self) -> bytes:
+        """The bytes of the slice (docs/SNAPSHOTS.md): no other slice has the same. NoMemory."""
+        length = c_size_t()
+        answer = self._calls.chi_slice_save(byref(self._handle), (c_uint8 * 1)(), 0, byref(length))
+        if answer != Answer.JournalFull:
+            _check(answer)
+        room = (c_uint8 * length.value)()
+        _check(self._calls.chi_slice_save(byref(self._handle), room, length, byref(length)))
+        return bytes(room)
+
+    @classmethod
+    def load(cls, saved: bytes, agents: int = 1, lines: int = 1, slices: int = 1, entries: Sequence[int] = (1, 1),
+             journal: int = 65536, index: int = 0) -> Slice:
+        """The slice of these sizes and this index as it was saved. OtherVersion, OtherSize and Damaged where the bytes are
+        of no such slice; OutOfRange as of an opening; NoMemory."""
+        loaded = cls.__new__(cls)
+        _Handle.__init__(loaded, _ChiSlice(), Config(agents, lines, slices, tuple(entries), journal))
+        loaded.index = index
+        room = (c_uint8 * max(len(saved), 1)).from_buffer_copy(saved or b"\0")
+        _check(loaded._calls.chi_slice_load(byref(loaded._handle), byref(_config_of(loaded.config)), _byte(index), room,
+                                            len(saved)))
+        return loaded
+
     def __eq__(self, other: object) -> bool:
-        """Whether the slices are the same: their sizes and index, each line with its flits, and the journal's records.
+        """Whether the slices are the same: their sizes and index, each line with its flits, and the journal.
         `Closed` where one of them is closed, but of a slice and itself."""
         if not isinstance(other, Slice):
             return NotImplemented
@@ -1060,6 +1116,21 @@ class Node(_Handle):
         audit = _ChiAudit()
         _check(self._calls.chi_node_audit(byref(self._handle), byref(audit)))
         return Audit(audit.loads, audit.stores, bool(audit.coherent))
+
+    def slice(self, line: int) -> Slice:
+        """The slice of a line, without tracker and requesters, in memory of its own: each goes on by itself. NoMemory."""
+        copied = Slice.__new__(Slice)
+        _Handle.__init__(copied, _ChiSlice(), self.config)
+        copied.index = line % self.config.slices
+        _check(self._calls.chi_node_slice(byref(copied._handle), byref(self._handle), _byte(line)))
+        return copied
+
+    def has_slice(self, line: int, slice: Slice) -> bool:
+        """Whether the slice of a line is the same as this one."""
+        equal = c_uint8()
+        _check(self._calls.chi_node_slice_equal(
+            byref(self._handle), _byte(line), byref(slice._handle), byref(equal)))
+        return bool(equal.value)
 
 
 class Monitor(_Handle):

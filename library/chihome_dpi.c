@@ -212,6 +212,15 @@ u8 chi_dpi_slice_journal(void *slice, u32 place, u8 *store, u8 *agent, u8 *line,
     return answer;
 }
 
+u8 chi_dpi_slice_audit(void *slice, u64 *loads, u64 *stores, u8 *coherent) {
+    ChiAudit audit;
+    u8 answer = chi_slice_audit(SLICE(slice), &audit);
+    *loads = audit.loads;
+    *stores = audit.stores;
+    *coherent = audit.coherent;
+    return answer;
+}
+
 void *chi_dpi_slice_copy(void *slice, u8 *answer) {
     ChiSlice *copy = calloc(1, sizeof *copy);
     *answer = copy == NULL ? CHI_NoMemory : chi_slice_copy(copy, SLICE(slice));
@@ -396,6 +405,18 @@ u8 chi_dpi_node_audit(void *node, u64 *loads, u64 *stores, u8 *coherent) {
     *stores = audit.stores;
     *coherent = audit.coherent;
     return answer;
+}
+
+void *chi_dpi_node_slice(void *node, u8 line, u8 *answer) {
+    ChiSlice *copy = calloc(1, sizeof *copy);
+    *answer = copy == NULL ? CHI_NoMemory : chi_node_slice(copy, NODE(node), line);
+    if (*answer == CHI_OK) return copy;
+    free(copy);
+    return NULL;
+}
+
+u8 chi_dpi_node_slice_equal(void *node, u8 line, void *slice, u8 *equal) {
+    return chi_node_slice_equal(NODE(node), line, SLICE(slice), equal);
 }
 
 u8 chi_dpi_node_close(void *node) {

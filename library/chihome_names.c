@@ -51,6 +51,9 @@ const char *chi_message_name(uint8_t message) { return NAME_IN(MESSAGES, message
 const char *chi_state_name(uint8_t state) { return NAME_IN(STATES, state); }
 
 const char *chi_refusal_name(uint8_t answer) {
+    if (answer == CHI_OtherVersion) return "OtherVersion";
+    if (answer == CHI_OtherSize) return "OtherSize";
+    if (answer == CHI_Damaged) return "Damaged";
     if (answer == CHI_NotKept) return "NotKept";
     if (answer == CHI_Fault) return "Fault";
     if (answer == CHI_AlreadyOpen) return "AlreadyOpen";

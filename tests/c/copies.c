@@ -1,4 +1,4 @@
-/* Does random actions on a slice and on copies of it. A copy made before an action is the same until the action is done,
+/* Does random actions on a slice and on copies of it, in each second run with a journal that keeps no records. A copy made before an action is the same until the action is done,
  * and differs then; once it has done the action itself it is the same again. Another copy, made at the start of each run,
  * goes along with all of it. */
 #include "chihome.h"
@@ -34,24 +34,37 @@ static int follow(const ChiAction *action) {
     return answer == CHI_OK;
 }
 
-static int run(void) {
-    const ChiConfig config = {.agents = AGENTS, .lines = LINES, .slices = 1, .entries = {1, 1}, .journal = 64};
-    int done = 0;
+/* The loads and stores of a slice are those that were done; a journal without records tells none of them. */
+static void audit(int accesses, int keeps) {
+    ChiAudit told, same;
+    ChiRecord entry;
+    HOLDS(chi_slice_audit(&model, &told) == CHI_OK && chi_slice_audit(&along, &same) == CHI_OK);
+    HOLDS(told.loads + told.stores == (uint64_t)accesses && told.coherent == 1);
+    HOLDS(told.loads == same.loads && told.stores == same.stores && same.coherent == 1);
+    HOLDS(chi_slice_journal(&model, 0, &entry) == (keeps && accesses > 0 ? CHI_OK : CHI_OutOfRange));
+}
+
+static int run(int keeps) {
+    const ChiConfig config = {.agents = AGENTS, .lines = LINES, .slices = 1, .entries = {1, 1}, .journal = keeps ? 64 : 0};
+    int done = 0, accesses = 0;
     HOLDS(chi_slice_open(&model, &config, 0) == CHI_OK && chi_slice_copy(&along, &model) == CHI_OK);
     for (int count = 0; count < EACH && failures < 10; count++) {
         uint64_t word = drawn();
         ChiAction action = {.agent = (uint8_t)(word % 5), .line = (uint8_t)((word >> 8) % 5),
             .step = (uint8_t)((word >> 16) % 18), .kind = (uint8_t)((word >> 24) % 9), .slot = (uint8_t)((word >> 32) % 9),
             .word = (uint8_t)((word >> 40) % 9), .value = word >> 48};
-        done += follow(&action);
+        int did = follow(&action);
+        done += did;
+        accesses += did && (action.step == CHI_Load || action.step == CHI_Store);
     }
+    audit(accesses, keeps);
     HOLDS(chi_slice_close(&model) == CHI_OK);
     return done;
 }
 
 int main(void) {
     int done = 0;
-    for (int count = 0; count < RUNS && failures < 10; count++) done += run();
+    for (int count = 0; count < RUNS && failures < 10; count++) done += run(count % 2);
     HOLDS(chi_slice_close(&along) == CHI_OK && chi_slice_close(&before) == CHI_OK && done > 0);
     printf("%d actions done, each by copies too\n", done);
     return failures == 0 ? 0 : 1;

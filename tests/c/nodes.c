@@ -1,6 +1,7 @@
 /* Does random calls on two nodes, by chi_node_arrive and chi_node_step on one and by chi_node_arrive_flits and
  * chi_node_step_flits on the other: both have to answer and tell the same, and the flits in flight without the one that
- * was taken and with those that were sent have to be those in flight afterwards. */
+ * was taken and with those that were sent have to be those in flight afterwards. Copies of the second node's slices are the
+ * same as the first one's, until one of the two goes on. */
 #include "chihome.h"
 #include "drawn.h"
 #include "told.h"
@@ -71,6 +72,22 @@ static void step(const ChiAction *action) {
     completed += went.release != CHI_NotReleased;
 }
 
+/* A copy of the slice of a line does the step that the node did, and is the same as the node's slice before and after. */
+static void copy(const ChiAction *action) {
+    ChiSlice slice = {0};
+    ChiEffect effect, same;
+    ChiRelease release;
+    uint8_t equal = 2;
+    HOLDS(chi_node_slice(&slice, &other, action->line) == CHI_OK);
+    HOLDS(chi_node_slice_equal(&one, action->line, &slice, &equal) == CHI_OK && equal == 1);
+    uint8_t answer = chi_node_step(&one, action, &effect, &release);
+    HOLDS(chi_node_step(&other, action, &same, &release) == answer);
+    HOLDS(chi_node_slice_equal(&other, action->line, &slice, &equal) == CHI_OK && equal == (answer != CHI_OK));
+    HOLDS(answer != CHI_OK || chi_slice_act(&slice, action, &same) == CHI_OK);
+    HOLDS(chi_node_slice_equal(&one, action->line, &slice, &equal) == CHI_OK && equal == 1);
+    HOLDS(chi_slice_close(&slice) == CHI_OK && chi_node_slice_equal(&one, 0, &slice, &equal) == CHI_Closed && equal == 0);
+}
+
 /* The agent looks at its credits, so that it may send a retried request again. */
 static void see(uint8_t agent) {
     ChiCredits credits, same;
@@ -79,7 +96,7 @@ static void see(uint8_t agent) {
 }
 
 int main(void) {
-    const ChiConfig config = {.agents = AGENTS, .lines = LINES, .slices = 2, .entries = {1, 1}, .journal = 65536};
+    const ChiConfig config = {.agents = AGENTS, .lines = LINES, .slices = 2, .entries = {1, 1}, .journal = 0};
     HOLDS(chi_node_open(&one, &config) == CHI_OK && chi_node_open(&other, &config) == CHI_OK);
     for (int count = 0; count < MANY && failures < 10; count++) {
         uint64_t word = drawn();
@@ -90,6 +107,8 @@ int main(void) {
             arrive(action.agent, action.line);
         else if (count % 4 == 1 && action.step < 4)
             see(action.agent);
+        else if (count % 16 == 2)
+            copy(&action);
         else
             step(&action);
     }

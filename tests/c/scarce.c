@@ -109,7 +109,13 @@ static int copy_allocations(void) {
 
 static void copy_answers(void) {
     ChiSlice closed = {0}, slice = {0}, to = {0};
+    ChiNode node = {0};
+    ChiAudit audit;
     uint8_t equal = 2;
+    HOLDS(chi_node_slice(&to, &node, 0) == CHI_Closed && to.at == NULL && node.at == NULL);
+    HOLDS(chi_node_slice_equal(&node, 0, &to, &equal) == CHI_Closed && equal == 0);
+    HOLDS(chi_slice_audit(&closed, &audit) == CHI_Closed && audit.loads == 0 && audit.stores == 0 && audit.coherent == 0);
+    equal = 2;
     HOLDS(chi_slice_copy(&to, &closed) == CHI_Closed && to.at == NULL && closed.at == NULL);
     HOLDS(chi_slice_open(&slice, &SIZES, 1) == CHI_OK);
     void *at = slice.at;

@@ -111,6 +111,18 @@ static void copies() {
     HOLDS(model.act(action(0, Step::Start)) && copy == closed);
 }
 
+static void saved() {
+    static std::uint8_t bytes[65536];
+    std::size_t length = 1;
+    Slice model = *Slice::open(sizes(2, 1)), closed;
+    HOLDS(model.act(action(0, Step::Issue)));
+    HOLDS(model.save(bytes, 1, length) == Answer::JournalFull && length > 100);
+    HOLDS(model.save(bytes, sizeof bytes, length) == Answer::OK && *Slice::load(sizes(2, 1), 0, bytes, length) == model);
+    HOLDS(Slice::load(sizes(1, 1), 0, bytes, length).answer() == Answer::OtherSize);
+    HOLDS(Slice::load(sizes(2, 1), 0, bytes, length - 1).answer() == Answer::Damaged);
+    HOLDS(closed.save(bytes, sizeof bytes, length) == Answer::Closed && length == 0);
+}
+
 static void node_flits() {
     Node model = *Node::open(sizes(2, 1)), closed;
     const ServedFlits issued = *model.step_flits(action(1, Step::Issue));
@@ -171,6 +183,7 @@ int main() {
     monitor();
 #ifdef NEW_CALLS
     copies();
+    saved();
     new_calls();
     node_flits();
 #endif

@@ -235,6 +235,51 @@ class NewCalls(unittest.TestCase):
             with self.assertRaises(TypeError):
                 hash(model)
 
+    @has("chi_node_slice")
+    def test_slices_of_nodes(self):
+        with chihome.Node(agents=2, lines=2, slices=2, journal=0) as node:
+            node.step(Step.Issue, 0, 1)
+            with node.slice(1) as it, node.slice(0) as other:
+                self.assertEqual((it.index, other.index, it.config), (1, 0, node.config))
+                self.assertTrue(node.has_slice(1, it) and not node.has_slice(1, other) and node.has_slice(2, other))
+                node.arrive(0, 1)
+                self.assertFalse(node.has_slice(1, it))
+                it.act(Step.Admit, 0, 1)
+                self.assertTrue(node.has_slice(1, it))
+        with self.assertRaises(chihome.Closed):
+            node.slice(0)
+
+    @has("chi_slice_audit")
+    def test_journal_without_records(self):
+        with chihome.Slice(agents=1, lines=1, journal=0) as model:
+            for step in (Step.Issue, Step.Admit, Step.Start, Step.RecvData, Step.RecvAck):
+                model.act(step, 0, 0, kind=Kind.ReadUnique)
+            for value in range(100_000):
+                model.act(Step.Store, 0, 0, value=value)
+            self.assertEqual(model.act(Step.Load, 0, 0).value, 99_999)
+            self.assertEqual((model.audit(), list(model.records())), (chihome.Audit(1, 100_000, True), []))
+
+    @has("chi_slice_save")
+    def test_saved(self):
+        sizes = {"agents": 2, "lines": 2, "slices": 2}
+        with chihome.Slice(**sizes, index=1) as model:
+            model.act(Step.Issue, 0, 1)
+            saved = model.save()
+            with chihome.Slice.load(saved, **sizes, index=1) as it:
+                self.assertEqual((it.index, it.config, it.save()), (1, model.config, saved))
+                self.assertTrue(it == model and Channel.Req in it.flits(0, 1))
+            with self.assertRaises(chihome.OtherSize):
+                chihome.Slice.load(saved, **sizes)
+            with self.assertRaises(chihome.OutOfRange):
+                chihome.Slice.load(saved, **sizes, index=2)
+            for wrong in (b"", saved[:-1], saved[:-1] + bytes([saved[-1] ^ 1])):
+                with self.assertRaises(chihome.Damaged):
+                    chihome.Slice.load(wrong, **sizes, index=1)
+            with self.assertRaises(chihome.OtherVersion):
+                chihome.Slice.load(saved[:4] + b"\2" + saved[5:], **sizes, index=1)
+        with self.assertRaises(chihome.Closed):
+            model.save()
+
     @has("chi_slice_step")
     def test_step(self):
         with chihome.Slice(agents=3, lines=1) as model:

@@ -22,7 +22,7 @@ import chihome  # noqa: E402
 
 CODE = re.sub(r"/\*.*?\*/", "", (TOP / "library/chihome.h").read_text(), flags=re.S)
 NUMBERS = {"uint8_t": ctypes.c_uint8, "uint16_t": ctypes.c_uint16, "uint32_t": ctypes.c_uint32,
-           "uint64_t": ctypes.c_uint64, "void *": ctypes.c_void_p}
+           "uint64_t": ctypes.c_uint64, "size_t": ctypes.c_size_t, "void *": ctypes.c_void_p}
 
 
 def members(text):

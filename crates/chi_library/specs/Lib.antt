@@ -11,6 +11,7 @@ pub mod NodeHandle
 pub mod SliceHandle
 pub mod SliceCalls
 pub mod Snapshots
+pub mod SavedSlices
 pub mod Listed
 pub mod Enabled
 pub mod Standing

@@ -8,7 +8,8 @@ use Rattle.chi_flit.specs.declared.numbers.Line.{Line}
 use Rattle.chi_flit.specs.declared.refusal.Refusal.{Refusal}
 use Rattle.chi_flit.specs.declared.refusal.Refusal.TheVariants.{OutOfRange}
 use Rattle.chi_flit.specs.Credit.{credit_number}
-use Rattle.chi_slice.specs.Words.{cells_of, line_view, Sizes}
+use Rattle.chi_slice.specs.Slice.{SliceState}
+use Rattle.chi_slice.specs.Words.{cells_of, line_view, load_count, store_count, Sizes}
 use Rattle.chi_node.specs.declared.answers.Arrived.{Arrived}
 use Rattle.chi_node.specs.declared.answers.Arrived.TheVariants.{Admitted, Retried}
 use Rattle.chi_node.specs.declared.answers.Stepped.{Stepped}
@@ -153,6 +154,10 @@ IsTotalsOf (Some y) told = (counts : Counts) × (told ≡ counts_told counts) ×
 -- an audit
 abbrev pub no_audit : ChiAudit
 no_audit = record { loads = 0; stores = 0; coherent = 0 }
+
+-- the loads and the stores of a slice, as its journal counts them, and that it is coherent, as each slice is
+abbrev pub slice_audit : SliceState → ChiAudit
+slice_audit s = record { loads = load_count s.journal; stores = store_count s.journal; coherent = 1 }
 
 abbrev pub IsAuditOf : Option SystemState → ChiAudit → Type 0
 IsAuditOf None told = told ≡ no_audit

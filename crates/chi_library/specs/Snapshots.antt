@@ -1,6 +1,8 @@
 -- What a copy of a slice leaves, and what a comparison of two tells, by C's numbers (docs/LIBRARY.md, "Snapshots").
 use Rattle.std.specs.Prelude.{◌≡◌, ◌≢◌, ◌⊎◌, ℕ, Option, Some, None}
 use Rattle.chi_slice.specs.Slice.{SliceState}
+use Rattle.chi_node.specs.Home.{slice_of}
+use Rattle.chi_node.specs.System.{SystemState}
 use Rattle.chi_library.specs.Calls.{closed_number}
 
 -- a copy: what is held there, what the handle that is to have it held, the answer, and what that handle holds then: the
@@ -15,3 +17,8 @@ abbrev pub IsCompared : Option SliceState → Option SliceState → ℕ → ℕ 
 IsCompared None other answer equal = (answer ≡ closed_number) × (equal ≡ 0)
 IsCompared (Some s) None answer equal = (answer ≡ closed_number) × (equal ≡ 0)
 IsCompared (Some s) (Some t) answer equal = (answer ≡ 0) × (((equal ≡ 1) × (s ≡ t)) ⊎ ((equal ≡ 0) × (s ≢ t)))
+
+-- the slice of a line in a node that is held
+abbrev pub node_slice : Option SystemState → ℕ → Option SliceState
+node_slice None l = None
+node_slice (Some y) l = Some (slice_of y.home l)

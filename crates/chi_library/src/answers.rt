@@ -20,6 +20,15 @@ pub(crate) const OUT_OF_RANGE: u8 = 10;
 /// A requester doesn't agree with a slice: the number of the refusal `NotOpen`.
 pub(crate) const NOT_OPEN: u8 = 11;
 
+/// The bytes are a snapshot of another version.
+pub(crate) const OTHER_VERSION: u8 = 249;
+
+/// The bytes are a slice of another node, or another slice of the node.
+pub(crate) const OTHER_SIZE: u8 = 250;
+
+/// The bytes are no snapshot, or not as it was saved.
+pub(crate) const DAMAGED: u8 = 251;
+
 /// A monitor keeps no flits.
 pub(crate) const NOT_KEPT: u8 = 252;
 

@@ -20,6 +20,7 @@ mod node_told;
 mod numbers;
 mod observed;
 mod records;
+mod saved_slices;
 mod sent;
 mod sizes;
 mod slice_calls;

@@ -5,6 +5,7 @@ ghost use Rattle.chi_library.specs.Actions.{action_of, no_effect};
 ghost use Rattle.chi_library.specs.Calls.{IsOpeningCall, answer_number, state_after, output_of};
 ghost use Rattle.chi_library.specs.Flits.{no_flits_told};
 ghost use Rattle.chi_library.specs.Lines.{no_line_told};
+ghost use Rattle.chi_library.specs.NodeCalls.{no_audit, slice_audit};
 ghost use Rattle.chi_library.specs.Numbers.{number_if};
 ghost use Rattle.chi_library.specs.Records.{no_record};
 ghost use Rattle.chi_library.specs.Sizes.{config_of};
@@ -15,11 +16,13 @@ use crate::actions::{ChiAction, ChiEffect, action_at, tell_effect};
 use crate::answers::{ALREADY_OPEN, CLOSED, DONE, NO_MEMORY, OUT_OF_RANGE, number_if};
 use crate::flits::{ChiFlits, flits_told};
 use crate::lines::{ChiLine, line_told};
+use crate::node_told::ChiAudit;
+use crate::numbers::flag_number;
 use crate::records::{ChiRecord, record_told};
 use crate::sizes::{ChiConfig, config_at};
 use crate::slice_handle::ChiSlice;
 use chi_flit::{Agent, Line, NoMemory};
-use chi_slice::{Config, Slice, Terms};
+use chi_slice::{Config, Slice, Terms, check_slice};
 use std::alloc::Global;
 
 /// Opens a slice of a node of these sizes, in its opening state. All memory that it ever needs is taken
@@ -181,6 +184,28 @@ pub extern "C" fn chi_slice_journal(
     }
 }
 
+/// The loads and stores of the slice, as its journal counts them, and whether each line is coherent and the
+/// journal legal, as always. The numbers of a closed handle are 0.
+///
+/// Answers 0, or 255 of a closed handle. Nothing changes.
+/// Source: `docs/PROTOCOL.md`, "Coherence"; `docs/LIBRARY.md`, "A slice".
+#[unsafe(no_mangle)]
+pub extern "C" fn chi_slice_audit(alloc: Global, slice: &mut ChiSlice, audit: &mut ChiAudit) -> u8
+    ensures answer { result ≡ answer_number slice.old.value (λ s. None) }
+    ensures after { slice.new.value ≡ slice.old.value }
+    ensures audit { audit.new ≡ output_of slice.old.value no_audit slice_audit }
+{
+    *audit = ChiAudit::NONE;
+    match slice.take(alloc) {
+        Some(held) => {
+            *audit = audit_of_slice(&held);
+            slice.put(held);
+            DONE
+        }
+        None => CLOSED,
+    }
+}
+
 /// Closes the handle and frees the slice.
 ///
 /// Answers 0, or 255 of a closed handle.
@@ -193,6 +218,18 @@ pub extern "C" fn chi_slice_close(alloc: Global, slice: &mut ChiSlice) -> u8
     match slice.take(alloc) {
         Some(_) => DONE,
         None => CLOSED,
+    }
+}
+
+/// What is counted of a slice, and the verdict on it.
+fn audit_of_slice(slice: &Slice<Global>) -> ChiAudit
+    ensures { result ≡ slice_audit slice.now }
+{
+    let journal = slice.journal();
+    ChiAudit {
+        loads: journal.loads(),
+        stores: journal.stores(),
+        coherent: flag_number(check_slice(slice)),
     }
 }
 

@@ -1,11 +1,12 @@
-//! Copies of a slice, and whether two slices are the same, for C.
+//! Copies of a slice, also of one of a node's, and whether two slices are the same, for C.
 
 ghost use Rattle.std.specs.Prelude.{◌≡◌, IfOk, Some};
-ghost use Rattle.chi_library.specs.Snapshots.{IsCompared, IsCopied};
+ghost use Rattle.chi_library.specs.Snapshots.{IsCompared, IsCopied, node_slice};
 
 use crate::answers::{CLOSED, DONE, NO_MEMORY};
+use crate::node_handle::ChiNode;
 use crate::slice_handle::ChiSlice;
-use chi_flit::NoMemory;
+use chi_flit::{Line, NoMemory};
 use chi_slice::Slice;
 use std::alloc::Global;
 
@@ -51,6 +52,61 @@ pub extern "C" fn chi_slice_equal(
         Some(slice) => {
             let answer = compare(alloc, &slice, other, equal);
             one.put(slice);
+            answer
+        }
+        None => CLOSED,
+    }
+}
+
+/// Copies the slice of a line of the node of `from`, that whose index is the line modulo the number of slices:
+/// `to` holds a slice that is the same, without the node's tracker and requesters, and each goes on by itself.
+/// What `to` held before is closed. All memory that the copy ever needs is taken here.
+///
+/// Answers 0; 8 where memory runs out, and 255 where `from` is closed: `to` is then as it was. `from` stays
+/// in each case.
+/// Source: `docs/LIBRARY.md`, "Snapshots".
+#[unsafe(no_mangle)]
+pub extern "C" fn chi_node_slice(
+    alloc: Global,
+    to: &mut ChiSlice,
+    from: &mut ChiNode,
+    line: u8,
+) -> u8
+    ensures copied { IsCopied (node_slice from.old.value line) to.old.value result to.new.value }
+    ensures from { from.new.value ≡ from.old.value }
+{
+    match from.take(alloc) {
+        Some(node) => {
+            let answer = copy_into(alloc, to, node.slice_of(Line(line)));
+            from.put(node);
+            answer
+        }
+        None => CLOSED,
+    }
+}
+
+/// Whether the slice of a line of the node is the same as that of `slice`, as `chi_slice_equal` says it.
+/// `equal` is 1 where they are, and 0 where not.
+///
+/// Answers 0, or 255 where one of them is closed; `equal` is 0 then. Nothing changes.
+/// Source: `docs/LIBRARY.md`, "Snapshots".
+#[unsafe(no_mangle)]
+pub extern "C" fn chi_node_slice_equal(
+    alloc: Global,
+    node: &mut ChiNode,
+    line: u8,
+    slice: &mut ChiSlice,
+    equal: &mut u8,
+) -> u8
+    ensures compared { IsCompared (node_slice node.old.value line) slice.old.value result equal.new }
+    ensures node { node.new.value ≡ node.old.value }
+    ensures slice { slice.new.value ≡ slice.old.value }
+{
+    *equal = 0;
+    match node.take(alloc) {
+        Some(held) => {
+            let answer = compare(alloc, held.slice_of(Line(line)), slice, equal);
+            node.put(held);
             answer
         }
         None => CLOSED,
