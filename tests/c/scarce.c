@@ -1,4 +1,4 @@
-/* Opens a slice, a node and a monitor, and copies a slice, while each allocation in turn is refused: the answer is
+/* Opens a slice, a node and a monitor, and copies, saves and loads a slice, while each allocation in turn is refused: the answer is
  * CHI_NoMemory, the handle is closed, or as it was before the copy, nothing leaks (valgrind looks), and the next try with
  * ample memory opens it. Then what a handle answers in each of its states, and numbers outside an enum. */
 #include "chihome.h"
@@ -130,6 +130,34 @@ static void copy_answers(void) {
     HOLDS(chi_slice_close(&slice) == CHI_OK && chi_slice_close(&to) == CHI_OK);
 }
 
+/* What was written stays where memory runs out, and a handle that is to be opened stays closed. */
+static void saved_allocations(void) {
+    static uint8_t bytes[8192];
+    ChiSlice from = {0};
+    size_t length = 0, told = 1;
+    HOLDS(chi_slice_open(&from, &SIZES, 1) == CHI_OK && chi_slice_save(&from, bytes, sizeof bytes, &length) == CHI_OK);
+    for (int count = 0, spent = 1; spent; count++) {
+        uint8_t again[sizeof bytes] = {0};
+        granted = count;
+        uint8_t answer = chi_slice_save(&from, again, sizeof again, &told);
+        spent = granted < 0;
+        granted = -1;
+        HOLDS(answer == (spent ? CHI_NoMemory : CHI_OK) && told == (spent ? 0 : length));
+        HOLDS(spent ? is_blank(again, sizeof again) : memcmp(again, bytes, sizeof bytes) == 0);
+    }
+    for (int count = 0, spent = 1; spent; count++) {
+        ChiSlice to = {0};
+        granted = count;
+        uint8_t answer = chi_slice_load(&to, &SIZES, 1, bytes, length);
+        spent = granted < 0;
+        granted = -1;
+        HOLDS(answer == (spent ? CHI_NoMemory : CHI_OK) && (to.at == NULL) == spent);
+        HOLDS(chi_slice_close(&to) == (spent ? CHI_Closed : CHI_OK));
+    }
+    HOLDS(chi_slice_close(&from) == CHI_OK);
+    HOLDS(chi_slice_save(&from, bytes, sizeof bytes, &told) == CHI_Closed && told == 0);
+}
+
 static void slice_answers(void) {
     ChiSlice slice = {0};
     ChiAction load = {.step = CHI_Load};
@@ -240,6 +268,7 @@ int main(void) {
     HOLDS(slice > 0 && node > slice && monitor > 0 && copy_allocations() == slice);
     slice_answers();
     copy_answers();
+    saved_allocations();
     node_answers();
     printf("%d allocations of a slice, %d of a node and %d of a monitor, each refused in turn\n", slice, node, monitor);
     return failures == 0 ? 0 : 1;

@@ -182,7 +182,7 @@ class Slices(unittest.TestCase):
     def test_sizes(self):
         for sizes in ({"agents": 0}, {"agents": 9}, {"agents": 257}, {"lines": 65}, {"lines": 2, "slices": 3},
                       {"entries": (0, 1)}, {"entries": (1 << 16, 1)}, {"entries": (64, 1)}, {"entries": (1, 1, 1, 0)},
-                      {"journal": 0}, {"journal": 65537}, {"journal": 1 << 32 | 1}, {"index": 1}, {"index": 256}):
+                      {"journal": 65537}, {"journal": 1 << 32 | 1}, {"index": 1}, {"index": 256}):
             with self.subTest(**sizes), self.assertRaises(chihome.OutOfRange):
                 chihome.Slice(**sizes)
         for entries in ((1,), (1, 1, 1), ()):
