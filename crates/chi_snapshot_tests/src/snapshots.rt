@@ -57,7 +57,7 @@ fn a_slice_without_records_is_loaded_as_it_was_saved(rt: HostRuntime) {
         assert!(&rt; is_same_again(&rt, rt.alloc(), &slice), "turn {turn}");
     }
     let slice = endless_slice(&rt, rt.alloc(), 5000);
-    assert!(&rt; slice.journal().stores() > 16 && slice.journal().records().is_empty());
+    assert!(&rt; slice.journal().stores() > 0 && slice.journal().records().is_empty());
 }
 
 #[test]
