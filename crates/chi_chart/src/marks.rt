@@ -211,8 +211,8 @@ fn add_channels<A: Allocator>(
     channels: &[Channel],
 ) -> Result<(), NoMemory>
     ensures { OnOk result
-        (marks.new.items
-        ≡ marks.old.items ++ flat_map (channel_marks line agent before.now after.now) channels.now) }
+        (marks.new.items ≡ marks.old.items
+        ++ flat_map (channel_marks line agent before.now after.now) channels.now) }
 {
     for channel in channels {
         add_channel(marks, line, agent, *channel, before, after)?;

@@ -134,7 +134,8 @@ impl<A: Allocator> Picture<A> {
         ensures text { OnOk result
             (self.new.text.items
             ≡ self.old.text.items
-            ++ sent_text self.old.layout self.old.bottom (map row_seen later.now) y cell.now message) }
+            ++ sent_text self.old.layout self.old.bottom
+            (map row_seen later.now) y cell.now message) }
         ensures layout { self.new.layout ≡ self.old.layout }
         ensures bottom { self.new.bottom ≡ self.old.bottom }
     {
@@ -170,7 +171,8 @@ impl<A: Allocator> Picture<A> {
         ensures text { OnOk result
             (self.new.text.items
             ≡ self.old.text.items
-            ++ serves_text self.old.layout self.old.bottom (map row_seen later.now) y line serving) }
+            ++ serves_text self.old.layout self.old.bottom
+            (map row_seen later.now) y line serving) }
         ensures layout { self.new.layout ≡ self.old.layout }
         ensures bottom { self.new.bottom ≡ self.old.bottom }
     {
@@ -229,7 +231,8 @@ impl<A: Allocator> Picture<A> {
         ensures text { OnOk result
             (self.new.text.items
             ≡ self.old.text.items
-            ++ marks_text self.old.layout self.old.bottom top (map row_seen later.now) top marks.now) }
+            ++ marks_text self.old.layout self.old.bottom top
+            (map row_seen later.now) top marks.now) }
         ensures layout { self.new.layout ≡ self.old.layout }
         ensures bottom { self.new.bottom ≡ self.old.bottom }
     {
@@ -350,7 +353,8 @@ impl<A: Allocator> Picture<A> {
         ensures text { OnOk result
             (self.new.text.items
             ≡ self.old.text.items
-            ++ row_told self.old.layout self.old.bottom (row_seen row.now) (map row_seen later.now)) }
+            ++ row_told self.old.layout self.old.bottom
+            (row_seen row.now) (map row_seen later.now)) }
         ensures layout { self.new.layout ≡ self.old.layout }
         ensures bottom { self.new.bottom ≡ self.old.bottom }
     {
@@ -373,7 +377,8 @@ impl<A: Allocator> Picture<A> {
         ensures text { OnOk result
             (self.new.text.items
             ≡ self.old.text.items
-            ++ row_text self.old.layout self.old.bottom (row_seen row.now) (map row_seen later.now)) }
+            ++ row_text self.old.layout self.old.bottom
+            (row_seen row.now) (map row_seen later.now)) }
         ensures layout { self.new.layout ≡ self.old.layout }
         ensures bottom { self.new.bottom ≡ self.old.bottom }
     {

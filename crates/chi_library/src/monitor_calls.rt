@@ -62,7 +62,8 @@ pub extern "C" fn chi_monitor_flit(
     line: u8,
     sent: &ChiSent,
 ) -> u8
-    ensures { IsFlitAnswered monitor.old.value line (observed_of sent.now) result monitor.new.value }
+    ensures { IsFlitAnswered monitor.old.value line (observed_of sent.now)
+        result monitor.new.value }
 {
     match monitor.take(alloc) {
         Some(mut held) => {
@@ -178,7 +179,8 @@ fn config_at(agents: u8, lines: u8, kept: u32) -> Option<Config>
 /// Opens a closed handle.
 fn open(alloc: Global, monitor: &mut ChiMonitor, config: &Config, lines: u8, kept: u32) -> u8
     requires { monitor.old.value ≡ None }
-    ensures { IsOpeningCall (IsMonitorOf lines kept) (Some config.now) None result monitor.new.value }
+    ensures { IsOpeningCall (IsMonitorOf lines kept) (Some config.now) None
+        result monitor.new.value }
 {
     match boxed_monitor(alloc, config, lines, kept) {
         Ok(held) => {

@@ -51,7 +51,8 @@ impl ChiMonitor {
 
     /// The monitor of a handle, if it has one.
     fn into_monitor(self) -> Option<BoxPointer<Monitor<Global>, Global>>
-        ensures { MatchOption result (self.value ≡ None) (λ monitor. self.value ≡ Some monitor.value) }
+        ensures { MatchOption result (self.value ≡ None)
+            (λ monitor. self.value ≡ Some monitor.value) }
     {
         let ChiMonitor { at, alloc } = self;
         if at.is_null() {

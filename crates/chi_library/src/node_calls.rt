@@ -171,7 +171,8 @@ pub extern "C" fn chi_node_tend(
     credit: u8,
     release: &mut ChiRelease,
 ) -> u8
-    ensures answer { result ≡ answer_number node.old.value (λ y. tend_refusal_in y agent (credit_of credit)) }
+    ensures answer { result
+        ≡ answer_number node.old.value (λ y. tend_refusal_in y agent (credit_of credit)) }
     ensures call { CalledOn node.old.value node.new.value
         (TendCall (agent_at agent) (credit_of credit) release.new) }
     ensures closed { node.old.value ≡ None → release.new ≡ no_release }
@@ -227,7 +228,8 @@ pub extern "C" fn chi_node_flits(
     line: u8,
     flits: &mut ChiFlits,
 ) -> u8
-    ensures answer { result ≡ answer_number node.old.value (λ y. node_flits_refusal y.home agent line) }
+    ensures answer { result
+        ≡ answer_number node.old.value (λ y. node_flits_refusal y.home agent line) }
     ensures after { node.new.value ≡ node.old.value }
     ensures flits { flits.new
         ≡ output_of node.old.value no_flits_told (node_flits_told agent line) }

@@ -54,7 +54,8 @@ pub extern "C" fn chi_node_arrive_flits(
         (ArrivalCall (agent_at agent) (line_at line) arrival.new) }
     ensures closed { node.old.value ≡ None → arrival.new ≡ no_arrival }
     ensures sent { IsListed (output_of node.old.value []
-        (arrival_sent_shown (agent_at agent) (line_at line) arrival.new)) sent.old sent.new count.new }
+        (arrival_sent_shown (agent_at agent) (line_at line) arrival.new))
+        sent.old sent.new count.new }
     ensures taken { taken.new ≡ output_of node.old.value no_sent
         (arrival_taken_shown (agent_at agent) (line_at line) arrival.new) }
 {

@@ -57,7 +57,8 @@ pub extern "C" fn chi_slice_load(
     index: u8,
     bytes: &[u8],
 ) -> u8
-    ensures { IsLoading (sizes_at (config_of config.now) index) index bytes.now slice.old.value result slice.new.value }
+    ensures { IsLoading (sizes_at (config_of config.now) index) index bytes.now
+        slice.old.value result slice.new.value }
 {
     if let Some(held) = slice.take(alloc) {
         slice.put(held);

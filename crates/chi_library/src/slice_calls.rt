@@ -65,7 +65,8 @@ pub extern "C" fn chi_slice_act(
     action: &ChiAction,
     effect: &mut ChiEffect,
 ) -> u8
-    ensures answer { result ≡ answer_number slice.old.value (decoded_refusal (action_of action.now)) }
+    ensures answer { result
+        ≡ answer_number slice.old.value (decoded_refusal (action_of action.now)) }
     ensures after { slice.new.value
         ≡ state_after slice.old.value (act_after (action_of action.now)) }
     ensures effect { effect.new
@@ -88,7 +89,8 @@ pub extern "C" fn chi_slice_act(
 /// Source: `docs/PROTOCOL.md`, "The actions"; `docs/LIBRARY.md`, "A slice".
 #[unsafe(no_mangle)]
 pub extern "C" fn chi_slice_refusal(alloc: Global, slice: &mut ChiSlice, action: &ChiAction) -> u8
-    ensures answer { result ≡ answer_number slice.old.value (decoded_refusal (action_of action.now)) }
+    ensures answer { result
+        ≡ answer_number slice.old.value (decoded_refusal (action_of action.now)) }
     ensures after { slice.new.value ≡ slice.old.value }
 {
     match slice.take(alloc) {
@@ -168,7 +170,8 @@ pub extern "C" fn chi_slice_journal(
     place: u32,
     entry: &mut ChiRecord,
 ) -> u8
-    ensures answer { result ≡ answer_number slice.old.value (λ s. entry_refusal (entry_at s place)) }
+    ensures answer { result
+        ≡ answer_number slice.old.value (λ s. entry_refusal (entry_at s place)) }
     ensures after { slice.new.value ≡ slice.old.value }
     ensures entry { entry.new
         ≡ output_of slice.old.value no_record (λ s. entry_told (entry_at s place)) }

@@ -98,7 +98,8 @@ pub extern "C" fn chi_node_slice_equal(
     slice: &mut ChiSlice,
     equal: &mut u8,
 ) -> u8
-    ensures compared { IsCompared (node_slice node.old.value line) slice.old.value result equal.new }
+    ensures compared { IsCompared (node_slice node.old.value line)
+        slice.old.value result equal.new }
     ensures node { node.new.value ≡ node.old.value }
     ensures slice { slice.new.value ≡ slice.old.value }
 {

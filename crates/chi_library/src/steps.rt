@@ -41,7 +41,8 @@ pub extern "C" fn chi_slice_step(
     count: &mut u8,
     taken: &mut ChiSent,
 ) -> u8
-    ensures answer { result ≡ answer_number slice.old.value (decoded_refusal (action_of action.now)) }
+    ensures answer { result
+        ≡ answer_number slice.old.value (decoded_refusal (action_of action.now)) }
     ensures after { slice.new.value
         ≡ state_after slice.old.value (act_after (action_of action.now)) }
     ensures effect { effect.new

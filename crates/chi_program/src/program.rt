@@ -147,7 +147,15 @@ fn follow<R: Env + Files + AllocGlobal + Print + Eprint + Threads + Wait + Clock
         Err(error) => return Err(Stop::Arguments(fault_of(error.kind()))),
     };
     let words = words_of(rt.alloc(), &texts)?;
-    match arguments(rt.alloc(), &words)? {
+    work(rt, arguments(rt.alloc(), &words)?)
+}
+
+/// Does a job.
+fn work<R: Files + AllocGlobal + Print + Eprint + Threads + Wait + Clock + Sync>(
+    rt: &R,
+    job: Job<'_>,
+) -> Result<End, Stop> {
+    match job {
         Job::Replay(path) => Ok(replay_file(rt, path)?),
         Job::Check { paths, tap } => Ok(check_files(rt, &paths, tap)?),
         Job::Chart { path, only, rows } => Ok(chart_file(rt, path, part_of(only, rows))?),

@@ -10,3 +10,4 @@ pub mod CheckSpelling
 pub mod Operations
 pub mod Storms
 pub mod StormSpelling
+pub mod ShownWords

@@ -8,13 +8,11 @@ use crate::commands::read_kind;
 use crate::faults::Fault;
 use crate::files::first_line;
 use crate::numbers::number;
+use crate::shown_words::ShownWord;
 use crate::words::is;
 use std::alloc::{AllocError, Allocator};
 use std::fmt;
 use std::fmt::Write;
-
-/// The most bytes of a wrong word that are shown.
-const SHOWN: usize = 40;
 
 /// The words of a header.
 const HEADER: &str = "node A L S T0 T1 K or node A L S T0 T1 T2 T3 K";
@@ -78,23 +76,6 @@ enum Hint<'a> {
     Long(&'a [u8], &'static str),
 }
 
-/// A word of a file, of which bytes that aren't printable are shown as `?`.
-#[derive(Clone, Copy)]
-struct Shown<'a>(&'a [u8]);
-
-impl fmt::Display for Shown<'_> {
-    fn fmt<W: fmt::Write>(&self, f: &mut fmt::Formatter<W>) -> fmt::Result {
-        for byte in self.0.iter().take(SHOWN) {
-            let shown = if byte.is_ascii_graphic() { *byte } else { b'?' };
-            f.write_char(char::from(shown))?;
-        }
-        if self.0.len() > SHOWN {
-            f.write_str("..")?;
-        }
-        Ok(())
-    }
-}
-
 impl fmt::Display for Hint<'_> {
     fn fmt<W: fmt::Write>(&self, f: &mut fmt::Formatter<W>) -> fmt::Result {
         match self {
@@ -106,12 +87,12 @@ impl fmt::Display for Hint<'_> {
                 ": no word before a space, expected one space between two words",
             ),
             Hint::Word(word, wanted) => {
-                let word = Shown(word);
+                let word = ShownWord(word);
                 write!(f, ": {word}, expected {wanted}")
             }
             Hint::Short(wanted) => write!(f, ": a word is missing, expected {wanted}"),
             Hint::Long(word, wanted) => {
-                let word = Shown(word);
+                let word = ShownWord(word);
                 write!(f, ": {word}, expected no more than {wanted}")
             }
         }

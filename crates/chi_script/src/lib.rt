@@ -16,6 +16,7 @@ mod laws;
 mod numbers;
 mod operations;
 mod requester_actions;
+mod shown_words;
 mod storms;
 mod usual_lines;
 mod words;
@@ -36,5 +37,6 @@ pub use laws::{
 pub use numbers::{number, small};
 pub use operations::{AgentOperation, read_operation};
 pub use requester_actions::RequesterAction;
+pub use shown_words::ShownWord;
 pub use storms::{StormFile, read_storm};
 pub use words::{first_word, is, read_words};

@@ -35,6 +35,8 @@ mod snapshots;
 #[cfg(test)]
 mod snoops;
 #[cfg(test)]
+mod traffic;
+#[cfg(test)]
 mod verdicts;
 #[cfg(test)]
 mod write_data;

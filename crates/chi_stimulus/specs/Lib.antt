@@ -6,3 +6,4 @@ pub mod Goes
 pub mod Stimulus
 pub mod SecondPass
 pub mod Weights
+pub mod WeightFaults

@@ -1,5 +1,5 @@
 -- Files of weights (docs/FORMATS.md, "Drawn files").
-use Rattle.std.specs.Prelude.{ℕ, ◌+◌, ◌==◌, ◌||◌, Bool, true, false, List, [], ◌∷◌, Option, Some, None, codes, length, if◌then◌else◌}
+use Rattle.std.specs.Prelude.{ℕ, ◌+◌, ◌==◌, ◌||◌, Bool, true, false, List, [], ◌∷◌, Option, Some, None, codes, length, replicate, slice_set, if◌then◌else◌}
 use Rattle.chi_script.specs.Checks.{is_comment}
 use Rattle.chi_script.specs.Headers.{is_from}
 use Rattle.chi_script.specs.Words.{◌>>=◌, is_text, number_of, words_of}
@@ -51,8 +51,47 @@ is_said (Some said) = true
 abbrev pub is_weight_line : List ℕ → Bool
 is_weight_line line = is_comment line || is_said (weight_of (words_of line))
 
--- the first line from line n on that is neither, or that no line end closes
-unfoldable pub first_wrong : ℕ → List (List ℕ) → Option ℕ
+-- the first line from line n on that is neither, by its number and its words, or that no line end closes
+unfoldable pub first_wrong : ℕ → List (List ℕ) → Option (ℕ × Option (List (List ℕ)))
 first_wrong n [] = None
-first_wrong n (last ∷ []) = if length last == 0 then None else Some n
-first_wrong n (line ∷ next ∷ rest) = if is_weight_line line then first_wrong (n + 1) (next ∷ rest) else Some n
+first_wrong n (last ∷ []) = if length last == 0 then None else Some (n, None)
+first_wrong n (line ∷ next ∷ rest) = if is_weight_line line then first_wrong (n + 1) (next ∷ rest) else Some (n, Some (words_of line))
+
+-- the place of a verb's weight, which is that of the verb among all
+abbrev pub verb_place : Verb → ℕ
+verb_place Load = 0
+verb_place Store = 1
+verb_place Drop = 2
+verb_place Issue = 3
+verb_place Arrive = 4
+verb_place Start = 5
+verb_place Snp = 6
+verb_place SnpResp = 7
+verb_place RetryAck = 8
+verb_place Resend = 9
+verb_place Cancel = 10
+verb_place Data = 11
+verb_place Comp = 12
+verb_place Dbid = 13
+verb_place Ack = 14
+verb_place WrData = 15
+verb_place See = 16
+verb_place GiveBack = 17
+verb_place Tend = 18
+
+-- what a line says puts the weight at its verb's place
+abbrev pub with_weight : List ℕ → Option (Verb × ℕ) → List ℕ
+with_weight weights None = weights
+with_weight weights (Some said) = slice_set weights (verb_place said.0) said.1
+
+abbrev pub with_line : List ℕ → List ℕ → List ℕ
+with_line weights line = if is_comment line then weights else with_weight weights (weight_of (words_of line))
+
+-- the weights behind lines, of which each changes those behind the ones before
+unfoldable pub weights_behind : List ℕ → List (List ℕ) → List ℕ
+weights_behind weights [] = weights
+weights_behind weights (line ∷ lines) = weights_behind (with_line weights line) lines
+
+-- the weights that lines say: 1 each, but for what is said
+abbrev pub weights_said : List (List ℕ) → List ℕ
+weights_said lines = weights_behind (replicate 19 1) lines

@@ -17,10 +17,12 @@ mod shortage;
 mod spelled;
 mod stimulus;
 mod verbs;
+mod weight_faults;
 mod weights;
 mod words;
 
 pub use options::DrawOptions;
 pub use stimulus::draw;
 pub use verbs::Verb;
-pub use weights::{Weights, WeightsFault, WrongWords, read_weights};
+pub use weight_faults::{WeightsFault, WrongWords};
+pub use weights::{Weights, read_weights};

@@ -50,7 +50,8 @@ fn is_told(check: &Check, wild: bool) -> bool
 
 /// Whether this is so of all commands.
 fn are_told(checks: &[Check], wild: bool) -> bool
-    ensures { IsTrue result → All (λ check. is_told wild (line_of_check check).wanted ≡ true) checks.now }
+    ensures { IsTrue result
+        → All (λ check. is_told wild (line_of_check check).wanted ≡ true) checks.now }
 {
     checks.iter().all(|check| is_told(check, wild))
 }
@@ -99,7 +100,8 @@ fn is_good_script<A: Allocator + Copy>(
     text: &[u8],
     script: &CheckFile<'_, A>,
 ) -> Result<bool, NoMemory>
-    requires { check_file_of text.now ≡ Ok (script.now.header, map line_of_check script.now.checks.items) }
+    requires { check_file_of text.now
+        ≡ Ok (script.now.header, map line_of_check script.now.checks.items) }
     ensures { IfOk result (λ good. IsTrue good → IsDrawn header.now options.now text.now) }
 {
     if !fits(script, header, options) {

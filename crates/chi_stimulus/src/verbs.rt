@@ -1,8 +1,8 @@
 //! The verbs that are drawn.
 
-ghost use Rattle.std.specs.Prelude.{◌≡◌, slice_get};
+ghost use Rattle.std.specs.Prelude.{◌≡◌, ◌<◌, slice_get};
 ghost use Rattle.chi_stimulus.specs.Proposals.{all_verbs};
-ghost use Rattle.chi_stimulus.specs.Weights.{delivery_named, verb_named};
+ghost use Rattle.chi_stimulus.specs.Weights.{delivery_named, verb_named, verb_place};
 
 use chi_script::is;
 
@@ -114,6 +114,34 @@ impl Verb {
             Some(Verb::WrData)
         } else {
             None
+        }
+    }
+
+    /// Its place among the verbs.
+    pub(crate) fn place(self) -> usize
+        ensures is { result ≡ verb_place self }
+        ensures low { result < 19 }
+    {
+        match self {
+            Verb::Load => 0,
+            Verb::Store => 1,
+            Verb::Drop => 2,
+            Verb::Issue => 3,
+            Verb::Arrive => 4,
+            Verb::Start => 5,
+            Verb::Snp => 6,
+            Verb::SnpResp => 7,
+            Verb::RetryAck => 8,
+            Verb::Resend => 9,
+            Verb::Cancel => 10,
+            Verb::Data => 11,
+            Verb::Comp => 12,
+            Verb::Dbid => 13,
+            Verb::Ack => 14,
+            Verb::WrData => 15,
+            Verb::See => 16,
+            Verb::GiveBack => 17,
+            Verb::Tend => 18,
         }
     }
 

@@ -1,18 +1,16 @@
 //! Files of weights: how often each verb is drawn.
 
-ghost use Rattle.std.specs.Prelude.{◌≡◌, ◌==◌, ◌≤◌, length, sum, IfErr, IfNone, IfOk, IfSome, None, OnOk, Some, false, true};
+ghost use Rattle.std.specs.Prelude.{◌≡◌, ◌==◌, ◌≤◌, length, slice_set, sum, IfErr, IfNone, IfOk, IfSome, None, OnOk, Some, false, true};
 ghost use Rattle.chi_script.specs.Checks.{is_comment};
 ghost use Rattle.chi_script.specs.Files.{lines_of};
 ghost use Rattle.chi_script.specs.Words.{words_of};
 ghost use Rattle.chi_stimulus.specs.Proposals.{even_verb, place_from, verb_by, weighted_verb};
-ghost use Rattle.chi_stimulus.specs.Weights.{first_wrong, is_weight_line, weight_in, weight_of};
+ghost use Rattle.chi_stimulus.specs.WeightFaults.{IsWeightsFault, IsWrong};
+ghost use Rattle.chi_stimulus.specs.Weights.{first_wrong, is_weight_line, verb_place, weight_in, weight_of, weights_said, with_line};
 
-use crate::verbs::{COUNT, VERBS, Verb};
+use crate::verbs::{COUNT, Verb};
+use crate::weight_faults::{WeightsFault, WrongWords};
 use chi_script::{first_line, first_word, number};
-use std::fmt;
-
-/// The most bytes of a wrong word that are shown.
-const SHOWN: usize = 40;
 
 /// The weights where none are given.
 pub(crate) const USUAL: [u16; COUNT] = [
@@ -27,85 +25,6 @@ pub struct Weights {
     pub(crate) by_place: [u16; COUNT],
 }
 
-/// What is wrong with a line of a file of weights.
-/// Source: `docs/FORMATS.md`, "Drawn files".
-#[derive(Clone, Copy, Debug, PartialEq, Eq)]
-pub enum WrongWords<'a> {
-    /// This word stands in the place of a verb.
-    Verb(&'a [u8]),
-    /// This word stands in the place of a weight.
-    Weight(&'a [u8]),
-    /// There is no weight.
-    Missing,
-    /// This stands behind the weight.
-    Behind(&'a [u8]),
-    /// No line end closes the line.
-    Open,
-}
-
-/// A file that is no file of weights.
-/// Source: `docs/FORMATS.md`, "Drawn files".
-#[derive(Clone, Copy, Debug, PartialEq, Eq)]
-pub struct WeightsFault<'a> {
-    /// Its first wrong line, counted from 1.
-    pub line: usize,
-    pub wrong: WrongWords<'a>,
-}
-
-/// A word of a file, of which bytes that aren't printable are shown as `?`.
-#[derive(Clone, Copy)]
-struct Shown<'a>(&'a [u8]);
-
-impl fmt::Display for Shown<'_> {
-    fn fmt<W: fmt::Write>(&self, f: &mut fmt::Formatter<W>) -> fmt::Result {
-        if self.0.is_empty() {
-            return f.write_str("no word");
-        }
-        for byte in self.0.iter().take(SHOWN) {
-            let shown = if byte.is_ascii_graphic() { *byte } else { b'?' };
-            f.write_char(char::from(shown))?;
-        }
-        if self.0.len() > SHOWN {
-            f.write_str("..")?;
-        }
-        Ok(())
-    }
-}
-
-impl fmt::Display for WrongWords<'_> {
-    fn fmt<W: fmt::Write>(&self, f: &mut fmt::Formatter<W>) -> fmt::Result {
-        match self {
-            WrongWords::Verb(word) => {
-                let word = Shown(word);
-                write!(
-                    f,
-                    "{word}, expected load, store, drop, issue, arrive, start, snp, snpresp, "
-                )?;
-                f.write_str(
-                    "retryack, resend, cancel, data, comp, dbid, ack, wrdata, see, giveback or tend",
-                )
-            }
-            WrongWords::Weight(word) => {
-                let word = Shown(word);
-                write!(f, "{word}, expected a weight, 0 to 1000")
-            }
-            WrongWords::Missing => f.write_str("a word is missing, expected VERB WEIGHT"),
-            WrongWords::Behind(word) => {
-                let word = Shown(word);
-                write!(f, "{word}, expected no more than VERB WEIGHT")
-            }
-            WrongWords::Open => f.write_str("missing newline"),
-        }
-    }
-}
-
-impl fmt::Display for WeightsFault<'_> {
-    fn fmt<W: fmt::Write>(&self, f: &mut fmt::Formatter<W>) -> fmt::Result {
-        let (line, wrong) = (self.line, self.wrong);
-        write!(f, "chihome: line {line}: {wrong}")
-    }
-}
-
 /// The weights that a file says: a line for a verb has the verb and its weight, and a comment is as in a check file.
 /// A verb that no line names has weight 1; of two lines on a verb the later one says its weight.
 ///
@@ -113,7 +32,9 @@ impl fmt::Display for WeightsFault<'_> {
 /// Source: `docs/FORMATS.md`, "Drawn files".
 pub fn read_weights(bytes: &[u8]) -> Result<Weights, WeightsFault<'_>>
     ensures ok { OnOk result (first_wrong 1 (lines_of bytes.now) ≡ None) }
-    ensures err { IfErr result (λ fault. first_wrong 1 (lines_of bytes.now) ≡ Some fault.line) }
+    ensures said { IfOk result
+        (λ weights. weights.by_place ≡ weights_said (lines_of bytes.now)) }
+    ensures err { IfErr result (IsWeightsFault (first_wrong 1 (lines_of bytes.now))) }
 {
     let mut weights = Weights {
         by_place: [1; COUNT],
@@ -164,6 +85,7 @@ fn weight_in(word: &[u8]) -> Option<u16>
 fn weight_of(line: &[u8]) -> Result<(Verb, u16), WrongWords<'_>>
     ensures ok { IfOk result (λ said. weight_of (words_of line.now) ≡ Some (said.0, said.1)) }
     ensures err { IfErr result (λ _. weight_of (words_of line.now) ≡ None) }
+    ensures wrong { IfErr result (IsWrong (Some (words_of line.now))) }
 {
     let Some((verb, rest)) = first_word(line) else {
         return Err(WrongWords::Missing);
@@ -173,8 +95,8 @@ fn weight_of(line: &[u8]) -> Result<(Verb, u16), WrongWords<'_>>
     }
     match (Verb::named(verb), weight_in(rest)) {
         (Some(verb), Some(weight)) => Ok((verb, weight)),
+        (Some(_), None) => Err(WrongWords::Weight(rest)),
         (None, _) => Err(WrongWords::Verb(verb)),
-        (_, None) => Err(WrongWords::Weight(rest)),
     }
 }
 
@@ -182,7 +104,9 @@ impl Weights {
     /// Takes a line; what is wrong with it, if anything.
     fn add<'a>(&mut self, line: &'a [u8]) -> Option<WrongWords<'a>>
         ensures wrong { IfSome result (λ _. is_weight_line line.now ≡ false) }
+        ensures why { IfSome result (IsWrong (Some (words_of line.now))) }
         ensures right { IfNone result (is_weight_line line.now ≡ true) }
+        ensures said { IfNone result (self.new.by_place ≡ with_line self.old.by_place line.now) }
     {
         if is_comment(line) {
             return None;
@@ -197,12 +121,10 @@ impl Weights {
     }
 
     /// Gives the verb this weight.
-    fn set(&mut self, verb: Verb, weight: u16) {
-        for place in 0..COUNT {
-            if VERBS[place] == verb {
-                self.by_place[place] = weight;
-            }
-        }
+    fn set(&mut self, verb: Verb, weight: u16)
+        ensures { self.new.by_place ≡ slice_set self.old.by_place (verb_place verb) weight }
+    {
+        self.by_place[verb.place()] = weight;
     }
 
     /// The verb of a word: by the weights, or of all verbs with one chance, and none then whose weight is 0.

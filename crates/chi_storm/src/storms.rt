@@ -76,7 +76,8 @@ fn outcome_of_input<R: Threads + Wait + Clock + Sync, I: Input>(
     turns: u64,
 ) -> Result<Outcome, Fault>
     requires { I.failures input.old + 1 < 2 ^ 64 }
-    ensures ok { IfOk result (λ outcome. IfSome (I.left input.old) (λ file. IsStormOf file seed turns outcome)) }
+    ensures ok { IfOk result
+        (λ outcome. IfSome (I.left input.old) (λ file. IsStormOf file seed turns outcome)) }
     ensures err { IfErr result
         (NoText storm_of (I.left input.old) (I.failures input.old) (I.failures input.new)) }
 {
@@ -124,15 +125,19 @@ pub fn storm<R: Threads + Wait + Clock + Sync, I: Input, O: Output>(
     requires reads { I.failures input.old + 1 < 2 ^ 64 }
     requires writes { O.failures output.old + 1 < 2 ^ 64 }
     ensures ok { IfOk result
-        (WritesOutcome (I.left input.old) seed turns (O.written output.old) (O.written output.new)) }
+        (WritesOutcome (I.left input.old) seed turns
+        (O.written output.old) (O.written output.new)) }
     ensures write { AtWrite result (O.failures output.new ≡ O.failures output.old + 1) }
     ensures front { AtWrite result
-        (WritesStormFront (I.left input.old) seed turns (O.written output.old) (O.written output.new)) }
-    ensures err { NoTextAt result storm_of (I.left input.old) (I.failures input.old) (I.failures input.new) }
+        (WritesStormFront (I.left input.old) seed turns
+        (O.written output.old) (O.written output.new)) }
+    ensures err { NoTextAt result storm_of (I.left input.old)
+        (I.failures input.old) (I.failures input.new) }
     ensures kept { IfErr result
         (λ fault. fault ≢ Fault.Write → Keeps (O.written output.old) (O.written output.new)) }
     ensures faulty { RefusesFault storm_of (I.left input.old) result }
-    ensures silent { KeepsAtFault storm_of (I.left input.old) (O.written output.old) (O.written output.new) }
+    ensures silent { KeepsAtFault storm_of (I.left input.old)
+        (O.written output.old) (O.written output.new) }
 {
     let outcome = outcome_of_input(rt, alloc, input, seed, turns)?;
     write_outcome(alloc, outcome, output)

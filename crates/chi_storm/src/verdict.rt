@@ -140,7 +140,8 @@ pub fn outcome_from<A: Allocator>(
 /// Source: `docs/FORMATS.md`, "The output of a storm".
 pub fn outcome_of<R: Wait, A: Allocator>(rt: &R, node: Node<A>, ended: Ended) -> Outcome
     requires { AreOwn node ended.requesters.items }
-    ensures { IsOutcome node ended.requesters.items ended.gathered.reports ended.not_open.items result }
+    ensures { IsOutcome node ended.requesters.items
+        ended.gathered.reports ended.not_open.items result }
 {
     let config = *node.config();
     let Ended {

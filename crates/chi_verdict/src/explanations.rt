@@ -64,7 +64,8 @@ pub fn explain<A: Allocator + Copy, I: Input, O: Output>(
         (λ file. IsReportFront options only file (O.written output.old) (O.written output.new))) }
     ensures kept { IfErr result
         (λ fault. fault ≢ Fault.Write → Keeps (O.written output.old) (O.written output.new)) }
-    ensures silent { KeepsUnlessWritten (I.left input.old) (O.written output.old) (O.written output.new) }
+    ensures silent { KeepsUnlessWritten (I.left input.old)
+        (O.written output.old) (O.written output.new) }
 {
     let report = report_on_input(alloc, input, options, only)?;
     write_report(output, report)

@@ -141,20 +141,9 @@ impl ReasonText<'_> {
         }
     }
 
-    /// What has to do with ids.
-    fn write_id<W: fmt::Write>(&self, f: &mut fmt::Formatter<W>) -> fmt::Result {
+    /// What has to do with the beats of data.
+    fn write_beats<W: fmt::Write>(&self, f: &mut fmt::Formatter<W>) -> fmt::Result {
         match self.reason {
-            IdReason::InUse(key) => {
-                let name = KeyName(key);
-                write!(f, "{name} is open")?;
-                self.write_line(key, f)?;
-                f.write_str("; allowed: another id")
-            }
-            IdReason::NotOpen(key) => {
-                let name = KeyName(key);
-                write!(f, "{name} isn't open; allowed: ")?;
-                self.write_open(key, f)
-            }
             IdReason::Unfinished(key) => {
                 let name = KeyName(key);
                 write!(
@@ -184,6 +173,24 @@ impl ReasonText<'_> {
                 )
             }
             _ => self.write_field(f),
+        }
+    }
+
+    /// What has to do with ids.
+    fn write_id<W: fmt::Write>(&self, f: &mut fmt::Formatter<W>) -> fmt::Result {
+        match self.reason {
+            IdReason::InUse(key) => {
+                let name = KeyName(key);
+                write!(f, "{name} is open")?;
+                self.write_line(key, f)?;
+                f.write_str("; allowed: another id")
+            }
+            IdReason::NotOpen(key) => {
+                let name = KeyName(key);
+                write!(f, "{name} isn't open; allowed: ")?;
+                self.write_open(key, f)
+            }
+            _ => self.write_beats(f),
         }
     }
 }

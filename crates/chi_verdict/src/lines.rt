@@ -36,18 +36,24 @@ pub enum Obstacle {
 }
 
 impl From<AllocError> for Obstacle {
+    ghost from_gives = { λ lack obstacle. obstacle ≡ Obstacle.NoMemory };
+
     fn from(_lack: AllocError) -> Obstacle {
         Obstacle::NoMemory
     }
 }
 
 impl<T: Drop> From<AllocFailed<T>> for Obstacle {
+    ghost from_gives = { λ lack obstacle. obstacle ≡ Obstacle.NoMemory };
+
     fn from(_lack: AllocFailed<T>) -> Obstacle {
         Obstacle::NoMemory
     }
 }
 
 impl From<NoMemory> for Obstacle {
+    ghost from_gives = { λ lack obstacle. obstacle ≡ Obstacle.NoMemory };
+
     fn from(_lack: NoMemory) -> Obstacle {
         Obstacle::NoMemory
     }

@@ -6,18 +6,11 @@ ghost use Rattle.chi_verdict.specs.Texts.{BeginsWith, malformed_front};
 
 use crate::names::{joined, kept};
 use chi_flit::NoMemory;
-use chi_script::first_line;
+use chi_script::{ShownWord, first_line};
 use chi_trace::{Column, TraceChannel, TraceFault};
 use std::alloc::Allocator;
 use std::fmt;
 use std::fmt::Write;
-
-/// The most bytes of a wrong word that are shown.
-const SHOWN: usize = 40;
-
-/// A word of a file, of which bytes that aren't printable are shown as `?`.
-#[derive(Clone, Copy)]
-struct Word<'a>(&'a [u8]);
 
 /// A column, by its name at the head of a trace.
 #[derive(Clone, Copy)]
@@ -42,19 +35,6 @@ impl fmt::Display for MalformedFront {
             }
             TraceFault::BadWord { line, column: _ } => write!(f, "chihome: line {line}: "),
         }
-    }
-}
-
-impl fmt::Display for Word<'_> {
-    fn fmt<W: fmt::Write>(&self, f: &mut fmt::Formatter<W>) -> fmt::Result {
-        for byte in self.0.iter().take(SHOWN) {
-            let shown = if byte.is_ascii_graphic() { *byte } else { b'?' };
-            f.write_char(char::from(shown))?;
-        }
-        if self.0.len() > SHOWN {
-            f.write_str("..")?;
-        }
-        Ok(())
     }
 }
 
@@ -198,7 +178,10 @@ fn write_expected<A: Allocator>(
         TraceFault::FewWords(_) => kept(write!(text, ", expected {HEAD}")),
         TraceFault::BadWord { line, column } => {
             let words = line_at(bytes, line);
-            let (name, word) = (ColumnName(column), Word(word_at(words, place_of(column))));
+            let (name, word) = (
+                ColumnName(column),
+                ShownWord(word_at(words, place_of(column))),
+            );
             let wanted = expected(column, word_at(words, 0));
             kept(write!(text, "{name} {word}, expected {wanted}"))
         }
