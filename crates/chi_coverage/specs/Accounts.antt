@@ -12,10 +12,11 @@ use Rattle.chi_slice.specs.Words.{Pending}
 use Rattle.chi_coverage.specs.declared.accounts.AccountView.{AccountView}
 use Rattle.chi_coverage.specs.declared.cells.Cell.{Cell}
 use Rattle.chi_coverage.specs.declared.cells.Cell.TheVariants as cells
-use Rattle.chi_coverage.specs.declared.cells.CreditsFound.{CreditsFound}
-use Rattle.chi_coverage.specs.declared.cells.CreditsFound.TheVariants as founds
 use Rattle.chi_coverage.specs.declared.cells.Verb.{Verb}
 use Rattle.chi_coverage.specs.declared.cells.Verb.TheVariants as verbs
+use Rattle.chi_coverage.specs.declared.requester_cells.CreditsFound.{CreditsFound}
+use Rattle.chi_coverage.specs.declared.requester_cells.CreditsFound.TheVariants as founds
+use Rattle.chi_coverage.specs.declared.requester_cells.RequesterCell.TheVariants as requester_cells
 use Rattle.chi_coverage.specs.declared.scenes.Scene.{Scene}
 use Rattle.chi_coverage.specs.Places.{bool_place, credit_place}
 
@@ -99,7 +100,8 @@ found_in numbers = if has_two numbers then founds.TwoOfAType else (
 -- a RetryAck is taken: the grant came first where a credit of its request's type is to spare
 abbrev pub retry_cell : Profile → Option Pending → AccountView → Option Cell
 retry_cell profile None account = None
-retry_cell profile (Some pending) account = Some (cells.RetryTaken pending.kind (has_unused_credit account (credit_type_of profile pending.kind)))
+retry_cell profile (Some pending) account =
+    Some (cells.Requester (requester_cells.RetryTaken pending.kind (has_unused_credit account (credit_type_of profile pending.kind))))
 
 -- a resend is refused for its copy's state: 12 would fit too where no credit is to spare
 abbrev pub spare_cell : Bool → Option Cell
@@ -113,10 +115,10 @@ resend_cell profile (Some pending) account = spare_cell (has_unused_credit accou
 -- why no credit is given back
 abbrev pub return_cell : Option CreditType → AccountView → Option Cell
 return_cell None account = None
-return_cell (Some ty) account = Some (cells.NotReturned (has_cancelled account ty) (has_unused_credit account ty))
+return_cell (Some ty) account = Some (cells.Requester (requester_cells.NotReturned (has_cancelled account ty) (has_unused_credit account ty)))
 
 abbrev pub account_cell : Option Refusal → Verb → Option Scene → Profile → Option CreditType → List ℕ → AccountView → Option Cell
-account_cell None verbs.See before profile ty line account = Some (cells.Seen (found_in (credits_said line)))
+account_cell None verbs.See before profile ty line account = Some (cells.Requester (requester_cells.Seen (found_in (credits_said line))))
 account_cell None verbs.RetryAck (Some scene) profile ty line account = retry_cell profile scene.pending account
 account_cell (Some refusals.WrongState) verbs.Resend (Some scene) profile ty line account = resend_cell profile scene.pending account
 account_cell (Some refusals.NoCredit) verbs.GiveBack before profile ty line account = return_cell ty account

@@ -11,13 +11,10 @@ use Rattle.chi_flit.specs.Credit.{credit_text}
 use Rattle.chi_flit.specs.Kind.{kind_text}
 use Rattle.chi_flit.specs.Snoop.{snoop_text}
 use Rattle.chi_flit.specs.State.{state_text}
-use Rattle.chi_coverage.specs.declared.cells.Arrival.TheVariants as arrivals
 use Rattle.chi_coverage.specs.declared.cells.Cell.{Cell}
 use Rattle.chi_coverage.specs.declared.cells.Cell.TheVariants as cells
 use Rattle.chi_coverage.specs.declared.cells.Form.{Form}
 use Rattle.chi_coverage.specs.declared.cells.Form.TheVariants as forms
-use Rattle.chi_coverage.specs.declared.cells.CreditsFound.{CreditsFound}
-use Rattle.chi_coverage.specs.declared.cells.CreditsFound.TheVariants as founds
 use Rattle.chi_coverage.specs.declared.cells.Reason.{Reason}
 use Rattle.chi_coverage.specs.declared.cells.Reason.TheVariants as reasons
 use Rattle.chi_coverage.specs.declared.cells.Shown.{Shown}
@@ -26,6 +23,8 @@ use Rattle.chi_coverage.specs.declared.cells.Stage.{Stage}
 use Rattle.chi_coverage.specs.declared.cells.Stage.TheVariants as stages
 use Rattle.chi_coverage.specs.declared.cells.Verb.{Verb}
 use Rattle.chi_coverage.specs.declared.cells.Verb.TheVariants as verbs
+use Rattle.chi_coverage.specs.RequesterCells.{requester_cell_section, requester_cell_text}
+use Rattle.chi_coverage.specs.Situations.{situation_section, situation_text}
 
 abbrev pub verb_text : Verb → List ℕ
 verb_text verbs.Load = codes "load"
@@ -88,12 +87,6 @@ shown_name showns.Flagged = codes "n has the flag"
 shown_name showns.Named = codes "n is named without the flag"
 shown_name showns.Owner = codes "n is the owner"
 
-abbrev pub credits_found_text : CreditsFound → List ℕ
-credits_found_text founds.Nothing = codes "none"
-credits_found_text founds.One = codes "one"
-credits_found_text founds.TwoOfAType = codes "two of a type"
-credits_found_text founds.SeveralTypes = codes "of two types"
-
 abbrev pub stage_text : Stage → List ℕ
 stage_text stages.Sent = codes "its first attempt in flight"
 stage_text stages.RetryAck = codes "RetryAck in flight"
@@ -130,11 +123,11 @@ cell_text (cells.Refused verb reason) = verb_text verb ++ (codes ": refused " ++
 cell_text (cells.BothFit verbs.Start) = codes "start: 6 before 5"
 cell_text (cells.BothFit verbs.Resend) = codes "resend: 2 before 12"
 cell_text (cells.BothFit verb) = verb_text verb ++ codes ": 3 before 2"
+cell_text (cells.BeforeFull verb true) = verb_text verb ++ codes ": 3 before 1"
+cell_text (cells.BeforeFull verb false) = verb_text verb ++ codes ": 2 before 1"
 cell_text (cells.DoneIn verb state) = verb_text verb ++ (codes ": done in " ++ state_text state)
 cell_text (cells.CompFinds state) = codes "comp: Comp_UC finds " ++ state_text state
 cell_text (cells.Issue kind state) = codes "issue: " ++ (kind_text kind ++ (codes " in " ++ state_text state))
-cell_text (cells.Retry kind profiles.Two) = codes "retry: " ++ (kind_text kind ++ codes " of two types")
-cell_text (cells.Retry kind profiles.Four) = codes "retry: " ++ (kind_text kind ++ codes " of four types")
 cell_text (cells.Start kind shown) = kind_text kind ++ (codes ": " ++ shown_name shown)
 cell_text (cells.Answer form kind true) = form_text form ++ (codes " for " ++ (kind_text kind ++ codes ", the last"))
 cell_text (cells.Answer form kind false) = form_text form ++ (codes " for " ++ (kind_text kind ++ codes ", not the last"))
@@ -148,48 +141,22 @@ cell_text (cells.CrossedAt kind stage) = codes "a snoop crosses " ++ (kind_text 
 cell_text (cells.WriteAsked kind state) = codes "dbid: " ++ (kind_text kind ++ (codes " in " ++ state_text state))
 cell_text (cells.WriteTaken kind state) = codes "wrdata: " ++ (kind_text kind ++ (codes ", " ++ form_text (forms.CopyBackWrData state)))
 cell_text (cells.BehindWrite verb) = codes "wrdata: a " ++ (verb_text verb ++ codes " came behind it")
-cell_text cells.WriteBesideOwner = codes "write data beside another owner"
 cell_text (cells.Message form) = form_text form
-cell_text cells.NoMessage = codes "none"
 cell_text (cells.Types profiles.Two) = codes "two credit types"
 cell_text (cells.Types profiles.Four) = codes "four credit types"
-cell_text cells.OtherSlice = codes "lines of two slices"
-cell_text cells.EightAgents = codes "eight agents"
-cell_text cells.IssueBehindAck = codes "a request is issued behind its CompAck in flight"
-cell_text cells.IssueBehindWrite = codes "a request is issued behind its write data in flight"
-cell_text (cells.Arrive kind arrivals.Admitted) = codes "arrive: " ++ (kind_text kind ++ codes " admitted")
-cell_text (cells.Arrive kind arrivals.Retried) = codes "arrive: " ++ (kind_text kind ++ codes " retried")
-cell_text (cells.Arrive kind arrivals.Resent) = codes "arrive: " ++ (kind_text kind ++ codes " resent")
-cell_text (cells.Resend kind state) = codes "resend: " ++ (kind_text kind ++ (codes " in " ++ state_text state))
-cell_text (cells.ResendRefused kind state) = codes "resend refused 2: " ++ (kind_text kind ++ (codes " in " ++ state_text state))
-cell_text (cells.Cancel kind state) = codes "cancel: " ++ (kind_text kind ++ (codes " in " ++ state_text state))
-cell_text (cells.CancelRefused kind) = codes "cancel refused 2: " ++ kind_text kind
 cell_text (cells.Released verb true) = verb_text verb ++ codes ": granted"
 cell_text (cells.Released verb false) = verb_text verb ++ codes ": freed"
-cell_text cells.OwnGrant = codes "granted to itself"
-cell_text cells.TendIdle = codes "tend: idle"
-cell_text (cells.RetryTaken kind true) = codes "retryack: " ++ (kind_text kind ++ codes ", the grant first")
-cell_text (cells.RetryTaken kind false) = codes "retryack: " ++ (kind_text kind ++ codes ", RetryAck first")
-cell_text (cells.Seen found) = codes "see: " ++ credits_found_text found
-cell_text (cells.BeforeFull verb true) = verb_text verb ++ codes ": 3 before 1"
-cell_text (cells.BeforeFull verb false) = verb_text verb ++ codes ": 2 before 1"
-cell_text cells.LoadBehindStore = codes "a load behind a store"
-cell_text cells.FullElsewhere = codes "full in one slice, not in another"
-cell_text cells.SharedData = codes "ReadShared: CompData_SC with the data of SnpRespData_SD"
-cell_text cells.MemoryBehindShared = codes "ReadShared: CompData_SC with memory, behind such data"
-cell_text cells.ReadBehindPassed = codes "a read behind SnpRespData_SC_PD of the owner"
-cell_text (cells.NotReturned true seen) = codes "giveback: refused 12 no credit is seen"
-cell_text (cells.NotReturned false true) = codes "giveback: refused 12 a credit is seen, and no slot is cancelled"
-cell_text (cells.NotReturned false false) = codes "giveback: refused 12 no slot is cancelled"
+cell_text (cells.Requester cell) = requester_cell_text cell
+cell_text (cells.Situation situation) = situation_text situation
 
 unfoldable pub section_text : Cell → List ℕ
 section_text (cells.Done a) = codes "The actions"
 section_text (cells.Refused a b) = codes "The actions"
 section_text (cells.BothFit a) = codes "The actions"
+section_text (cells.BeforeFull a b) = codes "The actions"
 section_text (cells.DoneIn a b) = codes "The actions"
 section_text (cells.CompFinds a) = codes "The actions"
 section_text (cells.Issue a b) = codes "Kinds of request"
-section_text (cells.Retry a b) = codes "Kinds of request"
 section_text (cells.Start a b) = codes "Start"
 section_text (cells.Answer a b c) = codes "Answers of snooped agents"
 section_text (cells.AnswerOf a b) = codes "Answers of snooped agents"
@@ -200,31 +167,11 @@ section_text (cells.CrossedAt a b) = codes "Answers to snoops"
 section_text (cells.WriteAsked a b) = codes "Write data"
 section_text (cells.WriteTaken a b) = codes "Write data"
 section_text (cells.BehindWrite a) = codes "Write data"
-section_text cells.WriteBesideOwner = codes "The filter"
 section_text (cells.Message a) = codes "Messages"
-section_text cells.NoMessage = codes "Messages"
 section_text (cells.Types a) = codes "Limits"
-section_text cells.OtherSlice = codes "Limits"
-section_text cells.EightAgents = codes "Limits"
-section_text cells.IssueBehindAck = codes "Slots and accounts"
-section_text cells.IssueBehindWrite = codes "Slots and accounts"
-section_text (cells.Arrive a b) = codes "A requester and its calls"
-section_text (cells.Resend a b) = codes "A requester and its calls"
-section_text (cells.ResendRefused a b) = codes "A requester and its calls"
-section_text (cells.Cancel a b) = codes "A requester and its calls"
-section_text (cells.CancelRefused a) = codes "A requester and its calls"
 section_text (cells.Released a b) = codes "Steps of the tracker"
-section_text cells.OwnGrant = codes "Steps of the tracker"
-section_text cells.TendIdle = codes "Steps of the tracker"
-section_text (cells.RetryTaken a b) = codes "A requester and its calls"
-section_text (cells.Seen a) = codes "A requester and its calls"
-section_text (cells.BeforeFull a b) = codes "The actions"
-section_text cells.LoadBehindStore = codes "The journal and last values"
-section_text cells.FullElsewhere = codes "The journal and last values"
-section_text cells.SharedData = codes "Completion"
-section_text cells.MemoryBehindShared = codes "Completion"
-section_text cells.ReadBehindPassed = codes "The filter"
-section_text (cells.NotReturned a b) = codes "The actions"
+section_text (cells.Requester cell) = requester_cell_section cell
+section_text (cells.Situation situation) = situation_section situation
 
 -- which no run reaches (docs/DECISIONS.md, "The suite")
 abbrev pub is_write_unreachable : Kind → State → Bool

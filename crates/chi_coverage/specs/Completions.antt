@@ -19,6 +19,7 @@ use Rattle.chi_coverage.specs.declared.cells.Verb.TheVariants as verbs
 use Rattle.chi_coverage.specs.declared.scenes.OwnerSeen.{OwnerSeen}
 use Rattle.chi_coverage.specs.declared.scenes.OwnerSeen.TheVariants as owners
 use Rattle.chi_coverage.specs.declared.scenes.Scene.{Scene}
+use Rattle.chi_coverage.specs.declared.situations.Situation.TheVariants as situations
 use Rattle.chi_coverage.specs.Cells.{cell_if, no_cells, one_cell}
 
 -- "Completion": what the requester was sent, where the home awaits its CompAck then
@@ -69,7 +70,7 @@ overtaken_cell (Some verb) = Some (cells.BehindWrite verb)
 -- "Write data" and "The filter": write data that comes home
 abbrev pub write_by : Serving → Option DatUp → Scene → List (Option Cell)
 write_by (servings.AwaitingWriteData agent kind slot) (Some (dat_ups.CopyBackWrData form words)) scene =
-    Some (cells.WriteTaken kind form) ∷ cell_if (is_another scene.owner) cells.WriteBesideOwner
+    Some (cells.WriteTaken kind form) ∷ cell_if (is_another scene.owner) (cells.Situation situations.WriteBesideOwner)
     ∷ overtaken_cell (overtaking kind form scene.state scene.pending) ∷ []
 write_by serving data' scene = no_cells
 

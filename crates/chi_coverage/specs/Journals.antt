@@ -9,6 +9,7 @@ use Rattle.chi_coverage.specs.declared.cells.Cell.TheVariants as cells
 use Rattle.chi_coverage.specs.declared.cells.Verb.{Verb}
 use Rattle.chi_coverage.specs.declared.cells.Verb.TheVariants as verbs
 use Rattle.chi_coverage.specs.declared.journals.JournalView.{JournalView}
+use Rattle.chi_coverage.specs.declared.situations.Situation.TheVariants as situations
 use Rattle.chi_coverage.specs.Cells.{cell_if}
 
 abbrev pub no_journal : JournalView
@@ -25,9 +26,9 @@ abbrev pub is_journal_full : Sizes → JournalView → Bool
 is_journal_full sizes journal = journal.records == sizes.journal
 
 abbrev pub journal_cell : Option Refusal → Verb → (store full room : Bool) → Option Cell
-journal_cell None verbs.Load store full room = cell_if store cells.LoadBehindStore
+journal_cell None verbs.Load store full room = cell_if store (cells.Situation situations.LoadBehindStore)
 journal_cell (Some refusals.WrongState) verbs.Load store full room = cell_if full (cells.BeforeFull verbs.Load false)
 journal_cell (Some refusals.WrongState) verbs.Store store full room = cell_if full (cells.BeforeFull verbs.Store false)
 journal_cell (Some refusals.Pending) verbs.Store store full room = cell_if full (cells.BeforeFull verbs.Store true)
-journal_cell (Some refusals.JournalFull) verb store full room = cell_if room cells.FullElsewhere
+journal_cell (Some refusals.JournalFull) verb store full room = cell_if room (cells.Situation situations.FullElsewhere)
 journal_cell refusal verb store full room = None

@@ -1,3 +1,5 @@
+pub mod RequesterCells
+pub mod Situations
 pub mod Cells
 pub mod Places
 pub mod Lists

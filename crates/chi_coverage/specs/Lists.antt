@@ -9,13 +9,10 @@ use Rattle.chi_flit.specs.declared.snoop.Snoop.{Snoop}
 use Rattle.chi_flit.specs.declared.snoop.Snoop.TheVariants.{SnpNotSharedDirty, SnpShared, SnpUnique, SnpCleanInvalid}
 use Rattle.chi_flit.specs.declared.state.State.{State}
 use Rattle.chi_flit.specs.declared.state.State.TheVariants.{I, SC, UC, UD, SD}
-use Rattle.chi_coverage.specs.declared.cells.Arrival.TheVariants as arrivals
 use Rattle.chi_coverage.specs.declared.cells.Cell.{Cell}
 use Rattle.chi_coverage.specs.declared.cells.Cell.TheVariants as cells
 use Rattle.chi_coverage.specs.declared.cells.Form.{Form}
 use Rattle.chi_coverage.specs.declared.cells.Form.TheVariants as forms
-use Rattle.chi_coverage.specs.declared.cells.CreditsFound.{CreditsFound}
-use Rattle.chi_coverage.specs.declared.cells.CreditsFound.TheVariants as founds
 use Rattle.chi_coverage.specs.declared.cells.Reason.{Reason}
 use Rattle.chi_coverage.specs.declared.cells.Reason.TheVariants as reasons
 use Rattle.chi_coverage.specs.declared.cells.Shown.{Shown}
@@ -24,6 +21,12 @@ use Rattle.chi_coverage.specs.declared.cells.Stage.{Stage}
 use Rattle.chi_coverage.specs.declared.cells.Stage.TheVariants as stages
 use Rattle.chi_coverage.specs.declared.cells.Verb.{Verb}
 use Rattle.chi_coverage.specs.declared.cells.Verb.TheVariants as verbs
+use Rattle.chi_coverage.specs.declared.requester_cells.Arrival.TheVariants as arrivals
+use Rattle.chi_coverage.specs.declared.requester_cells.CreditsFound.{CreditsFound}
+use Rattle.chi_coverage.specs.declared.requester_cells.CreditsFound.TheVariants as founds
+use Rattle.chi_coverage.specs.declared.requester_cells.RequesterCell.{RequesterCell}
+use Rattle.chi_coverage.specs.declared.requester_cells.RequesterCell.TheVariants as requester_cells
+use Rattle.chi_coverage.specs.declared.situations.Situation.TheVariants as situations
 
 -- each of some with each of others
 abbrev pub pairs : {A B C : Type 0} → (A → B → C) → List A → List B → List C
@@ -93,13 +96,13 @@ done_table =
 
 abbrev pub action_cells : List Cell
 action_cells = map cells.Done every_verb ++ (pairs_of cells.Refused refused_table
-    ++ ((cells.NotReturned false false ∷ cells.NotReturned false true ∷ cells.NotReturned true false ∷ [])
+    ++ (map cells.Requester (requester_cells.NotReturned false false ∷ requester_cells.NotReturned false true ∷ requester_cells.NotReturned true false ∷ [])
     ++ (map cells.BothFit (verbs.Store ∷ verbs.Drop ∷ verbs.Issue ∷ verbs.Start ∷ verbs.Resend ∷ [])
     ++ ((cells.BeforeFull verbs.Load false ∷ cells.BeforeFull verbs.Store true ∷ cells.BeforeFull verbs.Store false ∷ [])
     ++ (pairs_of cells.DoneIn done_table ++ map cells.CompFinds (SC ∷ SD ∷ I ∷ []))))))
 
 abbrev pub request_cells : List Cell
-request_cells = pairs cells.Issue every_kind every_state ++ pairs cells.Retry every_kind (Two ∷ Four ∷ [])
+request_cells = pairs cells.Issue every_kind every_state ++ map cells.Requester (pairs requester_cells.Retry every_kind (Two ∷ Four ∷ []))
 
 abbrev pub shown_to_askers : List Shown
 shown_to_askers = showns.Nobody ∷ showns.Alone ∷ showns.OtherFlagged ∷ showns.OtherOwner ∷ showns.Others ∷ []
@@ -131,7 +134,7 @@ completion_table = (ReadNotSharedDirty, (forms.CompData true)) ∷ (ReadNotShare
 
 abbrev pub completed_cells : List Cell
 completed_cells = flat_map (λ row. map (cells.Completion row.0 row.1) (false ∷ true ∷ [])) completion_table
-    ++ (cells.SharedData ∷ cells.MemoryBehindShared ∷ cells.ReadBehindPassed ∷ cells.WriteBesideOwner ∷ [])
+    ++ map cells.Situation (situations.SharedData ∷ situations.MemoryBehindShared ∷ situations.ReadBehindPassed ∷ situations.WriteBesideOwner ∷ [])
 
 -- the states of a copy while a request of the kind is pending ("What a line keeps")
 abbrev pub crossed_table : List (Kind × List State)
@@ -164,13 +167,14 @@ every_form = pairs forms.Request every_kind both ++ (map forms.Snp every_snoop +
     ++ (every_answer ++ map forms.CopyBackWrData every_state))))
 
 abbrev pub shown_cells : List Cell
-shown_cells = cells.NoMessage ∷ map cells.Message every_form
+shown_cells = cells.Situation situations.NoMessage ∷ map cells.Message every_form
 
 abbrev pub journal_cells : List Cell
-journal_cells = cells.FullElsewhere ∷ cells.LoadBehindStore ∷ []
+journal_cells = map cells.Situation (situations.FullElsewhere ∷ situations.LoadBehindStore ∷ [])
 
 abbrev pub size_cells : List Cell
-size_cells = cells.Types Two ∷ cells.Types Four ∷ cells.OtherSlice ∷ cells.EightAgents ∷ cells.IssueBehindAck ∷ cells.IssueBehindWrite ∷ []
+size_cells = map cells.Types (Two ∷ Four ∷ [])
+    ++ map cells.Situation (situations.OtherSlice ∷ situations.EightAgents ∷ situations.IssueBehindAck ∷ situations.IssueBehindWrite ∷ [])
 
 -- the states in which a request that was retried is sent again, and in which it isn't
 abbrev pub resent_table : List (Kind × List State)
@@ -195,15 +199,17 @@ cancelled_table =
 abbrev pub every_find : List CreditsFound
 every_find = founds.Nothing ∷ founds.One ∷ founds.TwoOfAType ∷ founds.SeveralTypes ∷ []
 
-abbrev pub call_cells : List Cell
-call_cells = pairs cells.Arrive every_kind (arrivals.Admitted ∷ arrivals.Retried ∷ arrivals.Resent ∷ []) ++ (pairs_of cells.Resend resent_table
-    ++ (pairs_of cells.ResendRefused cancelled_table ++ (pairs_of cells.Cancel cancelled_table ++ (map cells.CancelRefused every_kind
-    ++ (pairs cells.RetryTaken every_kind both ++ map cells.Seen every_find)))))
+abbrev pub call_cells : List RequesterCell
+call_cells = pairs requester_cells.Arrive every_kind (arrivals.Admitted ∷ arrivals.Retried ∷ arrivals.Resent ∷ [])
+    ++ (pairs_of requester_cells.Resend resent_table ++ (pairs_of requester_cells.ResendRefused cancelled_table
+    ++ (pairs_of requester_cells.Cancel cancelled_table ++ (map requester_cells.CancelRefused every_kind
+    ++ (pairs requester_cells.RetryTaken every_kind both ++ map requester_cells.Seen every_find)))))
 
 abbrev pub released_cells : List Cell
-released_cells = pairs cells.Released (verbs.Ack ∷ verbs.WrData ∷ verbs.Start ∷ verbs.GiveBack ∷ verbs.Tend ∷ []) both ++ (cells.TendIdle ∷ cells.OwnGrant ∷ [])
+released_cells = pairs cells.Released (verbs.Ack ∷ verbs.WrData ∷ verbs.Start ∷ verbs.GiveBack ∷ verbs.Tend ∷ []) both
+    ++ map cells.Situation (situations.TendIdle ∷ situations.OwnGrant ∷ [])
 
 -- all of them
 unfoldable pub all_cells : List Cell
 all_cells = action_cells ++ (request_cells ++ (first_cells ++ (answered_cells ++ (completed_cells ++ (snooped_cells ++ (written_cells
-    ++ (shown_cells ++ (journal_cells ++ (size_cells ++ (call_cells ++ released_cells))))))))))
+    ++ (shown_cells ++ (journal_cells ++ (size_cells ++ (map cells.Requester call_cells ++ released_cells))))))))))

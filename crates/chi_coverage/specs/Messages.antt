@@ -17,6 +17,7 @@ use Rattle.chi_coverage.specs.declared.cells.Verb.{Verb}
 use Rattle.chi_coverage.specs.declared.cells.Verb.TheVariants as verbs
 use Rattle.chi_coverage.specs.declared.scenes.Scene.{Scene}
 use Rattle.chi_coverage.specs.declared.named.Named.{Named}
+use Rattle.chi_coverage.specs.declared.situations.Situation.TheVariants as situations
 use Rattle.chi_coverage.specs.Said.{refusal_in}
 use Rattle.chi_coverage.specs.Cells.{cell_if}
 
@@ -50,7 +51,7 @@ is_flight_empty flits = is_none flits.req && (is_none flits.snp && (is_none flit
 abbrev pub flight_cells : Cells → List (Option Cell)
 flight_cells flits =
     message_cell flits channels.Req ∷ message_cell flits channels.Snp ∷ message_cell flits channels.RspDown ∷ message_cell flits channels.DatDown
-    ∷ message_cell flits channels.RspUp ∷ message_cell flits channels.DatUp ∷ cell_if (is_flight_empty flits) cells.NoMessage ∷ []
+    ∷ message_cell flits channels.RspUp ∷ message_cell flits channels.DatUp ∷ cell_if (is_flight_empty flits) (cells.Situation situations.NoMessage) ∷ []
 
 abbrev pub no_messages : List (Option Cell)
 no_messages = None ∷ None ∷ None ∷ None ∷ None ∷ None ∷ None ∷ []

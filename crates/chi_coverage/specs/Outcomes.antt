@@ -11,6 +11,7 @@ use Rattle.chi_coverage.specs.declared.cells.Verb.{Verb}
 use Rattle.chi_coverage.specs.declared.cells.Verb.TheVariants as verbs
 use Rattle.chi_coverage.specs.declared.scenes.Scene.{Scene}
 use Rattle.chi_coverage.specs.declared.named.Named.{Named}
+use Rattle.chi_coverage.specs.declared.situations.Situation.TheVariants as situations
 use Rattle.chi_coverage.specs.Said.{says_freed, says_granted, says_idle, says_agent, refusal_in}
 use Rattle.chi_coverage.specs.Cells.{cell_if, no_cells}
 use Rattle.chi_coverage.specs.Refused.{refused_cells}
@@ -21,7 +22,8 @@ released_cell verb line = if says_granted line then Some (cells.Released verb tr
 
 abbrev pub own_cell : Option Agent → List ℕ → Option Cell
 own_cell None line = None
-own_cell (Some agent) line = if says_idle line then Some cells.TendIdle else cell_if (says_granted line && says_agent line agent) cells.OwnGrant
+own_cell (Some agent) line =
+    if says_idle line then Some (cells.Situation situations.TendIdle) else cell_if (says_granted line && says_agent line agent) (cells.Situation situations.OwnGrant)
 
 abbrev pub outcome_of : Option Refusal → Sizes → Named → Option Scene → List ℕ → List (Option Cell)
 outcome_of (Some refusal) sizes named before line = refused_cells refusal named sizes.agents sizes.lines before
@@ -32,8 +34,9 @@ outcome_cells sizes named before line = outcome_of (refusal_in line) sizes named
 
 -- "Limits": the sizes of the node on which something is done
 abbrev pub slice_cell : Sizes → Verb → Option Line → Option Cell
-slice_cell sizes verbs.Ack (Some l) = cell_if (nat_lt 0 (l.0 % sizes.slices)) cells.OtherSlice
+slice_cell sizes verbs.Ack (Some l) = cell_if (nat_lt 0 (l.0 % sizes.slices)) (cells.Situation situations.OtherSlice)
 slice_cell sizes verb l = None
 
 abbrev pub limit_cells : Sizes → Named → List ℕ → List (Option Cell)
-limit_cells sizes named line = if is_some (refusal_in line) then no_cells else (Some (cells.Types sizes.profile) ∷ cell_if (sizes.agents == 8) cells.EightAgents ∷ slice_cell sizes named.verb named.line ∷ [])
+limit_cells sizes named line =
+    if is_some (refusal_in line) then no_cells else (Some (cells.Types sizes.profile) ∷ cell_if (sizes.agents == 8) (cells.Situation situations.EightAgents) ∷ slice_cell sizes named.verb named.line ∷ [])

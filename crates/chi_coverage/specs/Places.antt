@@ -10,14 +10,10 @@ use Rattle.chi_flit.specs.declared.snoop.Snoop.{Snoop}
 use Rattle.chi_flit.specs.declared.snoop.Snoop.TheVariants as snoops
 use Rattle.chi_flit.specs.declared.state.State.{State}
 use Rattle.chi_flit.specs.declared.state.State.TheVariants as states
-use Rattle.chi_coverage.specs.declared.cells.Arrival.{Arrival}
-use Rattle.chi_coverage.specs.declared.cells.Arrival.TheVariants as arrivals
 use Rattle.chi_coverage.specs.declared.cells.Cell.{Cell}
 use Rattle.chi_coverage.specs.declared.cells.Cell.TheVariants as cells
 use Rattle.chi_coverage.specs.declared.cells.Form.{Form}
 use Rattle.chi_coverage.specs.declared.cells.Form.TheVariants as forms
-use Rattle.chi_coverage.specs.declared.cells.CreditsFound.{CreditsFound}
-use Rattle.chi_coverage.specs.declared.cells.CreditsFound.TheVariants as founds
 use Rattle.chi_coverage.specs.declared.cells.Reason.{Reason}
 use Rattle.chi_coverage.specs.declared.cells.Reason.TheVariants as reasons
 use Rattle.chi_coverage.specs.declared.cells.Shown.{Shown}
@@ -26,6 +22,14 @@ use Rattle.chi_coverage.specs.declared.cells.Stage.{Stage}
 use Rattle.chi_coverage.specs.declared.cells.Stage.TheVariants as stages
 use Rattle.chi_coverage.specs.declared.cells.Verb.{Verb}
 use Rattle.chi_coverage.specs.declared.cells.Verb.TheVariants as verbs
+use Rattle.chi_coverage.specs.declared.requester_cells.Arrival.{Arrival}
+use Rattle.chi_coverage.specs.declared.requester_cells.Arrival.TheVariants as arrivals
+use Rattle.chi_coverage.specs.declared.requester_cells.CreditsFound.{CreditsFound}
+use Rattle.chi_coverage.specs.declared.requester_cells.CreditsFound.TheVariants as founds
+use Rattle.chi_coverage.specs.declared.requester_cells.RequesterCell.{RequesterCell}
+use Rattle.chi_coverage.specs.declared.requester_cells.RequesterCell.TheVariants as requester_cells
+use Rattle.chi_coverage.specs.declared.situations.Situation.{Situation}
+use Rattle.chi_coverage.specs.declared.situations.Situation.TheVariants as situations
 
 -- how many places there are
 abbrev pub place_count : ℕ
@@ -166,49 +170,56 @@ form_place (forms.CopyBackWrData state) = 35 + place_of_state state
 abbrev pub pair_place : Kind → State → ℕ
 pair_place kind state = (5 * kind_place kind) + place_of_state state
 
+-- the places of a requester's cells, and of the situations, among each other
+abbrev pub requester_cell_place : RequesterCell → ℕ
+requester_cell_place (requester_cells.Retry kind profile) = (2 * kind_place kind) + profile_place profile
+requester_cell_place (requester_cells.Arrive kind arrival) = 16 + (3 * kind_place kind) + arrival_place arrival
+requester_cell_place (requester_cells.Resend kind state) = 40 + pair_place kind state
+requester_cell_place (requester_cells.ResendRefused kind state) = 80 + pair_place kind state
+requester_cell_place (requester_cells.Cancel kind state) = 120 + pair_place kind state
+requester_cell_place (requester_cells.CancelRefused kind) = 160 + kind_place kind
+requester_cell_place (requester_cells.RetryTaken kind granted) = 168 + (2 * kind_place kind) + bool_place granted
+requester_cell_place (requester_cells.Seen found) = 184 + found_place found
+requester_cell_place (requester_cells.NotReturned cancelled seen) = 188 + (2 * bool_place cancelled) + bool_place seen
+
+abbrev pub situation_place : Situation → ℕ
+situation_place situations.WriteBesideOwner = 0
+situation_place situations.ReadBehindPassed = 1
+situation_place situations.SharedData = 2
+situation_place situations.MemoryBehindShared = 3
+situation_place situations.NoMessage = 4
+situation_place situations.FullElsewhere = 5
+situation_place situations.LoadBehindStore = 6
+situation_place situations.OtherSlice = 7
+situation_place situations.EightAgents = 8
+situation_place situations.IssueBehindAck = 9
+situation_place situations.IssueBehindWrite = 10
+situation_place situations.TendIdle = 11
+situation_place situations.OwnGrant = 12
+
 abbrev pub cell_place : Cell → ℕ
 cell_place (cells.Done verb) = verb_place verb
 cell_place (cells.Refused verb reason) = 23 + (25 * verb_place verb) + reason_place reason
 cell_place (cells.BothFit verb) = 598 + verb_place verb
-cell_place (cells.DoneIn verb state) = 621 + (5 * verb_place verb) + place_of_state state
-cell_place (cells.CompFinds state) = 736 + place_of_state state
-cell_place (cells.Issue kind state) = 741 + pair_place kind state
-cell_place (cells.Retry kind profile) = 781 + (2 * kind_place kind) + profile_place profile
-cell_place (cells.Start kind shown) = 797 + (11 * kind_place kind) + shown_place shown
-cell_place (cells.Answer form kind last) = 885 + (16 * form_place form) + (2 * kind_place kind) + bool_place last
-cell_place (cells.AnswerOf form owner) = 1525 + (2 * form_place form) + bool_place owner
-cell_place (cells.Completion kind form behind) = 1605 + (80 * kind_place kind) + (2 * form_place form) + bool_place behind
-cell_place (cells.Snooped state snoop) = 2245 + (5 * snoop_place snoop) + place_of_state state
-cell_place (cells.Crossed snoop kind state) = 2265 + (40 * snoop_place snoop) + pair_place kind state
-cell_place (cells.CrossedAt kind stage) = 2425 + (5 * kind_place kind) + stage_place stage
-cell_place (cells.WriteAsked kind state) = 2465 + pair_place kind state
-cell_place (cells.WriteTaken kind state) = 2505 + pair_place kind state
-cell_place (cells.BehindWrite verb) = 2545 + verb_place verb
-cell_place (cells.Message form) = 2568 + form_place form
-cell_place (cells.Types profile) = 2608 + profile_place profile
-cell_place (cells.Arrive kind arrival) = 2610 + (3 * kind_place kind) + arrival_place arrival
-cell_place (cells.Resend kind state) = 2634 + pair_place kind state
-cell_place (cells.ResendRefused kind state) = 2674 + pair_place kind state
-cell_place (cells.Cancel kind state) = 2714 + pair_place kind state
-cell_place (cells.CancelRefused kind) = 2754 + kind_place kind
-cell_place (cells.Released verb granted) = 2762 + (2 * verb_place verb) + bool_place granted
-cell_place cells.WriteBesideOwner = 2808
-cell_place cells.NoMessage = 2809
-cell_place cells.OtherSlice = 2810
-cell_place cells.EightAgents = 2811
-cell_place cells.IssueBehindAck = 2812
-cell_place cells.IssueBehindWrite = 2813
-cell_place cells.OwnGrant = 2814
-cell_place cells.TendIdle = 2815
-cell_place (cells.RetryTaken kind granted) = 2816 + (2 * kind_place kind) + bool_place granted
-cell_place (cells.Seen found) = 2832 + found_place found
-cell_place (cells.NotReturned cancelled seen) = 2836 + (2 * bool_place cancelled) + bool_place seen
-cell_place (cells.BeforeFull verb pending) = 2840 + (2 * verb_place verb) + bool_place pending
-cell_place cells.LoadBehindStore = 2886
-cell_place cells.FullElsewhere = 2887
-cell_place cells.SharedData = 2888
-cell_place cells.MemoryBehindShared = 2889
-cell_place cells.ReadBehindPassed = 2890
+cell_place (cells.BeforeFull verb pending) = 621 + (2 * verb_place verb) + bool_place pending
+cell_place (cells.DoneIn verb state) = 667 + (5 * verb_place verb) + place_of_state state
+cell_place (cells.CompFinds state) = 782 + place_of_state state
+cell_place (cells.Issue kind state) = 787 + pair_place kind state
+cell_place (cells.Start kind shown) = 827 + (11 * kind_place kind) + shown_place shown
+cell_place (cells.Answer form kind last) = 915 + (16 * form_place form) + (2 * kind_place kind) + bool_place last
+cell_place (cells.AnswerOf form owner) = 1555 + (2 * form_place form) + bool_place owner
+cell_place (cells.Completion kind form behind) = 1635 + (80 * kind_place kind) + (2 * form_place form) + bool_place behind
+cell_place (cells.Snooped state snoop) = 2275 + (5 * snoop_place snoop) + place_of_state state
+cell_place (cells.Crossed snoop kind state) = 2295 + (40 * snoop_place snoop) + pair_place kind state
+cell_place (cells.CrossedAt kind stage) = 2455 + (5 * kind_place kind) + stage_place stage
+cell_place (cells.WriteAsked kind state) = 2495 + pair_place kind state
+cell_place (cells.WriteTaken kind state) = 2535 + pair_place kind state
+cell_place (cells.BehindWrite verb) = 2575 + verb_place verb
+cell_place (cells.Message form) = 2598 + form_place form
+cell_place (cells.Types profile) = 2638 + profile_place profile
+cell_place (cells.Released verb granted) = 2640 + (2 * verb_place verb) + bool_place granted
+cell_place (cells.Requester cell) = 2686 + requester_cell_place cell
+cell_place (cells.Situation situation) = 2878 + situation_place situation
 
 abbrev pub is_cell : Cell → Cell → Bool
 is_cell one other = cell_place one == cell_place other

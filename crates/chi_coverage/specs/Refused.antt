@@ -19,6 +19,7 @@ use Rattle.chi_coverage.specs.declared.cells.Verb.{Verb}
 use Rattle.chi_coverage.specs.declared.cells.Verb.TheVariants as verbs
 use Rattle.chi_coverage.specs.declared.scenes.Scene.{Scene}
 use Rattle.chi_coverage.specs.declared.named.Named.{Named}
+use Rattle.chi_coverage.specs.declared.requester_cells.RequesterCell.TheVariants as requester_cells
 use Rattle.chi_coverage.specs.Cells.{cell_if, one_cell}
 
 -- "The actions": what a command is refused for.
@@ -136,8 +137,8 @@ kind_pending cell (Some pending) = Some (cell pending.kind)
 
 abbrev pub kind_cell : Refusal → Verb → Option Kind → Scene → Option Cell
 kind_cell refusals.WrongState verbs.Issue kind scene = kind_in_state (λ k. cells.Issue k scene.state) kind
-kind_cell refusals.WrongState verbs.Resend kind scene = kind_pending (λ k. cells.ResendRefused k scene.state) scene.pending
-kind_cell refusals.WrongState verbs.Cancel kind scene = kind_pending (λ k. cells.CancelRefused k) scene.pending
+kind_cell refusals.WrongState verbs.Resend kind scene = kind_pending (λ k. cells.Requester (requester_cells.ResendRefused k scene.state)) scene.pending
+kind_cell refusals.WrongState verbs.Cancel kind scene = kind_pending (λ k. cells.Requester (requester_cells.CancelRefused k)) scene.pending
 kind_cell other verb kind scene = None
 
 abbrev pub refused_cells : Refusal → Named → ℕ → ℕ → Option Scene → List (Option Cell)

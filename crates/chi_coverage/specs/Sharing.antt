@@ -15,6 +15,7 @@ use Rattle.chi_coverage.specs.declared.scenes.OwnerSeen.{OwnerSeen}
 use Rattle.chi_coverage.specs.declared.scenes.OwnerSeen.TheVariants as owners
 use Rattle.chi_coverage.specs.declared.scenes.Scene.{Scene}
 use Rattle.chi_coverage.specs.declared.sharing.Sharing.{Sharing}
+use Rattle.chi_coverage.specs.declared.situations.Situation.TheVariants as situations
 use Rattle.chi_coverage.specs.Cells.{cell_if}
 use Rattle.chi_coverage.specs.Completions.{completion_cell}
 use Rattle.chi_coverage.specs.Scenes.{scene_at}
@@ -45,11 +46,11 @@ is_dirty_answer (Some forms.SnpRespDataSD) = true
 is_dirty_answer other = false
 
 abbrev pub memory_cell : Bool → Option Cell → Option Cell
-memory_cell shared completion = cell_if (shared && is_shared_read completion) cells.MemoryBehindShared
+memory_cell shared completion = cell_if (shared && is_shared_read completion) (cells.Situation situations.MemoryBehindShared)
 
 abbrev pub answer_data_cell : Option Form → Bool → Serving → Option LineView → Option Cell
 answer_data_cell form shared (servings.Snooping agent kind slot) after =
-    if is_dirty_answer form then Some cells.SharedData else memory_cell shared (completion_cell kind (scene_at after agent) true)
+    if is_dirty_answer form then Some (cells.Situation situations.SharedData) else memory_cell shared (completion_cell kind (scene_at after agent) true)
 answer_data_cell form shared serving after = None
 
 abbrev pub start_data_cell : Option Waiting → Bool → Option Scene → Option Cell
@@ -70,5 +71,5 @@ data_cell verbs.Start agent scene after line = start_data_cell scene.waiting lin
 data_cell verb agent scene after line = None
 
 abbrev pub passed_cell : Verb → Agent → Option LineView → Sharing → Option Cell
-passed_cell verbs.Start agent after line = cell_if (line.passed && is_shared_start (scene_at after agent)) cells.ReadBehindPassed
+passed_cell verbs.Start agent after line = cell_if (line.passed && is_shared_start (scene_at after agent)) (cells.Situation situations.ReadBehindPassed)
 passed_cell verb agent after line = None

@@ -5,9 +5,10 @@ ghost use Rattle.chi_coverage.specs.Accounts.{told_account_after, account_cell, 
 ghost use Rattle.chi_coverage.specs.Said.{refusal_in};
 
 use crate::answers::refusal_in;
-use crate::cells::{Cell, CreditsFound, Verb};
+use crate::cells::{Cell, Verb};
 use crate::named::Named;
 use crate::places::{bool_place, credit_place};
+use crate::requester_cells::{CreditsFound, RequesterCell};
 use crate::scenes::Scene;
 use chi_flit::{CreditType, NoMemory, Profile, Refusal, Request, credit_type};
 use chi_slice::Pending;
@@ -252,7 +253,7 @@ fn retry_cell(profile: Profile, pending: Option<Pending>, account: &AccountView)
 {
     let kind = pending?.kind;
     let granted = account.has_unused_credit(credit_type(profile, kind));
-    Some(Cell::RetryTaken(kind, granted))
+    Some(Cell::Requester(RequesterCell::RetryTaken(kind, granted)))
 }
 
 /// The cell of a resend that is refused for its copy's state.
@@ -272,7 +273,8 @@ fn return_cell(credit: Option<CreditType>, account: &AccountView) -> Option<Cell
 {
     let credit = credit?;
     let cancelled = account.has_cancelled(credit);
-    Some(Cell::NotReturned(cancelled, account.has_unused_credit(credit)))
+    let seen = account.has_unused_credit(credit);
+    Some(Cell::Requester(RequesterCell::NotReturned(cancelled, seen)))
 }
 
 /// The cell that an agent's account shows.
@@ -287,7 +289,10 @@ pub(crate) fn account_cell(
         profile named.now.credit line.now account.now }
 {
     match (refusal_in(line), named.verb, before) {
-        (None, Verb::See, _) => Some(Cell::Seen(found_in(&credits_said(line)))),
+        (None, Verb::See, _) => {
+            let found = found_in(&credits_said(line));
+            Some(Cell::Requester(RequesterCell::Seen(found)))
+        }
         (None, Verb::RetryAck, Some(scene)) => retry_cell(profile, scene.pending, account),
         (Some(Refusal::WrongState), Verb::Resend, Some(scene)) => {
             resend_cell(profile, scene.pending, account)

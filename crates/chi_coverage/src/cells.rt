@@ -1,8 +1,10 @@
 //! The cells of the protocol's tables.
 
 ghost use Rattle.std.specs.Prelude.{◌≡◌, Some};
-ghost use Rattle.chi_coverage.specs.Cells.{cell_if, cell_text, form_text, credits_found_text, is_crossing_unreachable, is_unreachable, is_write_unreachable, reason_text, section_text, shown_name, stage_text, verb_text};
+ghost use Rattle.chi_coverage.specs.Cells.{cell_if, cell_text, form_text, is_crossing_unreachable, is_unreachable, is_write_unreachable, reason_text, section_text, shown_name, stage_text, verb_text};
 
+use crate::requester_cells::RequesterCell;
+use crate::situations::Situation;
 use chi_flit::{CreditType, Kind, Profile, Snoop, State};
 use std::fmt;
 
@@ -108,26 +110,6 @@ pub(crate) enum Stage {
     Waiting,
 }
 
-/// What becomes of a request that arrives.
-/// Source: `docs/PROTOCOL.md`, "A requester and its calls".
-#[derive(Clone, Copy)]
-pub(crate) enum Arrival {
-    Admitted,
-    Retried,
-    Resent,
-}
-
-/// What a `see` finds.
-/// Source: `docs/PROTOCOL.md`, "A requester and its calls".
-#[derive(Clone, Copy)]
-pub(crate) enum CreditsFound {
-    Nothing,
-    One,
-    TwoOfAType,
-    /// One each of several types.
-    SeveralTypes,
-}
-
 /// The form of a message, without the slot and the data.
 /// Source: `docs/PROTOCOL.md`, "Messages".
 #[derive(Clone, Copy)]
@@ -160,14 +142,14 @@ pub(crate) enum Cell {
     Refused(Verb, Reason),
     /// Two refusals fit, and the first one is answered.
     BothFit(Verb),
+    /// The command is refused, and 1 would fit too; whether for a pending request.
+    BeforeFull(Verb, bool),
     /// The command is done on a copy in the state.
     DoneIn(Verb, State),
     /// Comp_UC finds a copy in the state.
     CompFinds(State),
     /// A request of the kind is issued, or refused, on a copy in the state.
     Issue(Kind, State),
-    /// A request of the kind is retried, on a node of the profile.
-    Retry(Kind, Profile),
     /// A request of the kind is started, and the filter shows this.
     Start(Kind, Shown),
     /// An answer of the form is taken for a request of the kind, as the last one or not.
@@ -188,53 +170,16 @@ pub(crate) enum Cell {
     WriteTaken(Kind, State),
     /// Write data comes home behind which there was a store, or a drop.
     BehindWrite(Verb),
-    /// Write data comes home while another agent is the owner.
-    WriteBesideOwner,
-    /// A message of the form is shown in flight, or none.
+    /// A message of the form is shown in flight.
     Message(Form),
-    NoMessage,
     /// The node has so many credit types.
     Types(Profile),
-    /// The line is in another slice than the first one.
-    OtherSlice,
-    /// The node has eight agents.
-    EightAgents,
-    /// A request is issued behind the agent's CompAck in flight, or its write data.
-    IssueBehindAck,
-    IssueBehindWrite,
-    /// A request of the kind arrives.
-    Arrive(Kind, Arrival),
-    /// A request of the kind is sent again, with the copy in the state.
-    Resend(Kind, State),
-    /// The same, refused for that state.
-    ResendRefused(Kind, State),
-    /// A request of the kind is cancelled, with the copy in the state.
-    Cancel(Kind, State),
-    /// The same, refused.
-    CancelRefused(Kind),
-    /// The RetryAck to a request of the kind is taken, and a grant was seen before it or wasn't.
-    RetryTaken(Kind, bool),
-    /// A `see` finds so many credits.
-    Seen(CreditsFound),
-    /// No credit is given back: whether a slot is cancelled, and whether a credit is seen.
-    NotReturned(bool, bool),
-    /// The command is refused, and 1 would fit too; whether for a pending request.
-    BeforeFull(Verb, bool),
-    /// A load in whose journal a store is.
-    LoadBehindStore,
-    /// A journal is full, and that of another slice isn't.
-    FullElsewhere,
-    /// A ReadShared gets the data of SnpRespData_SD; or the memory's, where one got such data before.
-    SharedData,
-    MemoryBehindShared,
-    /// A read is completed at its start, of a line whose owner passed its duty.
-    ReadBehindPassed,
     /// The command's entry is granted on, or freed.
     Released(Verb, bool),
-    /// An entry is granted to the agent that releases it.
-    OwnGrant,
-    /// Nobody is owed a credit of the type, or no entry of it is free.
-    TendIdle,
+    /// A cell of a requester's calls.
+    Requester(RequesterCell),
+    /// A situation that has no operand.
+    Situation(Situation),
 }
 
 /// No cell at all.
@@ -345,27 +290,6 @@ impl fmt::Display for Shown {
     }
 }
 
-impl CreditsFound {
-    fn name(self) -> &'static str
-        ensures { result.now ≡ credits_found_text self }
-    {
-        match self {
-            CreditsFound::Nothing => "none",
-            CreditsFound::One => "one",
-            CreditsFound::TwoOfAType => "two of a type",
-            CreditsFound::SeveralTypes => "of two types",
-        }
-    }
-}
-
-impl fmt::Display for CreditsFound {
-    ghost output = { λ found. Some (credits_found_text found) };
-
-    fn fmt<W: fmt::Write>(&self, f: &mut fmt::Formatter<W>) -> fmt::Result {
-        f.write_str(self.name())
-    }
-}
-
 impl Stage {
     fn name(self) -> &'static str
         ensures { result.now ≡ stage_text self }
@@ -427,29 +351,20 @@ impl Cell {
             Cell::Done(_)
             | Cell::Refused(..)
             | Cell::BothFit(_)
-            | Cell::DoneIn(..)
-            | Cell::NotReturned(..)
             | Cell::BeforeFull(..)
+            | Cell::DoneIn(..)
             | Cell::CompFinds(_) => "The actions",
-            Cell::Issue(..) | Cell::Retry(..) => "Kinds of request",
+            Cell::Issue(..) => "Kinds of request",
             Cell::Start(..) => "Start",
             Cell::Answer(..) | Cell::AnswerOf(..) => "Answers of snooped agents",
-            Cell::Completion(..) | Cell::SharedData | Cell::MemoryBehindShared => "Completion",
+            Cell::Completion(..) => "Completion",
             Cell::Snooped(..) | Cell::Crossed(..) | Cell::CrossedAt(..) => "Answers to snoops",
             Cell::WriteAsked(..) | Cell::WriteTaken(..) | Cell::BehindWrite(_) => "Write data",
-            Cell::WriteBesideOwner | Cell::ReadBehindPassed => "The filter",
-            Cell::LoadBehindStore | Cell::FullElsewhere => "The journal and last values",
-            Cell::Message(_) | Cell::NoMessage => "Messages",
-            Cell::Types(_) | Cell::OtherSlice | Cell::EightAgents => "Limits",
-            Cell::IssueBehindAck | Cell::IssueBehindWrite => "Slots and accounts",
-            Cell::Arrive(..)
-            | Cell::Resend(..)
-            | Cell::ResendRefused(..)
-            | Cell::Cancel(..)
-            | Cell::CancelRefused(_)
-            | Cell::RetryTaken(..)
-            | Cell::Seen(_) => "A requester and its calls",
-            Cell::Released(..) | Cell::OwnGrant | Cell::TendIdle => "Steps of the tracker",
+            Cell::Message(_) => "Messages",
+            Cell::Types(_) => "Limits",
+            Cell::Released(..) => "Steps of the tracker",
+            Cell::Requester(cell) => cell.section(),
+            Cell::Situation(situation) => situation.section(),
         }
     }
 
@@ -507,11 +422,11 @@ impl fmt::Display for Cell {
             Cell::BothFit(Verb::Start) => f.write_str("start: 6 before 5"),
             Cell::BothFit(Verb::Resend) => f.write_str("resend: 2 before 12"),
             Cell::BothFit(verb) => write!(f, "{verb}: 3 before 2"),
+            Cell::BeforeFull(verb, true) => write!(f, "{verb}: 3 before 1"),
+            Cell::BeforeFull(verb, false) => write!(f, "{verb}: 2 before 1"),
             Cell::DoneIn(verb, state) => write!(f, "{verb}: done in {state}"),
             Cell::CompFinds(state) => write!(f, "comp: Comp_UC finds {state}"),
             Cell::Issue(kind, state) => write!(f, "issue: {kind} in {state}"),
-            Cell::Retry(kind, Profile::Two) => write!(f, "retry: {kind} of two types"),
-            Cell::Retry(kind, Profile::Four) => write!(f, "retry: {kind} of four types"),
             Cell::Start(kind, shown) => write!(f, "{kind}: {shown}"),
             Cell::Answer(form, kind, true) => write!(f, "{form} for {kind}, the last"),
             Cell::Answer(form, kind, false) => write!(f, "{form} for {kind}, not the last"),
@@ -528,51 +443,13 @@ impl fmt::Display for Cell {
                 write!(f, "wrdata: {kind}, {form}")
             }
             Cell::BehindWrite(verb) => write!(f, "wrdata: a {verb} came behind it"),
-            Cell::WriteBesideOwner => f.write_str("write data beside another owner"),
             Cell::Message(form) => write!(f, "{form}"),
-            Cell::NoMessage => f.write_str("none"),
             Cell::Types(Profile::Two) => f.write_str("two credit types"),
             Cell::Types(Profile::Four) => f.write_str("four credit types"),
-            Cell::OtherSlice => f.write_str("lines of two slices"),
-            Cell::EightAgents => f.write_str("eight agents"),
-            Cell::IssueBehindAck => {
-                f.write_str("a request is issued behind its CompAck in flight")
-            }
-            Cell::IssueBehindWrite => {
-                f.write_str("a request is issued behind its write data in flight")
-            }
-            Cell::Arrive(kind, Arrival::Admitted) => write!(f, "arrive: {kind} admitted"),
-            Cell::Arrive(kind, Arrival::Retried) => write!(f, "arrive: {kind} retried"),
-            Cell::Arrive(kind, Arrival::Resent) => write!(f, "arrive: {kind} resent"),
-            Cell::Resend(kind, state) => write!(f, "resend: {kind} in {state}"),
-            Cell::ResendRefused(kind, state) => write!(f, "resend refused 2: {kind} in {state}"),
-            Cell::Cancel(kind, state) => write!(f, "cancel: {kind} in {state}"),
-            Cell::CancelRefused(kind) => write!(f, "cancel refused 2: {kind}"),
             Cell::Released(verb, true) => write!(f, "{verb}: granted"),
             Cell::Released(verb, false) => write!(f, "{verb}: freed"),
-            Cell::OwnGrant => f.write_str("granted to itself"),
-            Cell::TendIdle => f.write_str("tend: idle"),
-            Cell::RetryTaken(kind, true) => write!(f, "retryack: {kind}, the grant first"),
-            Cell::RetryTaken(kind, false) => write!(f, "retryack: {kind}, RetryAck first"),
-            Cell::Seen(found) => write!(f, "see: {found}"),
-            Cell::BeforeFull(verb, true) => write!(f, "{verb}: 3 before 1"),
-            Cell::BeforeFull(verb, false) => write!(f, "{verb}: 2 before 1"),
-            Cell::LoadBehindStore => f.write_str("a load behind a store"),
-            Cell::FullElsewhere => f.write_str("full in one slice, not in another"),
-            Cell::SharedData => {
-                f.write_str("ReadShared: CompData_SC with the data of SnpRespData_SD")
-            }
-            Cell::MemoryBehindShared => {
-                f.write_str("ReadShared: CompData_SC with memory, behind such data")
-            }
-            Cell::ReadBehindPassed => f.write_str("a read behind SnpRespData_SC_PD of the owner"),
-            Cell::NotReturned(true, _) => f.write_str("giveback: refused 12 no credit is seen"),
-            Cell::NotReturned(false, true) => {
-                f.write_str("giveback: refused 12 a credit is seen, and no slot is cancelled")
-            }
-            Cell::NotReturned(false, false) => {
-                f.write_str("giveback: refused 12 no slot is cancelled")
-            }
+            Cell::Requester(cell) => write!(f, "{cell}"),
+            Cell::Situation(situation) => write!(f, "{situation}"),
         }
     }
 }

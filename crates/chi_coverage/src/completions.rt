@@ -5,6 +5,7 @@ ghost use Rattle.chi_coverage.specs.Completions.{comp_cells, completion_cell, co
 
 use crate::cells::{Cell, Form, NO_CELLS, Verb, cell_if};
 use crate::scenes::{OwnerSeen, Scene};
+use crate::situations::Situation;
 use chi_flit::{DatUp, Kind, RspDown, State};
 use chi_slice::{Pending, Serving};
 
@@ -92,7 +93,7 @@ pub(crate) fn write_cells(scene: &Scene) -> [Option<Cell>; 3]
             let verb = overtaking(kind, form, scene.state, scene.pending);
             [
                 Some(Cell::WriteTaken(kind, form)),
-                cell_if(beside, Cell::WriteBesideOwner),
+                cell_if(beside, Cell::Situation(Situation::WriteBesideOwner)),
                 overtaken_cell(verb),
             ]
         }

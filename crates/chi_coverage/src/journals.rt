@@ -4,6 +4,7 @@ ghost use Rattle.std.specs.Prelude.{◌≡◌, ◌+◌, IfOk};
 ghost use Rattle.chi_coverage.specs.Journals.{journal_after, journal_cell};
 
 use crate::cells::{Cell, Verb, cell_if};
+use crate::situations::Situation;
 use chi_flit::{NoMemory, Refusal};
 
 /// What the answers so far show of a slice's journal.
@@ -58,7 +59,7 @@ pub(crate) fn journal_cell(
     ensures { result ≡ journal_cell refusal verb has_store full room }
 {
     match (refusal, verb) {
-        (None, Verb::Load) => cell_if(has_store, Cell::LoadBehindStore),
+        (None, Verb::Load) => cell_if(has_store, Cell::Situation(Situation::LoadBehindStore)),
         (Some(Refusal::WrongState), Verb::Load) => {
             cell_if(full, Cell::BeforeFull(Verb::Load, false))
         }
@@ -68,7 +69,9 @@ pub(crate) fn journal_cell(
         (Some(Refusal::Pending), Verb::Store) => {
             cell_if(full, Cell::BeforeFull(Verb::Store, true))
         }
-        (Some(Refusal::JournalFull), _) => cell_if(room, Cell::FullElsewhere),
+        (Some(Refusal::JournalFull), _) => {
+            cell_if(room, Cell::Situation(Situation::FullElsewhere))
+        }
         _ => None,
     }
 }

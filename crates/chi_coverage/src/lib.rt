@@ -18,10 +18,12 @@ mod outcomes;
 mod past;
 mod places;
 mod refused;
+mod requester_cells;
 mod requests;
 mod runs;
 mod scenes;
 mod sharing;
+mod situations;
 mod snoops;
 mod steps;
 

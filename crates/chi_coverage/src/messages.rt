@@ -7,6 +7,7 @@ use crate::answers::refusal_in;
 use crate::cells::{Cell, Form, Verb, cell_if};
 use crate::named::Named;
 use crate::scenes::Scene;
+use crate::situations::Situation;
 use chi_flit::{Channel, DatUp, Msg, RspDown, RspUp};
 use chi_slice::Cells;
 
@@ -63,7 +64,7 @@ fn flight_cells(cells: &Cells) -> [Option<Cell>; 7]
         message_cell(cells, Channel::DatDown),
         message_cell(cells, Channel::RspUp),
         message_cell(cells, Channel::DatUp),
-        cell_if(none, Cell::NoMessage),
+        cell_if(none, Cell::Situation(Situation::NoMessage)),
     ]
 }
 

@@ -8,6 +8,7 @@ use crate::cells::{Cell, NO_CELLS, Verb, cell_if};
 use crate::named::Named;
 use crate::refused::refused_cells;
 use crate::scenes::Scene;
+use crate::situations::Situation;
 use chi_flit::{Agent, Line};
 use chi_slice::Config;
 
@@ -30,9 +31,9 @@ fn own_cell(agent: Option<Agent>, line: &[u8]) -> Option<Cell>
 {
     let agent = agent?;
     if says_idle(line) {
-        Some(Cell::TendIdle)
+        Some(Cell::Situation(Situation::TendIdle))
     } else if says_granted(line) && says_agent(line, agent) {
-        Some(Cell::OwnGrant)
+        Some(Cell::Situation(Situation::OwnGrant))
     } else {
         None
     }
@@ -62,7 +63,10 @@ fn slice_cell(config: &Config, verb: Verb, line: Option<Line>) -> Option<Cell>
     ensures { result ≡ slice_cell config.now verb line }
 {
     match (verb, line) {
-        (Verb::Ack, Some(line)) => cell_if(config.slice_of(line) > 0, Cell::OtherSlice),
+        (Verb::Ack, Some(line)) => {
+            let other = config.slice_of(line) > 0;
+            cell_if(other, Cell::Situation(Situation::OtherSlice))
+        }
         _ => None,
     }
 }
@@ -74,9 +78,10 @@ pub(crate) fn limit_cells(config: &Config, named: &Named, line: &[u8]) -> [Optio
     if refusal_in(line).is_some() {
         return NO_CELLS;
     }
+    let eight = config.agents() == 8;
     [
         Some(Cell::Types(config.profile())),
-        cell_if(config.agents() == 8, Cell::EightAgents),
+        cell_if(eight, Cell::Situation(Situation::EightAgents)),
         slice_cell(config, named.verb, named.line),
     ]
 }

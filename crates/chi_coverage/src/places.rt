@@ -1,9 +1,11 @@
 //! The place of each cell in the table of counts.
 
 ghost use Rattle.std.specs.Prelude.{◌≡◌, ◌≤◌, ◌<◌};
-ghost use Rattle.chi_coverage.specs.Places.{arrival_place, bool_place, cell_place, credit_place, form_place, found_place, kind_place, place_count, profile_place, reason_place, shown_place, snoop_place, pair_place, stage_place, place_of_state, verb_place};
+ghost use Rattle.chi_coverage.specs.Places.{arrival_place, bool_place, cell_place, credit_place, form_place, found_place, kind_place, place_count, profile_place, reason_place, requester_cell_place, shown_place, situation_place, snoop_place, pair_place, stage_place, place_of_state, verb_place};
 
-use crate::cells::{Arrival, Cell, CreditsFound, Form, Reason, Shown, Stage, Verb};
+use crate::cells::{Cell, Form, Reason, Shown, Stage, Verb};
+use crate::requester_cells::{Arrival, CreditsFound, RequesterCell};
+use crate::situations::Situation;
 use chi_flit::{CreditType, Kind, Profile, Snoop, State};
 
 /// How many places there are.
@@ -224,6 +226,56 @@ fn pair_place(kind: Kind, state: State) -> usize
     5 * kind_place(kind) + place_of_state(state)
 }
 
+impl RequesterCell {
+    /// Its place among the cells of a requester's calls.
+    fn place(self) -> usize
+        ensures is { result ≡ requester_cell_place self }
+        ensures low { result ≤ 191 }
+    {
+        match self {
+            RequesterCell::Retry(kind, profile) => 2 * kind_place(kind) + profile_place(profile),
+            RequesterCell::Arrive(kind, arrival) => {
+                16 + 3 * kind_place(kind) + arrival_place(arrival)
+            }
+            RequesterCell::Resend(kind, state) => 40 + pair_place(kind, state),
+            RequesterCell::ResendRefused(kind, state) => 80 + pair_place(kind, state),
+            RequesterCell::Cancel(kind, state) => 120 + pair_place(kind, state),
+            RequesterCell::CancelRefused(kind) => 160 + kind_place(kind),
+            RequesterCell::RetryTaken(kind, granted) => {
+                168 + 2 * kind_place(kind) + bool_place(granted)
+            }
+            RequesterCell::Seen(found) => 184 + found_place(found),
+            RequesterCell::NotReturned(cancelled, seen) => {
+                188 + 2 * bool_place(cancelled) + bool_place(seen)
+            }
+        }
+    }
+}
+
+impl Situation {
+    /// Its place among the situations.
+    fn place(self) -> usize
+        ensures is { result ≡ situation_place self }
+        ensures low { result ≤ 12 }
+    {
+        match self {
+            Situation::WriteBesideOwner => 0,
+            Situation::ReadBehindPassed => 1,
+            Situation::SharedData => 2,
+            Situation::MemoryBehindShared => 3,
+            Situation::NoMessage => 4,
+            Situation::FullElsewhere => 5,
+            Situation::LoadBehindStore => 6,
+            Situation::OtherSlice => 7,
+            Situation::EightAgents => 8,
+            Situation::IssueBehindAck => 9,
+            Situation::IssueBehindWrite => 10,
+            Situation::TendIdle => 11,
+            Situation::OwnGrant => 12,
+        }
+    }
+}
+
 impl Cell {
     /// Its place, which no other cell has.
     pub(crate) fn place(self) -> usize
@@ -234,53 +286,31 @@ impl Cell {
             Cell::Done(verb) => verb_place(verb),
             Cell::Refused(verb, reason) => 23 + 25 * verb_place(verb) + reason_place(reason),
             Cell::BothFit(verb) => 598 + verb_place(verb),
-            Cell::DoneIn(verb, state) => 621 + 5 * verb_place(verb) + place_of_state(state),
-            Cell::CompFinds(state) => 736 + place_of_state(state),
-            Cell::Issue(kind, state) => 741 + pair_place(kind, state),
-            Cell::Retry(kind, profile) => 781 + 2 * kind_place(kind) + profile_place(profile),
-            Cell::Start(kind, shown) => 797 + 11 * kind_place(kind) + shown_place(shown),
+            Cell::BeforeFull(verb, pending) => 621 + 2 * verb_place(verb) + bool_place(pending),
+            Cell::DoneIn(verb, state) => 667 + 5 * verb_place(verb) + place_of_state(state),
+            Cell::CompFinds(state) => 782 + place_of_state(state),
+            Cell::Issue(kind, state) => 787 + pair_place(kind, state),
+            Cell::Start(kind, shown) => 827 + 11 * kind_place(kind) + shown_place(shown),
             Cell::Answer(form, kind, last) => {
-                885 + 16 * form_place(form) + 2 * kind_place(kind) + bool_place(last)
+                915 + 16 * form_place(form) + 2 * kind_place(kind) + bool_place(last)
             }
-            Cell::AnswerOf(form, owner) => 1525 + 2 * form_place(form) + bool_place(owner),
+            Cell::AnswerOf(form, owner) => 1555 + 2 * form_place(form) + bool_place(owner),
             Cell::Completion(kind, form, behind) => {
-                1605 + 80 * kind_place(kind) + 2 * form_place(form) + bool_place(behind)
+                1635 + 80 * kind_place(kind) + 2 * form_place(form) + bool_place(behind)
             }
-            Cell::Snooped(state, snoop) => 2245 + 5 * snoop_place(snoop) + place_of_state(state),
+            Cell::Snooped(state, snoop) => 2275 + 5 * snoop_place(snoop) + place_of_state(state),
             Cell::Crossed(snoop, kind, state) => {
-                2265 + 40 * snoop_place(snoop) + pair_place(kind, state)
+                2295 + 40 * snoop_place(snoop) + pair_place(kind, state)
             }
-            Cell::CrossedAt(kind, stage) => 2425 + 5 * kind_place(kind) + stage_place(stage),
-            Cell::WriteAsked(kind, state) => 2465 + pair_place(kind, state),
-            Cell::WriteTaken(kind, state) => 2505 + pair_place(kind, state),
-            Cell::BehindWrite(verb) => 2545 + verb_place(verb),
-            Cell::Message(form) => 2568 + form_place(form),
-            Cell::Types(profile) => 2608 + profile_place(profile),
-            Cell::Arrive(kind, arrival) => 2610 + 3 * kind_place(kind) + arrival_place(arrival),
-            Cell::Resend(kind, state) => 2634 + pair_place(kind, state),
-            Cell::ResendRefused(kind, state) => 2674 + pair_place(kind, state),
-            Cell::Cancel(kind, state) => 2714 + pair_place(kind, state),
-            Cell::CancelRefused(kind) => 2754 + kind_place(kind),
-            Cell::Released(verb, granted) => 2762 + 2 * verb_place(verb) + bool_place(granted),
-            Cell::WriteBesideOwner => 2808,
-            Cell::NoMessage => 2809,
-            Cell::OtherSlice => 2810,
-            Cell::EightAgents => 2811,
-            Cell::IssueBehindAck => 2812,
-            Cell::IssueBehindWrite => 2813,
-            Cell::OwnGrant => 2814,
-            Cell::TendIdle => 2815,
-            Cell::RetryTaken(kind, granted) => { 2816 + 2 * kind_place(kind) + bool_place(granted) }
-            Cell::Seen(found) => 2832 + found_place(found),
-            Cell::NotReturned(cancelled, seen) => {
-                2836 + 2 * bool_place(cancelled) + bool_place(seen)
-            }
-            Cell::BeforeFull(verb, pending) => 2840 + 2 * verb_place(verb) + bool_place(pending),
-            Cell::LoadBehindStore => 2886,
-            Cell::FullElsewhere => 2887,
-            Cell::SharedData => 2888,
-            Cell::MemoryBehindShared => 2889,
-            Cell::ReadBehindPassed => 2890,
+            Cell::CrossedAt(kind, stage) => 2455 + 5 * kind_place(kind) + stage_place(stage),
+            Cell::WriteAsked(kind, state) => 2495 + pair_place(kind, state),
+            Cell::WriteTaken(kind, state) => 2535 + pair_place(kind, state),
+            Cell::BehindWrite(verb) => 2575 + verb_place(verb),
+            Cell::Message(form) => 2598 + form_place(form),
+            Cell::Types(profile) => 2638 + profile_place(profile),
+            Cell::Released(verb, granted) => 2640 + 2 * verb_place(verb) + bool_place(granted),
+            Cell::Requester(cell) => 2686 + cell.place(),
+            Cell::Situation(situation) => 2878 + situation.place(),
         }
     }
 }

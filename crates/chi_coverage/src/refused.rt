@@ -5,6 +5,7 @@ ghost use Rattle.chi_coverage.specs.Refused.{both_cell, both_fit, busy_reason, c
 
 use crate::cells::{Cell, Reason, Verb};
 use crate::named::Named;
+use crate::requester_cells::RequesterCell;
 use crate::scenes::Scene;
 use chi_flit::{Agent, Line, Refusal, State};
 use chi_slice::{Pending, Serving};
@@ -188,9 +189,13 @@ fn kind_cell(refusal: Refusal, named: &Named, scene: &Scene) -> Option<Cell>
     match (refusal, named.verb) {
         (Refusal::WrongState, Verb::Issue) => Some(Cell::Issue(named.kind?, scene.state)),
         (Refusal::WrongState, Verb::Resend) => {
-            Some(Cell::ResendRefused(scene.pending?.kind, scene.state))
+            let kind = scene.pending?.kind;
+            Some(Cell::Requester(RequesterCell::ResendRefused(kind, scene.state)))
         }
-        (Refusal::WrongState, Verb::Cancel) => Some(Cell::CancelRefused(scene.pending?.kind)),
+        (Refusal::WrongState, Verb::Cancel) => {
+            let kind = scene.pending?.kind;
+            Some(Cell::Requester(RequesterCell::CancelRefused(kind)))
+        }
         _ => None,
     }
 }

@@ -4,9 +4,11 @@ ghost use Rattle.std.specs.Prelude.{◌≡◌};
 ghost use Rattle.chi_coverage.specs.Requests.{arrival_of, arrive_cells, copy_cells, has_ack, has_write, issue_cells, pending_cells, shown_asking, shown_in, shown_leaving, start_cells};
 
 use crate::answers::says_retry;
-use crate::cells::{Arrival, Cell, NO_CELLS, Shown, Verb, cell_if};
+use crate::cells::{Cell, NO_CELLS, Shown, Verb, cell_if};
 use crate::completions::completion_cell;
+use crate::requester_cells::{Arrival, RequesterCell};
 use crate::scenes::{OwnerSeen, Scene};
+use crate::situations::Situation;
 use chi_flit::{DatUp, Kind, Profile, RspUp};
 
 /// Whether write data of the agent is in flight.
@@ -37,8 +39,11 @@ pub(crate) fn issue_cells(kind: Option<Kind>, scene: &Scene) -> [Option<Cell>; 3
     match kind {
         Some(kind) => [
             Some(Cell::Issue(kind, scene.state)),
-            cell_if(has_ack(scene), Cell::IssueBehindAck),
-            cell_if(has_write(scene), Cell::IssueBehindWrite),
+            cell_if(has_ack(scene), Cell::Situation(Situation::IssueBehindAck)),
+            cell_if(
+                has_write(scene),
+                Cell::Situation(Situation::IssueBehindWrite),
+            ),
         ],
         None => NO_CELLS,
     }
@@ -62,11 +67,15 @@ pub(crate) fn arrive_cells(profile: Profile, scene: &Scene, line: &[u8]) -> [Opt
     ensures { result ≡ arrive_cells profile scene.now line.now }
 {
     match scene.flits.req {
-        Some(request) => [
-            Some(Cell::Arrive(request.kind, arrival_of(request.allow_retry, line))),
-            cell_if(says_retry(line), Cell::Retry(request.kind, profile)),
-            None,
-        ],
+        Some(request) => {
+            let arrival = arrival_of(request.allow_retry, line);
+            let retry = Cell::Requester(RequesterCell::Retry(request.kind, profile));
+            [
+                Some(Cell::Requester(RequesterCell::Arrive(request.kind, arrival))),
+                cell_if(says_retry(line), retry),
+                None,
+            ]
+        }
         None => NO_CELLS,
     }
 }
@@ -145,10 +154,12 @@ pub(crate) fn pending_cells(verb: Verb, scene: &Scene) -> [Option<Cell>; 3]
             ]
         }
         (Verb::Resend, Some(pending)) => {
-            [Some(Cell::Resend(pending.kind, scene.state)), None, None]
+            let resend = RequesterCell::Resend(pending.kind, scene.state);
+            [Some(Cell::Requester(resend)), None, None]
         }
         (Verb::Cancel, Some(pending)) => {
-            [Some(Cell::Cancel(pending.kind, scene.state)), None, None]
+            let cancel = RequesterCell::Cancel(pending.kind, scene.state);
+            [Some(Cell::Requester(cancel)), None, None]
         }
         _ => NO_CELLS,
     }

@@ -6,6 +6,7 @@ ghost use Rattle.chi_coverage.specs.Sharing.{shared_after_answer, answer_data_ce
 use crate::cells::{Cell, Form, Verb, cell_if};
 use crate::completions::completion_cell;
 use crate::scenes::{OwnerSeen, Scene, scene_at};
+use crate::situations::Situation;
 use crate::snoops::answered_form;
 use chi_flit::{Agent, Kind};
 use chi_slice::{LineView, Serving, Waiting};
@@ -73,7 +74,7 @@ fn memory_cell(shared: bool, completion: Option<Cell>) -> Option<Cell>
 {
     cell_if(
         shared && is_shared_read(completion),
-        Cell::MemoryBehindShared,
+        Cell::Situation(Situation::MemoryBehindShared),
     )
 }
 
@@ -89,7 +90,7 @@ fn answer_data_cell(
     match serving {
         Serving::Snooping { agent, kind, .. } => {
             if matches!(form, Some(Form::SnpRespDataSD)) {
-                Some(Cell::SharedData)
+                Some(Cell::Situation(Situation::SharedData))
             } else {
                 let scene = scene_at(after, agent);
                 memory_cell(shared, completion_cell(kind, &scene, true))
@@ -153,7 +154,7 @@ pub(crate) fn passed_cell(
         Verb::Start => {
             let after = scene_at(after, agent);
             let passed = line.passed && is_shared_start(&after);
-            cell_if(passed, Cell::ReadBehindPassed)
+            cell_if(passed, Cell::Situation(Situation::ReadBehindPassed))
         }
         _ => None,
     }
