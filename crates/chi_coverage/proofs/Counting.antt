@@ -3,7 +3,7 @@ use Rattle.std.proofs.Common.{◌≡◌, ℕ, List, [], ◌∷◌, ◌++◌, Opt
 use Rattle.std.proofs.lemmas.List.Concat.{flat_map-append}
 use Rattle.std.specs.Prelude.{option_to_list}
 use Rattle.chi_coverage.specs.declared.cells.Cell.{Cell}
-use Rattle.chi_coverage.specs.Counts.{counted}
+use Rattle.chi_coverage.specs.Counts.{cells_counted}
 use Rattle.chi_coverage.specs.declared.scenes.Scene.{Scene}
 use Rattle.chi_coverage.specs.declared.named.Named.{Named}
 use Rattle.chi_coverage.specs.declared.past.Past.{Past}
@@ -19,7 +19,7 @@ use Rattle.chi_script.specs.declared.commands.Command.{Command}
 use Rattle.chi_slice.specs.Words.{LineView, Sizes}
 use Rattle.chi_coverage.specs.Places.{cell_place}
 
-pub counted_append : (counts : List ℕ) (one other : List Cell) → counted counts (one ++ other) ≡ counted (counted counts one) other
+pub counted_append : (counts : List ℕ) (one other : List Cell) → cells_counted counts (one ++ other) ≡ cells_counted (cells_counted counts one) other
 counted_append counts [] other = refl
 counted_append counts (cell ∷ one) other = counted_append (slice_set counts (cell_place cell) (slice_index counts (cell_place cell) + 1)) one other
 
@@ -27,27 +27,27 @@ pub listed_append : (one other : List (Option Cell)) → listed (one ++ other) �
 listed_append one other = flat_map-append (λ cell. option_to_list cell) one other
 
 -- five lists of cells, counted one after the other
-pub counted_five : (start a b c d e : List ℕ) (p q r s t : List (Option Cell)) → a ≡ counted start (listed p) → b ≡ counted a (listed q) → c ≡ counted b (listed r) → d ≡ counted c (listed s)
-    → e ≡ counted d (listed t) → e ≡ counted start (listed (p ++ (q ++ (r ++ (s ++ t)))))
+pub counted_five : (start a b c d e : List ℕ) (p q r s t : List (Option Cell)) → a ≡ cells_counted start (listed p) → b ≡ cells_counted a (listed q) → c ≡ cells_counted b (listed r) → d ≡ cells_counted c (listed s)
+    → e ≡ cells_counted d (listed t) → e ≡ cells_counted start (listed (p ++ (q ++ (r ++ (s ++ t)))))
 counted_five start a b c d e p q r s t f g h i j =
     let lists : listed (p ++ (q ++ (r ++ (s ++ t)))) ≡ listed p ++ (listed q ++ (listed r ++ (listed s ++ listed t))) =
     listed_append p (q ++ (r ++ (s ++ t))) ∙ ap (λ (x : List Cell). listed p ++ x) (listed_append q (r ++ (s ++ t))
     ∙ ap (λ (x : List Cell). listed q ++ x) (listed_append r (s ++ t) ∙ ap (λ (x : List Cell). listed r ++ x) (listed_append s t))) in
-    let all : counted start (listed p ++ (listed q ++ (listed r ++ (listed s ++ listed t)))) ≡ counted (counted (counted (counted (counted start (listed p)) (listed q)) (listed r)) (listed s)) (listed t) =
+    let all : cells_counted start (listed p ++ (listed q ++ (listed r ++ (listed s ++ listed t)))) ≡ cells_counted (cells_counted (cells_counted (cells_counted (cells_counted start (listed p)) (listed q)) (listed r)) (listed s)) (listed t) =
     counted_append start (listed p) (listed q ++ (listed r ++ (listed s ++ listed t)))
-    ∙ (counted_append (counted start (listed p)) (listed q) (listed r ++ (listed s ++ listed t))
-    ∙ (counted_append (counted (counted start (listed p)) (listed q)) (listed r) (listed s ++ listed t)
-    ∙ counted_append (counted (counted (counted start (listed p)) (listed q)) (listed r)) (listed s) (listed t))) in
-    j ∙ (ap (λ (x : List ℕ). counted x (listed t)) (i ∙ ap (λ (x : List ℕ). counted x (listed s)) (h ∙ ap (λ (x : List ℕ). counted x (listed r)) (g ∙ ap (λ (x : List ℕ). counted x (listed q)) f)))
-    ∙ (sym all ∙ ap (counted start) (sym lists)))
+    ∙ (counted_append (cells_counted start (listed p)) (listed q) (listed r ++ (listed s ++ listed t))
+    ∙ (counted_append (cells_counted (cells_counted start (listed p)) (listed q)) (listed r) (listed s ++ listed t)
+    ∙ counted_append (cells_counted (cells_counted (cells_counted start (listed p)) (listed q)) (listed r)) (listed s) (listed t))) in
+    j ∙ (ap (λ (x : List ℕ). cells_counted x (listed t)) (i ∙ ap (λ (x : List ℕ). cells_counted x (listed s)) (h ∙ ap (λ (x : List ℕ). cells_counted x (listed r)) (g ∙ ap (λ (x : List ℕ). cells_counted x (listed q)) f)))
+    ∙ (sym all ∙ ap (cells_counted start) (sym lists)))
 
 -- the cells of a step, counted table by table
 pub counted_seen : {T E : Type 0} (result : Result T E) (config : Sizes) (past : Past) (command : Command) (before : Option LineView) (line : List ℕ) (after : Option LineView) (named : Named) (scene : Option Scene)
     (profile : Profile) (start a b c d e : List ℕ) (p q r s t : List (Option Cell)) → named ≡ named_of command → scene ≡ scene_named before named.agent → profile ≡ config.profile
     → p ≡ outcome_cells config named scene line → q ≡ limit_cells config named line → r ≡ scene_cells profile named scene line after → s ≡ message_cells named scene line
     → t ≡ past_cells config past named scene line after
-    → a ≡ counted start (listed p) → b ≡ counted a (listed q) → c ≡ counted b (listed r) → d ≡ counted c (listed s) → OnOk result (e ≡ counted d (listed t))
-    → OnOk result (e ≡ counted start (cells_shown config past command before line after))
+    → a ≡ cells_counted start (listed p) → b ≡ cells_counted a (listed q) → c ≡ cells_counted b (listed r) → d ≡ cells_counted c (listed s) → OnOk result (e ≡ cells_counted d (listed t))
+    → OnOk result (e ≡ cells_counted start (cells_shown config past command before line after))
 counted_seen (Err lack) config past command before line after named scene profile start a b c d e p q r s t e1 e2 e3 f1 f2 f3 f4 f5 g1 g2 g3 g4 g5 = g5
 counted_seen (Ok done) config past command before line after named scene profile start a b c d e p q r s t e1 e2 e3 f1 f2 f3 f4 f5 g1 g2 g3 g4 g5 =
     let one : p ++ (q ++ (r ++ (s ++ t)))
@@ -60,4 +60,4 @@ counted_seen (Ok done) config past command before line after named scene profile
     ++ (scene_cells x named scene line after ++ (message_cells named scene line ++ past_cells config past named scene line after)))) e3 in
     let three = ap (λ (x : Option Scene). cells_seen config past named x line after) e2 in
     let four = ap (λ (x : Named). cells_seen config past x (scene_named before x.agent) line after) e1 in
-    counted_five start a b c d e p q r s t g1 g2 g3 g4 g5 ∙ ap (λ (x : List (Option Cell)). counted start (listed x)) (one ∙ (two ∙ (three ∙ four)))
+    counted_five start a b c d e p q r s t g1 g2 g3 g4 g5 ∙ ap (λ (x : List (Option Cell)). cells_counted start (listed x)) (one ∙ (two ∙ (three ∙ four)))

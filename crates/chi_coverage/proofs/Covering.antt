@@ -13,7 +13,7 @@ use Rattle.chi_script.specs.Files.{IsOneLine}
 use Rattle.chi_replay.specs.declared.suites.SuiteFile.{SuiteFile}
 use Rattle.chi_replay.specs.Suites.{GivenFile, faulty_line, first_of, given, given_of}
 use Rattle.chi_coverage.specs.declared.cells.Cell.{Cell}
-use Rattle.chi_coverage.specs.Counts.{CoverGoesOn, CoverState, IsCountedFile, count_at, counted, cover_with}
+use Rattle.chi_coverage.specs.Counts.{CoverGoesOn, CoverState, IsCountedFile, count_at, cells_counted, cover_with}
 use Rattle.chi_coverage.specs.Coverage.{CoverCame, covered, unread, FileCover, IsCoverReport, IsFileCover, MayCover, cells_covered, cover_fault, cover_fault_line, cover_lines, cover_summary, cover_text, first_cover_fault, is_reachable, is_reached, line_of_cell, times_met}
 use Rattle.chi_coverage.specs.Lists.{all_cells}
 use Rattle.chi_coverage.specs.Places.{place_count}
@@ -52,14 +52,14 @@ lines_more told it = flat_map-append (λ x. cover_fault_line x.file.name x.came)
 
 -- what was counted from these counts on, and told, of so many files
 abbrev pub state_told : List ℕ → List FileCover → CoverState
-state_told start told = cover_state (counted start (all_told told)) (lines_told told) (first_cover_fault told)
+state_told start told = cover_state (cells_counted start (all_told told)) (lines_told told) (first_cover_fault told)
 
 state_more : (start : List ℕ) (told : List FileCover) (file : GivenFile) (came : CoverCame)
     → cover_with file.name (state_told start told) came ≡ state_told start (told ++ record { file = file; came = came } ∷ [])
 state_more start told file came =
     let it : FileCover = record { file = file; came = came } in
     state_same _ _ _ _ _ _
-    (sym (counted_append start (all_told told) (cells_covered came)) ∙ ap (counted start) (sym (cells_more told it)))
+    (sym (counted_append start (all_told told) (cells_covered came)) ∙ ap (cells_counted start) (sym (cells_more told it)))
     (sym (lines_more told it))
     (sym (first_more told it))
 
@@ -182,7 +182,7 @@ covered_all only files state text faults fault stands printed lines first = reco
   in_turn = stands.in_turn;
   each = stands.each;
   printed = printed ∙ (ap (λ (s : CoverState). cover_text only (count_at s.counts)) stands.stands
-      ∙ text_same only (count_at (counted stands.start (all_told stands.told))) (λ cell. times_met cell (all_told stands.told)) (counted_times stands.start stands.empty stands.long (all_told stands.told)) all_cells);
+      ∙ text_same only (count_at (cells_counted stands.start (all_told stands.told))) (λ cell. times_met cell (all_told stands.told)) (counted_times stands.start stands.empty stands.long (all_told stands.told)) all_cells);
   lines = lines ∙ ap (λ (s : CoverState). s.faults) stands.stands;
   first = first ∙ ap (λ (s : CoverState). s.fault) stands.stands;
 }

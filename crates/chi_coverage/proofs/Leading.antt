@@ -11,7 +11,7 @@ use Rattle.chi_replay.specs.Turns.{TurnAnswer, Machine, machine_at_start, turn}
 use Rattle.chi_replay.proofs.Openings.{opening_machine, opening_views}
 use Rattle.chi_replay.proofs.Playing.{made_plays}
 use Rattle.chi_coverage.specs.declared.cells.Cell.{Cell}
-use Rattle.chi_coverage.specs.Counts.{counted, IsCountedRun, IsCountedStep}
+use Rattle.chi_coverage.specs.Counts.{cells_counted, IsCountedRun, IsCountedStep}
 use Rattle.chi_coverage.specs.declared.past.Past.{Past}
 use Rattle.chi_coverage.specs.Coverage.{PlayedStep, cells_of_step, cells_of_steps, cells_shown, past_of_step, past_shown, played_steps, view_in}
 use Rattle.chi_coverage.specs.Named.{named_of}
@@ -23,7 +23,7 @@ run_cells config past m commands answers = cells_of_steps config past (played_st
 
 abbrev pub LeadsOn : Sizes → List Command → (start now : List ℕ) → Past → Machine → List PortView → List Command → Type 0
 LeadsOn config all start now past m ports rest =
-    (answers : List TurnAnswer) → MayAnswer m ports rest answers → IsCountedRun config all start (counted now (run_cells config past m rest answers))
+    (answers : List TurnAnswer) → MayAnswer m ports rest answers → IsCountedRun config all start (cells_counted now (run_cells config past m rest answers))
 
 leads_from : (config : Sizes) (all : List Command) (start : List ℕ) → LeadsOn config all start start no_past (machine_at_start config) (opening_ports config) all
 leads_from config all start = λ answers allowed. record { answers = answers; allowed = allowed; is = refl }
@@ -54,9 +54,9 @@ leads_further config all start now now' past past' old new command rest leads pl
     let left : cells_of_step config past first ++ run_cells config (past_of_step config past first) (machine_of new) rest later
     ≡ cells_of_step config past first ++ run_cells config past' (machine_of new) rest later =
     ap (λ (p : Past). cells_of_step config past first ++ run_cells config p (machine_of new) rest later) (sym played.leaves) in
-    let same : counted now (run_cells config past (machine_of old) (command ∷ rest) (mine ++ later)) ≡ counted now' (run_cells config past' (machine_of new) rest later) =
-    ap (counted now) (cells ∙ left) ∙ (counted_append now (cells_of_step config past first) (run_cells config past' (machine_of new) rest later)
-    ∙ ap (λ (counts : List ℕ). counted counts (run_cells config past' (machine_of new) rest later)) (sym played.is)) in
+    let same : cells_counted now (run_cells config past (machine_of old) (command ∷ rest) (mine ++ later)) ≡ cells_counted now' (run_cells config past' (machine_of new) rest later) =
+    ap (cells_counted now) (cells ∙ left) ∙ (counted_append now (cells_of_step config past first) (run_cells config past' (machine_of new) rest later)
+    ∙ ap (λ (counts : List ℕ). cells_counted counts (run_cells config past' (machine_of new) rest later)) (sym played.is)) in
     subst (IsCountedRun config all start) same whole
 
 -- after the last command
@@ -70,7 +70,7 @@ pub record Led (config : Sizes) (all : List Command) (start now : List ℕ) (pas
 -- a command was played, and what it said and what stood at its line was counted
 pub counted_step : {T E : Type 0} (result : Result T E) (config : Sizes) (past past' : Past) (old new : SystemState) (command : Command) (counts counts' start text line : List ℕ) (before after : Option LineView)
     → start ≡ [] → SaysTurn command old new start text → line ≡ text → before ≡ view_in old.home (named_of command).line → after ≡ view_in new.home (named_of command).line
-    → counts' ≡ counted counts (cells_shown config past command before line after) → OnOk result (past' ≡ past_shown config past command before line) → OnOk result (IsCountedStep config past past' old new command counts counts')
+    → counts' ≡ cells_counted counts (cells_shown config past command before line after) → OnOk result (past' ≡ past_shown config past command before line) → OnOk result (IsCountedStep config past past' old new command counts counts')
 counted_step (Err lack) config past past' old new command counts counts' start text line before after none says same seen left made follows = follows
 counted_step (Ok done) config past past' old new command counts counts' start text line before after none says same seen left made follows =
     let said : line ≡ says.1 ++ (10 ∷ []) = same ∙ (says.3 ∙ ap (λ (l : List ℕ). l ++ (says.1 ++ (10 ∷ []))) none) in
@@ -78,9 +78,9 @@ counted_step (Ok done) config past past' old new command counts counts' start te
       answers = says.0;
       said = says.1;
       plays = says.2;
-      is = made ∙ (ap (λ (v : Option LineView). counted counts (cells_shown config past command v line after)) seen
-          ∙ (ap (λ (v : Option LineView). counted counts (cells_shown config past command (view_in old.home (named_of command).line) line v)) left
-          ∙ ap (λ (l : List ℕ). counted counts (cells_shown config past command (view_in old.home (named_of command).line) l (view_in new.home (named_of command).line))) said));
+      is = made ∙ (ap (λ (v : Option LineView). cells_counted counts (cells_shown config past command v line after)) seen
+          ∙ (ap (λ (v : Option LineView). cells_counted counts (cells_shown config past command (view_in old.home (named_of command).line) line v)) left
+          ∙ ap (λ (l : List ℕ). cells_counted counts (cells_shown config past command (view_in old.home (named_of command).line) l (view_in new.home (named_of command).line))) said));
       leaves = follows ∙ (ap (λ (v : Option LineView). past_shown config past command v line) seen
           ∙ ap (λ (l : List ℕ). past_shown config past command (view_in old.home (named_of command).line) l) said);
     }

@@ -34,7 +34,7 @@ use Rattle.chi_coverage.specs.declared.requester_cells.RequesterCell.{RequesterC
 use Rattle.chi_coverage.specs.declared.requester_cells.RequesterCell.TheVariants as requester_cells
 use Rattle.chi_coverage.specs.declared.situations.Situation.{Situation}
 use Rattle.chi_coverage.specs.declared.situations.Situation.TheVariants as situations
-use Rattle.chi_coverage.specs.Counts.{count_at, counted}
+use Rattle.chi_coverage.specs.Counts.{count_at, cells_counted}
 use Rattle.chi_coverage.specs.Coverage.{times_met}
 use Rattle.chi_coverage.specs.Places.{arrival_place, bool_place, cell_place, credit_place, form_place, found_place, is_cell, kind_place, place_count, profile_place, reason_place, requester_cell_place, shown_place, situation_place, snoop_place, stage_place, place_of_state, verb_place}
 
@@ -241,22 +241,22 @@ one_more counts cell d xs low =
 
 -- how often a cell was met is added to its count
 counted_at : (n : ℕ) → ((c : Cell) → cell_place c < n) → (counts : List ℕ) (cells : List Cell) (cell : Cell) → length counts ≡ n
-    → count_at (counted counts cells) cell ≡ count_at counts cell + times_met cell cells
+    → count_at (cells_counted counts cells) cell ≡ count_at counts cell + times_met cell cells
 counted_at n low counts [] cell long = omega arith
 counted_at n low counts (d ∷ cells) cell long =
     let counts' = slice_set counts (cell_place d) (slice_index counts (cell_place d) + 1) in
     let here : cell_place d < length counts = omega (arith, low d, long) in
     counted_at n low counts' cells cell (length-set counts (cell_place d) (slice_index counts (cell_place d) + 1) ∙ long) ∙ one_more counts cell d (filter (is_cell cell) cells) here
 
-pub counted_length : (counts : List ℕ) (cells : List Cell) → length (counted counts cells) ≡ length counts
+pub counted_length : (counts : List ℕ) (cells : List Cell) → length (cells_counted counts cells) ≡ length counts
 counted_length counts [] = refl
 counted_length counts (d ∷ cells) =
     counted_length (slice_set counts (cell_place d) (slice_index counts (cell_place d) + 1)) cells ∙ length-set counts (cell_place d) (slice_index counts (cell_place d) + 1)
 
-from_nothing : (n : ℕ) → ((c : Cell) → cell_place c < n) → (start : List ℕ) → start ≡ replicate n 0 → length start ≡ n → (cells : List Cell) (cell : Cell) → count_at (counted start cells) cell ≡ times_met cell cells
+from_nothing : (n : ℕ) → ((c : Cell) → cell_place c < n) → (start : List ℕ) → start ≡ replicate n 0 → length start ≡ n → (cells : List Cell) (cell : Cell) → count_at (cells_counted start cells) cell ≡ times_met cell cells
 from_nothing n low start is long cells cell =
     let none : count_at start cell ≡ 0 = ap (λ (l : List ℕ). slice_index l (cell_place cell)) is ∙ get_or-replicate n (cell_place cell) 0 0 (low cell) in
     counted_at n low start cells cell long ∙ omega (arith, none)
 
-pub counted_times : (start : List ℕ) → start ≡ replicate place_count 0 → length start ≡ place_count → (cells : List Cell) (cell : Cell) → count_at (counted start cells) cell ≡ times_met cell cells
+pub counted_times : (start : List ℕ) → start ≡ replicate place_count 0 → length start ≡ place_count → (cells : List Cell) (cell : Cell) → count_at (cells_counted start cells) cell ≡ times_met cell cells
 counted_times start is long cells cell = from_nothing place_count cell_low start is long cells cell

@@ -20,9 +20,9 @@ use Rattle.chi_coverage.specs.Past.{no_past}
 use Rattle.chi_coverage.specs.Places.{cell_place}
 
 -- one more in the place of each of the cells
-abbrev pub counted : List ℕ → List Cell → List ℕ
-counted counts [] = counts
-counted counts (cell ∷ cells) = counted (slice_set counts (cell_place cell) (slice_index counts (cell_place cell) + 1)) cells
+abbrev pub cells_counted : List ℕ → List Cell → List ℕ
+cells_counted counts [] = counts
+cells_counted counts (cell ∷ cells) = cells_counted (slice_set counts (cell_place cell) (slice_index counts (cell_place cell) + 1)) cells
 
 abbrev pub count_at : List ℕ → Cell → ℕ
 count_at counts cell = slice_index counts (cell_place cell)
@@ -32,14 +32,14 @@ pub record IsCountedStep (config : Sizes) (past later : Past) (old new : SystemS
   pub answers : List TurnAnswer
   pub said : List ℕ
   pub plays : Plays (turn (machine_of old) command) (ports_of old) answers said (machine_of new) (ports_of new)
-  pub is : after ≡ counted before (cells_of_step config past (record { command = command; answer = said ++ (10 ∷ []); before = old.home; after = new.home }))
+  pub is : after ≡ cells_counted before (cells_of_step config past (record { command = command; answer = said ++ (10 ∷ []); before = old.home; after = new.home }))
   pub leaves : later ≡ past_of_step config past (record { command = command; answer = said ++ (10 ∷ []); before = old.home; after = new.home })
 
 -- all commands were played on a new node, and the cells of the run were counted
 pub record IsCountedRun (config : Sizes) (all : List Command) (before after : List ℕ) : Type 0 where
   pub answers : List TurnAnswer
   pub allowed : MayAnswer (machine_at_start config) (opening_ports config) all answers
-  pub is : after ≡ counted before (cells_of_steps config no_past (played_steps (machine_at_start config) all answers))
+  pub is : after ≡ cells_counted before (cells_of_steps config no_past (played_steps (machine_at_start config) all answers))
 
 -- so of the commands of a header and checks, and of a good file
 abbrev pub IsCountedScript : Header → List CheckLine → List ℕ → List ℕ → Type 0
@@ -60,7 +60,7 @@ pub record CoverState : Type 0 where
 -- one file more
 abbrev pub cover_with : List ℕ → CoverState → CoverCame → CoverState
 cover_with name old came = record {
-  counts = counted old.counts (cells_covered came);
+  counts = cells_counted old.counts (cells_covered came);
   faults = old.faults ++ cover_fault_line name came;
   fault = first_of old.fault (cover_fault came);
 }

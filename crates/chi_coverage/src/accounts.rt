@@ -193,7 +193,8 @@ impl AccountView {
         line: &[u8],
     ) -> Result<AccountView, NoMemory>
         ensures { IfOk result (λ account. account
-            ≡ told_account_after named.now.verb profile named.now.credit before.now line.now self.now) }
+            ≡ told_account_after named.now.verb profile named.now.credit
+            before.now line.now self.now) }
     {
         match (named.verb, before) {
             (Verb::See, _) => Ok(self.after_see(line)),

@@ -2,7 +2,7 @@
 
 ghost use Rattle.std.specs.Prelude.{◌≡◌, [], ◌∷◌, OnOk, length};
 ghost use Rattle.chi_coverage.specs.Coverage.{cells_shown, listed};
-ghost use Rattle.chi_coverage.specs.Counts.{counted};
+ghost use Rattle.chi_coverage.specs.Counts.{cells_counted};
 ghost use Rattle.chi_coverage.specs.Places.{place_count};
 
 use crate::cells::Cell;
@@ -19,7 +19,7 @@ use chi_slice::{Config, LineView};
 /// One more of the cell. Refused where a number is too large, as only endless memory could have it.
 fn count_cell(counts: &mut [u64], cell: Cell) -> Result<(), NoMemory>
     requires { length counts.old ≡ place_count }
-    ensures { OnOk result (counts.new ≡ counted counts.old (cell ∷ [])) }
+    ensures { OnOk result (counts.new ≡ cells_counted counts.old (cell ∷ [])) }
 {
     let place = cell.place();
     counts[place] = counts[place].checked_add(1).ok_or(NoMemory)?;
@@ -29,7 +29,7 @@ fn count_cell(counts: &mut [u64], cell: Cell) -> Result<(), NoMemory>
 /// One more of each of the cells.
 fn count_cells(counts: &mut [u64], cells: &[Option<Cell>]) -> Result<(), NoMemory>
     requires { length counts.old ≡ place_count }
-    ensures { OnOk result (counts.new ≡ counted counts.old (listed cells.now)) }
+    ensures { OnOk result (counts.new ≡ cells_counted counts.old (listed cells.now)) }
 {
     for cell in cells {
         if let Some(cell) = cell {
@@ -50,7 +50,7 @@ pub(crate) fn count_step(
     after: &Option<LineView>,
 ) -> Result<(), NoMemory>
     requires { length counts.old ≡ place_count }
-    ensures { OnOk result (counts.new ≡ counted counts.old
+    ensures { OnOk result (counts.new ≡ cells_counted counts.old
         (cells_shown config.now past.now command before.now line.now after.now)) }
 {
     let named = named_of(command);

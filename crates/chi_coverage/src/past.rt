@@ -202,7 +202,8 @@ fn account_shown(
     before: &Option<Scene>,
     line: &[u8],
 ) -> Option<Cell>
-    ensures { result ≡ account_shown named.now.agent profile past.now named.now before.now line.now }
+    ensures { result
+        ≡ account_shown named.now.agent profile past.now named.now before.now line.now }
 {
     match named.agent {
         Some(agent) => {

@@ -22,7 +22,8 @@ fn done_cells(
     line: &[u8],
     after: &Option<LineView>,
 ) -> [Option<Cell>; 3]
-    ensures { result ≡ done_cells profile named.now.verb named.now.kind agent scene.now line.now after.now }
+    ensures { result
+        ≡ done_cells profile named.now.verb named.now.kind agent scene.now line.now after.now }
 {
     match named.verb {
         Verb::Load | Verb::Store | Verb::Drop => copy_cells(named.verb, scene),

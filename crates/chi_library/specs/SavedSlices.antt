@@ -7,8 +7,8 @@ use Rattle.chi_library.specs.Calls.{already_open, closed_number}
 
 -- bytes that a room is to hold: what it holds, the answer, what it holds then, and the number that is told. All of them, 0,
 -- where they fit; else 1, with how many they are, or 8 where memory runs out
-abbrev pub IsTold : List ℕ → List ℕ → ℕ → List ℕ → ℕ → Type 0
-IsTold bytes room answer new told =
+abbrev pub AreBytesTold : List ℕ → List ℕ → ℕ → List ℕ → ℕ → Type 0
+AreBytesTold bytes room answer new told =
     ((answer ≡ 0) × (told ≡ length bytes) × (new ≡ bytes ++ drop (length bytes) room))
     ⊎ (((answer ≡ 1) × (told ≡ length bytes) × (new ≡ room) × (length room < length bytes))
     ⊎ ((answer ≡ 8) × (told ≡ 0) × (new ≡ room)))
@@ -16,7 +16,7 @@ IsTold bytes room answer new told =
 -- a saving: what is held there
 abbrev pub IsSaving : Option SliceState → List ℕ → ℕ → List ℕ → ℕ → Type 0
 IsSaving None room answer new told = (answer ≡ closed_number) × (told ≡ 0) × (new ≡ room)
-IsSaving (Some s) room answer new told = IsTold (saved s) room answer new told
+IsSaving (Some s) room answer new told = AreBytesTold (saved s) room answer new told
 
 -- the slice of these sizes and this index that has these bytes
 abbrev pub IsSavedAs : Sizes → ℕ → List ℕ → SliceState → Type 0

@@ -1,7 +1,7 @@
 //! The bytes of a slice, and a slice out of bytes, for C.
 
 ghost use Rattle.std.specs.Prelude.{◌≡◌, IfOk, None, Some};
-ghost use Rattle.chi_library.specs.SavedSlices.{IsFaultNumber, IsLoading, IsSavedAs, IsSaving, IsTold};
+ghost use Rattle.chi_library.specs.SavedSlices.{IsFaultNumber, IsLoading, IsSavedAs, IsSaving, AreBytesTold};
 ghost use Rattle.chi_library.specs.Sizes.{config_of};
 ghost use Rattle.chi_library.specs.SliceCalls.{sizes_at};
 ghost use Rattle.chi_snapshot.specs.Snapshot.{saved};
@@ -73,7 +73,7 @@ pub extern "C" fn chi_slice_load(
 /// Writes the bytes of a slice into a room.
 fn save_into(alloc: Global, slice: &Slice<Global>, bytes: &mut [u8], length: &mut usize) -> u8
     requires { length.old ≡ 0 }
-    ensures { IsTold (saved slice.now) bytes.old result bytes.new length.new }
+    ensures { AreBytesTold (saved slice.now) bytes.old result bytes.new length.new }
 {
     match save(slice, alloc) {
         Ok(saved) => tell(&saved, bytes, length),
@@ -83,7 +83,7 @@ fn save_into(alloc: Global, slice: &Slice<Global>, bytes: &mut [u8], length: &mu
 
 /// Copies bytes into a room.
 fn tell(saved: &[u8], bytes: &mut [u8], length: &mut usize) -> u8
-    ensures { IsTold saved.now bytes.old result bytes.new length.new }
+    ensures { AreBytesTold saved.now bytes.old result bytes.new length.new }
 {
     let count = saved.len();
     *length = count;

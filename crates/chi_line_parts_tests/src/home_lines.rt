@@ -51,24 +51,22 @@ fn snoops_the_holder(rt: &impl Abort, home: &mut HomeLine) {
     same(rt, starts(home, 7), Err(Refusal::NotWaiting));
 }
 
+/// The first and the last agent wait, each for its own request.
+fn two_wait(rt: &impl Abort, home: &mut HomeLine) {
+    waits(home, 0, Kind::ReadShared, 3);
+    waits(home, 7, Kind::ReadUnique, 5);
+    let (first, last) = (home.waiting(Agent(0)), home.all_waiting()[7]);
+    same(rt, first, Some(request(Kind::ReadShared, 3)));
+    same(rt, last, Some(request(Kind::ReadUnique, 5)));
+}
+
 #[test]
 fn completes_a_read_and_waits_for_its_ack(rt: HostRuntime) {
     let mut home = HomeLine::new();
     same(&rt, home.memory(), NO_DATA);
     same(&rt, starts(&mut home, 0), Err(Refusal::NotWaiting));
 
-    waits(&mut home, 0, Kind::ReadShared, 3);
-    waits(&mut home, 7, Kind::ReadUnique, 5);
-    same(
-        &rt,
-        home.waiting(Agent(0)),
-        Some(request(Kind::ReadShared, 3)),
-    );
-    same(
-        &rt,
-        home.all_waiting()[7],
-        Some(request(Kind::ReadUnique, 5)),
-    );
+    two_wait(&rt, &mut home);
 
     // nobody else is named: the copy is unique
     same(

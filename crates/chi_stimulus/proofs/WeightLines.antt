@@ -10,7 +10,7 @@ use Rattle.chi_stimulus.specs.declared.verbs.Verb.TheVariants.{Load, Store, Drop
 use Rattle.chi_stimulus.specs.declared.weight_faults.WeightsFault.{WeightsFault}
 use Rattle.chi_stimulus.specs.declared.weight_faults.WrongWords.{WrongWords}
 use Rattle.chi_stimulus.specs.WeightFaults.{IsWeightsFault, IsWrong}
-use Rattle.chi_stimulus.specs.Weights.{first_wrong, is_weight_line, verb_place, weight_of, weights_behind, with_line}
+use Rattle.chi_stimulus.specs.Weights.{first_wrong, is_weight_line, weight_place, weight_of, weights_behind, with_weight_line}
 
 -- one line that a line end closes, and what follows it
 one_line : (n : ℕ) (rest line after : List ℕ) → lines_of rest ≡ line ∷ lines_of after
@@ -53,11 +53,11 @@ pub long_is_none : (line verb rest word behind : List ℕ) → words_of line ≡
 long_is_none line verb rest word behind e f = let more = parts_of (λ b. b == 32) behind in rw (e, f, more.2) refl
 
 -- the weights behind a line more, and behind them all
-pub says_more : (weights new rest line after total : List ℕ) → new ≡ with_line weights line → lines_of rest ≡ line ∷ lines_of after
+pub says_more : (weights new rest line after total : List ℕ) → new ≡ with_weight_line weights line → lines_of rest ≡ line ∷ lines_of after
     → weights_behind weights (lines_of rest) ≡ total → weights_behind new (lines_of after) ≡ total
 unfolding weights_behind
 says_more weights new rest line after total is e so_far =
-    let one : weights_behind weights (lines_of rest) ≡ weights_behind (with_line weights line) (lines_of after) = ap (weights_behind weights) e in
+    let one : weights_behind weights (lines_of rest) ≡ weights_behind (with_weight_line weights line) (lines_of after) = ap (weights_behind weights) e in
     ap (λ (w : List ℕ). weights_behind w (lines_of after)) is ∙ (sym one ∙ so_far)
 
 pub says_all : (weights rest total : List ℕ) → lines_of rest ≡ rest ∷ [] → (length rest == 0) ≡ true → weights_behind weights (lines_of rest) ≡ total → weights ≡ total
@@ -68,7 +68,7 @@ says_all weights [] total e empty so_far =
 says_all weights (byte ∷ bytes) total e empty so_far = absurd (omega (arith, eqb-true (length (byte ∷ bytes)) 0 empty))
 
 -- a verb's weight stands at the place of the verb
-pub place_is : (verb : Verb) → slice_get all_verbs (verb_place verb) ≡ Some verb
+pub place_is : (verb : Verb) → slice_get all_verbs (weight_place verb) ≡ Some verb
 place_is Load = refl
 place_is Store = refl
 place_is Drop = refl

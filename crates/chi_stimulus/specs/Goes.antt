@@ -38,7 +38,7 @@ abbrev pub Goes : (Drawn → Draft) → DrawingState → DrawingState → Type 0
 Goes draft old new = (tracked : List TurnAnswer) × Follows (draft (as_drawn old)) (ports_of old.system) tracked (as_drawn new) (ports_of new.system)
 
 -- a command's turn was played, and only its answer is known
-pub record IsPlayed (command : Command) (old new : DrawingState) : Type 0 where
+pub record IsTurnPlayed (command : Command) (old new : DrawingState) : Type 0 where
   pub says : SaysTurn command old.system new.system [] new.said
   pub same : new ≡ record old { system = new.system; said = new.said }
 

@@ -58,39 +58,39 @@ first_wrong n (last ∷ []) = if length last == 0 then None else Some (n, None)
 first_wrong n (line ∷ next ∷ rest) = if is_weight_line line then first_wrong (n + 1) (next ∷ rest) else Some (n, Some (words_of line))
 
 -- the place of a verb's weight, which is that of the verb among all
-abbrev pub verb_place : Verb → ℕ
-verb_place Load = 0
-verb_place Store = 1
-verb_place Drop = 2
-verb_place Issue = 3
-verb_place Arrive = 4
-verb_place Start = 5
-verb_place Snp = 6
-verb_place SnpResp = 7
-verb_place RetryAck = 8
-verb_place Resend = 9
-verb_place Cancel = 10
-verb_place Data = 11
-verb_place Comp = 12
-verb_place Dbid = 13
-verb_place Ack = 14
-verb_place WrData = 15
-verb_place See = 16
-verb_place GiveBack = 17
-verb_place Tend = 18
+abbrev pub weight_place : Verb → ℕ
+weight_place Load = 0
+weight_place Store = 1
+weight_place Drop = 2
+weight_place Issue = 3
+weight_place Arrive = 4
+weight_place Start = 5
+weight_place Snp = 6
+weight_place SnpResp = 7
+weight_place RetryAck = 8
+weight_place Resend = 9
+weight_place Cancel = 10
+weight_place Data = 11
+weight_place Comp = 12
+weight_place Dbid = 13
+weight_place Ack = 14
+weight_place WrData = 15
+weight_place See = 16
+weight_place GiveBack = 17
+weight_place Tend = 18
 
 -- what a line says puts the weight at its verb's place
 abbrev pub with_weight : List ℕ → Option (Verb × ℕ) → List ℕ
 with_weight weights None = weights
-with_weight weights (Some said) = slice_set weights (verb_place said.0) said.1
+with_weight weights (Some said) = slice_set weights (weight_place said.0) said.1
 
-abbrev pub with_line : List ℕ → List ℕ → List ℕ
-with_line weights line = if is_comment line then weights else with_weight weights (weight_of (words_of line))
+abbrev pub with_weight_line : List ℕ → List ℕ → List ℕ
+with_weight_line weights line = if is_comment line then weights else with_weight weights (weight_of (words_of line))
 
 -- the weights behind lines, of which each changes those behind the ones before
 unfoldable pub weights_behind : List ℕ → List (List ℕ) → List ℕ
 weights_behind weights [] = weights
-weights_behind weights (line ∷ lines) = weights_behind (with_line weights line) lines
+weights_behind weights (line ∷ lines) = weights_behind (with_weight_line weights line) lines
 
 -- the weights that lines say: 1 each, but for what is said
 abbrev pub weights_said : List (List ℕ) → List ℕ

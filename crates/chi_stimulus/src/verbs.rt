@@ -2,7 +2,7 @@
 
 ghost use Rattle.std.specs.Prelude.{◌≡◌, ◌<◌, slice_get};
 ghost use Rattle.chi_stimulus.specs.Proposals.{all_verbs};
-ghost use Rattle.chi_stimulus.specs.Weights.{delivery_named, verb_named, verb_place};
+ghost use Rattle.chi_stimulus.specs.Weights.{delivery_named, verb_named, weight_place};
 
 use chi_script::is;
 
@@ -119,7 +119,7 @@ impl Verb {
 
     /// Its place among the verbs.
     pub(crate) fn place(self) -> usize
-        ensures is { result ≡ verb_place self }
+        ensures is { result ≡ weight_place self }
         ensures low { result < 19 }
     {
         match self {

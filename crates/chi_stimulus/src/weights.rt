@@ -6,7 +6,7 @@ ghost use Rattle.chi_script.specs.Files.{lines_of};
 ghost use Rattle.chi_script.specs.Words.{words_of};
 ghost use Rattle.chi_stimulus.specs.Proposals.{even_verb, place_from, verb_by, weighted_verb};
 ghost use Rattle.chi_stimulus.specs.WeightFaults.{IsWeightsFault, IsWrong};
-ghost use Rattle.chi_stimulus.specs.Weights.{first_wrong, is_weight_line, verb_place, weight_in, weight_of, weights_said, with_line};
+ghost use Rattle.chi_stimulus.specs.Weights.{first_wrong, is_weight_line, weight_place, weight_in, weight_of, weights_said, with_weight_line};
 
 use crate::verbs::{COUNT, Verb};
 use crate::weight_faults::{WeightsFault, WrongWords};
@@ -106,7 +106,8 @@ impl Weights {
         ensures wrong { IfSome result (λ _. is_weight_line line.now ≡ false) }
         ensures why { IfSome result (IsWrong (Some (words_of line.now))) }
         ensures right { IfNone result (is_weight_line line.now ≡ true) }
-        ensures said { IfNone result (self.new.by_place ≡ with_line self.old.by_place line.now) }
+        ensures said { IfNone result
+            (self.new.by_place ≡ with_weight_line self.old.by_place line.now) }
     {
         if is_comment(line) {
             return None;
@@ -122,7 +123,7 @@ impl Weights {
 
     /// Gives the verb this weight.
     fn set(&mut self, verb: Verb, weight: u16)
-        ensures { self.new.by_place ≡ slice_set self.old.by_place (verb_place verb) weight }
+        ensures { self.new.by_place ≡ slice_set self.old.by_place (weight_place verb) weight }
     {
         self.by_place[verb.place()] = weight;
     }
