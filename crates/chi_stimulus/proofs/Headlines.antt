@@ -57,24 +57,25 @@ pub drawn_front : (line : List ℕ) (sizes : Header) (options : DrawOptions) (ol
     → AtWrite result (WritesDrawnFront line sizes options old new) → AtWrite result (WritesStimulusFront line options old new)
 drawn_front line sizes options old new result is front at = ((front at).0, (front at).1 is, (front at).2)
 
-draw_fault : (line : List ℕ) (fault : Fault) → IsDrawFault fault → NoStimulus line fault
-draw_fault line NoMemory is = tt
-draw_fault line TooLarge is = tt
-draw_fault line Write is = tt
-draw_fault line (BadHeader number) is = absurd is
-draw_fault line (BadCommand number) is = absurd is
-draw_fault line (MissingNewline number) is = absurd is
-draw_fault line Read is = absurd is
+draw_fault : (line : List ℕ) (sizes : Header) (options : DrawOptions) (fault : Fault) → line_header line ≡ Some sizes → IsDrawFault line sizes options fault → NoStimulus line options fault
+draw_fault line sizes options NoMemory heads is = tt
+draw_fault line sizes options TooLarge heads is = (sizes, heads, is)
+draw_fault line sizes options Write heads is = tt
+draw_fault line sizes options (BadHeader number) heads is = absurd is
+draw_fault line sizes options (BadCommand number) heads is = absurd is
+draw_fault line sizes options (MissingNewline number) heads is = absurd is
+draw_fault line sizes options Read heads is = absurd is
 
-pub drawn_err : (line : List ℕ) (result : Result Bool Fault) → IfErr result IsDrawFault → IfErr result (NoStimulus line)
-drawn_err line (Ok good) err = tt
-drawn_err line (Err fault) err = draw_fault line fault err
+pub drawn_err : (line : List ℕ) (sizes : Header) (options : DrawOptions) (result : Result Bool Fault) → line_header line ≡ Some sizes
+    → IfErr result (IsDrawFault line sizes options) → IfErr result (NoStimulus line options)
+drawn_err line sizes options (Ok good) heads err = tt
+drawn_err line sizes options (Err fault) heads err = draw_fault line sizes options fault heads err
 
-pub header_err : (line : List ℕ) (fault : Fault) → NoHeader line fault → NoStimulus line fault
-header_err line NoMemory is = tt
-header_err line TooLarge is = absurd is
-header_err line Write is = absurd is
-header_err line (BadHeader number) is = is
-header_err line (BadCommand number) is = absurd is
-header_err line (MissingNewline number) is = absurd is
-header_err line Read is = absurd is
+pub header_err : (line : List ℕ) (options : DrawOptions) (fault : Fault) → NoHeader line fault → NoStimulus line options fault
+header_err line options NoMemory is = tt
+header_err line options TooLarge is = absurd is
+header_err line options Write is = absurd is
+header_err line options (BadHeader number) is = is
+header_err line options (BadCommand number) is = absurd is
+header_err line options (MissingNewline number) is = absurd is
+header_err line options Read is = absurd is

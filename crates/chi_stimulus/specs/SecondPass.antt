@@ -8,7 +8,7 @@ use Rattle.chi_script.specs.declared.headers.Header.{Header}
 use Rattle.chi_script.specs.Headers.{line_header}
 use Rattle.chi_stimulus.specs.declared.options.DrawOptions.{DrawOptions}
 use Rattle.chi_stimulus.specs.Drafts.{IsDrawnBy, is_plain}
-use Rattle.chi_stimulus.specs.Stimulus.{IsStimulus}
+use Rattle.chi_stimulus.specs.Stimulus.{IsDrawnTooLarge, IsStimulus}
 
 -- an answer is wanted, and it begins as no refusal does, unless the command may be any
 abbrev pub is_told : Bool → Option (List ℕ) → Bool
@@ -32,15 +32,25 @@ WritesDrawn line header options old new false = Keeps old new
 abbrev pub WritesDrawnFront : List ℕ → Header → DrawOptions → Option (List ℕ) → Option (List ℕ) → Type 0
 WritesDrawnFront line header options old new = (file : List ℕ) × (SaysSizes line header → IsStimulus line options file) × AppendsFront old new file
 
--- a fault of drawing for a good header, and of writing
-abbrev pub IsDrawFault : Fault → Type 0
-IsDrawFault faults.NoMemory = Unit {0}
-IsDrawFault faults.TooLarge = Unit {0}
-IsDrawFault faults.Write = Unit {0}
-IsDrawFault (faults.BadHeader number) = ⊥
-IsDrawFault (faults.BadCommand number) = ⊥
-IsDrawFault (faults.MissingNewline number) = ⊥
-IsDrawFault faults.Read = ⊥
+-- a fault of a second pass, and of writing
+abbrev pub IsOutputFault : Fault → Type 0
+IsOutputFault faults.NoMemory = Unit {0}
+IsOutputFault faults.Write = Unit {0}
+IsOutputFault faults.TooLarge = ⊥
+IsOutputFault (faults.BadHeader number) = ⊥
+IsOutputFault (faults.BadCommand number) = ⊥
+IsOutputFault (faults.MissingNewline number) = ⊥
+IsOutputFault faults.Read = ⊥
+
+-- the same, or the file that is drawn for the header is too large
+abbrev pub IsDrawFault : List ℕ → Header → DrawOptions → Fault → Type 0
+IsDrawFault line header options faults.NoMemory = Unit {0}
+IsDrawFault line header options faults.Write = Unit {0}
+IsDrawFault line header options faults.TooLarge = IsDrawnTooLarge line header options
+IsDrawFault line header options (faults.BadHeader number) = ⊥
+IsDrawFault line header options (faults.BadCommand number) = ⊥
+IsDrawFault line header options (faults.MissingNewline number) = ⊥
+IsDrawFault line header options faults.Read = ⊥
 
 -- a fault of reading the header
 abbrev pub NoHeader : List ℕ → Fault → Type 0

@@ -1,11 +1,13 @@
 -- What a drawn file is, and what is written (docs/FORMATS.md, "Drawn files").
-use Rattle.std.specs.Prelude.{◌≡◌, ◌≢◌, ℕ, ◌≤◌, All, Bool, true, false, List, Option, Some, None, length, map}
+use Rattle.std.specs.Prelude.{◌≡◌, ◌≢◌, ℕ, ◌/◌, ◌<◌, ◌≤◌, ◌⊎◌, All, Bool, true, false, List, Option, Some, None, length, map}
 use Rattle.std.specs.Io.KnownBytes.{Appends, Keeps}
 use Rattle.chi_flit.specs.declared.refusal.Refusal.{Refusal}
 use Rattle.chi_reply.specs.Replies.{reply_text}
 use Rattle.chi_reply.specs.declared.replies.Reply.TheVariants.{Refused}
 use Rattle.chi_script.specs.declared.faults.Fault.{Fault}
 use Rattle.chi_script.specs.declared.faults.Fault.TheVariants as faults
+use Rattle.chi_script.specs.declared.headers.Header.{Header}
+use Rattle.chi_script.specs.CheckFiles.{most_check_bytes}
 use Rattle.chi_script.specs.Checks.{CheckLine}
 use Rattle.chi_script.specs.Headers.{line_header}
 use Rattle.chi_devices.specs.Devices.{AppendsFront}
@@ -44,13 +46,18 @@ WritesStimulus line options old new false = Keeps old new
 abbrev pub WritesStimulusFront : List ℕ → DrawOptions → Option (List ℕ) → Option (List ℕ) → Type 0
 WritesStimulusFront line options old new = (file : List ℕ) × IsStimulus line options file × AppendsFront old new file
 
+-- there are more commands than lines of 14 bytes in a check file, or the file that is drawn is larger than one may be
+abbrev pub IsDrawnTooLarge : List ℕ → Header → DrawOptions → Type 0
+IsDrawnTooLarge line header options =
+    (most_check_bytes / 14 < options.commands) ⊎ ((file : List ℕ) × IsDrawnBy line header options file × (most_check_bytes < length file))
+
 -- why no file was written: the line is no header; memory ran out; the file would be larger than a check file may be; or
 -- the output failed
-abbrev pub NoStimulus : List ℕ → Fault → Type 0
-NoStimulus line (faults.BadHeader number) = (line_header line ≡ None) × (number ≡ 1)
-NoStimulus line faults.NoMemory = Unit {0}
-NoStimulus line faults.TooLarge = Unit {0}
-NoStimulus line faults.Write = Unit {0}
-NoStimulus line (faults.BadCommand number) = ⊥
-NoStimulus line (faults.MissingNewline number) = ⊥
-NoStimulus line faults.Read = ⊥
+abbrev pub NoStimulus : List ℕ → DrawOptions → Fault → Type 0
+NoStimulus line options (faults.BadHeader number) = (line_header line ≡ None) × (number ≡ 1)
+NoStimulus line options faults.NoMemory = Unit {0}
+NoStimulus line options faults.TooLarge = (header : Header) × (line_header line ≡ Some header) × IsDrawnTooLarge line header options
+NoStimulus line options faults.Write = Unit {0}
+NoStimulus line options (faults.BadCommand number) = ⊥
+NoStimulus line options (faults.MissingNewline number) = ⊥
+NoStimulus line options faults.Read = ⊥

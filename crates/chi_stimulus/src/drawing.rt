@@ -10,13 +10,12 @@ use crate::operands::Operands;
 use crate::plan::Plan;
 use crate::proposals::{any_command, command_by};
 use crate::second_pass::is_plain;
-use crate::shortage::Shortage;
 use crate::spelled::Spelled;
 use crate::words::{Lot, Words};
-use chi_flit::Agent;
+use chi_flit::{Agent, NoMemory};
 use chi_node::System;
 use chi_replay::answer;
-use chi_script::{Command, MOST_CHECK_BYTES};
+use chi_script::Command;
 use chi_slice::Config;
 use std::alloc::Allocator;
 use std::marker::Model;
@@ -58,7 +57,7 @@ fn say<A: Allocator>(
     system: &mut System<A>,
     command: &Command,
     said: &mut String<A>,
-) -> Result<(), Shortage>
+) -> Result<(), NoMemory>
     ensures { OnOk result
         (SaysTurn command.now system.old system.new [] (string_bytes said.new)) }
 {
@@ -68,7 +67,7 @@ fn say<A: Allocator>(
 }
 
 /// A header and its line end.
-fn header_line<A: Allocator>(alloc: A, header: &str) -> Result<String<A>, Shortage>
+fn header_line<A: Allocator>(alloc: A, header: &str) -> Result<String<A>, NoMemory>
     ensures { IfOk result (λ text. string_bytes text ≡ header.now ++ (10 ∷ [])) }
 {
     let mut text = String::new(alloc);
@@ -83,7 +82,7 @@ impl<A: Allocator + Copy> Drawing<A> {
         header: &str,
         config: &Config,
         seed: u64,
-    ) -> Result<Drawing<A>, Shortage>
+    ) -> Result<Drawing<A>, NoMemory>
         ensures { IfOk result (λ drawing. IsBlank header.now config.now seed drawing) }
     {
         let system = System::new(alloc, config)?;
@@ -145,7 +144,7 @@ impl<A: Allocator> Drawing<A> {
     }
 
     /// Does the command, and keeps its answer.
-    fn play(&mut self, command: &Command) -> Result<(), Shortage>
+    fn play(&mut self, command: &Command) -> Result<(), NoMemory>
         ensures says { OnOk result
             (SaysTurn command.now self.old.system self.new.system [] self.new.said) }
         ensures same { OnOk result (self.new ≡ record self.old {
@@ -164,27 +163,18 @@ impl<A: Allocator> Drawing<A> {
     }
 
     /// Puts the command behind the text, with the answer that it was given.
-    fn note(&mut self, command: &Command) -> Result<(), Shortage>
+    fn note(&mut self, command: &Command) -> Result<(), NoMemory>
         ensures { OnOk result (self.new ≡ with_note command.now self.old) }
     {
         let spelled = Spelled(*command);
         let said = self.said.as_str();
         write!(self.text, "{spelled} -> {said}")?;
         self.count = self.count.wrapping_add(1);
-        self.fits()
-    }
-
-    /// Whether a file may be as large as the text.
-    fn fits(&self) -> Result<(), Shortage> {
-        if self.text.len() > MOST_CHECK_BYTES {
-            Err(Shortage::Room)
-        } else {
-            Ok(())
-        }
+        Ok(())
     }
 
     /// Does the command, which then stands in the text with its answer.
-    pub(crate) fn keep(&mut self, command: &Command) -> Result<(), Shortage>
+    pub(crate) fn keep(&mut self, command: &Command) -> Result<(), NoMemory>
         ensures { OnOk result (Goes (keeping command.now) self.old self.new) }
     {
         self.play(command)?;
@@ -192,7 +182,7 @@ impl<A: Allocator> Drawing<A> {
     }
 
     /// The same where it isn't refused, and then one was kept; else nothing.
-    pub(crate) fn tries(&mut self, command: &Command) -> Result<(), Shortage>
+    pub(crate) fn tries(&mut self, command: &Command) -> Result<(), NoMemory>
         ensures { OnOk result (Goes (trying command.now) self.old self.new) }
     {
         self.play(command)?;
@@ -205,18 +195,18 @@ impl<A: Allocator> Drawing<A> {
     }
 
     /// Puts a comment behind the text.
-    pub(crate) fn remark(&mut self, comment: &str) -> Result<(), Shortage>
+    pub(crate) fn remark(&mut self, comment: &str) -> Result<(), NoMemory>
         ensures { OnOk result
             (self.new ≡ record self.old {
               text = self.old.text ++ (comment.now ++ (10 ∷ []));
             }) }
     {
         writeln!(self.text, "{comment}")?;
-        self.fits()
+        Ok(())
     }
 
     /// Puts so many commands behind the text.
-    pub(crate) fn add_all(&mut self, plan: &Plan, commands: u64) -> Result<(), Shortage>
+    pub(crate) fn add_all(&mut self, plan: &Plan, commands: u64) -> Result<(), NoMemory>
         requires { IsPlan plan.now }
         ensures { OnOk result (Goes (for_each commands (λ _. adding plan.now)) self.old self.new) }
     {
@@ -227,7 +217,7 @@ impl<A: Allocator> Drawing<A> {
     }
 
     /// Puts a command behind the text: any one, so many times in a hundred, and else one that is enabled.
-    pub(crate) fn add(&mut self, plan: &Plan) -> Result<(), Shortage>
+    pub(crate) fn add(&mut self, plan: &Plan) -> Result<(), NoMemory>
         requires { IsPlan plan.now }
         ensures { OnOk result (Goes (adding plan.now) self.old self.new) }
     {
@@ -239,7 +229,7 @@ impl<A: Allocator> Drawing<A> {
     }
 
     /// Puts any command behind the text.
-    fn add_any(&mut self, plan: &Plan) -> Result<(), Shortage>
+    fn add_any(&mut self, plan: &Plan) -> Result<(), NoMemory>
         requires { IsPlan plan.now }
         ensures { OnOk result (Goes (adding_any plan.now) self.old self.new) }
     {
@@ -250,7 +240,7 @@ impl<A: Allocator> Drawing<A> {
 
     /// Puts an enabled command behind the text: of a verb by weight, else of any that is drawn, else a look, which is
     /// never refused.
-    fn add_enabled(&mut self, plan: &Plan) -> Result<(), Shortage>
+    fn add_enabled(&mut self, plan: &Plan) -> Result<(), NoMemory>
         requires { IsPlan plan.now }
         ensures { OnOk result (Goes (adding_enabled plan.now) self.old self.new) }
     {
@@ -264,7 +254,7 @@ impl<A: Allocator> Drawing<A> {
     }
 
     /// Tries one proposal after the other, until one is kept.
-    fn seek(&mut self, plan: &Plan, even: bool) -> Result<(), Shortage>
+    fn seek(&mut self, plan: &Plan, even: bool) -> Result<(), NoMemory>
         requires { IsPlan plan.now }
         ensures { OnOk result (Goes (seeking plan.now even) self.old self.new) }
     {
@@ -278,7 +268,7 @@ impl<A: Allocator> Drawing<A> {
     }
 
     /// Tries one proposal: of a verb by weight, or of each verb with one chance.
-    fn propose(&mut self, plan: &Plan, even: bool) -> Result<(), Shortage>
+    fn propose(&mut self, plan: &Plan, even: bool) -> Result<(), NoMemory>
         requires { IsPlan plan.now }
         ensures { OnOk result (Goes (proposing plan.now even) self.old self.new) }
     {

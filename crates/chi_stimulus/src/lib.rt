@@ -13,7 +13,6 @@ mod plan;
 mod proposals;
 mod rest;
 mod second_pass;
-mod shortage;
 mod spelled;
 mod stimulus;
 mod verbs;

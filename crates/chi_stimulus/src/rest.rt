@@ -8,14 +8,13 @@ use crate::drawing::Drawing;
 use crate::operands::{Operands, credit_of};
 use crate::plan::Plan;
 use crate::proposals::{command_by, rest_verb};
-use crate::shortage::Shortage;
-use chi_flit::Agent;
+use chi_flit::{Agent, NoMemory};
 use chi_script::Command;
 use std::alloc::Allocator;
 
 impl<A: Allocator> Drawing<A> {
     /// Brings the node to rest, if that is asked for.
-    pub(crate) fn settle_if(&mut self, plan: &Plan, drain: bool) -> Result<(), Shortage>
+    pub(crate) fn settle_if(&mut self, plan: &Plan, drain: bool) -> Result<(), NoMemory>
         ensures { OnOk result (Goes (settling_if drain plan.now) self.old self.new) }
     {
         if drain { self.settle(plan) } else { Ok(()) }
@@ -23,7 +22,7 @@ impl<A: Allocator> Drawing<A> {
 
     /// Puts commands behind the text that bring the node to rest, round after round, until one keeps none but looks.
     /// Where that isn't reached a comment says so.
-    fn settle(&mut self, plan: &Plan) -> Result<(), Shortage>
+    fn settle(&mut self, plan: &Plan) -> Result<(), NoMemory>
         ensures { OnOk result (Goes (settling plan.now) self.old self.new) }
     {
         self.set_done(true);
@@ -35,7 +34,7 @@ impl<A: Allocator> Drawing<A> {
     }
 
     /// Goes on round after round.
-    fn rounds(&mut self, plan: &Plan) -> Result<(), Shortage>
+    fn rounds(&mut self, plan: &Plan) -> Result<(), NoMemory>
         ensures { OnOk result (Goes (rounding plan.now) self.old self.new) }
     {
         for _ in 0..plan.rounds {
@@ -48,7 +47,7 @@ impl<A: Allocator> Drawing<A> {
     }
 
     /// One round: deliveries, starts and resends; and where there is none, looks, resends and cancels.
-    fn round(&mut self, plan: &Plan) -> Result<(), Shortage>
+    fn round(&mut self, plan: &Plan) -> Result<(), NoMemory>
         ensures { OnOk result (Goes (round plan.now) self.old self.new) }
     {
         self.set_done(false);
@@ -61,7 +60,7 @@ impl<A: Allocator> Drawing<A> {
     }
 
     /// Tries so many of the commands to rest, from a place on, of each agent at each line.
-    fn walk(&mut self, plan: &Plan, from: u8, count: u8) -> Result<(), Shortage>
+    fn walk(&mut self, plan: &Plan, from: u8, count: u8) -> Result<(), NoMemory>
         requires { from + count ≤ 255 }
         ensures { OnOk result (Goes (walking plan.now from count) self.old self.new) }
     {
@@ -72,7 +71,7 @@ impl<A: Allocator> Drawing<A> {
     }
 
     /// The same at a line.
-    fn walk_line(&mut self, plan: &Plan, from: u8, count: u8, line: u8) -> Result<(), Shortage>
+    fn walk_line(&mut self, plan: &Plan, from: u8, count: u8, line: u8) -> Result<(), NoMemory>
         requires { from + count ≤ 255 }
         ensures { OnOk result (Goes (walking_line plan.now from count line) self.old self.new) }
     {
@@ -83,7 +82,7 @@ impl<A: Allocator> Drawing<A> {
     }
 
     /// Tries one of the commands to rest, of each agent at a line.
-    fn walk_agents(&mut self, plan: &Plan, place: u8, line: u8) -> Result<(), Shortage>
+    fn walk_agents(&mut self, plan: &Plan, place: u8, line: u8) -> Result<(), NoMemory>
         ensures { OnOk result (Goes (walking_agents plan.now place line) self.old self.new) }
     {
         let verb = rest_verb(place);
@@ -95,7 +94,7 @@ impl<A: Allocator> Drawing<A> {
     }
 
     /// Lets each agent look, and give a credit of each type back.
-    fn look(&mut self, plan: &Plan) -> Result<(), Shortage>
+    fn look(&mut self, plan: &Plan) -> Result<(), NoMemory>
         ensures { OnOk result (Goes (looking plan.now) self.old self.new) }
     {
         for agent in 0..plan.agents {
@@ -105,7 +104,7 @@ impl<A: Allocator> Drawing<A> {
     }
 
     /// The same of an agent.
-    fn look_at(&mut self, plan: &Plan, agent: u8) -> Result<(), Shortage>
+    fn look_at(&mut self, plan: &Plan, agent: u8) -> Result<(), NoMemory>
         ensures { OnOk result (Goes (looking_at plan.now agent) self.old self.new) }
     {
         let looks = Agent(agent);
@@ -114,7 +113,7 @@ impl<A: Allocator> Drawing<A> {
     }
 
     /// Gives a credit of each type back, where that isn't refused.
-    fn give_back(&mut self, plan: &Plan, agent: u8) -> Result<(), Shortage>
+    fn give_back(&mut self, plan: &Plan, agent: u8) -> Result<(), NoMemory>
         ensures { OnOk result (Goes (returning plan.now agent) self.old self.new) }
     {
         for ty in 0..plan.types {

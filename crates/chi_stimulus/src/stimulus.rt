@@ -3,18 +3,17 @@
 ghost use Rattle.std.specs.Prelude.{◌≡◌, ◌≢◌, ◌+◌, ◌^◌, ◌<◌, ◌⊎◌, IfErr, IfOk, Err, None, Some, string_bytes, true};
 ghost use Rattle.std.specs.Io.KnownBytes.{Keeps};
 ghost use Rattle.chi_script.specs.Headers.{is_in_limits, line_header};
-ghost use Rattle.chi_script.specs.declared.faults.Fault.TheVariants.{BadHeader, NoMemory};
 ghost use Rattle.chi_replay.specs.Replays.{AtWrite};
 ghost use Rattle.chi_stimulus.specs.Drafts.{IsDrawnBy};
-ghost use Rattle.chi_stimulus.specs.SecondPass.{IsDrawFault, NoHeader, WritesDrawn, WritesDrawnFront};
+ghost use Rattle.chi_stimulus.specs.SecondPass.{IsDrawFault, IsOutputFault, NoHeader, WritesDrawn, WritesDrawnFront};
 ghost use Rattle.chi_stimulus.specs.Stimulus.{NoStimulus, WritesStimulus, WritesStimulusFront};
 
 use crate::drawing::Drawing;
 use crate::options::DrawOptions;
 use crate::plan::Plan;
 use crate::second_pass::is_good;
-use crate::shortage::Shortage;
 use chi_devices::{Failed, Output};
+use chi_flit::NoMemory;
 use chi_replay::config_of;
 use chi_script::{Fault, Header, MOST_CHECK_BYTES, header_in};
 use std::alloc::Allocator;
@@ -28,14 +27,11 @@ fn drawn_text<A: Allocator + Copy>(
     line: &str,
     header: &Header,
     options: &DrawOptions,
-) -> Result<String<A>, Shortage>
+) -> Result<String<A>, NoMemory>
     requires { is_in_limits header.now ≡ true }
     ensures { IfOk result
         (λ text. IsDrawnBy line.now header.now options.now (string_bytes text)) }
 {
-    if options.commands > MOST_CHECK_BYTES as u64 / LEAST_BYTES {
-        return Err(Shortage::Room);
-    }
     let config = config_of(header);
     let plan = Plan::new(header, options);
     let mut drawing = Drawing::new(alloc, line, &config, options.seed)?;
@@ -63,7 +59,7 @@ fn hand_out<A: Allocator + Copy, O: Output>(
         (O.written output.old) (O.written output.new)) }
     ensures kept { IfErr result
         (λ fault. fault ≢ Fault.Write → Keeps (O.written output.old) (O.written output.new)) }
-    ensures err { IfErr result IsDrawFault }
+    ensures err { IfErr result IsOutputFault }
 {
     let good = is_good(alloc, sizes, options, text)?;
     if !good {
@@ -93,13 +89,16 @@ fn draw_for<A: Allocator + Copy, O: Output>(
         (O.written output.old) (O.written output.new)) }
     ensures kept { IfErr result
         (λ fault. fault ≢ Fault.Write → Keeps (O.written output.old) (O.written output.new)) }
-    ensures err { IfErr result IsDrawFault }
+    ensures err { IfErr result (IsDrawFault line.now sizes.now options.now) }
 {
-    match drawn_text(alloc, line, sizes, options) {
-        Ok(text) => hand_out(alloc, line, sizes, options, text.as_bytes(), output),
-        Err(Shortage::Memory) => Err(Fault::NoMemory),
-        Err(Shortage::Room) => Err(Fault::TooLarge),
+    if options.commands > MOST_CHECK_BYTES as u64 / LEAST_BYTES {
+        return Err(Fault::TooLarge);
     }
+    let text = drawn_text(alloc, line, sizes, options)?;
+    if text.len() > MOST_CHECK_BYTES {
+        return Err(Fault::TooLarge);
+    }
+    hand_out(alloc, line, sizes, options, text.as_bytes(), output)
 }
 
 /// The sizes that a header says; `BadHeader` of line 1 where it says none within the limits.
@@ -121,10 +120,10 @@ fn sizes_of<A: Allocator>(alloc: A, header: &str) -> Result<Header, Fault>
 /// many with `drain`; on a new node of that size each gives the answer that stands behind it, under answers that
 /// the tracker may give; and where `wild` is 0 none of them is refused. It is `drawn_file` of the header, the options
 /// and the answers that the tracker gave to what was tried. At `Ok(false)` the text that was made is no such file, and
-/// nothing was written: it is never seen. `BadHeader` of line 1 where the line is no header within the
-/// limits, `TooLarge` where the file would have more bytes than a check file may have, and `NoMemory` where
-/// memory runs out; nothing is written then. `Write` comes only where the output counted a failure, and a beginning
-/// of such a file was written then.
+/// nothing was written: it is never seen. `BadHeader` of line 1 where the line is no header within the limits,
+/// `TooLarge` where there are more commands than a check file has room for lines of 14 bytes, or where the file that is
+/// drawn is larger than one may be, and `NoMemory` where memory runs out; nothing is written then. `Write` comes only
+/// where the output counted a failure, and a beginning of such a file was written then.
 ///
 /// Condition: the output's count of failures is below 2 ^ 64 - 1.
 /// Source: `docs/FORMATS.md`, "Drawn files".
@@ -143,9 +142,9 @@ pub fn draw<A: Allocator + Copy, O: Output>(
         (WritesStimulusFront header.now options.now (O.written output.old) (O.written output.new)) }
     ensures kept { IfErr result
         (λ fault. fault ≢ Fault.Write → Keeps (O.written output.old) (O.written output.new)) }
-    ensures err { IfErr result (NoStimulus header.now) }
+    ensures err { IfErr result (NoStimulus header.now options.now) }
     ensures faulty { line_header header.now ≡ None
-        → (result ≡ Err (BadHeader 1)) ⊎ (result ≡ Err NoMemory) }
+        → (result ≡ Err (Fault.BadHeader 1)) ⊎ (result ≡ Err Fault.NoMemory) }
 {
     match sizes_of(alloc, header) {
         Ok(sizes) => draw_for(alloc, header, &sizes, options, output),
