@@ -2,6 +2,7 @@
 
 ghost use Rattle.std.specs.Prelude.{◌≡◌, ◌≤◌, ◌+◌, [], true, IfOk, length, take};
 ghost use Rattle.std.specs.List.{All, count_by};
+ghost use Rattle.chi_verdict.specs.declared.lines.Obstacle.TheVariants as obstacles;
 ghost use Rattle.chi_verdict.specs.Lines.{AreItemsExplained, AreLinesExplained, IsReordered, is_action, is_on_line, said_by};
 
 use chi_explain::{Observed, StoreListing, Unexplained, WitnessItem};
@@ -36,7 +37,7 @@ pub enum Obstacle {
 }
 
 impl From<AllocError> for Obstacle {
-    ghost from_gives = { λ lack obstacle. obstacle ≡ Obstacle.NoMemory };
+    ghost from_gives = { λ lack obstacle. obstacle ≡ obstacles.NoMemory };
 
     fn from(_lack: AllocError) -> Obstacle {
         Obstacle::NoMemory
@@ -44,7 +45,7 @@ impl From<AllocError> for Obstacle {
 }
 
 impl<T: Drop> From<AllocFailed<T>> for Obstacle {
-    ghost from_gives = { λ lack obstacle. obstacle ≡ Obstacle.NoMemory };
+    ghost from_gives = { λ lack obstacle. obstacle ≡ obstacles.NoMemory };
 
     fn from(_lack: AllocFailed<T>) -> Obstacle {
         Obstacle::NoMemory
@@ -52,7 +53,7 @@ impl<T: Drop> From<AllocFailed<T>> for Obstacle {
 }
 
 impl From<NoMemory> for Obstacle {
-    ghost from_gives = { λ lack obstacle. obstacle ≡ Obstacle.NoMemory };
+    ghost from_gives = { λ lack obstacle. obstacle ≡ obstacles.NoMemory };
 
     fn from(_lack: NoMemory) -> Obstacle {
         Obstacle::NoMemory
