@@ -2,8 +2,8 @@
  *
  * Three things can be opened: a slice, whose lines are stepped action by action; a whole node on one thread, with its
  * tracker and its requesters; and a monitor, which is given flits and finds the first that no run of the model sends.
- * What each call does is in docs/PROTOCOL.md, and proved of every call in the
- * contracts of crates/chi_library; docs/LIBRARY.md says what is proved up to this header, and what C must uphold:
+ * What each call does is in docs/PROTOCOL.md, and the contracts of crates/chi_library say which of it is proved of each
+ * call; docs/LIBRARY.md says what is proved up to this header, and what C must uphold:
  *
  * - A handle is a variable of the caller's, set to zero before its first use: `ChiSlice slice = {0};`. It is opened
  *   by the call of its name and closed by another, which frees its memory; a closed handle may be opened again. It
@@ -14,8 +14,9 @@
  *
  * Each call answers CHI_OK, or the number of a refusal, after which nothing has changed; CHI_Closed of a closed
  * handle, which is not touched; and an opening of an open handle CHI_AlreadyOpen, which stays. Where a call is not
- * done, all numbers of what it tells are 0, so also such a count. Only the openings take memory, chi_slice_copy, chi_node_slice, and a
- * monitor's calls.
+ * done, all numbers of what it tells are 0, so also such a count; but what tells a length of bytes tells it too where
+ * there is not room for them. The openings take memory, chi_slice_load, chi_slice_save, chi_slice_copy, chi_node_slice,
+ * and a monitor's calls.
  */
 #ifndef CHIHOME_H
 #define CHIHOME_H
@@ -144,7 +145,8 @@ enum ChiReason {
     CHI_FormOfFilter = 16,
     CHI_NotAwaited = 17,
     CHI_FormOfCopy = 18,
-    CHI_OtherReason = 19
+    CHI_OtherReason = 19,
+    CHI_OtherCredit = 20
 };
 
 /* What an action gives, how far a request has come, what a line serves, what an arrival came to, and where a released
@@ -412,8 +414,15 @@ uint8_t chi_node_close(ChiNode *node);
 typedef struct {
     uint8_t reason; /* ChiReason, CHI_NoReason where there is no fault */
     uint8_t line;
-    uint64_t number; /* how many flits were taken before it, of all lines */
-    ChiSent sent;    /* the flit */
+    uint8_t choice;       /* 1 where the reason rests on a choice of this profile, and not on the standard */
+    uint8_t other;        /* the agent that is to do something first, or has a copy too; CHI_Nobody where there is none */
+    uint8_t state;        /* ChiState: the last known one of the copy that the reason speaks of; 255 where there is none */
+    uint8_t told;         /* 1 where the flit of number `since` has told that */
+    uint64_t number;      /* how many flits were taken before it, of all lines */
+    uint64_t since;       /* how many were taken before the flit that has told it */
+    uint8_t differs[8];   /* 1 for each word of data that isn't what its sender has */
+    uint64_t expected[8]; /* what it has in these words */
+    ChiSent sent;         /* the flit */
 } ChiFault;
 
 /* What is open of an agent at a line: 1 where it is. */
@@ -430,10 +439,10 @@ typedef struct {
     void *at;
 } ChiMonitor;
 
-/* Opens a monitor of so many agents, 1 to 8, and lines, 1 to 64, which keeps so many flits of each line, up to 65,536,
- * for chi_monitor_explain; with 0 it keeps none, and takes flits without an end. CHI_AlreadyOpen of an open handle;
- * CHI_OutOfRange; CHI_NoMemory. */
-uint8_t chi_monitor_open(ChiMonitor *monitor, uint8_t agents, uint8_t lines, uint32_t kept);
+/* Opens a monitor of a node of this profile, 0 with two credit types and 1 with four, of so many agents, 1 to 8, and
+ * lines, 1 to 64, which keeps so many flits of each line, up to 65,536, for chi_monitor_explain; with 0 it keeps none,
+ * and takes flits without an end. CHI_AlreadyOpen of an open handle; CHI_OutOfRange; CHI_NoMemory. */
+uint8_t chi_monitor_open(ChiMonitor *monitor, uint8_t profile, uint8_t agents, uint8_t lines, uint32_t kept);
 
 /* Takes the next flit of a line, in the order in which senders put them on their ports. Its channel and slot are not
  * read. CHI_Fault where no run of the model sends it behind those before: it is kept as the first fault, and each flit
@@ -444,6 +453,10 @@ uint8_t chi_monitor_flit(ChiMonitor *monitor, uint8_t line, const ChiSent *sent)
 
 /* Tells the first fault. */
 uint8_t chi_monitor_fault(ChiMonitor *monitor, ChiFault *fault);
+
+/* Writes why no run of the model sends that flit, in words with these agents and flits, without a 0 behind them; none where
+ * there is no fault. `length` is how many bytes they are. CHI_JournalFull where there is not room for all; CHI_NoMemory. */
+uint8_t chi_monitor_text(ChiMonitor *monitor, uint8_t *bytes, size_t room, size_t *length);
 
 /* Tells what is open of each agent at a line behind the flits that were taken. CHI_OutOfRange of the line. */
 uint8_t chi_monitor_end(ChiMonitor *monitor, uint8_t line, ChiOpen agents[8]);
@@ -493,7 +506,8 @@ CHI_LAYOUT(sizeof(ChiRecord) == 16 && offsetof(ChiRecord, word) == 3 && offsetof
 CHI_LAYOUT(sizeof(ChiArrival) == 3 && sizeof(ChiRelease) == 2);
 CHI_LAYOUT(sizeof(ChiCredits) == 16 && sizeof(ChiTotals) == 64 && offsetof(ChiTotals, owed) == 48);
 CHI_LAYOUT(sizeof(ChiAudit) == 24 && offsetof(ChiAudit, coherent) == 16);
-CHI_LAYOUT(sizeof(ChiFault) == 96 && offsetof(ChiFault, number) == 8 && offsetof(ChiFault, sent) == 16);
+CHI_LAYOUT(sizeof(ChiFault) == 176 && offsetof(ChiFault, number) == 8 && offsetof(ChiFault, since) == 16);
+CHI_LAYOUT(offsetof(ChiFault, differs) == 24 && offsetof(ChiFault, expected) == 32 && offsetof(ChiFault, sent) == 96);
 CHI_LAYOUT(sizeof(ChiOpen) == 5 && offsetof(ChiOpen, snoop) == 2 && offsetof(ChiOpen, write_data) == 4);
 #undef CHI_LAYOUT
 

@@ -18,6 +18,7 @@
 #include <cstddef>
 #include <cstdint>
 #include <optional>
+#include <string>
 #include <utility>
 
 namespace chihome {
@@ -143,7 +144,8 @@ enum class Reason : std::uint8_t {
     FormOfFilter = CHI_FormOfFilter,
     NotAwaited = CHI_NotAwaited,
     FormOfCopy = CHI_FormOfCopy,
-    OtherReason = CHI_OtherReason
+    OtherReason = CHI_OtherReason,
+    OtherCredit = CHI_OtherCredit
 };
 
 /* What an action gives, how far a request has come, what a line serves, what an arrival came to, and where a released
@@ -249,13 +251,21 @@ struct Stepped {
     std::optional<Sent> taken;
 };
 
-/* The first flit that no run of the model sends: why, of which line, and how many were taken before it, of all lines. */
+/* The first flit that no run of the model sends: why, of which line, and how many were taken before it, of all lines. The
+ * reason may rest on a choice of the profile. It may name an agent that is to do something first, or has a copy too, the
+ * last known state of the copy that it speaks of, and how many flits were taken before the one that told that; of data the
+ * words that its sender has in place of those that differ. */
 struct FirstFault {
     Reason reason = Reason::NoReason;
     std::uint8_t line = 0;
     std::uint64_t number = 0;
     Sent sent;
-    const char *text() const { return chi_reason_text(static_cast<std::uint8_t>(reason)); }
+    bool is_choice = false;
+    std::optional<std::uint8_t> other;
+    std::optional<State> state;
+    std::optional<std::uint64_t> since;
+    std::array<std::optional<std::uint64_t>, 8> expected = {};
+    std::string text;
 };
 
 /* What is open of an agent at a line: a request that was neither completed nor retried, a retried one that was not sent
@@ -813,10 +823,11 @@ class Monitor {
     ~Monitor() { close(); }
 
     /* A monitor of so many agents and lines, which keeps so many flits of each line to be explained; with 0 it keeps none,
-     * and takes flits without an end. OutOfRange; NoMemory. */
-    static Outcome<Monitor> open(std::uint8_t agents, std::uint8_t lines, std::uint32_t kept = 0) {
+     * and takes flits without an end. The profile is 0, with two credit types, or 1, with four. OutOfRange; NoMemory. */
+    static Outcome<Monitor> open(std::uint8_t agents, std::uint8_t lines, std::uint32_t kept = 0,
+                                 std::uint8_t profile = 0) {
         Monitor opened;
-        const std::uint8_t answer = chi_monitor_open(&opened.handle_, agents, lines, kept);
+        const std::uint8_t answer = chi_monitor_open(&opened.handle_, profile, agents, lines, kept);
         return layout::outcome(answer, std::move(opened));
     }
 
@@ -832,9 +843,30 @@ class Monitor {
         ChiFault told;
         const std::uint8_t answer = chi_monitor_fault(&handle_, &told);
         std::optional<FirstFault> first;
-        if (told.reason != CHI_NoReason)
-            first = FirstFault{Reason(told.reason), told.line, told.number, *layout::sent(told.sent)};
+        if (told.reason != CHI_NoReason) {
+            first.emplace();
+            first->reason = Reason(told.reason);
+            first->line = told.line;
+            first->number = told.number;
+            first->sent = *layout::sent(told.sent);
+            first->is_choice = told.choice != 0;
+            if (told.other != CHI_Nobody) first->other = told.other;
+            if (told.state != CHI_Nobody) first->state = State(told.state);
+            if (told.told != 0) first->since = told.since;
+            for (std::size_t word = 0; word < 8; word++)
+                if (told.differs[word] != 0) first->expected[word] = told.expected[word];
+            first->text = text();
+        }
         return layout::outcome(answer, std::move(first));
+    }
+
+    /* Why no run of the model sends the flit of the first fault, in words with these agents and flits; empty where there is
+     * none. */
+    std::string text() {
+        std::uint8_t bytes[1024];
+        std::size_t length = 0;
+        if (chi_monitor_text(&handle_, bytes, sizeof bytes, &length) != CHI_OK) return "";
+        return std::string(bytes, bytes + length);
     }
 
     /* What is open of each agent at the line, behind the flits that were taken. OutOfRange. */

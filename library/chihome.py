@@ -176,6 +176,7 @@ class Reason(enum.IntEnum):
     NotAwaited = 17
     FormOfCopy = 18
     OtherReason = 19
+    OtherCredit = 20
 
 
 class EffectForm(enum.IntEnum):
@@ -444,7 +445,8 @@ class _ChiNode(ctypes.Structure):
 
 
 class _ChiFault(ctypes.Structure):
-    _fields_ = [("reason", c_uint8), ("line", c_uint8), ("number", c_uint64), ("sent", _ChiSent)]
+    _fields_ = [(it, c_uint8) for it in ("reason", "line", "choice", "other", "state", "told")] + [
+        ("number", c_uint64), ("since", c_uint64), ("differs", c_uint8 * 8), ("expected", c_uint64 * 8), ("sent", _ChiSent)]
 
 
 class _ChiOpen(ctypes.Structure):
@@ -494,9 +496,10 @@ _CALLS = {
     "chi_node_slice": (c_uint8, [_slice, _node, c_uint8]),
     "chi_node_slice_equal": (c_uint8, [_node, c_uint8, _slice, _count]),
     "chi_node_close": (c_uint8, [_node]),
-    "chi_monitor_open": (c_uint8, [_monitor, c_uint8, c_uint8, c_uint32]),
+    "chi_monitor_open": (c_uint8, [_monitor, c_uint8, c_uint8, c_uint8, c_uint32]),
     "chi_monitor_flit": (c_uint8, [_monitor, c_uint8, _sent]),
     "chi_monitor_fault": (c_uint8, [_monitor, POINTER(_ChiFault)]),
+    "chi_monitor_text": (c_uint8, [_monitor, _bytes, c_size_t, POINTER(c_size_t)]),
     "chi_monitor_end": (c_uint8, [_monitor, c_uint8, POINTER(_ChiOpen)]),
     "chi_monitor_explain": (c_uint8, [_monitor, c_uint8]),
     "chi_monitor_close": (c_uint8, [_monitor]),
@@ -629,13 +632,22 @@ class Stepped(NamedTuple):
 
 
 class FirstFault(NamedTuple):
-    """The first flit that no run of the model sends: of which line, how many were taken before it, and why, also as text."""
+    """The first flit that no run of the model sends: of which line, how many were taken before it, and why, also as text.
+
+    The reason may rest on a choice of the profile. It may name an agent that is to do something first, or has a copy too,
+    the last known state of the copy that it speaks of, and how many flits were taken before the one that told that; of
+    data it has the words of its sender by the places of those that differ."""
 
     reason: Reason
     line: int
     number: int
     sent: Sent
     text: str
+    is_choice: bool = False
+    other: Optional[int] = None
+    state: Optional[State] = None
+    since: Optional[int] = None
+    expected: Dict[int, int] = {}
 
 
 class Open(NamedTuple):
@@ -1137,13 +1149,14 @@ class Monitor(_Handle):
     """A monitor of the lines of a node, which is given the flits that were observed, in the order in which their senders put
     them on their ports, and finds the first that no run of the model sends.
 
-    `kept` flits of each line are kept, to be explained; with 0 none are, and it takes flits without an end. OutOfRange where
-    there aren't 1 to 8 agents and 1 to 64 lines, or more than 65,536 are to be kept; NoMemory."""
+    `kept` flits of each line are kept, to be explained; with 0 none are, and it takes flits without an end. `profile` is 0,
+    with two credit types, or 1, with four. OutOfRange where there aren't 1 to 8 agents and 1 to 64 lines, or more than
+    65,536 are to be kept, or no such profile; NoMemory."""
 
-    def __init__(self, agents: int = 1, lines: int = 1, kept: int = 0):
+    def __init__(self, agents: int = 1, lines: int = 1, kept: int = 0, profile: int = 0):
         super().__init__(_ChiMonitor(), Config(agents, lines, 1, (1, 1), 65536))
-        most = _within(kept, 0xFFFFFFFF)
-        _check(self._calls.chi_monitor_open(byref(self._handle), _byte(agents), _byte(lines), most))
+        most, profile = _within(kept, 0xFFFFFFFF), _byte(profile)
+        _check(self._calls.chi_monitor_open(byref(self._handle), profile, _byte(agents), _byte(lines), most))
 
     def _close(self) -> int:
         return self._calls.chi_monitor_close(byref(self._handle))
@@ -1159,8 +1172,19 @@ class Monitor(_Handle):
         """The first fault, if there is one."""
         told = _ChiFault()
         _check(self._calls.chi_monitor_fault(byref(self._handle), byref(told)))
-        text = self._calls.chi_reason_text(told.reason).decode()
-        return FirstFault(Reason(told.reason), told.line, told.number, _sent_in(told.sent), text) if told.reason else None
+        if not told.reason:
+            return None
+        expected = {word: told.expected[word] for word in range(8) if told.differs[word]}
+        return FirstFault(
+            Reason(told.reason), told.line, told.number, _sent_in(told.sent), self._text(), bool(told.choice),
+            None if told.other == 255 else told.other, None if told.state == 255 else State(told.state),
+            told.since if told.told else None, expected)
+
+    def _text(self) -> str:
+        """Why no run of the model sends the flit of the first fault, in words."""
+        room, length = (c_uint8 * 1024)(), c_size_t()
+        _check(self._calls.chi_monitor_text(byref(self._handle), room, 1024, byref(length)))
+        return bytes(room[:length.value]).decode()
 
     def end(self, line: int) -> Tuple[Open, ...]:
         """What is open of each agent at the line, behind the flits that were taken. OutOfRange of the line."""

@@ -425,9 +425,15 @@ u8 chi_dpi_node_close(void *node) {
     return answer;
 }
 
-void *chi_dpi_monitor_open(u8 agents, u8 lines, u32 kept, u8 *answer) {
-    ChiMonitor *monitor = calloc(1, sizeof *monitor);
-    *answer = monitor == NULL ? CHI_NoMemory : chi_monitor_open(monitor, agents, lines, kept);
+/* A monitor, and the text of its first fault. */
+typedef struct {
+    ChiMonitor monitor;
+    uint8_t text[1024];
+} Watched;
+
+void *chi_dpi_monitor_open(u8 profile, u8 agents, u8 lines, u32 kept, u8 *answer) {
+    Watched *monitor = calloc(1, sizeof *monitor);
+    *answer = monitor == NULL ? CHI_NoMemory : chi_monitor_open(&monitor->monitor, profile, agents, lines, kept);
     if (*answer == CHI_OK) return monitor;
     free(monitor);
     return NULL;
@@ -452,6 +458,15 @@ u8 chi_dpi_monitor_fault(void *monitor, u8 *reason, u64 *number, u8 *line, u8 *a
     *agent = fault.sent.agent;
     tell_flit(&fault.sent.flit, message, kind, &slot, allow_retry, credit, data);
     return answer;
+}
+
+const char *chi_dpi_monitor_text(void *monitor) {
+    Watched *watched = monitor;
+    size_t length = 0;
+    if (watched == NULL || chi_monitor_text(&watched->monitor, watched->text, sizeof watched->text - 1, &length) != CHI_OK)
+        return "";
+    watched->text[length] = 0;
+    return (const char *)watched->text;
 }
 
 u8 chi_dpi_monitor_end(void *monitor, u8 line, u8 *requests, u8 *retried, u8 *snoops, u8 *completions, u8 *write_data) {

@@ -22,7 +22,7 @@ static const char *const ANSWERS[] = {"OK", "JournalFull", "WrongState", "Pendin
 static const char *const REASONS[] = {"NoReason", "MemoryRanOut", "NoAgent", "EarlierRequest", "CopyNotNeeded",
     "NotRetried", "NothingToRetry", "ServedRetry", "NobodyAsks", "HomeAwaits", "SnoopedTwice", "NothingToAnswer",
     "AnswerOfCopy", "OtherWords", "NothingToComplete", "SnoopsBefore", "FormOfFilter", "NotAwaited", "FormOfCopy",
-    "OtherReason"};
+    "OtherReason", "OtherCredit"};
 
 static const char *const REASON_TEXTS[] = {"there is no fault", "memory ran out", "it is none of eight requesters",
     "an earlier request of it to the line isn't over", "its copy isn't in a state from which this is issued",
@@ -31,8 +31,9 @@ static const char *const REASON_TEXTS[] = {"there is no fault", "memory ran out"
     "the home awaits a CompAck or write data there", "it was snooped for this request already",
     "no snoop to it is unanswered", "its copy answers this snoop otherwise", "its sender has other words",
     "no request of it that it completes waits",
-    "other agents are to be snooped and to answer first, or fewer were to be", "the home's filter says the other form",
-    "the home doesn't await it", "its copy has another form", "it isn't in the profile"};
+    "other agents are to be snooped and to answer first, or fewer were to be", "the model's home gives the other form",
+    "the home doesn't await it", "its copy has another form", "it isn't in the profile",
+    "its request needs a credit of another type"};
 
 static const char *name_in(const char *const *names, size_t count, uint8_t number) {
     return number < count ? names[number] : "?";

@@ -67,7 +67,7 @@ static void run_once(const ChiConfig *config) {
     ChiMonitor monitor = {0};
     ChiFault fault;
     length = 0;
-    HOLDS(chi_slice_open(&slice, config, 0) == CHI_OK && chi_monitor_open(&monitor, AGENTS, LINES, MOST) == CHI_OK);
+    HOLDS(chi_slice_open(&slice, config, 0) == CHI_OK && chi_monitor_open(&monitor, 0, AGENTS, LINES, MOST) == CHI_OK);
     for (int count = 0; count < ACTIONS && length < MOST - CHI_MostSent; count++) {
         ChiSent sent[CHI_MostSent];
         uint8_t line = below(LINES), sents = act(&slice, line, sent);
@@ -87,7 +87,7 @@ static size_t fault_place(void) {
     ChiMonitor monitor = {0};
     ChiFault first, later;
     size_t place = 0;
-    HOLDS(chi_monitor_open(&monitor, AGENTS, LINES, 0) == CHI_OK);
+    HOLDS(chi_monitor_open(&monitor, 0, AGENTS, LINES, 0) == CHI_OK);
     while (place < length && chi_monitor_flit(&monitor, run[place].line, &run[place].sent) == CHI_OK) place++;
     HOLDS(chi_monitor_fault(&monitor, &first) == CHI_OK && (first.reason != CHI_NoReason) == (place < length));
     if (place < length) {
@@ -131,7 +131,7 @@ static size_t long_run(void) {
     ChiSlice slice = {0};
     ChiMonitor monitor = {0};
     size_t taken = 0;
-    HOLDS(chi_slice_open(&slice, &config, 0) == CHI_OK && chi_monitor_open(&monitor, AGENTS, LINES, 0) == CHI_OK);
+    HOLDS(chi_slice_open(&slice, &config, 0) == CHI_OK && chi_monitor_open(&monitor, 0, AGENTS, LINES, 0) == CHI_OK);
     for (int count = 0; count < LONG && failures < 10; count++) {
         ChiSent sent[CHI_MostSent];
         uint8_t line = below(LINES), sents = act(&slice, line, sent);
@@ -153,12 +153,12 @@ static void answers(void) {
     HOLDS(chi_monitor_flit(&monitor, 0, &request) == CHI_Closed && chi_monitor_fault(&monitor, &fault) == CHI_Closed);
     HOLDS(chi_monitor_end(&monitor, 0, open) == CHI_Closed && chi_monitor_explain(&monitor, 0) == CHI_Closed);
     HOLDS(fault.reason == 0 && fault.number == 0 && open[7].write_data == 0 && chi_monitor_close(&monitor) == CHI_Closed);
-    HOLDS(chi_monitor_open(&monitor, 0, 1, 1) == CHI_OutOfRange && chi_monitor_open(&monitor, 9, 1, 1) == CHI_OutOfRange);
-    HOLDS(chi_monitor_open(&monitor, 1, 0, 1) == CHI_OutOfRange && chi_monitor_open(&monitor, 1, 65, 1) == CHI_OutOfRange);
-    HOLDS(chi_monitor_open(&monitor, 1, 1, 65537) == CHI_OutOfRange && monitor.at == NULL);
-    HOLDS(chi_monitor_open(&monitor, 2, 2, 1) == CHI_OK);
+    HOLDS(chi_monitor_open(&monitor, 0, 0, 1, 1) == CHI_OutOfRange && chi_monitor_open(&monitor, 0, 9, 1, 1) == CHI_OutOfRange);
+    HOLDS(chi_monitor_open(&monitor, 0, 1, 0, 1) == CHI_OutOfRange && chi_monitor_open(&monitor, 0, 1, 65, 1) == CHI_OutOfRange);
+    HOLDS(chi_monitor_open(&monitor, 0, 1, 1, 65537) == CHI_OutOfRange && monitor.at == NULL);
+    HOLDS(chi_monitor_open(&monitor, 0, 2, 2, 1) == CHI_OK);
     void *at = monitor.at;
-    HOLDS(chi_monitor_open(&monitor, 2, 2, 1) == CHI_AlreadyOpen && monitor.at == at);
+    HOLDS(chi_monitor_open(&monitor, 0, 2, 2, 1) == CHI_AlreadyOpen && monitor.at == at);
     HOLDS(chi_monitor_flit(&monitor, 2, &request) == CHI_OutOfRange);
     wrong.agent = 2;
     HOLDS(chi_monitor_flit(&monitor, 0, &wrong) == CHI_OutOfRange);

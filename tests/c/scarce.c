@@ -64,7 +64,7 @@ static int monitor_allocations(void) {
         ChiMonitor monitor = {0};
         ChiFault fault;
         granted = count;
-        uint8_t answer = chi_monitor_open(&monitor, 2, 2, 8), opened = answer;
+        uint8_t answer = chi_monitor_open(&monitor, 0, 2, 2, 8), opened = answer;
         for (int place = 0; place < 3 && answer == CHI_OK; place++) answer = chi_monitor_flit(&monitor, 1, &READ[place]);
         uint8_t taken = answer;
         if (answer == CHI_OK) answer = chi_monitor_explain(&monitor, 1);

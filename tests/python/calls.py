@@ -57,8 +57,40 @@ class Monitors(unittest.TestCase):
             fault = monitor.fault()
             self.assertEqual((fault.reason, fault.line, fault.number), (chihome.Reason.NothingToAnswer, 0, 3))
             self.assertEqual(fault.sent, chihome.Sent(1, Channel.DatUp, wrong))
-            self.assertEqual(fault.text, "no snoop to it is unanswered")
+            self.assertEqual(fault.text, "CHI: no snoop to it is unanswered")
+            self.assertEqual((fault.is_choice, fault.other, fault.state, fault.since, fault.expected), (False, None, None, None, {}))
             self.assertIsNone(monitor.explain(0))
+
+    def test_facts(self):
+        with chihome.Slice(agents=2, lines=1) as model, chihome.Monitor(agents=2, lines=1) as monitor:
+            self.watch(monitor, model, Step.Issue, Step.Admit, Step.Start)
+            monitor.flit(0, 1, chihome.Flit(Message.Request, Kind.ReadUnique, 0, True))
+            self.assertRaises(chihome.Fault, monitor.flit, 0, 0, chihome.Flit(Message.SnpUnique))
+            fault = monitor.fault()
+            self.assertEqual((fault.reason, fault.is_choice, fault.other, fault.since), (chihome.Reason.HomeAwaits, False, 0, 1))
+            self.assertEqual(fault.text, "CHI: the home awaits the CompAck of agent 0 to the completion of flit 1 before it "
+                                         "snoops for another request")
+
+    def test_words(self):
+        with chihome.Slice(agents=2, lines=1) as model, chihome.Monitor(agents=2, lines=1) as monitor:
+            self.watch(monitor, model, Step.Issue, Step.Admit, Step.Start, Step.RecvData, Step.RecvAck)
+            monitor.flit(0, 1, chihome.Flit(Message.Request, Kind.ReadUnique, 0, True))
+            monitor.flit(0, 0, chihome.Flit(Message.SnpUnique))
+            monitor.flit(0, 0, chihome.Flit(Message.SnpResp_I))
+            self.assertRaises(chihome.Fault, monitor.flit, 0, 1, chihome.Flit(Message.CompData_UC, words=(0, 0, 7) + (0,) * 5))
+            fault = monitor.fault()
+            self.assertEqual((fault.reason, fault.expected), (chihome.Reason.OtherWords, {2: 0}))
+            self.assertEqual(fault.text, "CHI: word 2 is 7, and its sender has 0 since flit 1")
+
+    def test_profiles(self):
+        request, retry = chihome.Flit(Message.Request, Kind.ReadUnique, 0, True), chihome.Flit(Message.RetryAck, credit=2)
+        self.assertRaises(chihome.OutOfRange, chihome.Monitor, profile=2)
+        with chihome.Monitor(profile=1) as four, chihome.Monitor() as two:
+            four.flit(0, 0, request)
+            four.flit(0, 0, retry)
+            two.flit(0, 0, request)
+            self.assertRaises(chihome.Fault, two.flit, 0, 0, retry)
+            self.assertEqual(two.fault().reason, chihome.Reason.OtherCredit)
 
     def test_refusals(self):
         request = chihome.Flit(Message.Request, Kind.Evict, 0, True)

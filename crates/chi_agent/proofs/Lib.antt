@@ -8,5 +8,6 @@ pub mod Returns
 pub mod Counts
 pub mod Plays
 pub mod Left
+pub mod Another
 pub mod Begun
 pub mod Numbers

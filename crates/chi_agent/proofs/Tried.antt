@@ -1,7 +1,8 @@
--- A step that was done, of an action whose agent is the requester.
+-- A step that was done or refused, of an action whose agent is the requester.
 use Rattle.std.proofs.Common.{◌≡◌, ℕ, subst}
-use Rattle.std.specs.Prelude.{None}
+use Rattle.std.specs.Prelude.{None, Some}
 use Rattle.chi_flit.specs.declared.action.Action.{Action}
+use Rattle.chi_flit.specs.declared.refusal.Refusal.{Refusal}
 use Rattle.chi_slice.specs.Slice.{SliceState}
 use Rattle.chi_node.specs.declared.answers.Stepped.{Stepped}
 use Rattle.chi_node.specs.Agree.{Agree}
@@ -15,3 +16,10 @@ pub step_done : (s s' : SliceState) (action : Action) (r r' : RequesterState) (s
 step_done s s' action r r' stepped who refusal steps counts =
     subst (λ (n : ℕ). StepTried s s' (record { agent = record { 0 = n }; line = action.line; step = action.step }) r r' None) who
     (record { refusal = refusal; ends = (stepped, steps, counts) })
+
+pub step_refused : (s s' : SliceState) (action : Action) (r r' : RequesterState) (refusal : Refusal) → action.agent.0 ≡ r.number
+    → OrNotOpen (call_refusal s r action) (Agree s r) (Some refusal) → (s' ≡ s) × (r' ≡ r)
+    → StepTried s s' (action_by r action.line action.step) r r' (Some refusal)
+step_refused s s' action r r' refusal who may stays =
+    subst (λ (n : ℕ). StepTried s s' (record { agent = record { 0 = n }; line = action.line; step = action.step }) r r' (Some refusal)) who
+    (record { refusal = may; ends = stays })

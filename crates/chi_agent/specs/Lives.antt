@@ -10,7 +10,7 @@ use Rattle.chi_slice.specs.Slice.{SliceState}
 use Rattle.chi_node.specs.Words.{Released}
 use Rattle.chi_node.specs.Agree.{KeepsAgreement}
 use Rattle.chi_node.specs.Credits.{GivesBack, Sees, Tends}
-use Rattle.chi_node.specs.Node.{IsSliceOf}
+use Rattle.chi_node.specs.Node.{FoundAnother, IsSliceOf}
 use Rattle.chi_node.specs.Requester.{RequesterState, give_back_refusal, tend_refusal}
 use Rattle.chi_agent.specs.Draws.{stream_of, word_after}
 use Rattle.chi_agent.specs.declared.player.Player.{Player}
@@ -70,12 +70,13 @@ pub record VisitsSlice {A : Type 0} (config : Sizes) (x : ℕ) (p p' : Player A)
   pub turns : TurnsTo before after x p p' done
   pub agreement : KeepsAgreement before after p.requester p'.requester
 
-pub record FindsAnother {A : Type 0} (p p' : Player A) (done : Bool) : Type 0 where
+pub record FindsAnother {A : Type 0} (config : Sizes) (x : ℕ) (p p' : Player A) (done : Bool) : Type 0 where
+  pub found : FoundAnother config (drawn_line config x).0
   pub stops : p' ≡ after_refusal NotOpen p
   pub none : done ≡ false
 
 abbrev pub Visits : {A : Type 0} → Sizes → ℕ → Player A → Player A → Bool → Type 0
-Visits config x p p' done = VisitsSlice config x p p' done ⊎ FindsAnother p p' done
+Visits config x p p' done = VisitsSlice config x p p' done ⊎ FindsAnother config x p p' done
 
 -- after a visit in which nothing was done, what is owed of the turn's type is tended
 abbrev pub EndsTurn : {A : Type 0} → Bool → Sizes → ℕ → Player A → Player A → Type 0

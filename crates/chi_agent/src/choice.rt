@@ -1,6 +1,6 @@
 //! What a turn has a requester do on the slice of its line.
 
-ghost use Rattle.std.specs.Prelude.{◌≡◌, ◌/◌, IfSome};
+ghost use Rattle.std.specs.Prelude.{◌≡◌, ◌<◌, ◌/◌, IfSome};
 ghost use Rattle.chi_agent.specs.Choice.{choice, choice_at, drawn_line, IsOwnChoice};
 
 use crate::deliveries::delivery_at;
@@ -38,7 +38,8 @@ pub enum Choice {
 /// The line of a turn: the word of the draw, modulo the number of lines.
 /// Source: `docs/FORMATS.md`, "A turn".
 pub fn line_of(config: &Config, x: u32) -> Line
-    ensures { result ≡ drawn_line config.now x }
+    ensures is { result ≡ drawn_line config.now x }
+    ensures inside { result.0 < config.now.lines }
 {
     // (the largest node by a constant, so that its turns have no division)
     match config.lines() {

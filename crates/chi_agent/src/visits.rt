@@ -46,6 +46,7 @@ impl<A: Allocator> Player<A> {
     }
 
     /// Looks at the line that was drawn by `x`, under the lock of its slice.
+    #[tactic(auto, using(crate::proofs::Another::found_another))]
     fn visit<R: Wait, B: Allocator>(&mut self, rt: &R, node: &Node<B>, x: u32) -> bool
         requires { IsOwn node.now self.old.requester }
         ensures visits { Visits node.now.config x self.old self.new result }

@@ -7,7 +7,9 @@ use crate::bench::{node_of, on, opened};
 use chi_agent::{Gate, run_agents};
 use chi_audit::Report;
 use chi_flit::{Agent, Operation, Task, WordNo};
+use chi_node::Node;
 use chi_slice::Config;
+use std::alloc::Global;
 use std::process::Abort;
 use std::sync::atomic::{AtomicBool, AtomicU64, Ordering};
 
@@ -128,4 +130,53 @@ fn turns_are_used_up(rt: HostRuntime) {
     assert!(rt; ended.gathered.complete);
     assert!(rt; ended.gathered.reports[0] == Some(unfinished(0)));
     assert!(rt; ended.gathered.reports[1] == Some(unfinished(1)));
+}
+
+/// Sees how many entries of type 0 are free when an agent comes to its second turn.
+#[derive(Drop)]
+struct Glance<'n> {
+    node: &'n Node<Global>,
+    free: AtomicU64,
+}
+
+impl Gate for Glance<'_> {
+    fn pass(&self, _agent: Agent, turn: u64) {
+        if turn == 2 {
+            let free = self.node.tracker().glance().free[0];
+            self.free.store(u64::from(free), Ordering::SeqCst);
+        }
+    }
+}
+
+/// One requester and one line, with an entry of each of two types.
+fn one(rt: &impl Abort) -> Config
+    ensures { result ≡ two_types 1 1 1 1 1 4 }
+{
+    Config::new(1, 1, 1, 1, 1, 4).expect(rt, "sizes in their limits")
+}
+
+// In the first turn the request is issued. In the second it arrives, and takes the entry.
+#[test]
+fn the_gate_is_passed_before_the_turn(rt: HostRuntime) {
+    let (node, requesters) = node_of(&rt, rt.alloc(), &one(&rt));
+    let all = [[on(0, Task::Load(WordNo(0)))]];
+    let (tallies, scripts, _watcher) = opened(&rt, rt.alloc(), 1, &all);
+    let gate = Glance {
+        node: &node,
+        free: AtomicU64::new(9),
+    };
+    let ran = run_agents(
+        &rt,
+        rt.alloc(),
+        &node,
+        &tallies,
+        requesters,
+        scripts,
+        1,
+        2,
+        &gate,
+    );
+    assert!(rt; ran.is_ok());
+    assert_eq!(rt; gate.free.load(Ordering::SeqCst), 1);
+    assert_eq!(rt; node.tracker().glance().free[0], 0);
 }

@@ -79,8 +79,9 @@ fn movers_of<'t, 'n>(
 /// Each takes a turn, in rising order, and every slice is looked at after it.
 fn round<R: Abort + Wait>(rt: &R, movers: &mut Vec<Mover<'_, '_>>, seen_lines: &mut SeenLines<'_>) {
     for mover in movers.iter_mut() {
+        let agent = mover.runner.player.requester.number();
         let line = mover.turn(rt);
-        seen_lines.follow(rt, line);
+        seen_lines.follow(rt, agent, line);
     }
 }
 

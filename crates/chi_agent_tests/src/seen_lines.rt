@@ -1,6 +1,6 @@
 //! What the lines of a node show while nobody has a lock: it changes by what is done between two looks alone.
 
-use chi_flit::Line;
+use chi_flit::{Agent, Line};
 use chi_node::Node;
 use chi_slice::{LineView, Record, Slice};
 use std::alloc::Global;
@@ -13,6 +13,15 @@ struct SeenLine {
     line: Line,
     view: LineView,
     records: Vec<Record>,
+}
+
+/// Whether of all copies the agent's alone has changed, if any.
+fn others_stay(before: &LineView, after: &LineView, agent: Agent) -> bool {
+    let mut stay = true;
+    for other in 0..8 {
+        stay &= other == usize::from(agent.0) || before.copies[other] == after.copies[other];
+    }
+    stay
 }
 
 /// What a line shows.
@@ -46,9 +55,10 @@ impl SeenLine {
         !new.is_empty()
     }
 
-    /// Whether the line shows something else than before.
-    fn has_moved(&mut self, rt: &impl Abort, slice: &Slice<Global>) -> bool {
+    /// Whether the line shows something else than before. The copies of other agents than this one stay.
+    fn has_moved(&mut self, rt: &impl Abort, slice: &Slice<Global>, agent: Agent) -> bool {
         let view = look(rt, slice, self.line);
+        assert!(rt; others_stay(&self.view, &view, agent));
         let moved = view != self.view;
         self.view = view;
         moved
@@ -76,15 +86,15 @@ impl<'n> SeenLines<'n> {
     }
 
     /// Every slice is locked. The one of this line alone may have changed since the look before, and its
-    /// journal may have a record more.
-    pub fn follow<R: Abort + Wait>(&mut self, rt: &R, line: Line) {
+    /// journal may have a record more. Of all copies the agent's alone may have changed.
+    pub fn follow<R: Abort + Wait>(&mut self, rt: &R, agent: Agent, line: Line) {
         for seen in self.all.iter_mut() {
             let slice = self
                 .node
                 .lock(rt, seen.line)
                 .expect(rt, "a line of the node");
             let grown = seen.has_grown(rt, &slice);
-            let moved = seen.has_moved(rt, &slice);
+            let moved = seen.has_moved(rt, &slice, agent);
             assert!(rt; seen.line == line || !grown && !moved);
         }
     }

@@ -12,12 +12,15 @@ use Rattle.chi_flit.specs.declared.numbers.Line.{Line}
 use Rattle.chi_resolution.specs.declared.ledger.Types.{Types}
 use Rattle.chi_script.specs.Words.{◌>>=◌}
 use Rattle.chi_trace.specs.declared.fields.Address.{Address}
-use Rattle.chi_arguments.specs.Options.{asked_address_of, commands_option, is_given, line_option, rows_option, seed_of, stores_option, turns_of, types_option, wild_option}
+use Rattle.chi_arguments.specs.Options.{asked_address_of, commands_option, form_option, is_given, least_option, line_option, rows_option, seed_of, stores_option, turns_of, types_option, wild_option}
 use Rattle.chi_arguments.specs.declared.faults.ArgFault.{ArgFault}
 use Rattle.chi_arguments.specs.declared.faults.ArgFault.TheVariants.{Bad, NoMemory}
 use Rattle.chi_arguments.specs.declared.jobs.Job.{Job}
-use Rattle.chi_arguments.specs.declared.jobs.Job.TheVariants.{Chart, Check, Cover, Draw, Explain, Replay, Storm}
+use Rattle.chi_arguments.specs.declared.jobs.Job.TheVariants.{Chart, Check, Cover, Draw, Explain, Replay, Storm, Usage, Version}
+use Rattle.chi_arguments.specs.declared.options.CellForm.{CellForm}
 use Rattle.chi_arguments.specs.declared.options.RowRange.{RowRange}
+use Rattle.chi_arguments.specs.declared.usages.Topic.{Topic}
+use Rattle.chi_arguments.specs.Usage.{topic_option}
 
 -- FILE: the file is one word, and has to be there
 abbrev pub file_rule : Rule
@@ -30,6 +33,10 @@ files_rule = record (new_rule (codes "FILE")) { required = true; action = Some A
 -- HEADER: the header is one word of the command line, and has to be there
 abbrev pub header_rule : Rule
 header_rule = record (new_rule (codes "HEADER")) { required = true; action = Some Set }
+
+-- COMMAND: the name is one word, and needn't be there
+abbrev pub topic_rule : Rule
+topic_rule = record (new_rule (codes "COMMAND")) { action = Some Set }
 
 -- --NAME VALUE: the option stands once at most
 abbrev pub option_rule : Text → Rule
@@ -51,21 +58,29 @@ check_line = with_rule (with_rule (new_app (codes "check")) files_rule) (flag_ru
 abbrev pub chart_line : App
 chart_line = with_rule (with_rule (with_rule (new_app (codes "chart")) file_rule) (option_rule (codes "line"))) (option_rule (codes "rows"))
 
--- `explain FILE [--types T] [--stores S] [--early-grants] [--line ADDR]`
+-- `explain FILE [--types T] [--stores S] [--early-grants] [--complete] [--line ADDR]`
 abbrev pub explain_line : App
-explain_line = with_rule (with_rule (with_rule (with_rule (with_rule (new_app (codes "explain")) file_rule) (option_rule (codes "types"))) (option_rule (codes "stores"))) (flag_rule (codes "early-grants"))) (option_rule (codes "line"))
+explain_line = with_rule (with_rule (with_rule (with_rule (with_rule (with_rule (new_app (codes "explain")) file_rule) (option_rule (codes "types"))) (option_rule (codes "stores"))) (flag_rule (codes "early-grants"))) (flag_rule (codes "complete"))) (option_rule (codes "line"))
 
 -- `storm FILE [--seed N] [--turns N]`
 abbrev pub storm_line : App
 storm_line = with_rule (with_rule (with_rule (new_app (codes "storm")) file_rule) (option_rule (codes "seed"))) (option_rule (codes "turns"))
 
--- `cover FILE.. [--missing]`
+-- `cover FILE.. [--missing] [--json] [--tsv] [--merge] [--at-least N]`
 abbrev pub cover_line : App
-cover_line = with_rule (with_rule (new_app (codes "cover")) files_rule) (flag_rule (codes "missing"))
+cover_line = with_rule (with_rule (with_rule (with_rule (with_rule (with_rule (new_app (codes "cover")) files_rule) (flag_rule (codes "missing"))) (flag_rule (codes "json"))) (flag_rule (codes "tsv"))) (flag_rule (codes "merge"))) (option_rule (codes "at-least"))
 
--- `draw [--seed N] --commands M [--wild P] [--weights FILE] [--drain] HEADER`
+-- `draw [--seed N] --commands M [--wild P] [--weights FILE] [--kinds LIST] [--drain] HEADER`
 abbrev pub draw_line : App
-draw_line = with_rule (with_rule (with_rule (with_rule (with_rule (with_rule (new_app (codes "draw")) header_rule) (option_rule (codes "seed"))) (option_rule (codes "commands"))) (option_rule (codes "wild"))) (option_rule (codes "weights"))) (flag_rule (codes "drain"))
+draw_line = with_rule (with_rule (with_rule (with_rule (with_rule (with_rule (with_rule (new_app (codes "draw")) header_rule) (option_rule (codes "seed"))) (option_rule (codes "commands"))) (option_rule (codes "wild"))) (option_rule (codes "weights"))) (option_rule (codes "kinds"))) (flag_rule (codes "drain"))
+
+-- `usage [COMMAND]`
+abbrev pub usage_line : App
+usage_line = with_rule (new_app (codes "usage")) topic_rule
+
+-- `version`
+abbrev pub version_line : App
+version_line = new_app (codes "version")
 
 -- a command has these words, and none of its arguments is one of its subcommands' too
 pub record IsCommand (app : App) (command : Command) : Type 0 where
@@ -76,24 +91,29 @@ pub record IsCommand (app : App) (command : Command) : Type 0 where
 abbrev pub program_line : App
 program_line = on_top (λ s. record s { subcommand_required = true }) (new_app (codes "chihome"))
 
--- the program's command lines: these seven, and no other
+-- the program's command lines: these nine, and no other
+abbrev pub lines_to_storm : App
+lines_to_storm =
+    with_subcommand (with_subcommand (with_subcommand (with_subcommand (with_subcommand program_line replay_line.top) check_line.top) chart_line.top) explain_line.top) storm_line.top
+
 abbrev pub command_lines : App
-command_lines =
-    with_subcommand (with_subcommand (with_subcommand (with_subcommand (with_subcommand (with_subcommand (with_subcommand program_line replay_line.top) check_line.top) chart_line.top) explain_line.top) storm_line.top) cover_line.top) draw_line.top
+command_lines = with_subcommand (with_subcommand (with_subcommand (with_subcommand lines_to_storm cover_line.top) draw_line.top) usage_line.top) version_line.top
 
 -- what a command line asks for: the replay of a file, the check of files, as TAP or not, a chart, of one line alone where one is
--- given, and of these rows, the explanation of a trace, with its types of credit, the stores that it lists, whether grants may come early, and the one line
--- that is written where one is given, a storm with its seed and its turns, the cells that files reach, or those alone that they don't,
--- or a check file with this header that is drawn, by its seed, the number of its commands, how many in a hundred are drawn from all, the
--- file of weights where one is given, and whether it goes on until nothing is in flight
+-- given, and of these rows, the explanation of a trace, with its types of credit, the stores that it lists, whether grants may come early,
+-- whether nothing may be open at its end, and the one line that is written where one is given, a storm with its seed and its turns, the cells that files reach, or those alone that they don't,
+-- in this form, of reports or not, and how many of them at least, how commands are used, the version, or a check file with this header that is drawn, by its seed, the number of its commands, how many in a hundred are drawn from all, the
+-- file of weights where one is given, the list of kinds where one is given, and whether it goes on until nothing is in flight
 pub data AskedCommand : Type 0 where
   replay : Text → AskedCommand
   check : List Text → Bool → AskedCommand
   chart : Text → Option Line → RowRange → AskedCommand
-  explain : Text → Types → StoreListing → Bool → Option Address → AskedCommand
+  explain : Text → Types → StoreListing → (early complete : Bool) → Option Address → AskedCommand
   storm : Text → ℕ → ℕ → AskedCommand
-  cover : List Text → Bool → AskedCommand
-  draw : Text → ℕ → ℕ → ℕ → Option Text → Bool → AskedCommand
+  cover : List Text → (missing : Bool) → CellForm → (merge : Bool) → (least : ℕ) → AskedCommand
+  draw : Text → ℕ → ℕ → ℕ → (weights kinds : Option Text) → Bool → AskedCommand
+  usage : Topic → AskedCommand
+  version : AskedCommand
 
 -- behind `replay` stands the path
 abbrev pub replay_in : List Row → Option AskedCommand
@@ -118,7 +138,7 @@ explain_in rows = do
   types ← types_option (first_of (codes "types") rows)
   stores ← stores_option (first_of (codes "stores") rows)
   only ← asked_address_of (first_of (codes "line") rows)
-  Some (explain path types stores (is_given (first_of (codes "early-grants") rows)) only)
+  Some (explain path types stores (is_given (first_of (codes "early-grants") rows)) (is_given (first_of (codes "complete") rows)) only)
 
 -- behind `storm` stand the path and the options
 abbrev pub storm_asked : List Row → Option AskedCommand
@@ -128,9 +148,13 @@ storm_asked rows = do
   turns ← turns_of (first_of (codes "turns") rows)
   Some (storm path seed turns)
 
--- behind `cover` stand the paths, and whether only missing cells are listed
+-- behind `cover` stand the paths and the options
 abbrev pub cover_in : List Row → Option AskedCommand
-cover_in rows = option_map (λ paths. cover paths (is_given (first_of (codes "missing") rows))) (all_of (codes "FILE") rows)
+cover_in rows = do
+  paths ← all_of (codes "FILE") rows
+  form ← form_option (is_given (first_of (codes "json") rows)) (is_given (first_of (codes "tsv") rows))
+  least ← least_option (first_of (codes "at-least") rows)
+  Some (cover paths (is_given (first_of (codes "missing") rows)) form (is_given (first_of (codes "merge") rows)) least)
 
 -- behind `draw` stand the header and the options
 abbrev pub draw_in : List Row → Option AskedCommand
@@ -139,7 +163,14 @@ draw_in rows = do
   seed ← seed_of (first_of (codes "seed") rows)
   commands ← commands_option (first_of (codes "commands") rows)
   wild ← wild_option (first_of (codes "wild") rows)
-  Some (draw header seed commands wild (first_of (codes "weights") rows) (is_given (first_of (codes "drain") rows)))
+  Some (draw header seed commands wild (first_of (codes "weights") rows) (first_of (codes "kinds") rows) (is_given (first_of (codes "drain") rows)))
+
+-- behind `usage` stands the name of a command, or nothing; behind `version` stands nothing
+abbrev pub usage_in : List Row → Option AskedCommand
+usage_in rows = option_map usage (topic_option (first_of (codes "COMMAND") rows))
+
+abbrev pub version_in : List Row → Option AskedCommand
+version_in rows = Some version
 
 -- what a subcommand and what stands behind it ask for
 abbrev pub asked_behind : Text × List Row → Option AskedCommand
@@ -150,7 +181,9 @@ asked_behind (name, rows) =
     if bytes_eq name (codes "explain") then explain_in rows else (
     if bytes_eq name (codes "storm") then storm_asked rows else (
     if bytes_eq name (codes "cover") then cover_in rows else (
-    if bytes_eq name (codes "draw") then draw_in rows else None))))))
+    if bytes_eq name (codes "draw") then draw_in rows else (
+    if bytes_eq name (codes "usage") then usage_in rows else (
+    if bytes_eq name (codes "version") then version_in rows else None))))))))
 
 -- the same, where the words have no fault
 abbrev pub asked_if : Kinds → Option (Text × List Row) → Option AskedCommand
@@ -166,10 +199,13 @@ abbrev pub asked_by : Job → AskedCommand
 asked_by (Replay path) = replay path.now
 asked_by (Check paths tap) = check (map (λ path. path.now) paths.items) tap
 asked_by (Chart path only rows) = chart path.now only rows
-asked_by (Explain path types stores early only) = explain path.now types stores early only
+asked_by (Explain path types stores early complete only) = explain path.now types stores early complete only
 asked_by (Storm path seed turns) = storm path.now seed turns
-asked_by (Cover paths missing) = cover (map (λ path. path.now) paths.items) missing
-asked_by (Draw header seed commands wild weights drain) = draw header.now seed commands wild (option_map (λ path. path.now) weights) drain
+asked_by (Cover paths missing form merge least) = cover (map (λ path. path.now) paths.items) missing form merge least
+asked_by (Draw header seed commands wild weights kinds drain) =
+    draw header.now seed commands wild (option_map (λ path. path.now) weights) (option_map (λ list. list.now) kinds) drain
+asked_by (Usage topic) = usage topic
+asked_by Version = version
 
 -- the job is what was asked for, and the words are bad where nothing is; memory may run out at any words
 abbrev pub IsAsked : Option AskedCommand → Result Job ArgFault → Type 0

@@ -1,5 +1,5 @@
 -- The values of options (docs/FORMATS.md, "The program").
-use Rattle.std.specs.Prelude.{ℕ, ◌+◌, ◌==◌, Bool, false, List, Option, Some, None, codes, drop, take, if◌then◌else◌}
+use Rattle.std.specs.Prelude.{ℕ, ◌+◌, ◌==◌, Bool, false, true, List, Option, Some, None, codes, drop, take, if◌then◌else◌}
 use Rattle.std.specs.List.{position}
 use Rattle.chi_explain.specs.declared.observed.StoreListing.{StoreListing}
 use Rattle.chi_explain.specs.declared.observed.StoreListing.TheVariants.{Partial, Complete}
@@ -10,6 +10,8 @@ use Rattle.chi_script.specs.Headers.{is_from}
 use Rattle.chi_script.specs.Words.{◌>>=◌, is_text, number_of}
 use Rattle.chi_trace.specs.Fields.{address_of}
 use Rattle.chi_trace.specs.declared.fields.Address.{Address}
+use Rattle.chi_arguments.specs.declared.options.CellForm.{CellForm}
+use Rattle.chi_arguments.specs.declared.options.CellForm.TheVariants.{Lines, Json, Tsv}
 use Rattle.chi_arguments.specs.declared.options.RowRange.{RowRange}
 
 -- the seed is any number of a replay file, and 1 where none is given
@@ -74,3 +76,15 @@ is_given (Some word) = is_text word (codes "true")
 abbrev pub asked_address_of : Option (List ℕ) → Option (Option Address)
 asked_address_of None = Some None
 asked_address_of (Some word) = address_of word >>= λ a. Some (Some a)
+
+-- how cells are written: as JSON or as TSV where that is asked for, but not as both, and else as lines
+abbrev pub form_option : (json tsv : Bool) → Option CellForm
+form_option false false = Some Lines
+form_option true false = Some Json
+form_option false true = Some Tsv
+form_option true true = None
+
+-- how many cells are to be reached at least is a number of a replay file, and 0 where none is given
+abbrev pub least_option : Option (List ℕ) → Option ℕ
+least_option None = Some 0
+least_option (Some word) = number_of word

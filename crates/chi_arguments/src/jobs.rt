@@ -3,12 +3,14 @@
 ghost use Rattle.std.specs.Prelude.{◌≡◌, IfOk, false, map};
 ghost use Rattle.std.specs.Option.{option_and_then, option_map};
 ghost use Rattle.clap.specs.Words.{all_of, app_of, first_of, found_of, rows_of, rule_of, subcommand_rows_of};
-ghost use Rattle.chi_arguments.specs.CommandLines.{IsAsked, IsCommand, asked_behind, asked_by, asked_in, chart_in, chart_line, check_in, check_line, command_lines, cover_in, cover_line, draw_in, draw_line, explain_in, explain_line, file_rule, files_rule, flag_rule, header_rule, option_rule, program_line, replay_in, replay_line, storm_asked, storm_line};
+ghost use Rattle.chi_arguments.specs.CommandLines.{IsAsked, IsCommand, asked_behind, asked_by, asked_in, chart_in, chart_line, check_in, check_line, command_lines, cover_in, cover_line, draw_in, draw_line, explain_in, explain_line, file_rule, files_rule, flag_rule, header_rule, option_rule, program_line, replay_in, replay_line, storm_asked, storm_line, topic_rule, usage_in, usage_line, version_in, version_line};
 
 use crate::faults::ArgFault;
 use crate::options::{
-    RowRange, address, commands, is_given, only, rows, seed, stores, turns, types, wild,
+    CellForm, RowRange, address, commands, form, is_given, least, only, rows, seed, stores, turns,
+    types, wild,
 };
+use crate::usages::{Topic, topic_of};
 use chi_explain::StoreListing;
 use chi_flit::Line;
 use chi_resolution::Types;
@@ -38,8 +40,8 @@ pub enum Job<'a> {
         /// The rows that are shown; all where they aren't given.
         rows: RowRange,
     },
-    /// `explain FILE [--types two|four|any] [--stores hidden|listed] [--early-grants] [--line ADDR]`: holds the trace at
-    /// this path against the model.
+    /// `explain FILE [--types two|four|any] [--stores hidden|listed] [--early-grants] [--complete] [--line ADDR]`: holds
+    /// the trace at this path against the model.
     Explain {
         path: &'a str,
         /// Which types of credit it has; those of profile `Two` where it isn't given.
@@ -48,6 +50,8 @@ pub enum Job<'a> {
         stores: StoreListing,
         /// Whether its monitors stand at the requesters, where a grant may come before its RetryAck.
         early_grants: bool,
+        /// Whether nothing may be open at its end.
+        complete: bool,
         /// The address of the line whose explanation is written as a check file, where one is given.
         only: Option<Address>,
     },
@@ -60,16 +64,22 @@ pub enum Job<'a> {
         /// given.
         turns: u64,
     },
-    /// `cover FILE.. [--missing]`: counts the cells of the protocol's tables that the commands of the files at these
-    /// paths reach.
+    /// `cover FILE.. [--missing] [--json] [--tsv] [--merge] [--at-least N]`: counts the cells of the protocol's tables
+    /// that the commands of the files at these paths reach.
     Cover {
         /// One path or more, in their order.
         paths: Vec<&'a str>,
         /// Whether only the cells that none of them reaches are listed.
         missing: bool,
+        /// How the cells are written.
+        form: CellForm,
+        /// Whether the files are earlier reports, whose counts are added up.
+        merge: bool,
+        /// How many cells are to be reached at least; 0 where it isn't given.
+        least: u64,
     },
-    /// `draw [--seed N] --commands M [--wild P] [--weights FILE] [--drain] HEADER`: writes a check file of commands that
-    /// are drawn.
+    /// `draw [--seed N] --commands M [--wild P] [--weights FILE] [--kinds LIST] [--drain] HEADER`: writes a check file of
+    /// commands that are drawn.
     Draw {
         /// The header of the file.
         header: &'a str,
@@ -81,9 +91,15 @@ pub enum Job<'a> {
         wild: u8,
         /// The path of the file that says how often each verb is drawn, where one is given.
         weights: Option<&'a str>,
+        /// The list of the kinds of request that are drawn alone, where one is given.
+        kinds: Option<&'a str>,
         /// Whether commands follow until nothing is in flight.
         drain: bool,
     },
+    /// `usage [COMMAND]`: says how this command is used, or all of them.
+    Usage(Topic),
+    /// `version`: says which version of the program this is.
+    Version,
 }
 
 /// What the words of a command line ask for; the first word is the program's own name.
@@ -120,6 +136,15 @@ const COVER: &str = "cover";
 /// The subcommand that draws commands.
 const DRAW: &str = "draw";
 
+/// The subcommand that says how commands are used.
+const USAGE: &str = "usage";
+
+/// The subcommand that says which version this is.
+const VERSION: &str = "version";
+
+/// The argument that is the name of a command.
+const COMMAND: &str = "COMMAND";
+
 /// The argument that is the header of a file.
 const HEADER: &str = "HEADER";
 
@@ -153,6 +178,21 @@ const TURNS: &str = "turns";
 /// The option that says that only missing cells are listed.
 const MISSING: &str = "missing";
 
+/// The option that says that cells are written as JSON.
+const JSON: &str = "json";
+
+/// The option that says that cells are written as values between tabs.
+const TSV: &str = "tsv";
+
+/// The option that says that files are earlier reports.
+const MERGE: &str = "merge";
+
+/// The option that says how many cells are to be reached at least.
+const AT_LEAST: &str = "at-least";
+
+/// The option that says that nothing may be open at the end of a trace.
+const COMPLETE: &str = "complete";
+
 /// The option that says how many commands are drawn.
 const COMMANDS: &str = "commands";
 
@@ -161,6 +201,9 @@ const WILD: &str = "wild";
 
 /// The option that is the path of a file of weights.
 const WEIGHTS: &str = "weights";
+
+/// The option that is the list of the kinds of request that are drawn.
+const KINDS: &str = "kinds";
 
 /// The option that says that deliveries follow.
 const DRAIN: &str = "drain";
@@ -176,7 +219,9 @@ fn command_line<'a>(alloc: Global) -> Result<Command<'a>, AllocError>
         .subcommand(explain_command(alloc)?)?
         .subcommand(storm_command(alloc)?)?
         .subcommand(cover_command(alloc)?)?
-        .subcommand(draw_command(alloc)?)
+        .subcommand(draw_command(alloc)?)?
+        .subcommand(usage_command(alloc)?)?
+        .subcommand(version_command(alloc))
 }
 
 /// The program itself, of which one command has to be given.
@@ -221,6 +266,7 @@ fn explain_command<'a>(alloc: Global) -> Result<Command<'a>, AllocError>
         .arg(option(alloc, TYPES))?
         .arg(option(alloc, STORES))?
         .arg(flag(alloc, EARLY_GRANTS))?
+        .arg(flag(alloc, COMPLETE))?
         .arg(option(alloc, LINE))
 }
 
@@ -240,7 +286,11 @@ fn cover_command<'a>(alloc: Global) -> Result<Command<'a>, AllocError>
 {
     Command::new(alloc, COVER)
         .arg(files(alloc))?
-        .arg(flag(alloc, MISSING))
+        .arg(flag(alloc, MISSING))?
+        .arg(flag(alloc, JSON))?
+        .arg(flag(alloc, TSV))?
+        .arg(flag(alloc, MERGE))?
+        .arg(option(alloc, AT_LEAST))
 }
 
 /// The command line of `draw`.
@@ -253,7 +303,30 @@ fn draw_command<'a>(alloc: Global) -> Result<Command<'a>, AllocError>
         .arg(option(alloc, COMMANDS))?
         .arg(option(alloc, WILD))?
         .arg(option(alloc, WEIGHTS))?
+        .arg(option(alloc, KINDS))?
         .arg(flag(alloc, DRAIN))
+}
+
+/// The command line of `usage`.
+fn usage_command<'a>(alloc: Global) -> Result<Command<'a>, AllocError>
+    ensures { IfOk result (λ command. IsCommand usage_line command) }
+{
+    Command::new(alloc, USAGE).arg(topic_argument(alloc))
+}
+
+/// The command line of `version`.
+fn version_command<'a>(alloc: Global) -> Command<'a>
+    ensures { IsCommand version_line result }
+{
+    Command::new(alloc, VERSION)
+}
+
+/// The name of a command, which may be given.
+fn topic_argument<'a>(alloc: Global) -> Arg<'a>
+    ensures rule { rule_of result ≡ topic_rule }
+    ensures local { result.global ≡ false }
+{
+    Arg::new(alloc, COMMAND).action(ArgAction::Set)
 }
 
 /// The path of a file, which has to be given.
@@ -312,6 +385,8 @@ fn read_job<'a>(alloc: Global, matches: &ArgMatches<'a>) -> Result<Job<'a>, ArgF
         Some((STORM, storm)) => read_storm(storm).ok_or(ArgFault::Bad),
         Some((COVER, cover)) => read_cover(alloc, cover),
         Some((DRAW, draw)) => read_draw(draw).ok_or(ArgFault::Bad),
+        Some((USAGE, usage)) => read_usage(usage).ok_or(ArgFault::Bad),
+        Some((VERSION, version)) => read_version(version).ok_or(ArgFault::Bad),
         _ => Err(ArgFault::Bad),
     }
 }
@@ -357,12 +432,14 @@ fn read_explain<'a>(matches: &ArgMatches<'a>) -> Option<Job<'a>>
     let types = types(text_of(matches, TYPES))?;
     let stores = stores(text_of(matches, STORES))?;
     let early_grants = is_given(text_of(matches, EARLY_GRANTS));
+    let complete = is_given(text_of(matches, COMPLETE));
     let only = address(text_of(matches, LINE))?;
     Some(Job::Explain {
         path,
         types,
         stores,
         early_grants,
+        complete,
         only,
     })
 }
@@ -377,17 +454,30 @@ fn read_storm<'a>(matches: &ArgMatches<'a>) -> Option<Job<'a>>
     Some(Job::Storm { path, seed, turns })
 }
 
-/// The job of `cover FILE..` and its option.
+/// The job of `cover FILE..` and its options.
 fn read_cover<'a>(alloc: Global, matches: &ArgMatches<'a>) -> Result<Job<'a>, ArgFault>
     ensures { IsAsked (cover_in (rows_of (found_of matches.now))) result }
 {
     let Some(given) = texts_of(matches, FILE) else {
         return Err(ArgFault::Bad);
     };
+    let Some(form) = form(text_of(matches, JSON), text_of(matches, TSV)) else {
+        return Err(ArgFault::Bad);
+    };
+    let Some(least) = least(text_of(matches, AT_LEAST)) else {
+        return Err(ArgFault::Bad);
+    };
     let missing = is_given(text_of(matches, MISSING));
+    let merge = is_given(text_of(matches, MERGE));
     let mut paths = Vec::new(alloc);
     paths.extend_from_slice(given)?;
-    Ok(Job::Cover { paths, missing })
+    Ok(Job::Cover {
+        paths,
+        missing,
+        form,
+        merge,
+        least,
+    })
 }
 
 /// The job of `draw HEADER` and its options.
@@ -399,6 +489,7 @@ fn read_draw<'a>(matches: &ArgMatches<'a>) -> Option<Job<'a>>
     let commands = commands(text_of(matches, COMMANDS))?;
     let wild = wild(text_of(matches, WILD))?;
     let weights = text_of(matches, WEIGHTS);
+    let kinds = text_of(matches, KINDS);
     let drain = is_given(text_of(matches, DRAIN));
     Some(Job::Draw {
         header,
@@ -406,8 +497,24 @@ fn read_draw<'a>(matches: &ArgMatches<'a>) -> Option<Job<'a>>
         commands,
         wild,
         weights,
+        kinds,
         drain,
     })
+}
+
+/// The job of `usage` and the name of a command.
+fn read_usage<'a>(matches: &ArgMatches<'a>) -> Option<Job<'a>>
+    ensures { option_map asked_by result ≡ usage_in (rows_of (found_of matches.now)) }
+{
+    Some(Job::Usage(topic_of(text_of(matches, COMMAND))?))
+}
+
+/// The job of `version`.
+fn read_version<'a>(matches: &ArgMatches<'a>) -> Option<Job<'a>>
+    ensures { option_map asked_by result ≡ version_in (rows_of (found_of matches.now)) }
+{
+    let _ = matches;
+    Some(Job::Version)
 }
 
 /// The first text that was found for this name.

@@ -6,7 +6,9 @@
 mod faults;
 mod jobs;
 mod options;
+mod usages;
 
 pub use faults::ArgFault;
 pub use jobs::{Job, arguments};
-pub use options::RowRange;
+pub use options::{CellForm, RowRange};
+pub use usages::{Topic, usage, version};

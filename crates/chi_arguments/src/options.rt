@@ -2,7 +2,7 @@
 
 ghost use Rattle.std.specs.Prelude.{◌≡◌, ◌==◌, Some, option_map};
 ghost use Rattle.std.specs.List.{position};
-ghost use Rattle.chi_arguments.specs.Options.{asked_address_of, commands_option, is_given, line_option, range_of, rows_option, seed_of, stores_option, turns_of, types_option, wild_option};
+ghost use Rattle.chi_arguments.specs.Options.{asked_address_of, commands_option, form_option, is_given, least_option, line_option, range_of, rows_option, seed_of, stores_option, turns_of, types_option, wild_option};
 
 use chi_explain::StoreListing;
 use chi_flit::Line;
@@ -172,6 +172,45 @@ fn listing_in(word: &[u8]) -> Option<StoreListing>
         Some(StoreListing::Complete)
     } else {
         None
+    }
+}
+
+/// How cells are written.
+/// Source: `docs/FORMATS.md`, "Coverage".
+#[derive(Clone, Copy, Debug, PartialEq, Eq)]
+pub enum CellForm {
+    /// A line of words for each cell.
+    Lines,
+    /// One JSON value.
+    Json,
+    /// Values between tabs, a line for each cell.
+    Tsv,
+}
+
+/// How cells are written where `--json` and `--tsv` have these values: as lines where none is given, and `None` where both
+/// are.
+/// Source: `docs/FORMATS.md`, "The program".
+pub fn form(json: Option<&str>, tsv: Option<&str>) -> Option<CellForm>
+    ensures { result ≡ form_option (is_given (option_map (λ word. word.now) json.entry))
+        (is_given (option_map (λ word. word.now) tsv.entry)) }
+{
+    match (is_given(json), is_given(tsv)) {
+        (false, false) => Some(CellForm::Lines),
+        (true, false) => Some(CellForm::Json),
+        (false, true) => Some(CellForm::Tsv),
+        (true, true) => None,
+    }
+}
+
+/// How many cells are to be reached at least where `--at-least` has this value: 0 where it isn't given, and `None` where
+/// the value is no number of a replay file.
+/// Source: `docs/FORMATS.md`, "The program".
+pub fn least(value: Option<&str>) -> Option<u64>
+    ensures { result ≡ least_option (option_map (λ word. word.now) value.entry) }
+{
+    match value {
+        None => Some(0),
+        Some(word) => number(word.as_bytes()),
     }
 }
 

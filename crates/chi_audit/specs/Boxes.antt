@@ -104,20 +104,21 @@ pub record SentState : Type 0 where
   pub channel : ChannelName
 
 -- an inbox: what it received, the oldest first; of which reports it is told that they were sent; whether a
--- receive failed; and its channel
+-- receive failed; its channel, and for how many reports that has room
 pub record InboxState : Type 0 where
   pub got : List Report
   pub told : List Report
   pub failed : Bool
   pub channel : ChannelName
+  pub room : ℕ
 
 -- an outbox of the channel
 abbrev pub outbox_at : ChannelName → ℕ → OutboxState
 outbox_at channel agent = record { agent = agent; channel = channel }
 
--- an inbox of the channel that received nothing
-abbrev pub empty_inbox : ChannelName → InboxState
-empty_inbox channel = record { got = []; told = []; failed = false; channel = channel }
+-- an inbox of the channel, which has that room, that received nothing
+abbrev pub empty_inbox : ChannelName → ℕ → InboxState
+empty_inbox channel room = record { got = []; told = []; failed = false; channel = channel; room = room }
 
 -- the inbox received the report, and where the agent's is told it is that
 pub record IsReceived (i : InboxState) (r : Report) (i' : InboxState) : Type 0 where

@@ -118,7 +118,7 @@ impl<A: Allocator> Sent<A> {
 }
 
 /// Where the reports arrive. Contracts see an `InboxState`: those that it received, the oldest first, those of
-/// which it is told that they were sent, and whether a receive failed.
+/// which it is told that they were sent, whether a receive failed, and for how many reports the channel has room.
 #[derive(Drop)]
 pub struct Inbox<A: Allocator = Global> {
     receiver: RuledReceiver<Report, ReportView, Once, A>,
@@ -129,7 +129,7 @@ pub struct Inbox<A: Allocator = Global> {
 impl<A: Allocator> Model for Inbox<A> {
     ghost use Rattle.std.specs.Prelude.{◌≡◌, true};
     ghost use Rattle.crossbeam_channel.specs.Claims.{IsSeatAt, view as knows};
-    ghost use Rattle.crossbeam_channel.specs.Ends.{receives_on};
+    ghost use Rattle.crossbeam_channel.specs.Ends.{receives_on, ruled_capacity};
     ghost use Rattle.chi_audit.specs.Boxes.{InboxState};
 
     ghost Value = { InboxState };
@@ -142,6 +142,7 @@ impl<A: Allocator> Model for Inbox<A> {
         table = (receives_on i.receiver).stamps.shared.table_id;
         key = (receives_on i.receiver).stamps.shared.key;
       };
+      room = ruled_capacity (receives_on i.receiver);
     } };
 
     ghost invariant = { λ i. IsSeatAt (receives_on i.receiver) i.pass
@@ -182,7 +183,7 @@ impl<A: Allocator> Inbox<A> {
 }
 
 /// An outbox for each agent, in rising order, and the inbox, which has received nothing and is told of nothing.
-/// Refused where memory runs out.
+/// Their channel has room for one report of each agent. Refused where memory runs out.
 /// Source: `docs/FORMATS.md`, "Reports and tallies".
 #[tactic(auto, using(crate::proofs::Channel::begins))]
 pub fn open_boxes<A: Allocator + Clone>(
@@ -192,7 +193,7 @@ pub fn open_boxes<A: Allocator + Clone>(
     requires { 0 < agents }
     ensures outboxes { IfOk result
         (λ made. made.0.items ≡ map (outbox_at made.1.channel) (numbers agents)) }
-    ensures inbox { IfOk result (λ made. made.1 ≡ empty_inbox made.1.channel) }
+    ensures inbox { IfOk result (λ made. made.1 ≡ empty_inbox made.1.channel agents) }
 {
     let (sender, receiver, mut pass) = bounded_with::<Report, ReportView, Once, A>(
         alloc.clone()?,

@@ -2,7 +2,7 @@
 
 ghost use Rattle.std.specs.Prelude.{◌≡◌, ◌+◌, ◌/◌, ◌%◌, ◌&&◌, nat_le, true, None, Some, ⊤};
 ghost use Rattle.chi_flit.specs.declared.credit.Profile.TheVariants.{Four};
-ghost use Rattle.chi_config.specs.Config.{Sizes, are_entries, are_in_limits, config_if, four_types, is_between, is_slice_count, row_in, two_types};
+ghost use Rattle.chi_config.specs.Config.{Sizes, are_entries, are_in_limits, config_if, four_types, is_between, is_slice_count, row_in, sizes_if, sizes_of, two_types};
 
 use chi_flit::{Line, Profile};
 use std::alloc::AllocError;
@@ -60,18 +60,16 @@ fn is_slice_count(n: u8) -> bool
     n == 1 || n == 2 || n == 4 || n == 8
 }
 
-/// Whether all but the entries is in the limits.
-fn are_sizes(agents: u8, lines: u8, slices: u8, journal: u32) -> bool
+/// Whether all but the entries and the journal is in the limits.
+fn are_counts(agents: u8, lines: u8, slices: u8) -> bool
     ensures { result
         ≡ (is_between 1 8 agents &&
-        (is_between 1 64 lines &&
-        (is_slice_count slices && (nat_le slices lines && nat_le journal 65536)))) }
+        (is_between 1 64 lines && (is_slice_count slices && nat_le slices lines))) }
 {
     is_between(1, 8, u32::from(agents))
         && is_between(1, 64, u32::from(lines))
         && is_slice_count(slices)
         && slices <= lines
-        && journal <= 65536
 }
 
 /// Whether there may be so many entries of two types.
@@ -90,15 +88,29 @@ fn are_four_entries(entries: [u16; 4]) -> bool
     1 <= t0 && 1 <= t1 && 1 <= t2 && 1 <= t3 && sum <= 256
 }
 
+/// Whether there may be so many entries of the profile's types, and none of the types that it lacks.
+fn are_entries(profile: Profile, entries: [u16; 4]) -> bool
+    ensures { result ≡ are_entries profile entries }
+{
+    match profile {
+        Profile::Two => {
+            let [t0, t1, t2, t3] = entries;
+            are_two_entries(t0, t1) && t2 == 0 && t3 == 0
+        }
+        Profile::Four => are_four_entries(entries),
+    }
+}
+
 impl Config {
     /// A node of two credit types, with `t0` and `t1` entries of them: `agents` requesters, `lines` lines
-    /// in `slices` slices, and `journal` records a slice, where 0 keeps none and has no end. `None` exactly
-    /// where a number is outside its limits.
+    /// in `slices` slices, and `journal` records a slice. `None` exactly where a number is outside its limits;
+    /// a journal has 1 record or more.
     /// Source: `docs/PROTOCOL.md`, "Limits".
     pub fn new(agents: u8, lines: u8, slices: u8, t0: u16, t1: u16, journal: u32) -> Option<Config>
         ensures { result ≡ config_if (two_types agents lines slices t0 t1 journal) }
     {
-        if !are_sizes(agents, lines, slices, journal) || !are_two_entries(t0, t1) {
+        let recorded = is_between(1, 65536, journal);
+        if !recorded || !are_counts(agents, lines, slices) || !are_two_entries(t0, t1) {
             return None;
         }
         Some(Config {
@@ -112,8 +124,8 @@ impl Config {
     }
 
     /// A node of four credit types, with so many entries of each: `agents` requesters, `lines` lines in
-    /// `slices` slices, and `journal` records a slice, where 0 keeps none and has no end. `None` exactly where
-    /// a number is outside its limits.
+    /// `slices` slices, and `journal` records a slice. `None` exactly where a number is outside its limits; a
+    /// journal has 1 record or more.
     /// Source: `docs/PROTOCOL.md`, "Limits".
     pub fn four(
         agents: u8,
@@ -124,7 +136,8 @@ impl Config {
     ) -> Option<Config>
         ensures { result ≡ config_if (four_types agents lines slices entries journal) }
     {
-        if !are_sizes(agents, lines, slices, journal) || !are_four_entries(entries) {
+        let recorded = is_between(1, 65536, journal);
+        if !recorded || !are_counts(agents, lines, slices) || !are_four_entries(entries) {
             return None;
         }
         Some(Config {
@@ -134,6 +147,32 @@ impl Config {
             entries,
             journal,
             profile: Profile::Four,
+        })
+    }
+
+    /// A node of this profile whose journals keep no records, and have no end: with so many entries of each
+    /// type, `agents` requesters, and `lines` lines in `slices` slices. `None` exactly where a number is outside
+    /// its limits; a type that the profile lacks has no entries.
+    /// Source: `docs/PROTOCOL.md`, "Limits" and "The journal and last values".
+    pub fn without_records(
+        agents: u8,
+        lines: u8,
+        slices: u8,
+        profile: Profile,
+        entries: [u16; 4],
+    ) -> Option<Config>
+        ensures { result ≡ sizes_if (sizes_of agents lines slices entries 0 profile) }
+    {
+        if !are_counts(agents, lines, slices) || !are_entries(profile, entries) {
+            return None;
+        }
+        Some(Config {
+            agents,
+            lines,
+            slices,
+            entries,
+            journal: 0,
+            profile,
         })
     }
 

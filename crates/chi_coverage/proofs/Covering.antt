@@ -13,8 +13,9 @@ use Rattle.chi_script.specs.Files.{IsOneLine}
 use Rattle.chi_replay.specs.declared.suites.SuiteFile.{SuiteFile}
 use Rattle.chi_replay.specs.Suites.{GivenFile, faulty_line, first_of, given, given_of}
 use Rattle.chi_coverage.specs.declared.cells.Cell.{Cell}
+use Rattle.chi_coverage.specs.declared.forms.CoverShape.{CoverShape}
 use Rattle.chi_coverage.specs.Counts.{CoverGoesOn, CoverState, IsCountedFile, count_at, cells_counted, cover_with}
-use Rattle.chi_coverage.specs.Coverage.{CoverCame, covered, unread, FileCover, IsCoverReport, IsFileCover, MayCover, cells_covered, cover_fault, cover_fault_line, cover_lines, cover_summary, cover_text, first_cover_fault, is_reachable, is_reached, line_of_cell, times_met}
+use Rattle.chi_coverage.specs.Coverage.{CoverCame, covered, unread, FileCover, IsCoverReport, IsFileCover, MayCover, cells_covered, cover_fault, cover_fault_line, cover_lines, cover_text, first_cover_fault, framed, is_reachable, is_reached, line_of_cell, reached_of, times_met}
 use Rattle.chi_coverage.specs.Lists.{all_cells}
 use Rattle.chi_coverage.specs.Places.{place_count}
 use Rattle.chi_coverage.proofs.Counting.{counted_append}
@@ -156,48 +157,58 @@ pub covers_length : (files : List GivenFile) (state : CoverState) → CoversAt f
 covers_length files state stands = ap (λ (s : CoverState). length s.counts) stands.stands ∙ (counted_length stands.start (all_told stands.told) ∙ stands.long)
 
 -- what is printed goes by the counts alone
-lines_same : (only : Bool) (f g : Cell → ℕ) → ((c : Cell) → f c ≡ g c) → (cells : List Cell) → cover_lines only f cells ≡ cover_lines only g cells
-lines_same only f g same [] = refl
-lines_same only f g same (c ∷ cells) =
-    ap (λ (n : ℕ). line_of_cell only n c ++ cover_lines only f cells) (same c) ∙ ap (λ (l : List ℕ). line_of_cell only (g c) c ++ l) (lines_same only f g same cells)
+lines_same : (shape : CoverShape) (f g : Cell → ℕ) → ((c : Cell) → f c ≡ g c) → (cells : List Cell) → cover_lines shape f cells ≡ cover_lines shape g cells
+lines_same shape f g same [] = refl
+lines_same shape f g same (c ∷ cells) =
+    ap (λ (n : ℕ). line_of_cell shape n c ++ cover_lines shape f cells) (same c) ∙ ap (λ (l : List ℕ). line_of_cell shape (g c) c ++ l) (lines_same shape f g same cells)
 
-reached_same : (f g : Cell → ℕ) → ((c : Cell) → f c ≡ g c) → (cells : List Cell) → filter (is_reached f) cells ≡ filter (is_reached g) cells
+pub reached_same : (f g : Cell → ℕ) → ((c : Cell) → f c ≡ g c) → (cells : List Cell) → filter (is_reached f) cells ≡ filter (is_reached g) cells
 reached_same f g same [] = refl
 reached_same f g same (c ∷ cells) =
     ap (λ (n : ℕ). cond (is_reachable c && nat_lt 0 n) (c ∷ filter (is_reached f) cells) (filter (is_reached f) cells)) (same c)
     ∙ ap (λ (l : List Cell). cond (is_reached g c) (c ∷ l) l) (reached_same f g same cells)
 
-abbrev pub text_on : (only : Bool) → (Cell → ℕ) → List Cell → List ℕ
-text_on only count cells = cover_lines only count cells ++ cover_summary (length (filter (is_reached count) cells)) (length (filter is_reachable cells))
+abbrev pub text_on : CoverShape → (Cell → ℕ) → List Cell → List ℕ
+text_on shape count cells = framed shape.form (cover_lines shape count cells) (length (filter (is_reached count) cells)) (length (filter is_reachable cells))
 
-text_same : (only : Bool) (f g : Cell → ℕ) → ((c : Cell) → f c ≡ g c) → (cells : List Cell) → text_on only f cells ≡ text_on only g cells
-text_same only f g same cells =
-    ap (λ (l : List ℕ). l ++ cover_summary (length (filter (is_reached f) cells)) (length (filter is_reachable cells))) (lines_same only f g same cells)
-    ∙ ap (λ (l : List Cell). cover_lines only g cells ++ cover_summary (length l) (length (filter is_reachable cells))) (reached_same f g same cells)
+pub text_same : (shape : CoverShape) (f g : Cell → ℕ) → ((c : Cell) → f c ≡ g c) → (cells : List Cell) → text_on shape f cells ≡ text_on shape g cells
+text_same shape f g same cells =
+    ap (λ (l : List ℕ). framed shape.form l (length (filter (is_reached f) cells)) (length (filter is_reachable cells))) (lines_same shape f g same cells)
+    ∙ ap (λ (l : List Cell). framed shape.form (cover_lines shape g cells) (length l) (length (filter is_reachable cells))) (reached_same f g same cells)
 
-covered_all : (only : Bool) (files : List GivenFile) (state : CoverState) (text faults : List ℕ) (fault : Option Fault) → CoversAt files state → text ≡ cover_text only (count_at state.counts)
-    → faults ≡ state.faults → fault ≡ state.fault → IsCoverReport only files text faults fault
-covered_all only files state text faults fault stands printed lines first = record {
+-- what was counted is how often each cell was met
+counts_met : (files : List GivenFile) (state : CoverState) (stands : CoversAt files state) (c : Cell) → count_at state.counts c ≡ times_met c (all_told stands.told)
+counts_met files state stands c =
+    ap (λ (s : CoverState). count_at s.counts c) stands.stands ∙ counted_times stands.start stands.empty stands.long (all_told stands.told) c
+
+covered_all : (shape : CoverShape) (files : List GivenFile) (state : CoverState) (text faults : List ℕ) (fault : Option Fault) (reached : ℕ) → CoversAt files state → text ≡ cover_text shape (count_at state.counts)
+    → faults ≡ state.faults → fault ≡ state.fault → reached ≡ reached_of (count_at state.counts) → IsCoverReport shape files text faults fault reached
+covered_all shape files state text faults fault reached stands printed lines first count = record {
   told = stands.told;
   in_turn = stands.in_turn;
   each = stands.each;
-  printed = printed ∙ (ap (λ (s : CoverState). cover_text only (count_at s.counts)) stands.stands
-      ∙ text_same only (count_at (cells_counted stands.start (all_told stands.told))) (λ cell. times_met cell (all_told stands.told)) (counted_times stands.start stands.empty stands.long (all_told stands.told)) all_cells);
+  printed = printed ∙ text_same shape (count_at state.counts) (λ cell. times_met cell (all_told stands.told)) (counts_met files state stands) all_cells;
+  count = count ∙ ap (λ (l : List Cell). length l) (reached_same (count_at state.counts) (λ cell. times_met cell (all_told stands.told)) (counts_met files state stands) all_cells);
   lines = lines ∙ ap (λ (s : CoverState). s.faults) stands.stands;
   first = first ∙ ap (λ (s : CoverState). s.fault) stands.stands;
 }
 
 -- at the end the report is on all files
-pub covered_on : {T E : Type 0} (result : Result T E) (text_in faults_in : T → List ℕ) (fault_in : T → Option Fault) (only : Bool) (files : List SuiteFile) (i : ℕ) (state : CoverState)
+pub covered_on : {T E : Type 0} (result : Result T E) (text_in faults_in : T → List ℕ) (fault_in : T → Option Fault) (reached_in : T → ℕ) (shape : CoverShape) (files : List SuiteFile) (i : ℕ) (state : CoverState)
     → length files ≤ i → CoversAt (map given_of (take i files)) state
-    → IfOk result (λ report. text_in report ≡ cover_text only (count_at state.counts)) → IfOk result (λ report. faults_in report ≡ state.faults) → IfOk result (λ report. fault_in report ≡ state.fault)
-    → IfOk result (λ report. IsCoverReport only (map given_of files) (text_in report) (faults_in report) (fault_in report))
-covered_on (Err lack) text_in faults_in fault_in only files i state past stands e f g = e
-covered_on (Ok report) text_in faults_in fault_in only files i state past stands e f g =
+    → IfOk result (λ report. text_in report ≡ cover_text shape (count_at state.counts)) → IfOk result (λ report. faults_in report ≡ state.faults) → IfOk result (λ report. fault_in report ≡ state.fault)
+    → IfOk result (λ report. reached_in report ≡ reached_of (count_at state.counts))
+    → IfOk result (λ report. IsCoverReport shape (map given_of files) (text_in report) (faults_in report) (fault_in report) (reached_in report))
+covered_on (Err lack) text_in faults_in fault_in reached_in shape files i state past stands e f g h = e
+covered_on (Ok report) text_in faults_in fault_in reached_in shape files i state past stands e f g h =
     let all : CoversAt (map given_of files) state = subst (λ (fs : List SuiteFile). CoversAt (map given_of fs) state) (take_all i files past) stands in
-    covered_all only (map given_of files) state (text_in report) (faults_in report) (fault_in report) all e f g
+    covered_all shape (map given_of files) state (text_in report) (faults_in report) (fault_in report) (reached_in report) all e f g h
 
--- the text on the whole list
-pub told_of_all : (only : Bool) (counts counts' : List ℕ) (cells : List Cell) (text : List ℕ) → cells ≡ all_cells → counts ≡ counts' → text ≡ text_on only (count_at counts) cells → text ≡ cover_text only (count_at counts')
-told_of_all only counts counts' cells text e f told =
-    told ∙ (ap (λ (l : List ℕ). text_on only (count_at l) cells) f ∙ ap (λ (l : List Cell). text_on only (count_at counts') l) e)
+-- the text on the whole list, and how many were reached of it
+pub told_of_all : (shape : CoverShape) (counts counts' : List ℕ) (cells : List Cell) (text : List ℕ) → cells ≡ all_cells → counts ≡ counts' → text ≡ text_on shape (count_at counts) cells → text ≡ cover_text shape (count_at counts')
+told_of_all shape counts counts' cells text e f told =
+    told ∙ (ap (λ (l : List ℕ). text_on shape (count_at l) cells) f ∙ ap (λ (l : List Cell). text_on shape (count_at counts') l) e)
+
+pub reached_of_all : (counts counts' : List ℕ) (cells : List Cell) (reached : ℕ) → cells ≡ all_cells → counts ≡ counts' → reached ≡ length (filter (is_reached (count_at counts)) cells) → reached ≡ reached_of (count_at counts')
+reached_of_all counts counts' cells reached e f found =
+    found ∙ (ap (λ (l : List ℕ). length (filter (is_reached (count_at l)) cells)) f ∙ ap (λ (l : List Cell). length (filter (is_reached (count_at counts')) l)) e)

@@ -2,3 +2,4 @@ pub mod Counting
 pub mod Leading
 pub mod Placing
 pub mod Covering
+mod Adding

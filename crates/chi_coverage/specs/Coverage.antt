@@ -1,5 +1,5 @@
 -- What files cover: the cells of the steps of their runs, and what is told of them (docs/FORMATS.md, "Coverage").
-use Rattle.std.specs.Prelude.{◌≡◌, ℕ, nat_lt, All, Bool, ◌&&◌, not, List, [], ◌∷◌, ◌++◌, Option, Some, None, Ok, Err, codes, length, map, option_to_list, if◌then◌else◌}
+use Rattle.std.specs.Prelude.{◌≡◌, ℕ, nat_lt, All, Bool, ◌&&◌, not, List, [], ◌∷◌, ◌++◌, Option, Some, None, Ok, Err, codes, drop, length, map, option_to_list, if◌then◌else◌}
 use Rattle.std.specs.Fmt.{decimal}
 use Rattle.std.specs.List.{filter, flat_map}
 use Rattle.chi_flit.specs.declared.numbers.Line.{Line}
@@ -19,6 +19,9 @@ use Rattle.chi_replay.specs.Suites.{GivenFile, faulty_line, first_of}
 use Rattle.chi_replay.specs.Texts.{MayAnswer, ending, opening_ports}
 use Rattle.chi_replay.specs.Turns.{TurnAnswer, Machine, machine_at_start, turn}
 use Rattle.chi_coverage.specs.declared.cells.Cell.{Cell}
+use Rattle.chi_coverage.specs.declared.forms.CoverForm.{CoverForm}
+use Rattle.chi_coverage.specs.declared.forms.CoverForm.TheVariants.{Lines, Json, Tsv}
+use Rattle.chi_coverage.specs.declared.forms.CoverShape.{CoverShape}
 use Rattle.chi_coverage.specs.declared.past.Past.{Past}
 use Rattle.chi_coverage.specs.Cells.{cell_text, is_unreachable, section_text}
 use Rattle.chi_coverage.specs.Lists.{all_cells}
@@ -131,14 +134,23 @@ abbrev pub cover_fault_line : List ℕ → CoverCame → List ℕ
 cover_fault_line name (covered cells) = []
 cover_fault_line name (unread fault hint) = faulty_line name fault hint
 
--- a cell's line, where it was done so often
-abbrev pub cell_line : Cell → List ℕ → List ℕ
-cell_line cell count = section_text cell ++ (codes ": " ++ (cell_text cell ++ (codes ": " ++ (count ++ (10 ∷ [])))))
+-- a cell's line, where it was done so often; in JSON a comma stands before each
+abbrev pub cell_line : CoverForm → Cell → List ℕ → List ℕ
+cell_line Lines cell count = section_text cell ++ (codes ": " ++ (cell_text cell ++ (codes ": " ++ (count ++ (10 ∷ [])))))
+cell_line Json cell count =
+    codes ",\n{\"section\":\"" ++ (section_text cell ++ (codes "\",\"cell\":\"" ++ (cell_text cell ++ (codes "\",\"count\":" ++ (count ++ codes "}")))))
+cell_line Tsv cell count = section_text cell ++ (codes "\t" ++ (cell_text cell ++ (codes "\t" ++ (count ++ (10 ∷ [])))))
 
-abbrev pub line_of_cell : (only_missing : Bool) → (count : ℕ) → Cell → List ℕ
-line_of_cell only_missing count cell =
-    if is_unreachable cell then (if only_missing then [] else cell_line cell (codes "unreachable")) else (
-    if only_missing && nat_lt 0 count then [] else cell_line cell (decimal count))
+-- what stands in the place of a count where no run reaches the cell
+abbrev pub unreachable_text : CoverForm → List ℕ
+unreachable_text Lines = codes "unreachable"
+unreachable_text Json = codes "null"
+unreachable_text Tsv = codes "unreachable"
+
+abbrev pub line_of_cell : CoverShape → (count : ℕ) → Cell → List ℕ
+line_of_cell shape count cell =
+    if is_unreachable cell then (if shape.only_missing then [] else cell_line shape.form cell (unreachable_text shape.form)) else (
+    if shape.only_missing && nat_lt 0 count then [] else cell_line shape.form cell (decimal count))
 
 -- the cells that a run may reach, and those of them that were
 abbrev pub is_reachable : Cell → Bool
@@ -147,24 +159,35 @@ is_reachable cell = not (is_unreachable cell)
 abbrev pub is_reached : (Cell → ℕ) → Cell → Bool
 is_reached count cell = is_reachable cell && nat_lt 0 (count cell)
 
--- what is printed of some cells, and of all of them
-abbrev pub cover_lines : (only_missing : Bool) → (Cell → ℕ) → List Cell → List ℕ
-cover_lines only_missing count cells = flat_map (λ cell. line_of_cell only_missing (count cell) cell) cells
+-- how many cells were reached
+abbrev pub reached_of : (Cell → ℕ) → ℕ
+reached_of count = length (filter (is_reached count) all_cells)
 
-abbrev pub cover_summary : ℕ → ℕ → List ℕ
-cover_summary reached reachable = codes "covered " ++ (decimal reached ++ (codes " of " ++ (decimal reachable ++ (codes " cells" ++ (10 ∷ [])))))
+-- the lines of some cells, and what stands before and behind them: how many were reached, of those that a run may reach
+abbrev pub cover_lines : CoverShape → (Cell → ℕ) → List Cell → List ℕ
+cover_lines shape count cells = flat_map (λ cell. line_of_cell shape (count cell) cell) cells
 
-abbrev pub cover_text : (only_missing : Bool) → (Cell → ℕ) → List ℕ
-cover_text only_missing count =
-    cover_lines only_missing count all_cells
-    ++ cover_summary (length (filter (is_reached count) all_cells)) (length (filter is_reachable all_cells))
+abbrev pub summary : (reached reachable : ℕ) → List ℕ
+summary reached reachable = codes "covered " ++ (decimal reached ++ (codes " of " ++ (decimal reachable ++ (codes " cells" ++ (10 ∷ [])))))
+
+-- (a JSON value has no comma before the first of its cells)
+abbrev pub framed : CoverForm → (lines : List ℕ) → (reached reachable : ℕ) → List ℕ
+framed Lines lines reached reachable = lines ++ summary reached reachable
+framed Json lines reached reachable =
+    codes "{\"covered\":" ++ (decimal reached ++ (codes ",\"of\":" ++ (decimal reachable ++ (codes ",\"cells\":[" ++ (drop 1 lines ++ codes "\n]}\n")))))
+framed Tsv lines reached reachable = codes "section\tcell\tcount\n" ++ lines
+
+-- what is printed of all cells
+abbrev pub cover_text : CoverShape → (Cell → ℕ) → List ℕ
+cover_text shape count = framed shape.form (cover_lines shape count all_cells) (reached_of count) (length (filter is_reachable all_cells))
 
 -- what was told of files, each in its turn and none left out: a count is the number of times that the cell stands among
 -- the cells of the steps of all files
-pub record IsCoverReport (only_missing : Bool) (files : List GivenFile) (text faults : List ℕ) (fault : Option Fault) : Type 0 where
+pub record IsCoverReport (shape : CoverShape) (files : List GivenFile) (text faults : List ℕ) (fault : Option Fault) (reached : ℕ) : Type 0 where
   pub told : List FileCover
   pub in_turn : map (λ it. it.file) told ≡ files
   pub each : All IsFileCover told
-  pub printed : text ≡ cover_text only_missing (λ cell. times_met cell (flat_map (λ it. cells_covered it.came) told))
+  pub printed : text ≡ cover_text shape (λ cell. times_met cell (flat_map (λ it. cells_covered it.came) told))
+  pub count : reached ≡ reached_of (λ cell. times_met cell (flat_map (λ it. cells_covered it.came) told))
   pub lines : faults ≡ flat_map (λ it. cover_fault_line it.file.name it.came) told
   pub first : fault ≡ first_cover_fault told

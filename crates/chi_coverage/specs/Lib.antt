@@ -19,4 +19,5 @@ pub mod Past
 pub mod Steps
 pub mod Coverage
 pub mod Counts
+pub mod Merging
 pub mod Apart

@@ -9,9 +9,11 @@ mod cells;
 mod completions;
 mod counts;
 mod coverage;
+mod forms;
 mod journals;
 mod laws;
 mod lists;
+mod merging;
 mod messages;
 mod named;
 mod outcomes;
@@ -28,4 +30,6 @@ mod snoops;
 mod steps;
 
 pub use coverage::{CoverReport, cover};
+pub use forms::{CoverForm, CoverShape};
 pub use laws::cells_are_apart;
+pub use merging::{MergeReport, merge};

@@ -5,8 +5,8 @@ use mathlib.Core.Logic.{dite}
 use native.Mathlib.Decide.{ℕ_discrete}
 use Rattle.chi_tracker.specs.Sums.{one_more, with_bit}
 use Rattle.chi_tracker.specs.Views.{PortView, has}
-use Rattle.chi_tracker.specs.Steps.{spends, returns_credit}
-use Rattle.chi_tracker.specs.Calls.{seen_of, HasSameCredits, HasOneLess}
+use Rattle.chi_tracker.specs.Steps.{spends}
+use Rattle.chi_tracker.specs.Calls.{seen_of, with_return, HasSameCredits, HasOneLess}
 use Rattle.chi_tracker.proofs.Addition.{raised_else, raised_here}
 use Rattle.chi_tracker.proofs.BitLaws.{with_here, with_else}
 use Rattle.chi_credit.specs.declared.slot.SlotRecord.{SlotRecord}
@@ -67,8 +67,8 @@ returned_within a b p q t riding free less keeps = record {
       (λ d. omega (arith, riding.same u, less.1 u l d, keeps.within u l));
 }
 
-pub returned_due : (a b : List SlotRecord) (p q : PortView) (t e : ℕ) → FallsAt t (due_of a) (due_of b) → HasSameCredits (returns_credit t e p) q → HasDue a p → HasDue b q
-returned_due a b p q t e falls same keeps = record {
+pub returned_due : (a b : List SlotRecord) (p q : PortView) (t : ℕ) → FallsAt t (due_of a) (due_of b) → HasSameCredits (with_return t q.seen p) q → HasDue a p → HasDue b q
+returned_due a b p q t falls same keeps = record {
   due = λ u l.
       let m : slice_index q.retries u ≡ slice_index p.retries u = ap (λ ns. slice_index ns u) same.3 in
       let s : slice_index q.spent u ≡ slice_index p.spent u = ap (λ ns. slice_index ns u) same.4 in

@@ -1,5 +1,5 @@
 -- What explains what was seen of a line (docs/TRACES.md, "Explanations").
-use Rattle.std.specs.Prelude.{◌≡◌, ℕ, Bool, true, false, List, [], ◌∷◌, ◌++◌, Option, Some, None, replicate, slice_set}
+use Rattle.std.specs.Prelude.{◌≡◌, ℕ, Bool, true, false, List, [], ◌∷◌, ◌++◌, ◌<◌, Option, Some, None, replicate, slice_set}
 use Rattle.std.specs.List.{All, slice_index_or}
 use Rattle.chi_slice.specs.Words.{cells_of, Sizes}
 use Rattle.chi_flit.specs.declared.action.Action.{Action}
@@ -12,6 +12,8 @@ use Rattle.chi_flit.specs.declared.numbers.Agent.{Agent}
 use Rattle.chi_flit.specs.declared.snoop.Snoop.{Snoop}
 use Rattle.chi_slice.specs.Protocol.{SliceStep}
 use Rattle.chi_slice.specs.Slice.{SliceState, action_refusal, line}
+use Rattle.chi_explain.specs.declared.explanations.Unexplained.{Unexplained}
+use Rattle.chi_explain.specs.declared.explanations.Unexplained.TheVariants as causes
 use Rattle.chi_explain.specs.declared.explanations.WitnessItem.{WitnessItem}
 use Rattle.chi_explain.specs.declared.explanations.WitnessItem.TheVariants.{Act, Snoop as Shown, Load, Store}
 use Rattle.chi_explain.specs.declared.observed.Observed.{Observed}
@@ -76,6 +78,15 @@ Explained s shown [] seen = seen ≡ []
 Explained s shown (item ∷ items) seen =
     (s' : SliceState) × (shown' : List Bool) × (seen' : List Observed)
     × Explains item s shown seen s' shown' seen' × Explained s' shown' items seen'
+
+-- why so many items explain nothing: one of them is told, or how much is left of what was seen, which is something
+abbrev pub IsUnexplainedBy : ℕ → Unexplained → Type 0
+IsUnexplainedBy count (causes.Refused at refusal) = at < count
+IsUnexplainedBy count (causes.Differs at) = at < count
+IsUnexplainedBy count (causes.Left left) = 0 < left
+IsUnexplainedBy count causes.NoMemory = Unit {0}
+IsUnexplainedBy count causes.NoRoom = Unit {0}
+IsUnexplainedBy count causes.Unlisted = Unit {0}
 
 -- where all stores are listed no other step is a store
 abbrev pub is_listed : StoreListing → WitnessItem → Bool

@@ -1,16 +1,18 @@
 //! The actions that explain what was seen of a line.
 
-ghost use Rattle.std.specs.Prelude.{◌≡◌, ◌<◌, IfOk, IsTrue, OnOk, replicate, false, true};
+ghost use Rattle.std.specs.Prelude.{◌≡◌, ◌<◌, IfErr, IfOk, IsTrue, OnOk, length, replicate, false, true};
 ghost use Rattle.std.specs.List.{All};
-ghost use Rattle.chi_explain.specs.Explained.{Explained, Explains, IsAct, IsStepSeen, IsExplained, IsSnoopShown, IsSnoopSeen, MayTake, is_listed, line_action, is_shown, shown_after};
+ghost use Rattle.chi_explain.specs.Explained.{Explained, Explains, IsAct, IsStepSeen, IsExplained, IsSnoopShown, IsSnoopSeen, IsUnexplainedBy, MayTake, is_listed, line_action, is_shown, shown_after};
 ghost use Rattle.chi_explain.specs.declared.explanations.WitnessItem.TheVariants.{Load, Store};
+ghost use Rattle.chi_explain.specs.declared.explanations.Unexplained.TheVariants.{NoMemory};
 ghost use Rattle.chi_slice.specs.Slice.{line};
 
 use crate::observed::{Observed, StoreListing};
 use crate::openings::{LINE, opened};
-use crate::sent::{SentFlit, behind, behind_all, behind_load, behind_store};
+use crate::sent::{SentFlit, behind, behind_all, behind_load, behind_store, busy_at};
 use chi_flit::{Action, Agent, Data, Effect, Msg, NoMemory, Refusal, Snoop, Step, WordNo};
-use chi_slice::{Cells, Config, Slice};
+use chi_line::CoherentLine;
+use chi_slice::{Config, Slice};
 use std::alloc::Allocator;
 
 /// An item of an explanation.
@@ -50,6 +52,8 @@ pub enum Unexplained {
 type Shown = [bool; 8];
 
 impl From<NoMemory> for Unexplained {
+    ghost from_gives = { λ lack cause. cause ≡ NoMemory };
+
     fn from(_lack: NoMemory) -> Unexplained {
         Unexplained::NoMemory
     }
@@ -82,7 +86,8 @@ pub fn explain_line<A: Allocator + Copy>(
     items: &[WitnessItem],
     seen: &[Observed],
 ) -> Result<(), Unexplained>
-    ensures { OnOk result (IsExplained config.now stores memory items.now seen.now) }
+    ensures explained { OnOk result (IsExplained config.now stores memory items.now seen.now) }
+    ensures unexplained { IfErr result (IsUnexplainedBy (length items.now)) }
 {
     if !are_listed(stores, items) {
         return Err(Unexplained::Unlisted);
@@ -116,7 +121,9 @@ fn explain_from<A: Allocator>(
     items: &[WitnessItem],
     seen: &[Observed],
 ) -> Result<(), Unexplained>
-    ensures { OnOk result (Explained slice.old (replicate 8 false) items.now seen.now) }
+    ensures explained { OnOk result
+        (Explained slice.old (replicate 8 false) items.now seen.now) }
+    ensures unexplained { IfErr result (IsUnexplainedBy (length items.now)) }
 {
     let mut shown = [false; 8];
     let mut rest = seen;
@@ -257,11 +264,10 @@ fn act<'f, A: Allocator>(
     if !may_take(shown, agent, step) {
         return Err(Missed::Differs);
     }
-    let before = flits_at(slice)?;
+    let before = busy_at(line_in(slice)?);
     let effect = do_step(slice, agent, step)?;
-    let after = flits_at(slice)?;
     answer(shown, agent, step);
-    match behind_all(seen, &before, &after) {
+    match behind_all(seen, &before, line_in(slice)?) {
         Some(rest) => Ok(Sent { effect, rest }),
         None => Err(Missed::Differs),
     }
@@ -283,13 +289,13 @@ fn do_step<A: Allocator>(slice: &mut Slice<A>, agent: Agent, step: Step) -> Resu
     }
 }
 
-/// What is in flight at the line.
-fn flits_at<A: Allocator>(slice: &Slice<A>) -> Result<[Cells; 8], Missed>
-    ensures { IfOk result (λ cells. cells ≡ (line slice.now 0).flits) }
+/// The line, lent.
+fn line_in<A: Allocator>(slice: &Slice<A>) -> Result<&CoherentLine, Missed>
+    ensures { IfOk result (λ at. at.now ≡ line slice.now 0) }
 {
-    match slice.view(LINE) {
-        Ok(view) => Ok(view.flits),
-        Err(refusal) => Err(Missed::Refused(refusal)),
+    match slice.lines() {
+        [at, ..] => Ok(at),
+        [] => Err(Missed::Refused(Refusal::OutOfRange)),
     }
 }
 

@@ -1,14 +1,15 @@
 //! The flits that an action sends, beside those that were seen.
 
-ghost use Rattle.std.specs.Prelude.{◌≡◌, ◌∷◌, ◌++◌, IfSome, IsTrue};
-ghost use Rattle.chi_slice.specs.Words.{cell_of};
-ghost use Rattle.chi_explain.specs.Sent.{new_flit, sent_below, sent_of_agent};
+ghost use Rattle.std.specs.Prelude.{◌≡◌, ◌∷◌, ◌++◌, IfSome, IsTrue, List};
+ghost use Rattle.chi_slice.specs.Words.{Cells, cell_of};
+ghost use Rattle.chi_explain.specs.Sent.{AreBusy, busy_in, new_flit, sent_below, sent_of_agent};
 ghost use Rattle.chi_explain.specs.declared.observed.Observed.TheVariants.{Flit, Load, Store};
 
 use crate::observed::Observed;
 use crate::same::is_same_message;
 use chi_flit::{Agent, Channel, Msg, WordNo};
-use chi_slice::{Cells, cells_of};
+use chi_line::CoherentLine;
+use chi_slice::Cells;
 
 /// A message that a requester sent to the home, or the home to it.
 /// Source: `docs/TRACES.md`, "Explanations".
@@ -19,22 +20,58 @@ pub struct SentFlit {
     pub message: Msg,
 }
 
-/// What is left of what was seen behind the flit that an action has put on an agent's channel, if it has. `None` where
-/// it has put one that wasn't seen there.
+/// On which of an agent's channels, but the snoops', something is in flight.
+#[derive(Clone, Copy)]
+pub(crate) struct Busy {
+    req: bool,
+    rsp_down: bool,
+    dat_down: bool,
+    rsp_up: bool,
+    dat_up: bool,
+}
+
+impl Busy {
+    /// On none.
+    pub(crate) const NONE: Busy = Busy {
+        req: false,
+        rsp_down: false,
+        dat_down: false,
+        rsp_up: false,
+        dat_up: false,
+    };
+}
+
+/// On which channels something is in flight.
+pub(crate) fn busy_in(cells: &Cells) -> Busy
+    ensures { result ≡ busy_in cells.now }
+{
+    Busy {
+        req: cells.req.is_some(),
+        rsp_down: cells.rsp_down.is_some(),
+        dat_down: cells.dat_down.is_some(),
+        rsp_up: cells.rsp_up.is_some(),
+        dat_up: cells.dat_up.is_some(),
+    }
+}
+
+/// What is left of what was seen behind the flit that an action has put on an agent's channel, if it has: nothing was
+/// in flight there before. `None` where it has put one that wasn't seen there.
 fn behind_new<'f>(
     seen: &'f [Observed],
     agent: Agent,
-    before: &Cells,
+    was_busy: bool,
     after: &Cells,
     channel: Channel,
 ) -> Option<&'f [Observed]>
-    ensures { IfSome result
-        (λ rest. seen.now
-        ≡ new_flit agent (cell_of before.now channel) (cell_of after.now channel) ++ rest.now) }
+    ensures { IfSome result (λ rest.
+        seen.now ≡ new_flit agent was_busy (cell_of after.now channel) ++ rest.now) }
 {
-    match (before.get(channel), after.get(channel)) {
-        (None, Some(message)) => behind(seen, SentFlit { agent, message }),
-        (Some(_), _) | (None, None) => Some(seen),
+    if was_busy {
+        return Some(seen);
+    }
+    match after.get(channel) {
+        Some(message) => behind(seen, SentFlit { agent, message }),
+        None => Some(seen),
     }
 }
 
@@ -100,37 +137,50 @@ fn is_same(one: &SentFlit, other: &SentFlit) -> bool
     is_same_message(&one.message, &other.message)
 }
 
-/// What is left of what was seen behind the flits that an action has put on an agent's channels, but for snoops. `None` where it has put others.
+/// What is left of what was seen behind the flits that an action has put on an agent's channels, but for snoops; on
+/// these of them something was in flight before. `None` where it has put others.
 fn behind_agent<'f>(
     seen: &'f [Observed],
     agent: Agent,
-    before: &Cells,
+    before: Busy,
     after: &Cells,
 ) -> Option<&'f [Observed]>
     ensures { IfSome result (λ rest. seen.now
-        ≡ sent_of_agent agent before.now after.now ++ rest.now) }
+        ≡ sent_of_agent agent before after.now ++ rest.now) }
 {
-    let rest = behind_new(seen, agent, before, after, Channel::Req)?;
-    let rest = behind_new(rest, agent, before, after, Channel::RspDown)?;
-    let rest = behind_new(rest, agent, before, after, Channel::DatDown)?;
-    let rest = behind_new(rest, agent, before, after, Channel::RspUp)?;
-    let rest = behind_new(rest, agent, before, after, Channel::DatUp)?;
+    let rest = behind_new(seen, agent, before.req, after, Channel::Req)?;
+    let rest = behind_new(rest, agent, before.rsp_down, after, Channel::RspDown)?;
+    let rest = behind_new(rest, agent, before.dat_down, after, Channel::DatDown)?;
+    let rest = behind_new(rest, agent, before.rsp_up, after, Channel::RspUp)?;
+    let rest = behind_new(rest, agent, before.dat_up, after, Channel::DatUp)?;
     Some(rest)
 }
 
+/// On which channels of all agents something is in flight.
+pub(crate) fn busy_at(line: &CoherentLine) -> [Busy; 8]
+    ensures { AreBusy line.now.flits result }
+{
+    let mut busy = [Busy::NONE; 8];
+    for number in 0..8 {
+        busy[number] = busy_in(line.flits(Agent(number as u8)));
+    }
+    busy
+}
+
 /// What is left of what was seen behind the flits that an action has put on the channels of all agents, but for
-/// snoops. `None` where it has put others.
+/// snoops; on these something was in flight before. `None` where it has put others.
 pub(crate) fn behind_all<'f>(
     seen: &'f [Observed],
-    before: &[Cells; 8],
-    after: &[Cells; 8],
+    before: &[Busy; 8],
+    after: &CoherentLine,
 ) -> Option<&'f [Observed]>
-    ensures { IfSome result (λ rest. seen.now ≡ sent_below before.now after.now 8 ++ rest.now) }
+    ensures { IfSome result (λ rest. (flits : List Cells) → AreBusy flits before.now
+        → seen.now ≡ sent_below flits after.now.flits 8 ++ rest.now) }
 {
     let mut rest = seen;
     for number in 0..8 {
-        let agent = Agent(number);
-        rest = behind_agent(rest, agent, cells_of(before, agent), cells_of(after, agent))?;
+        let agent = Agent(number as u8);
+        rest = behind_agent(rest, agent, before[number], after.flits(agent))?;
     }
     Some(rest)
 }

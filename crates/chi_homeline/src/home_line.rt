@@ -1,14 +1,11 @@
 //! One line at the home.
 
-ghost use Rattle.std.specs.Prelude.{◌≡◌, ◌<◌, ◌↔◌, ℕ, List, IfSome, IsTrue, IfOk, OnErr, None, Some, false, is_some, true, ⊤};
+ghost use Rattle.std.specs.Prelude.{◌≡◌, ◌<◌, ◌↔◌, IfOk, IfSome, IsTrue, OnErr, Some, is_some, true, ⊤};
+ghost use Rattle.chi_filter.specs.Filter.{is_in, is_named};
 ghost use Rattle.chi_flit.specs.Refusal.{refusal_of};
-ghost use Rattle.chi_filter.specs.Filter.{is_named};
-ghost use Rattle.chi_homeline.specs.Home.{Home, IsServedInRange, home_of_parts, home_after_ack, acks_for, home_after_admit, answer_taken, asks, home_after_completion, completes_unique, completion_form, data_to_send, finished_home, finished_sends, idle_home, leaves, home_after_service, served_kind, served_sends, served_slot, snoop_answered, snoop_answered_sends, start_refusal, home_after_start, started_as, started_sends, started_with, waiting_of, writes_for, home_after_write};
+ghost use Rattle.chi_homeline.specs.Home.{Home, IsServedInRange, home_of_parts, home_after_ack, acks_for, home_after_admit, answer_taken, asks, home_after_completion, completes_unique, completion_form, data_to_send, finished_home, finished_sends, idle_home, leaves, home_after_service, served_kind, served_sends, served_slot, snoop_answered, snoop_answered_sends, home_after_start, start_refusal, started_as, started_sends, started_with, waiting_of, writes_for, home_after_write};
 ghost use Rattle.chi_flit.specs.declared.kind.Kind.{Kind};
-ghost use Rattle.chi_flit.specs.declared.numbers.Slot.{Slot};
 ghost use Rattle.chi_homeline.specs.declared.serving.Completion.{Completion};
-ghost use Rattle.chi_homeline.specs.declared.serving.Waiting.{Waiting};
-ghost use Rattle.chi_homeline.specs.declared.serving.Started.TheVariants.{Sends};
 
 use crate::serving::{Begun, Completion, CompletionForm, Serving, SnoopAnswer, Waiting};
 use chi_filter::{Filter, has_any};
@@ -121,6 +118,7 @@ impl HomeLine {
     }
 
     /// The agent's waiting request, where it may be started.
+    #[inline(always)]
     fn to_start(&self, agent: Agent) -> Result<Waiting, Refusal>
         requires { agent.0 < 8 }
         ensures refusal { refusal_of result ≡ start_refusal self.now agent.0 }
@@ -135,10 +133,12 @@ impl HomeLine {
         Ok(request)
     }
 
-    /// The refusal that `start` would answer.
+    /// The refusal that `start` would answer: 6 (NotWaiting) where the agent doesn't wait, then 5 (LineBusy)
+    /// where the line is served.
     ///
     /// Conditions: the agent's number is below 8.
     /// Source: `docs/PROTOCOL.md`, "Start".
+    #[inline(always)]
     pub fn why_no_start(&self, agent: Agent) -> Option<Refusal>
         requires { agent.0 < 8 }
         ensures { result ≡ start_refusal self.now agent.0 }
@@ -153,7 +153,6 @@ impl HomeLine {
     /// Refused 6 (NotWaiting) where the agent doesn't wait, then 5 (LineBusy) where the line is served;
     /// nothing changes then. Conditions: the agent's number is below 8.
     /// Source: `docs/PROTOCOL.md`, "Start".
-    #[inline(always)]
     pub fn start(&mut self, agent: Agent) -> Result<Begun, Refusal>
         requires { agent.0 < 8 }
         ensures refusal { refusal_of result ≡ start_refusal self.old agent.0 }
@@ -167,8 +166,23 @@ impl HomeLine {
         ensures err { OnErr result (self.new ≡ self.old) }
     {
         let request = self.to_start(agent)?;
+        Ok(self.started(agent, request))
+    }
+
+    /// What `start` does where nothing refuses it.
+    ///
+    /// Conditions: the agent's number is below 8, and its request, this one, waits.
+    /// Source: `docs/PROTOCOL.md`, "Start".
+    #[inline(always)]
+    pub fn started(&mut self, agent: Agent, request: Waiting) -> Begun
+        requires agent { agent.0 < 8 }
+        requires waiting { waiting_of self.old agent.0 ≡ Some request }
+        ensures sends { started_with result self.old.memory ≡ started_sends self.old agent request }
+        ensures after { self.new ≡ home_after_start self.old agent request }
+        ensures memory { self.new.memory ≡ self.old.memory }
+    {
         self.waiting[usize::from(agent.0)] = None;
-        Ok(self.take_up(agent, request))
+        self.take_up(agent, request)
     }
 
     /// Serves a request that was taken out of those that wait. Answers what is to be sent, with the memory
@@ -233,27 +247,20 @@ impl HomeLine {
         completion_form(kind, unique)
     }
 
-    /// Takes the agent's CompAck: the line is idle. Answers the slot of the request that is complete, or
-    /// None where no CompAck of the agent is awaited; nothing changes then.
+    /// Takes the agent's CompAck: the line is idle. Answers the slot of the request that is complete.
+    ///
+    /// Conditions: that CompAck is awaited.
     /// Source: `docs/PROTOCOL.md`, "The actions", RecvAck.
-    pub fn ack(&mut self, agent: Agent) -> Option<Slot>
-        ensures answers { is_some result ≡ acks_for self.old.serving agent.0 }
-        ensures slot { (slot : Slot) → result ≡ Some slot
-            → served_slot self.old.serving ≡ Some slot }
-        ensures after { acks_for self.old.serving agent.0 ≡ true
-            → self.new ≡ home_after_ack self.old }
-        ensures stays { acks_for self.old.serving agent.0 ≡ false → self.new ≡ self.old }
+    pub fn ack(&mut self, agent: Agent) -> Slot
+        requires { acks_for self.old.serving agent.0 ≡ true }
+        ensures slot { served_slot self.old.serving ≡ Some result }
+        ensures after { self.new ≡ home_after_ack self.old }
     {
-        match self.serving {
-            Serving::AwaitingCompAck {
-                agent: served,
-                slot,
-            } if served.0 == agent.0 => {
-                self.serving = Serving::Idle;
-                Some(slot)
-            }
-            _ => None,
-        }
+        let Serving::AwaitingCompAck { slot, .. } = self.serving else {
+            unreachable!()
+        };
+        self.serving = Serving::Idle;
+        slot
     }
 
     /// The memory's value of the line.
@@ -312,24 +319,18 @@ impl HomeLine {
     /// and the agent is the owner after `SD`, and no owner after any other answer. Answers the completion
     /// that is to be sent, where this was the last answer.
     ///
-    /// Who isn't named isn't snooped: its answer changes nothing, and None is answered. Conditions: the
-    /// agent's number is below 8.
+    /// Conditions: the agent's number is below 8, its answer is awaited, and the filter names it.
     /// Source: `docs/PROTOCOL.md`, "Answers of snooped agents".
     #[inline(always)]
     pub fn snp_resp(&mut self, agent: Agent, answer: SnoopAnswer) -> Option<Completion>
-        requires { agent.0 < 8 }
-        ensures sends { is_named self.old.filter agent.0 ≡ true
-            → result ≡ snoop_answered_sends self.old agent answer }
+        requires agent { agent.0 < 8 }
+        requires awaited { is_in self.old.awaited agent.0 ≡ true }
+        requires named { is_named self.old.filter agent.0 ≡ true }
+        ensures sends { result ≡ snoop_answered_sends self.old agent answer }
         ensures agent { (completion : Completion) → result ≡ Some completion
             → completion.agent.0 < 8 }
-        ensures after { is_named self.old.filter agent.0 ≡ true
-            → self.new ≡ snoop_answered self.old agent answer }
-        ensures nothing { is_named self.old.filter agent.0 ≡ false → result ≡ None }
-        ensures stays { is_named self.old.filter agent.0 ≡ false → self.new ≡ self.old }
+        ensures after { self.new ≡ snoop_answered self.old agent answer }
     {
-        if !self.filter.named()[usize::from(agent.0)] {
-            return None;
-        }
         let sent = data_to_send(answer, self.memory);
         self.take_answer(agent, answer);
         self.finish(sent)
@@ -384,38 +385,30 @@ impl HomeLine {
 
     /// Takes the agent's write data: dirty data becomes the memory, the agent is no owner and, where no
     /// copy is left to it, named no more, and the line is idle. Answers the slot of the request that is
-    /// complete, or None where no write data of the agent is awaited; nothing changes then. Conditions: the
-    /// agent's number is below 8.
+    /// complete.
+    ///
+    /// Conditions: the agent's number is below 8, and its write data is awaited.
     /// Source: `docs/PROTOCOL.md`, "Write data".
-    pub fn wr_data(&mut self, agent: Agent, form: State, words: Data) -> Option<Slot>
-        requires { agent.0 < 8 }
-        ensures answers { is_some result ≡ writes_for self.old.serving agent.0 }
-        ensures slot { (slot : Slot) → result ≡ Some slot
-            → served_slot self.old.serving ≡ Some slot }
-        ensures after { (kind : Kind) → writes_for self.old.serving agent.0 ≡ true
-            → served_kind self.old.serving ≡ Some kind
+    pub fn wr_data(&mut self, agent: Agent, form: State, words: Data) -> Slot
+        requires agent { agent.0 < 8 }
+        requires awaited { writes_for self.old.serving agent.0 ≡ true }
+        ensures slot { served_slot self.old.serving ≡ Some result }
+        ensures after { (kind : Kind) → served_kind self.old.serving ≡ Some kind
             → self.new ≡ home_after_write self.old agent.0 kind form words }
-        ensures stays { writes_for self.old.serving agent.0 ≡ false → self.new ≡ self.old }
     {
-        match self.serving {
-            Serving::AwaitingWriteData {
-                agent: writer,
-                kind,
-                slot,
-            } if writer.0 == agent.0 => {
-                if form.is_dirty() {
-                    self.memory = words;
-                }
-                if leaves(kind, form) {
-                    self.filter.remove(agent);
-                } else {
-                    self.filter.end_owner(agent);
-                }
-                self.serving = Serving::Idle;
-                Some(slot)
-            }
-            _ => None,
+        let Serving::AwaitingWriteData { kind, slot, .. } = self.serving else {
+            unreachable!()
+        };
+        if form.is_dirty() {
+            self.memory = words;
         }
+        if leaves(kind, form) {
+            self.filter.remove(agent);
+        } else {
+            self.filter.end_owner(agent);
+        }
+        self.serving = Serving::Idle;
+        slot
     }
 }
 

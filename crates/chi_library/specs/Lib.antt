@@ -17,4 +17,5 @@ pub mod Enabled
 pub mod Standing
 pub mod Observed
 pub mod MonitorHandle
+pub mod MonitorFacts
 pub mod MonitorCalls

@@ -1,5 +1,7 @@
 -- What the calls on a monitor answer, leave and tell, by C's numbers (docs/LIBRARY.md, "A monitor").
-use Rattle.std.specs.Prelude.{◌≡◌, ◌&&◌, ℕ, List, map, nat_le, Option, Some, None, replicate, Result, Ok, Err, slice_get, if◌then◌else◌}
+use Rattle.std.specs.Prelude.{◌≡◌, ◌&&◌, ℕ, List, [], ◌∷◌, map, nat_le, Option, Some, None, replicate, Result, Ok, Err, slice_get, if◌then◌else◌}
+use Rattle.chi_flit.specs.declared.credit.Profile.{Profile}
+use Rattle.chi_flit.specs.declared.credit.Profile.TheVariants.{Two, Four}
 use Rattle.chi_flit.specs.declared.refusal.Refusal.{Refusal}
 use Rattle.chi_flit.specs.declared.refusal.Refusal.TheVariants as refusals
 use Rattle.chi_explain.specs.declared.explanations.Unexplained.{Unexplained}
@@ -16,16 +18,24 @@ use Rattle.chi_monitor.specs.declared.monitor.NotTaken.{NotTaken}
 use Rattle.chi_monitor.specs.declared.monitor.NotTaken.TheVariants.{OutOfRange, Faulty, Full}
 use Rattle.chi_monitor.specs.declared.open_flits.OpenFlits.{OpenFlits}
 use Rattle.chi_monitor.specs.Watched.{IsObserved, IsToldAt, MonitorState, flit_refusal, opening_monitor}
-use Rattle.chi_slice.specs.Words.{config_if, flit, is_between, two_types, Sizes}
+use Rattle.chi_slice.specs.Words.{flit, four_types, is_between, sizes_if, two_types, Sizes}
 use Rattle.chi_library.specs.declared.monitor_told.ChiFault.{ChiFault}
 use Rattle.chi_library.specs.declared.monitor_told.ChiOpen.{ChiOpen}
 use Rattle.chi_library.specs.Flits.{no_sent, sent_told}
-use Rattle.chi_library.specs.Numbers.{flag_number}
+use Rattle.chi_library.specs.MonitorFacts.{choice_number, differing_words, expected_words, other_agent, since_of, state_named, told_number, told_since}
+use Rattle.chi_library.specs.Numbers.{flag_number, profile_of}
+use Rattle.chi_library.specs.SavedSlices.{AreBytesTold}
+
+-- a node of one line, whose journal keeps no records
+abbrev pub config_in : Option Profile → ℕ → Option Sizes
+config_in (Some Two) agents = sizes_if (two_types agents 1 1 1 1 0)
+config_in (Some Four) agents = sizes_if (four_types agents 1 1 (1 ∷ 1 ∷ 1 ∷ 1 ∷ []) 0)
+config_in None agents = None
 
 -- the node by whose runs flits are explained, where the monitor's sizes are in their limits
-abbrev pub monitor_config : ℕ → ℕ → ℕ → Option Sizes
-monitor_config agents lines kept =
-    if is_between 1 64 lines && nat_le kept 65536 then config_if (two_types agents 1 1 1 1 65536) else None
+abbrev pub monitor_config : ℕ → ℕ → ℕ → ℕ → Option Sizes
+monitor_config profile agents lines kept =
+    if is_between 1 64 lines && nat_le kept 65536 then config_in (profile_of profile) agents else None
 
 -- the monitor of so many lines that keeps so many flits of each opens
 abbrev pub IsMonitorOf : ℕ → ℕ → Sizes → MonitorState → Type 0
@@ -57,44 +67,70 @@ IsFlitAnswered (Some m) l seen answer (Some m') = IsTakenAs m l seen answer m'
 abbrev pub reason_number : LineFault → ℕ
 reason_number faults.NoMemory = 1
 reason_number faults.NoAgent = 2
-reason_number faults.Pending = 3
+reason_number (faults.Pending since) = 3
 reason_number (faults.Needs kind reach) = 4
 reason_number (faults.NotRetried kind) = 5
 reason_number faults.NothingToRetry = 6
-reason_number faults.ServedRetry = 7
+reason_number (faults.ServedRetry since) = 7
 reason_number (faults.NobodyAsks snoop) = 8
 reason_number (faults.EarlySnoop awaited) = 9
 reason_number (faults.EarlyCompletion awaited) = 9
 reason_number (faults.EarlyEvict awaited) = 9
 reason_number (faults.EarlyCopyBack awaited) = 9
-reason_number faults.SnoopedTwice = 10
+reason_number (faults.SnoopedTwice since) = 10
 reason_number faults.NothingToAnswer = 11
-reason_number (faults.Answer reach snoop) = 12
+reason_number (faults.Answer reach snoop basis) = 12
 reason_number (faults.Words words) = 13
 reason_number faults.NoRead = 14
 reason_number faults.NoCleanUnique = 14
 reason_number faults.NoEvict = 14
 reason_number faults.NoCopyBack = 14
-reason_number (faults.Snoops wrong) = 15
-reason_number faults.Form = 16
+reason_number (faults.Snoops kind wrong) = 15
+reason_number (faults.Form form) = 16
 reason_number faults.NoAckAwaited = 17
 reason_number faults.NoWriteDataAwaited = 17
-reason_number (faults.WriteForm state) = 18
+reason_number (faults.WriteForm form reach) = 18
+reason_number (faults.OtherCredit named wanted) = 20
 reason_number other = 19
 
 -- no fault, and the first
 abbrev pub no_fault : ChiFault
-no_fault = record { reason = 0; line = 0; reserved = replicate 6 0; number = 0; sent = no_sent }
+no_fault = record {
+  reason = 0;
+  line = 0;
+  choice = 0;
+  other = 255;
+  state = 255;
+  told = 0;
+  reserved = replicate 2 0;
+  number = 0;
+  since = 0;
+  differs = replicate 8 0;
+  expected = replicate 8 0;
+  sent = no_sent;
+}
 
 abbrev pub fault_told : Option FirstFault → ChiFault
 fault_told None = no_fault
 fault_told (Some first) = record {
   reason = reason_number first.reason;
   line = first.line.0;
-  reserved = replicate 6 0;
+  choice = choice_number first.reason;
+  other = other_agent first.reason;
+  state = state_named first.reason;
+  told = told_number (told_since first.reason);
+  reserved = replicate 2 0;
   number = first.number;
+  since = since_of (told_since first.reason);
+  differs = differing_words first.reason;
+  expected = expected_words first.reason;
   sent = sent_told (flit first.flit.agent first.flit.message);
 }
+
+-- a text, whatever it is, of the monitor that is held
+abbrev pub IsTextTold : Option MonitorState → List ℕ → ℕ → List ℕ → ℕ → Type 0
+IsTextTold None room answer new told = (answer ≡ 255) × (told ≡ 0) × (new ≡ room)
+IsTextTold (Some m) room answer new told = (text : List ℕ) × AreBytesTold text room answer new told
 
 -- what is open of an agent, and of each agent at a line
 abbrev pub open_told : OpenFlits → ChiOpen

@@ -2,6 +2,9 @@
 use Rattle.std.specs.Prelude.{◌≡◌, ◌⊎◌, ℕ, ◌<◌, List, ◌++◌, length, drop, Option, Some, None}
 use Rattle.chi_slice.specs.Words.{Sizes}
 use Rattle.chi_slice.specs.Slice.{SliceState}
+use Rattle.chi_snapshot.specs.declared.faults.LoadFault.{LoadFault}
+use Rattle.chi_snapshot.specs.declared.faults.LoadFault.TheVariants.{NoMemory, OtherVersion, OtherSize, Damaged}
+use Rattle.chi_snapshot.specs.Faults.{IsFaultOf}
 use Rattle.chi_snapshot.specs.Snapshot.{saved}
 use Rattle.chi_library.specs.Calls.{already_open, closed_number}
 
@@ -24,12 +27,19 @@ IsSavedAs config index bytes s = (bytes ≡ saved s) × (s.config ≡ config) ×
 
 -- the answers of bytes that are not made a slice: 8 where memory runs out, 249 of another version, 250 of another size, and 251
 -- of damaged ones
-abbrev pub IsFaultNumber : ℕ → Type 0
-IsFaultNumber answer = (answer ≡ 8) ⊎ ((answer ≡ 249) ⊎ ((answer ≡ 250) ⊎ (answer ≡ 251)))
+abbrev pub load_fault_number : LoadFault → ℕ
+load_fault_number NoMemory = 8
+load_fault_number OtherVersion = 249
+load_fault_number OtherSize = 250
+load_fault_number Damaged = 251
+
+-- the answer is the number of a fault of these bytes
+abbrev pub IsLoadFault : Sizes → ℕ → List ℕ → ℕ → Type 0
+IsLoadFault config index bytes answer = (fault : LoadFault) × (answer ≡ load_fault_number fault) × IsFaultOf config index bytes fault
 
 -- a loading: the sizes, the index, the bytes, what the handle held, the answer, and what it holds then
 abbrev pub IsLoading : Option Sizes → ℕ → List ℕ → Option SliceState → ℕ → Option SliceState → Type 0
 IsLoading sizes index bytes (Some s) answer new = (answer ≡ already_open) × (new ≡ Some s)
 IsLoading None index bytes None answer new = (answer ≡ 10) × (new ≡ None)
-IsLoading (Some config) index bytes None answer None = IsFaultNumber answer
+IsLoading (Some config) index bytes None answer None = IsLoadFault config index bytes answer
 IsLoading (Some config) index bytes None answer (Some s) = (answer ≡ 0) × IsSavedAs config index bytes s

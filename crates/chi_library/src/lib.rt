@@ -11,6 +11,7 @@ mod enabled;
 mod flits;
 mod lines;
 mod monitor_calls;
+mod monitor_facts;
 mod monitor_handle;
 mod monitor_told;
 mod node_calls;

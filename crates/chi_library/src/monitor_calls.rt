@@ -2,46 +2,50 @@
 
 ghost use Rattle.std.specs.Prelude.{◌≡◌, IfOk, None, Some, replicate};
 ghost use Rattle.chi_library.specs.Calls.{IsOpeningCall, answer_number, output_of};
-ghost use Rattle.chi_library.specs.MonitorCalls.{IsExplainedAs, IsExplainedIf, IsFlitAnswered, IsTakenAs, IsMonitorOf, all_open_told, fault_told, watched_refusal, monitor_config, no_fault, none_open};
+ghost use Rattle.chi_library.specs.MonitorCalls.{IsExplainedAs, IsExplainedIf, IsFlitAnswered, IsTakenAs, IsMonitorOf, all_open_told, fault_told, IsTextTold, config_in, watched_refusal, monitor_config, no_fault, none_open};
 ghost use Rattle.chi_library.specs.Numbers.{number_if};
+ghost use Rattle.chi_library.specs.SavedSlices.{AreBytesTold};
 ghost use Rattle.chi_library.specs.Observed.{observed_of};
 ghost use Rattle.chi_monitor.specs.Watched.{open_flits_at, opening_monitor};
 
-use crate::answers::{ALREADY_OPEN, CLOSED, DONE, NO_MEMORY, OUT_OF_RANGE};
+use crate::answers::{ALREADY_OPEN, CLOSED, DONE, NO_MEMORY, NO_ROOM, OUT_OF_RANGE};
 use crate::flits::ChiSent;
 use crate::monitor_handle::ChiMonitor;
 use crate::monitor_told::{
     ChiFault, ChiOpen, all_open_told, explained_number, fault_told, taken_number,
 };
+use crate::numbers::profile_at;
 use crate::observed::observed_at;
-use chi_flit::{Line, NoMemory};
-use chi_monitor::Monitor;
+use chi_flit::{Line, NoMemory, Profile};
+use chi_monitor::{FaultNames, FaultText, FirstFault, Monitor};
 use chi_slice::Config;
 use std::alloc::Global;
+use std::fmt::Write;
 
-/// Opens a monitor of the lines of a node, of so many agents, which keeps so many flits of each line, or none
-/// where that is 0.
+/// Opens a monitor of the lines of a node of this profile, of so many agents, which keeps so many flits of each
+/// line, or none where that is 0.
 ///
-/// Answers 0; 254 where the handle is open already, which stays as it is; 10 where there aren't 1 to 8 agents
-/// and 1 to 64 lines, or more than 65,536 flits are to be kept; 8 where memory runs out. After 10 and 8 the
+/// Answers 0; 254 where the handle is open already, which stays as it is; 10 where the number names no profile,
+/// there aren't 1 to 8 agents and 1 to 64 lines, or more than 65,536 flits are to be kept; 8 where memory runs out. After 10 and 8 the
 /// handle is closed.
 /// Source: `docs/LIBRARY.md`, "A monitor".
 #[unsafe(no_mangle)]
 pub extern "C" fn chi_monitor_open(
     alloc: Global,
     monitor: &mut ChiMonitor,
+    profile: u8,
     agents: u8,
     lines: u8,
     kept: u32,
 ) -> u8
-    ensures { IsOpeningCall (IsMonitorOf lines kept)
-        (monitor_config agents lines kept) monitor.old.value result monitor.new.value }
+    ensures { IsOpeningCall (IsMonitorOf lines kept) (monitor_config profile agents lines kept)
+        monitor.old.value result monitor.new.value }
 {
     if let Some(held) = monitor.take(alloc) {
         monitor.put(held);
         return ALREADY_OPEN;
     }
-    match config_at(agents, lines, kept) {
+    match config_at(profile, agents, lines, kept) {
         Some(config) => open(alloc, monitor, &config, lines, kept),
         None => OUT_OF_RANGE,
     }
@@ -95,6 +99,34 @@ pub extern "C" fn chi_monitor_fault(
             *fault = fault_told(held.fault());
             monitor.put(held);
             DONE
+        }
+        None => CLOSED,
+    }
+}
+
+/// Writes the text of the first fault, why no run of the model sends that flit, in UTF-8 and without a 0 behind it;
+/// none where there is no fault. `length` is how many bytes it has, and those of `bytes` behind them stay.
+///
+/// Answers 0; 1 where there is not room for all, and 8 where memory runs out: `bytes` is then as it was, and after
+/// 1 `length` is how many there are, else 0. Answers 255 of a closed handle. Nothing changes. Which text it is no
+/// clause says.
+/// Source: `docs/LIBRARY.md`, "A monitor"; `docs/TRACES.md`, "Reasons".
+#[unsafe(no_mangle)]
+pub extern "C" fn chi_monitor_text(
+    alloc: Global,
+    monitor: &mut ChiMonitor,
+    bytes: &mut [u8],
+    length: &mut usize,
+) -> u8
+    ensures text { IsTextTold monitor.old.value bytes.old result bytes.new length.new }
+    ensures after { monitor.new.value ≡ monitor.old.value }
+{
+    *length = 0;
+    match monitor.take(alloc) {
+        Some(held) => {
+            let answer = text_into(alloc, &held, bytes, length);
+            monitor.put(held);
+            answer
         }
         None => CLOSED,
     }
@@ -166,13 +198,26 @@ pub extern "C" fn chi_monitor_close(alloc: Global, monitor: &mut ChiMonitor) -> 
 }
 
 /// The node by whose runs flits are explained, where a monitor's sizes are in their limits.
-fn config_at(agents: u8, lines: u8, kept: u32) -> Option<Config>
-    ensures { result ≡ monitor_config agents lines kept }
+fn config_at(profile: u8, agents: u8, lines: u8, kept: u32) -> Option<Config>
+    ensures { result ≡ monitor_config profile agents lines kept }
 {
     if 1 <= lines && lines <= 64 && kept <= 65_536 {
-        Config::new(agents, 1, 1, 1, 1, 65_536)
+        config_in(profile_at(profile), agents)
     } else {
         None
+    }
+}
+
+/// A node of one line in the profile, whose journal keeps no records.
+fn config_in(profile: Option<Profile>, agents: u8) -> Option<Config>
+    ensures { result ≡ config_in profile agents }
+{
+    match profile {
+        Some(Profile::Two) => { Config::without_records(agents, 1, 1, Profile::Two, [1, 1, 0, 0]) }
+        Some(Profile::Four) => {
+            Config::without_records(agents, 1, 1, Profile::Four, [1, 1, 1, 1])
+        }
+        None => None,
     }
 }
 
@@ -202,6 +247,46 @@ fn boxed_monitor(
 {
     let monitor = Monitor::new(alloc, config, lines, kept as usize)?;
     Ok(Box::new(alloc, monitor)?)
+}
+
+/// Writes the text of the first fault into a room.
+fn text_into(alloc: Global, monitor: &Monitor<Global>, bytes: &mut [u8], length: &mut usize) -> u8
+    requires { length.old ≡ 0 }
+    ensures { IsTextTold (Some monitor.now) bytes.old result bytes.new length.new }
+{
+    match fault_text(alloc, monitor.fault()) {
+        Ok(text) => tell_text(text.as_bytes(), bytes, length),
+        Err(_) => NO_MEMORY,
+    }
+}
+
+/// The text of the first fault; none where there is no fault.
+fn fault_text(alloc: Global, fault: Option<FirstFault>) -> Result<String, NoMemory> {
+    let mut text = String::new(alloc);
+    if let Some(first) = fault {
+        let reason = FaultText {
+            fault: first.reason,
+            names: FaultNames {
+                nodes: &[],
+                lines: &[],
+            },
+        };
+        write!(text, "{reason}")?;
+    }
+    Ok(text)
+}
+
+/// Copies a text into a room.
+fn tell_text(text: &[u8], bytes: &mut [u8], length: &mut usize) -> u8
+    ensures { AreBytesTold text.now bytes.old result bytes.new length.new }
+{
+    let count = text.len();
+    *length = count;
+    if bytes.len() < count {
+        return NO_ROOM;
+    }
+    bytes[..count].copy_from_slice(text);
+    DONE
 }
 
 /// Takes a flit.

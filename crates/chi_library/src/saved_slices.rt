@@ -1,9 +1,10 @@
 //! The bytes of a slice, and a slice out of bytes, for C.
 
-ghost use Rattle.std.specs.Prelude.{◌≡◌, IfOk, None, Some};
-ghost use Rattle.chi_library.specs.SavedSlices.{IsFaultNumber, IsLoading, IsSavedAs, IsSaving, AreBytesTold};
+ghost use Rattle.std.specs.Prelude.{◌≡◌, IfErr, IfOk, None, Some};
+ghost use Rattle.chi_library.specs.SavedSlices.{IsLoading, IsSavedAs, IsSaving, AreBytesTold, load_fault_number};
 ghost use Rattle.chi_library.specs.Sizes.{config_of};
 ghost use Rattle.chi_library.specs.SliceCalls.{sizes_at};
+ghost use Rattle.chi_snapshot.specs.Faults.{IsFaultOf};
 ghost use Rattle.chi_snapshot.specs.Snapshot.{saved};
 
 use crate::answers::{
@@ -115,7 +116,8 @@ fn boxed_saved(
     index: u8,
     bytes: &[u8],
 ) -> Result<Box<Slice<Global>>, LoadFault>
-    ensures { IfOk result (λ held. IsSavedAs config.now index bytes.now held.value) }
+    ensures held { IfOk result (λ held. IsSavedAs config.now index bytes.now held.value) }
+    ensures fault { IfErr result (λ fault. IsFaultOf config.now index bytes.now fault) }
 {
     let slice = load(alloc, config, index, bytes)?;
     match Box::new(alloc, slice) {
@@ -126,7 +128,7 @@ fn boxed_saved(
 
 /// The number of a fault.
 fn fault_number(fault: LoadFault) -> u8
-    ensures { IsFaultNumber result }
+    ensures { result ≡ load_fault_number fault }
 {
     match fault {
         LoadFault::NoMemory => NO_MEMORY,

@@ -1,6 +1,6 @@
 //! The sizes of a node in C's words.
 
-ghost use Rattle.std.specs.Prelude.{◌≡◌, Some};
+ghost use Rattle.std.specs.Prelude.{◌≡◌, ◌<◌, Some};
 ghost use Rattle.chi_flit.specs.declared.credit.Profile.TheVariants.{Two};
 ghost use Rattle.chi_library.specs.Sizes.{config_of, sizes_in};
 
@@ -9,7 +9,7 @@ use chi_flit::Profile;
 use chi_slice::Config;
 
 /// The sizes of a node: `ChiConfig` of `chihome.h`. In profile 0 the third and the fourth number of
-/// entries are 0.
+/// entries are 0. A journal of 0 records keeps none.
 /// Source: `docs/PROTOCOL.md`, "Limits".
 #[repr(C)]
 #[derive(Clone, Copy)]
@@ -22,8 +22,9 @@ pub struct ChiConfig {
     pub journal: u32,
 }
 
-/// The sizes of a node of two credit types.
+/// The sizes of a node of two credit types, whose journals keep records.
 fn two_types(sizes: &ChiConfig) -> Option<Config>
+    requires { 0 < sizes.now.journal }
     ensures { result ≡ sizes_in sizes.now (Some Two) }
 {
     let [t0, t1, t2, t3] = sizes.entries;
@@ -44,7 +45,17 @@ fn two_types(sizes: &ChiConfig) -> Option<Config>
 pub(crate) fn config_at(sizes: &ChiConfig) -> Option<Config>
     ensures { result ≡ config_of sizes.now }
 {
-    match profile_at(sizes.profile)? {
+    let profile = profile_at(sizes.profile)?;
+    if sizes.journal == 0 {
+        return Config::without_records(
+            sizes.agents,
+            sizes.lines,
+            sizes.slices,
+            profile,
+            sizes.entries,
+        );
+    }
+    match profile {
         Profile::Two => two_types(sizes),
         Profile::Four => Config::four(
             sizes.agents,

@@ -23,6 +23,7 @@ pub mod WriteLanes
 pub mod WriteKeeps
 pub mod AnswerKeeps
 pub mod Sends
+pub mod StepOf
 pub mod Steps
 pub mod Views
 pub mod Positions

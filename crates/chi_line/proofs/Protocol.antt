@@ -24,7 +24,7 @@ use Rattle.chi_line.specs.LineState.{LineState, rn_of, cells_of}
 use Rattle.chi_line.specs.Kept.{IsServedRight, Kept, Lane, LaneKept, is_comp_unique, is_dbid, kind_if, lane, writes_for}
 use Rattle.chi_line.specs.Refused.{marked_credit_refusal, full_if, retry_refusal, step_refusal}
 use Rattle.chi_line.specs.Step.{acknowledged_line, after_step, answer_in, answered_by, comp_received_line, evict_received_line, resent_line, started_effect, started_line, step_effect, step_record, where_some}
-use Rattle.chi_line.specs.StepOf.{Changes}
+use Rattle.chi_line.proofs.StepOf.{Changes}
 use Rattle.chi_line.specs.Traffic.{Balances, answer_flit, answered_flits, flit_taken, flits_sent, started_flits}
 use Rattle.chi_line.specs.Types.{pending_credit}
 use Rattle.chi_line.specs.Protocol.{LineStep}

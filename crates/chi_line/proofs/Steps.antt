@@ -25,7 +25,7 @@ use Rattle.chi_line.specs.LineState.{LineState, rn_of, cells_of}
 use Rattle.chi_line.specs.Step.{admitted_line, after_step, answer_in, answered_by, completed_effect, completion_received, data_written, dbid_received_line, is_ack, is_comp, is_dbid, is_retry, is_write_data, received_line, resent_line, retried_line, snooped_line, started_line, step_effect, step_record, waiting_effect, where_some}
 use Rattle.chi_line.specs.Refused.{retry_refusal, step_refusal}
 use Rattle.chi_line.specs.Kept.{Kept}
-use Rattle.chi_line.specs.StepOf.{StepOf}
+use Rattle.chi_line.proofs.StepOf.{StepOf}
 use Rattle.chi_line.proofs.After.{IsRetried, dbid_there, flit_there, may_resend, retry_there}
 use Rattle.chi_line.proofs.Finds.{acknowledge_is_awaited, response_finds_pending, write_is_awaited}
 use Rattle.chi_line.proofs.Sends.{CanStart, can_start}

@@ -5,7 +5,6 @@ pub mod Snooped
 pub mod Clean
 pub mod Kept
 pub mod Keeping
-pub mod StepOf
 pub mod View
 pub mod Places
 pub mod Table

@@ -1,6 +1,6 @@
 //! The actions on a line.
 
-ghost use Rattle.std.specs.Prelude.{◌≡◌, ℕ, List, ◌<◌, true, IfOk, OnOk, OnErr};
+ghost use Rattle.std.specs.Prelude.{◌≡◌, ℕ, List, ◌<◌, true, None, IfOk, OnOk, OnErr};
 ghost use Rattle.chi_flit.specs.Refusal.{refusal_of};
 ghost use Rattle.chi_line.specs.Kept.{Kept};
 ghost use Rattle.chi_line.specs.Moves.{moved_slot, moved_to};
@@ -52,16 +52,38 @@ impl CoherentLine {
         ensures flits { OnOk result (KeepsFlits conditions.profile self.old action self.new) }
         ensures err { OnErr result (self.new ≡ self.old) }
     {
+        match self.refusal(conditions, action) {
+            Some(refusal) => Err(refusal),
+            None => Ok(self.effect(conditions, action)),
+        }
+    }
+
+    /// Does an action that isn't refused; answers what `act` does.
+    ///
+    /// Conditions: those of `act`, and no refusal.
+    /// Source: `docs/PROTOCOL.md`, "The actions".
+    #[inline(always)]
+    fn effect(&mut self, conditions: Conditions, action: Action) -> ActionOutcome
+        requires agent { action.agent.0 < 8 }
+        requires step { is_step_in_range action.step ≡ true }
+        requires kept { (last : List ℕ) × Kept last self.old }
+        requires allowed { line_refusal conditions self.old action ≡ None }
+        ensures effect { result.effect ≡ effect_of self.old action }
+        ensures slot { result.slot ≡ moved_slot self.old action.agent action.step }
+        ensures to { result.to ≡ moved_to self.old action.agent action.step }
+        ensures after { self.new ≡ after conditions.profile self.old action }
+        ensures flits { KeepsFlits conditions.profile self.old action self.new }
+    {
         let agent = action.agent;
         match action.step {
-            Step::Load(word) => self.load(agent, word, conditions.journal_full),
-            Step::Store(word, value) => self.store(agent, word, value, conditions.journal_full),
+            Step::Load(word) => self.load(agent, word),
+            Step::Store(word, value) => self.store(agent, word, value),
             Step::Drop => self.drop_clean(agent),
-            Step::Issue(kind, slot) => self.issue(agent, kind, slot, conditions.slot_used),
+            Step::Issue(kind, slot) => self.issue(agent, kind, slot),
             Step::Admit => self.admit(agent),
             Step::Retry => self.retry(agent, conditions.profile),
             Step::RecvRetry => self.receive_retry(agent),
-            Step::Resend => self.resend(agent, conditions),
+            Step::Resend => self.resend(agent),
             Step::Cancel => self.cancel(agent),
             Step::Start => self.start(agent),
             Step::RecvSnp => self.receive_snoop(agent),

@@ -1,19 +1,17 @@
 //! The actions of snoops: an agent answers one, and the home takes the answer.
 
 ghost use Rattle.std.specs.List.Sorted.{IsPermutation};
-ghost use Rattle.std.specs.Prelude.{◌≡◌, ◌<◌, ℕ, true, None, Some, is_some, IfOk, OnOk, OnErr, [], ◌++◌};
+ghost use Rattle.std.specs.Prelude.{◌≡◌, ◌<◌, ℕ, true, None, Some, is_some, [], ◌++◌};
 ghost use Rattle.chi_flit.specs.Message.{channel_of};
-ghost use Rattle.chi_flit.specs.Refusal.{refusal_of};
 ghost use Rattle.chi_flit.specs.declared.action.Effect.TheVariants.{Nothing};
 ghost use Rattle.chi_flit.specs.declared.message.Channel.TheVariants as channels;
-ghost use Rattle.chi_filter.specs.Filter.{is_named};
+ghost use Rattle.chi_filter.specs.Filter.{is_in, is_named};
 ghost use Rattle.chi_wires.specs.Cell.{cell_of};
 ghost use Rattle.chi_wires.specs.Flight.{flit_of, in_flight};
 ghost use Rattle.chi_wires.specs.Flits.{cells_at};
 ghost use Rattle.chi_homeline.specs.declared.serving.Completion.{Completion};
 ghost use Rattle.chi_line.specs.Kept.{snoops_for};
 ghost use Rattle.chi_line.specs.LineState.{cells_of, rn_of};
-ghost use Rattle.chi_line.specs.Refused.{no_flit_unless};
 ghost use Rattle.chi_line.specs.Snooped.{completion_put};
 ghost use Rattle.chi_line.specs.Step.{answer_in, answered_by, snooped_line, where_some};
 ghost use Rattle.chi_line.specs.Traffic.{Balances, answer_flit, answered_flits, completion_flits, flit_on, snoop_answer};
@@ -22,64 +20,62 @@ ghost use Rattle.chi_line.specs.Outcomes.{outcome_without_move};
 use crate::flits::answer_in;
 use crate::line::CoherentLine;
 use crate::outcomes::ActionOutcome;
-use chi_flit::{Agent, Channel, Effect, Refusal};
+use chi_flit::{Agent, Channel, Effect};
 use chi_homeline::Completion;
 use chi_wires::Wires;
 
 impl CoherentLine {
     /// RecvSnp: the agent takes its snoop, and the answer of its copy is in flight.
     ///
-    /// Refused 7 (NoFlit) where no snoop is in flight; nothing changes then.
+    /// Conditions: a snoop is in flight to the agent, and no response or data of it.
     /// Source: `docs/PROTOCOL.md`, "Answers to snoops".
-    pub(crate) fn receive_snoop(&mut self, agent: Agent) -> Result<ActionOutcome, Refusal>
+    pub(crate) fn receive_snoop(&mut self, agent: Agent) -> ActionOutcome
         requires agent { agent.0 < 8 }
-        requires empty { is_some (cells_of self.old agent.0).snp ≡ true
-            → ((cells_of self.old agent.0).rsp_up ≡ None)
-            × ((cells_of self.old agent.0).dat_up ≡ None) }
-        ensures refusal { refusal_of result
-            ≡ no_flit_unless (is_some (cells_of self.old agent.0).snp) }
-        ensures outcome { IfOk result (λ outcome. outcome ≡ outcome_without_move Nothing) }
-        ensures after { OnOk result (self.new
-            ≡ where_some self.old (cells_of self.old agent.0).snp (snooped_line self.old agent.0)) }
-        ensures flits { OnOk result (Balances (flit_on self.old agent channels.Snp)
-            (flit_of agent (snoop_answer (rn_of self.old agent.0) (cells_of self.old agent.0).snp)) self.old self.new) }
-        ensures err { OnErr result (self.new ≡ self.old) }
+        requires there { is_some (cells_of self.old agent.0).snp ≡ true }
+        requires response { (cells_of self.old agent.0).rsp_up ≡ None }
+        requires data { (cells_of self.old agent.0).dat_up ≡ None }
+        ensures outcome { result ≡ outcome_without_move Nothing }
+        ensures after { self.new
+            ≡ where_some self.old (cells_of self.old agent.0).snp (snooped_line self.old agent.0) }
+        ensures flits { Balances (flit_on self.old agent channels.Snp)
+            (flit_of agent (snoop_answer (rn_of self.old agent.0) (cells_of self.old agent.0).snp)) self.old self.new }
     {
-        let cells = self.flits.cells(agent);
-        let snoop = cells.snp.ok_or(Refusal::NoFlit)?;
+        let Some(snoop) = self.flits.cells(agent).snp else {
+            unreachable!()
+        };
         let answer = self.requesters[usize::from(agent.0)].snooped(snoop);
         self.flits.exchange(agent, Channel::Snp, answer);
-        Ok(ActionOutcome::without_move(Effect::Nothing))
+        ActionOutcome::without_move(Effect::Nothing)
     }
 
     /// RecvSnpResp: the home takes the agent's answer to its snoop. Where it is the last one, the completion
     /// that it brings is in flight at once.
     ///
-    /// Refused 7 (NoFlit) where no answer is in flight; nothing changes then.
+    /// Conditions: an answer of the agent is in flight and awaited, and the filter names the agent; the agent
+    /// for whose request the home snoops has nothing in flight to it on the channels of completions.
     /// Source: `docs/PROTOCOL.md`, "Answers of snooped agents".
     #[inline(always)]
-    pub(crate) fn receive_answer(&mut self, agent: Agent) -> Result<ActionOutcome, Refusal>
+    pub(crate) fn receive_answer(&mut self, agent: Agent) -> ActionOutcome
         requires agent { agent.0 < 8 }
-        requires named { is_some (answer_in (cells_of self.old agent.0)) ≡ true
-            → is_named self.old.home.filter agent.0 ≡ true }
+        requires there { is_some (answer_in (cells_of self.old agent.0)) ≡ true }
+        requires awaited { is_in self.old.home.awaited agent.0 ≡ true }
+        requires named { is_named self.old.home.filter agent.0 ≡ true }
         requires down { (other : ℕ) → snoops_for self.old.home.serving other ≡ true
             → ((cells_of self.old other).rsp_down ≡ None)
             × ((cells_of self.old other).dat_down ≡ None) }
-        ensures refusal { refusal_of result
-            ≡ no_flit_unless (is_some (answer_in (cells_of self.old agent.0))) }
-        ensures outcome { IfOk result (λ outcome. outcome ≡ outcome_without_move Nothing) }
-        ensures after { OnOk result (self.new
-            ≡ where_some self.old (answer_in (cells_of self.old agent.0)) (answered_by self.old agent)) }
-        ensures flits { OnOk result (Balances (answer_flit self.old agent (answer_in (cells_of self.old agent.0)))
-            (answered_flits self.old.home agent (answer_in (cells_of self.old agent.0))) self.old self.new) }
-        ensures err { OnErr result (self.new ≡ self.old) }
+        ensures outcome { result ≡ outcome_without_move Nothing }
+        ensures after { self.new
+            ≡ where_some self.old (answer_in (cells_of self.old agent.0)) (answered_by self.old agent) }
+        ensures flits { Balances (answer_flit self.old agent (answer_in (cells_of self.old agent.0)))
+            (answered_flits self.old.home agent (answer_in (cells_of self.old agent.0))) self.old self.new }
     {
-        let cells = self.flits.cells(agent);
-        let found = answer_in(cells).ok_or(Refusal::NoFlit)?;
+        let Some(found) = answer_in(self.flits.cells(agent)) else {
+            unreachable!()
+        };
         self.flits.clear(agent, found.channel);
         let completion = self.home.snp_resp(agent, found.answer);
         put_completion(&mut self.flits, completion);
-        Ok(ActionOutcome::without_move(Effect::Nothing))
+        ActionOutcome::without_move(Effect::Nothing)
     }
 }
 

@@ -1,3 +1,5 @@
+pub mod Bases
 pub mod Choices
+pub mod Forgotten
 pub mod Places
 pub mod Watched

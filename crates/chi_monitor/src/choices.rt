@@ -1,16 +1,17 @@
-//! What the model allows in place of what was seen.
+//! What the model allows in place of what was seen. The search isn't trusted: what it finds is done again by
+//! chi_explain.
 
 ghost use Rattle.std.specs.Prelude.{◌≡◌, ◌<◌, IfOk, OnOk};
 ghost use Rattle.chi_monitor.specs.Choices.{AreInterchangeable, is_alike, is_same_way};
 
-use crate::faults::LineFault;
+use crate::faults::{LineFault, SeenAt};
 use crate::line::Search;
 use crate::search::{line_behind, take};
 use chi_explain::{Observed, SentFlit, StoreListing};
 use chi_flit::{
-    Agent, CompData, CreditType, DatUp, Kind, Msg, NO_DATA, Request, RspDown, RspUp, Slot, Snoop,
-    State, WordNo,
+    Agent, CompData, DatUp, Kind, Msg, NO_DATA, Request, RspDown, RspUp, Slot, Snoop, State, WordNo,
 };
+use chi_slice::Config;
 use std::alloc::Allocator;
 
 const KINDS: [Kind; 8] = [
@@ -38,6 +39,7 @@ const STATES: [State; 5] = [State::I, State::SC, State::UC, State::UD, State::SD
 /// Source: `docs/TRACES.md`, "What is printed".
 pub fn allowed<A: Allocator + Copy>(
     alloc: A,
+    config: &Config,
     stores: StoreListing,
     before: &[Observed],
     seen: &Observed,
@@ -45,10 +47,10 @@ pub fn allowed<A: Allocator + Copy>(
     ensures { IfOk result (λ others. AreInterchangeable seen.now others.items) }
 {
     let mut allowed = Vec::new(alloc);
-    let search = line_behind(alloc, stores, before)?;
+    let search = line_behind(alloc, config, stores, before)?;
     for candidate in candidates(alloc, &search, seen)?.iter() {
-        let mut tried = line_behind(alloc, stores, before)?;
-        if take(&mut tried, candidate).is_ok() {
+        let mut tried = line_behind(alloc, config, stores, before)?;
+        if take(&mut tried, candidate, SeenAt(before.len() as u64)).is_ok() {
             add_alike(&mut allowed, seen, candidate)?;
         }
     }
@@ -157,18 +159,17 @@ fn messages<A: Allocator + Copy>(
     requires { flit.now.agent.0 < 8 }
 {
     match flit.message {
-        Msg::Req(_) => requests(alloc),
+        Msg::Req(_) => requests(alloc, search.slot_of(flit.agent)),
         Msg::Snp(_) => snoops(alloc),
-        Msg::RspDown(_) | Msg::DatDown(_) => completions(alloc, search),
+        Msg::RspDown(_) | Msg::DatDown(_) => completions(alloc, search, flit.agent),
         Msg::RspUp(_) | Msg::DatUp(_) => answers(alloc, search, flit.agent),
     }
 }
 
-fn requests<A: Allocator>(alloc: A) -> Result<Vec<Msg, A>, LineFault> {
+fn requests<A: Allocator>(alloc: A, slot: Slot) -> Result<Vec<Msg, A>, LineFault> {
     let mut messages = Vec::new(alloc);
     for kind in KINDS {
         for allow_retry in [true, false] {
-            let slot = Slot(0);
             messages.push(Msg::Req(Request {
                 kind,
                 slot,
@@ -187,9 +188,15 @@ fn snoops<A: Allocator>(alloc: A) -> Result<Vec<Msg, A>, LineFault> {
     Ok(messages)
 }
 
-fn completions<A: Allocator>(alloc: A, search: &Search<A>) -> Result<Vec<Msg, A>, LineFault> {
+fn completions<A: Allocator>(
+    alloc: A,
+    search: &Search<A>,
+    agent: Agent,
+) -> Result<Vec<Msg, A>, LineFault>
+    requires { agent.0 < 8 }
+{
     let mut messages = Vec::new(alloc);
-    messages.push(Msg::RspDown(RspDown::RetryAck(CreditType::T0)))?;
+    messages.push(Msg::RspDown(RspDown::RetryAck(search.credit_of(agent))))?;
     messages.push(Msg::RspDown(RspDown::CompUC))?;
     messages.push(Msg::RspDown(RspDown::CompI))?;
     messages.push(Msg::RspDown(RspDown::CompDBIDResp))?;

@@ -1,10 +1,11 @@
-//! Completions of a line's requests, and what acknowledges them.
+//! Completions of a line's requests, and what acknowledges them. Not trusted: what the search finds is done again by
+//! chi_explain.
 
 ghost use Rattle.std.specs.Prelude.{◌<◌};
 
-use crate::faults::{Awaited, LineFault, WrongSnoops};
-use crate::filter::{has, has_any};
-use crate::line::{Answer, Draft, Search, Service};
+use crate::faults::{Awaited, LineFault, WrongForm, WrongSnoops};
+use crate::filter::{AgentSet, NOBODY, first_beside, has, has_any};
+use crate::line::{Answer, Draft, Group, Search, Service};
 use crate::requester::{Given, Stage};
 use crate::values::{SeenWords, UnknownWords};
 use chi_flit::{Agent, Kind, State, Step};
@@ -19,27 +20,41 @@ impl<A: Allocator> Search<A> {
         let targets = self.filter.targets(agent, kind);
         match self.service {
             Service::Idle => {
-                if has_any(&targets) {
-                    return Err(LineFault::Snoops(WrongSnoops::Missing));
+                if let Some(other) = first_beside(&targets, &NOBODY) {
+                    let wrong = WrongSnoops::Unsnooped(other, self.reach(&self.at(other)));
+                    return Err(LineFault::Snoops(kind, wrong));
                 }
                 self.act(agent, Step::Admit)?;
                 self.act(agent, Step::Start)?;
                 Ok(None)
             }
             Service::Snooping(group) => {
-                if !has(&group.may_be, agent) {
-                    return Err(LineFault::Snoops(WrongSnoops::OfAnother));
-                }
-                if targets != group.snooped || targets != group.answered {
-                    return Err(LineFault::Snoops(WrongSnoops::Missing));
+                if let Some(wrong) = self.wrong_snoops(agent, &targets, &group) {
+                    return Err(LineFault::Snoops(kind, wrong));
                 }
                 self.fill(group.at, agent);
                 self.take_answers()
             }
-            Service::AwaitingAck(_) => Err(LineFault::EarlyCompletion(Awaited::Ack)),
-            Service::AwaitingWriteData(_, _) => {
-                Err(LineFault::EarlyCompletion(Awaited::WriteData))
+            Service::AwaitingAck(served, since) => {
+                Err(LineFault::EarlyCompletion(Awaited::Ack(served, since)))
             }
+            Service::AwaitingWriteData(served, _, since) => {
+                Err(LineFault::EarlyCompletion(Awaited::WriteData(served, since)))
+            }
+        }
+    }
+
+    /// What is wrong with the group's snoops, where the agent's request is completed and snoops these.
+    fn wrong_snoops(&self, agent: Agent, targets: &AgentSet, group: &Group) -> Option<WrongSnoops> {
+        if !has(&group.may_be, agent) {
+            return Some(WrongSnoops::OfAnother(group.since));
+        }
+        if let Some(other) = first_beside(targets, &group.snooped) {
+            return Some(WrongSnoops::Unsnooped(other, self.reach(&self.at(other))));
+        }
+        match first_beside(targets, &group.answered) {
+            Some(other) => Some(WrongSnoops::Unanswered(other, self.snooped_since(other, group))),
+            None => None,
         }
     }
 
@@ -116,14 +131,14 @@ impl<A: Allocator> Search<A> {
         let given = self.begin(agent, kind)?;
         let alone = matches!(kind, Kind::ReadUnique) || !has_any(&self.filter.others(agent));
         if unique != alone {
-            return Err(LineFault::Form);
+            return Err(LineFault::Form(self.wrong_form(agent, kind)));
         }
         let words = match (kind, given) {
             (Kind::ReadShared, Some(words)) if !alone => words,
             _ => self.memory,
         };
         if !self.values.are_now(&words, seen) {
-            return Err(LineFault::Words(self.values.known(&words)));
+            return Err(LineFault::Words(self.values.beside(&words, seen)));
         }
         if alone {
             self.filter.only(agent);
@@ -131,11 +146,24 @@ impl<A: Allocator> Search<A> {
             self.filter.join(agent);
         }
         let state = if alone { State::UC } else { State::SC };
-        side.given = Some(Given::Data(state, words));
+        side.given = Some(Given::Data(state, words, self.now()));
         side.move_to(Stage::Served);
         self.put(agent, side);
-        self.service = Service::AwaitingAck(agent);
+        self.service = Service::AwaitingAck(agent, self.now());
         Ok(())
+    }
+
+    /// The form that the data of the agent's read is to have in place of the other one.
+    fn wrong_form(&self, agent: Agent, kind: Kind) -> WrongForm
+        requires { agent.0 < 8 }
+    {
+        if matches!(kind, Kind::ReadUnique) {
+            return WrongForm::NotUnique;
+        }
+        match first_beside(&self.filter.others(agent), &NOBODY) {
+            Some(other) => WrongForm::Shared(other, self.reach(&self.at(other))),
+            None => WrongForm::Alone,
+        }
     }
 
     /// Comp_UC of the agent's CleanUnique.
@@ -149,10 +177,10 @@ impl<A: Allocator> Search<A> {
         }
         let _ = self.begin(agent, Kind::CleanUnique)?;
         self.filter.only(agent);
-        side.given = Some(Given::Unique);
+        side.given = Some(Given::Unique(self.now()));
         side.move_to(Stage::Served);
         self.put(agent, side);
-        self.service = Service::AwaitingAck(agent);
+        self.service = Service::AwaitingAck(agent, self.now());
         Ok(())
     }
 
@@ -162,22 +190,22 @@ impl<A: Allocator> Search<A> {
     {
         let mut side = self.at(agent);
         match self.service {
-            Service::AwaitingAck(served) if served.0 == agent.0 => {}
+            Service::AwaitingAck(served, _) if served.0 == agent.0 => {}
             _ => return Err(LineFault::NoAckAwaited),
         }
         match side.given {
-            Some(Given::Data(state, words)) => {
+            Some(Given::Data(state, words, since)) => {
                 self.act(agent, Step::RecvData)?;
-                side.base = state;
+                side.stand(state, since);
                 side.words = words;
             }
-            Some(Given::Unique) => {
+            Some(Given::Unique(since)) => {
                 self.act(agent, Step::RecvComp)?;
-                side.base = match side.base {
-                    State::SC => State::UC,
-                    State::SD => State::UD,
-                    other => other,
-                };
+                match side.base {
+                    State::SC => side.stand(State::UC, since),
+                    State::SD => side.stand(State::UD, since),
+                    State::I | State::UC | State::UD => {}
+                }
             }
             None => return Err(LineFault::NoAckAwaited),
         }
@@ -192,9 +220,14 @@ impl<A: Allocator> Search<A> {
     pub(crate) fn awaited(&self) -> Option<Awaited> {
         match self.service {
             Service::Idle => None,
-            Service::Snooping(_) => Some(Awaited::Answers),
-            Service::AwaitingAck(_) => Some(Awaited::Ack),
-            Service::AwaitingWriteData(_, _) => Some(Awaited::WriteData),
+            Service::Snooping(group) => Some(match first_beside(&group.snooped, &group.answered) {
+                Some(other) => Awaited::Answer(other, self.snooped_since(other, &group)),
+                None => Awaited::Nothing(group.since),
+            }),
+            Service::AwaitingAck(served, since) => Some(Awaited::Ack(served, since)),
+            Service::AwaitingWriteData(served, _, since) => {
+                Some(Awaited::WriteData(served, since))
+            }
         }
     }
 

@@ -37,7 +37,7 @@ pub fn explain_flits<A: Allocator + Copy>(
         (λ witness. IsExplained config.now stores witness.memory witness.items.items seen.now) }
     ensures told { IfErr result (IsWithin (length seen.now)) }
 {
-    let witness = search_line(alloc, stores, seen)?;
+    let witness = search_line(alloc, config, stores, seen)?;
     match explain_line(alloc, config, stores, witness.memory, &witness.items, seen) {
         Ok(()) => Ok(witness),
         Err(undone) => Err(NoExplanation::Undone(undone)),
@@ -49,10 +49,11 @@ pub fn explain_flits<A: Allocator + Copy>(
 /// Source: `docs/TRACES.md`, "Explanations".
 pub fn first_fault<A: Allocator + Copy>(
     alloc: A,
+    config: &Config,
     stores: StoreListing,
     seen: &[Observed],
 ) -> Option<NoExplanation>
     ensures { IfSome result (IsWithin (length seen.now)) }
 {
-    search_line(alloc, stores, seen).err()
+    search_line(alloc, config, stores, seen).err()
 }

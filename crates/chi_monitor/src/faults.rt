@@ -1,10 +1,13 @@
-//! Why no run of the model sends a flit, or does a load or a store.
+//! Why no run of the model sends a flit, or does a load or a store, and what told it.
 
-use crate::values::Known;
 use chi_explain::StoreListing;
-use chi_flit::{Kind, NO_DATA, Snoop, State, WordNo, answer};
+use chi_flit::{Agent, CreditType, Kind, Snoop, State, WordNo};
 use std::alloc::{AllocError, AllocFailed};
-use std::fmt;
+
+/// The number of what was seen, counted from 0: of a line's flits, loads and stores, or of a monitor's flits.
+/// Source: `docs/TRACES.md`, "Rules".
+#[derive(Clone, Copy, Debug, PartialEq, Eq)]
+pub struct SeenAt(pub u64);
 
 /// The states that a copy may be in by now.
 /// Source: `docs/TRACES.md`, "Rules".
@@ -15,28 +18,72 @@ pub struct Reach {
     pub stores: StoreListing,
     /// A request of its requester to the line is pending.
     pub pending: bool,
+    /// What has told the last known one; `None` of a requester that never had a copy.
+    pub since: Option<SeenAt>,
+}
+
+/// A word whose value is known, and what has shown it; `None` where no flit has to.
+/// Source: `docs/TRACES.md`, "Rules".
+#[derive(Clone, Copy, Debug, PartialEq, Eq)]
+pub struct KnownWord {
+    pub value: u64,
+    pub since: Option<SeenAt>,
+}
+
+/// The words of data that were seen, and beside each what its sender has, as far as it is known.
+/// Source: `docs/TRACES.md`, "Rules".
+#[derive(Clone, Copy, Debug, PartialEq, Eq)]
+pub struct Differing {
+    pub seen: [Option<u64>; 8],
+    pub known: [Option<KnownWord>; 8],
+}
+
+/// What a reason rests on.
+/// Source: `docs/TRACES.md`, "Reasons".
+#[derive(Clone, Copy, Debug, PartialEq, Eq)]
+pub enum Basis {
+    /// The standard allows no such flit behind those before it.
+    Standard,
+    /// The standard leaves a choice, and this profile has made another one.
+    Profile,
 }
 
 /// What is wrong with the snoops before a completion.
 /// Source: `docs/TRACES.md`, "Rules".
 #[derive(Clone, Copy, Debug, PartialEq, Eq)]
 pub enum WrongSnoops {
-    /// Others are to be snooped or to answer first.
-    Missing,
-    /// Those that were sent are for a request of another node.
-    OfAnother,
+    /// This agent, whose copy may be in these states, is to be snooped first.
+    Unsnooped(Agent, Reach),
+    /// This agent is to answer its snoop first, which was seen then.
+    Unanswered(Agent, SeenAt),
+    /// Those that were sent from then on are for a request of another node.
+    OfAnother(SeenAt),
 }
 
-/// What the home awaits for the request that it serves, before it serves another one at the line.
+/// The other form that data of a read is to have.
+/// Source: `docs/TRACES.md`, "Rules".
+#[derive(Clone, Copy, Debug, PartialEq, Eq)]
+pub enum WrongForm {
+    /// SC of a ReadUnique.
+    NotUnique,
+    /// SC, and the model's home names nobody else.
+    Alone,
+    /// UC, and the model's home names this agent too, whose copy may be in these states.
+    Shared(Agent, Reach),
+}
+
+/// What the home awaits for the request that it serves, before it serves another one at the line, and what told it.
 /// Source: `docs/TRACES.md`, "Rules".
 #[derive(Clone, Copy, Debug, PartialEq, Eq)]
 pub enum Awaited {
-    /// Answers to its snoops.
-    Answers,
-    /// A CompAck.
-    Ack,
-    /// Write data.
-    WriteData,
+    /// This agent's answer to a snoop.
+    Answer(Agent, SeenAt),
+    /// Nothing: it is to complete the request that it has snooped for from then on.
+    Nothing(SeenAt),
+    /// This agent's CompAck.
+    Ack(Agent, SeenAt),
+    /// This agent's write data.
+    WriteData(Agent, SeenAt),
 }
 
 /// Why no run of the model sends the flit that was seen next, or does the load or the store.
@@ -45,30 +92,32 @@ pub enum Awaited {
 pub enum LineFault {
     /// Memory ran out.
     NoMemory,
-    /// There is no such agent or word.
+    /// There is no such agent, word or slot.
     NoAgent,
-    /// A first attempt or a store, and a request of the node to the line is pending.
-    Pending,
+    /// A first attempt or a store, and a request of the node to the line is pending, which was seen then.
+    Pending(SeenAt),
     /// A first attempt of this kind, and the copy, which may be in these states, can't be in one that it needs.
     Needs(Kind, Reach),
     /// A request without AllowRetry, and none of this kind was retried.
     NotRetried(Kind),
     /// A RetryAck, and no request of the node that allows it is on its way or waits.
     NothingToRetry,
-    /// A RetryAck to the only node whose request the snoops can be for.
-    ServedRetry,
+    /// A RetryAck of the first type, and the request's kind has the second one.
+    OtherCredit(CreditType, CreditType),
+    /// A RetryAck to the only node whose request the snoops can be for that were sent from then on.
+    ServedRetry(SeenAt),
     /// A snoop, and no request that waits asks for it of this node.
     NobodyAsks(Snoop),
     /// A snoop, and the home awaits this for an earlier request.
     EarlySnoop(Awaited),
-    /// A second snoop to the node for one request.
-    SnoopedTwice,
+    /// A second snoop to the node for one request; the first one was seen then.
+    SnoopedTwice(SeenAt),
     /// An answer, and the node has no snoop to answer.
     NothingToAnswer,
     /// An answer that the copy doesn't give, which may be in these states, to this snoop.
-    Answer(Reach, Snoop),
-    /// Data that isn't what the sender has: these words, as far as they are known.
-    Words(Known),
+    Answer(Reach, Snoop, Basis),
+    /// Data that isn't what the sender has.
+    Words(Differing),
     /// CompData, and no read of the node waits.
     NoRead,
     /// Comp_UC, and no CleanUnique of the node waits.
@@ -83,20 +132,21 @@ pub enum LineFault {
     EarlyEvict(Awaited),
     /// CompDBIDResp, and the home awaits this for another request.
     EarlyCopyBack(Awaited),
-    /// A completion, and others are to be snooped before it, or were snooped for another request.
-    Snoops(WrongSnoops),
-    /// A completion in another form than the filter says.
-    Form,
+    /// A completion of a request of this kind, and others are to be snooped or to answer before it, or were snooped
+    /// for another request.
+    Snoops(Kind, WrongSnoops),
+    /// Data of a read in another form than the model's home gives it.
+    Form(WrongForm),
     /// A CompAck, and the home doesn't await one of this node.
     NoAckAwaited,
     /// Write data, and the home doesn't await any of this node.
     NoWriteDataAwaited,
-    /// Write data in another form than that of the copy, whose state is this.
-    WriteForm(State),
-    /// A load, and the requester has no copy.
-    NoCopy,
+    /// Write data in this form, and not that of the copy, whose state is this.
+    WriteForm(State, Reach),
+    /// A load, and the requester has no copy, whose state is this.
+    NoCopy(Reach),
     /// A load of another value than this, which the copy has in this word.
-    Word(WordNo, u64),
+    Word(WordNo, KnownWord, Basis),
     /// A store, and the copy, which may be in these states, can't be in one that is written.
     NoStore(Reach),
 }
@@ -113,141 +163,12 @@ impl<T: Drop> From<AllocFailed<T>> for LineFault {
     }
 }
 
-impl fmt::Display for Reach {
-    fn fmt<W: fmt::Write>(&self, f: &mut fmt::Formatter<W>) -> fmt::Result {
-        let base = self.base;
-        match (base, self.pending) {
-            (State::SC, false) => f.write_str("SC or I"),
-            (State::UC, false) => f.write_str(if self.is_written() {
-                "UC, UD or I"
-            } else {
-                "UC or I"
-            }),
-            _ => write!(f, "{base}"),
-        }
-    }
-}
-
 impl Reach {
     /// Whether a copy that was in UC may be in UD by now.
-    fn is_written(&self) -> bool {
+    pub(crate) fn is_written(&self) -> bool {
         matches!(
             (self.base, self.stores, self.pending),
             (State::UC, StoreListing::Partial, false)
         )
-    }
-}
-
-/// What a copy in one of these states answers to the snoop: in its last known state, and in UD where it may have been
-/// stored to.
-#[derive(Clone, Copy)]
-struct OwnAnswer(Reach, Snoop);
-
-impl fmt::Display for OwnAnswer {
-    fn fmt<W: fmt::Write>(&self, f: &mut fmt::Formatter<W>) -> fmt::Result {
-        let (states, snoop) = (self.0, self.1);
-        let base = states.base;
-        let message = answer(base, snoop, NO_DATA).1;
-        write!(f, "{base} answers {snoop} by {message}")?;
-        if states.is_written() {
-            let dirty = answer(State::UD, snoop, NO_DATA).1;
-            write!(f, ", UD by {dirty}")?;
-        }
-        Ok(())
-    }
-}
-
-impl fmt::Display for WrongSnoops {
-    fn fmt<W: fmt::Write>(&self, f: &mut fmt::Formatter<W>) -> fmt::Result {
-        f.write_str(match self {
-            WrongSnoops::Missing => "other agents are to be snooped and to answer first",
-            WrongSnoops::OfAnother => "the snoops that were sent aren't for its request",
-        })
-    }
-}
-
-impl fmt::Display for Awaited {
-    fn fmt<W: fmt::Write>(&self, f: &mut fmt::Formatter<W>) -> fmt::Result {
-        f.write_str(match self {
-            Awaited::Answers => "answers to snoops",
-            Awaited::Ack => "a CompAck",
-            Awaited::WriteData => "write data",
-        })
-    }
-}
-
-impl LineFault {
-    /// What has to do with what the home awaits, and with the request that a flit is for.
-    fn write_stage<W: fmt::Write>(&self, f: &mut fmt::Formatter<W>) -> fmt::Result {
-        match self {
-            LineFault::EarlySnoop(awaited) => {
-                write!(
-                    f,
-                    "the home awaits {awaited} there before it snoops for another request"
-                )
-            }
-            LineFault::EarlyCompletion(awaited) => {
-                write!(
-                    f,
-                    "the home awaits {awaited} there before it completes another request"
-                )
-            }
-            LineFault::EarlyEvict(awaited) => {
-                write!(
-                    f,
-                    "the home awaits {awaited} there before it completes an Evict"
-                )
-            }
-            LineFault::EarlyCopyBack(awaited) => {
-                write!(
-                    f,
-                    "the home awaits {awaited} there before it asks for write data"
-                )
-            }
-            LineFault::NoRead => f.write_str("no read of it waits there"),
-            LineFault::NoCleanUnique => f.write_str("no CleanUnique of it waits there"),
-            LineFault::NoEvict => f.write_str("no Evict of it waits there"),
-            LineFault::NoCopyBack => f.write_str("no copy-back of it waits there"),
-            LineFault::NoAckAwaited => f.write_str("the home awaits no CompAck of it there"),
-            _ => f.write_str("the home awaits no write data of it there"),
-        }
-    }
-}
-
-impl fmt::Display for LineFault {
-    fn fmt<W: fmt::Write>(&self, f: &mut fmt::Formatter<W>) -> fmt::Result {
-        match self {
-            LineFault::NoMemory => f.write_str("memory ran out"),
-            LineFault::NoAgent => f.write_str("it is none of eight requesters"),
-            LineFault::Pending => f.write_str("an earlier request of it to the line isn't over"),
-            LineFault::Needs(kind, states) => {
-                write!(
-                    f,
-                    "its copy is {states}, and {kind} isn't issued from there"
-                )
-            }
-            LineFault::NotRetried(kind) => write!(f, "no {kind} of it was retried"),
-            LineFault::NothingToRetry => f.write_str("no first attempt of it is under way"),
-            LineFault::ServedRetry => f.write_str("the snoops that were sent are for its request"),
-            LineFault::NobodyAsks(snoop) => {
-                write!(f, "no request that waits asks for {snoop} of it now")
-            }
-            LineFault::SnoopedTwice => f.write_str("it was snooped for this request already"),
-            LineFault::NothingToAnswer => f.write_str("no snoop to it is unanswered"),
-            LineFault::Answer(states, snoop) => {
-                let own = OwnAnswer(*states, *snoop);
-                write!(f, "its copy is {states}, and {own}")
-            }
-            LineFault::Words(known) => write!(f, "its sender has the words {known}"),
-            LineFault::Snoops(wrong) => write!(f, "{wrong}"),
-            LineFault::Form => f.write_str("the home's filter says the other form"),
-            LineFault::WriteForm(state) => write!(f, "its copy is {state}, which has another form"),
-            LineFault::NoCopy => f.write_str("its copy is I, which no load reads"),
-            LineFault::Word(word, value) => { write!(f, "word {word} of its copy is {value:x}") }
-            LineFault::NoStore(states) => {
-                write!(f, "its copy is {states}, which no store writes")
-            }
-            other => other.write_stage(f),
-        }
     }
 }

@@ -1,4 +1,6 @@
-//! The home's filter, as the flits show it.
+//! The home's filter, as the flits show it. Not trusted: what the search finds is done again by chi_explain.
+
+ghost use Rattle.std.specs.Prelude.{◌<◌, IfSome};
 
 use chi_flit::{Agent, Kind};
 
@@ -19,6 +21,18 @@ pub(crate) struct KnownFilter {
 /// Whether some agent is in the set.
 pub(crate) fn has_any(set: &AgentSet) -> bool {
     set.iter().any(|marked| *marked)
+}
+
+/// The first agent that is in one set and not in another one.
+pub(crate) fn first_beside(set: &AgentSet, other: &AgentSet) -> Option<Agent>
+    ensures { IfSome result (λ agent. agent.0 < 8) }
+{
+    for number in 0..8 {
+        if has(set, Agent(number)) && !has(other, Agent(number)) {
+            return Some(Agent(number));
+        }
+    }
+    None
 }
 
 /// The set with the agent, or without it.

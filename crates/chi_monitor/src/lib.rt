@@ -4,9 +4,11 @@
 //! Source: `docs/TRACES.md`, "Explanations" and "A monitor".
 #![tactic(auto)]
 
+mod bases;
 mod choices;
 mod completions;
 mod explained;
+mod fault_texts;
 mod faults;
 mod filter;
 mod line;
@@ -23,7 +25,10 @@ mod writes;
 
 pub use choices::allowed;
 pub use explained::{NoExplanation, explain_flits, first_fault};
-pub use faults::{Awaited, LineFault, Reach, WrongSnoops};
+pub use fault_texts::{FaultNames, FaultText};
+pub use faults::{
+    Awaited, Basis, Differing, KnownWord, LineFault, Reach, SeenAt, WrongForm, WrongSnoops,
+};
 pub use monitor::{FirstFault, Monitor, NotExplained, NotTaken};
 pub use open_flits::OpenFlits;
 pub use parts::{PartSeen, words_of_run};

@@ -1,13 +1,18 @@
-//! What the flits so far have shown of a line, and the actions that explain them.
+//! What the flits so far have shown of a line, and the actions that explain them. Not trusted: what the search finds is
+//! done again by chi_explain.
 
-ghost use Rattle.std.specs.Prelude.{◌<◌};
+ghost use Rattle.std.specs.Prelude.{◌≡◌, ◌<◌, OnOk};
+ghost use Rattle.chi_monitor.specs.Forgotten.{IsForgotten, is_snooping};
 
-use crate::faults::{LineFault, Reach};
+use crate::faults::{Basis, LineFault, Reach, SeenAt};
 use crate::filter::{AgentSet, KnownFilter};
 use crate::requester::{Given, KnownRequester};
 use crate::values::{SeenWords, Unknown, UnknownWords, Values};
 use chi_explain::{StoreListing, WitnessItem};
-use chi_flit::{Agent, Data, Kind, Slot, Snoop, State, Step, WordNo};
+use chi_flit::{
+    Agent, CreditType, Data, Kind, Profile, Slot, Snoop, State, Step, WordNo, credit_type,
+};
+use chi_slice::Config;
 use std::alloc::Allocator;
 
 /// An item of an explanation, in which a stored value may be unknown.
@@ -30,6 +35,8 @@ pub(crate) struct Group {
     pub(crate) answered: AgentSet,
     /// The items that are to name whose it is: an Admit, and the Start behind it.
     pub(crate) at: usize,
+    /// Its first snoop.
+    pub(crate) since: SeenAt,
 }
 
 /// What the home does.
@@ -37,13 +44,18 @@ pub(crate) struct Group {
 pub(crate) enum Service {
     Idle,
     Snooping(Group),
-    AwaitingAck(Agent),
-    AwaitingWriteData(Agent, Kind),
+    /// The CompAck to the completion that was seen then.
+    AwaitingAck(Agent, SeenAt),
+    /// The write data that the CompDBIDResp asks for which was seen then.
+    AwaitingWriteData(Agent, Kind, SeenAt),
 }
 
 /// A line as the flits so far have shown it.
 #[derive(Drop)]
 pub(crate) struct Search<A: Allocator> {
+    pub(crate) profile: Profile,
+    /// How many agents there are.
+    pub(crate) agents: u8,
     pub(crate) stores: StoreListing,
     pub(crate) values: Values<A>,
     pub(crate) opening: UnknownWords,
@@ -69,7 +81,12 @@ pub(crate) enum Answer {
     Shared(UnknownWords),
 }
 
-pub(crate) const SLOT: Slot = Slot(0);
+/// Whether a group of snoops has no completion yet, which tells whose it is.
+fn is_snooping(service: &Service) -> bool
+    ensures { result ≡ is_snooping service.now }
+{
+    matches!(service, Service::Snooping(_))
+}
 
 /// Whether the words that were seen are all 0.
 pub(crate) fn are_zeros(seen: &SeenWords) -> bool {
@@ -77,11 +94,13 @@ pub(crate) fn are_zeros(seen: &SeenWords) -> bool {
 }
 
 impl<A: Allocator + Copy> Search<A> {
-    /// A line that nobody has a copy of, and nothing is known of its memory.
-    pub fn new(alloc: A, stores: StoreListing) -> Result<Search<A>, LineFault> {
+    /// A line of such a node that nobody has a copy of, and nothing is known of its memory.
+    pub fn new(alloc: A, config: &Config, stores: StoreListing) -> Result<Search<A>, LineFault> {
         let mut values = Values::new(alloc);
         let memory = values.unknown_line()?;
         Ok(Search {
+            profile: config.profile(),
+            agents: config.agents(),
             stores,
             values,
             opening: memory,
@@ -96,6 +115,31 @@ impl<A: Allocator + Copy> Search<A> {
 }
 
 impl<A: Allocator> Search<A> {
+    /// The number of what is seen now.
+    pub(crate) fn now(&self) -> SeenAt {
+        self.values.number
+    }
+
+    /// The slot of the agent's request, or the first one.
+    pub fn slot_of(&self, agent: Agent) -> Slot
+        requires { agent.0 < 8 }
+    {
+        match self.at(agent).asked {
+            Some(asked) => asked.slot,
+            None => Slot(0),
+        }
+    }
+
+    /// The type of the agent's request, or the first one.
+    pub fn credit_of(&self, agent: Agent) -> CreditType
+        requires { agent.0 < 8 }
+    {
+        match self.at(agent).asked {
+            Some(asked) => credit_type(self.profile, asked.kind),
+            None => CreditType::T0,
+        }
+    }
+
     /// The items of the explanation so far.
     pub fn items(&self) -> &[Draft] {
         &self.items
@@ -124,8 +168,8 @@ impl<A: Allocator> Search<A> {
     {
         let side = self.at(agent);
         match side.given {
-            Some(Given::Data(_, words)) => words,
-            Some(Given::Unique) | None => side.words,
+            Some(Given::Data(_, words, _)) => words,
+            Some(Given::Unique(_)) | None => side.words,
         }
     }
 
@@ -179,6 +223,7 @@ impl<A: Allocator> Search<A> {
             base: side.base,
             stores: self.stores,
             pending: !side.is_free(),
+            since: side.since,
         }
     }
 
@@ -202,23 +247,37 @@ impl<A: Allocator> Search<A> {
     {
         let mut side = self.at(agent);
         if !side.base.is_valid() {
-            return Err(LineFault::NoCopy);
+            return Err(LineFault::NoCopy(self.reach(&side)));
         }
         let held = side.words[usize::from(word.0)];
         if !self.values.is_now(held, value) {
             let stored = matches!(side.base, State::UC | State::UD) && side.asked.is_none();
             if !stored || !self.may_hide() {
-                return Err(LineFault::Word(word, self.values.value(held)));
+                return Err(self.word_fault(&side, word, held));
             }
             let now = self.values.known_one(value)?;
             self.items.push(Draft::Store(agent, word, now))?;
             side.words[usize::from(word.0)] = now;
-            side.base = State::UD;
+            side.stand(State::UD, self.now());
             self.put(agent, side);
         }
         self.items
             .push(Draft::Seen(WitnessItem::Load(agent, word, value)))?;
         Ok(())
+    }
+
+    /// The fault of a load that reads another value: that no store is done while a request is pending is a choice of the
+    /// profile.
+    fn word_fault(&self, side: &KnownRequester, word: WordNo, held: Unknown) -> LineFault {
+        let basis = if side.base.is_unique() && self.may_hide() {
+            Basis::Profile
+        } else {
+            Basis::Standard
+        };
+        match self.values.known_word(held) {
+            Some(known) => LineFault::Word(word, known, basis),
+            None => LineFault::NoAgent,
+        }
     }
 
     /// A store of the agent that wrote this value.
@@ -227,8 +286,8 @@ impl<A: Allocator> Search<A> {
         requires words { word.0 < 8 }
     {
         let mut side = self.at(agent);
-        if side.asked.is_some() {
-            return Err(LineFault::Pending);
+        if let Some(asked) = side.asked {
+            return Err(LineFault::Pending(asked.since));
         }
         match side.base {
             State::UC | State::UD => {}
@@ -237,7 +296,7 @@ impl<A: Allocator> Search<A> {
             }
         }
         side.words[usize::from(word.0)] = self.values.known_one(value)?;
-        side.base = State::UD;
+        side.stand(State::UD, self.now());
         self.put(agent, side);
         self.items
             .push(Draft::Seen(WitnessItem::Store(agent, word, value)))?;
@@ -245,12 +304,14 @@ impl<A: Allocator> Search<A> {
     }
 
     /// Forgets the items that no flit can change any more, and the words that the line hasn't.
-    pub fn forget(&mut self) -> Result<(), LineFault> {
-        if !matches!(self.service, Service::Snooping(_)) {
-            self.items.clear();
-        }
+    pub fn forget(&mut self) -> Result<(), LineFault>
+        ensures { OnOk result (IsForgotten self.new.service self.new.items.items) }
+    {
         if self.values.are_many() {
             self.forget_words()?;
+        }
+        if !is_snooping(&self.service) {
+            self.items.clear();
         }
         Ok(())
     }
@@ -261,7 +322,7 @@ impl<A: Allocator> Search<A> {
         self.values.keep(&mut self.memory)?;
         for side in self.requesters.iter_mut() {
             self.values.keep(&mut side.words)?;
-            if let Some(Given::Data(_, words)) = &mut side.given {
+            if let Some(Given::Data(_, words, _)) = &mut side.given {
                 self.values.keep(words)?;
             }
         }

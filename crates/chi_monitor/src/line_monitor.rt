@@ -1,10 +1,10 @@
-//! A monitor of one line.
+//! A monitor of one line. Whether a flit is taken isn't trusted: what is kept is explained by chi_explain.
 
 ghost use Rattle.std.specs.Prelude.{◌≡◌, IfOk, OnErr, OnOk, nat_lt, true};
 ghost use Rattle.chi_monitor.specs.Watched.{IsToldOf, has_no_room, unwatched_line, watched_after};
 
 use crate::explained::explain_flits;
-use crate::faults::LineFault;
+use crate::faults::{LineFault, SeenAt};
 use crate::line::Search;
 use crate::monitor::NotExplained;
 use crate::open_flits::OpenFlits;
@@ -34,10 +34,10 @@ impl<A: Allocator> Model for LineMonitor<A> {
 
 impl<A: Allocator + Copy> LineMonitor<A> {
     /// A line of which nothing was seen, with room for so many flits.
-    pub fn new(alloc: A, room: usize) -> Result<LineMonitor<A>, LineFault>
+    pub fn new(alloc: A, config: &Config, room: usize) -> Result<LineMonitor<A>, LineFault>
         ensures { IfOk result (λ w. w ≡ unwatched_line room) }
     {
-        let search = Search::new(alloc, StoreListing::Partial)?;
+        let search = Search::new(alloc, config, StoreListing::Partial)?;
         let flits = Vec::with_capacity(alloc, room)?;
         Ok(LineMonitor {
             room,
@@ -56,8 +56,8 @@ impl<A: Allocator> LineMonitor<A> {
         0 < self.room && !(self.flits.len() < self.room)
     }
 
-    /// Takes the next flit, where a run of the model sends it.
-    pub fn take(&mut self, flit: &SentFlit) -> Result<(), LineFault>
+    /// Takes the next flit, of this number, where a run of the model sends it.
+    pub fn take(&mut self, number: u64, flit: &SentFlit) -> Result<(), LineFault>
         ensures taken { OnOk result (self.new ≡ watched_after self.old flit.now) }
         ensures refused { OnErr result (self.new ≡ self.old) }
     {
@@ -65,7 +65,7 @@ impl<A: Allocator> LineMonitor<A> {
         if place >= 8 {
             return Err(LineFault::NoAgent);
         }
-        self.look(flit)?;
+        self.look(number, flit)?;
         if 0 < self.room {
             self.flits.push(Observed::Flit(*flit))?;
         }
@@ -74,10 +74,10 @@ impl<A: Allocator> LineMonitor<A> {
     }
 
     /// Whether a run of the model sends the flit next.
-    fn look(&mut self, flit: &SentFlit) -> Result<(), LineFault>
+    fn look(&mut self, number: u64, flit: &SentFlit) -> Result<(), LineFault>
         ensures { self.new ≡ self.old }
     {
-        take(&mut self.search, &Observed::Flit(*flit))?;
+        take(&mut self.search, &Observed::Flit(*flit), SeenAt(number))?;
         self.search.forget()
     }
 

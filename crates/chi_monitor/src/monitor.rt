@@ -1,4 +1,4 @@
-//! A monitor of the lines of a node.
+//! A monitor of the lines of a node. Whether a flit is taken isn't trusted: what is kept is explained by chi_explain.
 
 ghost use Rattle.std.specs.Prelude.{◌≡◌, IfOk, replicate, slice_get};
 ghost use Rattle.chi_monitor.specs.Watched.{IsObserved, IsToldAt, flit_refusal, next_number, open_flits_at, opening_monitor, judging_refusal, unwatched_line};
@@ -74,7 +74,7 @@ impl<A: Allocator + Copy> Monitor<A> {
     pub fn new(alloc: A, config: &Config, lines: u8, room: usize) -> Result<Monitor<A>, NoMemory>
         ensures { IfOk result (λ monitor. monitor ≡ opening_monitor config.now lines room) }
     {
-        let lines = unwatched_lines(alloc, lines, room)?;
+        let lines = unwatched_lines(alloc, config, lines, room)?;
         Ok(Monitor {
             config: *config,
             lines,
@@ -98,7 +98,7 @@ impl<A: Allocator> Monitor<A> {
         if let Some(refusal) = self.refusal(line, flit) {
             return Err(refusal);
         }
-        match self.lines[usize::from(line.0)].take(flit) {
+        match self.lines[usize::from(line.0)].take(self.taken, flit) {
             Ok(()) => {
                 self.taken = next_number(self.taken);
                 Ok(())
@@ -161,6 +161,7 @@ impl<A: Allocator> Monitor<A> {
 /// So many lines of which nothing was seen.
 fn unwatched_lines<A: Allocator + Copy>(
     alloc: A,
+    config: &Config,
     count: u8,
     room: usize,
 ) -> Result<Vec<LineMonitor<A>, A>, NoMemory>
@@ -168,7 +169,7 @@ fn unwatched_lines<A: Allocator + Copy>(
 {
     let mut lines = Vec::with_capacity(alloc, usize::from(count))?;
     for _ in 0..count {
-        match LineMonitor::new(alloc, room) {
+        match LineMonitor::new(alloc, config, room) {
             Ok(line) => lines.push(line)?,
             Err(_) => return Err(NoMemory),
         }

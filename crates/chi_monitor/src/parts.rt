@@ -1,11 +1,13 @@
-//! Data of which words weren't seen: these may be any that a run of the model sends.
+//! Data of which words weren't seen: these may be any that a run of the model sends. Not trusted: what is found is done
+//! again by chi_explain.
 
-use crate::faults::LineFault;
+use crate::faults::{LineFault, SeenAt};
 use crate::line::Search;
 use crate::search::{take_part, words_in};
 use crate::values::{SeenWords, UnknownWords};
 use chi_explain::{Observed, StoreListing};
 use chi_flit::{DatUp, Data, Msg, NO_DATA, NoMemory, State};
+use chi_slice::Config;
 use std::alloc::Allocator;
 
 /// The words that were seen of the data that stands at a place of what was seen of a line.
@@ -40,18 +42,24 @@ fn just_sent<A: Allocator>(search: &Search<A>, seen: &Observed) -> Option<Unknow
 /// Source: `docs/TRACES.md`, "Nodes, ids and credits".
 pub fn words_of_run<A: Allocator + Copy>(
     alloc: A,
+    config: &Config,
     stores: StoreListing,
     seen: &[Observed],
     parts: &[PartSeen],
     place: usize,
 ) -> Result<Data, NoMemory> {
-    let mut search = match Search::new(alloc, stores) {
+    let mut search = match Search::new(alloc, config, stores) {
         Ok(search) => search,
         Err(_) => return Err(NoMemory),
     };
     let mut sent = None;
     for (at, item) in seen.iter().enumerate() {
-        match take_part(&mut search, item, &words_at(item, parts, at)) {
+        match take_part(
+            &mut search,
+            item,
+            &words_at(item, parts, at),
+            SeenAt(at as u64),
+        ) {
             Ok(()) => {}
             Err(LineFault::NoMemory) => return Err(NoMemory),
             Err(_) => break,

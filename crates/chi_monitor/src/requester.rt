@@ -1,7 +1,8 @@
-//! A requester's side of a line, as the flits show it.
+//! A requester's side of a line, as the flits show it. Not trusted: what the search finds is done again by chi_explain.
 
+use crate::faults::SeenAt;
 use crate::values::{Unknown, UnknownWords};
-use chi_flit::{Kind, Snoop, State};
+use chi_flit::{Kind, Slot, Snoop, State};
 
 /// How far a request has come.
 #[derive(Clone, Copy, PartialEq, Eq)]
@@ -20,16 +21,26 @@ pub(crate) enum Stage {
 #[derive(Clone, Copy)]
 pub(crate) struct Asked {
     pub kind: Kind,
+    pub slot: Slot,
     pub stage: Stage,
+    /// Its first attempt.
+    pub since: SeenAt,
+}
+
+/// A snoop that isn't answered.
+#[derive(Clone, Copy)]
+pub(crate) struct OpenSnoop {
+    pub snoop: Snoop,
+    pub since: SeenAt,
 }
 
 /// A completion that its requester hasn't acknowledged.
 #[derive(Clone, Copy)]
 pub(crate) enum Given {
     /// Data, for a copy in this state.
-    Data(State, UnknownWords),
+    Data(State, UnknownWords, SeenAt),
     /// Comp_UC.
-    Unique,
+    Unique(SeenAt),
 }
 
 /// What is known of a requester.
@@ -37,10 +48,11 @@ pub(crate) enum Given {
 pub(crate) struct KnownRequester {
     /// The state of the copy after the last flit of the requester.
     pub base: State,
+    /// What has told that state; `None` where it never had a copy.
+    pub since: Option<SeenAt>,
     pub words: UnknownWords,
     pub asked: Option<Asked>,
-    /// A snoop that isn't answered.
-    pub snoop: Option<Snoop>,
+    pub snoop: Option<OpenSnoop>,
     pub given: Option<Given>,
 }
 
@@ -48,11 +60,21 @@ impl KnownRequester {
     /// No copy, and nothing under way.
     pub const NONE: KnownRequester = KnownRequester {
         base: State::I,
+        since: None,
         words: [Unknown(0); 8],
         asked: None,
         snoop: None,
         given: None,
     };
+
+    /// The request that is pending, if one is.
+    pub fn pending_since(&self) -> Option<SeenAt> {
+        match (self.asked, self.given) {
+            (Some(asked), _) => Some(asked.since),
+            (None, Some(Given::Data(_, _, since) | Given::Unique(since))) => Some(since),
+            (None, None) => None,
+        }
+    }
 
     /// Whether no request is pending: the copy may be dropped, stored to and asked for.
     pub fn is_free(&self) -> bool {
@@ -72,11 +94,14 @@ impl KnownRequester {
     /// The request is now in this stage.
     pub fn move_to(&mut self, stage: Stage) {
         if let Some(asked) = self.asked {
-            self.asked = Some(Asked {
-                kind: asked.kind,
-                stage,
-            });
+            self.asked = Some(Asked { stage, ..asked });
         }
+    }
+
+    /// The copy is in this state from what was seen then on.
+    pub fn stand(&mut self, base: State, since: SeenAt) {
+        self.base = base;
+        self.since = Some(since);
     }
 
     /// Whether a retried copy-back is pending that the copy's state doesn't fit any more.

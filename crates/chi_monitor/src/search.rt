@@ -1,14 +1,15 @@
-//! The explanation of all that was seen of a line.
+//! The explanation of all that was seen of a line. Not trusted: what it finds is done again by chi_explain.
 
 ghost use Rattle.std.specs.Prelude.{◌<◌, ℕ, IfErr, length};
 ghost use Rattle.chi_monitor.specs.Places.{IsWithin};
 
 use crate::explained::NoExplanation;
-use crate::faults::LineFault;
+use crate::faults::{LineFault, SeenAt};
 use crate::line::{Draft, Search};
 use crate::values::SeenWords;
 use chi_explain::{Observed, SentFlit, StoreListing, WitnessItem};
 use chi_flit::{DatUp, Data, Msg, RspDown, RspUp, Step};
+use chi_slice::Config;
 use std::alloc::Allocator;
 
 /// Actions that explain what was seen of a line, and what its memory had at first.
@@ -24,18 +25,19 @@ pub struct Witness<A: Allocator> {
 /// Actions that should explain what was seen of a line, or the first of it that no run of the model sends or does.
 pub(crate) fn search_line<A: Allocator + Copy>(
     alloc: A,
+    config: &Config,
     stores: StoreListing,
     seen: &[Observed],
 ) -> Result<Witness<A>, NoExplanation>
     ensures { IfErr result (IsWithin (length seen.now)) }
 {
     let mut ends = Vec::new(alloc);
-    let mut search = match Search::new(alloc, stores) {
+    let mut search = match Search::new(alloc, config, stores) {
         Ok(search) => search,
         Err(_) => return Err(NoExplanation::NoMemory),
     };
     for (at, item) in seen.iter().enumerate() {
-        let taken = take(&mut search, item);
+        let taken = take(&mut search, item, SeenAt(at as u64));
         if let Err(fault) = taken {
             return Err(told_at(at, fault));
         }
@@ -63,27 +65,34 @@ fn told_at(at: usize, fault: LineFault) -> NoExplanation
 /// The line behind what was seen, of which none is a fault.
 pub(crate) fn line_behind<A: Allocator + Copy>(
     alloc: A,
+    config: &Config,
     stores: StoreListing,
     seen: &[Observed],
 ) -> Result<Search<A>, LineFault> {
-    let mut search = Search::new(alloc, stores)?;
-    for item in seen {
-        take(&mut search, item)?;
+    let mut search = Search::new(alloc, config, stores)?;
+    for (at, item) in seen.iter().enumerate() {
+        take(&mut search, item, SeenAt(at as u64))?;
     }
     Ok(search)
 }
 
-/// Takes what was seen next, with all words of its data.
-pub(crate) fn take<A: Allocator>(search: &mut Search<A>, seen: &Observed) -> Result<(), LineFault> {
-    take_part(search, seen, &words_in(seen))
+/// Takes what was seen next, of this number, with all words of its data.
+pub(crate) fn take<A: Allocator>(
+    search: &mut Search<A>,
+    seen: &Observed,
+    at: SeenAt,
+) -> Result<(), LineFault> {
+    take_part(search, seen, &words_in(seen), at)
 }
 
-/// Takes what was seen next, whose data, if it has any, has these words.
+/// Takes what was seen next, of this number, whose data, if it has any, has these words.
 pub(crate) fn take_part<A: Allocator>(
     search: &mut Search<A>,
     seen: &Observed,
     words: &SeenWords,
+    at: SeenAt,
 ) -> Result<(), LineFault> {
+    search.values.number = at;
     match seen {
         Observed::Flit(flit) => take_flit(search, flit, words),
         Observed::Load(agent, word, value) if agent.0 < 8 && word.0 < 8 => {
@@ -134,14 +143,16 @@ fn take_flit<A: Allocator>(
     words: &SeenWords,
 ) -> Result<(), LineFault> {
     let agent = flit.agent;
-    if agent.0 >= 8 {
+    if agent.0 >= 8 || agent.0 >= search.agents {
         return Err(LineFault::NoAgent);
     }
     match &flit.message {
-        Msg::Req(request) if request.allow_retry => search.issue(agent, request.kind),
-        Msg::Req(request) => search.resend(agent, request.kind),
+        Msg::Req(request) if request.allow_retry => {
+            search.issue(agent, request.kind, request.slot)
+        }
+        Msg::Req(request) => search.resend(agent, request.kind, request.slot),
         Msg::Snp(snoop) => search.snoop(agent, *snoop),
-        Msg::RspDown(RspDown::RetryAck(_)) => search.retry(agent),
+        Msg::RspDown(RspDown::RetryAck(named)) => search.retry(agent, *named),
         Msg::RspDown(RspDown::CompUC) => search.complete_unique(agent),
         Msg::RspDown(RspDown::CompI) => search.complete_evict(agent),
         Msg::RspDown(RspDown::CompDBIDResp) => search.ask_write_data(agent),

@@ -1,16 +1,67 @@
-//! Snoops of a line, and the answers to them.
+//! Snoops of a line, and the answers to them. Not trusted: what the search finds is done again by chi_explain.
 
 ghost use Rattle.std.specs.Prelude.{◌<◌};
 
-use crate::faults::{Awaited, LineFault};
+use crate::faults::{Awaited, Basis, LineFault, Reach, SeenAt};
 use crate::filter::{AgentSet, NOBODY, has, has_any, with_mark};
 use crate::line::{Answer, Draft, Group, Search, Service};
-use crate::requester::KnownRequester;
+use crate::requester::{KnownRequester, OpenSnoop};
 use crate::values::SeenWords;
+use chi_explain::StoreListing;
 use chi_flit::{Agent, DatUp, Msg, NO_DATA, RspUp, Snoop, State, Step, answer};
 use std::alloc::Allocator;
 
+/// The state in which an answer leaves the copy, and whether the copy was dirty; `None` of another message.
+fn told_by(message: &Msg) -> Option<(State, bool)> {
+    match message {
+        Msg::RspUp(RspUp::SnpRespI) => Some((State::I, false)),
+        Msg::RspUp(RspUp::SnpRespSC) => Some((State::SC, false)),
+        Msg::DatUp(DatUp::SnpRespDataIPD(_)) => Some((State::I, true)),
+        Msg::DatUp(DatUp::SnpRespDataSCPD(_)) => Some((State::SC, true)),
+        Msg::DatUp(DatUp::SnpRespDataSD(_)) => Some((State::SD, true)),
+        Msg::RspUp(RspUp::CompAck)
+        | Msg::DatUp(DatUp::CopyBackWrData(_, _))
+        | Msg::Req(_)
+        | Msg::Snp(_)
+        | Msg::RspDown(_)
+        | Msg::DatDown(_) => None,
+    }
+}
+
+/// Whether the standard has no such answer: a copy is left where none may be, or was none, or is said to have been dirty
+/// or clean and can't have been.
+fn is_no_answer(reach: &Reach, snoop: Snoop, left: State, dirty: bool) -> bool {
+    let stays = left.is_valid() && matches!(snoop, Snoop::SnpUnique | Snoop::SnpCleanInvalid);
+    let made_up = !reach.base.is_valid() && reach.since.is_some() && (left.is_valid() || dirty);
+    let lost = reach.base.is_dirty() && !dirty;
+    let hidden = matches!(
+        (reach.base, reach.stores),
+        (State::UC, StoreListing::Partial)
+    );
+    let dirtied = dirty && reach.base.is_valid() && !reach.base.is_dirty() && !hidden;
+    stays || made_up || lost || dirtied
+}
+
+/// The fault of an answer that a copy in these states doesn't give.
+fn refused(reach: Reach, snoop: Snoop, message: &Msg) -> LineFault {
+    let basis = match told_by(message) {
+        Some((left, dirty)) if is_no_answer(&reach, snoop, left, dirty) => Basis::Standard,
+        Some(_) | None => Basis::Profile,
+    };
+    LineFault::Answer(reach, snoop, basis)
+}
+
 impl<A: Allocator> Search<A> {
+    /// When the agent was snooped for the group's request; when the group began where it has answered.
+    pub(crate) fn snooped_since(&self, agent: Agent, group: &Group) -> SeenAt
+        requires { agent.0 < 8 }
+    {
+        match self.at(agent).snoop {
+            Some(open) => open.since,
+            None => group.since,
+        }
+    }
+
     /// The agents whose waiting request asks for this snoop of the agent, among these.
     fn askers(&self, snoop: Snoop, agent: Agent, among: &AgentSet) -> AgentSet
         requires { agent.0 < 8 }
@@ -33,6 +84,7 @@ impl<A: Allocator> Search<A> {
     pub fn snoop(&mut self, agent: Agent, snoop: Snoop) -> Result<(), LineFault>
         requires { agent.0 < 8 }
     {
+        let since = self.now();
         let group = match self.service {
             Service::Idle => {
                 let may_be = self.askers(snoop, agent, &[true; 8]);
@@ -46,19 +98,22 @@ impl<A: Allocator> Search<A> {
                     snooped: with_mark(NOBODY, agent, true),
                     answered: NOBODY,
                     at,
+                    since,
                 }
             }
             Service::Snooping(mut group) => {
                 if has(&group.snooped, agent) {
-                    return Err(LineFault::SnoopedTwice);
+                    return Err(LineFault::SnoopedTwice(self.snooped_since(agent, &group)));
                 }
                 group.may_be = self.askers(snoop, agent, &group.may_be);
                 group.snooped = with_mark(group.snooped, agent, true);
                 group
             }
-            Service::AwaitingAck(_) => return Err(LineFault::EarlySnoop(Awaited::Ack)),
-            Service::AwaitingWriteData(_, _) => {
-                return Err(LineFault::EarlySnoop(Awaited::WriteData));
+            Service::AwaitingAck(served, since) => {
+                return Err(LineFault::EarlySnoop(Awaited::Ack(served, since)));
+            }
+            Service::AwaitingWriteData(served, _, since) => {
+                return Err(LineFault::EarlySnoop(Awaited::WriteData(served, since)));
             }
         };
         if !has_any(&group.may_be) || group.snoop != snoop {
@@ -66,7 +121,7 @@ impl<A: Allocator> Search<A> {
         }
         self.service = Service::Snooping(group);
         let mut side = self.at(agent);
-        side.snoop = Some(snoop);
+        side.snoop = Some(OpenSnoop { snoop, since });
         self.put(agent, side);
         self.items.push(Draft::Snoop(agent))?;
         Ok(())
@@ -77,7 +132,7 @@ impl<A: Allocator> Search<A> {
         requires { agent.0 < 8 }
     {
         let mut side = self.at(agent);
-        let Some(snoop) = side.snoop else {
+        let Some(OpenSnoop { snoop, since: _ }) = side.snoop else {
             return Err(LineFault::NothingToAnswer);
         };
         let Service::Snooping(mut group) = self.service else {
@@ -85,7 +140,7 @@ impl<A: Allocator> Search<A> {
         };
         let (next, given) = self.answered(agent, &mut side, snoop, message, seen)?;
         self.act(agent, Step::RecvSnp)?;
-        side.base = next;
+        side.stand(next, self.now());
         side.snoop = None;
         self.put(agent, side);
         group.answered = with_mark(group.answered, agent, true);
@@ -104,7 +159,7 @@ impl<A: Allocator> Search<A> {
         message: &Msg,
         seen: &SeenWords,
     ) -> Result<(State, Answer), LineFault> {
-        let fault = LineFault::Answer(self.reach(side), snoop);
+        let fault = refused(self.reach(side), snoop, message);
         let leaves = answer(side.base, snoop, NO_DATA).0;
         match message {
             Msg::RspUp(RspUp::SnpRespI) => match side.base {
@@ -142,7 +197,7 @@ impl<A: Allocator> Search<A> {
         message: &DatUp,
         seen: &SeenWords,
     ) -> Result<(State, Answer), LineFault> {
-        let fault = LineFault::Answer(self.reach(side), snoop);
+        let fault = refused(self.reach(side), snoop, &Msg::DatUp(*message));
         let leaves = match message {
             DatUp::SnpRespDataIPD(_) => State::I,
             DatUp::SnpRespDataSCPD(_) => State::SC,
@@ -157,7 +212,7 @@ impl<A: Allocator> Search<A> {
             }
             State::UD | State::SD => {
                 if !self.values.are_now(&side.words, seen) {
-                    return Err(LineFault::Words(self.values.known(&side.words)));
+                    return Err(LineFault::Words(self.values.beside(&side.words, seen)));
                 }
             }
             State::I | State::SC | State::UC => return Err(fault),

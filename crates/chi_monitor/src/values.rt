@@ -1,5 +1,9 @@
-//! Words of lines, which may be unknown for a while.
+//! Words of lines, which may be unknown for a while. Not trusted: what the search finds is done again by chi_explain.
 
+ghost use Rattle.std.specs.Prelude.{◌≡◌, length};
+ghost use Rattle.chi_monitor.specs.Forgotten.{are_many};
+
+use crate::faults::{Differing, KnownWord, SeenAt};
 use chi_flit::Data;
 use std::alloc::{AllocError, Allocator};
 use std::fmt;
@@ -39,7 +43,9 @@ impl fmt::Display for Known {
 /// The values that the flits so far have shown.
 #[derive(Drop)]
 pub(crate) struct Values<A: Allocator> {
-    shown: Vec<Option<u64>, A>,
+    /// The number of what is seen now: it shows the words that get a value.
+    pub(crate) number: SeenAt,
+    shown: Vec<Option<KnownWord>, A>,
     /// The words that are kept while the others are forgotten.
     kept: Vec<KeptWord, A>,
 }
@@ -48,13 +54,14 @@ pub(crate) struct Values<A: Allocator> {
 #[derive(Clone, Copy)]
 struct KeptWord {
     number: usize,
-    shown: Option<u64>,
+    shown: Option<KnownWord>,
 }
 
 impl<A: Allocator + Copy> Values<A> {
     /// None yet.
     pub fn new(alloc: A) -> Values<A> {
         Values {
+            number: SeenAt(0),
             shown: Vec::new(alloc),
             kept: Vec::new(alloc),
         }
@@ -63,7 +70,9 @@ impl<A: Allocator + Copy> Values<A> {
 
 impl<A: Allocator> Values<A> {
     /// Whether there are so many words that those that no line has should be forgotten.
-    pub fn are_many(&self) -> bool {
+    pub fn are_many(&self) -> bool
+        ensures { result ≡ are_many (length self.now.shown.items) }
+    {
         self.shown.len() >= MANY
     }
 
@@ -101,10 +110,19 @@ impl<A: Allocator> Values<A> {
         Ok(())
     }
 
+    /// A value that is shown by what is seen now.
+    fn shown_now(&self, value: u64) -> KnownWord {
+        KnownWord {
+            value,
+            since: Some(self.number),
+        }
+    }
+
     /// One more word, with this value if it is known.
     fn add(&mut self, value: Option<u64>) -> Result<Unknown, AllocError> {
         let number = self.shown.len();
-        self.shown.push(value)?;
+        let shown = value.map(|value| self.shown_now(value));
+        self.shown.push(shown)?;
         Ok(Unknown(number))
     }
 
@@ -127,7 +145,7 @@ impl<A: Allocator> Values<A> {
     }
 
     /// What is known of a word.
-    fn known_word(&self, word: Unknown) -> Option<u64> {
+    pub fn known_word(&self, word: Unknown) -> Option<KnownWord> {
         match self.shown.get(word.0) {
             Some(shown) => *shown,
             None => None,
@@ -137,18 +155,22 @@ impl<A: Allocator> Values<A> {
     /// Whether the word may have the value, if one was seen.
     fn may_be(&self, word: Unknown, value: Option<u64>) -> bool {
         match (self.known_word(word), value) {
-            (Some(known), Some(value)) => known == value,
+            (Some(known), Some(value)) => known.value == value,
             (_, None) | (None, _) => true,
         }
     }
 
     /// The word has the value from now on, if one was seen.
     fn bind(&mut self, word: Unknown, value: Option<u64>) {
-        if value.is_none() {
+        let Some(value) = value else {
+            return;
+        };
+        if self.known_word(word).is_some() {
             return;
         }
+        let now = self.shown_now(value);
         if let Some(shown) = self.shown.get_mut(word.0) {
-            *shown = value;
+            *shown = Some(now);
         }
     }
 
@@ -180,19 +202,19 @@ impl<A: Allocator> Values<A> {
         may
     }
 
-    /// What is known of the words of a line.
-    pub fn known(&self, words: &UnknownWords) -> Known {
+    /// The words that were seen, beside what is known of those of a line.
+    pub fn beside(&self, words: &UnknownWords, seen: &SeenWords) -> Differing {
         let mut known = [None; 8];
         for (place, word) in known.iter_mut().zip(words) {
             *place = self.known_word(*word);
         }
-        Known(known)
+        Differing { seen: *seen, known }
     }
 
     /// The word's value; 0 where no flit has shown it.
     pub fn value(&self, word: Unknown) -> u64 {
         match self.shown.get(word.0) {
-            Some(Some(value)) => *value,
+            Some(Some(shown)) => shown.value,
             _ => 0,
         }
     }

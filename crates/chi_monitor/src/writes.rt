@@ -1,13 +1,19 @@
-//! Write data of a line's copy-backs.
+//! Write data of a line's copy-backs. Not trusted: what the search finds is done again by chi_explain.
 
 ghost use Rattle.std.specs.Prelude.{◌<◌};
 
-use crate::faults::LineFault;
+use crate::faults::{Differing, KnownWord, LineFault};
 use crate::line::{Search, Service, are_zeros};
 use crate::requester::Stage;
-use crate::values::{Known, SeenWords};
+use crate::values::SeenWords;
 use chi_flit::{Agent, State, Step};
 use std::alloc::Allocator;
+
+/// The words of write data that has no valid bytes.
+const NO_BYTES: [Option<KnownWord>; 8] = [Some(KnownWord {
+    value: 0,
+    since: None,
+}); 8];
 
 impl<A: Allocator> Search<A> {
     /// CompDBIDResp of the agent's copy-back.
@@ -26,7 +32,7 @@ impl<A: Allocator> Search<A> {
         self.act(agent, Step::Start)?;
         side.move_to(Stage::Served);
         self.put(agent, side);
-        self.service = Service::AwaitingWriteData(agent, kind);
+        self.service = Service::AwaitingWriteData(agent, kind, self.now());
         Ok(())
     }
 
@@ -36,21 +42,26 @@ impl<A: Allocator> Search<A> {
     {
         let mut side = self.at(agent);
         let kind = match self.service {
-            Service::AwaitingWriteData(served, kind) if served.0 == agent.0 => kind,
+            Service::AwaitingWriteData(served, kind, _) if served.0 == agent.0 => kind,
             _ => return Err(LineFault::NoWriteDataAwaited),
         };
         if form != side.base {
-            return Err(LineFault::WriteForm(side.base));
+            return Err(LineFault::WriteForm(form, self.reach(&side)));
         }
-        let (same, has) = match form {
-            State::I => (are_zeros(seen), Known([Some(0); 8])),
-            State::SC | State::UC | State::UD | State::SD => (
-                self.values.are_now(&side.words, seen),
-                self.values.known(&side.words),
-            ),
+        let same = match form {
+            State::I => are_zeros(seen),
+            State::SC | State::UC | State::UD | State::SD => self.values.are_now(&side.words, seen),
         };
         if !same {
-            return Err(LineFault::Words(has));
+            return Err(LineFault::Words(match form {
+                State::I => Differing {
+                    seen: *seen,
+                    known: NO_BYTES,
+                },
+                State::SC | State::UC | State::UD | State::SD => {
+                    self.values.beside(&side.words, seen)
+                }
+            }));
         }
         self.act(agent, Step::RecvDbid)?;
         self.act(agent, Step::RecvWrData)?;
@@ -62,11 +73,12 @@ impl<A: Allocator> Search<A> {
         } else {
             self.filter.disown(agent);
         }
-        side.base = match (kind.gives_up(), form) {
+        let left = match (kind.gives_up(), form) {
             (true, _) | (false, State::I) => State::I,
             (false, State::UD | State::UC) => State::UC,
             (false, State::SD | State::SC) => State::SC,
         };
+        side.stand(left, self.now());
         side.asked = None;
         self.put(agent, side);
         self.service = Service::Idle;

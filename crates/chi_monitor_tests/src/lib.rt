@@ -4,6 +4,8 @@
 #[cfg(test)]
 mod monitors;
 #[cfg(test)]
+mod profiles;
+#[cfg(test)]
 mod round_trips;
 #[cfg(test)]
 mod runs;

@@ -146,7 +146,7 @@ arrival_kept s r r' l request arrived can agrees = go request.allow_retry refl a
   where
     go : (b : Bool) → request.allow_retry ≡ b → (arrived : Arrived) → Arrives b request.slot.0 arrived r r' → ArrivalKept s r r' l arrived
     go true is (Admitted e) a = record { allowed = admit_allowed s r l request can; follows = admits s r r' l request true e _ _ can agrees is a.0 a.3 }
-    go true is (Retried ty) a = record { allowed = retry_allowed s r l request can is; follows = retries s r r' l request _ _ can agrees is a.2 }
+    go true is (Retried ty) a = record { allowed = retry_allowed s r l request can is; follows = retries s r r' l request _ _ can agrees is a.3 }
     go false is (Admitted e) a = record { allowed = admit_allowed s r l request can; follows = admits s r r' l request false e _ _ can agrees is a.0 a.3 }
     go false is (Retried ty) a = absurd a
 

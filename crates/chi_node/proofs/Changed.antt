@@ -147,3 +147,9 @@ step_answered y y' action own s s' r r' result k call is own_said =
       requester = subst (Finishes (place_at (slice_of y.home l) action) action.step stepped.effect stepped.released (requester_of y n)) there done.requester;
       others = ap (λ (q : RequesterState). set y.requesters n q) there;
     })
+
+-- requesters lent out, and given back as they were
+pub back_same : (rs lent back : List RequesterState) → lent ≡ rs → back ≡ lent → refill (length rs) rs back ≡ rs
+back_same rs lent back value same =
+    let now : back ≡ rs = same ∙ value in
+    items-with_items (record { items = rs }) back (ap length now) ∙ now

@@ -32,16 +32,16 @@ another_port r r' is shape running = record {
 }
 
 pub sees_alike : (seen : List ℕ) (r r' : RequesterState) → Sees seen r r' → IsAlike r r'
-sees_alike seen r r' done = another_port r r' done.others (ap (λ p. p.shape) done.port) done.acted.running
+sees_alike seen r r' done = another_port r r' done.others done.credits.1 done.acted.running
 
 tends_alike : (t : ℕ) (released : Option Released) (r r' : RequesterState) → Tends t released r r' → IsAlike r r'
 tends_alike t released r r' done = another_port r r' done.others done.credits.1 done.acted.running
 
 gives_alike : (t : ℕ) (released : Released) (r r' : RequesterState) → GivesBack t released r r' → IsAlike r r'
 gives_alike t released r r' done = record {
-  same = record { number = ap (λ (q : RequesterState). q.number) done.others; table = ap (λ (q : RequesterState). q.table) done.others; shape = done.returned.4.1 };
+  same = record { number = ap (λ (q : RequesterState). q.number) done.others; table = ap (λ (q : RequesterState). q.table) done.others; shape = done.credits.1 };
   agree = λ s a. freed_agrees s r r' (lowest_cancelled r.slots t) done.cancelled done.others a;
-  running = λ _. done.acted.2.running;
+  running = λ _. done.acted.running;
 }
 
 stays_alike : (r r' : RequesterState) → r' ≡ r → IsAlike r r'

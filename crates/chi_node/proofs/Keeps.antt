@@ -14,7 +14,7 @@ use Rattle.chi_tracker.specs.declared.shape.Shape.{Shape}
 use Rattle.chi_tracker.specs.Sums.{below, set_at, one_more, with_bit, without_bit}
 use Rattle.chi_tracker.specs.Shape.{low, size}
 use Rattle.chi_tracker.specs.Views.{PortView, has}
-use Rattle.chi_tracker.specs.Calls.{saw_all, seen_of, set_count}
+use Rattle.chi_tracker.specs.Calls.{seen_of, set_count}
 use Rattle.chi_tracker.proofs.Addition.{raised_else, raised_here}
 use Rattle.chi_tracker.proofs.Entries.{credit_below, low_up}
 use Rattle.chi_tracker.proofs.BitLaws.{with_here, with_else, dropped_here, dropped_else}
@@ -37,8 +37,8 @@ saw_more p q t l shaped same more =
     (below_more (λ i. set_at p.seen (low p.shape t + i)) (λ i. set_at q.seen (low p.shape t + i)) (size p.shape t)
     (λ i li. more (low p.shape t + i) (omega (arith, low_up p.shape t 4 l))))
 
-pub saw_within : (slots : List SlotRecord) (p q : PortView) → IsWithinSeen slots p → low p.shape 4 ≤ 256 → q ≡ saw_all q.seen p → ((e : ℕ) → e < 256 → set_at p.seen e ≤ set_at q.seen e) → IsWithinSeen slots q
-saw_within slots p q keeps shaped is more = record { within = λ t l. omega (arith, keeps.within t l, saw_more p q t l shaped (ap (λ (x : PortView). x.shape) is) more) }
+pub saw_within : (slots : List SlotRecord) (p q : PortView) → IsWithinSeen slots p → low p.shape 4 ≤ 256 → q.shape ≡ p.shape → ((e : ℕ) → e < 256 → set_at p.seen e ≤ set_at q.seen e) → IsWithinSeen slots q
+saw_within slots p q keeps shaped same more = record { within = λ t l. omega (arith, keeps.within t l, saw_more p q t l shaped same more) }
 
 -- as many seen credits and Riding slots
 pub still_within : (a b : List SlotRecord) (p q : PortView) → IsSameSlot (riding_of a) (riding_of b) → q.shape ≡ p.shape → q.seen ≡ p.seen → IsWithinSeen a p → IsWithinSeen b q

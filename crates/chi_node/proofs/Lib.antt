@@ -20,3 +20,4 @@ pub mod Headlines
 pub mod Nodes
 pub mod Ports
 pub mod Passed
+pub mod Acts

@@ -1,5 +1,5 @@
 -- What refuses an action on the terms of its requester is what refuses a requester's call.
-use Rattle.std.proofs.Common.{◌≡◌, ◌||◌, Bool, true, false, Option, Some, None, refl, replicate, if◌then◌else◌}
+use Rattle.std.proofs.Common.{◌≡◌, ◌∙◌, ap, ◌||◌, Bool, true, false, Option, Some, None, refl, replicate, if◌then◌else◌}
 use Rattle.std.specs.Option.{option_or}
 use Rattle.chi_flit.specs.declared.numbers.Agent.{Agent}
 use Rattle.chi_flit.specs.declared.action.Action.{Action}
@@ -12,6 +12,7 @@ use Rattle.chi_flit.specs.declared.refusal.Refusal.{Refusal}
 use Rattle.chi_flit.specs.declared.refusal.Refusal.TheVariants.{OutOfRange}
 use Rattle.chi_slice.specs.Words.{marked_credit_refusal, is_full, line_refusal, pending_credit, resend_refusal, rn_of, step_refusal, LineState}
 use Rattle.chi_slice.specs.Slice.{SliceState, conditions_under, is_in_range, is_slot_used, line, refused_under}
+use Rattle.chi_slice.proofs.Refused.{on_terms_is}
 use Rattle.chi_node.specs.Requester.{RequesterState}
 use Rattle.chi_node.specs.Terms.{spare_credits, terms_of}
 use Rattle.chi_node.specs.Calls.{call_refusal, credit_refusal, is_slot_taken, slot_terms, step_credit, wanted_credit}
@@ -34,7 +35,9 @@ by_step r z agent (steps.Load word) used full profile = alone _
 by_step r z agent other used full profile = alone _
 
 pub called : (s : SliceState) (r : RequesterState) (action : Action) → refused_under (terms_of r action.step) s action ≡ call_refusal s r action
-called s r action = go (is_in_range s action)
+called s r action =
+    go (is_in_range s action)
+    ∙ ap (λ (o : Option Refusal). option_or o (credit_refusal r (wanted_credit s action))) (on_terms_is (slot_terms (is_slot_taken r.slots action.step)) s action)
   where
     go : (b : Bool) → (if b then line_refusal (conditions_under (terms_of r action.step) s action) (line s action.line.0) action else Some OutOfRange)
         ≡ option_or (if b then line_refusal (conditions_under (slot_terms (is_slot_taken r.slots action.step)) s action) (line s action.line.0) action else Some OutOfRange) (credit_refusal r (wanted_credit s action))

@@ -1,5 +1,5 @@
 -- A call in a row that the slice was asked for: what refuses it is what refuses the call.
-use Rattle.std.proofs.Common.{◌≡◌, ℕ, ◌&&◌, Bool, true, false, nat_lt, Some, None, is_some, refl, sym, ap, subst, if◌then◌else◌}
+use Rattle.std.proofs.Common.{◌≡◌, ◌∙◌, ℕ, ◌&&◌, Bool, Option, true, false, nat_lt, Some, None, is_some, refl, sym, ap, subst, if◌then◌else◌}
 use Rattle.std.specs.Option.{option_or}
 use Rattle.chi_flit.specs.declared.action.Action.{Action}
 use Rattle.chi_flit.specs.declared.action.Step.TheVariants as steps
@@ -9,6 +9,7 @@ use Rattle.chi_slice.specs.declared.agent_line.AgentRow.{AgentRow}
 use Rattle.chi_slice.specs.Words.{cells_of, is_step_in_range, Cells, line_refusal, no_flit_unless}
 use Rattle.chi_slice.specs.Slice.{SliceState, are_in_range, conditions_under, flits_refusal, is_line_in_range, line}
 use Rattle.chi_node.specs.Calls.{IsRowOf, arrival_refusal, call_refusal, credit_refusal, is_slot_taken, slot_terms, wanted_credit}
+use Rattle.chi_slice.proofs.Refused.{on_terms_is}
 use Rattle.chi_node.specs.Requester.{RequesterState}
 
 -- the line of a row is there, and what is refused there is the want of a flit
@@ -31,7 +32,9 @@ flits_there s n at flits row is = subst (λ (m : ℕ). flits ≡ cells_of (line 
 
 -- an action whose agent or line isn't there
 pub row_refused : (s : SliceState) (r : RequesterState) (action : Action) (refusal : Refusal) → Some refusal ≡ flits_refusal s action.agent.0 action.line.0 → call_refusal s r action ≡ Some refusal
-row_refused s r action refusal = go (nat_lt action.agent.0 s.config.agents) (is_line_in_range s action.line.0) (is_step_in_range action.step)
+row_refused s r action refusal told =
+    ap (λ (o : Option Refusal). option_or o (credit_refusal r (wanted_credit s action))) (sym (on_terms_is (slot_terms (is_slot_taken r.slots action.step)) s action))
+    ∙ go (nat_lt action.agent.0 s.config.agents) (is_line_in_range s action.line.0) (is_step_in_range action.step) told
   where
     go : (a b c : Bool) → Some refusal ≡ (if a && b then None else Some OutOfRange)
         → option_or (if a && (b && c) then line_refusal (conditions_under (slot_terms (is_slot_taken r.slots action.step)) s action) (line s action.line.0) action else Some OutOfRange) (credit_refusal r (wanted_credit s action)) ≡ Some refusal

@@ -1,27 +1,23 @@
 -- The headline of a node, of its lines and of its tracker's entries together (docs/PROMISES.md, "The headline").
-use Rattle.std.specs.Prelude.{◌≡◌, ℕ, ◌<◌, All, false, Some, None}
-use Rattle.atomic_table.specs.Table.{State}
+use Rattle.std.specs.Prelude.{◌≡◌, ◌≢◌, ℕ, ◌<◌, List, All, map, false, Some, None}
 use Rattle.chi_flit.specs.declared.message.Request.{Request}
 use Rattle.chi_flit.specs.declared.numbers.Agent.{Agent}
 use Rattle.chi_flit.specs.declared.numbers.Entry.{Entry}
 use Rattle.chi_flit.specs.declared.numbers.Line.{Line}
 use Rattle.chi_slice.specs.Words.{cells_of, standing_of, Coherent, IsLegalLog}
-use Rattle.chi_tracker.specs.declared.view.SeatView.{SeatView}
-use Rattle.chi_tracker.specs.Laws.{HasSeat, Places}
-use Rattle.chi_tracker.specs.Rule.{TrackerRule}
+use Rattle.chi_tracker.specs.Views.{PortView, has}
+use Rattle.chi_tracker.specs.Shape.{low}
+use Rattle.chi_tracker.specs.Calls.{shape_of}
+use Rattle.chi_tracker.specs.Witness.{AreAllPorts}
 use Rattle.chi_node.specs.declared.answers.Arrived.{Arrived}
 use Rattle.chi_node.specs.declared.answers.Arrived.TheVariants.{Admitted}
 use Rattle.chi_node.specs.Home.{node_last, node_line}
 use Rattle.chi_node.specs.Requester.{RequesterState}
-use Rattle.chi_node.specs.System.{ArrivesIn, SystemState, arrive_refusal}
+use Rattle.chi_node.specs.System.{ArrivesIn, SystemState, arrive_refusal, requester_of}
 
--- the requester's port is one of a state of the words and of all ports in which each entry is free, in the
--- hand of exactly one port, or promised to exactly one requester
-pub record IsInPlace (r : RequesterState) : Type 0 where
-  pub state : State ℕ SeatView
-  pub rule : TrackerRule r.port.shape state
-  pub seat : HasSeat r.port state
-  pub places : Places r.port.shape state
+-- the ports of requesters, as the tracker sees them
+abbrev pub views_in : List RequesterState → List PortView
+views_in rs = map (λ r. r.port) rs
 
 -- an arrival of the agent at the line isn't refused, and ends with an entry
 pub record IsAdmitted (y : SystemState) (agent : Agent) (l : Line) : Type 0 where
@@ -34,8 +30,12 @@ pub record Headline (y : SystemState) : Type 0 where
   pub lines : (l : ℕ) → l < y.home.config.lines → Coherent (node_last y.home l) (standing_of (node_line y.home l))
   -- each load had the value that was written last before it
   pub loads : All (λ s. IsLegalLog s.journal) y.home.slices
-  -- each entry is in one place
-  pub entries : All IsInPlace y.requesters
+  -- there is one state of the tracker whose ports are those of all requesters, and in it each entry is free, in
+  -- the hand of exactly one of them, or promised to exactly one requester, and the ledgers hold
+  pub entries : AreAllPorts (shape_of y.home.config.entries y.home.config.agents) (views_in y.requesters)
+  -- so no entry is in the hands of two requesters
+  pub alone : (m n e : ℕ) → m ≢ n → e < low (shape_of y.home.config.entries y.home.config.agents) 4
+      → has e (requester_of y m).port ≡ 1 → has e (requester_of y n).port ≡ 0
   -- a request that was resent with a credit is admitted
   pub resent : (agent : Agent) (l : Line) (request : Request) → agent.0 < y.home.config.agents → l.0 < y.home.config.lines
       → (cells_of (node_line y.home l.0) agent.0).req ≡ Some request → request.allow_retry ≡ false → IsAdmitted y agent l

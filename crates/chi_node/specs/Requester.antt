@@ -8,12 +8,11 @@ use Rattle.chi_tracker.specs.declared.shape.Shape.{Shape}
 use Rattle.chi_tracker.specs.Shape.{low, size}
 use Rattle.chi_slice.specs.Words.{counted}
 use Rattle.chi_tracker.specs.Views.{PortView, has, new_port}
-use Rattle.chi_tracker.specs.declared.released.Released.{Released}
-use Rattle.chi_tracker.specs.Steps.{no_shape, returns_credit}
+use Rattle.chi_tracker.specs.Steps.{no_shape}
 use Rattle.chi_tracker.specs.Acts.{Act}
 use Rattle.chi_tracker.specs.History.{IsAfter}
-use Rattle.chi_tracker.specs.Conduct.{Does, Steps}
-use Rattle.chi_tracker.specs.Calls.{nowhere, seen_of, LeavesHand, HasSameCredits, IsLowestSeen, Owner}
+use Rattle.chi_tracker.specs.Conduct.{HasActed, Steps}
+use Rattle.chi_tracker.specs.Calls.{nowhere, seen_of, Owner}
 use Rattle.chi_credit.specs.declared.slot.SlotRecord.{SlotRecord}
 use Rattle.chi_credit.specs.declared.slot.SlotState.TheVariants.{Cancelled}
 use Rattle.chi_credit.specs.Slot.{idle_slot}
@@ -60,11 +59,9 @@ owner r = record { table = r.table; port = r.port; history = r.history }
 abbrev pub IsRunning : RequesterState → Type 0
 IsRunning r = IsAfter r.history r.port
 
--- Calls of a requester's port: a legal history of the tracker leaves the port as it is then, and in it the
--- requester did steps of which A holds, and no others.
-pub record Acted (A : Steps → Type 0) (r r' : RequesterState) : Type 0 where
-  pub running : IsRunning r'
-  pub acts : Does (owner r) A (owner r')
+-- what the requester's port did
+abbrev pub Acted : (Steps → Type 0) → RequesterState → RequesterState → Type 0
+Acted A r r' = HasActed A (owner r) (owner r')
 
 -- the port's view and the history that it knows become others, and all else stays
 abbrev pub with_port : PortView → List Act → RequesterState → RequesterState
@@ -90,23 +87,20 @@ HasCancelled r t = state_at r.slots (lowest_cancelled r.slots t) ≡ Cancelled
 abbrev pub without_cancelled : ℕ → PortView → List Act → RequesterState → RequesterState
 without_cancelled t port history r = with_both port history (slice_set r.slots (lowest_cancelled r.slots t) idle_slot) r
 
--- the lowest seen credit of type t, whose entry wasn't in hand, is returned, and that entry released
-abbrev pub ReturnsCredit : ℕ → Released → RequesterState → RequesterState → Type 0
-ReturnsCredit t released old new =
-    (e : ℕ) × IsLowestSeen old.port t e × (has e old.port ≡ 0) × LeavesHand (returns_credit t e old.port) t e released new.port
-    × HasSameCredits (returns_credit t e old.port) new.port
-
--- a seen credit of type t is beyond those for Riding slots
+-- a seen credit of type t is beyond those for Riding slots: a spare credit; and as a test
 abbrev pub HasSpare : RequesterState → ℕ → Type 0
 HasSpare r t = riding_of r.slots t < seen_of r.port t
+
+abbrev pub has_spare : RequesterState → ℕ → Bool
+has_spare r t = nat_lt (riding_of r.slots t) (seen_of r.port t)
 
 -- whether the tracker has entries of type t
 abbrev pub has_entries_of : RequesterState → ℕ → Bool
 has_entries_of r t = nat_lt 0 (size r.port.shape t)
 
--- whether a slot of type t is Cancelled, and a seen credit of the type is beyond those for Riding slots
+-- whether a slot of type t is Cancelled, and a credit of the type is spare
 abbrev pub can_give_back : RequesterState → ℕ → Bool
-can_give_back r t = nat_lt (lowest_cancelled r.slots t) 8 && nat_lt (riding_of r.slots t) (seen_of r.port t)
+can_give_back r t = nat_lt (lowest_cancelled r.slots t) 8 && has_spare r t
 
 -- why a credit of type t can't be given back
 abbrev pub give_back_refusal : RequesterState → ℕ → Option Refusal

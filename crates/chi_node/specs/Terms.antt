@@ -1,24 +1,20 @@
 -- What a requester adds to the conditions of its steps (docs/PROTOCOL.md, "A requester and its calls").
-use Rattle.std.specs.Prelude.{ℕ, Bool, false, true, not, ◌&&◌, nat_lt, List, [], ◌∷◌, replicate}
+use Rattle.std.specs.Prelude.{Bool, false, true, not, ◌&&◌, nat_lt, List, [], ◌∷◌, replicate}
 use Rattle.chi_flit.specs.declared.numbers.Slot.{Slot}
 use Rattle.chi_flit.specs.declared.action.Step.{Step}
 use Rattle.chi_flit.specs.declared.action.Step.TheVariants as steps
-use Rattle.chi_tracker.specs.Calls.{seen_of}
 use Rattle.chi_credit.specs.declared.slot.SlotRecord.{SlotRecord}
 use Rattle.chi_credit.specs.Slot.{is_idle_state}
-use Rattle.chi_credit.specs.Account.{riding_of, state_at}
+use Rattle.chi_credit.specs.Account.{state_at}
 use Rattle.chi_slice.specs.declared.terms.Terms.{Terms}
 use Rattle.chi_slice.specs.Slice.{no_terms}
-use Rattle.chi_node.specs.Requester.{RequesterState}
+use Rattle.chi_node.specs.Requester.{RequesterState, has_spare}
 
 -- whether a slot is one of the eight, and not Idle in the account
 abbrev pub is_taken : List SlotRecord → Slot → Bool
 is_taken slots slot = nat_lt slot.0 8 && not (is_idle_state (state_at slots slot.0))
 
--- whether a seen credit of type t is beyond those for the Riding slots, and of each type
-abbrev pub has_spare : RequesterState → ℕ → Bool
-has_spare r t = nat_lt (riding_of r.slots t) (seen_of r.port t)
-
+-- whether there is a spare credit of each type
 abbrev pub spare_credits : RequesterState → List Bool
 spare_credits r = has_spare r 0 ∷ has_spare r 1 ∷ has_spare r 2 ∷ has_spare r 3 ∷ []
 

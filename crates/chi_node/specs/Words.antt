@@ -5,9 +5,9 @@ pub use Rattle.chi_credit.specs.Account.{IsLowestIdle, all_idle, lowest_cancelle
 pub use Rattle.chi_credit.specs.Slot.{after_finish, idle_slot, is_idle_state}
 pub use Rattle.chi_credit.specs.declared.slot.SlotRecord.{SlotRecord}
 pub use Rattle.chi_credit.specs.declared.slot.SlotState.{SlotState}
-pub use Rattle.chi_tracker.specs.Calls.{FoundAll, HasClaimed, HasOneLess, IsLowestSeen, LeavesHand, LeavesHandAsItsType, Tended, owed_one, port_after_scan, saw_all, scanned_all, seen_of, set_count, shape_of}
+pub use Rattle.chi_tracker.specs.Calls.{Claims, HasOneLess, HasReturned, IsLowestSeen, LeavesHandAsItsType, Tended, owed_one, saw_all, seen_of, set_count, shape_of}
 pub use Rattle.chi_tracker.specs.Shape.{count_of, low, size}
-pub use Rattle.chi_tracker.specs.Steps.{returns_credit, spends}
+pub use Rattle.chi_tracker.specs.Steps.{spends}
 pub use Rattle.chi_tracker.specs.Sums.{set_at, take_out}
 pub use Rattle.chi_tracker.specs.Totals.{IsClosed, longest, views_of}
 pub use Rattle.chi_tracker.specs.Views.{PortView, has, new_port, new_ports}

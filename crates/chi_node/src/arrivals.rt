@@ -1,17 +1,17 @@
 //! What arrivals and completions do to a requester: these take entries to hand and release them.
 
-ghost use Rattle.std.specs.Prelude.{◌≡◌, ℕ, ◌<◌, ◌-◌, IfNone, IfSome, slice_set, false, true};
-ghost use Rattle.std.specs.Int.{bit_at};
-ghost use Rattle.chi_tracker.specs.Shape.{low, size, IsOf};
+ghost use Rattle.std.specs.Prelude.{◌≡◌, ℕ, ◌<◌, IfNone, IfSome, Some, slice_set, false, true};
+ghost use Rattle.chi_tracker.specs.Sums.{without_bit};
+ghost use Rattle.chi_tracker.specs.Shape.{size};
 ghost use Rattle.chi_tracker.specs.Views.{has};
 ghost use Rattle.chi_tracker.specs.Steps.{spends};
-ghost use Rattle.chi_tracker.specs.Calls.{into_hand, owed_one, port_after_scan, LeavesHand, HasSameCredits, IsLowestSeen};
+ghost use Rattle.chi_tracker.specs.Calls.{hand_with, owed_one, HasSameCredits, IsLowestSeen};
 ghost use Rattle.chi_credit.specs.Slot.{after_finish, is_admitted};
 ghost use Rattle.chi_credit.specs.Account.{slots_with_state, slot_record_at, state_at, type_at};
 ghost use Rattle.chi_tracker.specs.declared.step.AtomicStep.TheVariants.{Spend};
-ghost use Rattle.chi_tracker.specs.Conduct.{One, ReleaseActs};
-ghost use Rattle.chi_node.specs.Arrives.{AdmissionActs, Arrives, CanArrive, RetryActs};
-ghost use Rattle.chi_node.specs.Requester.{with_both, Acted};
+ghost use Rattle.chi_tracker.specs.Conduct.{ClaimActs, One, ReleaseActs};
+ghost use Rattle.chi_node.specs.Arrives.{Arrives, CanArrive, Retries};
+ghost use Rattle.chi_node.specs.Requester.{owner, with_both, Acted};
 
 use crate::answers::Arrived;
 use crate::requester::Requester;
@@ -24,7 +24,7 @@ impl Requester {
     /// A first attempt arrived: an entry of its type is claimed in one scan, and Sent becomes Admitted.
     /// Where each entry of the type was found claimed, one more credit of the type is owed, and Sent
     /// becomes Refused.
-    #[tactic(auto, using(crate::proofs::Keeps::still_eight, crate::proofs::Keeps::still_within, crate::proofs::Keeps::still_due, crate::proofs::Keeps::taken_entries, crate::proofs::Keeps::taken_inside, crate::proofs::Keeps::owed_due, crate::proofs::Keeps::few_due, crate::proofs::Keeps::still_entries))]
+    #[tactic(auto, using(crate::proofs::Keeps::still_eight, crate::proofs::Keeps::still_within, crate::proofs::Keeps::still_due, crate::proofs::Keeps::taken_entries, crate::proofs::Keeps::taken_inside, crate::proofs::Keeps::owed_due, crate::proofs::Keeps::few_due, crate::proofs::Keeps::still_entries, crate::proofs::Passed::of_credit))]
     pub(crate) fn admit_first<A: Allocator>(
         &mut self,
         tracker: &Tracker<A>,
@@ -36,24 +36,18 @@ impl Requester {
         requires entries { 0 < size self.old.port.shape (type_at self.old.slots slot.0) }
         ensures unanswered { IfSome result (λ _. (slot_record_at self.old.slots slot.0).answered
             ≡ false) }
-        ensures claimed { IfSome result
-            (λ e. IsOf self.old.port.shape (type_at self.old.slots slot.0) e.0
-            × (has e.0 self.old.port ≡ 0)) }
-        ensures some { IfSome result (λ e. self.new ≡ with_both
-            (into_hand e.0 (port_after_scan (type_at self.old.slots slot.0)
-            (e.0 - low self.old.port.shape (type_at self.old.slots slot.0)) self.old.port))
-            self.new.history (slots_with_state self.old.slots slot.0 (SlotState.Admitted e)) self.old) }
-        ensures found { IfNone result
-            ((e : ℕ) → IsOf self.old.port.shape (type_at self.old.slots slot.0) e
-            → bit_at self.new.port.found e ≡ 1) }
-        ensures none { IfNone result (self.new ≡ with_both
-            (owed_one (type_at self.old.slots slot.0) (port_after_scan (type_at self.old.slots slot.0)
-            (size self.old.port.shape (type_at self.old.slots slot.0)) self.old.port))
-            self.new.history (slots_with_state self.old.slots slot.0 SlotState.Refused) self.old) }
+        ensures hand { self.new.port.hand ≡ hand_with result self.old.port.hand }
+        ensures some { IfSome result (λ e. HasSameCredits self.old.port self.new.port
+            × (self.new ≡ with_both self.new.port self.new.history
+            (slots_with_state self.old.slots slot.0 (SlotState.Admitted e)) self.old)) }
+        ensures none { IfNone result (HasSameCredits
+            (owed_one (type_at self.old.slots slot.0) self.old.port) self.new.port
+            × (self.new ≡ with_both self.new.port self.new.history
+            (slots_with_state self.old.slots slot.0 SlotState.Refused) self.old)) }
         ensures admitted { IfSome result (λ e. Acted
-            (AdmissionActs self.old.port (type_at self.old.slots slot.0) e.0) self.old self.new) }
+            (ClaimActs self.old.port (type_at self.old.slots slot.0) (Some e)) self.old self.new) }
         ensures retried { IfNone result
-            (Acted (RetryActs self.old.port (type_at self.old.slots slot.0)) self.old self.new) }
+            (Retries (type_at self.old.slots slot.0) (owner self.old) (owner self.new)) }
     {
         let ty = self.account.slot(slot).credit;
         let claimed = self.port.claim(tracker, ty);
@@ -115,16 +109,12 @@ impl Requester {
         requires table { self.old.table ≡ tracker.now.table }
         requires slot { slot.0 < 8 }
         requires admitted { is_admitted (state_at self.old.slots slot.0) ≡ true }
-        ensures released { (e : Entry) × (state_at self.old.slots slot.0 ≡ SlotState.Admitted e)
-            × ((t : ℕ) × (t < 4) × IsOf self.old.port.shape t e.0
-            × LeavesHand self.old.port t e.0 result self.new.port) }
         ensures held { (e : Entry) → state_at self.old.slots slot.0 ≡ SlotState.Admitted e
             → has e.0 self.old.port ≡ 1 }
         ensures credits { HasSameCredits self.old.port self.new.port }
         ensures acted { (e : Entry) × (state_at self.old.slots slot.0 ≡ SlotState.Admitted e)
-            × (t : ℕ) × (t < 4) × IsOf self.old.port.shape t e.0
-            × Acted (ReleaseActs self.old.port.shape.agents t e.0 result)
-            self.old self.new }
+            × (self.new.port.hand ≡ without_bit self.old.port.hand e.0)
+            × Acted (ReleaseActs self.old.port e.0 result) self.old self.new }
         ensures after { self.new ≡ with_both self.new.port self.new.history
             (slice_set self.old.slots slot.0 (after_finish (slot_record_at self.old.slots slot.0))) self.old }
     {

@@ -14,6 +14,7 @@ mod arrivals;
 mod calls;
 mod coherence;
 mod locks;
+mod meeting;
 mod moves;
 mod node;
 mod opening;

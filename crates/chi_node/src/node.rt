@@ -6,6 +6,7 @@ ghost use Rattle.std.specs.Sync.Mutex.{mutex_guard_value};
 ghost use Rattle.chi_flit.specs.Refusal.{refusal_of};
 ghost use Rattle.chi_flit.specs.declared.refusal.Refusal.TheVariants.{OutOfRange};
 ghost use Rattle.chi_tracker.specs.Calls.{shape_of};
+ghost use Rattle.chi_tracker.specs.Witness.{GoesOnFromEach};
 ghost use Rattle.chi_tracker.specs.Totals.{longest, views_of, IsBalanced, IsClosed};
 ghost use Rattle.chi_node.specs.Calls.{is_own_step, IsSameRequester};
 ghost use Rattle.chi_node.specs.Parts.{opening_requesters, HasTypes};
@@ -195,6 +196,7 @@ impl<A: Allocator> Node<A> {
             (views_of (owners_of requesters.items))
             (longest (owners_of requesters.items)) result.1.counts result.1.requesters.items }
         ensures balanced { IsBalanced self.tracker.shape.agents result.1.requesters.items }
+        ensures later { GoesOnFromEach (owners_of requesters.items) (longest (owners_of requesters.items)) }
     {
         let Node {
             config: _,

@@ -6,6 +6,8 @@ ghost use Rattle.chi_flit.specs.Refusal.{refusal_of};
 ghost use Rattle.chi_tracker.specs.Shape.{low};
 ghost use Rattle.chi_tracker.specs.Views.{new_port};
 ghost use Rattle.chi_tracker.specs.Calls.{seen_of};
+ghost use Rattle.chi_tracker.specs.History.{IsAfter};
+ghost use Rattle.chi_tracker.specs.Witness.{Told};
 ghost use Rattle.chi_credit.specs.Account.{slot_record_at, state_at, IsLowestIdle};
 ghost use Rattle.chi_slice.specs.Slice.{SliceState};
 ghost use Rattle.chi_node.specs.Agree.{Agree};
@@ -14,7 +16,7 @@ ghost use Rattle.chi_node.specs.Requester.{can_give_back, give_back_refusal, has
 
 use chi_credit::{Account, SlotRecord, SlotState};
 use chi_flit::{Agent, CreditType, Refusal, Slot};
-use chi_tracker::{Port, Released, Tracker};
+use chi_tracker::{Port, Released, Tracker, Witness};
 use std::alloc::Allocator;
 use std::marker::Model;
 
@@ -157,6 +159,22 @@ impl Requester {
         ensures history { result.history ≡ self.history }
     {
         self.port
+    }
+
+    /// Tells a witness of the requester's port, as `Port::tell` says. Nothing of the requester changes.
+    ///
+    /// Condition: the tracker is the requester's, and the witness is the tracker's.
+    /// Source: `docs/PROTOCOL.md`, "The rule between steps".
+    pub fn tell<A: Allocator>(&mut self, tracker: &Tracker<A>, witness: &mut Witness)
+        requires table { self.old.table ≡ tracker.now.table }
+        requires witness { witness.old.table ≡ tracker.now.table }
+        ensures same { self.new ≡ self.old }
+        ensures witness { witness.new.table ≡ witness.old.table }
+        ensures told { Told self.old.port.who self.old.history witness.old.history witness.new.history }
+        ensures running { IsAfter witness.new.history self.old.port }
+        ensures own { self.old.port.who ≡ self.old.number }
+    {
+        self.port.tell(tracker, witness);
     }
 
     /// Looks at what is promised to the requester, one step on each of the four words, and answers the

@@ -20,6 +20,7 @@ use crate::agree::all_agree;
 use crate::answers::{Arrived, Stepped};
 use crate::calls::{arrive_agreed, step_agreed};
 use crate::coherence::are_coherent;
+use crate::meeting::witness_of;
 use crate::opening::parts;
 use crate::requester::Requester;
 use arrayvec::ArrayVec;
@@ -293,17 +294,22 @@ impl<A: Allocator> System<A> {
 
     /// The headline of the node, as it stands between any two calls: each line has at most one unique holder
     /// and then no other, its filter names every holder, and each valid copy and each answered load has the
-    /// value last written; each entry of the tracker is free, in one port's hand or promised to one requester;
-    /// and a request that was resent with a credit is never refused an entry. It asks each line and each
-    /// journal, where they are, and answers true of every node, since every call keeps this.
+    /// value last written; each entry of the tracker is free, in the hand of one requester's port or promised
+    /// to one requester, in one state of all ports; and a request that was resent with a credit is never
+    /// refused an entry. It joins what all ports know, which stay as they are, and audits the slices: they are
+    /// always coherent, since every call keeps this.
     /// Source: `docs/PROMISES.md`, "The headline".
-    pub fn headline(&self) -> bool
-        ensures headline { Headline self.now }
-        ensures always { result ≡ true }
+    pub fn headline(&mut self) -> Audit
+        ensures headline { Headline self.new }
+        ensures audited { IsAudited self.new.home.slices result.loads result.stores result.coherent }
+        ensures always { result.coherent ≡ true }
+        ensures same { self.new ≡ self.old }
     {
-        Law::running();
-        Law::place();
-        are_coherent(&self.slices)
+        Law::together();
+        are_coherent(&self.slices);
+        let requesters = self.requesters.as_mut_slice();
+        let _witness = witness_of(&self.tracker, requesters);
+        audit_of(&self.slices)
     }
 
     /// How many entries of each type are free, in hand and promised, and how many credits are owed, as the

@@ -2,7 +2,7 @@
 
 ghost use Rattle.std.specs.Prelude.{◌≡◌, ◌<◌, [], ◌∷◌, IfOk};
 ghost use Rattle.chi_tracker.specs.Views.{new_port};
-ghost use Rattle.chi_tracker.specs.Calls.{shape_of};
+ghost use Rattle.chi_tracker.specs.Calls.{seen_of, shape_of};
 
 use crate::comparison::same;
 use chi_credit::{Account, SlotRecord, SlotState};
@@ -139,6 +139,15 @@ fn rides_on_one(rt: &impl Abort, account: &Account, slot: Slot)
     same(rt, may_resend(account, CreditType::T1, 1), true);
 }
 
+/// The port sees a credit of type 0, and no other.
+fn sees_one(rt: &impl Abort, tracker: &Tracker<Global>, port: &mut Port)
+    requires table { port.old.table ≡ tracker.now.table }
+    ensures table { port.new.table ≡ port.old.table }
+    ensures seen { seen_of port.new.port 0 ≡ 1 }
+{
+    assert_eq!(rt; port.see(tracker), [1, 0, 0, 0]);
+}
+
 #[test]
 fn resent_with_a_credit(rt: HostRuntime) -> Result<(), Fail> {
     let Ok((tracker, mut zero, mut one)) = two_ports(rt.alloc()) else {
@@ -159,7 +168,7 @@ fn resent_with_a_credit(rt: HostRuntime) -> Result<(), Fail> {
     same(&rt, may_resend(&account, CreditType::T0, 0), false);
     let released = zero.release(&tracker, Entry(0));
     same(&rt, released, Released::Granted(Agent(1)));
-    assert_eq!(rt; one.see(&tracker), [1, 0, 0, 0]);
+    sees_one(&rt, &tracker, &mut one);
     same(&rt, may_resend(&account, CreditType::T0, 1), true);
 
     account.resend(Slot(3));

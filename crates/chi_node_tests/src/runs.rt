@@ -171,12 +171,12 @@ const RUNS: [((u8, u8, u16, u16), &[Move]); 5] = [
     ((8, 8, 1, 1), &ONE_ENTRY_FOR_EIGHT),
 ];
 
-/// The first call that is answered otherwise, or after which a requester doesn't agree or the headline of the
-/// node isn't so.
+/// The first call that is answered otherwise, or after which a requester doesn't agree or a slice isn't
+/// coherent.
 pub fn first_wrong(system: &mut System<Global>, moves: &[Move]) -> Option<Move> {
     for (agent, line, deed, answer) in moves {
         let told = play(system, *agent, *line, *deed);
-        if told != *answer || !system.agrees() || !system.headline() {
+        if told != *answer || !system.agrees() || !system.headline().coherent {
             return Some((*agent, *line, *deed, *answer));
         }
     }
@@ -189,6 +189,6 @@ fn every_requester_agrees_after_each_call(rt: HostRuntime) {
         let config = Config::new(agents, lines, 1, t0, t1, 8).expect(&rt, "sizes in their limits");
         let mut system = System::new(rt.alloc(), &config).expect(&rt, "memory for a node");
         let wrong = first_wrong(&mut system, moves);
-        assert!(rt; wrong.is_none() && system.audit().coherent, "{wrong:?}");
+        assert!(rt; wrong.is_none() && system.headline().coherent, "{wrong:?}");
     }
 }

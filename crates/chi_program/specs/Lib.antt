@@ -1,3 +1,6 @@
 pub mod Charts
+pub mod Covers
+pub mod Endings
+pub mod Looks
 pub mod Stops
 pub mod Suites

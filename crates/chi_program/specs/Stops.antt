@@ -1,6 +1,6 @@
 -- How the program ends: its status, and the line on standard error without its line end
 -- (docs/FORMATS.md, "The program").
-use Rattle.std.specs.Prelude.{ℕ, Bool, true, false, List, ◌∷◌, [], Option, Some, None, Result, Ok, Err}
+use Rattle.std.specs.Prelude.{ℕ, nat_lt, Bool, true, false, List, ◌∷◌, [], Option, Some, None, Result, Ok, Err, if◌then◌else◌}
 use Rattle.std.specs.declared.io.ErrorKind.{ErrorKind}
 use Rattle.std.specs.declared.io.ErrorKind.TheVariants as kinds
 use Rattle.chi_arguments.specs.declared.faults.ArgFault.{ArgFault}
@@ -30,6 +30,9 @@ end_status ends.Differs = 5
 end_status (ends.Faulty fault) = script.status_of fault
 end_status ends.Malformed = 1
 end_status ends.Unexplained = 6
+end_status ends.Incomplete = 7
+end_status ends.Nothing = 8
+end_status ends.Few = 9
 
 -- the end of a check of which all answers hold, or not
 abbrev pub check_end : Bool → End
@@ -41,9 +44,21 @@ abbrev pub suite_stop : Option Fault → Bool → End
 suite_stop None hold = check_end hold
 suite_stop (Some fault) hold = ends.Faulty fault
 
+-- the end of a count of cells: the first fault comes before fewer cells than were asked for
+abbrev pub cover_end : Option Fault → (reached least : ℕ) → End
+cover_end None reached least = if nat_lt reached least then ends.Few else ends.Done
+cover_end (Some fault) reached least = ends.Faulty fault
+
+-- so of a sum of reports: one that is none comes first
+abbrev pub merge_end : Bool → (reached least : ℕ) → End
+merge_end true reached least = ends.Malformed
+merge_end false reached least = cover_end None reached least
+
 -- the end of an explanation of which this came
 abbrev pub explain_end : TraceOutcome → End
 explain_end (outcomes.Explained totals) = ends.Done
+explain_end (outcomes.Incomplete totals) = ends.Incomplete
+explain_end outcomes.Nothing = ends.Nothing
 explain_end (outcomes.Faulty stop) = ends.Unexplained
 explain_end (outcomes.Malformed fault) = ends.Malformed
 
@@ -63,10 +78,10 @@ run_status (Ok end) = end_status end
 run_status (Err stop) = stop_status stop
 
 -- the statuses that the program can end with: all went well, a faulty file or a device that failed, a script that
--- didn't finish or a file that wasn't drawn, want of memory, bad arguments, an answer that differs, and a flit that
--- isn't explained
+-- didn't finish or a file that wasn't drawn, want of memory, bad arguments, an answer that differs, a flit that isn't
+-- explained, something open at the end of a trace, nothing that was compared or shown, and fewer cells than asked for
 abbrev pub statuses : List ℕ
-statuses = 0 ∷ 1 ∷ 2 ∷ 3 ∷ 4 ∷ 5 ∷ 6 ∷ []
+statuses = 0 ∷ 1 ∷ 2 ∷ 3 ∷ 4 ∷ 5 ∷ 6 ∷ 7 ∷ 8 ∷ 9 ∷ []
 
 -- why the words of the command line weren't had: every cause but want of memory is bad arguments
 abbrev pub words_fault : ErrorKind → ArgFault

@@ -4,6 +4,7 @@
 //! Source: `docs/FORMATS.md`, "The program".
 #![tactic(auto)]
 
+mod looks;
 mod program;
 
 pub use program::{Stop, serve};

@@ -4,23 +4,26 @@ ghost use Rattle.std.specs.Prelude.{◌≡◌, Some, IfOk, IfErr, Contains, map,
 ghost use Rattle.std.specs.Vec.Iter.{into_iter_items};
 ghost use Rattle.chi_arguments.specs.declared.faults.ArgFault.{ArgFault};
 ghost use Rattle.chi_program.specs.declared.program.Stop.TheVariants.{Arguments, Run};
-ghost use Rattle.chi_program.specs.Stops.{check_end, draw_end, end_status, explain_end, run_status, statuses, stop_status, stop_text, storm_end, suite_stop, words_fault};
+ghost use Rattle.chi_program.specs.Stops.{check_end, cover_end, draw_end, end_status, explain_end, merge_end, run_status, statuses, stop_status, stop_text, storm_end, suite_stop, words_fault};
 ghost use Rattle.chi_program.specs.Charts.{part_asked};
+ghost use Rattle.chi_program.specs.Covers.{form_asked};
+ghost use Rattle.chi_program.specs.Endings.{ending_asked};
 ghost use Rattle.chi_program.specs.Suites.{given_in};
 ghost use Rattle.chi_replay.specs.Suites.{given_of};
 
-use chi_arguments::{ArgFault, Job, RowRange, arguments};
+use crate::looks::{lacks_line, wants_answer};
+use chi_arguments::{ArgFault, CellForm, Job, RowRange, arguments, usage, version};
 use chi_chart::{ChartPart, chart};
-use chi_coverage::cover;
-use chi_devices::{FileInput, MemoryInput, Output, StandardOutput, read_all, read_most};
+use chi_coverage::{CoverForm, CoverShape, cover, merge};
+use chi_devices::{FileInput, MemoryInput, Output, StandardOutput, read_most};
 use chi_flit::Line;
 use chi_replay::{SuiteFile, SuiteForm, check, check_suite, replay};
 use chi_resolution::Options;
-use chi_script::{Fault, MOST_CHECK_BYTES, hint_at};
-use chi_stimulus::{DrawOptions, draw, read_weights};
+use chi_script::{Fault, MOST_BYTES, MOST_CHECK_BYTES, hint_at};
+use chi_stimulus::{DrawOptions, Weights, draw, read_kinds, read_weights};
 use chi_storm::storm;
 use chi_trace::Address;
-use chi_verdict::{TraceOutcome, explain};
+use chi_verdict::{Asked, Ending, TraceOutcome, explain};
 use std::alloc::Global;
 use std::env::Args;
 use std::fmt::Write;
@@ -92,10 +95,16 @@ enum End {
     Differs,
     /// A file is faulty, or some of several, which was told; this is the first fault.
     Faulty(Fault),
-    /// The file is no trace, or no file of weights.
+    /// The file is no trace, no file of weights, or no report.
     Malformed,
     /// Some flit of a trace isn't explained.
     Unexplained,
+    /// Something is open at the end of a trace.
+    Incomplete,
+    /// Nothing was compared or shown: no answer is wanted, there is no such line, or a trace is empty.
+    Nothing,
+    /// Fewer cells were reached than were asked for.
+    Few,
 }
 
 impl End {
@@ -110,6 +119,9 @@ impl End {
             End::Faulty(fault) => fault.status(),
             End::Malformed => 1,
             End::Unexplained => 6,
+            End::Incomplete => 7,
+            End::Nothing => 8,
+            End::Few => 9,
         }
     }
 }
@@ -164,6 +176,7 @@ fn work<R: Files + AllocGlobal + Print + Eprint + Threads + Wait + Clock + Sync>
             types,
             stores,
             early_grants,
+            complete,
             only,
         } => {
             let options = Options {
@@ -171,16 +184,34 @@ fn work<R: Files + AllocGlobal + Print + Eprint + Threads + Wait + Clock + Sync>
                 early_grants,
                 stores,
             };
-            Ok(explain_file(rt, path, options, only)?)
+            let ending = ending_of(complete);
+            Ok(explain_file(rt, path, options, Asked { ending, only })?)
         }
         Job::Storm { path, seed, turns } => Ok(storm_file(rt, path, seed, turns)?),
-        Job::Cover { paths, missing } => Ok(cover_files(rt, &paths, missing)?),
+        Job::Cover {
+            paths,
+            missing,
+            form,
+            merge,
+            least,
+        } => {
+            let shape = CoverShape {
+                form: form_of(form),
+                only_missing: missing,
+            };
+            if merge {
+                Ok(merge_files(rt, &paths, shape, least)?)
+            } else {
+                Ok(cover_files(rt, &paths, shape, least)?)
+            }
+        }
         Job::Draw {
             header,
             seed,
             commands,
             wild,
             weights,
+            kinds,
             drain,
         } => {
             let options = DrawOptions {
@@ -190,8 +221,41 @@ fn work<R: Files + AllocGlobal + Print + Eprint + Threads + Wait + Clock + Sync>
                 weights: None,
                 drain,
             };
-            Ok(draw_by(rt, header, options, weights)?)
+            draw_by(rt, header, options, weights, kinds)
         }
+        Job::Usage(topic) => Ok(tell_text(rt, usage(topic))?),
+        Job::Version => Ok(tell_text(rt, version())?),
+    }
+}
+
+/// Writes a text to standard output.
+fn tell_text<R: Print>(rt: &R, text: &str) -> Result<End, Fault> {
+    let mut output = StandardOutput::new(io::writer(rt));
+    match output.write_all(text.as_bytes()) {
+        Ok(()) => Ok(End::Done),
+        Err(_) => Err(Fault::Write),
+    }
+}
+
+/// What may be open at the end of a trace.
+fn ending_of(complete: bool) -> Ending
+    ensures { result ≡ ending_asked complete }
+{
+    if complete {
+        Ending::Complete
+    } else {
+        Ending::Any
+    }
+}
+
+/// The form of cells that is asked for.
+fn form_of(form: CellForm) -> CoverForm
+    ensures { result ≡ form_asked form }
+{
+    match form {
+        CellForm::Lines => CoverForm::Lines,
+        CellForm::Json => CoverForm::Json,
+        CellForm::Tsv => CoverForm::Tsv,
     }
 }
 
@@ -244,10 +308,22 @@ fn check_files<R: Files + AllocGlobal + Print + Eprint>(
     }
 }
 
-/// The bytes of the check file at the path; `Read` where it can't be read, `NoMemory` where memory runs out.
-fn bytes_of<R: Files + AllocGlobal>(rt: &R, path: &str) -> Result<Vec<u8>, Fault> {
-    let mut input = FileInput::open(rt, path)?;
-    read_most(rt.alloc(), &mut input, MOST_CHECK_BYTES + 1)
+/// The path that stands for standard input.
+const DASH: &str = "-";
+
+/// Standard input, as a file.
+const STANDARD_INPUT: &str = "/dev/stdin";
+
+/// The file that a path stands for.
+fn file_of(path: &str) -> &str {
+    if path == DASH { STANDARD_INPUT } else { path }
+}
+
+/// The bytes of the file at the path, or of standard input, so many at most; `Read` where it can't be read, `NoMemory`
+/// where memory runs out.
+fn bytes_of<R: Files + AllocGlobal>(rt: &R, path: &str, most: usize) -> Result<Vec<u8>, Fault> {
+    let mut input = FileInput::open(rt, file_of(path))?;
+    read_most(rt.alloc(), &mut input, most)
 }
 
 /// Tells a fault on standard error, of a file whose bytes these are, and what is wrong with its line.
@@ -261,11 +337,12 @@ fn tell<R: AllocGlobal + Eprint>(rt: &R, bytes: &[u8], fault: Fault) -> Result<E
 
 /// Checks the file at the path, and writes to standard output what came of it.
 fn check_file<R: Files + AllocGlobal + Print + Eprint>(rt: &R, path: &str) -> Result<End, Fault> {
-    let bytes = bytes_of(rt, path)?;
+    let bytes = bytes_of(rt, path, MOST_CHECK_BYTES + 1)?;
     let mut input = MemoryInput::new(&bytes, u64::MAX);
     let mut output = StandardOutput::new(io::writer(rt));
     match check(rt.alloc(), &mut input, &mut output) {
-        Ok(hold) => Ok(check_end(hold)),
+        Ok(false) => Ok(End::Differs),
+        Ok(true) => wanted_end(rt, wants_answer(rt.alloc(), &bytes)?),
         Err(fault) => tell(rt, &bytes, fault),
     }
 }
@@ -286,7 +363,32 @@ fn check_all<R: Files + AllocGlobal + Print + Eprint>(
     if !report.faults.is_empty() {
         let _ = rt.eprint(report.faults.as_str());
     }
-    Ok(suite_end(report.fault, report.hold))
+    match suite_end(report.fault, report.hold) {
+        End::Done => wanted_end(rt, some_wants(rt.alloc(), &suite)?),
+        end => Ok(end),
+    }
+}
+
+/// Whether an answer is wanted in some of these good files.
+fn some_wants(alloc: Global, files: &[SuiteFile]) -> Result<bool, Fault> {
+    for file in files {
+        if let Some(bytes) = file.bytes {
+            if wants_answer(alloc, bytes)? {
+                return Ok(true);
+            }
+        }
+    }
+    Ok(false)
+}
+
+/// The end of a check of which all answers hold, where some answer is wanted, or none. That none is wanted is told on
+/// standard error.
+fn wanted_end<R: Eprint>(rt: &R, wants: bool) -> Result<End, Fault> {
+    if wants {
+        return Ok(End::Done);
+    }
+    let _ = rt.eprintln("chihome: no answer is wanted");
+    Ok(End::Nothing)
 }
 
 /// A file of which the path was given.
@@ -331,12 +433,7 @@ fn read_files<'a, R: Files + AllocGlobal>(
 
 /// The bytes of the file at the path, where it can be read; `NoMemory` where memory runs out.
 fn read_file<R: Files + AllocGlobal>(rt: &R, path: &str) -> Result<Option<Vec<u8>>, Fault> {
-    let mut input = match FileInput::open(rt, path) {
-        Ok(input) => input,
-        Err(Fault::NoMemory) => return Err(Fault::NoMemory),
-        Err(_) => return Ok(None),
-    };
-    match read_most(rt.alloc(), &mut input, MOST_CHECK_BYTES + 1) {
+    match bytes_of(rt, path, MOST_CHECK_BYTES + 1) {
         Ok(bytes) => Ok(Some(bytes)),
         Err(Fault::NoMemory) => Err(Fault::NoMemory),
         Err(_) => Ok(None),
@@ -384,7 +481,13 @@ fn chart_file<R: Files + AllocGlobal + Print + Eprint>(
     path: &str,
     part: ChartPart,
 ) -> Result<End, Fault> {
-    let bytes = bytes_of(rt, path)?;
+    let bytes = bytes_of(rt, path, MOST_CHECK_BYTES + 1)?;
+    if let Some(line) = part.line {
+        if let Ok(true) = lacks_line(rt.alloc(), &bytes, line) {
+            let _ = rt.eprintln("chihome: the file has no such line");
+            return Ok(End::Nothing);
+        }
+    }
     let mut input = MemoryInput::new(&bytes, u64::MAX);
     let mut output = StandardOutput::new(io::writer(rt));
     match chart(rt.alloc(), &mut input, &mut output, &part) {
@@ -418,11 +521,12 @@ fn storm_end(finished: bool) -> End
 fn cover_files<R: Files + AllocGlobal + Print + Eprint>(
     rt: &R,
     paths: &[&str],
-    missing: bool,
+    shape: CoverShape,
+    least: u64,
 ) -> Result<End, Fault> {
     let files = read_files(rt, paths)?;
     let suite = suite_of(rt.alloc(), &files)?;
-    let report = cover(rt.alloc(), &suite, missing)?;
+    let report = cover(rt.alloc(), &suite, shape)?;
     let mut output = StandardOutput::new(io::writer(rt));
     if output.write_all(&report.text).is_err() {
         return Err(Fault::Write);
@@ -430,33 +534,88 @@ fn cover_files<R: Files + AllocGlobal + Print + Eprint>(
     if !report.faults.is_empty() {
         let _ = rt.eprint(report.faults.as_str());
     }
-    Ok(suite_end(report.fault, true))
+    Ok(cover_end(report.fault, report.reached, least))
 }
 
-/// Draws a check file with this header, by the weights of the file at this path where one is given, and writes it to
-/// standard output. Of a faulty file of weights a line is on standard error.
+/// Adds up the reports at the paths, and writes them to standard output. A line for each file that is no report or can't be
+/// read is on standard error.
+fn merge_files<R: Files + AllocGlobal + Print + Eprint>(
+    rt: &R,
+    paths: &[&str],
+    shape: CoverShape,
+    least: u64,
+) -> Result<End, Fault> {
+    let files = read_files(rt, paths)?;
+    let suite = suite_of(rt.alloc(), &files)?;
+    let report = merge(rt.alloc(), &suite, shape)?;
+    let mut output = StandardOutput::new(io::writer(rt));
+    if output.write_all(&report.text).is_err() {
+        return Err(Fault::Write);
+    }
+    if report.faulty {
+        let _ = rt.eprint(report.faults.as_str());
+    }
+    Ok(merge_end(report.faulty, report.reached, least))
+}
+
+/// The end of a sum of reports, of which some is faulty, or none, and so many cells were reached, where so many at least
+/// were asked for.
+fn merge_end(faulty: bool, reached: usize, least: u64) -> End
+    ensures { result ≡ merge_end faulty reached least }
+{
+    if faulty {
+        End::Malformed
+    } else {
+        cover_end(None, reached, least)
+    }
+}
+
+/// The end of a count of cells, of which this is the first fault, and so many were reached, where so many at least were
+/// asked for.
+fn cover_end(fault: Option<Fault>, reached: usize, least: u64) -> End
+    ensures { result ≡ cover_end fault reached least }
+{
+    match fault {
+        Some(fault) => End::Faulty(fault),
+        None => {
+            if (reached as u64) < least {
+                End::Few
+            } else {
+                End::Done
+            }
+        }
+    }
+}
+
+/// Draws a check file with this header, by the weights of the file at this path and of the kinds in this list where they
+/// are given, and writes it to standard output. Of a faulty file of weights a line is on standard error; a list with a
+/// name of no kind is bad arguments.
 fn draw_by<R: Files + AllocGlobal + Print + Eprint>(
     rt: &R,
     header: &str,
     options: DrawOptions,
     path: Option<&str>,
-) -> Result<End, Fault> {
-    let Some(path) = path else {
-        return draw_file(rt, header, &options);
-    };
-    let mut input = FileInput::open(rt, path)?;
-    let bytes = read_all(rt.alloc(), &mut input)?;
-    match read_weights(&bytes) {
-        Ok(weights) => {
-            let mut options = options;
-            options.weights = Some(weights);
-            draw_file(rt, header, &options)
-        }
-        Err(fault) => {
-            let _ = rt.eprintln(fault);
-            Ok(End::Malformed)
+    list: Option<&str>,
+) -> Result<End, Stop> {
+    let mut options = options;
+    if let Some(path) = path {
+        let bytes = bytes_of(rt, path, MOST_BYTES + 1)?;
+        match read_weights(&bytes) {
+            Ok(weights) => options.weights = Some(weights),
+            Err(fault) => {
+                let _ = rt.eprintln(fault);
+                return Ok(End::Malformed);
+            }
         }
     }
+    if let Some(list) = list {
+        let Some(kinds) = read_kinds(list.as_bytes()) else {
+            return Err(Stop::Arguments(ArgFault::Bad));
+        };
+        let weights = options.weights.unwrap_or(Weights::usual());
+        options.weights = Some(weights.of_kinds(&kinds));
+    }
+    Ok(draw_file(rt, header, &options)?)
 }
 
 /// Draws a check file with this header, and writes it to standard output.
@@ -484,11 +643,11 @@ fn explain_file<R: Files + AllocGlobal + Print + Eprint>(
     rt: &R,
     path: &str,
     options: Options,
-    only: Option<Address>,
+    asked: Asked,
 ) -> Result<End, Fault> {
-    let mut input = FileInput::open(rt, path)?;
+    let mut input = FileInput::open(rt, file_of(path))?;
     let mut output = StandardOutput::new(io::writer(rt));
-    let report = explain(rt.alloc(), &mut input, &mut output, options, only)?;
+    let report = explain(rt.alloc(), &mut input, &mut output, options, asked)?;
     if matches!(report.outcome, TraceOutcome::Malformed(_)) {
         let _ = rt.eprintln(report.text.as_str());
     }
@@ -501,6 +660,8 @@ fn explain_end(outcome: TraceOutcome) -> End
 {
     match outcome {
         TraceOutcome::Explained(_) => End::Done,
+        TraceOutcome::Incomplete(_) => End::Incomplete,
+        TraceOutcome::Nothing => End::Nothing,
         TraceOutcome::Faulty(_) => End::Unexplained,
         TraceOutcome::Malformed(_) => End::Malformed,
     }

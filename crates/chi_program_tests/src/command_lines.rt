@@ -1,6 +1,6 @@
 //! Command lines, good and bad, by `docs/FORMATS.md`, "The program".
 
-use chi_arguments::{ArgFault, Job, RowRange, arguments};
+use chi_arguments::{ArgFault, CellForm, Job, RowRange, Topic, arguments};
 use chi_flit::Line;
 use std::alloc::Global;
 use std::process::Abort;
@@ -253,6 +253,7 @@ fn drawn<'a>(
         commands,
         wild,
         weights,
+        kinds: None,
         drain,
     };
     assert!(rt; arguments(rt.alloc(), words) == Ok(job), "{words:?}");
@@ -327,20 +328,85 @@ fn covers<'a>(
     missing_alone: bool,
 ) {
     match arguments(rt.alloc(), words) {
-        Ok(Job::Cover { paths, missing }) => {
+        Ok(
+            Job::Cover {
+                paths,
+                missing,
+                form,
+                merge,
+                least,
+            },
+        ) => {
             assert!(rt; paths.as_slice() == wanted, "{words:?}");
             assert!(rt; missing == missing_alone, "{words:?}");
+            assert!(rt;
+                form == CellForm::Lines && !merge && least == 0,
+                "{words:?}"
+            );
         }
         _ => assert!(rt; false, "{words:?}"),
     }
 }
 
-/// Other command lines than `cover FILE.. [--missing]`.
-const BAD_COVERS: [&[&str]; 4] = [
+#[test]
+fn a_coverage_has_its_options(rt: HostRuntime) {
+    let words = [
+        "chihome",
+        "cover",
+        "a",
+        "--json",
+        "--merge",
+        "--at-least",
+        "9",
+    ];
+    let told = match arguments(rt.alloc(), &words) {
+        Ok(
+            Job::Cover {
+                form,
+                merge,
+                least,
+                ..
+            },
+        ) => form == CellForm::Json && merge && least == 9,
+        _ => false,
+    };
+    assert!(rt; told);
+}
+
+/// Command lines of `usage`, each with what it is asked about.
+const USAGES: [(&[&str], Topic); 3] = [
+    (&["chihome", "usage"], Topic::All),
+    (&["chihome", "usage", "draw"], Topic::Draw),
+    (&["chihome", "usage", "usage"], Topic::Usage),
+];
+
+#[test]
+fn usage_has_its_topic(rt: HostRuntime) {
+    for (words, topic) in &USAGES {
+        assert!(rt;
+            arguments(rt.alloc(), words) == Ok(Job::Usage(*topic)),
+            "{words:?}"
+        );
+    }
+}
+
+#[test]
+fn a_version_has_no_words(rt: HostRuntime) {
+    let words = ["chihome", "version"];
+    assert!(rt; arguments(rt.alloc(), &words) == Ok(Job::Version));
+}
+
+/// Other command lines than `cover FILE..`, `usage [COMMAND]` and `version`.
+const BAD_COVERS: [&[&str]; 9] = [
     &["chihome", "cover"],
     &["chihome", "cover", "--missing"],
     &["chihome", "cover", "a", "--tap"],
     &["chihome", "cover", "a", "--missing", "--missing"],
+    &["chihome", "cover", "a", "--json", "--tsv"],
+    &["chihome", "cover", "a", "--at-least", "01"],
+    &["chihome", "usage", "help"],
+    &["chihome", "usage", "draw", "draw"],
+    &["chihome", "version", "draw"],
 ];
 
 #[test]

@@ -12,6 +12,7 @@ use Rattle.chi_node.specs.Words.{Released, SlotRecord, idle_slot, lowest_cancell
 use Rattle.chi_node.specs.Requester.{RequesterState}
 use Rattle.chi_node.specs.Home.{HomeState}
 use Rattle.chi_node.specs.System.{GivesBackIn, IsSystem, SeesIn, SystemState, TendsIn, agent_refusal, give_back_refusal_in, requester_of, tend_refusal_in}
+use Rattle.chi_node.proofs.Acts.{return_same, return_view, see_view, tend_view}
 use Rattle.chi_reply.specs.Replies.{credits_text, reply_text}
 use Rattle.chi_reply.specs.declared.replies.Reply.TheVariants as replies
 use Rattle.chi_replay.specs.Ports.{PortGivesBack, PortSees, PortTends, seen_counts}
@@ -38,7 +39,7 @@ see_plays y y' agent counts k h four saw =
       Saw counts ∷ [],
       (
         ports_of y',
-        at_port y agent (ports_of y') (requester_of y' agent.0).port (λ before after. PortSees before counts after) k (agent_low y agent h) (ports_after y y' agent saw.others) (saw.requester.port, saw.requester.more, is),
+        at_port y agent (ports_of y') (requester_of y' agent.0).port (λ before after. PortSees before counts after) k (agent_low y agent h) (ports_after y y' agent saw.others) (see_view r (requester_of y' agent.0) counts saw.requester, saw.requester.more, is),
         (refl, state, refl),
       ),
     )
@@ -59,12 +60,13 @@ returned y y' agent ty released k h gave =
     let r : RequesterState = requester_of y agent.0 in
     let t : ℕ = credit_number ty in
     let low : agent.0 < y.home.config.agents = typed_low y agent _ h in
-    let e = gave.requester.returned.0 in
-    let same = gave.requester.returned.4 in
+    let back = return_view r (requester_of y' agent.0) t released gave.requester in
+    let e = back.0 in
+    let same = return_same r (requester_of y' agent.0) t released back in
     let freed : List SlotRecord = set (slots_of m agent) (lowest_cancelled (slots_of m agent) t) idle_slot in
     let slots : (requester_of y' agent.0).slots ≡ freed = ap (λ (x : RequesterState). x.slots) gave.requester.others ∙ ap (λ (x : List SlotRecord). set x (lowest_cancelled x t) idle_slot) (sym (slots_at y agent)) in
     let credits : seen_counts (requester_of y' agent.0).port ≡ less_one (credits_of m agent) ty =
-    counts_less r.port (requester_of y' agent.0).port ty e (few_there y agent.0 k low) gave.requester.returned.1 same.1 same.2 ∙ ap (λ (x : List ℕ). less_one x ty) (sym (credits_at y agent)) in
+    counts_less r.port (requester_of y' agent.0).port ty e (few_there y agent.0 k low) back.1 same.1 same.2 ∙ ap (λ (x : List ℕ). less_one x ty) (sym (credits_at y agent)) in
     let state : machine_of y' ≡ with_credits (with_account m agent freed) agent (less_one (credits_of m agent) ty) =
     machine_after y y' agent freed (less_one (credits_of m agent) ty) gave.others slots credits
     ∙ ap (λ (z : HomeState). record { home = z; accounts = set m.accounts agent.0 freed; seen = set m.seen agent.0 (less_one (credits_of m agent) ty) }) gave.home in
@@ -72,7 +74,7 @@ returned y y' agent ty released k h gave =
       Went released ∷ [],
       (
         ports_of y',
-        at_port y agent (ports_of y') (requester_of y' agent.0).port (λ before after. PortGivesBack before ty released after) k low (ports_after y y' agent gave.others) (e, gave.requester.returned.1, gave.requester.returned.2, gave.requester.returned.3),
+        at_port y agent (ports_of y') (requester_of y' agent.0).port (λ before after. PortGivesBack before ty released after) k low (ports_after y y' agent gave.others) back,
         (refl, state, refl),
       ),
     )
@@ -94,7 +96,7 @@ went y y' agent ty released k h tends =
       Tended released ∷ [],
       (
         ports_of y',
-        at_port y agent (ports_of y') (requester_of y' agent.0).port (λ before after. PortTends before ty released after) k (typed_low y agent _ h) (ports_after y y' agent tends.others) tends.requester.tended,
+        at_port y agent (ports_of y') (requester_of y' agent.0).port (λ before after. PortTends before ty released after) k (typed_low y agent _ h) (ports_after y y' agent tends.others) (tend_view (requester_of y agent.0) (requester_of y' agent.0) (credit_number ty) released tends.requester),
         said released state,
       ),
     )

@@ -4,7 +4,7 @@ use Rattle.chi_flit.specs.declared.credit.Profile.{Profile}
 use Rattle.chi_flit.specs.declared.credit.Profile.TheVariants.{Two, Four}
 use Rattle.chi_script.specs.declared.headers.Header.{Header}
 use Rattle.chi_script.specs.Headers.{is_in_limits, node_sizes}
-use Rattle.chi_script.proofs.LimitLemmas.{entries_fit, node_in_limits, none_left}
+use Rattle.chi_script.proofs.LimitLemmas.{entries_fit, none_left}
 use Rattle.chi_slice.specs.Words.{are_entries, config_if, Sizes}
 use Rattle.chi_replay.specs.Replays.{read_sizes, sizes_for}
 
@@ -28,7 +28,7 @@ sizes_as Four header h = refl
 pub configured : (header : Header) → is_in_limits header ≡ true → config_if (read_sizes header) ≡ Some (node_sizes header)
 configured header h =
     ap config_if (sizes_as header.profile header (entries_fit header h))
-    ∙ ap (λ (b : Bool). if b then Some (node_sizes header) else None) (node_in_limits header h)
+    ∙ ap (λ (b : Bool). if b then Some (node_sizes header) else None) h
 
 not_none : (o : Option Sizes) (c : Sizes) → None ≡ o → o ≡ Some c → ⊥
 not_none o c h g = cc (h, g)

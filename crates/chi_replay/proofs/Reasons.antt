@@ -1,5 +1,5 @@
 -- Why the table of the commands refuses is why the node does.
-use Rattle.std.proofs.Common.{◌≡◌, ℕ, ◌<◌, ◌≤◌, List, Bool, true, false, ◌&&◌, nat_lt, Option, Some, None, if◌then◌else◌, refl, sym, ◌∙◌, ap, subst, arith}
+use Rattle.std.proofs.Common.{◌≡◌, ℕ, ◌<◌, ◌≤◌, List, Bool, true, false, ◌&&◌, nat_lt, not, Option, Some, None, if◌then◌else◌, refl, sym, ◌∙◌, ap, subst, arith}
 use Rattle.std.specs.Option.{option_or}
 use Rattle.std.proofs.lemmas.Bool.{ltb-true}
 use Rattle.chi_flit.specs.declared.numbers.Agent.{Agent}
@@ -17,7 +17,7 @@ use Rattle.chi_slice.proofs.Rows.{both}
 use Rattle.chi_node.specs.Parts.{is_of_profile}
 use Rattle.chi_node.specs.Requester.{RequesterState, has_entries_of, no_requester}
 use Rattle.chi_node.specs.Requester as requester
-use Rattle.chi_node.specs.Calls.{is_slot_taken, wanted_credit, refused_with}
+use Rattle.chi_node.specs.Calls.{credit_refusal, is_slot_taken, wanted_credit, refused_with}
 use Rattle.chi_node.specs.Calls as calls
 use Rattle.chi_node.proofs.Openings.{all_types, few_entries}
 use Rattle.chi_node.specs.Home.{slice_of}
@@ -56,7 +56,7 @@ unless_none : (c : Bool) → None ≡ (if c then None else Some OutOfRange) → 
 unless_none true h = refl
 unless_none false h = absurd (cc (h))
 
-in_range_first : (c : Bool) (o : Option Refusal) → None ≡ (if c then o else Some OutOfRange) → c ≡ true
+in_range_first : (c : Bool) (o : Option Refusal) → None ≡ (if not c then Some OutOfRange else o) → c ≡ true
 in_range_first true o h = refl
 in_range_first false o h = absurd (cc (h))
 
@@ -72,7 +72,9 @@ arrives_low y agent l k h =
 pub steps_low : (y : SystemState) (action : Action) → IsSystem y → None ≡ system_step_refusal y action → action.agent.0 < y.home.config.agents
 steps_low y action k h =
     let s : SliceState = slice_of y.home action.line.0 in
-    low_agent y action.agent.0 action.line.0 k (both (nat_lt action.agent.0 s.config.agents) _ (in_range_first (is_in_range s action) _ (first_none _ _ h))).0
+    let r : RequesterState = requester_of y action.agent.0 in
+    let may : None ≡ refused_with (is_slot_taken r.slots action.step) s action = first_none (refused_with (is_slot_taken r.slots action.step) s action) (credit_refusal r (wanted_credit s action)) h in
+    low_agent y action.agent.0 action.line.0 k (both (nat_lt action.agent.0 s.config.agents) _ (in_range_first (is_in_range s action) _ may)).0
 
 pub agent_low : (y : SystemState) (agent : Agent) → None ≡ system.agent_refusal y agent.0 → agent.0 < y.home.config.agents
 agent_low y agent h = ltb-true agent.0 y.home.config.agents (unless_none (nat_lt agent.0 y.home.config.agents) h)

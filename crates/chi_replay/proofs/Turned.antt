@@ -2,7 +2,6 @@
 use Rattle.std.proofs.Common.{◌≡◌, ℕ, ◌<◌, Bool, true, false, List, [], ◌∷◌, ◌++◌, length, Option, Some, None, Result, Ok, Err, IfOk, OnOk, OnErr, refl, sym, ◌∙◌, ap, subst, arith}
 use Rattle.std.proofs.Math.ListN.{set}
 use Rattle.std.specs.Prelude.{slice_index}
-use Rattle.std.specs.Int.{bit_at}
 use Rattle.chi_flit.specs.declared.numbers.Agent.{Agent}
 use Rattle.chi_flit.specs.declared.numbers.Entry.{Entry}
 use Rattle.chi_flit.specs.declared.numbers.Line.{Line}
@@ -16,7 +15,7 @@ use Rattle.chi_flit.specs.declared.message.Request.{Request}
 use Rattle.chi_flit.specs.declared.refusal.Refusal.{Refusal}
 use Rattle.chi_flit.specs.Credit.{credit_number}
 use Rattle.chi_flit.specs.Refusal.{refusal_of}
-use Rattle.chi_node.specs.Words.{Released, Counts, PortView, low, size, owed_one, port_after_scan, SlotRecord, SlotState, after_finish, slots_with_state, slot_record_at, state_at}
+use Rattle.chi_node.specs.Words.{Released, Counts, PortView, owed_one, SlotRecord, SlotState, after_finish, slots_with_state, slot_record_at, state_at}
 use Rattle.chi_slice.specs.Words.{cells_of}
 use Rattle.chi_slice.specs.Slice.{SliceState}
 use Rattle.chi_node.specs.SlotStates as states
@@ -29,6 +28,7 @@ use Rattle.chi_node.specs.AfterStep.{CompletesRequest, Finishes, account_after, 
 use Rattle.chi_node.specs.Calls.{ArrivesAt, arrival_action, place_at}
 use Rattle.chi_script.specs.declared.commands.Command.TheVariants as commands
 use Rattle.chi_slice.specs.Audits.{IsAudited, loads_in}
+use Rattle.chi_node.specs.Headline.{Headline}
 use Rattle.chi_node.specs.Home.{HomeState, slices_after, node_line, slice_of}
 use Rattle.chi_node.specs.System.{ArrivesIn, IsSystem, OthersStay, StepsIn, SystemState, arrive_refusal, requester_of, system_step_refusal}
 use Rattle.chi_reply.specs.Replies.{audit_text, reply_text, totals_text}
@@ -37,6 +37,7 @@ use Rattle.chi_replay.specs.Ports.{PortClaims, PortOwes, PortReleases, PortSpend
 use Rattle.chi_replay.specs.Turns.{Claimed, Ends, Glanced, Judged, Machine, Owed, Spent, Turn, Went, act_turn, act_refusal, machine_after_admission, arrive, arriving, turn_of_attempt, by_type, completing, credits_of, turn_after_action, less_one, or_refused, slots_after, slots_of, with_action, with_arrival, with_credits, with_end, turn}
 use Rattle.chi_replay.specs.NodeReplies.{arrival_reply, done_reply, step_reply, totals_told}
 use Rattle.chi_replay.specs.Session.{PlaysOn, SaysOn, machine_of, ports_of}
+use Rattle.chi_node.proofs.Acts.{claim_view, release_view, retry_view}
 use Rattle.chi_replay.proofs.Machines.{at_port, at_port_again, credits_at, machine_after, machine_seen_same, ports_after, ports_same, slots_at}
 use Rattle.chi_replay.proofs.Reasons.{act_same, arrives_low, few_there, steps_low}
 use Rattle.chi_replay.proofs.Seen.{counts_less, same_counts}
@@ -89,8 +90,8 @@ first_admitted y y' agent l s e k low home others h =
       Claimed (Some e) ∷ [],
       (
         ports_of y',
-        at_port y agent (ports_of y') (requester_of y' agent.0).port (λ before after. PortClaims before ty (Some e) after) k low (ports_after y y' agent others) (h.1, h.2, ap (λ (x : RequesterState). x.port) h.3),
-        (refl, arrived_state y y' agent l s (Admitted e) (states.Admitted e) home others (ap (λ (x : RequesterState). x.slots) h.3) (ap (λ (x : RequesterState). seen_counts x.port) h.3), refl),
+        at_port y agent (ports_of y') (requester_of y' agent.0).port (λ before after. PortClaims before ty (Some e) after) k low (ports_after y y' agent others) (claim_view r (requester_of y' agent.0) (credit_number ty) (Some e) h.4),
+        (refl, arrived_state y y' agent l s (Admitted e) (states.Admitted e) home others (ap (λ (x : RequesterState). x.slots) h.3) (same_counts r.port (requester_of y' agent.0).port h.2.1 h.2.2), refl),
       ),
     )
 
@@ -100,16 +101,16 @@ first_retried y y' agent l s told k low home others h =
     let r : RequesterState = requester_of y agent.0 in
     let ty : CreditType = (slot_record_at r.slots s).credit in
     let t : ℕ = credit_number ty in
-    let mid : PortView = port_after_scan t (size r.port.shape t) r.port in
-    let after : (requester_of y' agent.0).port ≡ owed_one t mid = ap (λ (x : RequesterState). x.port) h.2 in (
+    let mid : PortView = h.4.mid.port in
+    let after : (requester_of y' agent.0).port ≡ owed_one t mid = h.4.owed in (
       Claimed None ∷ Owed ∷ [],
       (
         set (ports_of y) agent.0 mid,
-        at_port y agent (set (ports_of y) agent.0 mid) mid (λ before after. PortClaims before ty None after) k low refl (refl, λ i is. sym (ap (λ (p : PortView). bit_at p.found i) after) ∙ h.1 i is),
+        at_port y agent (set (ports_of y) agent.0 mid) mid (λ before after. PortClaims before ty None after) k low refl (retry_view r (requester_of y' agent.0) t h.4),
         (
           ports_of y',
           at_port_again y agent (ports_of y') mid (requester_of y' agent.0).port (λ before after. PortOwes before ty after) k low (ports_after y y' agent others) after,
-          (ap (λ (c : CreditType). reply_text (replies.Retry c)) (same_type told ty h.0), arrived_state y y' agent l s (Retried ty) states.Refused home others (ap (λ (x : RequesterState). x.slots) h.2) (ap (λ (x : RequesterState). seen_counts x.port) h.2), refl),
+          (ap (λ (c : CreditType). reply_text (replies.Retry c)) (same_type told ty h.0), arrived_state y y' agent l s (Retried ty) states.Refused home others (ap (λ (x : RequesterState). x.slots) h.3) (same_counts r.port (requester_of y' agent.0).port h.2.1 h.2.2), refl),
         ),
       ),
     )
@@ -176,18 +177,18 @@ completing_plays : (y y' : SystemState) (action : Action) (slot : Slot) (release
 completing_plays y y' action slot released k low home others c =
     let m : Machine = machine_of y in
     let r : RequesterState = requester_of y action.agent.0 in
-    let e : Entry = c.ended.0 in
+    let e : Entry = c.acted.0 in
     let ended : List SlotRecord = set (slots_of m action.agent) slot.0 (after_finish (slot_record_at (slots_of m action.agent) slot.0)) in
     let slots : (requester_of y' action.agent.0).slots ≡ ended =
     ap (λ (x : RequesterState). x.slots) c.after ∙ ap (λ (x : List SlotRecord). set x slot.0 (after_finish (slot_record_at x slot.0))) (sym (slots_at y action.agent)) in
     let state : machine_of y' ≡ with_end m action slot =
     machine_seen_same y y' action.agent ended others slots (same_counts r.port (requester_of y' action.agent.0).port c.credits.1 c.credits.2)
     ∙ ap (λ (h : HomeState). record { home = h; accounts = set m.accounts action.agent.0 ended; seen = m.seen }) home in
-    subst (λ (x : SlotState). PlaysOn (completing x m action slot) y y' (reply_text (replies.Completed slot released))) (sym c.ended.1) (
+    subst (λ (x : SlotState). PlaysOn (completing x m action slot) y y' (reply_text (replies.Completed slot released))) (sym c.acted.1) (
       Went released ∷ [],
       (
         ports_of y',
-        at_port y action.agent (ports_of y') (requester_of y' action.agent.0).port (λ before after. PortReleases before e released after) k low (ports_after y y' action.agent others) (c.held e c.ended.1, c.ended.2),
+        at_port y action.agent (ports_of y') (requester_of y' action.agent.0).port (λ before after. PortReleases before e released after) k low (ports_after y y' action.agent others) (c.held e c.acted.1, release_view r (requester_of y' action.agent.0) e.0 released c.credits.1 c.acted.3),
         (refl, state, refl),
       ),
     )
@@ -269,8 +270,8 @@ glance_says y counts before after four h = (
   h,
 )
 
--- an audit: the loads, the stores, and the verdict on the slices
-pub audit_says : (y : SystemState) (loads stores : ℕ) (coherent : Bool) (before after : List ℕ) → IsAudited y.home.slices loads stores coherent
+-- an audit: the loads, the stores, and the verdict on the slices, where the headline holds
+pub audit_says : (y : SystemState) (loads stores : ℕ) (coherent : Bool) (before after : List ℕ) → IsAudited y.home.slices loads stores coherent → Headline y
     → after ≡ before ++ (audit_text (record { loads = loads; stores = stores; coherent = coherent }) ++ (10 ∷ [])) → SaysOn (turn (machine_of y) commands.Audit) y y before after
-audit_says y loads stores coherent before after k h =
-    (Judged coherent ∷ [], audit_text (record { loads = loads; stores = stores; coherent = coherent }), (ports_of y, (k.coherent, refl), (ap (λ n. audit_text (record { loads = n; stores = stores; coherent = coherent })) k.loads ∙ ap (λ n. audit_text (record { loads = loads_in y.home.slices; stores = n; coherent = coherent })) k.stores, refl, refl)), h)
+audit_says y loads stores coherent before after k headline h =
+    (Judged coherent ∷ [], audit_text (record { loads = loads; stores = stores; coherent = coherent }), (ports_of y, (k.coherent, refl, (y, refl, refl, headline)), (ap (λ n. audit_text (record { loads = n; stores = stores; coherent = coherent })) k.loads ∙ ap (λ n. audit_text (record { loads = loads_in y.home.slices; stores = n; coherent = coherent })) k.stores, refl, refl)), h)

@@ -1,17 +1,16 @@
 -- What each call does to the view of the port that is called, and what it answers (docs/PROTOCOL.md, "Steps
 -- of the tracker").
-use Rattle.std.specs.Prelude.{◌≡◌, ℕ, ◌<◌, ◌≤◌, List, [], ◌∷◌, Option, Some, None}
+use Rattle.std.specs.Prelude.{◌≡◌, ℕ, ◌<◌, ◌≤◌, List, [], ◌∷◌, Option}
 use Rattle.chi_flit.specs.declared.numbers.Entry.{Entry}
 use Rattle.chi_flit.specs.declared.credit.CreditType.{CreditType}
 use Rattle.chi_flit.specs.Credit.{credit_number}
-use Rattle.chi_node.specs.Words.{Released, set_at, PortView, has, returns_credit, spends, LeavesHand, LeavesHandAsItsType, FoundAll, HasClaimed, IsLowestSeen, owed_one, saw_all, scanned_all, seen_of}
+use Rattle.chi_node.specs.Words.{Released, set_at, PortView, has, spends, Claims, HasReturned, LeavesHandAsItsType, IsLowestSeen, owed_one, saw_all, seen_of}
 use Rattle.chi_node.specs.Words as words
 
 -- An entry of the type that wasn't in hand comes to hand, in a scan that found the lower entries of the
 -- type claimed; or none does, in a scan that found each entry of the type claimed.
 abbrev pub PortClaims : PortView → CreditType → Option Entry → PortView → Type 0
-PortClaims before ty (Some entry) after = HasClaimed (credit_number ty) entry.0 before after
-PortClaims before ty None after = (after ≡ scanned_all (credit_number ty) before) × FoundAll before.shape (credit_number ty) after
+PortClaims before ty claim after = Claims (credit_number ty) claim before after
 
 -- one credit more of the type is owed
 abbrev pub PortOwes : PortView → CreditType → PortView → Type 0
@@ -35,8 +34,7 @@ PortSees before counts after = (after ≡ saw_all after.seen before) × ((e : �
 
 -- the lowest seen credit of the type is returned, and its entry promised on, or freed
 abbrev pub PortGivesBack : PortView → CreditType → Released → PortView → Type 0
-PortGivesBack before ty released after = (e : ℕ) × IsLowestSeen before (credit_number ty) e × (has e before ≡ 0)
-    × LeavesHand (returns_credit (credit_number ty) e before) (credit_number ty) e released after
+PortGivesBack before ty released after = HasReturned (credit_number ty) before released after
 
 -- a free entry of the type is claimed and released, or none is
 abbrev pub PortTends : PortView → CreditType → Option Released → PortView → Type 0

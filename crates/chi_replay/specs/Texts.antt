@@ -10,6 +10,9 @@ use Rattle.chi_slice.specs.Coherence.{IsCoherentSlice}
 use Rattle.chi_slice.specs.Words.{Sizes}
 use Rattle.chi_slice.specs.Slice.{SliceState}
 use Rattle.chi_node.specs.Words.{PortView, new_ports, shape_of}
+use Rattle.chi_node.specs.Home.{HomeState}
+use Rattle.chi_node.specs.Headline.{Headline, views_in}
+use Rattle.chi_node.specs.System.{SystemState}
 use Rattle.chi_slice.specs.Audits.{loads_in, stores_in}
 use Rattle.chi_replay.specs.Ports.{PortClaims, PortGivesBack, PortOwes, PortReleases, PortSees, PortSpends, PortTends}
 use Rattle.chi_replay.specs.Turns.{TurnAnswer, TurnCall, Claim, Claimed, GiveBack, Glance, Glanced, Judge, Judged, Owe, Owed, Release, See, Saw, Spend, Spent, Tend, Tended, Went, Turn, Asks, Ends, Machine, machine_at_start, turn}
@@ -36,9 +39,13 @@ text m (command ∷ rest) answers =
 abbrev pub AtPort : Agent → List PortView → List PortView → (PortView → PortView → Type 0) → Type 0
 AtPort agent old new Goes = (before after : PortView) × (slice_get old agent.0 ≡ Some before) × Goes before after × (new ≡ slice_set old agent.0 after)
 
+-- the headline of a node with these slices and the views of these ports
+abbrev pub HeadlineOf : HomeState → List PortView → Type 0
+HeadlineOf home ports = (y : SystemState) × (y.home ≡ home) × (views_in y.requesters ≡ ports) × Headline y
+
 -- what may be answered to a call, and the views of the ports then. The tracker's answers: the agent's port
 -- goes on by the clause of the call; a glance may show any number for each type. A verdict is that on the
--- slices. No call has an answer of another kind.
+-- slices, and the headline holds of them and of the ports then. No call has an answer of another kind.
 abbrev pub Permits : List PortView → TurnCall → TurnAnswer → List PortView → Type 0
 Permits old (Claim agent ty) (Claimed claim) new = AtPort agent old new (λ before after. PortClaims before ty claim after)
 Permits old (Owe agent ty) Owed new = AtPort agent old new (λ before after. PortOwes before ty after)
@@ -48,7 +55,7 @@ Permits old (See agent) (Saw counts) new = AtPort agent old new (λ before after
 Permits old (GiveBack agent ty) (Went released) new = AtPort agent old new (λ before after. PortGivesBack before ty released after)
 Permits old (Tend agent ty) (Tended released) new = AtPort agent old new (λ before after. PortTends before ty released after)
 Permits old Glance (Glanced free hand promised owed) new = new ≡ old
-Permits old (Judge slices) (Judged coherent) new = (IsTrue coherent ↔ All IsCoherentSlice slices) × (new ≡ old)
+Permits old (Judge home) (Judged coherent) new = (IsTrue coherent ↔ All IsCoherentSlice home.slices) × (new ≡ old) × HeadlineOf home old
 Permits old call other new = ⊥
 
 -- a turn, played with just these answers

@@ -21,7 +21,6 @@ use Rattle.chi_script.specs.declared.commands.Command.{Command}
 use Rattle.chi_script.specs.declared.commands.Command.TheVariants as commands
 use Rattle.chi_node.specs.Words.{Released, SlotState, SlotRecord, after_finish, idle_slot, all_idle, lowest_cancelled, slots_with_state, riding_of, slot_record_at, state_at}
 use Rattle.chi_slice.specs.Words.{cells_of, effect_of, line_view, Sizes}
-use Rattle.chi_slice.specs.Slice.{SliceState}
 use Rattle.chi_node.specs.SlotStates as states
 use Rattle.chi_node.specs.declared.answers.Arrived.{Arrived}
 use Rattle.chi_node.specs.declared.answers.Arrived.TheVariants as arrivals
@@ -66,7 +65,7 @@ with_credits m agent credits = record m { seen = slice_set m.seen agent.0 credit
 abbrev pub less_one : List ℕ → CreditType → List ℕ
 less_one credits ty = slice_set credits (credit_number ty) (slice_index credits (credit_number ty) - 1)
 
--- what a command asks: of the tracker, or whether slices are coherent
+-- what a command asks: of the tracker, or whether the slices of a node are coherent
 pub data TurnCall : Type 0 where
   Claim : Agent → CreditType → TurnCall
   Owe : Agent → CreditType → TurnCall
@@ -76,7 +75,7 @@ pub data TurnCall : Type 0 where
   GiveBack : Agent → CreditType → TurnCall
   Tend : Agent → CreditType → TurnCall
   Glance : TurnCall
-  Judge : List SliceState → TurnCall
+  Judge : HomeState → TurnCall
 
 -- what is answered: an entry or none; that a credit is owed; the entry of a credit; where a released or
 -- returned entry went; the seen credits by type; where a tended entry went, if there was one; for each type
@@ -264,7 +263,7 @@ turn_after_verdict m other = never m
 -- the table of the commands
 abbrev pub turn : Machine → Command → Turn
 turn m commands.Totals = Asks Glance (turn_after_glance m)
-turn m commands.Audit = Asks (Judge m.home.slices) (turn_after_verdict m)
+turn m commands.Audit = Asks (Judge m.home) (turn_after_verdict m)
 turn m (commands.Show l) = or_refused (node_view_refusal m.home l.0) m (Ends (shown_text m.home.config.agents (line_view (node_line m.home l.0) (node_last m.home l.0))) m)
 turn m (commands.Flits agent l) = or_refused (node_flits_refusal m.home agent.0 l.0) m (Ends (flits_text (cells_of (node_line m.home l.0) agent.0)) m)
 turn m (commands.Arrive agent l) = arrive m agent l

@@ -77,16 +77,16 @@ fn say_totals<A: Allocator, B: Allocator>(
     Ok(())
 }
 
-/// The loads and stores, and whether all is coherent.
+/// The loads and stores, and whether all is coherent: the headline of the node is asked for.
 #[inline(never)]
 fn say_audit<A: Allocator, B: Allocator>(
-    system: &System<A>,
+    system: &mut System<A>,
     text: &mut String<B>,
 ) -> Result<(), NoMemory>
-    ensures { OnOk result (SaysTurn commands.Audit system.now system.now
+    ensures { OnOk result (SaysTurn commands.Audit system.old system.new
         (string_bytes text.old) (string_bytes text.new)) }
 {
-    let found = system.audit();
+    let found = system.headline();
     say(&found, text)?;
     Ok(())
 }

@@ -1,6 +1,6 @@
 //! The coverage of files, by `docs/FORMATS.md`, "Coverage".
 
-use chi_coverage::cover;
+use chi_coverage::{CoverForm, CoverShape, cover};
 use chi_replay::SuiteFile;
 use chi_script::Fault;
 
@@ -24,9 +24,15 @@ const FILES: [SuiteFile<'static>; 4] = [
     },
 ];
 
+/// Lines of all cells.
+const LINES: CoverShape = CoverShape {
+    form: CoverForm::Lines,
+    only_missing: false,
+};
+
 #[test]
 fn steps_of_good_files_are_counted_and_faulty_files_told(rt: HostRuntime) {
-    let told = match cover(rt.alloc(), &FILES, false) {
+    let told = match cover(rt.alloc(), &FILES, LINES) {
         Ok(report) => {
             report.text.starts_with(b"The actions: load: done: 0\n")
                 && report.text.ends_with(b"covered 7 of 519 cells\n")

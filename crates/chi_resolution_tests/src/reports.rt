@@ -3,13 +3,15 @@
 use crate::traces::PLAIN;
 use chi_resolution::Options;
 use chi_trace::{Address, Column, TraceFault};
-use chi_verdict::{TraceOutcome, TraceStop, TraceTotals, report_on};
+use chi_verdict::{Asked, Ending, TraceOutcome, TraceStop, TraceTotals, report_on};
 use std::alloc::Global;
 use std::test::Fail;
 
 /// What comes of a trace.
 enum Wanted {
+    Nothing,
     Explained(TraceTotals),
+    Incomplete(TraceTotals),
     /// The place of a flit that the ids don't allow.
     Ids(usize),
     /// The place of a flit that no run sends.
@@ -20,6 +22,7 @@ enum Wanted {
 /// A trace, the line that is asked for, and what is told.
 struct Told {
     trace: &'static [u8],
+    ending: Ending,
     only: Option<u64>,
     wanted: Wanted,
     text: &'static str,
@@ -32,11 +35,17 @@ RSP 8 40 11 CompAck - - - - - -
 CPU 8 - - Load 1048 - - - - 2a
 ";
 
-const NOTHING: TraceTotals = TraceTotals {
-    flits: 0,
-    accesses: 0,
-    actions: 0,
-    lines: 0,
+/// A read whose CompAck isn't seen, and a load that waits for it.
+const WAITING: &[u8] = b"REQ 8 40 1 ReadUnique 1040 - - 1 - -
+DAT 40 8 1 CompData - UC 11 - - 0,5,0,0,0,0,0,0
+CPU 8 - - Load 1048 - - - - 5
+";
+
+const WAITING_TOTALS: TraceTotals = TraceTotals {
+    flits: 2,
+    accesses: 1,
+    actions: 6,
+    lines: 1,
 };
 
 const READ_TOTALS: TraceTotals = TraceTotals {
@@ -46,21 +55,48 @@ const READ_TOTALS: TraceTotals = TraceTotals {
     lines: 1,
 };
 
-const TOLD: [Told; 8] = [
+const TOLD: [Told; 11] = [
     Told {
         trace: b"",
+        ending: Ending::Any,
         only: None,
-        wanted: Wanted::Explained(NOTHING),
-        text: "explained 0 flits by 0 actions on 0 lines\n",
+        wanted: Wanted::Nothing,
+        text: "no flit, load or store is in the trace\n",
     },
     Told {
         trace: READ,
+        ending: Ending::Any,
+        only: Some(0x1080),
+        wanted: Wanted::Nothing,
+        text: "no flit, load or store at 1080\n",
+    },
+    Told {
+        trace: READ,
+        ending: Ending::Complete,
+        only: None,
+        wanted: Wanted::Explained(READ_TOTALS),
+        text: "explained 3 flits and 1 loads and stores by 7 actions on 1 lines\n",
+    },
+    Told {
+        trace: WAITING,
+        ending: Ending::Complete,
+        only: None,
+        wanted: Wanted::Incomplete(WAITING_TOTALS),
+        text: "explained 2 flits and 1 loads and stores by 6 actions on 1 lines
+open: a completion with DBID 11 to node 8 at 1040, without CompAck or write data
+open: a load of node 8 at 1040, without the CompAck that it waits for
+",
+    },
+    Told {
+        trace: READ,
+        ending: Ending::Any,
         only: None,
         wanted: Wanted::Explained(READ_TOTALS),
         text: "explained 3 flits and 1 loads and stores by 7 actions on 1 lines\n",
     },
     Told {
         trace: READ,
+        ending: Ending::Any,
         only: Some(0x1048),
         wanted: Wanted::Explained(READ_TOTALS),
         text: "# line 0 is the cache line at 1040
@@ -82,30 +118,35 @@ load 0 0 1 -> ok value 42
     },
     Told {
         trace: b"REQ 8 40 1 Evict 1040 - - 1 - -\nSNP 40 8 1 SnpShared 1040 - - - - -\n",
+        ending: Ending::Any,
         only: None,
         wanted: Wanted::Flit(0),
-        text: "line 1: Evict of node 8 at 1040: its copy is I, and Evict isn't issued from there; allowed: ReadNotSharedDirty, ReadShared, ReadUnique\n",
+        text: "line 1: Evict of node 8 at 1040: this profile: its copy is I, and Evict isn't issued from there; allowed: ReadNotSharedDirty, ReadShared, ReadUnique\n",
     },
     Told {
         trace: b"RSP 8 40 1 CompAck 1040 - - - - -\n",
+        ending: Ending::Any,
         only: None,
         wanted: Wanted::Ids(0),
-        text: "line 1: CompAck of node 8 at 1040: a completion with DBID 1 to node 8 isn't open; allowed: nothing, as none of its node is open\n",
+        text: "line 1: CompAck of node 8 at 1040: CHI: a completion with DBID 1 to node 8 isn't open; allowed: nothing, as none of its node is open\n",
     },
     Told {
         trace: b"RSP 8 40 1 CompAck - - - - - -\n",
+        ending: Ending::Any,
         only: None,
         wanted: Wanted::Ids(0),
-        text: "line 1: CompAck of node 8: a completion with DBID 1 to node 8 isn't open; allowed: nothing, as none of its node is open\n",
+        text: "line 1: CompAck of node 8: CHI: a completion with DBID 1 to node 8 isn't open; allowed: nothing, as none of its node is open\n",
     },
     Told {
         trace: b"REQ 8 40 1 ReadShared 1040 - - 1 - -\nRSP 40 8 1 RetryAck - - - - 3 -\n",
+        ending: Ending::Any,
         only: None,
         wanted: Wanted::Ids(1),
-        text: "line 2: RetryAck to node 8 at 1040: PCRD is 3, and its request needs another; allowed: 0\n",
+        text: "line 2: RetryAck to node 8 at 1040: this profile: PCRD is 3, and its request needs another; allowed: 0\n",
     },
     Told {
         trace: b"\nREQ 8 40 1 Evict 1040 - - 2 - -\n",
+        ending: Ending::Any,
         only: None,
         wanted: Wanted::Malformed(TraceFault::BadWord {
             line: 2,
@@ -118,7 +159,9 @@ load 0 0 1 -> ok value 42
 /// Whether it is the outcome that is wanted.
 fn is_wanted(outcome: TraceOutcome, wanted: &Wanted) -> bool {
     match (outcome, wanted) {
-        (TraceOutcome::Explained(totals), Wanted::Explained(other)) => totals == *other,
+        (TraceOutcome::Explained(totals), Wanted::Explained(other))
+        | (TraceOutcome::Incomplete(totals), Wanted::Incomplete(other)) => totals == *other,
+        (TraceOutcome::Nothing, Wanted::Nothing) => true,
         (TraceOutcome::Faulty(TraceStop::Ids(fault)), Wanted::Ids(at)) => fault.at == *at,
         (TraceOutcome::Faulty(TraceStop::Flit { at, fault: _ }), Wanted::Flit(other)) => at
             == *other,
@@ -129,8 +172,11 @@ fn is_wanted(outcome: TraceOutcome, wanted: &Wanted) -> bool {
 
 /// Whether this is told of the trace.
 fn is_told(alloc: Global, options: Options, told: &Told) -> bool {
-    let only = told.only.map(|address| Address(address));
-    match report_on(alloc, told.trace, options, only) {
+    let asked = Asked {
+        ending: told.ending,
+        only: told.only.map(|address| Address(address)),
+    };
+    match report_on(alloc, told.trace, options, asked) {
         Ok(report) => is_wanted(report.outcome, &told.wanted) && report.text.as_str() == told.text,
         Err(_) => false,
     }

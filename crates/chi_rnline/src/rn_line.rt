@@ -74,8 +74,10 @@ impl RnLine {
         }
     }
 
-    /// The refusal that `issue` would answer to a request of the kind.
+    /// The refusal that `issue` would answer to a request of the kind: 3 (Pending) where a request is pending,
+    /// then 2 (WrongState) where the copy isn't in the state that the kind needs.
     /// Source: `docs/PROTOCOL.md`, "The actions", Issue.
+    #[inline(always)]
     pub fn why_no_issue(&self, kind: Kind) -> Option<Refusal>
         ensures { result ≡ issue_refusal self.now kind }
     {
@@ -101,9 +103,18 @@ impl RnLine {
         ensures ok { IfOk result (λ _. self.new ≡ rn_after_issue self.old kind slot) }
         ensures err { OnErr result (self.new ≡ self.old) }
     {
-        if let Some(refusal) = self.why_no_issue(kind) {
-            return Err(refusal);
+        match self.why_no_issue(kind) {
+            Some(refusal) => Err(refusal),
+            None => Ok(self.issued(kind, slot)),
         }
+    }
+
+    /// What `issue` does where nothing refuses it.
+    /// Source: `docs/PROTOCOL.md`, "The actions", Issue.
+    pub fn issued(&mut self, kind: Kind, slot: Slot) -> Msg
+        ensures message { result ≡ request_message kind slot true }
+        ensures after { self.new ≡ rn_after_issue self.old kind slot }
+    {
         self.pending = Some(Pending {
             kind,
             slot,
@@ -112,11 +123,11 @@ impl RnLine {
         if matches!(kind, Kind::Evict) {
             self.state = State::I;
         }
-        Ok(Msg::Req(Request {
+        Msg::Req(Request {
             kind,
             slot,
             allow_retry: true,
-        }))
+        })
     }
 
     /// Takes the data of a read: the copy has its state and data, and nothing is pending. Answers the
@@ -157,8 +168,9 @@ impl RnLine {
         self.pending
     }
 
-    /// The refusal that `load` would answer.
+    /// The refusal that `load` would answer: 2 (WrongState) where there is no copy.
     /// Source: `docs/PROTOCOL.md`, "The actions", Load.
+    #[inline(always)]
     pub fn why_no_load(&self) -> Option<Refusal>
         ensures { result ≡ load_refusal self.now }
     {
@@ -177,15 +189,27 @@ impl RnLine {
         ensures refusal { refusal_of result ≡ load_refusal self.now }
         ensures value { IfOk result (λ value. value ≡ word_of self.now word.0) }
     {
-        if let Some(refusal) = self.why_no_load() {
-            return Err(refusal);
+        match self.why_no_load() {
+            Some(refusal) => Err(refusal),
+            None => Ok(self.word(word)),
         }
-        Ok(self.words[usize::from(word.0)])
     }
 
-    /// Why the copy may not be stored to: 3 (Pending) where a request is pending, then 2 (WrongState) where
-    /// it isn't `UC` or `UD`; `None` where it may.
+    /// The word of the copy, which means nothing in state `I`.
+    ///
+    /// Conditions: the word is below 8.
+    /// Source: `docs/PROTOCOL.md`, "One line".
+    pub fn word(&self, word: WordNo) -> u64
+        requires { word.0 < 8 }
+        ensures { result ≡ word_of self.now word.0 }
+    {
+        self.words[usize::from(word.0)]
+    }
+
+    /// The refusal that `store` would answer: 3 (Pending) where a request is pending, then 2 (WrongState) where
+    /// the copy isn't `UC` or `UD`.
     /// Source: `docs/PROTOCOL.md`, "The actions", Store.
+    #[inline(always)]
     pub fn why_no_store(&self) -> Option<Refusal>
         ensures { result ≡ store_refusal self.now }
     {
@@ -207,16 +231,28 @@ impl RnLine {
         ensures ok { IfOk result (λ _. self.new ≡ rn_after_store self.old word.0 value) }
         ensures err { OnErr result (self.new ≡ self.old) }
     {
-        if let Some(refusal) = self.why_no_store() {
-            return Err(refusal);
+        match self.why_no_store() {
+            Some(refusal) => Err(refusal),
+            None => Ok(self.stored(word, value)),
         }
-        self.words[usize::from(word.0)] = value;
-        self.state = State::UD;
-        Ok(())
     }
 
-    /// The refusal that `drop_clean` would answer.
+    /// What `store` does where nothing refuses it.
+    ///
+    /// Conditions: the word is below 8.
+    /// Source: `docs/PROTOCOL.md`, "The actions", Store.
+    pub fn stored(&mut self, word: WordNo, value: u64)
+        requires { word.0 < 8 }
+        ensures { self.new ≡ rn_after_store self.old word.0 value }
+    {
+        self.words[usize::from(word.0)] = value;
+        self.state = State::UD;
+    }
+
+    /// The refusal that `drop_clean` would answer: 3 (Pending) where a request is pending, then 2 (WrongState)
+    /// where the copy isn't `SC` or `UC`.
     /// Source: `docs/PROTOCOL.md`, "The actions", Drop.
+    #[inline(always)]
     pub fn why_no_drop(&self) -> Option<Refusal>
         ensures { result ≡ drop_refusal self.now }
     {
@@ -237,11 +273,18 @@ impl RnLine {
         ensures ok { IfOk result (λ _. self.new ≡ rn_after_drop self.old) }
         ensures err { OnErr result (self.new ≡ self.old) }
     {
-        if let Some(refusal) = self.why_no_drop() {
-            return Err(refusal);
+        match self.why_no_drop() {
+            Some(refusal) => Err(refusal),
+            None => Ok(self.dropped()),
         }
+    }
+
+    /// What `drop_clean` does where nothing refuses it.
+    /// Source: `docs/PROTOCOL.md`, "The actions", Drop.
+    pub fn dropped(&mut self)
+        ensures { self.new ≡ rn_after_drop self.old }
+    {
         self.state = State::I;
-        Ok(())
     }
 
     /// Answers a snoop: the copy is in the answer's state, and its data and the pending request stay.
@@ -271,6 +314,7 @@ impl RnLine {
     }
 
     /// The request that may be sent again.
+    #[inline(always)]
     fn to_resend(&self) -> Result<Pending, Refusal>
         ensures refusal { refusal_of result ≡ resend_refusal self.now }
         ensures request { IfOk result (λ request. self.now.pending ≡ Some request) }
@@ -289,8 +333,10 @@ impl RnLine {
         }
     }
 
-    /// The refusal that `resend` would answer.
+    /// The refusal that `resend` would answer: 4 (NothingPending) where no request is in phase Retried, then
+    /// 2 (WrongState) where it is a copy-back and the copy isn't in its needed state.
     /// Source: `docs/PROTOCOL.md`, "The actions", Resend.
+    #[inline(always)]
     pub fn why_no_resend(&self) -> Option<Refusal>
         ensures { result ≡ resend_refusal self.now }
     {
@@ -311,21 +357,36 @@ impl RnLine {
         ensures ok { IfOk result (λ _. self.new ≡ rn_after_resend self.old) }
         ensures err { OnErr result (self.new ≡ self.old) }
     {
-        let Pending { kind, slot, .. } = self.to_resend()?;
+        let request = self.to_resend()?;
+        Ok(self.resent(request))
+    }
+
+    /// What `resend` does where nothing refuses it.
+    ///
+    /// Conditions: the request is the one that is pending.
+    /// Source: `docs/PROTOCOL.md`, "The actions", Resend.
+    pub fn resent(&mut self, request: Pending) -> Msg
+        requires { self.old.pending ≡ Some request }
+        ensures message { result ≡ request_message request.kind request.slot false }
+        ensures after { self.new ≡ rn_after_resend self.old }
+    {
+        let Pending { kind, slot, .. } = request;
         self.pending = Some(Pending {
             kind,
             slot,
             phase: Phase::Sent,
         });
-        Ok(Msg::Req(Request {
+        Msg::Req(Request {
             kind,
             slot,
             allow_retry: false,
-        }))
+        })
     }
 
-    /// The refusal that `cancel` would answer.
+    /// The refusal that `cancel` would answer: 4 (NothingPending) where no request is in phase Retried, then
+    /// 2 (WrongState) where it may still be sent.
     /// Source: `docs/PROTOCOL.md`, "The actions", Cancel.
+    #[inline(always)]
     pub fn why_no_cancel(&self) -> Option<Refusal>
         ensures { result ≡ cancel_refusal self.now }
     {
@@ -356,11 +417,18 @@ impl RnLine {
         ensures ok { IfOk result (λ _. self.new ≡ rn_after_cancel self.old) }
         ensures err { OnErr result (self.new ≡ self.old) }
     {
-        if let Some(refusal) = self.why_no_cancel() {
-            return Err(refusal);
+        match self.why_no_cancel() {
+            Some(refusal) => Err(refusal),
+            None => Ok(self.cancelled()),
         }
+    }
+
+    /// What `cancel` does where nothing refuses it.
+    /// Source: `docs/PROTOCOL.md`, "The actions", Cancel.
+    pub fn cancelled(&mut self)
+        ensures { self.new ≡ rn_after_cancel self.old }
+    {
         self.pending = None;
-        Ok(())
     }
 
     /// Takes Comp_UC: a copy that is left is unique, a lost one stays lost, the data stays, and nothing

@@ -11,7 +11,7 @@ use Rattle.chi_flit.specs.declared.action.Action.{Action}
 use Rattle.chi_flit.specs.declared.action.Step.{Step}
 use Rattle.chi_flit.specs.declared.action.Step.TheVariants as steps
 use Rattle.chi_flit.specs.declared.action.Effect.{Effect}
-use Rattle.chi_flit.specs.declared.action.Effect.TheVariants.{Nothing, Value}
+use Rattle.chi_flit.specs.declared.action.Effect.TheVariants.{Value}
 use Rattle.chi_flit.specs.declared.refusal.Refusal.{Refusal}
 use Rattle.chi_flit.specs.declared.refusal.Refusal.TheVariants.{OutOfRange}
 use Rattle.chi_flit.specs.State.{is_valid}
@@ -20,21 +20,19 @@ use Rattle.chi_journal.specs.declared.record.Record.{Record}
 use Rattle.chi_journal.specs.Journal.{Log, is_full, line_words}
 use Rattle.chi_rnline.specs.Rn.{load_refusal, store_refusal, word_of}
 use Rattle.chi_line.specs.declared.act.Conditions.{Conditions}
-use Rattle.chi_line.specs.LineState.{LineState, cells_of, opening_line, rn_of}
-use Rattle.chi_line.specs.Step.{after, effect_of, is_step_in_range, line_uses, record_of, slot_unless, step_effect, step_record}
-use Rattle.chi_line.specs.Refused.{completed_at, full_if, line_refusal, step_refusal}
+use Rattle.chi_line.specs.LineState.{LineState, opening_line, rn_of}
+use Rattle.chi_line.specs.Step.{after, effect_of, is_step_in_range, line_uses, record_of, step_effect, step_record}
+use Rattle.chi_line.specs.Refused.{full_if, line_refusal, step_refusal}
 use Rattle.chi_line.specs.Kept.{Kept}
-use Rattle.chi_line.specs.StepOf.{StepOf}
 use Rattle.chi_line.specs.Traffic.{KeepsFlits}
 use Rattle.chi_line.proofs.After.{issue_allowed, kept_after, names_used_slot, neither}
 use Rattle.chi_line.specs.Meaning.{standing_of}
 use Rattle.chi_line.specs.Protocol.{LineStep}
 use Rattle.chi_line.proofs.Protocol.{line_step}
-use Rattle.chi_line.proofs.Steps.{step_after}
 use Rattle.chi_slice.specs.Protocol.{SliceStep}
 use Rattle.chi_slice.specs.declared.terms.Terms.{Terms}
 use Rattle.chi_slice.specs.Recorded.{CanAppend, done_record, record_by}
-use Rattle.chi_slice.specs.Slice.{KeepsSliceFlits, IsStep, OtherLinesStay, SliceKept, SliceState, slice_after, completes, conditions_under, entry_of, is_in_range, is_slot_used, last_of, line, line_in_row, range_refusal, log_after, action_refusal, refused_under, row_count, row_of_line, uses}
+use Rattle.chi_slice.specs.Slice.{KeepsSliceFlits, OtherLinesStay, SliceKept, SliceState, slice_after, conditions_under, entry_of, is_in_range, is_slot_used, last_of, line, line_in_row, range_refusal, log_after, action_refusal, refused_under, row_count, row_of_line, uses}
 use Rattle.chi_slice.proofs.Refusing.{allowed_alone, conditions_of}
 use Rattle.chi_slice.proofs.Rows.{InRange, in_range, rows_apart}
 use Rattle.chi_slice.proofs.Slices.{FitsLine, FitsRoom, kept_with_entry, line_in_row-with_line, line_in_row-with_other}
@@ -135,15 +133,7 @@ record_is s agent l other = refl
 recorded_as : (s : LineState) (action : Action) (effect : Effect) → effect ≡ effect_of s action → record_by action effect ≡ record_of s action
 recorded_as s action effect is = ap (record_by action) is ∙ record_is s action.agent action.line action.step
 
--- an action that is done takes its line by its step
-pub acted_step : (s : SliceState) (action : Action) → SliceKept s → Allowed s action → IsStep s action (effect_of (line s action.line.0) action) (slice_after s action)
-acted_step s action k may =
-    let inside : InRange s action = in_range s action k may.inside in
-    let old : LineState = line s action.line.0 in
-    subst (λ (l : LineState). StepOf s.config.profile old action.agent action.line action.step (effect_of old action) (entry_of s action) l) (sym (line_in_row-with_line s (row_of_line s action.line.0) (after s.config.profile old action) inside.row k))
-    (step_after (conditions_of s action) (last_of s action.line.0) old action.agent action.line action.step inside.agent may.by_line (k.lines action.line.0 inside.line))
-
--- and by its row of the protocol
+-- an action that is done takes its line by its row of the protocol
 pub acted_protocol : (s : SliceState) (action : Action) → SliceKept s → Allowed s action → KeepsSliceFlits s action (slice_after s action) → SliceStep s action (effect_of (line s action.line.0) action) (slice_after s action)
 acted_protocol s action k may flits =
     let inside : InRange s action = in_range s action k may.inside in
@@ -259,25 +249,3 @@ balanced {s} {terms} {action} {row} {conditions} {at} {at'} r call =
     subst (λ (x : Conditions). KeepsFlits x.profile (line s action.line.0) action (line (slice_after s action) action.line.0)) r.conditions_is
     (subst (λ (l : LineState). KeepsFlits conditions.profile l action (line (slice_after s action) action.line.0)) r.line_is
     (subst (KeepsFlits conditions.profile at action) there call.flits))
-
--- what an action would complete: only the steps that complete something have an effect with a slot
-no_slot : (refusal : Option Refusal) → slot_unless refusal Nothing ≡ None
-no_slot None = refl
-no_slot (Some refusal) = refl
-
-no_value_slot : (refusal : Option Refusal) (value : ℕ) → slot_unless refusal (Value value) ≡ None
-no_value_slot None value = refl
-no_value_slot (Some refusal) value = refl
-
-completed_here : (c : Conditions) (s : LineState) (agent : Agent) (step : Step) → slot_unless (step_refusal c s agent step) (step_effect s agent step) ≡ completed_at s.home (cells_of s agent.0) agent step
-completed_here c s agent (steps.Load word) = no_value_slot (step_refusal c s agent (steps.Load word)) (word_of (rn_of s agent.0) word.0)
-completed_here c s agent steps.Start = refl
-completed_here c s agent steps.RecvAck = refl
-completed_here c s agent steps.RecvWrData = refl
-completed_here c s agent other = no_slot (step_refusal c s agent other)
-
--- the line's slot is the slice's
-pub completes_at : (s : SliceState) (action : Action) → is_in_range s action ≡ true → completed_at (line s action.line.0).home (cells_of (line s action.line.0) action.agent.0) action.agent action.step ≡ completes s action
-completes_at s action inside =
-    sym (completed_here (conditions_of s action) (line s action.line.0) action.agent action.step)
-    ∙ ap (λ (b : Bool). slot_unless (if b then line_refusal (conditions_of s action) (line s action.line.0) action else Some OutOfRange) (effect_of (line s action.line.0) action)) (sym inside)

@@ -1,7 +1,8 @@
 -- Why a slice alone refuses an action is what the protocol says, and an action is enabled exactly where nothing does.
-use Rattle.std.proofs.Common.{◌≡◌, Bool, true, false, not, Option, Some, None, refl, sym, ◌∙◌, ap, subst, replicate, if◌then◌else◌, arith, slice_index_or}
+use Rattle.std.proofs.Common.{◌≡◌, List, Bool, true, false, not, ◌||◌, Option, Some, None, refl, sym, ◌∙◌, ap, subst, replicate, if◌then◌else◌, arith, slice_index_or}
 use Rattle.std.proofs.Math.Path.{fun_ext}
 use Rattle.std.specs.List.{list_any}
+use Rattle.std.specs.Option.{option_or}
 use Rattle.chi_flit.specs.declared.numbers.Agent.{Agent}
 use Rattle.chi_flit.specs.declared.action.Action.{Action}
 use Rattle.chi_flit.specs.declared.action.Effect.{Effect}
@@ -10,20 +11,26 @@ use Rattle.chi_flit.specs.declared.action.Step.TheVariants as steps
 use Rattle.chi_flit.specs.declared.credit.CreditType.{CreditType}
 use Rattle.chi_flit.specs.declared.refusal.Refusal.{Refusal}
 use Rattle.chi_flit.specs.declared.refusal.Refusal.TheVariants as refusals
-use Rattle.chi_flit.specs.Credit.{credit_number}
-use Rattle.chi_rnline.specs.Rn.{load_refusal, store_refusal}
+use Rattle.chi_flit.specs.Credit.{credit_number, credit_type_of}
+use Rattle.chi_flit.specs.declared.credit.Profile.{Profile}
+use Rattle.chi_journal.specs.Journal.{is_full}
+use Rattle.chi_rnline.specs.declared.pending.Pending.{Pending}
+use Rattle.chi_rnline.specs.Rn.{load_refusal, resend_refusal, store_refusal}
 use Rattle.chi_line.specs.declared.act.Conditions.{Conditions}
 use Rattle.chi_line.specs.LineState.{LineState, rn_of}
 use Rattle.chi_line.specs.Meaning.{standing_of}
 use Rattle.chi_line.specs.Protocol.{Standing}
-use Rattle.chi_line.specs.Refused.{full_if, line_refusal, step_refusal}
+use Rattle.chi_line.specs.Refused.{full_if, line_refusal, marked_credit_refusal, step_refusal}
+use Rattle.chi_line.specs.Types.{pending_credit}
 use Rattle.chi_line.specs.RefusalRows.{HasRoom, Room, is_of_actions, refusal_row, refused_if}
 use Rattle.chi_line.proofs.After.{issue_allowed, neither}
 use Rattle.chi_line.proofs.Enabled.{IsFree, enabled, room_in}
 use Rattle.chi_line.proofs.RefusalRows.{refusals_are, uses_are}
-use Rattle.chi_slice.specs.Protocol.{IsEnabled, SliceStep, refused, room_for, uses_own_slot}
-use Rattle.chi_slice.specs.Slice.{SliceState, action_refusal, conditions_under, is_in_range, is_slot_used, line, no_terms}
+use Rattle.chi_slice.specs.Protocol.{IsEnabled, SliceStep, lacks_credit, refused, refused_on_terms, room_for, uses_own_slot}
+use Rattle.chi_slice.specs.declared.terms.Terms.{Terms}
+use Rattle.chi_slice.specs.Slice.{SliceState, action_refusal, conditions_under, is_in_range, is_slot_used, line, no_terms, refused_under}
 use Rattle.chi_slice.proofs.Acts.{Allowed, allowed, not_full}
+use Rattle.chi_slice.proofs.Refusing.{all_credits as credited}
 
 -- the slot that a step names is in use by the protocol where it is
 used_is : (s : SliceState) (n : Agent) (step : Step) → is_slot_used s n.0 step ≡ uses_own_slot s n step
@@ -41,6 +48,43 @@ pub refused_is : (s : SliceState) (action : Action) → action_refusal s action 
 refused_is s action = refused_by (is_in_range s action) _ _
     (refusals_are (conditions_under no_terms s action) (line s action.line.0) action.agent action.step all_credits
     ∙ ap (λ (used : Bool). refusal_row (record { journal_full = (room_for s action.agent action.step).journal_full; slot_used = used }) (standing_of (line s action.line.0)) action.agent action.step)
+    (used_is s action.agent action.step))
+
+-- on the terms of a requester: the row's refusal, and then that of a Resend without a credit
+or_none : (refusal : Option Refusal) → refusal ≡ option_or refusal None
+or_none None = refl
+or_none (Some refusal) = refl
+
+lacking : (credits : List Bool) (profile : Profile) (pending : Option Pending) → marked_credit_refusal credits (pending_credit profile pending) ≡ refused_if (lacks_credit credits profile pending steps.Resend) refusals.NoCredit None
+lacking credits profile None = refl
+lacking credits profile (Some p) = go (slice_index_or credits (credit_number (credit_type_of profile p.kind)) false)
+  where
+    go : (b : Bool) → (if b then None else Some refusals.NoCredit) ≡ refused_if (not b) refusals.NoCredit None
+    go true = refl
+    go false = refl
+
+-- (with a credit of each type)
+abbrev with_credits : Conditions → Conditions
+with_credits c = record c { credits = replicate 4 true }
+
+abbrev credit_part : Conditions → LineState → Agent → Step → Option Refusal
+credit_part c l n step = refused_if (lacks_credit c.credits c.profile (rn_of l n.0).pending step) refusals.NoCredit None
+
+rows_are : (c : Conditions) (l : LineState) (n : Agent) (step : Step) → step_refusal c l n step ≡ option_or (refusal_row (room_in c) (standing_of l) n step) (credit_part c l n step)
+rows_are c l n steps.Resend =
+    let own : Option Refusal = resend_refusal (rn_of l n.0) in
+    let ty : Option CreditType = pending_credit c.profile (rn_of l n.0).pending in
+    let row : own ≡ refusal_row (room_in c) (standing_of l) n steps.Resend =
+    or_none own ∙ (ap (option_or own) (sym (credited ty)) ∙ refusals_are (with_credits c) l n steps.Resend all_credits) in
+    ap (λ (x : Option Refusal). option_or x (marked_credit_refusal c.credits ty)) row
+    ∙ ap (option_or (refusal_row (room_in c) (standing_of l) n steps.Resend)) (lacking c.credits c.profile (rn_of l n.0).pending)
+rows_are c l n other = refusals_are (with_credits c) l n other all_credits ∙ or_none (refusal_row (room_in c) (standing_of l) n other)
+
+pub on_terms_is : (terms : Terms) (s : SliceState) (action : Action) → refused_under terms s action ≡ refused_on_terms terms s action
+on_terms_is terms s action = refused_by (is_in_range s action) _ _
+    (rows_are (conditions_under terms s action) (line s action.line.0) action.agent action.step
+    ∙ ap (λ (used : Bool). option_or (refusal_row (record { journal_full = is_full s.journal; slot_used = terms.slot_taken || used }) (standing_of (line s action.line.0)) action.agent action.step)
+    (refused_if (lacks_credit terms.credits s.config.profile (rn_of (line s action.line.0) action.agent.0).pending action.step) refusals.NoCredit None))
     (used_is s action.agent action.step))
 
 -- no action is refused with 8, 11 or 12

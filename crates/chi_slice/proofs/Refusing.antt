@@ -27,7 +27,7 @@ abbrev conditions : Bool → List Bool → Bool → Profile → Conditions
 conditions used credits full profile = record { slot_used = used; journal_full = full; credits = credits; profile = profile }
 
 -- with a credit of each type none is lacking
-all_credits : (ty : Option CreditType) → marked_credit_refusal (replicate 4 true) ty ≡ None
+pub all_credits : (ty : Option CreditType) → marked_credit_refusal (replicate 4 true) ty ≡ None
 all_credits None = refl
 all_credits (Some types.T0) = refl
 all_credits (Some types.T1) = refl

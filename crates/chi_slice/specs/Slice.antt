@@ -1,7 +1,7 @@
 -- A slice: the lines l with l mod slices = index, each in a row (docs/PROTOCOL.md, "One line" and
 -- "The actions").
 use Rattle.std.specs.Prelude.{◌≡◌, ◌≢◌, ℕ, ◌+◌, ◌-◌, ◌/◌, ◌%◌, ◌<◌, List, [], ◌∷◌, Bool, true}
-use Rattle.std.specs.Prelude.{false, ◌&&◌, ◌||◌, ◌==◌, nat_lt, Option, Some, None}
+use Rattle.std.specs.Prelude.{Result, IfOk, OnOk, false, ◌&&◌, ◌||◌, ◌==◌, nat_lt, Option, Some, None}
 use Rattle.std.specs.Prelude.{length, replicate, slice_set, if◌then◌else◌}
 use Rattle.std.specs.List.{list_any, slice_index_or}
 use Rattle.chi_flit.specs.declared.numbers.Slot.{Slot}
@@ -10,15 +10,16 @@ use Rattle.chi_flit.specs.declared.action.Step.{Step}
 use Rattle.chi_flit.specs.declared.action.Effect.{Effect}
 use Rattle.chi_flit.specs.declared.refusal.Refusal.{Refusal}
 use Rattle.chi_flit.specs.declared.refusal.Refusal.TheVariants.{OutOfRange}
+use Rattle.chi_flit.specs.Refusal.{refusal_of}
 use Rattle.chi_journal.specs.declared.record.Record.{Record}
 use Rattle.chi_journal.specs.Journal.{IsLegalLog, Log, LogKept, line_words, log_with, is_full, opening_log}
 use Rattle.chi_config.specs.Config.{Sizes, are_in_limits}
 use Rattle.chi_slice.specs.declared.agent_line.AgentRow.{AgentRow}
 use Rattle.chi_slice.specs.declared.terms.Terms.{Terms}
+use Rattle.chi_slice.specs.declared.terms.Done.{Done}
 use Rattle.chi_line.specs.LineState.{LineState, opening_line}
 use Rattle.chi_line.specs.declared.act.Conditions.{Conditions}
-use Rattle.chi_line.specs.Step.{after, effect_of, is_step_in_range, issued_slot, line_uses, record_of, slot_unless}
-use Rattle.chi_line.specs.StepOf.{StepOf}
+use Rattle.chi_line.specs.Step.{after, effect_of, is_step_in_range, issued_slot, line_uses, record_of}
 use Rattle.chi_line.specs.Moves.{moved_slot}
 use Rattle.chi_line.specs.Refused.{line_refusal}
 use Rattle.chi_line.specs.Traffic.{KeepsFlits}
@@ -138,11 +139,6 @@ slice_after s action =
     record (with_line s (row_of_line s action.line.0) (after s.config.profile (line s action.line.0) action))
     { journal = log_after s.journal (entry_of s action) }
 
--- of the representation: an action takes its line by its step, with this effect
-abbrev pub IsStep : SliceState → Action → Effect → SliceState → Type 0
-IsStep old action effect new =
-    StepOf old.config.profile (line old action.line.0) action.agent action.line action.step effect (entry_of old action) (line new action.line.0)
-
 -- of the representation: no flit of its line is lost or made by an action: those in flight then, with the one that it takes, are those
 -- before, with those that it sends
 abbrev pub KeepsSliceFlits : SliceState → Action → SliceState → Type 0
@@ -160,18 +156,27 @@ tried_as (Some refusal) s action = s
 abbrev pub slice_after_try : SliceState → Action → SliceState
 slice_after_try s action = tried_as (action_refusal s action) s action
 
-abbrev pub done_if : Option Refusal → ℕ
-done_if None = 1
-done_if (Some refusal) = 0
+-- of the representation, for callers that compute with it: what an action that is tried answers and leaves
+pub record Computed (old : SliceState) (action : Action) (result : Result Effect Refusal) (new : SliceState) : Type 0 where
+  pub refusal : refusal_of result ≡ action_refusal old action
+  pub effect : IfOk result (λ effect. effect ≡ effect_of (line old action.line.0) action)
+  pub journal : OnOk result (new.journal ≡ log_after old.journal (entry_of old action))
+  pub flits : OnOk result (KeepsSliceFlits old action new)
+  pub after : OnOk result (new ≡ slice_after old action)
 
--- a run of actions, each tried in turn, and how many of them are done
+-- the same on the terms of a requester, with the slot of the request that the action moves
+pub record ComputedUnder (terms : Terms) (old : SliceState) (action : Action) (result : Result Done Refusal) (new : SliceState) : Type 0 where
+  pub refusal : refusal_of result ≡ refused_under terms old action
+  pub effect : IfOk result (λ done. done.effect ≡ effect_of (line old action.line.0) action)
+  pub slot : IfOk result (λ done. done.slot ≡ moved_by old action)
+  pub journal : OnOk result (new.journal ≡ log_after old.journal (entry_of old action))
+  pub flits : OnOk result (KeepsSliceFlits old action new)
+  pub after : OnOk result (new ≡ slice_after old action)
+
+-- a run of actions, each tried in turn
 abbrev pub run_after : SliceState → List Action → SliceState
 run_after s [] = s
 run_after s (action ∷ actions) = run_after (slice_after_try s action) actions
-
-abbrev pub run_done : SliceState → List Action → ℕ
-run_done s [] = 0
-run_done s (action ∷ actions) = done_if (action_refusal s action) + run_done (slice_after_try s action) actions
 
 -- why a line can't be looked at
 abbrev pub view_refusal : SliceState → ℕ → Option Refusal
@@ -180,10 +185,6 @@ view_refusal s l = if is_line_in_range s l then None else Some OutOfRange
 -- why an agent's flits at a line can't be looked at
 abbrev pub flits_refusal : SliceState → ℕ → ℕ → Option Refusal
 flits_refusal s n l = if are_in_range s n l then None else Some OutOfRange
-
--- the slot of the request that an action would complete
-abbrev pub completes : SliceState → Action → Option Slot
-completes s action = slot_unless (action_refusal s action) (effect_of (line s action.line.0) action)
 
 -- the values last stored to the words of a line
 abbrev pub last_of : SliceState → ℕ → List ℕ

@@ -1,6 +1,6 @@
 -- What the crates above say of a slice in the words of the crates below it, passed on from one place. Declares
 -- nothing.
-pub use Rattle.chi_config.specs.Config.{Sizes, are_entries, are_in_limits, config_if, four_types, is_between, is_slice_count, sizes_of, two_types}
+pub use Rattle.chi_config.specs.Config.{Sizes, are_entries, are_in_limits, config_if, four_types, is_between, is_slice_count, sizes_if, sizes_of, two_types}
 pub use Rattle.chi_filter.specs.Filter.{has_any, is_in}
 pub use Rattle.chi_homeline.specs.Home.{Home, answer_taken, asks, completion_message, completion_of, finished_as, home_after_completion, memory_after, snoop_answered, started_as, started_sends_as, taken_up, waiting_of}
 pub use Rattle.chi_homeline.specs.declared.serving.Serving.{Serving}

@@ -2,12 +2,13 @@
 
 ghost use Rattle.std.specs.Prelude.{◌≡◌, ◌↔◌, ℕ, ◌<◌, ◌&&◌, nat_lt, true, false, None, Some, is_some, replicate, IfErr, IfOk, IfSome, IsTrue, OnOk, OnErr};
 ghost use Rattle.chi_flit.specs.Refusal.{refusal_of};
+ghost use Rattle.chi_flit.specs.declared.numbers.Slot.{Slot};
 ghost use Rattle.chi_journal.specs.Journal.{IsLegalLog};
 ghost use Rattle.chi_line.specs.Coherence.{Coherent};
 ghost use Rattle.chi_line.specs.LineState.{cells_of, opening_line, rn_of};
 ghost use Rattle.chi_line.specs.Meaning.{standing_of};
 ghost use Rattle.chi_line.specs.RefusalRows.{is_of_actions};
-ghost use Rattle.chi_line.specs.Step.{effect_of, is_step_in_range};
+ghost use Rattle.chi_line.specs.Step.{is_step_in_range};
 ghost use Rattle.chi_line.specs.View.{line_view};
 ghost use Rattle.chi_slice.specs.declared.places.RequestPlace.{RequestPlace};
 ghost use Rattle.chi_slice.specs.declared.terms.Terms.{Terms};
@@ -16,9 +17,9 @@ ghost use Rattle.chi_config.specs.Config.{are_in_limits};
 ghost use Rattle.chi_slice.specs.Idle.{lowest_idle};
 ghost use Rattle.chi_slice.specs.Index.{HasType, IsInside, IsShown, SlotsInRange, is_slot_of, typed_at};
 ghost use Rattle.chi_slice.specs.Loading.{IsLoadable};
-ghost use Rattle.chi_slice.specs.Protocol.{HasLastValue, IsEnabled, IsOpening, SliceStep, refused};
-ghost use Rattle.chi_slice.specs.Run.{IsRun};
-ghost use Rattle.chi_slice.specs.Slice.{CanAct, KeepsSliceFlits, IsRow, IsStep, OtherLinesStay, SliceKept, slice_after, action_in, are_in_range, completes, conditions_under, entry_of, flits_refusal, is_in_range, is_line_in_range, is_slot_used, last_of, line as line_of_slice, moved_by, no_terms, opening_slice, range_refusal, log_after, action_refusal, refused_under, row_count, row_of_line, run_after, run_done, slice_with, uses, view_refusal};
+ghost use Rattle.chi_slice.specs.Protocol.{HasLastValue, IsEnabled, IsOpening, WouldComplete, refused, refused_on_terms};
+ghost use Rattle.chi_slice.specs.Run.{IsDone, IsRun};
+ghost use Rattle.chi_slice.specs.Slice.{CanAct, Computed, ComputedUnder, IsRow, SliceKept, action_in, are_in_range, conditions_under, flits_refusal, is_in_range, is_line_in_range, is_slot_used, last_of, line as line_of_slice, no_terms, opening_slice, range_refusal, action_refusal, refused_under, row_count, row_of_line, run_after, slice_with, uses, view_refusal};
 ghost use Rattle.chi_slice.specs.Table.{IsByTable};
 
 use crate::agent_line::{AgentLine, AgentRow};
@@ -290,24 +291,15 @@ impl<A: Allocator> Slice<A> {
     /// order of the action's row, and so never 8, 11 or 12; nothing changes then. It is done exactly where it
     /// is enabled.
     ///
-    /// Of the representation, for callers that compute with it: `refusal`, `step`, `journal`, `flits`, `effect`,
-    /// `after`.
+    /// Of the representation, for callers that compute with it: `computed`.
     /// Source: `docs/PROTOCOL.md`, "The actions", "Refusals" and "Messages".
     pub fn act(&mut self, action: Action) -> Result<Effect, Refusal>
         ensures refused { refusal_of result ≡ refused self.old action }
         ensures numbers { IfErr result (λ refusal. is_of_actions refusal ≡ true) }
         ensures enabled { IsEnabled self.old action ↔ (refusal_of result ≡ None) }
-        ensures protocol { IfOk result (λ effect. SliceStep self.old action effect self.new) }
+        ensures protocol { IfOk result (λ effect. IsDone self.old action effect self.new) }
         ensures loads { IfOk result (λ effect. HasLastValue self.old action effect) }
-        ensures refusal { refusal_of result ≡ action_refusal self.old action }
-        ensures step { IfOk result (λ effect. IsStep self.old action effect self.new) }
-        ensures journal { OnOk result
-            (self.new.journal ≡ log_after self.old.journal (entry_of self.old action)) }
-        ensures flits { OnOk result (KeepsSliceFlits self.old action self.new) }
-        ensures others { OnOk result (OtherLinesStay self.old self.new action.line.0) }
-        ensures effect { IfOk result
-            (λ effect. effect ≡ effect_of (line_of_slice self.old action.line.0) action) }
-        ensures after { OnOk result (self.new ≡ slice_after self.old action) }
+        ensures computed { Computed self.old action result self.new }
         ensures err { OnErr result (self.new ≡ self.old) }
     {
         let done = self.act_under(action, Terms::NONE)?;
@@ -319,23 +311,14 @@ impl<A: Allocator> Slice<A> {
     /// Refused as by `act`, and also 3 (Pending) an Issue whose slot is taken elsewhere, and 12 (NoCredit)
     /// a Resend without a credit of its request's type; nothing changes then.
     ///
-    /// Of the representation, for callers that compute with it: `refusal`, `step`, `journal`, `flits`, `effect`,
-    /// `slot`, `after`.
+    /// Of the representation, for callers that compute with it: `computed`.
     /// Source: `docs/PROTOCOL.md`, "The actions" and "A requester and its calls".
     #[inline(always)]
     pub fn act_under(&mut self, action: Action, terms: Terms) -> Result<Done, Refusal>
-        ensures refusal { refusal_of result ≡ refused_under terms self.old action }
-        ensures step { IfOk result (λ done. IsStep self.old action done.effect self.new) }
-        ensures protocol { IfOk result (λ done. SliceStep self.old action done.effect self.new) }
+        ensures refused { refusal_of result ≡ refused_on_terms terms self.old action }
+        ensures protocol { IfOk result (λ done. IsDone self.old action done.effect self.new) }
         ensures loads { IfOk result (λ done. HasLastValue self.old action done.effect) }
-        ensures journal { OnOk result
-            (self.new.journal ≡ log_after self.old.journal (entry_of self.old action)) }
-        ensures flits { OnOk result (KeepsSliceFlits self.old action self.new) }
-        ensures others { OnOk result (OtherLinesStay self.old self.new action.line.0) }
-        ensures effect { IfOk result
-            (λ done. done.effect ≡ effect_of (line_of_slice self.old action.line.0) action) }
-        ensures slot { IfOk result (λ done. done.slot ≡ moved_by self.old action) }
-        ensures after { OnOk result (self.new ≡ slice_after self.old action) }
+        ensures computed { ComputedUnder terms self.old action result self.new }
         ensures err { OnErr result (self.new ≡ self.old) }
     {
         let Some(row) = self.row_in_range(action) else {
@@ -408,27 +391,17 @@ impl<A: Allocator> Slice<A> {
     /// Refused as by `act_under`, but never 10; nothing changes then. Conditions: the row is one that `row_for` of
     /// this slice answered, and the step's numbers are in their ranges.
     ///
-    /// Of the representation, for callers that compute with it: `refusal`, `step`, `journal`, `flits`, `effect`,
-    /// `slot`, `after`.
+    /// Of the representation, for callers that compute with it: `computed`.
     /// Source: `docs/PROTOCOL.md`, "The actions" and "A requester and its calls".
     #[inline(always)]
     pub fn act_in(&mut self, at: AgentRow, step: Step, terms: Terms) -> Result<Done, Refusal>
         requires row { IsRow self.old at }
         requires inside { is_in_range self.old (action_in at step) ≡ true }
-        ensures refusal { refusal_of result ≡ refused_under terms self.old (action_in at step) }
-        ensures step { IfOk result (λ done. IsStep self.old (action_in at step) done.effect self.new) }
+        ensures refused { refusal_of result ≡ refused_on_terms terms self.old (action_in at step) }
         ensures protocol { IfOk result
-            (λ done. SliceStep self.old (action_in at step) done.effect self.new) }
+            (λ done. IsDone self.old (action_in at step) done.effect self.new) }
         ensures loads { IfOk result (λ done. HasLastValue self.old (action_in at step) done.effect) }
-        ensures journal { OnOk result
-            (self.new.journal
-            ≡ log_after self.old.journal (entry_of self.old (action_in at step))) }
-        ensures flits { OnOk result (KeepsSliceFlits self.old (action_in at step) self.new) }
-        ensures others { OnOk result (OtherLinesStay self.old self.new at.line.0) }
-        ensures effect { IfOk result (λ done. done.effect
-            ≡ effect_of (line_of_slice self.old at.line.0) (action_in at step)) }
-        ensures slot { IfOk result (λ done. done.slot ≡ moved_by self.old (action_in at step)) }
-        ensures after { OnOk result (self.new ≡ slice_after self.old (action_in at step)) }
+        ensures computed { ComputedUnder terms self.old (action_in at step) result self.new }
         ensures err { OnErr result (self.new ≡ self.old) }
     {
         let action = Action {
@@ -452,8 +425,7 @@ impl<A: Allocator> Slice<A> {
     /// Takes no memory; the sizes and the index stay.
     /// Source: `docs/PROTOCOL.md`, "The actions".
     pub fn run(&mut self, actions: &[Action]) -> usize
-        ensures run { IsRun self.old actions.now self.new }
-        ensures done { result ≡ run_done self.old actions.now }
+        ensures run { IsRun self.old actions.now result self.new }
         ensures after { self.new ≡ run_after self.old actions.now }
         ensures config { self.new.config ≡ self.old.config }
         ensures index { self.new.index ≡ self.old.index }
@@ -469,8 +441,11 @@ impl<A: Allocator> Slice<A> {
 
     /// Why `act_under` would refuse the action on these terms; `None` where it would be done. Nothing is
     /// done.
+    ///
+    /// Of the representation, for callers that compute with it: `refusal`, `alone`, `allowed`.
     /// Source: `docs/PROTOCOL.md`, "The actions" and "A requester and its calls".
     pub fn refusal(&self, action: Action, terms: Terms) -> Option<Refusal>
+        ensures refused { result ≡ refused_on_terms terms self.now action }
         ensures refusal { result ≡ refused_under terms self.now action }
         ensures alone { terms ≡ no_terms → result ≡ action_refusal self.now action }
         ensures allowed { result ≡ None → action_refusal self.now action ≡ None }
@@ -481,11 +456,11 @@ impl<A: Allocator> Slice<A> {
         }
     }
 
-    /// The slot of the request that the action would complete; `None` where it would be refused, or
-    /// completes nothing.
+    /// The slot of the request that the action would complete: nothing refuses it, and its row has the effect
+    /// Completed with that slot. `None` where there is no such slot.
     /// Source: `docs/PROTOCOL.md`, "The actions".
     pub fn completes(&self, action: Action) -> Option<Slot>
-        ensures { result ≡ completes self.now action }
+        ensures { (slot : Slot) → (result ≡ Some slot) ↔ WouldComplete self.now action slot }
     {
         match self.row_in_range(action) {
             Some(row) => self.lines[usize::from(row)].completed_slot(action.agent, action.step),

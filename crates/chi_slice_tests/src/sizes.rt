@@ -15,17 +15,16 @@ use std::process::Abort;
 #[derive(Clone, Copy, Debug)]
 struct SizeCase([u8; 3], [u16; 2], u32);
 
-const WITHIN: [SizeCase; 6] = [
+const WITHIN: [SizeCase; 5] = [
     SizeCase([1, 1, 1], [1, 1], 1),
     SizeCase([8, 64, 8], [63, 1], 65536),
     SizeCase([8, 64, 8], [1, 63], 65536),
     SizeCase([4, 8, 8], [2, 2], 10),
     SizeCase([4, 2, 2], [2, 2], 10),
-    SizeCase([1, 8, 1], [1, 1], 0),
 ];
 
 /// One size of each is outside its limits, or doesn't go with the others.
-const BEYOND: [SizeCase; 13] = [
+const BEYOND: [SizeCase; 14] = [
     SizeCase([0, 1, 1], [1, 1], 1),
     SizeCase([9, 64, 8], [32, 32], 65536),
     SizeCase([1, 0, 1], [1, 1], 1),
@@ -39,6 +38,7 @@ const BEYOND: [SizeCase; 13] = [
     SizeCase([1, 8, 1], [64, 1], 1),
     SizeCase([1, 8, 1], [65535, 65535], 1),
     SizeCase([1, 8, 1], [1, 1], 65537),
+    SizeCase([1, 8, 1], [1, 1], 0),
 ];
 
 /// The node of these sizes, if there is one.

@@ -5,7 +5,7 @@ ghost use Rattle.std.specs.Prelude.{◌≡◌};
 
 use crate::moves::{answer, at, node, slice_of};
 use crate::runs::{DIRTY_DATA_HANDED_ON, Move, RUNS, Run};
-use chi_flit::{Agent, Kind, Line, NoMemory, Slot};
+use chi_flit::{Agent, Kind, Line, NoMemory, Profile, Slot};
 use chi_slice::{Action, Config, Slice, Step};
 use linked_list_allocator::LocalHeap;
 use std::alloc::{Allocator, Global};
@@ -88,7 +88,7 @@ fn one_request_at_another_line_is_a_difference(rt: HostRuntime) {
 }
 
 /// Agents, lines and room for records of nodes of which each differs from the first.
-const SIZES: [(u8, u8, u32); 5] = [(2, 2, 8), (3, 2, 8), (2, 1, 8), (2, 2, 9), (2, 2, 0)];
+const SIZES: [(u8, u8, u32); 4] = [(2, 2, 8), (3, 2, 8), (2, 1, 8), (2, 2, 9)];
 
 /// Whether the opening slices of a node of these sizes and of one of the first sizes are found equal.
 fn equals_first(rt: &impl Abort, alloc: Global, sizes: (u8, u8, u32)) -> bool {
@@ -105,6 +105,10 @@ fn slices_of_other_sizes_differ(rt: HostRuntime) {
             "{sizes:?}"
         );
     }
+    let first = slice_of(&rt, rt.alloc(), 2, 2, 8);
+    let config = unrecorded(&rt, 2);
+    let slice = Slice::new(rt.alloc(), &config, 0).expect(&rt, "memory for a slice");
+    assert!(&rt; differ(&first, &slice));
 }
 
 /// A node of one slice.
@@ -158,9 +162,20 @@ fn a_copy_has_room_for_all_records(rt: HostRuntime) {
     assert!(&rt; copy.journal().limit() == 8 && copy.journal().len() == 2);
 }
 
+/// A node of two lines in one slice, whose journal keeps no records.
+fn unrecorded(rt: &impl Abort, agents: u8) -> Config
+    ensures { result.slices ≡ 1 }
+{
+    Config::without_records(agents, 2, 1, Profile::Two, [2, 2, 0, 0]).expect(
+        rt,
+        "sizes in their limits",
+    )
+}
+
 /// Whether a slice, whose journal keeps no records, does each move as one that keeps eight does it.
 fn goes_without_records(rt: &impl Abort, alloc: Global, run: Run) {
-    let mut slice = slice_of(rt, alloc, run.agents, 2, 0);
+    let config = unrecorded(rt, run.agents);
+    let mut slice = Slice::new(alloc, &config, 0).expect(rt, "memory for a slice");
     let mut other = slice_of(rt, alloc, run.agents, 2, 8);
     for step in run.moves {
         let mut copy = copy_of(rt, alloc, &slice);

@@ -3,6 +3,7 @@
 ghost use Rattle.std.specs.Prelude.{◌≡◌, ◌<◌};
 
 use crate::moves::moved;
+use chi_flit::Profile;
 use chi_slice::{Config, Slice};
 use chi_snapshot::{LoadFault, load, save};
 use std::alloc::Global;
@@ -13,6 +14,13 @@ fn node(rt: &impl Abort, journal: u32) -> Config
     ensures { result.slices ≡ 2 }
 {
     Config::new(2, 4, 2, 2, 2, journal).expect(rt, "sizes in their limits")
+}
+
+/// A node of two slices whose journals keep no records.
+fn unrecorded(rt: &impl Abort) -> Config
+    ensures { result.slices ≡ 2 }
+{
+    Config::without_records(2, 4, 2, Profile::Two, [2, 2, 0, 0]).expect(rt, "sizes in their limits")
 }
 
 /// The bytes of a slice.
@@ -45,7 +53,7 @@ fn busy_slice(rt: &impl Abort, alloc: Global, index: u8, times: u32) -> Slice<Gl
 
 /// The first slice of a node whose journals keep no records, after so many drawn actions.
 fn endless_slice(rt: &impl Abort, alloc: Global, times: u32) -> Slice<Global> {
-    let mut slice = Slice::new(alloc, &node(rt, 0), 0).expect(rt, "memory for a slice");
+    let mut slice = Slice::new(alloc, &unrecorded(rt), 0).expect(rt, "memory for a slice");
     moved(&mut slice, 5, times);
     slice
 }

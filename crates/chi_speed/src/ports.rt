@@ -92,13 +92,11 @@ pub fn alone<R: Print + Clock>(rt: &R, alloc: Global) -> io::Result<()> {
     let none = looks(&tracker, &mut port, LOOKS);
     let empty = start.elapsed(rt)?.as_nanos() * 1000 / u128::from(LOOKS);
     println!(rt; "1 thread: {empty} ps a see of {none} credits")?;
-    if let Some(entry) = port.claim(&tracker, CreditType::T0) {
-        let due = port.due();
-        if due[0] < 8 {
-            port.owe(&tracker, CreditType::T0);
-        }
-        port.release(&tracker, entry);
+    let due = port.due();
+    if due[0] < 8 {
+        port.owe(&tracker, CreditType::T0);
     }
+    pairs(&tracker, &mut port, CreditType::T0, 1);
     let start = Instant::now(rt)?;
     let some = looks(&tracker, &mut port, LOOKS);
     let full = start.elapsed(rt)?.as_nanos() * 1000 / u128::from(LOOKS);

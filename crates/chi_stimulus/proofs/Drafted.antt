@@ -1,5 +1,5 @@
 -- A whole drawing: its parts one after the other, from a new node to the text.
-use Rattle.std.proofs.Common.{◌≡◌, ℕ, ◌<◌, List, [], ◌∷◌, ◌++◌, Bool, true, false, if◌then◌else◌, codes, refl, sym, ◌∙◌, ap, subst, arith}
+use Rattle.std.proofs.Common.{◌≡◌, ℕ, ◌%◌, ◌<◌, nat_lt, List, [], ◌∷◌, ◌++◌, Bool, true, false, if◌then◌else◌, codes, refl, sym, ◌∙◌, ap, subst, arith}
 use Rattle.chi_flit.specs.Numbers.{agent_at}
 use Rattle.chi_flit.specs.declared.credit.Profile.{Profile}
 use Rattle.chi_flit.specs.declared.credit.Profile.TheVariants.{Two, Four}
@@ -17,9 +17,9 @@ use Rattle.chi_replay.proofs.Openings.{opening_machine, opening_views}
 use Rattle.rand_chacha.specs.ChaCha.{ChaCha}
 use Rattle.chi_stimulus.specs.declared.options.DrawOptions.{DrawOptions}
 use Rattle.chi_stimulus.specs.declared.plan.Plan.{Plan}
-use Rattle.chi_stimulus.specs.Drafts.{Draft, Drawn, Ends, IsDrawnBy, adding, adding_enabled, and_then, blank, drafting, for_each, keeping, leaving, plan_of, remarked, round, rounding, seeking, settling, settling_if, types_in, unless_done, walking}
+use Rattle.chi_stimulus.specs.Drafts.{Draft, Drawn, Ends, IsDrawnBy, adding, adding_any, adding_enabled, adding_if, and_then, blank, drafting, for_each, keeping, leaving, plan_of, remarked, round, rounding, seeking, settling, settling_if, types_in, unless_done, walking}
 use Rattle.chi_stimulus.specs.Goes.{DrawingState, Follows, Goes, IsBlank, IsPlan, as_drawn}
-use Rattle.chi_stimulus.specs.Lots.{seeded}
+use Rattle.chi_stimulus.specs.Lots.{past_word, seeded, word_now}
 use Rattle.chi_stimulus.proofs.Tracks.{ends_so, goes_from, goes_then, may_track}
 
 -- the ranges of a header within the limits
@@ -44,6 +44,14 @@ pub is_blank : (line : List ℕ) (config : Sizes) (seed : ℕ) (system : SystemS
     → IsBlank line config seed (record { system = system; words = words; count = 0; text = text; said = said; done = false })
 is_blank line config seed system words text said opens starts heads none =
     (opens.0, rw (opens.1, starts, heads, none) refl)
+
+-- one command more of any kind, where the word says so
+pub adds_any : (plan : Plan) (old begun new : DrawingState) → nat_lt (word_now old.words % 100) plan.wild ≡ true → begun ≡ record old { words = past_word old.words }
+    → Goes (adding_any plan) begun new → Goes (adding plan) old new
+adds_any plan old begun new says is one =
+    goes_from (adding plan) (adding_any plan) old begun new
+    (ap (λ (b : Bool). adding_if b plan (record (as_drawn old) { words = past_word old.words })) says ∙ ap (λ (d : DrawingState). adding_any plan (as_drawn d)) (sym is))
+    (ap (λ (d : DrawingState). ports_of d.system) (sym is)) one
 
 -- one command more, where the row of proposals begins anew
 pub adds_enabled : (plan : Plan) (old cleared first second new : DrawingState) → cleared ≡ record old { done = false }

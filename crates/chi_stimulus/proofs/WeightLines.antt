@@ -10,6 +10,7 @@ use Rattle.chi_stimulus.specs.declared.verbs.Verb.TheVariants.{Load, Store, Drop
 use Rattle.chi_stimulus.specs.declared.weight_faults.WeightsFault.{WeightsFault}
 use Rattle.chi_stimulus.specs.declared.weight_faults.WrongWords.{WrongWords}
 use Rattle.chi_stimulus.specs.WeightFaults.{IsWeightsFault, IsWrong}
+use Rattle.chi_stimulus.specs.declared.weights.Weights.{Weights}
 use Rattle.chi_stimulus.specs.Weights.{first_wrong, is_weight_line, weight_place, weight_of, weights_behind, with_weight_line}
 
 -- one line that a line end closes, and what follows it
@@ -53,14 +54,14 @@ pub long_is_none : (line verb rest word behind : List ℕ) → words_of line ≡
 long_is_none line verb rest word behind e f = let more = parts_of (λ b. b == 32) behind in rw (e, f, more.2) refl
 
 -- the weights behind a line more, and behind them all
-pub says_more : (weights new rest line after total : List ℕ) → new ≡ with_weight_line weights line → lines_of rest ≡ line ∷ lines_of after
+pub says_more : (weights new : Weights) (rest line after : List ℕ) (total : Weights) → new ≡ with_weight_line weights line → lines_of rest ≡ line ∷ lines_of after
     → weights_behind weights (lines_of rest) ≡ total → weights_behind new (lines_of after) ≡ total
 unfolding weights_behind
 says_more weights new rest line after total is e so_far =
     let one : weights_behind weights (lines_of rest) ≡ weights_behind (with_weight_line weights line) (lines_of after) = ap (weights_behind weights) e in
-    ap (λ (w : List ℕ). weights_behind w (lines_of after)) is ∙ (sym one ∙ so_far)
+    ap (λ (w : Weights). weights_behind w (lines_of after)) is ∙ (sym one ∙ so_far)
 
-pub says_all : (weights rest total : List ℕ) → lines_of rest ≡ rest ∷ [] → (length rest == 0) ≡ true → weights_behind weights (lines_of rest) ≡ total → weights ≡ total
+pub says_all : (weights : Weights) (rest : List ℕ) (total : Weights) → lines_of rest ≡ rest ∷ [] → (length rest == 0) ≡ true → weights_behind weights (lines_of rest) ≡ total → weights ≡ total
 unfolding weights_behind
 says_all weights [] total e empty so_far =
     let one : weights_behind weights (lines_of []) ≡ weights = ap (weights_behind weights) e in

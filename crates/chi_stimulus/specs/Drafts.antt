@@ -1,5 +1,5 @@
 -- What is drawn, as a function of the arguments and of the tracker's answers (docs/FORMATS.md, "Drawn files").
-use Rattle.std.specs.Prelude.{◌≡◌, ℕ, zero, suc, ◌+◌, ◌%◌, ◌^◌, ◌==◌, nat_lt, List, [], ◌∷◌, ◌++◌, Option, Some, None, Bool, true, false, codes, if◌then◌else◌}
+use Rattle.std.specs.Prelude.{◌≡◌, ℕ, zero, suc, ◌+◌, ◌%◌, ◌^◌, ◌==◌, nat_lt, List, [], ◌∷◌, ◌++◌, Option, Some, None, Bool, true, false, codes, replicate, if◌then◌else◌}
 use Rattle.chi_flit.specs.Numbers.{agent_at, credit_of}
 use Rattle.chi_flit.specs.declared.credit.Profile.{Profile}
 use Rattle.chi_flit.specs.declared.credit.Profile.TheVariants.{Two, Four}
@@ -161,7 +161,7 @@ types_in Four = 4
 -- the weights that are given, or the usual ones
 abbrev pub weights_in : Option Weights → Weights
 weights_in (Some weights) = weights
-weights_in None = record { by_place = usual_weights }
+weights_in None = record { by_place = usual_weights; by_kind = replicate 8 1 }
 
 -- what stays the same in a drawing: the ranges of operands, the options, and how many proposals and rounds there are
 -- at most

@@ -56,13 +56,21 @@ kind_at n =
     if n == 5 then WriteBackFull else (
     if n == 6 then WriteCleanFull else WriteEvictFull))))))
 
+-- the kind of a word: by the weights of the kinds; of kinds that all weigh 0 each has one chance
+abbrev pub kind_at_place : Option ℕ → ℕ → Kind
+kind_at_place (Some place) word = kind_at place
+kind_at_place None word = kind_at (word % 8)
+
+abbrev pub kind_by : List ℕ → ℕ → Kind
+kind_by weights word = kind_at_place (place_by weights word) word
+
 -- operands in their ranges
 abbrev pub operands_of : Plan → Lot → Operands
 operands_of plan lot = record {
   agent = lot.agent % plan.agents;
   line = lot.line % plan.lines;
   number = lot.first % 8;
-  kind = kind_at (lot.second % 8);
+  kind = kind_by plan.weights.by_kind lot.second;
   credit = credit_of (lot.second % plan.types);
 }
 
@@ -76,7 +84,7 @@ near_operands_of plan lot = record {
   agent = near plan.agents lot.agent;
   line = near plan.lines lot.line;
   number = near 8 lot.first;
-  kind = kind_at (lot.second % 8);
+  kind = kind_by plan.weights.by_kind lot.second;
   credit = credit_of (lot.second % 5);
 }
 

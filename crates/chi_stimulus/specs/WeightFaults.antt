@@ -3,11 +3,11 @@ use Rattle.std.specs.Prelude.{◌≡◌, ℕ, ◌==◌, List, [], ◌∷◌, ◌
 use Rattle.std.specs.Fmt.{decimal}
 use Rattle.chi_script.specs.ShownWords.{shown_word}
 use Rattle.chi_script.specs.Words.{words_of}
-use Rattle.chi_stimulus.specs.declared.verbs.Verb.{Verb}
 use Rattle.chi_stimulus.specs.declared.weight_faults.WeightsFault.{WeightsFault}
 use Rattle.chi_stimulus.specs.declared.weight_faults.WrongWords.{WrongWords}
 use Rattle.chi_stimulus.specs.declared.weight_faults.WrongWords.TheVariants as wrongs
-use Rattle.chi_stimulus.specs.Weights.{verb_named, weight_in}
+use Rattle.chi_stimulus.specs.declared.weights.Weighed.{Weighed}
+use Rattle.chi_stimulus.specs.Weights.{weighed_named, weight_in}
 
 -- why a line of these words says no weight; of a line that isn't closed there are none
 abbrev pub IsWrong : Option (List (List ℕ)) → WrongWords → Type 0
@@ -16,8 +16,8 @@ IsWrong None (wrongs.Weight word) = ⊥
 IsWrong None wrongs.Missing = ⊥
 IsWrong None (wrongs.Behind words) = ⊥
 IsWrong None wrongs.Open = Unit {0}
-IsWrong (Some words) (wrongs.Verb word) = (weight : List ℕ) × (words ≡ word.now ∷ weight ∷ []) × (verb_named word.now ≡ None)
-IsWrong (Some words) (wrongs.Weight word) = (verb : List ℕ) × (known : Verb) × (words ≡ verb ∷ word.now ∷ []) × (verb_named verb ≡ Some known) × (weight_in word.now ≡ None)
+IsWrong (Some words) (wrongs.Verb word) = (weight : List ℕ) × (words ≡ word.now ∷ weight ∷ []) × (weighed_named word.now ≡ None)
+IsWrong (Some words) (wrongs.Weight word) = (verb : List ℕ) × (known : Weighed) × (words ≡ verb ∷ word.now ∷ []) × (weighed_named verb ≡ Some known) × (weight_in word.now ≡ None)
 IsWrong (Some words) wrongs.Missing = (word : List ℕ) × (words ≡ word ∷ [])
 IsWrong (Some words) (wrongs.Behind behind) = (verb : List ℕ) × (weight : List ℕ) × (words ≡ verb ∷ weight ∷ words_of behind.now)
 IsWrong (Some words) wrongs.Open = ⊥
@@ -35,7 +35,7 @@ abbrev pub wrong_words_text : WrongWords → List ℕ
 wrong_words_text (wrongs.Verb word) =
     shown_or_none word.now
     ++ (codes ", expected "
-    ++ codes "load, store, drop, issue, arrive, start, snp, snpresp, retryack, resend, cancel, data, comp, dbid, ack, wrdata, see, giveback or tend")
+    ++ codes "load, store, drop, issue, arrive, start, snp, snpresp, retryack, resend, cancel, data, comp, dbid, ack, wrdata, see, giveback, tend or a kind of request")
 wrong_words_text (wrongs.Weight word) = shown_or_none word.now ++ codes ", expected a weight, 0 to 1000"
 wrong_words_text wrongs.Missing = codes "a word is missing, expected VERB WEIGHT"
 wrong_words_text (wrongs.Behind words) = shown_or_none words.now ++ codes ", expected no more than VERB WEIGHT"

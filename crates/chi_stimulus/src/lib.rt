@@ -7,6 +7,7 @@
 #![tactic(auto)]
 
 mod drawing;
+mod kind_sets;
 mod operands;
 mod options;
 mod plan;
@@ -20,6 +21,7 @@ mod weight_faults;
 mod weights;
 mod words;
 
+pub use kind_sets::{KindSet, read_kinds};
 pub use options::DrawOptions;
 pub use stimulus::draw;
 pub use verbs::Verb;

@@ -1,10 +1,11 @@
 //! Operands that are drawn.
 
-ghost use Rattle.std.specs.Prelude.{◌≡◌, ◌<◌, ◌%◌};
+ghost use Rattle.std.specs.Prelude.{◌≡◌, ◌<◌, ◌≤◌, ◌%◌, length};
 ghost use Rattle.chi_flit.specs.Numbers.{credit_of};
-ghost use Rattle.chi_stimulus.specs.Proposals.{kind_at, near, near_operands_of, operands_at, operands_of};
+ghost use Rattle.chi_stimulus.specs.Proposals.{kind_at, kind_by, near, near_operands_of, operands_at, operands_of};
 
 use crate::plan::Plan;
+use crate::weights::place_by;
 use crate::words::Lot;
 use chi_flit::{CreditType, Kind};
 
@@ -30,6 +31,27 @@ pub(crate) fn kind_at(number: u32) -> Kind
         4 => Kind::Evict,
         5 => Kind::WriteBackFull,
         6 => Kind::WriteCleanFull,
+        _ => Kind::WriteEvictFull,
+    }
+}
+
+/// By a word, a kind of request, by the weights of the kinds; of kinds that all weigh 0 each has one chance.
+fn kind_by(weights: &[u16], word: u32) -> Kind
+    requires { length weights.now ≤ 19 }
+    ensures { result ≡ kind_by weights.now word }
+{
+    match place_by(weights, word) {
+        Some(place) => kind_in(place),
+        None => kind_at(word % 8),
+    }
+}
+
+/// The kind of request at a place.
+fn kind_in(place: usize) -> Kind
+    ensures { result ≡ kind_at place }
+{
+    match place {
+        0..=7 => kind_at(place as u32),
         _ => Kind::WriteEvictFull,
     }
 }
@@ -79,7 +101,7 @@ impl Operands {
             agent: below(plan.agents, lot.agent),
             line: below(plan.lines, lot.line),
             number: below(8, lot.first),
-            kind: kind_at(lot.second % 8),
+            kind: kind_by(&plan.weights.by_kind, lot.second),
             credit: credit_of(lot.second % u32::from(plan.types)),
         }
     }
@@ -94,7 +116,7 @@ impl Operands {
             agent: near(plan.agents, lot.agent),
             line: near(plan.lines, lot.line),
             number: near(8, lot.first),
-            kind: kind_at(lot.second % 8),
+            kind: kind_by(&plan.weights.by_kind, lot.second),
             credit: credit_of(lot.second % 5),
         }
     }

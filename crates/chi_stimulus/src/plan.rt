@@ -6,7 +6,7 @@ ghost use Rattle.chi_stimulus.specs.Drafts.{plan_of, types_in, weights_in};
 ghost use Rattle.chi_stimulus.specs.Goes.{IsPlan};
 
 use crate::options::DrawOptions;
-use crate::weights::{USUAL, Weights};
+use crate::weights::Weights;
 use chi_flit::Profile;
 use chi_script::Header;
 
@@ -48,7 +48,7 @@ fn weights_in(weights: Option<Weights>) -> Weights
 {
     match weights {
         Some(weights) => weights,
-        None => Weights { by_place: USUAL },
+        None => Weights::usual(),
     }
 }
 

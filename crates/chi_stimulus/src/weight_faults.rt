@@ -6,15 +6,15 @@ ghost use Rattle.chi_stimulus.specs.WeightFaults.{shown_or_none, weights_fault_t
 use chi_script::ShownWord;
 use std::fmt;
 
-/// The verbs that have a weight.
+/// What has a weight.
 const VERB_NAMES: &str =
-    "load, store, drop, issue, arrive, start, snp, snpresp, retryack, resend, cancel, data, comp, dbid, ack, wrdata, see, giveback or tend";
+    "load, store, drop, issue, arrive, start, snp, snpresp, retryack, resend, cancel, data, comp, dbid, ack, wrdata, see, giveback, tend or a kind of request";
 
 /// What is wrong with a line of a file of weights.
 /// Source: `docs/FORMATS.md`, "Drawn files".
 #[derive(Clone, Copy, Debug, PartialEq, Eq)]
 pub enum WrongWords<'a> {
-    /// This word stands in the place of a verb.
+    /// This word stands in the place of a verb or a kind of request.
     Verb(&'a [u8]),
     /// This word stands in the place of a weight.
     Weight(&'a [u8]),

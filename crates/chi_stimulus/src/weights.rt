@@ -1,15 +1,17 @@
-//! Files of weights: how often each verb is drawn.
+//! Files of weights: how often each verb is drawn, and each kind of request.
 
-ghost use Rattle.std.specs.Prelude.{◌≡◌, ◌==◌, ◌≤◌, length, slice_set, sum, IfErr, IfNone, IfOk, IfSome, None, OnOk, Some, false, true};
+ghost use Rattle.std.specs.Prelude.{◌≡◌, ◌==◌, ◌<◌, ◌≤◌, length, sum, IfErr, IfNone, IfOk, IfSome, None, OnOk, Some, false, true};
 ghost use Rattle.chi_script.specs.Checks.{is_comment};
 ghost use Rattle.chi_script.specs.Files.{lines_of};
 ghost use Rattle.chi_script.specs.Words.{words_of};
-ghost use Rattle.chi_stimulus.specs.Proposals.{even_verb, place_from, verb_by, weighted_verb};
+ghost use Rattle.chi_stimulus.specs.Proposals.{even_verb, place_by, place_from, verb_by, weighted_verb};
 ghost use Rattle.chi_stimulus.specs.WeightFaults.{IsWeightsFault, IsWrong};
-ghost use Rattle.chi_stimulus.specs.Weights.{first_wrong, is_weight_line, weight_place, weight_in, weight_of, weights_said, with_weight_line};
+ghost use Rattle.chi_stimulus.specs.Weights.{first_wrong, is_weight_line, kind_place, limited, usual_or_alike, weighed_named, weight_in, weight_of, weights_said, with_said, with_weight_line, without_others};
 
+use crate::kind_sets::{KindSet, read_kind};
 use crate::verbs::{COUNT, Verb};
 use crate::weight_faults::{WeightsFault, WrongWords};
+use chi_flit::Kind;
 use chi_script::{first_line, first_word, number};
 
 /// The weights where none are given.
@@ -17,27 +19,40 @@ pub(crate) const USUAL: [u16; COUNT] = [
     40, 40, 20, 300, 200, 200, 200, 200, 200, 200, 10, 200, 200, 200, 200, 200, 5, 40, 1,
 ];
 
-/// How often each verb is proposed beside the others.
+/// How many kinds of request there are.
+pub(crate) const KINDS: usize = 8;
+
+/// How often each verb is proposed beside the others, and each kind of request.
 /// Source: `docs/FORMATS.md`, "Drawn files".
 #[derive(Clone, Copy, Debug, PartialEq, Eq)]
 pub struct Weights {
     /// The weight of each verb, at the place of the verb.
     pub(crate) by_place: [u16; COUNT],
+    /// The weight of each kind of request, at the place of the kind.
+    pub(crate) by_kind: [u16; KINDS],
 }
 
-/// The weights that a file says: a line for a verb has the verb and its weight, and a comment is as in a check file.
-/// A verb that no line names has weight 1; of two lines on a verb the later one says its weight.
+/// What has a weight.
+#[derive(Clone, Copy)]
+enum Weighed {
+    Verb(Verb),
+    Kind(Kind),
+}
+
+/// The weights that a file says: a line for a verb or a kind of request has its name and its weight, and a comment is as
+/// in a check file. What no line names has weight 1; of two lines on one thing the later one says its weight.
 ///
 /// Refused at the first line that is neither, or that no line end closes.
 /// Source: `docs/FORMATS.md`, "Drawn files".
 pub fn read_weights(bytes: &[u8]) -> Result<Weights, WeightsFault<'_>>
     ensures ok { OnOk result (first_wrong 1 (lines_of bytes.now) ≡ None) }
     ensures said { IfOk result
-        (λ weights. weights.by_place ≡ weights_said (lines_of bytes.now)) }
+        (λ weights. weights ≡ weights_said (lines_of bytes.now)) }
     ensures err { IfErr result (IsWeightsFault (first_wrong 1 (lines_of bytes.now))) }
 {
     let mut weights = Weights {
         by_place: [1; COUNT],
+        by_kind: [1; KINDS],
     };
     let mut rest = bytes;
     let mut number = 1;
@@ -81,22 +96,33 @@ fn weight_in(word: &[u8]) -> Option<u16>
     }
 }
 
-/// The verb and the weight that a line says.
-fn weight_of(line: &[u8]) -> Result<(Verb, u16), WrongWords<'_>>
+/// What has a weight by this name.
+fn weighed_named(word: &[u8]) -> Option<Weighed>
+    ensures { result ≡ weighed_named word.now }
+{
+    match (Verb::named(word), read_kind(word)) {
+        (Some(verb), _) => Some(Weighed::Verb(verb)),
+        (None, Some(kind)) => Some(Weighed::Kind(kind)),
+        (None, None) => None,
+    }
+}
+
+/// What has a weight, and the weight, as a line says them.
+fn weight_of(line: &[u8]) -> Result<(Weighed, u16), WrongWords<'_>>
     ensures ok { IfOk result (λ said. weight_of (words_of line.now) ≡ Some (said.0, said.1)) }
     ensures err { IfErr result (λ _. weight_of (words_of line.now) ≡ None) }
     ensures wrong { IfErr result (IsWrong (Some (words_of line.now))) }
 {
-    let Some((verb, rest)) = first_word(line) else {
+    let Some((name, rest)) = first_word(line) else {
         return Err(WrongWords::Missing);
     };
     if let Some((_, behind)) = first_word(rest) {
         return Err(WrongWords::Behind(behind));
     }
-    match (Verb::named(verb), weight_in(rest)) {
-        (Some(verb), Some(weight)) => Ok((verb, weight)),
+    match (weighed_named(name), weight_in(rest)) {
+        (Some(weighed), Some(weight)) => Ok((weighed, weight)),
         (Some(_), None) => Err(WrongWords::Weight(rest)),
-        (None, _) => Err(WrongWords::Verb(verb)),
+        (None, _) => Err(WrongWords::Verb(name)),
     }
 }
 
@@ -107,25 +133,55 @@ impl Weights {
         ensures why { IfSome result (IsWrong (Some (words_of line.now))) }
         ensures right { IfNone result (is_weight_line line.now ≡ true) }
         ensures said { IfNone result
-            (self.new.by_place ≡ with_weight_line self.old.by_place line.now) }
+            (self.new ≡ with_weight_line self.old line.now) }
     {
         if is_comment(line) {
             return None;
         }
         match weight_of(line) {
-            Ok((verb, weight)) => {
-                self.set(verb, weight);
+            Ok((weighed, weight)) => {
+                self.set(weighed, weight);
                 None
             }
             Err(wrong) => Some(wrong),
         }
     }
 
-    /// Gives the verb this weight.
-    fn set(&mut self, verb: Verb, weight: u16)
-        ensures { self.new.by_place ≡ slice_set self.old.by_place (weight_place verb) weight }
+    /// Gives this weight.
+    fn set(&mut self, weighed: Weighed, weight: u16)
+        ensures { self.new ≡ with_said self.old weighed weight }
     {
-        self.by_place[verb.place()] = weight;
+        match weighed {
+            Weighed::Verb(verb) => self.by_place[verb.place()] = weight,
+            Weighed::Kind(kind) => self.by_kind[place_of_kind(kind)] = weight,
+        }
+    }
+
+    /// The weights of the usual verbs, and of kinds that weigh alike.
+    /// Source: `docs/FORMATS.md`, "Drawn files".
+    pub fn usual() -> Weights
+        ensures { result ≡ usual_or_alike }
+    {
+        Weights {
+            by_place: USUAL,
+            by_kind: [1; KINDS],
+        }
+    }
+
+    /// The same weights, but those of kinds that aren't in the set are 0; and where those that are have weight 0 too, these
+    /// have weight 1.
+    /// Source: `docs/FORMATS.md`, "Drawn files".
+    pub fn of_kinds(self, kinds: &KindSet) -> Weights
+        ensures { result ≡ record self { by_kind = limited self.by_kind kinds.now.by_place } }
+    {
+        let mut by_kind = self.by_kind;
+        leave_out(&mut by_kind, &ALL_KINDS, kinds);
+        if sum_of(&by_kind) == 0 {
+            by_kind = [1; KINDS];
+            leave_out(&mut by_kind, &ALL_KINDS, kinds);
+        }
+        let by_place = self.by_place;
+        Weights { by_place, by_kind }
     }
 
     /// The verb of a word: by the weights, or of all verbs with one chance, and none then whose weight is 0.
@@ -152,17 +208,64 @@ impl Weights {
     }
 }
 
+/// All kinds of request, each at its place.
+const ALL_KINDS: [Kind; KINDS] = [
+    Kind::ReadNotSharedDirty,
+    Kind::ReadShared,
+    Kind::ReadUnique,
+    Kind::CleanUnique,
+    Kind::Evict,
+    Kind::WriteBackFull,
+    Kind::WriteCleanFull,
+    Kind::WriteEvictFull,
+];
+
+/// Makes those of these kinds weigh 0 that aren't in the set.
+fn leave_out(weights: &mut [u16; KINDS], kinds: &[Kind], set: &KindSet)
+    ensures { weights.new ≡ without_others set.now.by_place kinds.now weights.old }
+{
+    for kind in kinds {
+        if !set.has(*kind) {
+            weights[place_of_kind(*kind)] = 0;
+        }
+    }
+}
+
 /// The verb of a word, by the weights; none where all are 0.
 fn weighted_verb(weights: &[u16], word: u32) -> Option<Verb>
     requires { length weights.now ≤ 19 }
     ensures { result ≡ weighted_verb weights.now word }
 {
+    Verb::at(place_by(weights, word)?)
+}
+
+/// The place of a word, by the weights; none where all are 0.
+pub(crate) fn place_by(weights: &[u16], word: u32) -> Option<usize>
+    requires { length weights.now ≤ 19 }
+    ensures { result ≡ place_by weights.now word }
+{
     let sum = sum_of(weights);
     if sum == 0 {
         return None;
     }
-    let place = place_of(weights, word % sum)?;
-    Verb::at(place)
+    place_of(weights, word % sum)
+}
+
+/// The place of a kind's weight.
+pub(crate) fn place_of_kind(kind: Kind) -> usize
+    ensures is { result ≡ kind_place kind }
+    ensures low { result < 8 }
+{
+    match kind {
+        Kind::ReadNotSharedDirty => 0,
+        Kind::ReadShared => 1,
+        Kind::ReadUnique => 2,
+        Kind::CleanUnique => 3,
+        Kind::Evict => 4,
+        Kind::WriteBackFull => 5,
+        Kind::WriteCleanFull => 6,
+        Kind::WriteEvictFull => 7,
+    }
 }
 
 /// The sum of weights.

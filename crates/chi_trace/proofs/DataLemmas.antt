@@ -11,11 +11,11 @@ use Rattle.chi_trace.specs.declared.fields.Payload.{Payload}
 use Rattle.chi_trace.specs.declared.fields.Payload.TheVariants as payloads
 use Rattle.chi_trace.specs.declared.uses.Form.{Form}
 use Rattle.chi_trace.specs.declared.uses.Form.TheVariants as forms
-use Rattle.chi_trace.specs.Fields.{first_part, line_words_of, listed_of, only_of, comma_parts, payload_of, vector_of, word_in}
-use Rattle.chi_trace.specs.Numbers.{hex_of}
-use Rattle.chi_trace.specs.Spelling.{AreListed, AreNumbers, AreWords, IsHex, IsPayload, IsVector, IsWord, sixteens}
+use Rattle.chi_trace.specs.Fields.{first_part, is_dash, line_words_of, listed_of, only_of, comma_parts, payload_of, vector_of, word_in, words_payload, zeros}
+use Rattle.chi_trace.specs.Numbers.{hex_of, plain_of, unmarked}
+use Rattle.chi_trace.specs.Spelling.{AreListed, AreNumbers, AreWords, IsHex, IsPayload, IsPlain, IsVector, IsWord, sixteens}
 use Rattle.chi_trace.proofs.FieldLemmas.{is_same, text_is}
-use Rattle.chi_trace.proofs.HexLemmas.{hex_again, hex_read}
+use Rattle.chi_trace.proofs.HexLemmas.{hex_again, hex_read, plain_again, plain_read}
 
 -- one word of a list
 x_case : (part : List ℕ) (w : Option ℕ) (b : Bool) → is_text part (codes "x") ≡ b → cond b (Some None) (hex_of 0xffff_ffff_ffff_ffff part >>= λ n. Some (Some n)) ≡ Some w → IsWord w part
@@ -110,7 +110,7 @@ chain_again (suc k) front (w ∷ v ∷ later) (part ∷ next ∷ rest) is count 
 -- one number
 numbers_from : List (Option ℕ) → List (List ℕ) → Option (List (Option ℕ))
 numbers_from front [] = Some front
-numbers_from front (text ∷ texts) = hex_of 0xffff_ffff_ffff_ffff text >>= λ w. numbers_from (front ++ Some w ∷ []) texts
+numbers_from front (text ∷ texts) = plain_of 0xffff_ffff_ffff_ffff text >>= λ w. numbers_from (front ++ Some w ∷ []) texts
 
 vector_is : (digits : List ℕ) → vector_of digits ≡ numbers_from [] (sixteens digits)
 unfolding vector_of numbers_from
@@ -125,9 +125,9 @@ numbers_read : (front : List (Option ℕ)) (texts : List (List ℕ)) (words : Li
 unfolding numbers_from
 numbers_read front [] words e = let same : front ≡ words = cc in record { later = []; all = sym same ∙ sym (append-nil front); spelled = tt }
 numbers_read front (text ∷ texts) words e =
-    let one = bound (hex_of 0xffff_ffff_ffff_ffff text) (λ w. numbers_from (front ++ Some w ∷ []) texts) words e in
+    let one = bound (plain_of 0xffff_ffff_ffff_ffff text) (λ w. numbers_from (front ++ Some w ∷ []) texts) words e in
     let rest = numbers_read (front ++ Some one.0 ∷ []) texts words one.2 in
-    record { later = Some one.0 ∷ rest.later; all = rest.all ∙ append_assoc front (Some one.0 ∷ []) rest.later; spelled = (hex_read 0xffff_ffff_ffff_ffff one.0 text one.1, rest.spelled) }
+    record { later = Some one.0 ∷ rest.later; all = rest.all ∙ append_assoc front (Some one.0 ∷ []) rest.later; spelled = (plain_read 0xffff_ffff_ffff_ffff one.0 text one.1, rest.spelled) }
 
 numbers_again : (front later : List (Option ℕ)) (texts : List (List ℕ)) → AreNumbers later texts → numbers_from front texts ≡ Some (front ++ later)
 unfolding numbers_from
@@ -136,7 +136,7 @@ numbers_again front [] (text ∷ texts) is = absurd is
 numbers_again front (None ∷ later) texts is = absurd is
 numbers_again front (Some n ∷ later) [] is = absurd is
 numbers_again front (Some n ∷ later) (text ∷ texts) is =
-    rw (hex_again 0xffff_ffff_ffff_ffff n text is.0) (numbers_again (front ++ Some n ∷ []) later texts is.1 ∙ ap Some (append_assoc front (Some n ∷ []) later))
+    rw (plain_again 0xffff_ffff_ffff_ffff n text is.0) (numbers_again (front ++ Some n ∷ []) later texts is.1 ∙ ap Some (append_assoc front (Some n ∷ []) later))
 
 -- a list, or one number
 none_there : (o : Option ℕ) → is_none o ≡ true → None ≡ o
@@ -150,18 +150,18 @@ both : (a b : Bool) → (a && b) ≡ true → (a ≡ true) × (b ≡ true)
 both true b e = (refl, e)
 both false b e = cc
 
-line_case : (word : List ℕ) (words : List (Option ℕ)) (b : Bool) → (length word == 128 && is_none (position (λ x. x == 44) word)) ≡ b
-    → cond b (vector_of word) (listed_of (comma_parts word)) ≡ Some words → AreListed words word ⊎ IsVector words word
+line_case : (word : List ℕ) (words : List (Option ℕ)) (b : Bool) → (length (unmarked word) == 128 && is_none (position (λ x. x == 44) word)) ≡ b
+    → cond b (vector_of (unmarked word)) (listed_of (comma_parts word)) ≡ Some words → AreListed words word ⊎ IsVector words word
 line_case word words true at e =
-    let test = both (length word == 128) (is_none (position (λ x. x == 44) word)) at in
-    let read = numbers_read [] (sixteens word) words (sym (vector_is word) ∙ e) in
-    inr (record { size = is_128 (length word) test.0; no_comma = none_there (position (λ x. x == 44) word) test.1; numbers = subst (λ (ws : List (Option ℕ)). AreNumbers ws (sixteens word)) (sym read.all) read.spelled })
+    let test = both (length (unmarked word) == 128) (is_none (position (λ x. x == 44) word)) at in
+    let read = numbers_read [] (sixteens (unmarked word)) words (sym (vector_is (unmarked word)) ∙ e) in
+    inr (record { size = is_128 (length (unmarked word)) test.0; no_comma = none_there (position (λ x. x == 44) word) test.1; numbers = subst (λ (ws : List (Option ℕ)). AreNumbers ws (sixteens (unmarked word))) (sym read.all) read.spelled })
 line_case word words false at e =
     let read = chain_read 7 [] (comma_parts word) words (sym (listed_is (comma_parts word)) ∙ e) in
     inl (subst (λ (ws : List (Option ℕ)). AreListed ws word) (sym read.all) (read.spelled, read.count))
 
 line_read : (word : List ℕ) (words : List (Option ℕ)) → line_words_of word ≡ Some words → AreListed words word ⊎ IsVector words word
-line_read word words e = line_case word words (length word == 128 && is_none (position (λ x. x == 44) word)) refl e
+line_read word words e = line_case word words (length (unmarked word) == 128 && is_none (position (λ x. x == 44) word)) refl e
 
 -- eight words aren't one part
 not_one : (words : List (Option ℕ)) (part : List ℕ) → AreWords words (part ∷ []) → length words ≡ 8 → ⊥
@@ -177,19 +177,48 @@ no_vector words word true true is at =
 
 line_again : (words : List (Option ℕ)) (word : List ℕ) → AreListed words word ⊎ IsVector words word → line_words_of word ≡ Some words
 line_again words word (inl is) =
-    let list : (length word == 128 && is_none (position (λ x. x == 44) word)) ≡ false = no_vector words word (length word == 128) (is_none (position (λ x. x == 44) word)) is refl in
+    let list : (length (unmarked word) == 128 && is_none (position (λ x. x == 44) word)) ≡ false = no_vector words word (length (unmarked word) == 128) (is_none (position (λ x. x == 44) word)) is refl in
     rw list (listed_is (comma_parts word) ∙ chain_again 7 [] words (comma_parts word) is.0 is.1)
 line_again words word (inr is) =
     let size = is.size in
     let none = is.no_comma in
-    rw (← none, size) (vector_is word ∙ numbers_again [] words (sixteens word) is.numbers)
+    rw (← none, size) (vector_is (unmarked word) ∙ numbers_again [] words (sixteens (unmarked word)) is.numbers)
 
-pub payload_read : (form : Form) (word : List ℕ) (payload : Payload) → payload_of form word ≡ Some payload → IsPayload form payload word
-payload_read forms.Nothing word payload e = let same : payloads.Nothing ≡ payload = cc in subst (λ (p : Payload). IsPayload forms.Nothing p word) same tt
-payload_read forms.Words word payload e =
+-- a dash is neither
+dash_no_words : (words : List (Option ℕ)) → AreListed words (codes "-") ⊎ IsVector words (codes "-") → ⊥
+dash_no_words words (inl is) = not_one words (codes "-") is.0 is.1
+dash_no_words words (inr is) = omega (arith, is.size)
+
+words_no_dash : (words : List (Option ℕ)) (word : List ℕ) (b : Bool) → is_dash word ≡ b → AreListed words word ⊎ IsVector words word → b ≡ false
+words_no_dash words word false at is = refl
+words_no_dash words word true at is = absurd (dash_no_words words (subst (λ (w : List ℕ). AreListed words w ⊎ IsVector words w) (text_is word (codes "-") at) is))
+
+words_read : (word : List ℕ) (payload : Payload) → words_payload word ≡ Some payload → IsPayload forms.Words payload word
+words_read word payload e =
     let one = bound (line_words_of word) (λ ws. Some (payloads.Words ws)) payload e in
     let same : payloads.Words one.0 ≡ payload = let last = one.2 in cc in
     subst (λ (p : Payload). IsPayload forms.Words p word) same (line_read word one.0 one.1)
+
+-- words, where a dash may stand for them
+or_dash : (payload : Payload) (word : List ℕ) → IsPayload forms.Words payload word → IsPayload forms.WordsOrDash payload word
+or_dash payloads.Nothing word is = absurd is
+or_dash (payloads.Words ws) word is = inr is
+or_dash (payloads.Value n) word is = absurd is
+
+dash_case : (word : List ℕ) (payload : Payload) (b : Bool) → is_dash word ≡ b → cond b (Some (payloads.Words zeros)) (words_payload word) ≡ Some payload → IsPayload forms.WordsOrDash payload word
+dash_case word payload true at e =
+    let same : payloads.Words zeros ≡ payload = cc in
+    subst (λ (p : Payload). IsPayload forms.WordsOrDash p word) same (inl (text_is word (codes "-") at, refl))
+dash_case word payload false at e = or_dash payload word (words_read word payload e)
+
+dash_again : (ws : List (Option ℕ)) (word : List ℕ) → ((word ≡ codes "-") × (ws ≡ zeros)) ⊎ (AreListed ws word ⊎ IsVector ws word) → payload_of forms.WordsOrDash word ≡ Some (payloads.Words ws)
+dash_again ws word (inl is) = ap (payload_of forms.WordsOrDash) is.0 ∙ ap (λ (w : List (Option ℕ)). Some (payloads.Words w)) (sym is.1)
+dash_again ws word (inr is) = let plain : is_dash word ≡ false = words_no_dash ws word (is_dash word) refl is in rw (plain, line_again ws word is) refl
+
+pub payload_read : (form : Form) (word : List ℕ) (payload : Payload) → payload_of form word ≡ Some payload → IsPayload form payload word
+payload_read forms.Nothing word payload e = let same : payloads.Nothing ≡ payload = cc in subst (λ (p : Payload). IsPayload forms.Nothing p word) same tt
+payload_read forms.Words word payload e = words_read word payload e
+payload_read forms.WordsOrDash word payload e = dash_case word payload (is_dash word) refl e
 payload_read forms.Value word payload e =
     let one = bound (hex_of 0xffff_ffff_ffff_ffff word) (λ n. Some (payloads.Value n)) payload e in
     let same : payloads.Value one.0 ≡ payload = let last = one.2 in cc in
@@ -202,6 +231,9 @@ payload_again forms.Nothing (payloads.Value n) word is = absurd is
 payload_again forms.Words payloads.Nothing word is = absurd is
 payload_again forms.Words (payloads.Words ws) word is = rw (line_again ws word is) refl
 payload_again forms.Words (payloads.Value n) word is = absurd is
+payload_again forms.WordsOrDash payloads.Nothing word is = absurd is
+payload_again forms.WordsOrDash (payloads.Words ws) word is = dash_again ws word is
+payload_again forms.WordsOrDash (payloads.Value n) word is = absurd is
 payload_again forms.Value payloads.Nothing word is = absurd is
 payload_again forms.Value (payloads.Words ws) word is = absurd is
 payload_again forms.Value (payloads.Value n) word is = rw (hex_again 0xffff_ffff_ffff_ffff n word is) refl

@@ -20,7 +20,7 @@ use Rattle.chi_trace.proofs.OpcodeLemmas.{IsOpcode, bound, opcode_again, opcode_
 -- the last five columns
 tail_of : ℕ → Row → Opcode → NodeId → Option NodeId → Option TxnId → Option Address → Result Seen Column
 tail_of n row opcode source target txn address =
-    used_in (resp_use opcode) row.resp (resp_of row.resp) columns.Resp >>= λ resp. used_in (dbid_use opcode resp) row.dbid (dbid_of row.dbid) columns.Dbid >>= λ dbid. used_in (allow_use opcode) row.allow_retry (allow_of row.allow_retry) columns.AllowRetry >>= λ allow. used_in (pcrd_use opcode allow) row.pcrd (pcrd_of row.pcrd) columns.Pcrd >>= λ pcrd. ok_or (payload_of (form_of opcode) row.payload) columns.Data >>= λ payload. Ok (record { line = n; opcode = opcode; source = source; target = target; txn = txn; address = address; resp = resp; dbid = dbid; allow_retry = allow; pcrd = pcrd; payload = payload })
+    used_in (resp_use opcode) row.resp (resp_of row.resp) columns.Resp >>= λ resp. used_in (dbid_use opcode resp) row.dbid (dbid_of row.dbid) columns.Dbid >>= λ dbid. used_in (allow_use opcode) row.allow_retry (allow_of row.allow_retry) columns.AllowRetry >>= λ allow. used_in (pcrd_use opcode allow) row.pcrd (pcrd_of row.pcrd) columns.Pcrd >>= λ pcrd. ok_or (payload_of (form_of opcode resp) row.payload) columns.Data >>= λ payload. Ok (record { line = n; opcode = opcode; source = source; target = target; txn = txn; address = address; resp = resp; dbid = dbid; allow_retry = allow; pcrd = pcrd; payload = payload })
 
 seen_is : (n : ℕ) (row : Row) → seen_in n row ≡ (opcode_of row >>= λ opcode. ok_or (node_of row.source) columns.Source >>= λ source. used_in (target_use opcode) row.target (node_of row.target) columns.Target >>= λ target. used_in (txn_use opcode) row.txn (txn_of row.txn) columns.Txn >>= λ txn. used_in (address_use opcode) row.address (address_of row.address) columns.Address >>= λ address. tail_of n row opcode source target txn address)
 unfolding seen_in tail_of
@@ -30,11 +30,11 @@ tail_read : (n : ℕ) (row : Row) (opcode : Opcode) (source : NodeId) (target : 
     → Holds IsTxn (txn_use opcode) txn row.txn → Holds IsAddress (address_use opcode) address row.address → tail_of n row opcode source target txn address ≡ Ok seen → IsFlit n seen row
 unfolding tail_of
 tail_read n row opcode source target txn address seen named is_source is_target is_txn is_address e =
-    let b0 = bound (used_in (resp_use opcode) row.resp (resp_of row.resp) columns.Resp) (λ resp. used_in (dbid_use opcode resp) row.dbid (dbid_of row.dbid) columns.Dbid >>= λ dbid. used_in (allow_use opcode) row.allow_retry (allow_of row.allow_retry) columns.AllowRetry >>= λ allow. used_in (pcrd_use opcode allow) row.pcrd (pcrd_of row.pcrd) columns.Pcrd >>= λ pcrd. ok_or (payload_of (form_of opcode) row.payload) columns.Data >>= λ payload. Ok (record { line = n; opcode = opcode; source = source; target = target; txn = txn; address = address; resp = resp; dbid = dbid; allow_retry = allow; pcrd = pcrd; payload = payload })) seen e in
-    let b1 = bound (used_in (dbid_use opcode b0.0) row.dbid (dbid_of row.dbid) columns.Dbid) (λ dbid. used_in (allow_use opcode) row.allow_retry (allow_of row.allow_retry) columns.AllowRetry >>= λ allow. used_in (pcrd_use opcode allow) row.pcrd (pcrd_of row.pcrd) columns.Pcrd >>= λ pcrd. ok_or (payload_of (form_of opcode) row.payload) columns.Data >>= λ payload. Ok (record { line = n; opcode = opcode; source = source; target = target; txn = txn; address = address; resp = b0.0; dbid = dbid; allow_retry = allow; pcrd = pcrd; payload = payload })) seen b0.2 in
-    let b2 = bound (used_in (allow_use opcode) row.allow_retry (allow_of row.allow_retry) columns.AllowRetry) (λ allow. used_in (pcrd_use opcode allow) row.pcrd (pcrd_of row.pcrd) columns.Pcrd >>= λ pcrd. ok_or (payload_of (form_of opcode) row.payload) columns.Data >>= λ payload. Ok (record { line = n; opcode = opcode; source = source; target = target; txn = txn; address = address; resp = b0.0; dbid = b1.0; allow_retry = allow; pcrd = pcrd; payload = payload })) seen b1.2 in
-    let b3 = bound (used_in (pcrd_use opcode b2.0) row.pcrd (pcrd_of row.pcrd) columns.Pcrd) (λ pcrd. ok_or (payload_of (form_of opcode) row.payload) columns.Data >>= λ payload. Ok (record { line = n; opcode = opcode; source = source; target = target; txn = txn; address = address; resp = b0.0; dbid = b1.0; allow_retry = b2.0; pcrd = pcrd; payload = payload })) seen b2.2 in
-    let b4 = bound (ok_or (payload_of (form_of opcode) row.payload) columns.Data) (λ payload. Ok (record { line = n; opcode = opcode; source = source; target = target; txn = txn; address = address; resp = b0.0; dbid = b1.0; allow_retry = b2.0; pcrd = b3.0; payload = payload })) seen b3.2 in
+    let b0 = bound (used_in (resp_use opcode) row.resp (resp_of row.resp) columns.Resp) (λ resp. used_in (dbid_use opcode resp) row.dbid (dbid_of row.dbid) columns.Dbid >>= λ dbid. used_in (allow_use opcode) row.allow_retry (allow_of row.allow_retry) columns.AllowRetry >>= λ allow. used_in (pcrd_use opcode allow) row.pcrd (pcrd_of row.pcrd) columns.Pcrd >>= λ pcrd. ok_or (payload_of (form_of opcode resp) row.payload) columns.Data >>= λ payload. Ok (record { line = n; opcode = opcode; source = source; target = target; txn = txn; address = address; resp = resp; dbid = dbid; allow_retry = allow; pcrd = pcrd; payload = payload })) seen e in
+    let b1 = bound (used_in (dbid_use opcode b0.0) row.dbid (dbid_of row.dbid) columns.Dbid) (λ dbid. used_in (allow_use opcode) row.allow_retry (allow_of row.allow_retry) columns.AllowRetry >>= λ allow. used_in (pcrd_use opcode allow) row.pcrd (pcrd_of row.pcrd) columns.Pcrd >>= λ pcrd. ok_or (payload_of (form_of opcode b0.0) row.payload) columns.Data >>= λ payload. Ok (record { line = n; opcode = opcode; source = source; target = target; txn = txn; address = address; resp = b0.0; dbid = dbid; allow_retry = allow; pcrd = pcrd; payload = payload })) seen b0.2 in
+    let b2 = bound (used_in (allow_use opcode) row.allow_retry (allow_of row.allow_retry) columns.AllowRetry) (λ allow. used_in (pcrd_use opcode allow) row.pcrd (pcrd_of row.pcrd) columns.Pcrd >>= λ pcrd. ok_or (payload_of (form_of opcode b0.0) row.payload) columns.Data >>= λ payload. Ok (record { line = n; opcode = opcode; source = source; target = target; txn = txn; address = address; resp = b0.0; dbid = b1.0; allow_retry = allow; pcrd = pcrd; payload = payload })) seen b1.2 in
+    let b3 = bound (used_in (pcrd_use opcode b2.0) row.pcrd (pcrd_of row.pcrd) columns.Pcrd) (λ pcrd. ok_or (payload_of (form_of opcode b0.0) row.payload) columns.Data >>= λ payload. Ok (record { line = n; opcode = opcode; source = source; target = target; txn = txn; address = address; resp = b0.0; dbid = b1.0; allow_retry = b2.0; pcrd = pcrd; payload = payload })) seen b2.2 in
+    let b4 = bound (ok_or (payload_of (form_of opcode b0.0) row.payload) columns.Data) (λ payload. Ok (record { line = n; opcode = opcode; source = source; target = target; txn = txn; address = address; resp = b0.0; dbid = b1.0; allow_retry = b2.0; pcrd = b3.0; payload = payload })) seen b3.2 in
     let same : record { line = n; opcode = opcode; source = source; target = target; txn = txn; address = address; resp = b0.0; dbid = b1.0; allow_retry = b2.0; pcrd = b3.0; payload = b4.0 } ≡ seen = let last = b4.2 in cc in
     subst (λ (s : Seen). IsFlit n s row) same (record {
       line = refl;
@@ -48,7 +48,7 @@ tail_read n row opcode source target txn address seen named is_source is_target 
       dbid = used_read IsDbid (dbid_use opcode b0.0) row.dbid (dbid_of row.dbid) b1.0 columns.Dbid (λ x at. dbid_read row.dbid x at) b1.1;
       allow_retry = used_read IsAllow (allow_use opcode) row.allow_retry (allow_of row.allow_retry) b2.0 columns.AllowRetry (λ x at. allow_read row.allow_retry x at) b2.1;
       pcrd = used_read IsPcrd (pcrd_use opcode b2.0) row.pcrd (pcrd_of row.pcrd) b3.0 columns.Pcrd (λ x at. pcrd_read row.pcrd x at) b3.1;
-      payload = payload_read (form_of opcode) row.payload b4.0 (taken (payload_of (form_of opcode) row.payload) columns.Data b4.0 b4.1);
+      payload = payload_read (form_of opcode b0.0) row.payload b4.0 (taken (payload_of (form_of opcode b0.0) row.payload) columns.Data b4.0 b4.1);
     })
 
 pub flit_read : (n : ℕ) (row : Row) (seen : Seen) → seen_in n row ≡ Ok seen → IsFlit n seen row
@@ -78,5 +78,5 @@ flit_again n seen row is =
     let dbid = used_again IsDbid (dbid_use seen.opcode seen.resp) row.dbid (dbid_of row.dbid) seen.dbid columns.Dbid (λ x at. dbid_again x row.dbid at) (λ x at. hex_no_dash 0xffff x.0 row.dbid at) is.dbid in
     let allow_retry = used_again IsAllow (allow_use seen.opcode) row.allow_retry (allow_of row.allow_retry) seen.allow_retry columns.AllowRetry (λ x at. allow_again x row.allow_retry at) (λ x at. allow_no_dash x row.allow_retry at) is.allow_retry in
     let pcrd = used_again IsPcrd (pcrd_use seen.opcode seen.allow_retry) row.pcrd (pcrd_of row.pcrd) seen.pcrd columns.Pcrd (λ x at. pcrd_again x row.pcrd at) (λ x at. hex_no_dash 0xf x.0 row.pcrd at) is.pcrd in
-    let payload = payload_again (form_of seen.opcode) seen.payload row.payload is.payload in
+    let payload = payload_again (form_of seen.opcode seen.resp) seen.payload row.payload is.payload in
     rw (opcode, source, target, txn, address, resp, dbid, allow_retry, pcrd, payload) (λ i. Ok (record seen { line = sym is.line i }))

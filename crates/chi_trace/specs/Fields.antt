@@ -1,9 +1,9 @@
 -- What the columns of a flit hold (docs/TRACES.md, "Traces").
-use Rattle.std.specs.Prelude.{ℕ, ◌==◌, ◌&&◌, Bool, true, false, List, [], ◌∷◌, Option, Some, None, if◌then◌else◌, codes, is_none, length, slice_range}
+use Rattle.std.specs.Prelude.{ℕ, ◌==◌, ◌&&◌, Bool, true, false, List, [], ◌∷◌, Option, Some, None, if◌then◌else◌, codes, is_none, length, replicate, slice_range}
 use Rattle.std.specs.List.{position, slice_split}
 use Rattle.std.specs.Option.{option_map}
 use Rattle.chi_script.specs.Words.{◌>>=◌, is_text}
-use Rattle.chi_trace.specs.Numbers.{hex_of}
+use Rattle.chi_trace.specs.Numbers.{hex_of, plain_of, unmarked}
 use Rattle.chi_trace.specs.declared.fields.NodeId.{NodeId}
 use Rattle.chi_trace.specs.declared.fields.TxnId.{TxnId}
 use Rattle.chi_trace.specs.declared.fields.DbId.{DbId}
@@ -99,21 +99,29 @@ listed_of parts = do
 -- one number of 512 bits, word 7 first
 unfoldable pub vector_of : List ℕ → Option (List (Option ℕ))
 vector_of digits = do
-  w0 ← hex_of 0xffff_ffff_ffff_ffff (slice_range digits 112 128)
-  w1 ← hex_of 0xffff_ffff_ffff_ffff (slice_range digits 96 112)
-  w2 ← hex_of 0xffff_ffff_ffff_ffff (slice_range digits 80 96)
-  w3 ← hex_of 0xffff_ffff_ffff_ffff (slice_range digits 64 80)
-  w4 ← hex_of 0xffff_ffff_ffff_ffff (slice_range digits 48 64)
-  w5 ← hex_of 0xffff_ffff_ffff_ffff (slice_range digits 32 48)
-  w6 ← hex_of 0xffff_ffff_ffff_ffff (slice_range digits 16 32)
-  w7 ← hex_of 0xffff_ffff_ffff_ffff (slice_range digits 0 16)
+  w0 ← plain_of 0xffff_ffff_ffff_ffff (slice_range digits 112 128)
+  w1 ← plain_of 0xffff_ffff_ffff_ffff (slice_range digits 96 112)
+  w2 ← plain_of 0xffff_ffff_ffff_ffff (slice_range digits 80 96)
+  w3 ← plain_of 0xffff_ffff_ffff_ffff (slice_range digits 64 80)
+  w4 ← plain_of 0xffff_ffff_ffff_ffff (slice_range digits 48 64)
+  w5 ← plain_of 0xffff_ffff_ffff_ffff (slice_range digits 32 48)
+  w6 ← plain_of 0xffff_ffff_ffff_ffff (slice_range digits 16 32)
+  w7 ← plain_of 0xffff_ffff_ffff_ffff (slice_range digits 0 16)
   Some (Some w0 ∷ Some w1 ∷ Some w2 ∷ Some w3 ∷ Some w4 ∷ Some w5 ∷ Some w6 ∷ Some w7 ∷ [])
 
 -- a list, or one number of 128 digits
 abbrev pub line_words_of : List ℕ → Option (List (Option ℕ))
-line_words_of word = if length word == 128 && is_none (position (λ b. b == 44) word) then vector_of word else listed_of (comma_parts word)
+line_words_of word = if length (unmarked word) == 128 && is_none (position (λ b. b == 44) word) then vector_of (unmarked word) else listed_of (comma_parts word)
+
+-- the data of a copy that is lost
+abbrev pub zeros : List (Option ℕ)
+zeros = replicate 8 (Some 0)
+
+abbrev pub words_payload : List ℕ → Option Payload
+words_payload word = line_words_of word >>= λ ws. Some (payloads.Words ws)
 
 abbrev pub payload_of : Form → List ℕ → Option Payload
 payload_of forms.Nothing word = Some payloads.Nothing
-payload_of forms.Words word = line_words_of word >>= λ ws. Some (payloads.Words ws)
+payload_of forms.Words word = words_payload word
+payload_of forms.WordsOrDash word = if is_dash word then Some (payloads.Words zeros) else words_payload word
 payload_of forms.Value word = hex_of 0xffff_ffff_ffff_ffff word >>= λ n. Some (payloads.Value n)

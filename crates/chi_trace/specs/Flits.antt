@@ -59,7 +59,7 @@ seen_in n row = do
   dbid ← dbid_in opcode resp row
   allow ← allow_in opcode row
   pcrd ← pcrd_in opcode allow row
-  payload ← ok_or (payload_of (form_of opcode) row.payload) columns.Data
+  payload ← ok_or (payload_of (form_of opcode resp) row.payload) columns.Data
   Ok (record {
     line = n;
     opcode = opcode;

@@ -1,5 +1,5 @@
 -- Numbers of a trace, in hexadecimal (docs/TRACES.md, "Traces").
-use Rattle.std.specs.Prelude.{ℕ, ◌+◌, ◌-◌, ◌*◌, ◌&&◌, nat_le, List, [], ◌∷◌, Option, Some, None, if◌then◌else◌}
+use Rattle.std.specs.Prelude.{ℕ, ◌+◌, ◌-◌, ◌*◌, ◌&&◌, ◌==◌, nat_le, List, [], ◌∷◌, Option, Some, None, if◌then◌else◌}
 use Rattle.chi_script.specs.Words.{◌>>=◌}
 
 -- what a digit is worth, in letters of either case
@@ -18,6 +18,17 @@ unfoldable pub digits_from : ℕ → ℕ → List ℕ → Option ℕ
 digits_from most n [] = Some n
 digits_from most n (d ∷ ds) = with_hex_digit most n d >>= λ m. digits_from most m ds
 
+-- a number of one digit or more
+abbrev pub plain_of : ℕ → List ℕ → Option ℕ
+plain_of most [] = None
+plain_of most (d ∷ ds) = digits_from most 0 (d ∷ ds)
+
+-- what stands behind 0x, where a word begins so, and else the word
+abbrev pub unmarked : List ℕ → List ℕ
+unmarked [] = []
+unmarked (d ∷ []) = d ∷ []
+unmarked (d ∷ e ∷ ds) = if d == 48 && e == 120 then ds else d ∷ e ∷ ds
+
+-- a number with 0x before its digits, or without
 abbrev pub hex_of : ℕ → List ℕ → Option ℕ
-hex_of most [] = None
-hex_of most (d ∷ ds) = digits_from most 0 (d ∷ ds)
+hex_of most word = plain_of most (unmarked word)

@@ -16,9 +16,9 @@ use Rattle.chi_trace.specs.declared.uses.Form.TheVariants as forms
 use Rattle.chi_trace.specs.declared.uses.Use.{Use}
 use Rattle.chi_trace.specs.declared.uses.Use.TheVariants.{Needed, Allowed, Unused}
 use Rattle.chi_trace.specs.Columns.{Row}
-use Rattle.chi_trace.specs.Fields.{comma_parts, resp_text}
+use Rattle.chi_trace.specs.Fields.{comma_parts, resp_text, zeros}
 use Rattle.chi_trace.specs.Flits.{is_comment_word}
-use Rattle.chi_trace.specs.Numbers.{digit_of}
+use Rattle.chi_trace.specs.Numbers.{digit_of, unmarked}
 use Rattle.chi_trace.specs.Opcodes.{opcode_channel, channel_word, opcode_text}
 use Rattle.chi_trace.specs.Uses.{address_use, allow_use, dbid_use, form_of, pcrd_use, resp_use, target_use, txn_use}
 use Rattle.chi_trace.specs.Words.{blank_words}
@@ -29,9 +29,13 @@ Continue n front [] = n ≡ front
 Continue n front (d ∷ ds) = (v : ℕ) × (digit_of d ≡ Some v) × Continue n (front * 16 + v) ds
 
 -- a number of one digit or more, within the most that there may be
+abbrev pub IsPlain : ℕ → ℕ → List ℕ → Type 0
+IsPlain most n [] = ⊥
+IsPlain most n (d ∷ ds) = Continue n 0 (d ∷ ds) × (n ≤ most)
+
+-- such a number, with 0x before it or without
 abbrev pub IsHex : ℕ → ℕ → List ℕ → Type 0
-IsHex most n [] = ⊥
-IsHex most n (d ∷ ds) = Continue n 0 (d ∷ ds) × (n ≤ most)
+IsHex most n word = IsPlain most n (unmarked word)
 
 abbrev pub IsNode : NodeId → List ℕ → Type 0
 IsNode node word = IsHex 0xffff node.0 word
@@ -85,18 +89,19 @@ sixteens digits =
 
 abbrev pub AreNumbers : List (Option ℕ) → List (List ℕ) → Type 0
 AreNumbers [] [] = Unit {0}
-AreNumbers (Some n ∷ ws) (text ∷ texts) = IsHex 0xffff_ffff_ffff_ffff n text × AreNumbers ws texts
+AreNumbers (Some n ∷ ws) (text ∷ texts) = IsPlain 0xffff_ffff_ffff_ffff n text × AreNumbers ws texts
 AreNumbers ws texts = ⊥
 
--- the words of one number of 128 digits
-pub record IsVector (words : List (Option ℕ)) (digits : List ℕ) : Type 0 where
-  pub size : length digits ≡ 128
-  pub no_comma : None ≡ position (λ b. b == 44) digits
-  pub numbers : AreNumbers words (sixteens digits)
+-- the words of one number of 128 digits, with 0x before it or without
+pub record IsVector (words : List (Option ℕ)) (word : List ℕ) : Type 0 where
+  pub size : length (unmarked word) ≡ 128
+  pub no_comma : None ≡ position (λ b. b == 44) word
+  pub numbers : AreNumbers words (sixteens (unmarked word))
 
 abbrev pub IsPayload : Form → Payload → List ℕ → Type 0
 IsPayload forms.Nothing payloads.Nothing word = Unit {0}
 IsPayload forms.Words (payloads.Words words) word = AreListed words word ⊎ IsVector words word
+IsPayload forms.WordsOrDash (payloads.Words words) word = ((word ≡ codes "-") × (words ≡ zeros)) ⊎ (AreListed words word ⊎ IsVector words word)
 IsPayload forms.Value (payloads.Value n) word = IsHex 0xffff_ffff_ffff_ffff n word
 IsPayload form payload word = ⊥
 
@@ -113,7 +118,7 @@ pub record IsFlit (n : ℕ) (seen : Seen) (row : Row) : Type 0 where
   pub dbid : Holds IsDbid (dbid_use seen.opcode seen.resp) seen.dbid row.dbid
   pub allow_retry : Holds IsAllow (allow_use seen.opcode) seen.allow_retry row.allow_retry
   pub pcrd : Holds IsPcrd (pcrd_use seen.opcode seen.allow_retry) seen.pcrd row.pcrd
-  pub payload : IsPayload (form_of seen.opcode) seen.payload row.payload
+  pub payload : IsPayload (form_of seen.opcode seen.resp) seen.payload row.payload
 
 -- the words of a row, with whatever words behind them
 abbrev pub row_words : Row → List (List ℕ) → List (List ℕ)

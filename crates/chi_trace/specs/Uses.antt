@@ -2,7 +2,7 @@
 use Rattle.std.specs.Prelude.{ℕ, Bool, true, false, List, Option, Some, None, Result, Ok, Err, if◌then◌else◌}
 use Rattle.chi_trace.specs.declared.columns.Column.{Column}
 use Rattle.chi_trace.specs.declared.fields.Resp.{Resp}
-use Rattle.chi_trace.specs.declared.fields.Resp.TheVariants.{UC}
+use Rattle.chi_trace.specs.declared.fields.Resp.TheVariants.{I, UC}
 use Rattle.chi_trace.specs.declared.opcodes.Opcode.{Opcode}
 use Rattle.chi_trace.specs.declared.opcodes.Opcode.TheVariants.{Request, PCrdReturn, Snoop, RetryAck, Comp, CompDBIDResp, PCrdGrant, SnpResp, CompAck, CompData, SnpRespData, CopyBackWrData, Load, Store}
 use Rattle.chi_trace.specs.declared.uses.Use.{Use}
@@ -71,11 +71,12 @@ pcrd_use PCrdReturn allow = Needed
 pcrd_use (Request kind) (Some false) = Needed
 pcrd_use other allow = Unused
 
--- the form of the data
-abbrev pub form_of : Opcode → Form
-form_of CompData = forms.Words
-form_of SnpRespData = forms.Words
-form_of CopyBackWrData = forms.Words
-form_of Load = forms.Value
-form_of Store = forms.Value
-form_of other = forms.Nothing
+-- the form of the data: write data of a copy that is lost is 0, and may be left out
+abbrev pub form_of : Opcode → Option Resp → Form
+form_of CompData resp = forms.Words
+form_of SnpRespData resp = forms.Words
+form_of CopyBackWrData (Some I) = forms.WordsOrDash
+form_of CopyBackWrData resp = forms.Words
+form_of Load resp = forms.Value
+form_of Store resp = forms.Value
+form_of other resp = forms.Nothing

@@ -5,7 +5,7 @@ ghost use Rattle.std.specs.List.{position};
 ghost use Rattle.std.specs.Option.{option_map};
 ghost use Rattle.chi_trace.specs.Fields.{address_of, allow_of, dbid_of, first_part, is_dash, line_words_of, listed_of, node_of, only_of, comma_parts, payload_of, pcrd_of, resp_of, resp_text, txn_of, vector_of, word_in};
 
-use crate::numbers::hex;
+use crate::numbers::{hex, plain, unmarked};
 use crate::uses::Form;
 use chi_script::is;
 use std::fmt;
@@ -244,14 +244,14 @@ fn vector(digits: &[u8]) -> Option<[Option<u64>; 8]>
     requires { length digits.now ≡ 128 }
     ensures { result ≡ vector_of digits.now }
 {
-    let w0 = hex(&digits[112..128], u64::MAX)?;
-    let w1 = hex(&digits[96..112], u64::MAX)?;
-    let w2 = hex(&digits[80..96], u64::MAX)?;
-    let w3 = hex(&digits[64..80], u64::MAX)?;
-    let w4 = hex(&digits[48..64], u64::MAX)?;
-    let w5 = hex(&digits[32..48], u64::MAX)?;
-    let w6 = hex(&digits[16..32], u64::MAX)?;
-    let w7 = hex(&digits[0..16], u64::MAX)?;
+    let w0 = plain(&digits[112..128], u64::MAX)?;
+    let w1 = plain(&digits[96..112], u64::MAX)?;
+    let w2 = plain(&digits[80..96], u64::MAX)?;
+    let w3 = plain(&digits[64..80], u64::MAX)?;
+    let w4 = plain(&digits[48..64], u64::MAX)?;
+    let w5 = plain(&digits[32..48], u64::MAX)?;
+    let w6 = plain(&digits[16..32], u64::MAX)?;
+    let w7 = plain(&digits[0..16], u64::MAX)?;
     Some([
         Some(w0),
         Some(w1),
@@ -268,8 +268,9 @@ fn vector(digits: &[u8]) -> Option<[Option<u64>; 8]>
 fn line_words(word: &[u8]) -> Option<[Option<u64>; 8]>
     ensures { result ≡ line_words_of word.now }
 {
-    if word.len() == 128 && comma(word).is_none() {
-        vector(word)
+    let digits = unmarked(word);
+    if digits.len() == 128 && comma(word).is_none() {
+        vector(digits)
     } else {
         listed(word)
     }
@@ -281,7 +282,8 @@ pub(crate) fn read_payload(form: Form, word: &[u8]) -> Option<Payload>
 {
     match form {
         Form::Nothing => Some(Payload::Nothing),
-        Form::Words => Some(Payload::Words(line_words(word)?)),
+        Form::WordsOrDash if is_dash(word) => Some(Payload::Words([Some(0); 8])),
+        Form::Words | Form::WordsOrDash => Some(Payload::Words(line_words(word)?)),
         Form::Value => Some(Payload::Value(hex(word, u64::MAX)?)),
     }
 }

@@ -127,7 +127,7 @@ impl Columns<'_> {
         let dbid = self.dbid(opcode, resp)?;
         let allow_retry = self.allow_retry(opcode)?;
         let pcrd = self.pcrd(opcode, allow_retry)?;
-        let payload = read_payload(form_of(opcode), self.payload).ok_or(Column::Data)?;
+        let payload = read_payload(form_of(opcode, resp), self.payload).ok_or(Column::Data)?;
         Ok(Seen {
             line,
             opcode,

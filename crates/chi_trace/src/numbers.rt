@@ -1,13 +1,31 @@
 //! Numbers as a trace writes them: in hexadecimal.
 
 ghost use Rattle.std.specs.Prelude.{◌≡◌, ◌≤◌, ◌<◌, IfSome};
-ghost use Rattle.chi_trace.specs.Numbers.{digit_of, digits_from, hex_of, with_hex_digit};
+ghost use Rattle.chi_trace.specs.Numbers.{digit_of, digits_from, hex_of, plain_of, unmarked, with_hex_digit};
 
-/// The number that the word writes in hexadecimal, with leading zeros or without, at most `most`. `None` for
-/// every other word.
+/// The number that the word writes in hexadecimal, with `0x` before it or without, with leading zeros or without, at
+/// most `most`. `None` for every other word.
 /// Source: `docs/TRACES.md`, "Traces".
 pub(crate) fn hex(word: &[u8], most: u64) -> Option<u64>
     ensures read { result ≡ hex_of most word.now }
+    ensures fits { IfSome result (λ number. number ≤ most) }
+{
+    plain(unmarked(word), most)
+}
+
+/// What stands behind `0x`, where the word begins so, and else the word.
+pub(crate) fn unmarked(word: &[u8]) -> &[u8]
+    ensures { result.now ≡ unmarked word.now }
+{
+    match word {
+        [first, second, digits @ ..] if *first == b'0' && *second == b'x' => digits,
+        _ => word,
+    }
+}
+
+/// The number whose digits these are, one or more, at most `most`.
+pub(crate) fn plain(word: &[u8], most: u64) -> Option<u64>
+    ensures read { result ≡ plain_of most word.now }
     ensures fits { IfSome result (λ number. number ≤ most) }
 {
     match word {

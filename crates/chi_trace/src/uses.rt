@@ -23,6 +23,8 @@ pub(crate) enum Use {
 pub(crate) enum Form {
     Nothing,
     Words,
+    /// `-` stands for words that are all 0.
+    WordsOrDash,
     Value,
 }
 
@@ -117,12 +119,14 @@ pub(crate) fn pcrd_use(opcode: Opcode, allow_retry: Option<bool>) -> Use
     }
 }
 
-pub(crate) fn form_of(opcode: Opcode) -> Form
-    ensures { result ≡ form_of opcode }
+/// Write data of a copy that is lost is 0, and may be left out.
+pub(crate) fn form_of(opcode: Opcode, resp: Option<Resp>) -> Form
+    ensures { result ≡ form_of opcode resp }
 {
-    match opcode {
-        Opcode::CompData | Opcode::SnpRespData | Opcode::CopyBackWrData => Form::Words,
-        Opcode::Load | Opcode::Store => Form::Value,
+    match (opcode, resp) {
+        (Opcode::CopyBackWrData, Some(Resp::I)) => Form::WordsOrDash,
+        (Opcode::CompData | Opcode::SnpRespData | Opcode::CopyBackWrData, _) => Form::Words,
+        (Opcode::Load | Opcode::Store, _) => Form::Value,
         _ => Form::Nothing,
     }
 }

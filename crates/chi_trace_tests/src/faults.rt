@@ -4,7 +4,7 @@ use chi_trace::{Column, TraceFault, read_trace};
 use std::test::Fail;
 
 /// Files, and their first faults.
-const FAULTS: [(&[u8], TraceFault); 9] = [
+const FAULTS: [(&[u8], TraceFault); 11] = [
     (
         b"REQ 8 40 1 Evict 0 - - 1 - -",
         TraceFault::MissingNewline(1),
@@ -36,6 +36,20 @@ const FAULTS: [(&[u8], TraceFault); 9] = [
         TraceFault::BadWord {
             line: 1,
             column: Column::Address,
+        },
+    ),
+    (
+        b"REQ 8 40 1 Evict 0x - - 1 - -\n",
+        TraceFault::BadWord {
+            line: 1,
+            column: Column::Address,
+        },
+    ),
+    (
+        b"DAT 8 40 1 CopyBackWrData - SC - - - -\n",
+        TraceFault::BadWord {
+            line: 1,
+            column: Column::Data,
         },
     ),
     (

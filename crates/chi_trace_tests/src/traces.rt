@@ -6,7 +6,7 @@ use std::test::Fail;
 
 /// Two requesters and a home: a read that is retried, and the snoop of the other's copy.
 const EXAMPLE: &[u8] = b"#CH SRC TGT TXN OPCODE       ADDR RESP DBID AR PCRD DATA
-REQ 08  40  01  ReadUnique   1048 -    -    1  -    - @10ns
+REQ 08  40  01  ReadUnique 0x1048 -    -    1  -    - @10ns
 DAT 40  08  01  CompData     -    UC   11   -  -    5,x,0,0,0,0,0,FF
 
 RSP 40  0c  01  RetryAck     1040 -    -    -  0    -

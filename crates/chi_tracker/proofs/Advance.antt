@@ -164,6 +164,6 @@ pub stepped : (k : AtomicStep) (old : Seat ℕ SeatView) (r : ℕ) (new : Seat �
 stepped k old r new table told = record {
   table = table;
   view = told.0;
-  acts = ((k, r) ∷ [], goes_did (port_in old.me) k r old.me.0.history new.me.0.history told.1, refl);
+  acts = ((k, r) ∷ [], goes_did (port_in old.me) k r old.me.0.history new.me.0.history told.1, refl, ap port_of told.0);
   after = subst (IsAfter new.me.0.history) (sym (ap port_of told.0)) (goes_after (port_in old.me) k r old.me.0.history new.me.0.history told.1);
 }

@@ -16,5 +16,9 @@ mod Deals
 mod Upkeep
 pub mod Sweeps
 mod Exactly
+mod Together
+pub mod Telling
+mod Gathering
 pub mod Balance
 pub mod Conduct
+pub mod Outcomes

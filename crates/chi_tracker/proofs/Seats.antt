@@ -36,12 +36,12 @@ opens_reached s shaped = record {
 }
 
 module _ (s : Shape) (acts : List Act) where
-  are-set : (vs : List SeatView) (id : ℕ) (w : SeatView) → AreSeatsOf s acts vs → IsSeatOf s acts w → AreSeatsOf s acts (set vs id w)
+  pub are-set : (vs : List SeatView) (id : ℕ) (w : SeatView) → AreSeatsOf s acts vs → IsSeatOf s acts w → AreSeatsOf s acts (set vs id w)
   are-set [] id w h here = h
   are-set (v ∷ vs) zero w h here = (here, h.1)
   are-set (v ∷ vs) (suc id) w h here = (h.0, are-set vs id w h.1 here)
 
-  are-push : (vs : List SeatView) (w : SeatView) → AreSeatsOf s acts vs → IsSeatOf s acts w → AreSeatsOf s acts (vs ++ w ∷ [])
+  pub are-push : (vs : List SeatView) (w : SeatView) → AreSeatsOf s acts vs → IsSeatOf s acts w → AreSeatsOf s acts (vs ++ w ∷ [])
   are-push [] w h here = (here, tt)
   are-push (v ∷ vs) w h here = (h.0, are-push vs w h.1 here)
 
@@ -112,7 +112,7 @@ idle-ports s acts later first more (p ∷ ps) is h zero d l = idle-last p.who fi
 idle-ports s acts later first more (p ∷ ps) is h (suc k) d l = idle-ports s acts later first more ps is h.1 k d (omega arith)
 
 -- of two seats one knows all that the other does
-later-seat : (s : Shape) (acts : List Act) (v w : SeatView) (a : IsSeatOf s acts v) (b : IsSeatOf s acts w) → length b.later ≤ length a.later → GoesOnFrom v w
+pub later-seat : (s : Shape) (acts : List Act) (v w : SeatView) (a : IsSeatOf s acts v) (b : IsSeatOf s acts w) → length b.later ≤ length a.later → GoesOnFrom v w
 later-seat s acts v w a b l =
     let r = parts b.later a.later w.history v.history (sym b.is ∙ a.is) l in
     let rest : w.history ≡ r.0 ++ v.history = same-rest b.later w.history (r.0 ++ v.history) (sym b.is ∙ a.is ∙ ap (λ zs. zs ++ v.history) r.1 ∙ append_assoc b.later r.0 v.history) in

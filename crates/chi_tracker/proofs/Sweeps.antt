@@ -84,7 +84,7 @@ settling_first seat t agent word alone sweep = record {
 pub settling_unset : (first now : Seat ℕ SeatView) (t word place : ℕ) → 8 * t ≤ place → bit_at word place ≡ 0 → IsSettling first now t word place → IsSettling first now t word (place + 1)
 settling_unset first now t word place le unset s = record { table = s.table; view = s.view; left = settled_unset t word place (port_of (shown now.me)).sweep.left le unset s.left }
 
-both_true : (a b c d : ℕ) (x y : ℕ) → a ≡ b → c ≡ d → cond (eqb a b && eqb c d) x y ≡ x
+pub both_true : (a b c d : ℕ) (x y : ℕ) → a ≡ b → c ≡ d → cond (eqb a b && eqb c d) x y ≡ x
 both_true a b c d x y e f = ap (λ (z : Bool). cond (z && eqb c d) x y) (eq-eqb a b e) ∙ ap (λ (z : Bool). cond z x y) (eq-eqb c d f)
 
 pub settling_clear : (first now next : Seat ℕ SeatView) (t agent word place entry old : ℕ) → 8 * t ≤ place → place < 8 * t + 8 → (port_of (shown first.me)).sweep ≡ record { opened = (port_of (shown first.me)).sweep.opened; kind = t; at = agent; left = byte_of t word }
@@ -114,9 +114,9 @@ pub ended_hand : (p : PortView) (t e : ℕ) (r : Released) (q : PortView) → Le
 ended_hand p t e (Granted m) q h = ap (λ z. z.hand) h.1.1
 ended_hand p t e Freed q is = ap (λ z. z.hand) is
 
-pub ended_duty : (p : PortView) (t e : ℕ) (r : Released) (q : PortView) → LeavesHand p t e r q → q.duty ≡ None
-ended_duty p t e (Granted m) q h = ap (λ z. z.duty) h.1.1
-ended_duty p t e Freed q is = ap (λ z. z.duty) is
+pub ended_duty : (p : PortView) (t e : ℕ) (r : Released) (q : PortView) → LeavesHand p t e r q → p.duty ≡ None → q.duty ≡ None
+ended_duty p t e (Granted m) q h idle = ap (λ z. z.duty) h.1.1
+ended_duty p t e Freed q is idle = ap (λ z. z.duty) is ∙ idle
 
 pub ended_note : (p : PortView) (t e : ℕ) (r : Released) (q : PortView) → LeavesHand p t e r q → q.noted ≡ p.noted
 ended_note p t e (Granted m) q h = ap (λ z. z.noted) h.1.1

@@ -156,7 +156,7 @@ paid_in_range m m1 n s seen due t e held is lt of =
 pub ended_held : (h : List Act) (m m' : SeatPorts) (n : ℕ) (s : Shape) (seen due : List ℕ) (t e : ℕ) (r : Released) → IsHeld m n s seen due → m' ≡ solo (port_of m') → LeavesHand (port_of m) t e r (port_of m') → IsAfter h (port_of m') → IsHeld m' n s seen due
 ended_held h m m' n s seen due t e r held alone ended after =
     let same = ended_same (port_of m) t e r (port_of m') ended in
-    held_after h m m' (port_of m') n s seen seen due due held alone same.0 same.1 (same.2 ∙ held.seen_is) (ended_duty (port_of m) t e r (port_of m') ended) (ended_note (port_of m) t e r (port_of m') ended ∙ held.no_note)
+    held_after h m m' (port_of m') n s seen seen due due held alone same.0 same.1 (same.2 ∙ held.seen_is) (ended_duty (port_of m) t e r (port_of m') ended held.no_duty) (ended_note (port_of m) t e r (port_of m') ended ∙ held.no_note)
     (λ u lu. let h = held.due_is u lu in let a = ap (λ z. slice_index z u) same.3 in let b = ap (λ z. slice_index z u) same.4 in let d = ap (λ z. slice_index z u) same.5 in omega arith) held.few after
 
 -- a seen credit of type t taken out is one less of the type

@@ -50,7 +50,7 @@ legal-part : (s : Shape) (later history : List Act) → Legal s (later ++ histor
 legal-part s [] history legal = legal
 legal-part s (a ∷ later) history legal = legal-part s later history legal.0
 
-seat_after : (s : Shape) (acts : List Act) (v : SeatView) (p : PortView) (history : List Act) → Legal s acts → IsSeatOf s acts v → v ≡ record { ports = p ∷ []; history = history } → IsAfter history p
+pub seat_after : (s : Shape) (acts : List Act) (v : SeatView) (p : PortView) (history : List Act) → Legal s acts → IsSeatOf s acts v → v ≡ record { ports = p ∷ []; history = history } → IsAfter history p
 seat_after s acts v p history legal seat is =
     let h : IsSeatOf s acts (record { ports = p ∷ []; history = history }) = subst (IsSeatOf s acts) is seat in
     let port : IsPortOf s acts h.later p = h.ports.0 in
@@ -71,7 +71,7 @@ pub views_are : (s : Shape) (st : State ℕ SeatView) → Reached s st → Views
 views_are s st r = seats-after s r.acts st.views r.legal r.seats
 
 -- the state of a history, with the port in it
-seat-index : (ps : List PortView) (n : ℕ) → n < length ps → slice_index_or (map one ps) n (no_ports) ≡ one (port_at ps n)
+pub seat-index : (ps : List PortView) (n : ℕ) → n < length ps → slice_index_or (map one ps) n (no_ports) ≡ one (port_at ps n)
 seat-index [] n l = absurd (omega arith)
 seat-index (p ∷ ps) zero l = refl
 seat-index (p ∷ ps) (suc n) l = seat-index ps n (omega arith)

@@ -10,3 +10,4 @@ pub mod Calls
 pub mod Laws
 pub mod Totals
 pub mod Conduct
+pub mod Witness

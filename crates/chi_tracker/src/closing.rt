@@ -8,9 +8,10 @@ ghost use Rattle.chi_tracker.specs.Rule.{TrackerRule};
 ghost use Rattle.chi_tracker.specs.History.{history_outcome, Legal, ArePortsOf};
 ghost use Rattle.chi_tracker.specs.Laws.{duties};
 ghost use Rattle.chi_tracker.specs.Totals.{views_of, longest, closed_state, AreDue, AreCredits};
+ghost use Rattle.chi_tracker.specs.Witness.{GoesOnFromEach};
 
 use crate::law::{Board, Law, PortSeat};
-use crate::plays::{Enter, Gather};
+use crate::plays::{Enter, Known, Meet};
 use crate::port::{Port, Seated};
 use crate::shape::Shape;
 use crate::tally::{Words, owed_to, promised_of};
@@ -62,6 +63,7 @@ pub(crate) fn gather(board: &Board, mut ports: ArrayVec<Port, 8>) -> Gathered
     ensures port_seat { (result.port_seat.table_id ≡ board.now.table_id)
         × (result.port_seat.me.0.ports ≡ views_of ports.items) }
     ensures history { result.port_seat.me.0.history ≡ longest ports.items }
+    ensures later { GoesOnFromEach ports.items result.port_seat.me.0.history }
     ensures idle { (n t : ℕ) → duties n t (views_of ports.items) ≡ 0 }
     ensures due { AreDue result.dues (views_of ports.items) }
 {
@@ -75,7 +77,8 @@ pub(crate) fn gather(board: &Board, mut ports: ArrayVec<Port, 8>) -> Gathered
         } = port.into_seated();
         let sums = add_due(dues, number, due);
         dues = sums;
-        board.join_seat::<Gather>(&mut port_seat, own);
+        board.join_seat::<Meet>(&mut port_seat, own);
+        board.load::<Known>(&mut port_seat, 0);
     }
     Gathered { port_seat, dues }
 }

@@ -22,6 +22,7 @@ mod tally;
 mod totals;
 mod tracker;
 mod view;
+mod witness;
 mod words;
 
 pub use law::Law;
@@ -29,3 +30,4 @@ pub use port::Port;
 pub use released::Released;
 pub use totals::{Counts, Credits, Totals};
 pub use tracker::Tracker;
+pub use witness::Witness;

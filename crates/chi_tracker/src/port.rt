@@ -1,14 +1,15 @@
 //! A requester's port to the tracker.
 
-ghost use Rattle.std.specs.Prelude.{◌≡◌, None, ℕ, [], ◌∷◌, ◌<◌, ◌≤◌, IfSome, IfNone, slice_index};
+ghost use Rattle.std.specs.Prelude.{◌≡◌, None, ℕ, [], ◌∷◌, ◌<◌, ◌≤◌, IfSome, slice_index};
 ghost use Rattle.chi_flit.specs.Credit.{credit_number};
 ghost use Rattle.chi_tracker.specs.Sums.{set_at, without_bit};
-ghost use Rattle.chi_tracker.specs.Shape.{low, size, IsOf, IsShape};
+ghost use Rattle.chi_tracker.specs.Shape.{size, IsOf, IsShape};
 ghost use Rattle.chi_tracker.specs.Views.{has, new_port, IsDue, CanOwe};
 ghost use Rattle.chi_tracker.specs.History.{IsAfter};
-ghost use Rattle.chi_tracker.specs.Conduct.{Does, FoundFree, FoundTaken, One, Then, OweActs, SeeActs, ReleaseActs, TendActs};
-ghost use Rattle.chi_tracker.specs.Steps.{shown, solo, frees, spends};
-ghost use Rattle.chi_tracker.specs.Calls.{no_owner, scanned_all, owed_one, saw_all, seen_of, FoundAll, HasClaimed, IsLowestSeen, LeavesHandAsItsType, Tended, HasReturned, HasSameCredits, HasOneLess};
+ghost use Rattle.chi_tracker.specs.Conduct.{ClaimActs, HasActed, One, OweActs, SeeActs, ReleaseActs, ReturnActs, TendActs};
+ghost use Rattle.chi_tracker.specs.Steps.{shown, solo, spends};
+ghost use Rattle.chi_tracker.specs.Witness.{Told};
+ghost use Rattle.chi_tracker.specs.Calls.{no_owner, hand_with, owed_one, seen_of, with_return, HasSameCredits, IsLowestSeen, HasOneLess};
 
 use crate::law::PortSeat;
 use crate::marks::others;
@@ -21,6 +22,7 @@ use crate::step::AtomicStep;
 use crate::steps::{free_step, see_step};
 use crate::sweep::{release_entry, tend_type};
 use crate::tracker::Tracker;
+use crate::witness::{Witness, tell};
 use chi_flit::{CreditType, Entry};
 use std::alloc::Allocator;
 use std::marker::Model;
@@ -33,9 +35,10 @@ use std::marker::Model;
 ///
 /// Contracts see the port's view and the history of the tracker up to the port's last step. Each call that does
 /// a step says what it did (`acts`): these steps, each with the word that it found, and no others, whatever
-/// other ports did meanwhile. And it says that this history is legal and leaves the port so (`running`): what
-/// `Law::place`, `Law::ledger` and `Law::knowledge` say holds of the port in the running tracker, by
-/// `Law::running`.
+/// other ports did meanwhile. The view is what these steps made of it; what scans, looks, sweeps and ends then
+/// record follows by `Law::steps`. And this history is legal and leaves the port so: what `Law::place`,
+/// `Law::ledger` and `Law::knowledge` say holds of the port in the running tracker, by `Law::running`. Beside
+/// the acts stand the facts that a caller counts with: the hand, and what the port knows of its credits.
 /// Source: `docs/PROTOCOL.md`, "Words of the tracker".
 #[derive(Drop)]
 pub struct Port {
@@ -134,18 +137,11 @@ impl Port {
     pub fn claim<A: Allocator>(&mut self, tracker: &Tracker<A>, ty: CreditType) -> Option<Entry>
         requires table { self.old.table ≡ tracker.now.table }
         requires entries { 0 < size self.old.port.shape (credit_number ty) }
-        ensures table { self.new.table ≡ self.old.table }
-        ensures some { IfSome result (λ e. HasClaimed (credit_number ty) e.0 self.old.port self.new.port) }
-        ensures none { IfNone result (self.new.port
-            ≡ scanned_all (credit_number ty) self.old.port) }
-        ensures found { IfNone result (FoundAll self.old.port.shape (credit_number ty) self.new.port) }
-        ensures mine { IfSome result (λ e. has e.0 self.new.port ≡ 1) }
-        ensures entry { IfSome result (λ e. e.0 < low self.new.port.shape 4) }
-        ensures free { IfSome result (λ e. let t = credit_number ty in
-            Does self.old (FoundFree t (low self.old.port.shape t) e.0) self.new) }
-        ensures taken { IfNone result (let t = credit_number ty in let s = self.old.port.shape in
-            Does self.old (FoundTaken t (low s t) (size s t)) self.new) }
-        ensures running { IsAfter self.new.history self.new.port }
+        ensures some { IfSome result (λ e. IsOf self.old.port.shape (credit_number ty) e.0
+            × (has e.0 self.old.port ≡ 0)) }
+        ensures hand { self.new.port.hand ≡ hand_with result self.old.port.hand }
+        ensures credits { HasSameCredits self.old.port self.new.port }
+        ensures acts { HasActed (ClaimActs self.old.port (credit_number ty) result) self.old self.new }
     {
         let board = tracker.board();
         let Some(mut port_seat) = self.port_seat.take() else {
@@ -160,6 +156,28 @@ impl Port {
         }
     }
 
+    /// Tells a witness of the port, which stays as it is: the witness goes on to the longer of the history that
+    /// it knew and the port's. That history leaves the port as it is, and goes on from the port's own with no
+    /// act of the port (`told`), whatever other ports did meanwhile.
+    ///
+    /// Conditions: the port and the witness are this tracker's.
+    /// Source: `docs/PROTOCOL.md`, "The rule between steps".
+    pub fn tell<A: Allocator>(&mut self, tracker: &Tracker<A>, witness: &mut Witness)
+        requires table { self.old.table ≡ tracker.now.table }
+        requires witness { witness.old.table ≡ tracker.now.table }
+        ensures same { self.new ≡ self.old }
+        ensures witness { witness.new.table ≡ witness.old.table }
+        ensures told { Told self.old.port.who self.old.history witness.old.history witness.new.history }
+        ensures running { IsAfter witness.new.history self.old.port }
+    {
+        let board = tracker.board();
+        let Some(port_seat) = self.port_seat.take() else {
+            unreachable!();
+        };
+        let port_seat = tell(board, &mut witness.port_seat, port_seat);
+        self.port_seat = Some(port_seat);
+    }
+
     /// Frees an entry in hand. The port's other entries in hand and its credits stay.
     ///
     /// Conditions: the port is one that this tracker gave, and the entry is in its hand.
@@ -167,10 +185,9 @@ impl Port {
     pub fn free<A: Allocator>(&mut self, tracker: &Tracker<A>, entry: Entry)
         requires table { self.old.table ≡ tracker.now.table }
         requires entry { has entry.0 self.old.port ≡ 1 }
-        ensures table { self.new.table ≡ self.old.table }
-        ensures port { self.new.port ≡ frees entry.0 self.old.port }
-        ensures acts { Does self.old (One (AtomicStep.Free entry.0)) self.new }
-        ensures running { IsAfter self.new.history self.new.port }
+        ensures hand { self.new.port.hand ≡ without_bit self.old.port.hand entry.0 }
+        ensures credits { HasSameCredits self.old.port self.new.port }
+        ensures acts { HasActed (One (AtomicStep.Free entry.0)) self.old self.new }
     {
         let board = tracker.board();
         let Some(mut port_seat) = self.port_seat.take() else {
@@ -191,10 +208,8 @@ impl Port {
         requires table { self.old.table ≡ tracker.now.table }
         requires entries { 0 < size self.old.port.shape (credit_number ty) }
         requires few { CanOwe self.old.port (credit_number ty) }
-        ensures table { self.new.table ≡ self.old.table }
         ensures port { self.new.port ≡ owed_one (credit_number ty) self.old.port }
-        ensures acts { Does self.old (OweActs (credit_number ty)) self.new }
-        ensures running { IsAfter self.new.history self.new.port }
+        ensures acts { HasActed (OweActs (credit_number ty)) self.old self.new }
     {
         let board = tracker.board();
         let Some(mut port_seat) = self.port_seat.take() else {
@@ -214,13 +229,13 @@ impl Port {
     /// Source: `docs/PROTOCOL.md`, "Steps of the tracker", see.
     pub fn see<A: Allocator>(&mut self, tracker: &Tracker<A>) -> [u32; 4]
         requires table { self.old.table ≡ tracker.now.table }
-        ensures table { self.new.table ≡ self.old.table }
-        ensures port { self.new.port ≡ saw_all self.new.port.seen self.old.port }
+        ensures hand { self.new.port.hand ≡ self.old.port.hand }
+        ensures credits { HasSameCredits
+            (record self.old.port { seen = self.new.port.seen }) self.new.port }
         ensures more { (e : ℕ) → e < 256
             → set_at self.old.port.seen e ≤ set_at self.new.port.seen e }
         ensures counts { (t : ℕ) → t < 4 → slice_index result t ≡ seen_of self.new.port t }
-        ensures running { IsAfter self.new.history self.new.port }
-        ensures acts { Does self.old (SeeActs self.new.port.seen) self.new }
+        ensures acts { HasActed (SeeActs self.new.port.seen) self.old self.new }
     {
         let board = tracker.board();
         let Some(mut port_seat) = self.port_seat.take() else {
@@ -242,11 +257,13 @@ impl Port {
         counts_by_type(&self.seen, &self.shape)
     }
 
-    /// The credits due by type: retries less spent and returned credits, 0 to 8. It does no step.
+    /// The credits due by type: retries less spent and returned credits, 0 to 8. It does no step. Whoever asks
+    /// knows that between two calls no duty is open.
     /// Source: `docs/PROTOCOL.md`, "The rule between steps".
     pub fn due(&self) -> [u32; 4]
         ensures few { (t : ℕ) → t < 4 → slice_index result t ≤ 8 }
         ensures is { (t : ℕ) → t < 4 → IsDue self.now.port t (slice_index result t) }
+        ensures idle { self.now.port.duty ≡ None }
     {
         let due = self.due;
         due
@@ -260,15 +277,11 @@ impl Port {
     pub fn spend<A: Allocator>(&mut self, tracker: &Tracker<A>, ty: CreditType) -> Entry
         requires table { self.old.table ≡ tracker.now.table }
         requires credit { 0 < seen_of self.old.port (credit_number ty) }
-        ensures table { self.new.table ≡ self.old.table }
         ensures lowest { IsLowestSeen self.old.port (credit_number ty) result.0 }
         ensures held { has result.0 self.old.port ≡ 0 }
         ensures port { self.new.port ≡ spends (credit_number ty) result.0 self.old.port }
-        ensures mine { has result.0 self.new.port ≡ 1 }
-        ensures entry { result.0 < low self.new.port.shape 4 }
         ensures fewer { HasOneLess (credit_number ty) self.old.port self.new.port }
-        ensures acts { Does self.old (One (AtomicStep.Spend (credit_number ty) result.0)) self.new }
-        ensures running { IsAfter self.new.history self.new.port }
+        ensures acts { HasActed (One (AtomicStep.Spend (credit_number ty) result.0)) self.old self.new }
     {
         let board = tracker.board();
         let Some(mut port_seat) = self.port_seat.take() else {
@@ -298,13 +311,9 @@ impl Port {
     pub fn release<A: Allocator>(&mut self, tracker: &Tracker<A>, entry: Entry) -> Released
         requires table { self.old.table ≡ tracker.now.table }
         requires entry { has entry.0 self.old.port ≡ 1 }
-        ensures table { self.new.table ≡ self.old.table }
-        ensures port { LeavesHandAsItsType self.old.port entry.0 result self.new.port }
-        ensures credits { HasSameCredits self.old.port self.new.port }
         ensures hand { self.new.port.hand ≡ without_bit self.old.port.hand entry.0 }
-        ensures acts { (t : ℕ) × (t < 4) × IsOf self.old.port.shape t entry.0
-            × Does self.old (ReleaseActs self.old.port.shape.agents t entry.0 result) self.new }
-        ensures running { IsAfter self.new.history self.new.port }
+        ensures credits { HasSameCredits self.old.port self.new.port }
+        ensures acts { HasActed (ReleaseActs self.old.port entry.0 result) self.old self.new }
     {
         let board = tracker.board();
         let Some(mut port_seat) = self.port_seat.take() else {
@@ -327,14 +336,11 @@ impl Port {
     pub fn give_back<A: Allocator>(&mut self, tracker: &Tracker<A>, ty: CreditType) -> Released
         requires table { self.old.table ≡ tracker.now.table }
         requires credit { 0 < seen_of self.old.port (credit_number ty) }
-        ensures table { self.new.table ≡ self.old.table }
-        ensures port { HasReturned (credit_number ty) self.old.port result self.new.port }
         ensures hand { (i : ℕ) → has i self.new.port ≡ has i self.old.port }
+        ensures credits { HasSameCredits (with_return (credit_number ty)
+            self.new.port.seen self.old.port) self.new.port }
         ensures fewer { HasOneLess (credit_number ty) self.old.port self.new.port }
-        ensures acts { (e : ℕ) × IsLowestSeen self.old.port (credit_number ty) e
-            × Does self.old (Then (One (AtomicStep.Return (credit_number ty) e))
-            (ReleaseActs self.old.port.shape.agents (credit_number ty) e result)) self.new }
-        ensures running { IsAfter self.new.history self.new.port }
+        ensures acts { HasActed (ReturnActs self.old.port (credit_number ty) result) self.old self.new }
     {
         let board = tracker.board();
         let Some(mut port_seat) = self.port_seat.take() else {
@@ -353,11 +359,10 @@ impl Port {
     /// Where a requester shows an owed credit of the type, claims an entry of the type and releases it.
     /// `None` where no credit of the type was seen owed, or each entry of the type was found claimed.
     ///
-    /// The contract says that a sweep of the type that this call opened found an owed credit at a requester,
-    /// and an entry of the type, which wasn't in hand, was then claimed in a scan and went where `release`
-    /// says; or, with `None`, that such a sweep came to the last requester with no bit left, or that it found
-    /// an owed credit and a scan found each entry of the type claimed. The port's hand and its credits are as
-    /// they were.
+    /// The contract says that looks at the requesters, from the first on, found an owed credit of the type at
+    /// one, and an entry of the type, which wasn't in hand, was then claimed in a scan and went where `release`
+    /// says; or, with `None`, that none of them found one, or that one did and a scan found each entry of the
+    /// type claimed. The port's hand and its credits are as they were.
     ///
     /// Conditions: the port is one that this tracker gave, and the type has entries.
     /// Source: `docs/PROTOCOL.md`, "Steps of the tracker", tend.
@@ -365,12 +370,9 @@ impl Port {
     pub fn tend<A: Allocator>(&mut self, tracker: &Tracker<A>, ty: CreditType) -> Option<Released>
         requires table { self.old.table ≡ tracker.now.table }
         requires entries { 0 < size self.old.port.shape (credit_number ty) }
-        ensures table { self.new.table ≡ self.old.table }
-        ensures port { Tended self.old.port (credit_number ty) result self.new.port }
-        ensures credits { HasSameCredits self.old.port self.new.port }
         ensures hand { (i : ℕ) → has i self.new.port ≡ has i self.old.port }
-        ensures acts { Does self.old (TendActs self.old.port (credit_number ty) result) self.new }
-        ensures running { IsAfter self.new.history self.new.port }
+        ensures credits { HasSameCredits self.old.port self.new.port }
+        ensures acts { HasActed (TendActs self.old.port (credit_number ty) result) self.old self.new }
     {
         let board = tracker.board();
         let Some(mut port_seat) = self.port_seat.take() else {

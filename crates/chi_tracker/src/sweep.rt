@@ -3,10 +3,10 @@
 ghost use Rattle.std.specs.Prelude.{◌≡◌, ℕ, [], ◌∷◌, ⊤, ◌+◌, ◌<◌, ◌*◌, ◌/◌, ◌≤◌, None, MatchBool, MatchOption};
 ghost use Rattle.chi_tracker.specs.Shape.{low, size, IsOf};
 ghost use Rattle.chi_tracker.specs.Views.{PortView, has};
-ghost use Rattle.chi_tracker.specs.Steps.{shown, solo, byte_of, settles, promises};
+ghost use Rattle.chi_tracker.specs.Steps.{shown, solo, byte_of, frees, settles, promises};
 ghost use Rattle.chi_tracker.specs.History.{IsAfter, port_in};
-ghost use Rattle.chi_tracker.specs.Calls.{IsSeat, owner_in, with_sweep, stands_at, swept_all, granted_to, freed_entry, LeavesHand, ShowsOwed, Tended};
-ghost use Rattle.chi_tracker.specs.Conduct.{Does, Then, One, Found, FoundClear, Settled, SettledIn, PromisedAt, SweptFor, ReleaseActs, LookedUntil, LookedInVain, TendActs};
+ghost use Rattle.chi_tracker.specs.Calls.{IsSeat, owner_in, with_sweep, stands_at, swept_all, granted_to, LeavesHand, ShowsOwed, Tended};
+ghost use Rattle.chi_tracker.specs.Conduct.{Does, Then, One, Found, FoundClear, Settled, SettledIn, PromisedAt, SweptFor, EndActs, LookedUntil, LookedInVain, TendActs};
 
 use crate::law::{Board, PortSeat};
 use crate::marks::is_set;
@@ -108,7 +108,7 @@ fn settle_first(
         × (agents ≤ 8) × (entry < 256) × IsOf (port_in port_seat.old.me).shape ty entry }
     ensures table { port_seat.new.table_id ≡ port_seat.old.table_id }
     ensures view { MatchOption result
-        (shown port_seat.new.me ≡ solo (freed_entry entry (swept_all ty (port_in port_seat.old.me))))
+        (shown port_seat.new.me ≡ solo (frees entry (swept_all ty (port_in port_seat.old.me))))
         (λ m. (m < agents) × ((left : ℕ)
         × (shown port_seat.new.me
         ≡ solo (granted_to m entry (stands_at ty m left (port_in port_seat.old.me)))))) }
@@ -144,7 +144,7 @@ pub(crate) fn release_entry(
     ensures table { port_seat.new.table_id ≡ port_seat.old.table_id }
     ensures alone { shown port_seat.new.me ≡ solo (port_in port_seat.new.me) }
     ensures view { LeavesHand (port_in port_seat.old.me) ty entry result (port_in port_seat.new.me) }
-    ensures acts { Does (owner_in port_seat.old) (ReleaseActs agents ty entry result) (owner_in port_seat.new) }
+    ensures acts { Does (owner_in port_seat.old) (EndActs agents ty entry result) (owner_in port_seat.new) }
     ensures after { IsAfter port_seat.new.me.0.history (port_in port_seat.new.me) }
 {
     match settle_first(board, port_seat, ty, agents, entry) {

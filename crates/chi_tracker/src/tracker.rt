@@ -1,21 +1,23 @@
 //! The tracker's words, which all ports share.
 
-ghost use Rattle.std.specs.Prelude.{◌≡◌, ◌<◌, ◌≤◌, [], All, IfOk, length};
+ghost use Rattle.std.specs.Prelude.{◌≡◌, ℕ, ◌<◌, ◌≤◌, [], All, IfOk, length, slice_index_or};
 ghost use Rattle.chi_tracker.specs.Shape.{low};
 ghost use Rattle.chi_tracker.specs.Words.{word_count};
 ghost use Rattle.chi_tracker.specs.Views.{new_ports};
 ghost use Rattle.chi_tracker.specs.Rule.{all_new};
-ghost use Rattle.chi_tracker.specs.Calls.{owners, new_owners, shape_of, IsOwnerAt};
+ghost use Rattle.chi_tracker.specs.Calls.{no_owner, owners, new_owners, shape_of, IsOwnerAt};
+ghost use Rattle.chi_tracker.specs.Witness.{AreAllPorts, GoesOnFromEach};
 ghost use Rattle.chi_tracker.specs.Totals.{views_of, longest, IsClosed, IsBalanced, IsGlance};
 
 use crate::closing::{Gathered, credits, gather, last_words};
 use crate::law::{Board, Law, PortSeat};
-use crate::plays::Deal;
+use crate::plays::{Deal, Enter};
 use crate::port::Port;
 use crate::shape::Shape;
 use crate::tally::counts;
 use crate::totals::{Counts, Totals};
 use crate::view::SeatView;
+use crate::witness::{Witness, witness_of};
 use crate::words::{WORD_COUNT, owed_word};
 use arrayvec::ArrayVec;
 use atomic_table::Table;
@@ -98,6 +100,33 @@ impl<A: Allocator> Tracker<A> {
         &self.table.shared
     }
 
+    /// A witness of the tracker's history, which knows nothing yet.
+    /// Source: `docs/PROTOCOL.md`, "The rule between steps".
+    pub fn witness(&self) -> Witness
+        ensures is { result ≡ record { table = self.now.table; history = [] } }
+        ensures some { 0 < self.now.shape.agents }
+    {
+        let (_, port_seat) = self.table.shared.load_new_seat::<Enter>(0);
+        Witness { port_seat }
+    }
+
+    /// Joins what all ports know, which stay as they are: they are all the ports of one state of the words and
+    /// of all ports, in which the tracker's rule holds. Each entry is there free, in the hand of exactly one of
+    /// them, or promised to exactly one requester; the ledgers hold; and what each port knows is so.
+    ///
+    /// Condition: the ports are all that `new` gave, in rising order.
+    /// Source: `docs/PROTOCOL.md`, "The rule between steps".
+    pub fn meet(&self, ports: &mut [Port])
+        requires own { All (IsOwnerAt self.now) ports.old }
+        requires all { length ports.old ≡ self.now.shape.agents }
+        requires numbers { (n : ℕ) → n < self.now.shape.agents
+            → (slice_index_or ports.old n no_owner).port.who ≡ n }
+        ensures same { ports.new ≡ ports.old }
+        ensures together { AreAllPorts self.now.shape (views_of ports.old) }
+    {
+        witness_of(self, ports);
+    }
+
     /// Ends the tracker: it joins the seats of all ports, so that all views are known, and answers what the
     /// words hold then, by type and by requester. With these views the words keep the tracker's rule: each
     /// entry is in one place, and each credit that a port has seen is promised to its requester. No duty is
@@ -110,6 +139,7 @@ impl<A: Allocator> Tracker<A> {
         requires table { All (λ p. p.table ≡ self.table) ports.items }
         ensures closed { IsClosed self.shape (views_of ports.items) (longest ports.items) result.counts result.requesters.items }
         ensures balanced { IsBalanced self.shape.agents result.requesters.items }
+        ensures later { GoesOnFromEach ports.items (longest ports.items) }
     {
         let Tracker { table, shape } = self;
         let Gathered { port_seat, dues } = gather(&table.shared, ports);

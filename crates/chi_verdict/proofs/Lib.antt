@@ -1,3 +1,4 @@
+mod ClosingLemmas
 mod LineLemmas
 mod SortLemmas
 mod VerdictLemmas

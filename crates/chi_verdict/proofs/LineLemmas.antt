@@ -1,6 +1,6 @@
 -- Items of cache lines, one line behind the other.
 use Rattle.std.proofs.Common.{◌≡◌, ◌<◌, ◌≤◌, ◌+◌, ◌||◌, ℕ, suc, Bool, true, false, List, [], ◌∷◌, ◌++◌, length, get_or, take, drop, refl, sym, ap, subst, ◌∙◌, arith}
-use Rattle.std.proofs.lemmas.List.{append-nil, drop-take, length-drop, length-take, map_more, take-append-drop, take-take}
+use Rattle.std.proofs.lemmas.List.{append-nil, drop-map, drop-take, get_or-map, get_or_default, length-drop, length-map, length-take, map-append, map_more, take-append-drop, take-take, take_more}
 use Rattle.std.proofs.lemmas.List.Elements.{All-append, All-cons, All-head, All-more, All-nil, All-tail, All-weaker, filter-append}
 use Rattle.std.proofs.lemmas.List.Sums.{sum_by-cons}
 use Rattle.std.specs.List.{All, sum_by}
@@ -9,7 +9,9 @@ use Rattle.chi_resolution.specs.declared.lines.CacheLine.{CacheLine}
 use Rattle.chi_explain.specs.declared.observed.Observed.{Observed}
 use Rattle.chi_explain.specs.declared.observed.StoreListing.{StoreListing}
 use Rattle.chi_resolution.specs.declared.lines.Resolved.{Resolved}
-use Rattle.chi_verdict.specs.Lines.{AreItemsExplained, AreLinesExplained, IsOneLineExplained, LineExplanation, action_count, is_explained_by, is_on_line, items_of, said_by}
+use Rattle.chi_verdict.specs.declared.lines.Placed.{Placed}
+use Rattle.chi_verdict.specs.Lines.{AreItemsExplained, AreLinesExplained, IsOneLineExplained, LineExplanation, action_count, any_item, in_order, is_explained_by, is_on_line, item_in, items_of, said_by}
+use Rattle.chi_verdict.proofs.SortLemmas.{IsAtItsLine}
 
 -- of a line are all, or none
 pub all_of : (line : CacheLine) (items : List Resolved) → All (λ item. is_on_line line item ≡ true) items → items_of line items ≡ items
@@ -142,4 +144,34 @@ gathered line items count d seen now lt all same number put =
     let more : said_by (take (count + 1) items) ≡ said_by (take count items) ++ (get_or items count d).flit ∷ [] = map_more (λ item. item.flit) items count d lt in (
       All-more (λ item. is_on_line line item ≡ true) items count d lt all (same_number line (get_or items count d) number),
       put ∙ ap (λ (l : List Observed). l ++ (get_or items count d).flit ∷ []) same ∙ sym more,
+    )
+
+-- the same of an item in an order
+pub gathered_in : (line : CacheLine) (items : List Resolved) (order : List Placed) (count : ℕ) (d : Placed) (item : Resolved) (seen now : List Observed) → count < length order → item ≡ item_in items (get_or order count d)
+    → All (λ other. is_on_line line other ≡ true) (take count (in_order items order)) → seen ≡ said_by (take count (in_order items order)) → item.line.0 ≡ line.0 → now ≡ seen ++ item.flit ∷ []
+    → All (λ other. is_on_line line other ≡ true) (take (count + 1) (in_order items order)) × (now ≡ said_by (take (count + 1) (in_order items order)))
+gathered_in line items order count d item seen now lt found all same number put =
+    let is : get_or (in_order items order) count (item_in items d) ≡ item =
+    get_or-map (item_in items) order count d (item_in items d) lt ∙ sym found in
+    gathered line (in_order items order) count (item_in items d) seen now (subst (λ (n : ℕ). count < n) (sym (length-map order (item_in items))) lt) all same
+    (subst (λ (one : Resolved). one.line.0 ≡ line.0) (sym is) number) (subst (λ (one : Resolved). now ≡ seen ++ one.flit ∷ []) (sym is) put)
+
+-- what is left of an order
+pub rest_in : (items : List Resolved) (order rest : List Placed) (n : ℕ) → rest ≡ drop n order → in_order items rest ≡ drop n (in_order items order)
+rest_in items order rest n is = ap (in_order items) is ∙ sym (drop-map (item_in items) n order)
+
+pub order_length : (items : List Resolved) (order : List Placed) → length (in_order items order) ≡ length order
+order_length items order = length-map order (item_in items)
+
+-- one more place
+pub placed_more : (items : List Resolved) (order now : List Placed) (placed : Placed) (d : Resolved) → length order < length items → placed.place ≡ length order → placed.line ≡ (get_or items (length order) d).line
+    → in_order items order ≡ take (length order) items → All (IsAtItsLine items) order → now ≡ order ++ placed ∷ []
+    → (in_order items now ≡ take (length order + 1) items) × All (IsAtItsLine items) now
+placed_more items order now placed d lt at line same all put =
+    let is : item_in items placed ≡ get_or items (length order) d =
+    ap (λ (n : ℕ). get_or items n (any_item placed.line)) at ∙ get_or_default items (length order) (any_item placed.line) d lt in (
+      ap (in_order items) put ∙ map-append (item_in items) order (placed ∷ []) ∙ ap (λ (l : List Resolved). l ++ item_in items placed ∷ []) same
+          ∙ ap (λ (one : Resolved). take (length order) items ++ one ∷ []) is ∙ sym (take_more items (length order) d lt),
+      subst (λ (l : List Placed). All (IsAtItsLine items) l) (sym put)
+          (All-append (IsAtItsLine items) order (placed ∷ []) all (All-cons (IsAtItsLine items) placed [] (ap (λ (one : Resolved). one.line) is ∙ sym line) (All-nil (IsAtItsLine items)))),
     )

@@ -1,5 +1,5 @@
 -- What is said of a report, from what its parts say.
-use Rattle.std.proofs.Common.{◌≡◌, ◌≢◌, ◌∙◌, ◌-◌, ◌<◌, ℕ, Bool, true, false, not, List, length, nat_lt, take, Option, Some, None, Result, Ok, Err, IfErr, IfOk, IfSome, refl, subst, sym, ap, arith, if◌then◌else◌}
+use Rattle.std.proofs.Common.{◌≡◌, ◌≢◌, ◌∙◌, ◌<◌, ℕ, Bool, true, false, not, List, length, nat_lt, take, Option, Some, None, Result, Ok, Err, IfErr, IfOk, IfSome, refl, subst, sym, ap, arith, if◌then◌else◌}
 use Rattle.std.specs.List.{count_by}
 use Rattle.std.specs.Map.{values_of}
 use Rattle.std.proofs.lemmas.Bool.{lt-ltb, ltb-false, ltb-true}
@@ -14,17 +14,23 @@ use Rattle.chi_trace.specs.declared.fields.Address.{Address}
 use Rattle.chi_trace.specs.declared.flits.Seen.{Seen}
 use Rattle.chi_resolution.specs.Resolution.{resolution_of}
 use Rattle.chi_resolution.specs.declared.beats.OpenData.{OpenData}
+use Rattle.chi_resolution.specs.declared.ids.OpenId.{OpenId}
+use Rattle.chi_resolution.specs.declared.ledger.CreditLedger.{CreditLedger}
 use Rattle.chi_resolution.specs.declared.lines.Resolved.{Resolved}
 use Rattle.chi_resolution.specs.declared.reasons.IdFault.{IdFault}
 use Rattle.chi_resolution.specs.declared.resolution.Options.{Options}
+use Rattle.chi_verdict.specs.declared.asked.Asked.{Asked}
+use Rattle.chi_verdict.specs.declared.asked.Ending.{Ending}
 use Rattle.chi_verdict.specs.declared.reports.TraceOutcome.{TraceOutcome}
 use Rattle.chi_verdict.specs.declared.reports.TraceOutcome.TheVariants.{Malformed}
 use Rattle.chi_verdict.specs.declared.reports.TraceStop.{TraceStop}
 use Rattle.chi_verdict.specs.declared.reports.TraceTotals.{TraceTotals}
+use Rattle.chi_verdict.specs.Closing.{closed}
+use Rattle.chi_verdict.specs.Ending.{is_anything_open, is_nothing_there, trace_outcome_of}
 use Rattle.chi_verdict.specs.Lines.{AreLinesExplained}
 use Rattle.chi_verdict.specs.Texts.{BeginsWith, IsOutcomeText, malformed_front}
 use Rattle.chi_verdict.specs.Unseen.{AreFilled}
-use Rattle.chi_verdict.specs.Verdicts.{IsFlitsReport, IsTraceJudged, IsReport, IsReportOn, IsStop, Items, is_seen_access, items_of_table, items_with, trace_outcome_of, verdict_sizes}
+use Rattle.chi_verdict.specs.Verdicts.{IsFlitsReport, IsTraceJudged, IsReport, IsReportOn, IsStop, Items, is_seen_access, is_table_open, items_of_table, items_with, verdict_sizes}
 
 -- the same fact in other words
 pub carried : {X E : Type 0} (P Q : X → Type 0) (r : Result X E) → ((x : X) → P x → Q x) → IfOk r P → IfOk r Q
@@ -46,9 +52,9 @@ whole_by file false is = ap trace_of (take_all 67108865 file (omega (arith, ltb-
 pub whole : (file : List ℕ) → trace_of (take 67108865 file) ≡ trace_of file
 whole file = whole_by file (nat_lt 67108864 (length file)) refl
 
-pub of_whole : (options : Options) (only : Option Address) (left : Option (List ℕ)) (bytes : List ℕ) (outcome : TraceOutcome) (text : List ℕ) → IfSome left (λ file. bytes ≡ take 67108865 file) → IsReport options only bytes outcome text → IfSome left (λ file. IsReport options only file outcome text)
-of_whole options only None bytes outcome text same is = tt
-of_whole options only (Some file) bytes outcome text same is = subst (λ (read : Result (List Seen) TraceFault). IsReportOn options only read outcome text) (ap trace_of same ∙ whole file) is
+pub of_whole : (options : Options) (asked : Asked) (left : Option (List ℕ)) (bytes : List ℕ) (outcome : TraceOutcome) (text : List ℕ) → IfSome left (λ file. bytes ≡ take 67108865 file) → IsReport options asked bytes outcome text → IfSome left (λ file. IsReport options asked file outcome text)
+of_whole options asked None bytes outcome text same is = tt
+of_whole options asked (Some file) bytes outcome text same is = subst (λ (read : Result (List Seen) TraceFault). IsReportOn options asked read outcome text) (ap trace_of same ∙ whole file) is
 
 -- a fault that reading answers is that of the grammar
 failed : (fault : TraceFault) (read : Result (List Seen) TraceFault) → TraceFails fault read → fault ≢ NoMemory → read ≡ Err fault
@@ -58,13 +64,13 @@ failed (MissingNewline line) read fails other = fails
 failed (FewWords line) read fails other = fails
 failed (BadWord line column) read fails other = fails
 
-pub malformed_report : {R E : Type 0} (options : Options) (only : Option Address) (read : Result (List Seen) TraceFault) (fault : TraceFault) (outcome : R → TraceOutcome) (text : R → List ℕ) (r : Result R E) → TraceFails fault read
-    → IfOk r (λ x. outcome x ≡ Malformed fault) → IfOk r (λ x. fault ≢ NoMemory) → IfOk r (λ x. BeginsWith (malformed_front fault) (text x)) → IfOk r (λ x. IsReportOn options only read (outcome x) (text x))
-malformed_report options only read fault outcome text (Ok x) fails is other said = subst (λ (of : Result (List Seen) TraceFault). IsReportOn options only of (outcome x) (text x)) (sym (failed fault read fails other)) (is, said)
-malformed_report options only read fault outcome text (Err e) fails is other said = tt
+pub malformed_report : {R E : Type 0} (options : Options) (asked : Asked) (read : Result (List Seen) TraceFault) (fault : TraceFault) (outcome : R → TraceOutcome) (text : R → List ℕ) (r : Result R E) → TraceFails fault read
+    → IfOk r (λ x. outcome x ≡ Malformed fault) → IfOk r (λ x. fault ≢ NoMemory) → IfOk r (λ x. BeginsWith (malformed_front fault) (text x)) → IfOk r (λ x. IsReportOn options asked read (outcome x) (text x))
+malformed_report options asked read fault outcome text (Ok x) fails is other said = subst (λ (of : Result (List Seen) TraceFault). IsReportOn options asked of (outcome x) (text x)) (sym (failed fault read fails other)) (is, said)
+malformed_report options asked read fault outcome text (Err e) fails is other said = tt
 
 -- what was judged is the trace's resolution
-moved : (config config' : Sizes) (stores : StoreListing) (seen : List Seen) (fault fault' : Option IdFault) (items items' : Items) (outcome : TraceOutcome) → config ≡ config' → fault ≡ fault' → items ≡ items'
+moved : (config config' : Sizes) (stores : StoreListing) (seen : List Seen) (fault fault' : Option IdFault) (items items' : Items) (outcome : Result TraceTotals TraceStop) → config ≡ config' → fault ≡ fault' → items ≡ items'
     → IsTraceJudged config stores seen fault items outcome → IsTraceJudged config' stores seen fault' items' outcome
 moved config config' stores seen fault fault' items items' outcome size same_fault same is =
     subst (λ (i : Items). IsTraceJudged config' stores seen fault' i outcome) same
@@ -74,26 +80,42 @@ moved config config' stores seen fault fault' items items' outcome size same_fau
 same_items : (flits flits' : List Resolved) (unfinished unfinished' : List OpenData) (waiting waiting' : List Resolved) → flits ≡ flits' → unfinished ≡ unfinished' → waiting ≡ waiting' → items_with flits unfinished waiting ≡ items_with flits' unfinished' waiting'
 same_items flits flits' unfinished unfinished' waiting waiting' same same_unfinished same_waiting = λ i. items_with (same i) (same_unfinished i) (same_waiting i)
 
-pub flits_report : {R E : Type 0} (options : Options) (only : Option Address) (seen : List Seen) (judged : Result TraceTotals TraceStop) (config : Sizes) (fault : Option IdFault) (items : List Resolved) (unfinished : List OpenData) (waiting : List Resolved) (outcome : R → TraceOutcome) (text : R → List ℕ) (r : Result R E)
+same_open : (ids ids' : List OpenId) (unfinished unfinished' : List OpenData) (waiting waiting' : List Resolved) (accounts accounts' : List CreditLedger) → ids ≡ ids' → unfinished ≡ unfinished' → waiting ≡ waiting' → accounts ≡ accounts'
+    → is_anything_open ids unfinished waiting accounts ≡ is_anything_open ids' unfinished' waiting' accounts'
+same_open ids ids' unfinished unfinished' waiting waiting' accounts accounts' a b c d = λ i. is_anything_open (a i) (b i) (c i) (d i)
+
+same_nothing : (only : Option Address) (seen : List Seen) (flits flits' waiting waiting' : List Resolved) → flits ≡ flits' → waiting ≡ waiting' → is_nothing_there only seen flits waiting ≡ is_nothing_there only seen flits' waiting'
+same_nothing only seen flits flits' waiting waiting' a b = λ i. is_nothing_there only seen (a i) (b i)
+
+same_outcome : (ending : Ending) (is_open is_open' nothing nothing' : Bool) (judged : Result TraceTotals TraceStop) → is_open ≡ is_open' → nothing ≡ nothing' → trace_outcome_of ending is_open nothing judged ≡ trace_outcome_of ending is_open' nothing' judged
+same_outcome ending is_open is_open' nothing nothing' judged a b = λ i. trace_outcome_of ending (a i) (b i) judged
+
+pub flits_report : {R E : Type 0} (options : Options) (asked : Asked) (seen : List Seen) (judged : Result TraceTotals TraceStop) (config : Sizes) (fault : Option IdFault) (items : List Resolved) (unfinished : List OpenData) (waiting : List Resolved) (ids : List OpenId) (accounts : List CreditLedger) (is_open nothing : Bool) (outcome : R → TraceOutcome) (text : R → List ℕ) (r : Result R E)
     → config ≡ verdict_sizes options.types → fault ≡ (resolution_of options seen).fault → items ≡ (resolution_of options seen).progress.table.flits → unfinished ≡ values_of (resolution_of options seen).progress.table.unfinished → waiting ≡ (resolution_of options seen).progress.table.waiting
-    → IsTraceJudged config options.stores seen fault (items_with items unfinished waiting) (trace_outcome_of judged) → IfOk r (λ x. outcome x ≡ trace_outcome_of judged) → IfOk r (λ x. IsOutcomeText seen only (outcome x) (text x)) → IfOk r (λ x. IsFlitsReport options only seen (outcome x) (text x))
-flits_report options only seen judged config fault items unfinished waiting outcome text (Ok x) size same_fault same same_unfinished same_waiting of is told = record {
-  verdict = subst (λ (o : TraceOutcome). IsTraceJudged (verdict_sizes options.types) options.stores seen (resolution_of options seen).fault (items_of_table (resolution_of options seen).progress.table) o) (sym is)
-      (moved config (verdict_sizes options.types) options.stores seen fault (resolution_of options seen).fault (items_with items unfinished waiting) (items_of_table (resolution_of options seen).progress.table) (trace_outcome_of judged) size same_fault
-      (same_items items (resolution_of options seen).progress.table.flits unfinished (values_of (resolution_of options seen).progress.table.unfinished) waiting (resolution_of options seen).progress.table.waiting same same_unfinished same_waiting) of);
+    → ids ≡ values_of (resolution_of options seen).progress.table.ids → accounts ≡ (resolution_of options seen).progress.table.accounts → is_open ≡ is_anything_open ids unfinished waiting accounts → nothing ≡ is_nothing_there asked.only seen items waiting
+    → IsTraceJudged config options.stores seen fault (items_with items unfinished waiting) judged → IfOk r (λ x. outcome x ≡ trace_outcome_of asked.ending is_open nothing judged) → IfOk r (λ x. IsOutcomeText seen asked.only (outcome x) (text x)) → IfOk r (λ x. IsFlitsReport options asked seen (outcome x) (text x))
+flits_report options asked seen judged config fault items unfinished waiting ids accounts is_open nothing outcome text (Ok x) size same_fault same same_unfinished same_waiting same_ids same_accounts opens none of is told = record {
+  verdict = record {
+    judged = judged;
+    holds = moved config (verdict_sizes options.types) options.stores seen fault (resolution_of options seen).fault (items_with items unfinished waiting) (items_of_table (resolution_of options seen).progress.table) judged size same_fault
+        (same_items items (resolution_of options seen).progress.table.flits unfinished (values_of (resolution_of options seen).progress.table.unfinished) waiting (resolution_of options seen).progress.table.waiting same same_unfinished same_waiting) of;
+    told = is ∙ same_outcome asked.ending is_open (is_table_open (resolution_of options seen).progress.table) nothing (is_nothing_there asked.only seen (resolution_of options seen).progress.table.flits (resolution_of options seen).progress.table.waiting) judged
+        (opens ∙ same_open ids (values_of (resolution_of options seen).progress.table.ids) unfinished (values_of (resolution_of options seen).progress.table.unfinished) waiting (resolution_of options seen).progress.table.waiting accounts (resolution_of options seen).progress.table.accounts same_ids same_unfinished same_waiting same_accounts)
+        (none ∙ same_nothing asked.only seen items (resolution_of options seen).progress.table.flits waiting (resolution_of options seen).progress.table.waiting same same_waiting);
+  };
   told = told;
 }
-flits_report options only seen judged config fault items unfinished waiting outcome text (Err e) size same_fault same same_unfinished same_waiting of is told = tt
+flits_report options asked seen judged config fault items unfinished waiting ids accounts is_open nothing outcome text (Err e) size same_fault same same_unfinished same_waiting same_ids same_accounts opens none of is told = tt
 
-pub judged : (config : Sizes) (stores : StoreListing) (seen : List Seen) (fault : Option IdFault) (items whole : List Resolved) (unfinished : List OpenData) (waiting : List Resolved) (actions lines : ℕ) (r : Result TraceTotals TraceStop) → AreFilled unfinished items whole → AreLinesExplained config stores whole actions lines
-    → IfOk r (λ total. fault ≡ None) → IfOk r (λ total. total.flits ≡ count_by (λ one. not (is_seen_access one)) seen) → IfOk r (λ total. total.accesses ≡ count_by is_seen_access seen - length waiting) → IfOk r (λ total. total.actions ≡ actions) → IfOk r (λ total. total.lines ≡ lines)
-    → IfErr r (IsStop fault) → IsTraceJudged config stores seen fault (items_with items unfinished waiting) (trace_outcome_of r)
-judged config stores seen fault items whole unfinished waiting actions lines (Ok total) filled known allowed flits accesses same_actions same_lines err = record {
+pub judged : (config : Sizes) (stores : StoreListing) (seen : List Seen) (fault : Option IdFault) (items whole_items whole : List Resolved) (unfinished : List OpenData) (waiting : List Resolved) (actions lines : ℕ) (r : Result TraceTotals TraceStop) → whole_items ≡ closed items waiting → AreFilled unfinished whole_items whole → AreLinesExplained config stores whole actions lines
+    → IfOk r (λ total. fault ≡ None) → IfOk r (λ total. total.flits ≡ count_by (λ one. not (is_seen_access one)) seen) → IfOk r (λ total. total.accesses ≡ count_by is_seen_access seen) → IfOk r (λ total. total.actions ≡ actions) → IfOk r (λ total. total.lines ≡ lines)
+    → IfErr r (IsStop fault) → IsTraceJudged config stores seen fault (items_with items unfinished waiting) r
+judged config stores seen fault items whole_items whole unfinished waiting actions lines (Ok total) behind filled known allowed flits accesses same_actions same_lines err = record {
   allowed = allowed;
   flits = flits;
   accesses = accesses;
   whole = whole;
-  filled = filled;
+  filled = subst (λ (l : List Resolved). AreFilled unfinished l whole) behind filled;
   lines = subst (λ (n : ℕ). AreLinesExplained config stores whole total.actions n) (sym same_lines) (subst (λ (n : ℕ). AreLinesExplained config stores whole n lines) (sym same_actions) known);
 }
-judged config stores seen fault items whole unfinished waiting actions lines (Err stop) filled known allowed flits accesses same_actions same_lines err = err
+judged config stores seen fault items whole_items whole unfinished waiting actions lines (Err stop) behind filled known allowed flits accesses same_actions same_lines err = err

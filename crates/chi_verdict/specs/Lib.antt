@@ -1,3 +1,5 @@
+pub mod Closing
+pub mod Ending
 pub mod Lines
 pub mod Texts
 pub mod Unseen

@@ -1,15 +1,17 @@
 -- What it is for the lines of a trace to be explained (docs/TRACES.md, "What is printed").
 use Rattle.std.specs.Prelude.{◌≡◌, ◌==◌, ◌<◌, ◌≤◌, ℕ, Bool, true, false, List, [], ◌∷◌, length, map}
-use Rattle.std.specs.List.{All, count_by, filter, list_any, sum_by}
+use Rattle.std.specs.List.{All, count_by, filter, list_any, slice_index_or, sum_by}
 use Rattle.std.specs.List.Sorted.{IsPermutation}
 use Rattle.chi_slice.specs.Words.{Sizes}
 use Rattle.chi_explain.specs.declared.explanations.WitnessItem.{WitnessItem}
 use Rattle.chi_explain.specs.declared.explanations.WitnessItem.TheVariants.{Snoop}
 use Rattle.chi_explain.specs.declared.observed.Observed.{Observed}
+use Rattle.chi_explain.specs.declared.observed.Observed.TheVariants.{Load}
 use Rattle.chi_explain.specs.declared.observed.StoreListing.{StoreListing}
 use Rattle.chi_explain.specs.Explained.{IsExplained}
 use Rattle.chi_resolution.specs.declared.lines.CacheLine.{CacheLine}
 use Rattle.chi_resolution.specs.declared.lines.Resolved.{Resolved}
+use Rattle.chi_verdict.specs.declared.lines.Placed.{Placed}
 
 -- whether an item of a trace is of this cache line
 abbrev pub is_on_line : CacheLine → Resolved → Bool
@@ -22,6 +24,16 @@ items_of line items = filter (is_on_line line) items
 -- what items say
 abbrev pub said_by : List Resolved → List Observed
 said_by items = map (λ item. item.flit) items
+
+-- the item of a place, and items in an order of their places
+abbrev pub any_item : CacheLine → Resolved
+any_item line = record { at = 0; line = line; flit = Load (record { 0 = 0 }) (record { 0 = 0 }) 0 }
+
+abbrev pub item_in : List Resolved → Placed → Resolved
+item_in items placed = slice_index_or items placed.place (any_item placed.line)
+
+abbrev pub in_order : List Resolved → List Placed → List Resolved
+in_order items order = map (item_in items) order
 
 -- another order, in which the items of each line stand as before
 pub record IsReordered (items sorted : List Resolved) : Type 0 where

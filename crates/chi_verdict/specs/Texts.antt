@@ -7,9 +7,9 @@ use Rattle.chi_trace.specs.declared.faults.TraceFault.TheVariants.{NoMemory, Too
 use Rattle.chi_trace.specs.declared.fields.Address.{Address}
 use Rattle.chi_trace.specs.declared.flits.Seen.{Seen}
 use Rattle.chi_verdict.specs.declared.reports.TraceOutcome.{TraceOutcome}
-use Rattle.chi_verdict.specs.declared.reports.TraceOutcome.TheVariants.{Explained, Faulty, Malformed}
+use Rattle.chi_verdict.specs.declared.reports.TraceOutcome.TheVariants.{Explained, Incomplete, Nothing, Faulty, Malformed}
 use Rattle.chi_verdict.specs.declared.reports.TraceStop.{TraceStop}
-use Rattle.chi_verdict.specs.declared.reports.TraceStop.TheVariants.{Ids, Flit, Long, Undone}
+use Rattle.chi_verdict.specs.declared.reports.TraceStop.TheVariants.{Ids, Flit, Undone}
 use Rattle.chi_verdict.specs.declared.reports.TraceTotals.{TraceTotals}
 
 abbrev pub BeginsWith : List ℕ → List ℕ → Type 0
@@ -36,7 +36,6 @@ numbered line = codes "line " ++ (decimal line ++ codes ": ")
 abbrev pub stop_front : List Seen → TraceStop → List ℕ
 stop_front seen (Ids fault) = numbered (flit_number_of (slice_get seen fault.at))
 stop_front seen (Flit at fault) = numbered (flit_number_of (slice_get seen at))
-stop_front seen (Long line) = codes "the cache line at "
 stop_front seen (Undone line) = codes "no explanation of the cache line at "
 
 -- the line on a file that is no trace
@@ -54,5 +53,7 @@ IfWhole (Some address) holds = Unit {0}
 
 abbrev pub IsOutcomeText : List Seen → Option Address → TraceOutcome → List ℕ → Type 0
 IsOutcomeText seen only (Explained totals) text = IfWhole only (BeginsWith (explained_line totals) text)
+IsOutcomeText seen only (Incomplete totals) text = IfWhole only (BeginsWith (explained_line totals) text)
+IsOutcomeText seen only Nothing text = BeginsWith (codes "no flit, load or store") text
 IsOutcomeText seen only (Faulty stop) text = IfWhole only (BeginsWith (stop_front seen stop) text)
 IsOutcomeText seen only (Malformed fault) text = BeginsWith (malformed_front fault) text

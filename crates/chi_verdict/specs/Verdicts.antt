@@ -1,5 +1,5 @@
 -- What it is for a trace to be explained, and what is told of one that isn't (docs/TRACES.md, "What is printed").
-use Rattle.std.specs.Prelude.{◌≡◌, ◌<◌, ◌+◌, ◌-◌, ℕ, Bool, true, false, not, List, [], ◌∷◌, Option, Some, None, Result, Ok, Err, IfSome, IsErrOf, length}
+use Rattle.std.specs.Prelude.{◌≡◌, ◌<◌, ◌+◌, ℕ, Bool, true, false, not, List, [], ◌∷◌, Option, Some, None, Result, Ok, Err, IfSome, IsErrOf, length}
 use Rattle.std.specs.Io.KnownBytes.{Appends, Keeps}
 use Rattle.std.specs.List.{count_by}
 use Rattle.std.specs.Map.{values_of}
@@ -10,7 +10,6 @@ use Rattle.chi_slice.specs.Words.{four_types, two_types, Sizes}
 use Rattle.chi_explain.specs.declared.observed.StoreListing.{StoreListing}
 use Rattle.chi_trace.specs.Files.{trace_of}
 use Rattle.chi_trace.specs.declared.faults.TraceFault.{TraceFault}
-use Rattle.chi_trace.specs.declared.fields.Address.{Address}
 use Rattle.chi_trace.specs.declared.flits.Seen.{Seen}
 use Rattle.chi_trace.specs.declared.opcodes.Opcode.{Opcode}
 use Rattle.chi_trace.specs.declared.opcodes.Opcode.TheVariants.{Load, Store}
@@ -23,19 +22,22 @@ use Rattle.chi_resolution.specs.declared.lines.Resolved.{Resolved}
 use Rattle.chi_resolution.specs.declared.reasons.IdFault.{IdFault}
 use Rattle.chi_resolution.specs.declared.resolution.Options.{Options}
 use Rattle.chi_verdict.specs.declared.reports.TraceOutcome.{TraceOutcome}
-use Rattle.chi_verdict.specs.declared.reports.TraceOutcome.TheVariants.{Explained, Faulty, Malformed}
+use Rattle.chi_verdict.specs.declared.reports.TraceOutcome.TheVariants.{Explained, Incomplete, Nothing, Faulty, Malformed}
 use Rattle.chi_verdict.specs.declared.reports.TraceStop.{TraceStop}
-use Rattle.chi_verdict.specs.declared.reports.TraceStop.TheVariants.{Ids, Flit, Long, Undone}
+use Rattle.chi_verdict.specs.declared.reports.TraceStop.TheVariants.{Ids, Flit, Undone}
 use Rattle.chi_verdict.specs.declared.reports.TraceTotals.{TraceTotals}
+use Rattle.chi_verdict.specs.declared.asked.Asked.{Asked}
+use Rattle.chi_verdict.specs.Closing.{closed}
+use Rattle.chi_verdict.specs.Ending.{is_anything_open, is_nothing_there, trace_outcome_of}
 use Rattle.chi_verdict.specs.Lines.{AreLinesExplained}
 use Rattle.chi_verdict.specs.Texts.{BeginsWith, IsOutcomeText, malformed_front}
 use Rattle.chi_verdict.specs.Unseen.{AreFilled}
 
--- a node of one line with eight agents, and as many records as a journal may have
+-- a node of one line with eight agents, whose journal keeps no records and has no end
 abbrev pub verdict_sizes : Types → Sizes
-verdict_sizes Two = two_types 8 1 1 1 1 65536
-verdict_sizes Any = two_types 8 1 1 1 1 65536
-verdict_sizes Four = four_types 8 1 1 (1 ∷ 1 ∷ 1 ∷ 1 ∷ []) 65536
+verdict_sizes Two = two_types 8 1 1 1 1 0
+verdict_sizes Any = two_types 8 1 1 1 1 0
+verdict_sizes Four = four_types 8 1 1 (1 ∷ 1 ∷ 1 ∷ 1 ∷ []) 0
 
 -- loads and stores are no flits
 abbrev pub is_access : Opcode → Bool
@@ -60,13 +62,13 @@ abbrev pub items_of_table : Open → Items
 items_of_table table = items_with table.flits (values_of table.unfinished) table.waiting
 
 -- the ids and the ledger allow all the flits, and each line's flits, loads and stores are explained, with some words in
--- place of those that lack; so many there are, but for the loads and stores that wait
+-- place of those that lack, and as if each CompAck that a load or a store waits for came next; so many there are
 pub record IsAllExplained (config : Sizes) (stores : StoreListing) (seen : List Seen) (fault : Option IdFault) (items : Items) (totals : TraceTotals) : Type 0 where
   pub allowed : fault ≡ None
   pub flits : totals.flits ≡ count_by (λ one. not (is_seen_access one)) seen
-  pub accesses : totals.accesses ≡ count_by is_seen_access seen - length items.waiting
+  pub accesses : totals.accesses ≡ count_by is_seen_access seen
   pub whole : List Resolved
-  pub filled : AreFilled items.unfinished items.flits whole
+  pub filled : AreFilled items.unfinished (closed items.flits items.waiting) whole
   pub lines : AreLinesExplained config stores whole totals.actions totals.lines
 
 -- a flit before the first that the ids or the ledger don't allow
@@ -79,38 +81,40 @@ IsBefore at (Some fault) = at < fault.at
 abbrev pub IsStop : Option IdFault → TraceStop → Type 0
 IsStop fault (Ids told) = fault ≡ Some told
 IsStop fault (Flit at cause) = IsBefore at fault
-IsStop fault (Long line) = fault ≡ None
 IsStop fault (Undone line) = fault ≡ None
 
 -- what comes of flits that are resolved so
-abbrev pub IsTraceJudged : Sizes → StoreListing → List Seen → Option IdFault → Items → TraceOutcome → Type 0
-IsTraceJudged config stores seen fault items (Explained totals) = IsAllExplained config stores seen fault items totals
-IsTraceJudged config stores seen fault items (Faulty stop) = IsStop fault stop
-IsTraceJudged config stores seen fault items (Malformed cause) = ⊥
+abbrev pub IsTraceJudged : Sizes → StoreListing → List Seen → Option IdFault → Items → Result TraceTotals TraceStop → Type 0
+IsTraceJudged config stores seen fault items (Ok totals) = IsAllExplained config stores seen fault items totals
+IsTraceJudged config stores seen fault items (Err stop) = IsStop fault stop
 
-abbrev pub trace_outcome_of : Result TraceTotals TraceStop → TraceOutcome
-trace_outcome_of (Ok totals) = Explained totals
-trace_outcome_of (Err stop) = Faulty stop
+abbrev pub is_table_open : Open → Bool
+is_table_open table = is_anything_open (values_of table.ids) (values_of table.unfinished) table.waiting table.accounts
 
-abbrev pub IsVerdictOf : Options → List Seen → IdOutcome → TraceOutcome → Type 0
-IsVerdictOf options seen resolved outcome = IsTraceJudged (verdict_sizes options.types) options.stores seen resolved.fault (items_of_table resolved.progress.table) outcome
+-- what is asked of a trace that was judged so
+pub record IsVerdictOf (options : Options) (asked : Asked) (seen : List Seen) (resolved : IdOutcome) (outcome : TraceOutcome) : Type 0 where
+  pub judged : Result TraceTotals TraceStop
+  pub holds : IsTraceJudged (verdict_sizes options.types) options.stores seen resolved.fault (items_of_table resolved.progress.table) judged
+  pub told : outcome ≡ trace_outcome_of asked.ending (is_table_open resolved.progress.table) (is_nothing_there asked.only seen resolved.progress.table.flits resolved.progress.table.waiting) judged
 
 -- what comes of the flits of a trace, and is told of them
-pub record IsFlitsReport (options : Options) (only : Option Address) (seen : List Seen) (outcome : TraceOutcome) (text : List ℕ) : Type 0 where
-  pub verdict : IsVerdictOf options seen (resolution_of options seen) outcome
-  pub told : IsOutcomeText seen only outcome text
+pub record IsFlitsReport (options : Options) (asked : Asked) (seen : List Seen) (outcome : TraceOutcome) (text : List ℕ) : Type 0 where
+  pub verdict : IsVerdictOf options asked seen (resolution_of options seen) outcome
+  pub told : IsOutcomeText seen asked.only outcome text
 
 -- what comes of a file, by what the grammar reads
-abbrev pub IsReportOn : Options → Option Address → Result (List Seen) TraceFault → TraceOutcome → List ℕ → Type 0
-IsReportOn options only (Ok seen) outcome text = IsFlitsReport options only seen outcome text
-IsReportOn options only (Err fault) outcome text = (outcome ≡ Malformed fault) × BeginsWith (malformed_front fault) text
+abbrev pub IsReportOn : Options → Asked → Result (List Seen) TraceFault → TraceOutcome → List ℕ → Type 0
+IsReportOn options asked (Ok seen) outcome text = IsFlitsReport options asked seen outcome text
+IsReportOn options asked (Err fault) outcome text = (outcome ≡ Malformed fault) × BeginsWith (malformed_front fault) text
 
-abbrev pub IsReport : Options → Option Address → List ℕ → TraceOutcome → List ℕ → Type 0
-IsReport options only file outcome text = IsReportOn options only (trace_of file) outcome text
+abbrev pub IsReport : Options → Asked → List ℕ → TraceOutcome → List ℕ → Type 0
+IsReport options asked file outcome text = IsReportOn options asked (trace_of file) outcome text
 
 -- a report was written, but where the file is malformed: then nothing was
 abbrev pub IsReportWritten : TraceOutcome → Option (List ℕ) → Option (List ℕ) → List ℕ → Type 0
 IsReportWritten (Explained totals) old new text = Appends old new text
+IsReportWritten (Incomplete totals) old new text = Appends old new text
+IsReportWritten Nothing old new text = Appends old new text
 IsReportWritten (Faulty stop) old new text = Appends old new text
 IsReportWritten (Malformed fault) old new text = Keeps old new
 
@@ -119,10 +123,10 @@ abbrev pub is_malformed : TraceOutcome → Bool
 is_malformed (Malformed fault) = true
 is_malformed other = false
 
-pub record IsReportFront (options : Options) (only : Option Address) (file : List ℕ) (old new : Option (List ℕ)) : Type 0 where
+pub record IsReportFront (options : Options) (asked : Asked) (file : List ℕ) (old new : Option (List ℕ)) : Type 0 where
   pub outcome : TraceOutcome
   pub text : List ℕ
-  pub report : IsReport options only file outcome text
+  pub report : IsReport options asked file outcome text
   pub wellformed : is_malformed outcome ≡ false
   pub front : AppendsFront old new text
 

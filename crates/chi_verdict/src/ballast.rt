@@ -1,5 +1,6 @@
 //! A home of few entries, whose tracker sends back just the requests that an explanation says: requests to other
-//! lines hold the entries that no request of the explained line has.
+//! lines hold the entries that no request of the explained line has. No clause says so: that its check files hold is
+//! tested.
 
 ghost use Rattle.std.specs.Prelude.{◌<◌};
 

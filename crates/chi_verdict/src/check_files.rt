@@ -1,12 +1,13 @@
-//! The explanation of a line as a check file.
+//! The explanation of a line as a check file. Its items are those that chi_explain has done; no clause says how they are
+//! written: that each check file holds is tested.
 
 use crate::ballast::Ballast;
 use crate::names::{LineName, NodeName, SeenName, kept, requester_of};
-use chi_explain::WitnessItem;
+use chi_explain::{Observed, WitnessItem};
 use chi_flit::{Agent, Data, NO_DATA, NoMemory, Profile, Step};
 use chi_monitor::{Known, Witness};
 use chi_resolution::{CacheLine, Resolved};
-use chi_trace::{NodeId, Seen};
+use chi_trace::{NodeId, Opcode, Seen};
 use std::alloc::Allocator;
 use std::fmt::Write;
 
@@ -73,7 +74,15 @@ impl Told<'_> {
         };
         let (node, side) = requester_of(seen);
         let (number, name, node) = (seen.line, SeenName(seen), NodeName(node));
-        kept(writeln!(text, "# line {number}: {name} {side} node {node}"))
+        match item.flit {
+            Observed::Flit(_) if matches!(seen.opcode, Opcode::Load | Opcode::Store) => {
+                kept(writeln!(
+                    text,
+                    "# behind the trace: CompAck of node {node}, for line {number}"
+                ))
+            }
+            _ => kept(writeln!(text, "# line {number}: {name} {side} node {node}")),
+        }
     }
 }
 

@@ -5,12 +5,13 @@ ghost use Rattle.std.specs.Io.KnownBytes.{Keeps};
 ghost use Rattle.chi_devices.specs.Devices.{AppendsFront, CountsFault};
 ghost use Rattle.chi_verdict.specs.Verdicts.{AtFailedWrite, IsReport, IsReportFront, IsReportWritten, IsUnreported, KeepsUnlessWritten, is_malformed};
 
+use crate::asked::Asked;
 use crate::reports::{TraceOutcome, TraceReport, report_on};
 use chi_devices::{Failed, Input, Output, read_most};
 use chi_flit::NoMemory;
 use chi_resolution::Options;
 use chi_script::Fault;
-use chi_trace::{Address, MOST_BYTES};
+use chi_trace::MOST_BYTES;
 use std::alloc::Allocator;
 
 /// The report on the trace that the input has; `Read` where reading it failed.
@@ -18,16 +19,16 @@ fn report_on_input<A: Allocator + Copy, I: Input>(
     alloc: A,
     input: &mut I,
     options: Options,
-    only: Option<Address>,
+    asked: Asked,
 ) -> Result<TraceReport<A>, Fault>
     requires { I.failures input.old + 1 < 2 ^ 64 }
     ensures told { IfOk result (λ report. IfSome (I.left input.old)
-        (λ file. IsReport options only file report.outcome (string_bytes report.text))) }
+        (λ file. IsReport options asked file report.outcome (string_bytes report.text))) }
     ensures ok { OnOk result (I.failures input.new ≡ I.failures input.old) }
     ensures err { IfErr result (CountsFault (I.failures input.old) (I.failures input.new)) }
 {
     let bytes = read_most(alloc, input, MOST_BYTES + 1)?;
-    match report_on(alloc, &bytes, options, only) {
+    match report_on(alloc, &bytes, options, asked) {
         Ok(report) => Ok(report),
         Err(NoMemory) => Err(Fault::NoMemory),
     }
@@ -47,12 +48,12 @@ pub fn explain<A: Allocator + Copy, I: Input, O: Output>(
     input: &mut I,
     output: &mut O,
     options: Options,
-    only: Option<Address>,
+    asked: Asked,
 ) -> Result<TraceReport<A>, Fault>
     requires reads { I.failures input.old + 1 < 2 ^ 64 }
     requires writes { O.failures output.old + 1 < 2 ^ 64 }
     ensures told { IfOk result (λ report. IfSome (I.left input.old)
-        (λ file. IsReport options only file report.outcome (string_bytes report.text))) }
+        (λ file. IsReport options asked file report.outcome (string_bytes report.text))) }
     ensures written { IfOk result (λ report.
         IsReportWritten report.outcome (O.written output.old) (O.written output.new)
         (string_bytes report.text)) }
@@ -61,13 +62,13 @@ pub fn explain<A: Allocator + Copy, I: Input, O: Output>(
     ensures err { IfErr result (IsUnreported (I.failures input.old) (I.failures input.new)
         (O.failures output.old) (O.failures output.new)) }
     ensures front { AtFailedWrite result (IfSome (I.left input.old)
-        (λ file. IsReportFront options only file (O.written output.old) (O.written output.new))) }
+        (λ file. IsReportFront options asked file (O.written output.old) (O.written output.new))) }
     ensures kept { IfErr result
         (λ fault. fault ≢ Fault.Write → Keeps (O.written output.old) (O.written output.new)) }
     ensures silent { KeepsUnlessWritten (I.left input.old)
         (O.written output.old) (O.written output.new) }
 {
-    let report = report_on_input(alloc, input, options, only)?;
+    let report = report_on_input(alloc, input, options, asked)?;
     write_report(output, report)
 }
 
@@ -89,9 +90,10 @@ fn write_report<A: Allocator, O: Output>(
 {
     match report.outcome {
         TraceOutcome::Malformed(_) => Ok(report),
-        TraceOutcome::Explained(_) | TraceOutcome::Faulty(_) => match output.write_all(
-            report.text.as_bytes(),
-        ) {
+        TraceOutcome::Explained(_)
+        | TraceOutcome::Incomplete(_)
+        | TraceOutcome::Nothing
+        | TraceOutcome::Faulty(_) => match output.write_all(report.text.as_bytes()) {
             Ok(()) => Ok(report),
             Err(Failed) => Err(Fault::Write),
         },

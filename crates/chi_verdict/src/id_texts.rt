@@ -1,8 +1,10 @@
-//! Why the ids or the ledger don't allow a flit, in words, and what they would allow.
+//! Why the ids or the ledger don't allow a flit, in words, and what they would allow. No clause says these texts: they are
+//! tested.
 
 use crate::names::{LineName, NodeName};
-use chi_resolution::{IdReason, OpenId, OpenKey};
-use chi_trace::{NodeId, Opcode};
+use chi_monitor::Basis;
+use chi_resolution::{CreditLedger, IdReason, OpenId, OpenKey};
+use chi_trace::{NodeId, Opcode, PcrdType};
 use std::fmt;
 
 /// An id that a flit names.
@@ -16,6 +18,7 @@ pub(crate) struct ReasonText<'a> {
     pub opcode: Opcode,
     pub open: &'a [OpenId],
     pub requesters: &'a [NodeId],
+    pub accounts: &'a [CreditLedger],
 }
 
 impl fmt::Display for KeyName {
@@ -65,6 +68,38 @@ fn is_alike(one: OpenKey, other: OpenKey) -> bool {
 }
 
 impl ReasonText<'_> {
+    /// What the reason rests on.
+    fn basis(&self) -> Basis {
+        match self.reason {
+            IdReason::Lacks(_)
+            | IdReason::Form(_)
+            | IdReason::NinthRequester(_)
+            | IdReason::BothSides(_)
+            | IdReason::SecondHome(_)
+            | IdReason::Lacking(_)
+            | IdReason::WrongAddress { .. } => Basis::Profile,
+            IdReason::OtherType { .. } if matches!(self.opcode, Opcode::RetryAck) => Basis::Profile,
+            IdReason::NothingToReturn(node, pcrd) if self.has_credit(node, pcrd) => Basis::Profile,
+            IdReason::InUse(_)
+            | IdReason::NotOpen(_)
+            | IdReason::Unfinished(_)
+            | IdReason::OtherBeat(_)
+            | IdReason::WordAgain(_, _)
+            | IdReason::NotRetryable(_, _)
+            | IdReason::OtherType { .. }
+            | IdReason::NothingRetried(_, _)
+            | IdReason::NoCredit(_, _)
+            | IdReason::NothingToReturn(_, _) => Basis::Standard,
+        }
+    }
+
+    /// Whether the node has a credit of the type that it hasn't used.
+    fn has_credit(&self, node: NodeId, pcrd: PcrdType) -> bool {
+        self.accounts.iter().any(|account| {
+            account.node == node && account.pcrd == pcrd && account.unused() > 0
+        })
+    }
+
     /// The open ids that a flit could name in place of this one.
     fn write_open<W: fmt::Write>(&self, key: OpenKey, f: &mut fmt::Formatter<W>) -> fmt::Result {
         let mut any = false;
@@ -197,6 +232,10 @@ impl ReasonText<'_> {
 
 impl fmt::Display for ReasonText<'_> {
     fn fmt<W: fmt::Write>(&self, f: &mut fmt::Formatter<W>) -> fmt::Result {
+        f.write_str(match self.basis() {
+            Basis::Standard => "CHI: ",
+            Basis::Profile => "this profile: ",
+        })?;
         match self.reason {
             IdReason::NotRetryable(_, _) => {
                 f.write_str("its request has AR 0; allowed: to be completed")
@@ -212,7 +251,7 @@ impl fmt::Display for ReasonText<'_> {
                 let pcrd = pcrd.0;
                 write!(
                     f,
-                    "no request of it waits for a grant of type {pcrd:x}; allowed: a RetryAck first"
+                    "no request of it waits for a grant of type {pcrd:x}; allowed: a RetryAck first, or with --early-grants a grant before it"
                 )
             }
             IdReason::NoCredit(_, pcrd) => {

@@ -4,8 +4,10 @@
 //! Source: `docs/TRACES.md`, "What is printed".
 #![tactic(auto)]
 
+mod asked;
 mod ballast;
 mod check_files;
+mod closings;
 mod explanations;
 mod id_texts;
 mod lines;
@@ -15,6 +17,7 @@ mod open_texts;
 mod reports;
 mod unseen;
 
+pub use asked::{Asked, Ending};
 pub use explanations::explain;
 pub use lines::{LineTotals, Obstacle, explain_lines};
 pub use reports::{TraceOutcome, TraceReport, TraceStop, TraceTotals, report_on};

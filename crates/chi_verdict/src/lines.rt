@@ -3,10 +3,10 @@
 ghost use Rattle.std.specs.Prelude.{◌≡◌, ◌≤◌, ◌+◌, [], true, IfOk, length, take};
 ghost use Rattle.std.specs.List.{All, count_by};
 ghost use Rattle.chi_verdict.specs.declared.lines.Obstacle.TheVariants as obstacles;
-ghost use Rattle.chi_verdict.specs.Lines.{AreItemsExplained, AreLinesExplained, IsReordered, is_action, is_on_line, said_by};
+ghost use Rattle.chi_verdict.specs.Lines.{AreItemsExplained, AreLinesExplained, IsReordered, in_order, is_action, is_on_line, item_in, said_by};
 
 use chi_explain::{Observed, StoreListing, Unexplained, WitnessItem};
-use chi_flit::{NoMemory, Refusal};
+use chi_flit::NoMemory;
 use chi_monitor::{LineFault, NoExplanation, explain_flits, first_fault};
 use chi_resolution::{CacheLine, Resolved};
 use chi_slice::Config;
@@ -29,8 +29,6 @@ pub enum Obstacle {
     NoMemory,
     /// No run of the model sends this flit, or does this load or store, behind those before it.
     Fault { at: usize, fault: LineFault },
-    /// The explanation of this line has more loads and stores than a journal has room for.
-    Long(CacheLine),
     /// No explanation of this line was found that holds, though none of its flits is a fault. No trace is known that
     /// leads here: what a search finds is done again and compared, and this says that both differ.
     Undone(CacheLine),
@@ -60,42 +58,61 @@ impl From<NoMemory> for Obstacle {
     }
 }
 
+/// The place of an item, and its line: so items are put in another order and stay where they are.
+#[derive(Clone, Copy)]
+struct Placed {
+    line: CacheLine,
+    place: usize,
+}
+
 /// What the items in front that are of the line say, put into a list that is empty; how many items these are.
 fn gather<A: Allocator>(
     seen: &mut Vec<Observed, A>,
     line: CacheLine,
     items: &[Resolved],
+    order: &[Placed],
 ) -> Result<usize, Obstacle>
     requires { seen.old.items ≡ [] }
-    ensures bound { IfOk result (λ count. count ≤ length items.now) }
+    ensures bound { IfOk result (λ count. count ≤ length order.now) }
     ensures line { IfOk result (λ count. All (λ item. is_on_line line item
-        ≡ true) (take count items.now)) }
-    ensures seen { IfOk result (λ count. seen.new.items ≡ said_by (take count items.now)) }
+        ≡ true) (take count (in_order items.now order.now))) }
+    ensures seen { IfOk result
+        (λ count. seen.new.items ≡ said_by (take count (in_order items.now order.now))) }
 {
-    for (count, item) in items.iter().enumerate() {
+    for (count, placed) in order.iter().enumerate() {
+        let Some(item) = items.get(placed.place) else {
+            return Err(Obstacle::Undone(line));
+        };
         if item.line.0 != line.0 {
             return Ok(count);
         }
         seen.push(item.flit)?;
     }
-    Ok(items.len())
+    Ok(order.len())
 }
 
 /// The obstacle at a line whose items, which stand in front, have no explanation.
-fn obstacle_at(line: CacheLine, items: &[Resolved], cause: NoExplanation) -> Obstacle {
+fn obstacle_at(
+    line: CacheLine,
+    items: &[Resolved],
+    order: &[Placed],
+    cause: NoExplanation,
+) -> Obstacle {
     match cause {
         NoExplanation::NoMemory | NoExplanation::Undone(Unexplained::NoMemory) => {
             Obstacle::NoMemory
         }
-        NoExplanation::Fault(number, fault) => match items.get(number) {
+        NoExplanation::Fault(number, fault) => match item_at(items, order, number) {
             Some(item) => Obstacle::Fault { at: item.at, fault },
             None => Obstacle::NoMemory,
         },
-        NoExplanation::Undone(
-            Unexplained::NoRoom | Unexplained::Refused(_, Refusal::JournalFull),
-        ) => Obstacle::Long(line),
         NoExplanation::Undone(_) => Obstacle::Undone(line),
     }
+}
+
+/// The item of this number in the order, if there is one.
+fn item_at<'i>(items: &'i [Resolved], order: &[Placed], number: usize) -> Option<&'i Resolved> {
+    items.get(order.get(number)?.place)
 }
 
 /// The items in front that are of one line, explained.
@@ -114,19 +131,20 @@ fn explain_front<A: Allocator + Copy>(
     config: &Config,
     stores: StoreListing,
     items: &[Resolved],
+    order: &[Placed],
 ) -> Result<Front, Obstacle>
-    ensures bound { IfOk result (λ front. front.count ≤ length items.now) }
-    ensures line { IfOk result
-        (λ front. All (λ item. is_on_line front.line item ≡ true) (take front.count items.now)) }
-    ensures explained { IfOk result
-        (λ front. AreItemsExplained config.now stores (take front.count items.now) front.actions) }
+    ensures bound { IfOk result (λ front. front.count ≤ length order.now) }
+    ensures line { IfOk result (λ front. All (λ item. is_on_line front.line item
+        ≡ true) (take front.count (in_order items.now order.now))) }
+    ensures explained { IfOk result (λ front. AreItemsExplained config.now stores
+        (take front.count (in_order items.now order.now)) front.actions) }
 {
-    let line = match items.first() {
-        Some(item) => item.line,
+    let line = match order.first() {
+        Some(placed) => placed.line,
         None => CacheLine(0),
     };
     let mut seen = Vec::new(alloc);
-    let count = match gather(&mut seen, line, items) {
+    let count = match gather(&mut seen, line, items, order) {
         Ok(count) => count,
         Err(_) => return Err(Obstacle::NoMemory),
     };
@@ -136,7 +154,7 @@ fn explain_front<A: Allocator + Copy>(
             count,
             actions: count_actions(&witness.items),
         }),
-        Err(cause) => Err(obstacle_at(line, items, cause)),
+        Err(cause) => Err(obstacle_at(line, items, order, cause)),
     }
 }
 
@@ -161,22 +179,23 @@ fn number_behind(line: CacheLine) -> u128
     u128::from(line.0) + 1
 }
 
-/// Explains items that ascend by their lines.
+/// Explains items in an order in which they ascend by their lines.
 fn explain_sorted<A: Allocator + Copy>(
     alloc: A,
     config: &Config,
     stores: StoreListing,
-    sorted: &[Resolved],
+    items: &[Resolved],
+    order: &[Placed],
 ) -> Result<LineTotals, Obstacle>
-    ensures { IfOk result
-        (λ totals. AreLinesExplained config.now stores sorted.now totals.actions totals.lines) }
+    ensures { IfOk result (λ totals. AreLinesExplained config.now stores
+        (in_order items.now order.now) totals.actions totals.lines) }
 {
     let (mut actions, mut lines): (u128, usize) = (0, 0);
     let mut floor: u128 = 0;
     let mut at = 0;
-    while at < sorted.len() {
-        let (_, rest) = sorted.split_at(at);
-        let front = explain_front(alloc, config, stores, rest)?;
+    while at < order.len() {
+        let (_, rest) = order.split_at(at);
+        let front = explain_front(alloc, config, stores, items, rest)?;
         if front.count == 0 || u128::from(front.line.0) < floor {
             return Err(Obstacle::Undone(front.line));
         }
@@ -188,19 +207,46 @@ fn explain_sorted<A: Allocator + Copy>(
     Ok(LineTotals { actions, lines })
 }
 
+/// The items in their order, each by its line and its place.
+fn places_of<A: Allocator>(alloc: A, items: &[Resolved]) -> Result<Vec<Placed, A>, AllocError>
+    ensures items { IfOk result (λ order. in_order items.now order.items ≡ items.now) }
+    ensures lines { IfOk result
+        (λ order. All (λ placed. (item_in items.now placed).line ≡ placed.line) order.items) }
+{
+    let mut order = Vec::with_capacity(alloc, items.len())?;
+    for (place, item) in items.iter().enumerate() {
+        order.push(Placed {
+            line: item.line,
+            place,
+        })?;
+    }
+    Ok(order)
+}
+
+/// An order in which the items ascend by line, and those of each line stand as before.
+fn order_of<A: Allocator>(alloc: A, items: &[Resolved]) -> Result<Vec<Placed, A>, AllocError>
+    ensures { IfOk result (λ order. IsReordered items.now (in_order items.now order.items)) }
+{
+    let mut order = places_of(alloc, items)?;
+    order.sort_by_key(|placed| placed.line.0)?;
+    Ok(order)
+}
+
 /// Puts items that ascend by line, those of each line in their order.
-fn sort_items<A: Allocator + Copy>(items: &mut Vec<Resolved, A>) -> Result<(), AllocError>
+pub(crate) fn sort_items<A: Allocator + Copy>(
+    items: &mut Vec<Resolved, A>,
+) -> Result<(), AllocError>
     ensures { IsReordered items.old.items items.new.items }
 {
-    items.sort_by_key(|item| item.line.0)
+    items.sort_by_cached_key(|item| item.line.0)
 }
 
 /// Explains the items of each line by themselves, in a node of this size: by how many actions, and on how many lines.
 ///
-/// `Fault`, `Long` or `Undone` where a line isn't explained: a fault, where there is one, of the first of the flits,
+/// `Fault` or `Undone` where a line isn't explained: a fault, where there is one, of the first of the flits,
 /// loads and stores that have one. That what is told isn't explained by any actions is tested, and no clause says it.
 /// `NoMemory` where memory runs out. Whatever the result, the items are the same then but for their order, and those of
-/// a line stand as before.
+/// a line stand as before. Where a line isn't explained they ascend by line, and else they are where they were.
 /// Source: `docs/TRACES.md`, "What is printed".
 pub fn explain_lines<A: Allocator + Copy>(
     alloc: A,
@@ -212,27 +258,33 @@ pub fn explain_lines<A: Allocator + Copy>(
         AreLinesExplained config.now stores items.old.items totals.actions totals.lines) }
     ensures same { IsReordered items.old.items items.new.items }
 {
-    sort_items(items)?;
-    match explain_sorted(alloc, config, stores, items) {
+    let order = order_of(alloc, items)?;
+    match explain_sorted(alloc, config, stores, items, &order) {
         Ok(totals) => Ok(totals),
-        Err(obstacle) => Err(first_obstacle(alloc, stores, items, obstacle)),
+        Err(obstacle) => {
+            let first = first_obstacle(alloc, config, stores, items, &order, obstacle);
+            sort_items(items)?;
+            Err(first)
+        }
     }
 }
 
-/// The obstacle that comes first in the trace among items that ascend by line, where one was met.
+/// The obstacle that comes first in the trace among items in an order in which they ascend by line, where one was met.
 fn first_obstacle<A: Allocator + Copy>(
     alloc: A,
+    config: &Config,
     stores: StoreListing,
-    sorted: &[Resolved],
+    items: &[Resolved],
+    order: &[Placed],
     met: Obstacle,
 ) -> Obstacle {
     let mut first = met;
-    let mut rest = sorted;
-    for _ in 0..sorted.len() {
-        let [item, ..] = rest else {
+    let mut rest = order;
+    for _ in 0..order.len() {
+        let [placed, ..] = rest else {
             break;
         };
-        let (found, later) = search_line(alloc, stores, item.line, rest);
+        let (found, later) = search_line(alloc, config, stores, placed.line, items, rest);
         rest = later;
         first = earlier(first, found);
     }
@@ -240,18 +292,20 @@ fn first_obstacle<A: Allocator + Copy>(
 }
 
 /// The fault of the items in front that are of the line, if there is one, and the items behind them.
-fn search_line<A: Allocator + Copy>(
+fn search_line<'o, A: Allocator + Copy>(
     alloc: A,
+    config: &Config,
     stores: StoreListing,
     line: CacheLine,
     items: &[Resolved],
-) -> (Option<Obstacle>, &[Resolved]) {
+    order: &'o [Placed],
+) -> (Option<Obstacle>, &'o [Placed]) {
     let mut seen = Vec::new(alloc);
-    match gather(&mut seen, line, items) {
+    match gather(&mut seen, line, items, order) {
         Ok(count) => {
-            let (_, later) = items.split_at(count);
-            match first_fault(alloc, stores, &seen) {
-                Some(cause) => (Some(obstacle_at(line, items, cause)), later),
+            let (_, later) = order.split_at(count);
+            match first_fault(alloc, config, stores, &seen) {
+                Some(cause) => (Some(obstacle_at(line, items, order, cause)), later),
                 None => (None, later),
             }
         }
@@ -276,6 +330,6 @@ fn earlier(one: Obstacle, other: Option<Obstacle>) -> Obstacle {
 fn place_of(obstacle: &Obstacle) -> Option<usize> {
     match obstacle {
         Obstacle::Fault { at, fault: _ } => Some(*at),
-        Obstacle::NoMemory | Obstacle::Long(_) | Obstacle::Undone(_) => None,
+        Obstacle::NoMemory | Obstacle::Undone(_) => None,
     }
 }

@@ -7,7 +7,7 @@ ghost use Rattle.chi_verdict.specs.Texts.{BeginsWith, malformed_front};
 use crate::names::{joined, kept};
 use chi_flit::NoMemory;
 use chi_script::{ShownWord, first_line};
-use chi_trace::{Column, TraceChannel, TraceFault};
+use chi_trace::{Column, MOST_BYTES, TraceChannel, TraceFault};
 use std::alloc::Allocator;
 use std::fmt;
 use std::fmt::Write;
@@ -138,6 +138,7 @@ pub(crate) fn malformed_text<A: Allocator + Copy>(
     let front = malformed_front(alloc, fault)?;
     let mut rest = String::new(alloc);
     write_expected(&mut rest, bytes, fault)?;
+    write_mark(&mut rest, bytes, fault)?;
     joined(front, &rest)
 }
 
@@ -185,7 +186,24 @@ fn write_expected<A: Allocator>(
             let wanted = expected(column, word_at(words, 0));
             kept(write!(text, "{name} {word}, expected {wanted}"))
         }
-        TraceFault::NoMemory | TraceFault::TooLarge | TraceFault::MissingNewline(_) => Ok(()),
+        TraceFault::TooLarge => kept(write!(
+            text,
+            ", expected {MOST_BYTES} bytes at most; a monitor takes flits without an end (docs/LIBRARY.md)"
+        )),
+        TraceFault::NoMemory | TraceFault::MissingNewline(_) => Ok(()),
+    }
+}
+
+/// Names the byte-order mark where the file begins with one and its first line is wrong.
+fn write_mark<A: Allocator>(
+    text: &mut String<A>,
+    bytes: &[u8],
+    fault: TraceFault,
+) -> Result<(), NoMemory> {
+    match (fault, bytes) {
+        (TraceFault::FewWords(1) | TraceFault::BadWord { line: 1, .. }, [0xef, 0xbb, 0xbf, ..]) =>
+            kept(write!(text, "; the file begins with a byte-order mark")),
+        _ => Ok(()),
     }
 }
 

@@ -1,4 +1,4 @@
-//! How nodes, lines and flits of a trace are written.
+//! How nodes, lines and flits of a trace are written. No clause says these texts: they are tested.
 
 ghost use Rattle.std.specs.Prelude.{◌≡◌, IfOk, IsOk, OnOk, string_bytes};
 ghost use Rattle.chi_verdict.specs.Texts.{BeginsWith};

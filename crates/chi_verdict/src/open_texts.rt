@@ -1,5 +1,6 @@
-//! What is open at the end of a trace, a line for each.
+//! What is open at the end of a trace, a line for each. No clause says these texts: they are tested.
 
+use crate::asked::is_account_open;
 use crate::names::{LineName, NodeName, kept};
 use chi_explain::Observed;
 use chi_flit::NoMemory;
@@ -123,7 +124,7 @@ fn write_accounts<A: Allocator>(
     accounts: &[CreditLedger],
 ) -> Result<(), NoMemory> {
     for account in accounts {
-        if account.owed() > 0 || account.unused() > 0 {
+        if is_account_open(account) {
             let account = AccountText(*account);
             kept(writeln!(text, "open: {account}"))?;
         }

@@ -1,22 +1,25 @@
 //! The report on a trace.
 
-ghost use Rattle.std.specs.Prelude.{◌≡◌, ◌≢◌, ◌-◌, IfErr, IfOk, IfSome, None, Some, not, string_bytes};
+ghost use Rattle.std.specs.Prelude.{◌≡◌, ◌≢◌, IfErr, IfOk, IfSome, None, Some, codes, not, string_bytes};
 ghost use Rattle.std.specs.List.{count_by, slice_get};
 ghost use Rattle.chi_verdict.specs.Texts.{BeginsWith, IsOutcomeText, access_text, explained_line, malformed_front, flit_number_of, numbered, stop_front};
-ghost use Rattle.chi_verdict.specs.Verdicts.{IsFlitsReport, IsTraceJudged, IsReport, IsStop, is_access, is_seen_access, items_with, trace_outcome_of, verdict_sizes};
+ghost use Rattle.chi_verdict.specs.Verdicts.{IsFlitsReport, IsTraceJudged, IsReport, IsStop, is_access, is_seen_access, items_with, verdict_sizes};
+ghost use Rattle.chi_verdict.specs.Ending.{explained_outcome, trace_outcome_of};
 ghost use Rattle.chi_trace.specs.declared.faults.TraceFault.TheVariants as faults;
 ghost use Rattle.chi_verdict.specs.declared.reports.TraceOutcome.TheVariants as outcomes;
 
+use crate::asked::{Asked, Ending, is_anything_open, is_nothing_there};
 use crate::check_files::Told;
+use crate::closings::close;
 use crate::id_texts::ReasonText;
-use crate::lines::{LineTotals, Obstacle, explain_lines};
+use crate::lines::{LineTotals, Obstacle, explain_lines, sort_items};
 use crate::malformed::malformed_text;
 use crate::names::{LineName, NodeName, ObservedName, SeenName, joined, kept, requester_of};
 use crate::open_texts::write_open;
 use crate::unseen::fill_data;
 use chi_explain::{Observed, StoreListing};
 use chi_flit::{NoMemory, Profile};
-use chi_monitor::{LineFault, allowed, explain_flits};
+use chi_monitor::{FaultNames, FaultText, LineFault, allowed, explain_flits};
 use chi_resolution::{
     CacheLine, IdFault, OpenKey, Options, Resolution, Resolved, Types, line_of, resolve,
 };
@@ -31,7 +34,7 @@ use std::fmt::Write;
 #[derive(Clone, Copy, Debug, PartialEq, Eq)]
 pub struct TraceTotals {
     pub flits: usize,
-    /// Loads and stores, but those that wait for a CompAck.
+    /// Loads and stores.
     pub accesses: usize,
     pub actions: u128,
     pub lines: usize,
@@ -46,8 +49,6 @@ pub enum TraceStop {
     Ids(IdFault),
     /// No run of the model sends this flit, or does this load or store, behind those before it at its line.
     Flit { at: usize, fault: LineFault },
-    /// The explanation of this line has more loads and stores than a journal has room for.
-    Long(CacheLine),
     /// As `Obstacle::Undone`.
     Undone(CacheLine),
 }
@@ -58,6 +59,10 @@ pub enum TraceStop {
 pub enum TraceOutcome {
     /// Each line is explained.
     Explained(TraceTotals),
+    /// Each line is explained, and something is open at the end of a trace that is to be complete.
+    Incomplete(TraceTotals),
+    /// The trace has no flit, load or store, or none of the line that is asked for.
+    Nothing,
     /// Something isn't explained.
     Faulty(TraceStop),
     /// The file is no trace. Want of memory is none of these faults.
@@ -102,8 +107,8 @@ fn config_of(types: Types) -> Option<Config>
     ensures { result ≡ Some (verdict_sizes types) }
 {
     match types {
-        Types::Two | Types::Any => Config::new(8, 1, 1, 1, 1, 65_536),
-        Types::Four => Config::four(8, 1, 1, [1, 1, 1, 1], 65_536),
+        Types::Two | Types::Any => Config::without_records(8, 1, 1, Profile::Two, [1, 1, 0, 0]),
+        Types::Four => Config::without_records(8, 1, 1, Profile::Four, [1, 1, 1, 1]),
     }
 }
 
@@ -140,14 +145,14 @@ fn judge<A: Allocator + Copy>(
     ensures { IfOk result (λ judged.
         IsTraceJudged config.now stores seen.now resolution.old.fault
         (items_with resolution.old.flits.items resolution.old.unfinished.items
-        resolution.old.waiting.items) (trace_outcome_of judged)) }
+        resolution.old.waiting.items) judged) }
 {
     let fault = resolution.fault;
-    let waiting = resolution.waiting.len();
     let unfinished = resolution.unfinished.as_slice();
-    fill_data(alloc, stores, &mut resolution.flits, unfinished)?;
+    close(&mut resolution.flits, &resolution.waiting)?;
+    fill_data(alloc, config, stores, &mut resolution.flits, unfinished)?;
     match explain_lines(alloc, config, stores, &mut resolution.flits) {
-        Ok(totals) => Ok(total_of(seen, waiting, totals, fault)),
+        Ok(totals) => Ok(total_of(seen, totals, fault)),
         Err(obstacle) => match first_stop(obstacle, fault) {
             Some(stop) => Ok(Err(stop)),
             None => Err(NoMemory),
@@ -155,11 +160,9 @@ fn judge<A: Allocator + Copy>(
     }
 }
 
-/// How much is explained of a trace whose lines are, where so many loads and stores wait: all, but where the ids or the
-/// ledger don't allow a flit.
+/// How much is explained of a trace whose lines are: all, but where the ids or the ledger don't allow a flit.
 fn total_of(
     seen: &[Seen],
-    waiting: usize,
     totals: LineTotals,
     fault: Option<IdFault>,
 ) -> Result<TraceTotals, TraceStop>
@@ -167,7 +170,7 @@ fn total_of(
     ensures flits { IfOk result
         (λ total. total.flits ≡ count_by (λ one. not (is_seen_access one)) seen.now) }
     ensures accesses { IfOk result
-        (λ total. total.accesses ≡ count_by is_seen_access seen.now - waiting) }
+        (λ total. total.accesses ≡ count_by is_seen_access seen.now) }
     ensures actions { IfOk result (λ total. total.actions ≡ totals.actions) }
     ensures lines { IfOk result (λ total. total.lines ≡ totals.lines) }
     ensures err { IfErr result (IsStop fault) }
@@ -175,7 +178,7 @@ fn total_of(
     match fault {
         None => Ok(TraceTotals {
             flits: count_flits(seen),
-            accesses: count_accesses(seen).saturating_sub(waiting),
+            accesses: count_accesses(seen),
             actions: totals.actions,
             lines: totals.lines,
         }),
@@ -191,7 +194,6 @@ fn first_stop(obstacle: Obstacle, fault: Option<IdFault>) -> Option<TraceStop>
     match obstacle {
         Obstacle::NoMemory => None,
         Obstacle::Fault { at, fault: cause } => Some(first_of_both(at, cause, fault)),
-        Obstacle::Long(line) => Some(unless_ids(TraceStop::Long(line), fault)),
         Obstacle::Undone(line) => Some(unless_ids(TraceStop::Undone(line), fault)),
     }
 }
@@ -218,8 +220,8 @@ fn unless_ids(stop: TraceStop, fault: Option<IdFault>) -> TraceStop
 }
 
 /// The report on the trace that a file of these bytes is: that all its lines are explained, and by how much; else what
-/// isn't first. Of a file that is no trace it is the first fault of the grammar. With `only` the text is the check file
-/// that explains the line of that address, up to the first that isn't explained.
+/// isn't first. Of a file that is no trace it is the first fault of the grammar. Where an address is asked for the text
+/// is the check file that explains its line, up to the first that isn't explained.
 ///
 /// `NoMemory` where memory runs out. That what is told as a fault of a line is one is tested, and no clause says it.
 /// Source: `docs/TRACES.md`, "What is printed".
@@ -227,13 +229,13 @@ pub fn report_on<A: Allocator + Copy>(
     alloc: A,
     bytes: &[u8],
     options: Options,
-    only: Option<Address>,
+    asked: Asked,
 ) -> Result<TraceReport<A>, NoMemory>
     ensures { IfOk result (λ report.
-        IsReport options only bytes.now report.outcome (string_bytes report.text)) }
+        IsReport options asked bytes.now report.outcome (string_bytes report.text)) }
 {
     match read_trace(alloc, bytes) {
-        Ok(seen) => report_on_flits(alloc, &seen, options, only),
+        Ok(seen) => report_on_flits(alloc, &seen, options, asked),
         Err(fault) => malformed(alloc, bytes, fault),
     }
 }
@@ -259,18 +261,23 @@ fn report_on_flits<A: Allocator + Copy>(
     alloc: A,
     seen: &[Seen],
     options: Options,
-    only: Option<Address>,
+    asked: Asked,
 ) -> Result<TraceReport<A>, NoMemory>
     ensures { IfOk result (λ report.
-        IsFlitsReport options only seen.now report.outcome (string_bytes report.text)) }
+        IsFlitsReport options asked seen.now report.outcome (string_bytes report.text)) }
 {
     let config = match config_of(options.types) {
         Some(config) => config,
         None => unreachable!(),
     };
     let mut resolution = resolve(alloc, seen, options)?;
+    let is_open = is_anything_open(&resolution);
+    let nothing = is_nothing_there(seen, &resolution, asked.only);
     let judged = judge(alloc, &config, options.stores, seen, &mut resolution)?;
     sort_open(&mut resolution)?;
+    if asked.only.is_some() {
+        sort_items(&mut resolution.flits)?;
+    }
     let trace = Trace {
         seen,
         profile: profile_of(options.types),
@@ -278,7 +285,7 @@ fn report_on_flits<A: Allocator + Copy>(
         config,
         resolution: &resolution,
     };
-    trace.report(alloc, judged, only)
+    trace.report(alloc, judged, asked, is_open, nothing)
 }
 
 /// Puts what is open in the order in which it was opened.
@@ -333,14 +340,63 @@ fn stop_front<A: Allocator + Copy>(
     let written = match stop {
         TraceStop::Ids(fault) => return numbered(alloc, number_at(seen, fault.at)),
         TraceStop::Flit { at, fault: _ } => return numbered(alloc, number_at(seen, *at)),
-        TraceStop::Long(_) => write!(text, "the cache line at "),
         TraceStop::Undone(_) => write!(text, "no explanation of the cache line at "),
     };
     kept(written)?;
     Ok(text)
 }
 
-/// A trace that was resolved, and judged: the items ascend by line.
+/// What is told of a trace each of whose lines is explained.
+fn explained_outcome(
+    ending: Ending,
+    is_open: bool,
+    nothing: bool,
+    totals: TraceTotals,
+) -> TraceOutcome
+    ensures { result ≡ explained_outcome ending is_open nothing totals }
+{
+    match (ending, is_open, nothing) {
+        (_, _, true) => TraceOutcome::Nothing,
+        (Ending::Complete, true, false) => TraceOutcome::Incomplete(totals),
+        (Ending::Any, _, false) | (Ending::Complete, false, false) => {
+            TraceOutcome::Explained(totals)
+        }
+    }
+}
+
+/// How the line on a trace that has nothing of what is asked for begins.
+fn nothing_front<A: Allocator>(alloc: A) -> Result<String<A>, NoMemory>
+    ensures { IfOk result (λ text. string_bytes text ≡ codes "no flit, load or store") }
+{
+    let mut text = String::new(alloc);
+    kept(write!(text, "no flit, load or store"))?;
+    Ok(text)
+}
+
+/// The rest of it: of what nothing was seen.
+fn nothing_rest<A: Allocator>(alloc: A, only: Option<Address>) -> Result<String<A>, NoMemory> {
+    let mut text = String::new(alloc);
+    kept(match only {
+        Some(address) => {
+            let line = LineName(line_of(address));
+            writeln!(text, " at {line}")
+        }
+        None => writeln!(text, " is in the trace"),
+    })?;
+    Ok(text)
+}
+
+/// The line on a trace that has nothing of what is asked for.
+fn nothing_text<A: Allocator + Copy>(alloc: A, only: Option<Address>) -> Result<String<A>, NoMemory>
+    ensures { IfOk result
+        (λ text. BeginsWith (codes "no flit, load or store") (string_bytes text)) }
+{
+    let front = nothing_front(alloc)?;
+    let rest = nothing_rest(alloc, only)?;
+    joined(front, &rest)
+}
+
+/// A trace that was resolved, and judged: the items ascend by line where one isn't explained, or is asked for.
 #[derive(Drop)]
 struct Trace<'a, A: Allocator> {
     seen: &'a [Seen],
@@ -351,28 +407,44 @@ struct Trace<'a, A: Allocator> {
 }
 
 impl<A: Allocator + Copy> Trace<'_, A> {
-    /// The report on a trace that was judged so.
+    /// The report on a trace that was judged so, by whether anything is open and nothing was seen.
     fn report(
         &self,
         alloc: A,
         judged: Result<TraceTotals, TraceStop>,
-        only: Option<Address>,
+        asked: Asked,
+        is_open: bool,
+        nothing: bool,
     ) -> Result<TraceReport<A>, NoMemory>
-        ensures outcome { IfOk result (λ report. report.outcome ≡ trace_outcome_of judged) }
+        ensures outcome { IfOk result (λ report.
+            report.outcome ≡ trace_outcome_of asked.ending is_open nothing judged) }
         ensures text { IfOk result (λ report.
-            IsOutcomeText self.now.seen.now only report.outcome (string_bytes report.text)) }
+            IsOutcomeText self.now.seen.now asked.only report.outcome (string_bytes report.text)) }
     {
-        match judged {
-            Ok(totals) => {
-                let text = self.explained_text(alloc, totals, only)?;
-                let outcome = TraceOutcome::Explained(totals);
-                Ok(TraceReport { outcome, text })
-            }
-            Err(stop) => {
-                let text = self.faulty_text(alloc, &stop, only)?;
-                let outcome = TraceOutcome::Faulty(stop);
-                Ok(TraceReport { outcome, text })
-            }
+        let outcome = match judged {
+            Ok(totals) => explained_outcome(asked.ending, is_open, nothing, totals),
+            Err(stop) => TraceOutcome::Faulty(stop),
+        };
+        let text = self.outcome_text(alloc, &outcome, asked.only)?;
+        Ok(TraceReport { outcome, text })
+    }
+
+    /// What is told of a trace of which this came.
+    fn outcome_text(
+        &self,
+        alloc: A,
+        outcome: &TraceOutcome,
+        only: Option<Address>,
+    ) -> Result<String<A>, NoMemory>
+        ensures { IfOk result (λ text.
+            IsOutcomeText self.now.seen.now only outcome.now (string_bytes text)) }
+    {
+        match outcome {
+            TraceOutcome::Explained(totals) => self.explained_text(alloc, *totals, only),
+            TraceOutcome::Incomplete(totals) => self.explained_text(alloc, *totals, only),
+            TraceOutcome::Nothing => nothing_text(alloc, only),
+            TraceOutcome::Faulty(stop) => self.faulty_text(alloc, stop, only),
+            TraceOutcome::Malformed(_) => Err(NoMemory),
         }
     }
 
@@ -478,10 +550,6 @@ impl<A: Allocator + Copy> Trace<'_, A> {
         match stop {
             TraceStop::Ids(fault) => self.write_ids(text, fault),
             TraceStop::Flit { at, fault } => self.write_fault(alloc, text, *at, fault),
-            TraceStop::Long(line) => {
-                let line = LineName(*line);
-                kept(writeln!(text, "{line} takes more than 65536 loads and stores"))
-            }
             TraceStop::Undone(line) => {
                 let line = LineName(*line);
                 kept(writeln!(text, "{line} was found"))
@@ -516,8 +584,48 @@ impl<A: Allocator + Copy> Trace<'_, A> {
             opcode: seen.opcode,
             open: &self.resolution.ids,
             requesters: &self.resolution.nodes.requesters,
+            accounts: &self.resolution.accounts,
         };
         kept(writeln!(text, ": {reason}"))
+    }
+
+    /// The lines of the file that these items are of.
+    fn lines_of(&self, alloc: A, items: &[Resolved]) -> Result<Vec<usize, A>, NoMemory> {
+        let mut lines = Vec::new(alloc);
+        for item in items {
+            lines.push(number_at(self.seen, item.at))?;
+        }
+        Ok(lines)
+    }
+
+    /// The numbers of the requesters' nodes.
+    fn nodes(&self, alloc: A) -> Result<Vec<u16, A>, NoMemory> {
+        let mut nodes = Vec::new(alloc);
+        for node in self.resolution.nodes.requesters.iter() {
+            nodes.push(node.0)?;
+        }
+        Ok(nodes)
+    }
+
+    /// Puts what is allowed in place of what was seen behind the text, and ends the line.
+    fn write_allowed(
+        &self,
+        alloc: A,
+        text: &mut String<A>,
+        before: &[Observed],
+        seen: &Observed,
+    ) -> Result<(), NoMemory> {
+        let others = match allowed(alloc, &self.config, self.stores, before, seen) {
+            Ok(others) => others,
+            Err(_) => return Err(NoMemory),
+        };
+        for (number, other) in others.iter().enumerate() {
+            let name = ObservedName(*other);
+            let comma = if number > 0 { ", " } else { "" };
+            kept(write!(text, "{comma}{name}"))?;
+        }
+        let end = if others.is_empty() { "nothing" } else { "" };
+        kept(writeln!(text, "{end}"))
     }
 
     /// A fault of a line's flits.
@@ -533,18 +641,52 @@ impl<A: Allocator + Copy> Trace<'_, A> {
         };
         write_seen(text, seen)?;
         let items = self.resolution.flits.as_slice();
-        let Some(place) = items.iter().position(|item| item.at == at) else {
+        let access = is_access(seen);
+        let Some(place) = items.iter().position(|item| item.at == at
+            && is_done_by_processor(&item.flit) == access)
+        else {
             return Ok(());
         };
         let (before, rest) = items.split_at(place);
         let [item, ..] = rest else {
             return Ok(());
         };
+        let before = line_of_last(before, item.line);
         let line = LineName(item.line);
-        kept(write!(text, " at {line}: {fault}; allowed: "))?;
-        let before = said_by(alloc, line_of_last(before, item.line))?;
-        write_allowed(alloc, text, self.stores, &before, &item.flit)
+        let names = TraceNames {
+            nodes: self.nodes(alloc)?,
+            lines: self.lines_of(alloc, before)?,
+        };
+        let reason = FaultText {
+            fault: *fault,
+            names: names.lend(),
+        };
+        kept(write!(text, " at {line}: {reason}; allowed: "))?;
+        let before = said_by(alloc, before)?;
+        self.write_allowed(alloc, text, &before, &item.flit)
     }
+}
+
+/// The nodes of a trace by their agents, and its lines by the numbers of what was seen.
+#[derive(Drop)]
+struct TraceNames<A: Allocator> {
+    nodes: Vec<u16, A>,
+    lines: Vec<usize, A>,
+}
+
+impl<A: Allocator> TraceNames<A> {
+    /// The names of a reason.
+    fn lend(&self) -> FaultNames<'_> {
+        FaultNames {
+            nodes: self.nodes.as_slice(),
+            lines: self.lines.as_slice(),
+        }
+    }
+}
+
+/// Whether it is a load or a store.
+fn is_done_by_processor(seen: &Observed) -> bool {
+    matches!(*seen, Observed::Load(_, _, _) | Observed::Store(_, _, _))
 }
 
 /// The items at the end of those that ascend by line that are of this line.
@@ -561,7 +703,7 @@ impl TraceStop {
         match self {
             TraceStop::Ids(fault) => fault.at,
             TraceStop::Flit { at, fault: _ } => *at,
-            TraceStop::Long(_) | TraceStop::Undone(_) => usize::MAX,
+            TraceStop::Undone(_) => usize::MAX,
         }
     }
 }
@@ -594,25 +736,4 @@ fn said_by<A: Allocator>(alloc: A, items: &[Resolved]) -> Result<Vec<Observed, A
         seen.push(item.flit)?;
     }
     Ok(seen)
-}
-
-/// Puts what is allowed in place of what was seen behind the text, and ends the line.
-fn write_allowed<A: Allocator + Copy>(
-    alloc: A,
-    text: &mut String<A>,
-    stores: StoreListing,
-    before: &[Observed],
-    seen: &Observed,
-) -> Result<(), NoMemory> {
-    let others = match allowed(alloc, stores, before, seen) {
-        Ok(others) => others,
-        Err(_) => return Err(NoMemory),
-    };
-    for (number, other) in others.iter().enumerate() {
-        let name = ObservedName(*other);
-        let comma = if number > 0 { ", " } else { "" };
-        kept(write!(text, "{comma}{name}"))?;
-    }
-    let end = if others.is_empty() { "nothing" } else { "" };
-    kept(writeln!(text, "{end}"))
 }

@@ -7,6 +7,7 @@ use chi_explain::{Observed, SentFlit, StoreListing};
 use chi_flit::{CompData, DatUp, Data, Msg, NoMemory};
 use chi_monitor::{PartSeen, words_of_run};
 use chi_resolution::{OpenData, Resolved};
+use chi_slice::Config;
 use std::alloc::{AllocError, Allocator};
 
 /// The words that the beats have had, and these in place of those that lack.
@@ -66,6 +67,7 @@ fn seen_with(seen: &Observed, words: Data) -> Observed
 /// `NoMemory` where memory runs out.
 pub(crate) fn fill_data<A: Allocator + Copy>(
     alloc: A,
+    config: &Config,
     stores: StoreListing,
     items: &mut Vec<Resolved, A>,
     unfinished: &[OpenData],
@@ -73,7 +75,7 @@ pub(crate) fn fill_data<A: Allocator + Copy>(
     ensures { OnOk result (AreFilled unfinished.now items.old.items items.new.items) }
 {
     for begun in unfinished {
-        let others = others_of(alloc, stores, items, unfinished, begun)?;
+        let others = others_of(alloc, config, stores, items, unfinished, begun)?;
         fill_one(items, begun, &others);
     }
     Ok(())
@@ -100,6 +102,7 @@ struct LineParts<A: Allocator> {
 /// The words of the data in a run of the model that sends what was seen of its line.
 fn others_of<A: Allocator + Copy>(
     alloc: A,
+    config: &Config,
     stores: StoreListing,
     items: &[Resolved],
     unfinished: &[OpenData],
@@ -115,7 +118,7 @@ fn others_of<A: Allocator + Copy>(
             line.add(item, unfinished, at, at == begun.place)?;
         }
     }
-    words_of_run(alloc, stores, &line.seen, &line.parts, line.place)
+    words_of_run(alloc, config, stores, &line.seen, &line.parts, line.place)
 }
 
 impl<A: Allocator> LineParts<A> {

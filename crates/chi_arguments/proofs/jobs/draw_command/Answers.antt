@@ -12,4 +12,5 @@ returns c =
     let line_3 : IsCommand (with_rule (with_rule (with_rule (new_app (codes "draw")) header_rule) (option_rule (codes "seed"))) (option_rule (codes "commands"))) c.in_ok-arg-3.field-0 = with_one _ _ c.in_ok-arg-2.field-0 c.option-2.result _ line_2 c.option-2.ensures.rule c.option-2.ensures.local c.in_ok-arg-3.ensures in
     let line_4 : IsCommand (with_rule (with_rule (with_rule (with_rule (new_app (codes "draw")) header_rule) (option_rule (codes "seed"))) (option_rule (codes "commands"))) (option_rule (codes "wild"))) c.in_ok-arg-4.field-0 = with_one _ _ c.in_ok-arg-3.field-0 c.option-3.result _ line_3 c.option-3.ensures.rule c.option-3.ensures.local c.in_ok-arg-4.ensures in
     let line_5 : IsCommand (with_rule (with_rule (with_rule (with_rule (with_rule (new_app (codes "draw")) header_rule) (option_rule (codes "seed"))) (option_rule (codes "commands"))) (option_rule (codes "wild"))) (option_rule (codes "weights"))) c.in_ok-arg-5.field-0 = with_one _ _ c.in_ok-arg-4.field-0 c.option-4.result _ line_4 c.option-4.ensures.rule c.option-4.ensures.local c.in_ok-arg-5.ensures in
-    with_final _ _ c.in_ok-arg-5.field-0 c.flag.result c.arg-6.result line_5 c.flag.ensures.rule c.flag.ensures.local c.arg-6.ensures
+    let line_6 : IsCommand (with_rule (with_rule (with_rule (with_rule (with_rule (with_rule (new_app (codes "draw")) header_rule) (option_rule (codes "seed"))) (option_rule (codes "commands"))) (option_rule (codes "wild"))) (option_rule (codes "weights"))) (option_rule (codes "kinds"))) c.in_ok-arg-6.field-0 = with_one _ _ c.in_ok-arg-5.field-0 c.option-5.result _ line_5 c.option-5.ensures.rule c.option-5.ensures.local c.in_ok-arg-6.ensures in
+    with_final _ _ c.in_ok-arg-6.field-0 c.flag.result c.arg-7.result line_6 c.flag.ensures.rule c.flag.ensures.local c.arg-7.ensures

@@ -23,6 +23,6 @@ report-requires g c = covers_length (map given_of (take c.loop-file.file-index c
 
 pub returns : goal.returns
 returns g c =
-    covered_on c.report.result (λ report. report.text.items) (λ report. string_bytes report.faults) (λ report. report.fault) c.args.only_missing c.args.files.now c.loop-file.file-index
+    covered_on c.report.result (λ report. report.text.items) (λ report. string_bytes report.faults) (λ report. report.fault) (λ report. report.reached) c.args.shape c.args.files.now c.loop-file.file-index
     (cover_state c.loop-file.run.counts.items (string_bytes c.loop-file.run.faults) c.loop-file.run.fault)
-    c.loop-file-test.false c.loop-file.invariant c.report.ensures.text c.report.ensures.faults c.report.ensures.fault
+    c.loop-file-test.false c.loop-file.invariant c.report.ensures.text c.report.ensures.faults c.report.ensures.fault c.report.ensures.reached

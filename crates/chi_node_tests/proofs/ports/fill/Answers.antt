@@ -1,16 +1,12 @@
-use Rattle.std.proofs.Common.{◌≡◌, ◌-◌, arith, rules}
-use Rattle.chi_flit.specs.Credit.{credit_number}
-use Rattle.chi_tracker.specs.Shape.{low}
+use Rattle.std.proofs.Common.{◌≡◌, arith, rules}
 use Rattle.chi_tracker.proofs.BitLaws.{with_more}
-use Rattle.chi_tracker.proofs.Entries.{claimed_hand}
 use Rattle.chi_node_tests.proofs.ports.fill.Goals as goal
 
 pub loop-entry-preserved : goal.loop-entry-preserved
 loop-entry-preserved g c =
-    let t = credit_number c.type_of.result in
     let is : c.in-Some.claimed.0 ≡ c.loop-entry.entry = omega arith in
     record {
       table = search rules;
       shape = search rules;
-      held = with_more c.loop-entry.port.port.hand c.claim.new.self.port.hand c.loop-entry.entry c.in-Some.claimed.0 c.loop-entry.invariant.held is (claimed_hand c.loop-entry.port.port c.claim.new.self.port t (c.in-Some.claimed.0 - low c.loop-entry.port.port.shape t) c.in-Some.claimed.0 c.in-Some.ensures.some.2);
+      held = with_more c.loop-entry.port.port.hand c.claim.new.self.port.hand c.loop-entry.entry c.in-Some.claimed.0 c.loop-entry.invariant.held is c.in-Some.ensures.hand;
     }

@@ -16,7 +16,7 @@ returns-in-Some-add-clause-err c =
 pub loop-line-preserved : goal.loop-line-preserved
 loop-line-preserved c = record {
   so_far = goes_on c.loop-line.number c.loop-line.rest.now c.in-Some.line.now c.in-Some.after.now (first_wrong 1 (lines_of c.args.bytes.now)) c.in-Some.ensures.some c.in_default-add.ensures.right c.loop-line.invariant.so_far;
-  said = says_more c.loop-line.weights.by_place c.add.new.self.by_place c.loop-line.rest.now c.in-Some.line.now c.in-Some.after.now (weights_said (lines_of c.args.bytes.now)) c.in_default-add.ensures.said c.in-Some.ensures.some c.loop-line.invariant.said;
+  said = says_more c.loop-line.weights c.add.new.self c.loop-line.rest.now c.in-Some.line.now c.in-Some.after.now (weights_said (lines_of c.args.bytes.now)) c.in_default-add.ensures.said c.in-Some.ensures.some c.loop-line.invariant.said;
   count = omega (arith, c.in-Some.ensures.shorter, c.loop-line.invariant.count);
 }
 
@@ -29,4 +29,4 @@ returns-else-is_empty-clause-err c =
     faulty all c.loop-line.number None Open (is_open c.loop-line.number c.loop-line.rest.now all c.in_default.ensures.none (sym c.if-is_empty.ensures) c.loop-line.invariant.so_far) tt
 
 pub returns-then-is_empty-clause-said : goal.returns-then-is_empty-clause-said
-returns-then-is_empty-clause-said c = says_all c.loop-line.weights.by_place c.loop-line.rest.now (weights_said (lines_of c.args.bytes.now)) c.in_default.ensures.none (sym c.if-is_empty.ensures) c.loop-line.invariant.said
+returns-then-is_empty-clause-said c = says_all c.loop-line.weights c.loop-line.rest.now (weights_said (lines_of c.args.bytes.now)) c.in_default.ensures.none (sym c.if-is_empty.ensures) c.loop-line.invariant.said

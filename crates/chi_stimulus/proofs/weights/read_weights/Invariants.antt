@@ -7,7 +7,7 @@ use Rattle.chi_stimulus.proofs.weights.read_weights.Given as goal
 abbrev pub invariant-loop-line : goal.invariant-loop-line
 invariant-loop-line l = record {
   so_far : first_wrong l.number (lines_of l.rest) ≡ first_wrong 1 (lines_of l.bytes);
-  said : weights_behind l.weights.by_place (lines_of l.rest) ≡ weights_said (lines_of l.bytes);
+  said : weights_behind l.weights (lines_of l.rest) ≡ weights_said (lines_of l.bytes);
   count : l.number + length l.rest ≤ 1 + length l.bytes;
 }
 

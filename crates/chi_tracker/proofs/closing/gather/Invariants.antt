@@ -1,5 +1,5 @@
 use Rattle.std.proofs.Common.{length}
-use Rattle.chi_tracker.proofs.Balance.{IsGathering}
+use Rattle.chi_tracker.proofs.Gathering.{IsGathering}
 use Rattle.chi_tracker.proofs.closing.gather.Given as goal
 
 abbrev pub invariant-loop-port : goal.invariant-loop-port

@@ -8,5 +8,5 @@ use Rattle.chi_verdict.proofs.explanations.report_on_input.Goals as goal
 pub returns-in-Ok-clause-told : goal.returns-in-Ok-clause-told
 returns-in-Ok-clause-told g c =
     let report = c.in-Ok.report in
-    of_whole c.args.options c.args.only _ _ report.outcome (string_bytes report.text) c.in_ok-bytes.ensures.front
-    (subst (λ (bytes : List ℕ). IsReport c.args.options c.args.only bytes report.outcome (string_bytes report.text)) c.deref.ensures.value c.in-Ok.ensures)
+    of_whole c.args.options c.args.asked _ _ report.outcome (string_bytes report.text) c.in_ok-bytes.ensures.front
+    (subst (λ (bytes : List ℕ). IsReport c.args.options c.args.asked bytes report.outcome (string_bytes report.text)) c.deref.ensures.value c.in-Ok.ensures)

@@ -5,6 +5,6 @@ use Rattle.chi_verdict.proofs.lines.sort_items.Goals as goal
 
 pub returns : goal.returns
 returns g c =
-    let sort = c.sort_by_key.ensures in
-    reordered c.args.items.now.items c.sort_by_key.new.self.items sort.permutation
+    let sort = c.sort_by_cached_key.ensures in
+    reordered c.args.items.now.items c.sort_by_cached_key.new.self.items sort.permutation
     (sort.stable line_number (answers_always _ (λ a r. r ≡ line_number a.0.now) _ (λ f a r q called. search rules)))

@@ -9,12 +9,12 @@ use Rattle.chi_verdict.proofs.reports.report_on.Goals as goal
 
 pub returns-in-Ok : goal.returns-in-Ok
 returns-in-Ok g c =
-    carried (λ report. IsFlitsReport c.args.options c.args.only _ report.outcome (string_bytes report.text)) _ c.report_on_flits.result
-    (λ report is. subst (λ (read : Result (List Seen) TraceFault). IsReportOn c.args.options c.args.only read report.outcome (string_bytes report.text)) (sym c.in-Ok.ensures)
-    (subst (λ (seen : List Seen). IsFlitsReport c.args.options c.args.only seen report.outcome (string_bytes report.text)) c.deref.ensures.value is))
+    carried (λ report. IsFlitsReport c.args.options c.args.asked _ report.outcome (string_bytes report.text)) _ c.report_on_flits.result
+    (λ report is. subst (λ (read : Result (List Seen) TraceFault). IsReportOn c.args.options c.args.asked read report.outcome (string_bytes report.text)) (sym c.in-Ok.ensures)
+    (subst (λ (seen : List Seen). IsFlitsReport c.args.options c.args.asked seen report.outcome (string_bytes report.text)) c.deref.ensures.value is))
     c.report_on_flits.ensures
 
 pub returns-in-Err : goal.returns-in-Err
 returns-in-Err g c =
-    malformed_report c.args.options c.args.only _ c.in-Err.fault (λ report. report.outcome) (λ report. string_bytes report.text) c.malformed.result c.in-Err.ensures
+    malformed_report c.args.options c.args.asked _ c.in-Err.fault (λ report. report.outcome) (λ report. string_bytes report.text) c.malformed.result c.in-Err.ensures
     c.malformed.ensures.outcome c.malformed.ensures.fault c.malformed.ensures.text

@@ -8,15 +8,11 @@ use Rattle.chi_credit.proofs.account.Account.arrive.Goals as goal
 
 pub returns-clause-spent : goal.returns-clause-spent
 returns-clause-spent g c = record {
-  table = search rules;
   lowest = search rules;
   held = search rules;
   port = search rules;
-  mine = search rules;
-  entry = search rules;
   fewer = grind (arith, common_steps);
   acts = search rules;
-  running = search rules;
 }
 
 pub returns-clause-kept : goal.returns-clause-kept

@@ -18,7 +18,7 @@ use Rattle.chi_node.proofs.requester.Requester.give_back.Goals as goal
 pub invariant_of-self : goal.invariant_of-self
 invariant_of-self g c =
     let kept = c.self.invariant in
-    let same = c.give_back.ensures.returned.port.4 in
+    let same = c.give_back.ensures.returned.credits in
     record {
       near = kept.near;
       who = same.0 ∙ kept.who;
@@ -42,15 +42,17 @@ after g c = record (before g c) { table = c.give_back.new.port.table; port = c.g
 freed : (g : given.Over) (c : goal.After-give_back g) → after g c ≡ without_cancelled (credit_number c.args.ty) c.give_back.new.port.port c.give_back.new.port.history (before g c)
 freed g c =
     let port = c.give_back.new.port in
-    ap (λ (t : TableId). record (before g c) { table = t; port = port.port; history = port.history; slots = c.give_back.new.self }) c.give_back.ensures.returned.table
+    ap (λ (t : TableId). record (before g c) { table = t; port = port.port; history = port.history; slots = c.give_back.new.self }) c.give_back.ensures.returned.acts.table
     ∙ ap (λ (xs : List SlotRecord). record (before g c) { port = port.port; history = port.history; slots = xs }) c.give_back.ensures.account
 
 pub returns-clause-ok : goal.returns-clause-ok
 returns-clause-ok g c = rw (← c.self.view_is) (record {
   cancelled = c.give_back.ensures.cancelled;
-  returned = c.give_back.ensures.returned.port;
+  hand = c.give_back.ensures.returned.hand;
+  credits = c.give_back.ensures.returned.credits;
+  fewer = c.give_back.ensures.returned.fewer;
   others = freed g c;
-  acted = let e = c.give_back.ensures.returned.acts in (e.0, e.1, record { running = c.give_back.ensures.returned.running; acts = e.2 });
+  acted = c.give_back.ensures.returned.acts;
 })
 
 pub returns-clause-agreement : goal.returns-clause-agreement

@@ -1,8 +1,10 @@
 -- The action is done on its line; the index and the journal follow.
-use Rattle.std.proofs.Common.{◌≡◌, ◌∙◌, Some, ap, rules, slice_set}
-use Rattle.chi_slice.specs.Slice.{SliceState, action_in, refused_under, slice_with}
+use Rattle.std.proofs.Common.{◌≡◌, ◌∙◌, Some, rules, slice_set}
+use Rattle.chi_slice.specs.Protocol.{refused_on_terms}
+use Rattle.chi_slice.specs.Slice.{action_in, refused_under, slice_with}
+use Rattle.chi_slice.proofs.Refused.{on_terms_is}
 use Rattle.chi_slice.proofs.Acts.{line_kept, not_out, ready, refused_now, room_for}
-use Rattle.chi_slice.proofs.Ends.{Ended, ended}
+use Rattle.chi_slice.proofs.Ends.{Ended, ended, err_computed}
 use Rattle.chi_slice.proofs.slice.Slice.act_in.Given as given
 use Rattle.chi_slice.proofs.slice.Slice.act_in.Goals as goal
 
@@ -15,12 +17,21 @@ note-requires g c =
     room_for (ready c.args.self.now c.args.terms (action_in c.args.at c.args.step) c.self.invariant.0 c.self.view_is (not_out c.args.self.now (action_in c.args.at c.args.step) c.requires.inside) (c.from.ensures ∙ c.requires.row) c.conditions-conditions.ensures c.index_mut-line.ensures.value)
     c.in_ok-outcome.ensures.refusal c.in_ok-outcome.ensures.effect
 
-pub returns-in_err-outcome-clause-refusal : goal.returns-in_err-outcome-clause-refusal
-returns-in_err-outcome-clause-refusal g c =
-    let by_line : Some c.in_err-outcome.field-0.0 ≡ refused_under c.args.terms c.args.self.now (action_in c.args.at c.args.step) =
+refused : (g : given.Over) (c : goal.After-from_residual g) → Some c.in_err-outcome.field-0.0 ≡ refused_under c.args.terms c.args.self.now (action_in c.args.at c.args.step)
+refused g c =
     c.in_err-outcome.ensures.refusal ∙ refused_now c.self.view_is
-    (ready c.args.self.now c.args.terms (action_in c.args.at c.args.step) c.self.invariant.0 c.self.view_is (not_out c.args.self.now (action_in c.args.at c.args.step) c.requires.inside) (c.from.ensures ∙ c.requires.row) c.conditions-conditions.ensures c.index_mut-line.ensures.value) in
-    search (rules, by_line)
+    (ready c.args.self.now c.args.terms (action_in c.args.at c.args.step) c.self.invariant.0 c.self.view_is (not_out c.args.self.now (action_in c.args.at c.args.step) c.requires.inside) (c.from.ensures ∙ c.requires.row) c.conditions-conditions.ensures c.index_mut-line.ensures.value)
+
+pub returns-in_err-outcome-clause-refused : goal.returns-in_err-outcome-clause-refused
+returns-in_err-outcome-clause-refused g c =
+    let by : Some c.in_err-outcome.field-0.0 ≡ refused_on_terms c.args.terms c.args.self.now (action_in c.args.at c.args.step) =
+    refused g c ∙ on_terms_is c.args.terms c.args.self.now (action_in c.args.at c.args.step) in
+    search (rules, by)
+
+pub returns-in_err-outcome-clause-computed : goal.returns-in_err-outcome-clause-computed
+returns-in_err-outcome-clause-computed g c =
+    let by : Some c.in_err-outcome.field-0.0 ≡ refused_under c.args.terms c.args.self.now (action_in c.args.at c.args.step) = refused g c in
+    search (rules, err_computed, by)
 
 end : (g : given.Over) (c : goal.After-note g)
     → Ended c.args.self.now c.args.terms (action_in c.args.at c.args.step) c.in_ok-outcome.outcome.effect c.in_ok-outcome.outcome.slot (slice_with c.self.inside.config c.self.inside.index (slice_set c.self.inside.lines.items c.from.result c.act.new.self) c.note.new.journal) c.follow.new.self
@@ -34,32 +45,14 @@ end g c =
 pub invariant_of-self-2 : goal.invariant_of-self-2
 invariant_of-self-2 g c = ((end g c).kept, (end g c).indexed)
 
-pub returns-clause-refusal : goal.returns-clause-refusal
-returns-clause-refusal g c = (end g c).refusal
+pub returns-clause-refused : goal.returns-clause-refused
+returns-clause-refused g c = (end g c).refused
 
-pub returns-clause-step : goal.returns-clause-step
-returns-clause-step g c = (end g c).step
-
-pub returns-clause-flits : goal.returns-clause-flits
-returns-clause-flits g c = (end g c).flits
-
-pub returns-clause-journal : goal.returns-clause-journal
-returns-clause-journal g c = ap (λ (s : SliceState). s.journal) (end g c).after
-
-pub returns-clause-others : goal.returns-clause-others
-returns-clause-others g c = (end g c).others
-
-pub returns-clause-effect : goal.returns-clause-effect
-returns-clause-effect g c = (end g c).effect_is
-
-pub returns-clause-slot : goal.returns-clause-slot
-returns-clause-slot g c = (end g c).slot_is
-
-pub returns-clause-after : goal.returns-clause-after
-returns-clause-after g c = (end g c).after
+pub returns-clause-protocol : goal.returns-clause-protocol
+returns-clause-protocol g c = (end g c).protocol
 
 pub returns-clause-loads : goal.returns-clause-loads
 returns-clause-loads g c = (end g c).loads
 
-pub returns-clause-protocol : goal.returns-clause-protocol
-returns-clause-protocol g c = (end g c).protocol
+pub returns-clause-computed : goal.returns-clause-computed
+returns-clause-computed g c = (end g c).computed

@@ -29,7 +29,7 @@ returns-clause-sent g c =
     let there : is_in_range c.args.self.now (action_in c.in_ok-at.at c.args.action.step) ≡ true = can c.args.action.step numbers in
     let same : action_in c.in_ok-at.at c.args.action.step ≡ c.args.action = search (rules, c.in_ok-at.ensures.agent, c.in_ok-at.ensures.line) in
     let inside : is_in_range c.args.self.now c.args.action ≡ true = subst (λ (a : Action). is_in_range c.args.self.now a ≡ true) same there in
-    let done : c.act_in.new.self ≡ slice_after c.args.self.now c.args.action = search (rules, c.in_ok-done.ensures.after) in
+    let done : c.act_in.new.self ≡ slice_after c.args.self.now c.args.action = search (rules, c.in_ok-done.ensures.computed.after) in
     let due : c.due_of-due.result ≡ flits_due c.args.self.now.config.profile (line c.args.self.now c.args.action.line.0) c.args.action.agent c.args.action.step = search (rules, c.due_of-due.ensures) in
     let home : c.home.result.now ≡ (line c.act_in.new.self c.args.action.line.0).home = search (rules, c.home.ensures) in
     sent_is c.args.self.now c.act_in.new.self c.args.action c.due_of-due.result c.home.result.now c.sent_by-sent.result c.in_ok-at.ensures.kept inside done due home c.sent_by-sent.ensures

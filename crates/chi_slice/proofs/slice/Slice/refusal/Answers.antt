@@ -3,12 +3,18 @@ use Rattle.std.proofs.Common.{◌≡◌, ◌∙◌, ap, sym}
 use Rattle.chi_slice.specs.declared.terms.Terms.{Terms}
 use Rattle.chi_slice.specs.Slice.{no_terms, refused_under}
 use Rattle.chi_slice.proofs.Acts.{out_refused, ready, refused_now}
+use Rattle.chi_slice.proofs.Refused.{on_terms_is}
 use Rattle.chi_slice.proofs.Refusing.{allowed_alone}
 use Rattle.chi_slice.proofs.slice.Slice.refusal.Goals as goal
 
 pub returns-in-Ok-clause-refusal : goal.returns-in-Ok-clause-refusal
 returns-in-Ok-clause-refusal g c =
     c.refusal.ensures ∙ refused_now c.self.view_is (ready c.args.self.now c.args.terms c.args.action c.self.invariant.0 c.self.view_is c.in-Ok.ensures.refusal c.in-Ok.ensures.row c.in-Ok.ensures.conditions c.index.ensures)
+
+pub returns-in-Ok-clause-refused : goal.returns-in-Ok-clause-refused
+returns-in-Ok-clause-refused g c =
+    c.refusal.ensures ∙ (refused_now c.self.view_is (ready c.args.self.now c.args.terms c.args.action c.self.invariant.0 c.self.view_is c.in-Ok.ensures.refusal c.in-Ok.ensures.row c.in-Ok.ensures.conditions c.index.ensures)
+    ∙ on_terms_is c.args.terms c.args.self.now c.args.action)
 
 pub returns-in-Ok-clause-alone : goal.returns-in-Ok-clause-alone
 returns-in-Ok-clause-alone g c = λ alone.
@@ -24,6 +30,9 @@ returns-in-Ok-clause-allowed g c = λ none.
 
 pub returns-in-Err-clause-refusal : goal.returns-in-Err-clause-refusal
 returns-in-Err-clause-refusal g c = out_refused c.args.terms c.args.self.now c.args.action c.in-Err.refusal c.in-Err.ensures.refusal
+
+pub returns-in-Err-clause-refused : goal.returns-in-Err-clause-refused
+returns-in-Err-clause-refused g c = out_refused c.args.terms c.args.self.now c.args.action c.in-Err.refusal c.in-Err.ensures.refusal ∙ on_terms_is c.args.terms c.args.self.now c.args.action
 
 pub returns-in-Err-clause-alone : goal.returns-in-Err-clause-alone
 returns-in-Err-clause-alone g c = λ alone. out_refused no_terms c.args.self.now c.args.action c.in-Err.refusal c.in-Err.ensures.refusal

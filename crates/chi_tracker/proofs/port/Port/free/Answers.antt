@@ -1,4 +1,4 @@
-use Rattle.std.proofs.Common.{refl, sym, ◌∙◌, subst}
+use Rattle.std.proofs.Common.{refl, sym, ap, ◌∙◌, subst}
 use Rattle.chi_tracker.specs.declared.step.AtomicStep.TheVariants.{Free}
 use Rattle.chi_tracker.specs.Steps.{shown, port_of, frees}
 use Rattle.chi_tracker.specs.Calls.{Owner, owner_in}
@@ -11,8 +11,12 @@ pub returns-clause-acts : goal.returns-clause-acts
 returns-clause-acts g c =
     let i = c.self.inside in let seat = c.in-Some.port_seat in let e = c.args.entry.0 in
     let own = owner_is i.port_seat seat c.args.self.now (sym c.take.ensures.value ∙ c.in-Some.is) c.self.view_is in
-    subst (λ (w : Owner). Does w (One (Free e)) (owner_in c.free_step.new.port_seat)) (sym own)
-    (does_one (owner_in seat) (owner_in c.free_step.new.port_seat) (Free e) c.free_step.result (rw (sym c.from.ensures) c.free_step.ensures.acts))
+    record {
+      table = c.free_step.ensures.table ∙ ap (λ o. o.table) (sym own);
+      acts = subst (λ (w : Owner). Does w (One (Free e)) (owner_in c.free_step.new.port_seat)) (sym own)
+          (does_one (owner_in seat) (owner_in c.free_step.new.port_seat) (Free e) c.free_step.result (rw (sym c.from.ensures) c.free_step.ensures.acts));
+      running = c.free_step.ensures.after;
+    }
 
 pub invariant_of-self : goal.invariant_of-self
 invariant_of-self g c =

@@ -1,12 +1,11 @@
-use Rattle.std.proofs.Common.{◌≡◌, ◌<◌, sym, ap, ◌∙◌, subst, arith}
+use Rattle.std.proofs.Common.{◌≡◌, ℕ, sym, ap, ◌∙◌, subst, arith}
 use Rattle.chi_flit.specs.Credit.{credit_number}
-use Rattle.chi_tracker.specs.declared.shape.Shape.{Shape}
-use Rattle.chi_tracker.specs.Shape.{low}
 use Rattle.chi_tracker.specs.Views.{PortView, has}
 use Rattle.chi_tracker.specs.Steps.{shown, port_of, spends}
-use Rattle.chi_tracker.specs.Calls.{IsLowestSeen}
-use Rattle.chi_tracker.proofs.BitLaws.{with_here}
-use Rattle.chi_tracker.proofs.Entries.{credit_below, of_credit}
+use Rattle.chi_tracker.specs.declared.step.AtomicStep.TheVariants.{Spend}
+use Rattle.chi_tracker.specs.Calls.{Owner, owner_in, IsLowestSeen}
+use Rattle.chi_tracker.specs.Conduct.{Does, One}
+use Rattle.chi_tracker.proofs.Entries.{credit_below}
 use Rattle.chi_tracker.proofs.Upkeep.{held_of, owner_is, one_due, in_bounds, word_of, as_byte, kind_below, spent_held, lowest_seen, spent_less}
 use Rattle.chi_tracker.proofs.port.Port.spend.Goals as goal
 
@@ -34,10 +33,6 @@ overflow_sub-self g c =
     let i = c.self.inside in let seat = c.in-Some.port_seat in
     let held = held_of i.port_seat seat i.number i.shape i.seen i.due (sym c.take.ensures.value ∙ c.in-Some.is) c.self.invariant in
     one_due (shown seat.me) i.number i.shape i.seen i.due c.number-kind.result held (kind_below c.number-kind.result c.args.ty c.number-kind.ensures) c.pay.ensures.due
-
-pub returns-clause-table : goal.returns-clause-table
-returns-clause-table g c =
-    c.pay.ensures.table ∙ ap (λ w. w.table) (sym (owner_is c.self.inside.port_seat c.in-Some.port_seat c.args.self.now (sym c.take.ensures.value ∙ c.in-Some.is) c.self.view_is))
 
 pub overflow_cast-result : goal.overflow_cast-result
 overflow_cast-result g c =
@@ -72,17 +67,6 @@ returns-clause-port g c =
     let at = ap (λ w. w.port) (owner_is i.port_seat seat c.args.self.now (sym c.take.ensures.value ∙ c.in-Some.is) c.self.view_is) in
     ap port_of c.pay.ensures.view ∙ ap (λ t. spends t e (port_of (shown seat.me))) c.number-kind.ensures ∙ ap (λ p. spends (credit_number c.args.ty) e p) (sym at)
 
-pub returns-clause-mine : goal.returns-clause-mine
-returns-clause-mine g c = ap (λ m. has c.lowest-entry.result (port_of m)) c.pay.ensures.view ∙ with_here (port_of (shown c.in-Some.port_seat.me)).hand c.lowest-entry.result
-
-pub returns-clause-entry : goal.returns-clause-entry
-unfolding returns-clause-lowest
-returns-clause-entry g c =
-    let i = c.self.inside in let seat = c.in-Some.port_seat in let e = c.lowest-entry.result in
-    let at = ap (λ w. w.port) (owner_is i.port_seat seat c.args.self.now (sym c.take.ensures.value ∙ c.in-Some.is) c.self.view_is) in
-    let kept = ap (λ m. (port_of m).shape) c.pay.ensures.view ∙ ap (λ p. p.shape) (sym at) in
-    subst (λ (s : Shape). e < low s 4) (sym kept) (of_credit c.args.self.now.port.shape c.args.ty e (returns-clause-lowest g c).0)
-
 pub returns-clause-fewer : goal.returns-clause-fewer
 returns-clause-fewer g c =
     let i = c.self.inside in let seat = c.in-Some.port_seat in let t = credit_number c.args.ty in let e = c.lowest-entry.result in
@@ -91,3 +75,14 @@ returns-clause-fewer g c =
     let found = returns-clause-lowest g c in
     spent_less c.args.self.now.port (shown seat.me) (shown c.pay.new.port_seat.me) i.number i.shape i.seen i.due t e held (omega arith) at (credit_below c.args.ty) found.0 found.1
     (ap (λ m. (port_of m).shape) c.pay.ensures.view) (ap (λ m. (port_of m).seen) c.pay.ensures.view)
+
+pub returns-clause-acts : goal.returns-clause-acts
+returns-clause-acts g c =
+    let i = c.self.inside in let seat = c.in-Some.port_seat in let e = c.lowest-entry.result in let q = owner_in c.pay.new.port_seat in
+    let own = owner_is i.port_seat seat c.args.self.now (sym c.take.ensures.value ∙ c.in-Some.is) c.self.view_is in
+    let here : Does (owner_in seat) (One (Spend c.number-kind.result e)) q = c.pay.ensures.acts in
+    record {
+      table = c.pay.ensures.table ∙ ap (λ o. o.table) (sym own);
+      acts = subst (λ (w : Owner). Does w (One (Spend (credit_number c.args.ty) e)) q) (sym own) (subst (λ (t : ℕ). Does (owner_in seat) (One (Spend t e)) q) c.number-kind.ensures here);
+      running = c.pay.ensures.after;
+    }

@@ -1,5 +1,6 @@
 use Rattle.std.proofs.Common.{ap, ◌∙◌, sym, subst, length}
 use Rattle.chi_tracker.specs.Totals.{views_of, longest, IsClosed}
+use Rattle.chi_tracker.specs.Witness.{GoesOnFromEach}
 use Rattle.chi_tracker.proofs.Balance.{views-length, closes, balances}
 use Rattle.chi_tracker.proofs.tracker.Tracker.close.Goals as goal
 
@@ -16,3 +17,6 @@ returns-clause-closed g c =
 
 pub returns-clause-balanced : goal.returns-clause-balanced
 returns-clause-balanced g c = balances c.args.self.shape (views_of c.args.ports.items) (longest c.args.ports.items) c.counts-counts.result c.credits-requesters.result.items (returns-clause-closed g c)
+
+pub returns-clause-later : goal.returns-clause-later
+returns-clause-later g c = subst (GoesOnFromEach c.args.ports.items) c.gather-port_seat.ensures.history c.gather-port_seat.ensures.later

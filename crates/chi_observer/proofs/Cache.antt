@@ -1,0 +1,135 @@
+-- A flit of a cache: it is taken where a world sends it, and leads to what is meant.
+use Rattle.std.proofs.Common.{◌≡◌, ℕ, ◌<◌, List, refl, sym, subst, ◌∙◌}
+use Rattle.std.specs.Prelude.{Bool, true, false, ◌&&◌, not, Some}
+use Rattle.chi_observer.specs.declared.flits.Due.{Due}
+use Rattle.chi_observer.specs.declared.flits.CacheFlit.{CacheFlit}
+use Rattle.chi_observer.specs.Copies.{Held, holds_data, same}
+use Rattle.chi_observer.specs.Copies.Copy.{UniqueDirty}
+use Rattle.chi_observer.specs.Rules.{has_data, due_after}
+use Rattle.chi_observer.specs.Tables.{Known, most, reach, fresh, told_after, fits_told, renews}
+use Rattle.chi_observer.specs.Worlds.{World, Clean, Sends}
+use Rattle.chi_observer.specs.Observed.{Observed, Sound, Unstored, Meaning, fits, takes, differs, next}
+use Rattle.chi_observer.specs.Laws.{MeaningIsCoherent, CacheFlitsAreTaken, CacheFlitsLead}
+use Rattle.chi_observer.proofs.Finite.{no, left, right, both, implies, follow}
+use Rattle.chi_observer.proofs.Facts.{surely_dirty, unstored_clean, sent_data, taken_well, forward, below, rival, turned, flip, contrary, implied}
+use Rattle.chi_observer.proofs.Words.{known_fits, shown_fits, home_is, current_is}
+use Rattle.chi_observer.proofs.Put.{split, everywhere, at_it, at_else}
+
+-- where nobody is told unique and dirty, and nobody has stored, the home has the value
+agreed_by : (o : Observed) (w : World) → Sound o → Meaning o w → (c : Bool) → o.current ≡ c → ((k : ℕ) → k < 32 → same (most (o.told k)) UniqueDirty ≡ false) → Unstored o w → w.last ≡ w.home
+agreed_by o w sound m true c h u = m.current c u
+agreed_by o w sound m false c h u = let d = sound.owner c in no (sym (h d.0 d.1) ∙ d.2)
+
+pub agreed : (o : Observed) (w : World) → Sound o → Meaning o w → ((k : ℕ) → k < 32 → same (most (o.told k)) UniqueDirty ≡ false) → Unstored o w → w.last ≡ w.home
+agreed o w sound m = agreed_by o w sound m o.current refl
+
+cleanly_by : (o : Observed) (w : World) → Sound o → Meaning o w → (c : Bool) → o.current ≡ c → Clean w → w.home ≡ w.last
+cleanly_by o w sound m true c h = sym (m.current c (λ k lk. unstored_clean (o.public.due k) (o.told k) (w.state k) (h k lk)))
+cleanly_by o w sound m false c h = let d = sound.owner c in no (sym (h d.0 d.1) ∙ surely_dirty (o.public.due d.0) (o.told d.0) (w.state d.0) d.2 (m.told d.0 d.1))
+
+pub coherent : MeaningIsCoherent
+coherent o w sound m = record {
+  memory = cleanly_by o w sound m o.current refl;
+  pairs = λ n k ln lk d. below (o.public.due n) (o.public.due k) (o.told n) (o.told k) (w.state n) (w.state k) (m.told n ln) (m.told k lk) (sound.pairs n k ln lk d);
+  words = m.words;
+}
+
+module _ (o : Observed) (f : CacheFlit) (w w' : World) (sound : Sound o) (low : f.agent.0 < 32) (m : Meaning o w) (send : Sends o.public f w w') where
+  abbrev n : ℕ
+  n = f.agent.0
+
+  abbrev d : Due
+  d = o.public.due n
+
+  abbrev t : Known
+  t = o.told n
+
+  abbrev s : Held
+  s = w.state n
+
+  abbrev s' : Held
+  s' = w'.state n
+
+  abbrev r : Bool
+  r = renews f.act d t
+
+  abbrev b : Bool
+  b = differs o f
+
+  abbrev d' : Due
+  d' = due_after f.act d
+
+  abbrev t' : Known
+  t' = told_after f.act d t b
+
+  holds : has_data f.act ≡ true → holds_data s.copy ≡ true
+  holds = sent_data f.act d s s' send.act
+
+  -- the words are the value
+  shown_last : has_data f.act ≡ true → f.shown ≡ w.last
+  shown_last h = send.shown h ∙ m.words n low (holds h)
+
+  unstored : has_data f.act ≡ true → fresh d t s ≡ false → Unstored o w
+  unstored h e = split (λ k. k < 32 → fresh (o.public.due k) (o.told k) (w.state k) ≡ false) n (λ _. e)
+      (λ k c lk. rival d (o.public.due k) t (o.told k) s (w.state k) (m.told n low) (holds h) (sound.pairs n k low lk (λ x. c (sym x))))
+
+  known_is : has_data f.act ≡ true → fresh d t s ≡ false → o.current ≡ true → (u : List ℕ) → o.home ≡ Some u → u ≡ f.shown
+  known_is h e c u k = sym (m.home u k) ∙ sym (m.current c (unstored h e)) ∙ sym (shown_last h)
+
+  -- where they are others than the known ones the copy was stored to
+  stored_by : (e : Bool) → fresh d t s ≡ e → b ≡ true → (has_data f.act && e) ≡ true
+  stored_by true e h = both (has_data f.act) true (left _ _ h) refl
+  stored_by false e h =
+      let shows : has_data f.act ≡ true = left _ _ h in
+      let rest : (o.current && not (fits o.home f.shown)) ≡ true = right (has_data f.act) _ h in
+      no (sym (turned _ (right o.current _ rest)) ∙ known_fits o.home f.shown (known_is shows e (left _ _ rest)))
+
+  facts : taken_well f.act d t s b s' ≡ true
+  facts = forward f.act d t s s' b (m.told n low) (implied b _ (stored_by (fresh d t s) refl)) send.act
+
+  fitting : fits_told f.act d t ≡ true
+  fitting = left _ _ facts
+
+  facts2 : (implies (not r) (implies (fresh d t s) (fresh d' t' s')) && (implies (has_data f.act) (implies (not r) (not (fresh d t s))) && implies (holds_data s'.copy) (holds_data s.copy))) ≡ true
+  facts2 = right (reach d' t' s') _ (right (fits_told f.act d t) _ facts)
+
+  reached : reach d' t' s' ≡ true
+  reached = left (reach d' t' s') _ (right (fits_told f.act d t) _ facts)
+
+  keeps : r ≡ false → fresh d' t' s' ≡ false → fresh d t s ≡ false
+  keeps e = contrary (fresh d t s) (fresh d' t' s') (follow (not r) _ (left _ _ facts2) (flip r e))
+
+  facts3 : (implies (has_data f.act) (implies (not r) (not (fresh d t s))) && implies (holds_data s'.copy) (holds_data s.copy)) ≡ true
+  facts3 = right (implies (not r) (implies (fresh d t s) (fresh d' t' s'))) _ facts2
+
+  had_data : holds_data s'.copy ≡ true → holds_data s.copy ≡ true
+  had_data = follow (holds_data s'.copy) (holds_data s.copy) (right (implies (has_data f.act) (implies (not r) (not (fresh d t s)))) _ facts3)
+
+  still : has_data f.act ≡ true → r ≡ false → fresh d t s ≡ false
+  still h e = turned (fresh d t s) (follow (not r) _ (follow (has_data f.act) _ (left _ (implies (holds_data s'.copy) (holds_data s.copy)) facts3) h) (flip r e))
+
+  pub taken_here : takes o f ≡ true
+  taken_here = both _ _ send.allowed (both (fits_told f.act d t) _ fitting (shown_fits (has_data f.act) r o.current o.home f.shown (λ h e c u k. known_is h (still h e) c u k)))
+
+  before : r ≡ false → Unstored (next o f) w' → Unstored o w
+  before e u = split (λ k. k < 32 → fresh (o.public.due k) (o.told k) (w.state k) ≡ false) n
+      (λ _. keeps e (at_it (λ k x y. k < 32 → fresh x y (w'.state k) ≡ false) n d' t' o.public.due o.told u low))
+      (λ k h lk. subst (λ x. fresh (o.public.due k) (o.told k) x ≡ false) (send.others.state k lk h)
+      (at_else (λ k x y. k < 32 → fresh x y (w'.state k) ≡ false) n d' t' o.public.due o.told u k h lk))
+
+  pub led_here : Meaning (next o f) w'
+  led_here = record {
+    told = everywhere (λ k x y. k < 32 → reach x y (w'.state k) ≡ true) n d' t' o.public.due o.told (λ _. reached)
+        (λ k h lk. subst (λ x. reach (o.public.due k) (o.told k) x ≡ true) (sym (send.others.state k lk h)) (m.told k lk));
+    words = split (λ k. k < 32 → holds_data (w'.state k).copy ≡ true → w'.words k ≡ w'.last) n
+        (λ lk v. send.words v ∙ m.words n lk (had_data v) ∙ sym send.last)
+        (λ k h lk v. send.others.words k lk h ∙ m.words k lk (subst (λ (x : Held). holds_data x.copy ≡ true) (send.others.state k lk h) v) ∙ sym send.last);
+    home = λ v h. send.home ∙ home_is (has_data f.act) f.shown w.home o.home v m.home h;
+    current = λ c u. send.last ∙ current_is (has_data f.act) r o.current f.shown w.home w.last (λ h. sym (shown_last h)) (λ e c. m.current c (before e u)) c ∙ sym send.home;
+  }
+
+pub taken : CacheFlitsAreTaken
+taken o f w w' sound low m send = taken_here o f w w' sound low m send
+
+pub leads : CacheFlitsLead
+leads o f w w' sound low m send = led_here o f w w' sound low m send

@@ -1,0 +1,142 @@
+-- An agent's copy at a flit of the home, and the others beside it.
+use Rattle.std.proofs.Common.{rules, arith, ◌≡◌, ◌≢◌, ℕ, ◌<◌, zero, suc, refl, sym, ap, subst, ◌∙◌}
+use Rattle.std.specs.Prelude.{Bool, true, false, ◌&&◌, ◌||◌, ◌==◌, not, Option}
+use Rattle.chi_flit.specs.declared.snoop.Snoop.{Snoop}
+use Rattle.chi_observer.specs.declared.flits.Due.{Due}
+use Rattle.std.proofs.lemmas.Bool.{eqb-true}
+use Rattle.chi_observer.specs.declared.flits.HomeFlit.{HomeFlit}
+use Rattle.chi_observer.specs.Copies.{Copy, Held, holds_data, is_unique, is_dirty, same}
+use Rattle.chi_observer.specs.Copies.Copy.{Invalid, UniqueDirty}
+use Rattle.chi_observer.specs.Rules.{is_free, is_due, gives_data, granted, fills, due_granted}
+use Rattle.chi_observer.specs.Tables.{Known, most, reach, fresh, goes_with, told_granted, fills_told}
+use Rattle.chi_observer.specs.Worlds.{World, home_may, all_below, put}
+use Rattle.chi_observer.specs.Observed.{Observed, Sound, Meaning, goes, takes_home, next_home}
+use Rattle.chi_observer.specs.Laws.{HomeFlitsKeepSound}
+use Rattle.chi_observer.proofs.Finite.{no, left, right, both, implies, follow}
+use Rattle.chi_observer.proofs.Facts.{turned, flip, and_false, contrary, goes_back, same_truth, same_truth_is}
+use Rattle.chi_observer.proofs.Grants.{keeps_dirty, given_well, given, lone, filled}
+use Rattle.chi_observer.proofs.Cache.{agreed}
+use Rattle.chi_observer.proofs.Put.{unlike, differ, here, there, split, pairwise}
+
+each_step : (k : ℕ) (f : ℕ → Bool) (m : ℕ) (b : Bool) → (m == k) ≡ b → f k ≡ true → (m < k → f m ≡ true) → m < suc k → f m ≡ true
+each_step k f m true e here rest l = subst (λ x. f x ≡ true) (sym (eqb-true m k e)) here
+each_step k f m false e here rest l = let d : m ≢ k = differ m k e in rest (search (rules, arith))
+
+pub each_below : (k : ℕ) (f : ℕ → Bool) → all_below k f ≡ true → (m : ℕ) → m < k → f m ≡ true
+each_below zero f h m l = absurd (search (rules, arith))
+each_below (suc k) f h m l = each_step k f m (m == k) refl (left (f k) (all_below k f) h) (each_below k f (right (f k) (all_below k f) h) m) l
+
+pub below_all : (k : ℕ) (f : ℕ → Bool) → ((m : ℕ) → m < k → f m ≡ true) → all_below k f ≡ true
+below_all zero f h = refl
+below_all (suc k) f h = both (f k) (all_below k f) (h k (search (rules, arith))) (below_all k f (λ m l. h m (search (rules, arith))))
+
+one_of : (a b : Bool) → (a || b) ≡ true → a ≡ false → b ≡ true
+one_of true b h e = no (sym e)
+one_of false b h e = h
+
+module _ (o : Observed) (g : HomeFlit) (sound : Sound o) (low : g.agent.0 < 32) (takes : takes_home o g ≡ true) where
+  abbrev at : ℕ
+  at = g.agent.0
+
+  abbrev left_told : Known
+  left_told = told_granted g.grant (o.told at)
+
+  pub goes_else : (m : ℕ) → m ≢ at → m < 32 → goes_with left_told (o.told m) ≡ true
+  goes_else m h k = one_of (m == at) _ (each_below 32 (λ m. m == at || goes_with left_told (o.told m)) (right _ (goes o g) (right (home_may o.public g) _ takes)) m k) (unlike m at h)
+
+  kept_here : Sound (next_home o g)
+  kept_here = record {
+    pairs = λ i j li lj d. pairwise (λ i j a b. i < 32 → j < 32 → goes_with a b ≡ true) at left_told o.told
+        (λ m h l k. goes_else m h k) (λ m h k l. goes_back left_told (o.told m) (goes_else m h k)) (λ i j d li lj. sound.pairs i j li lj d) i j d li lj;
+    owner = λ e. let w = sound.owner e in (
+      w.0,
+      w.1,
+      split (λ k. same (most (o.told k)) UniqueDirty ≡ true → same (most (put at left_told o.told k)) UniqueDirty ≡ true) at
+          (λ h. subst (λ x. same (most x) UniqueDirty ≡ true) (sym (here at left_told o.told)) (keeps_dirty g.grant (o.public.due at) (o.public.snooped at) (o.told at) h))
+          (λ k d h. subst (λ x. same (most x) UniqueDirty ≡ true) (sym (there at left_told o.told k d)) h) w.0 w.2,
+    );
+  }
+
+pub home_kept : HomeFlitsKeepSound
+home_kept o g sound low takes = kept_here o g sound low takes
+
+-- the agent's copy in a world
+module _ (o : Observed) (g : HomeFlit) (low : g.agent.0 < 32) (may : home_may o.public g ≡ true) where
+  abbrev n : ℕ
+  n = g.agent.0
+
+  abbrev d : Due
+  d = o.public.due n
+
+  abbrev q : Option Snoop
+  q = o.public.snooped n
+
+  abbrev t : Known
+  t = o.told n
+
+  abbrev d' : Due
+  d' = due_granted g.grant d
+
+  abbrev t' : Known
+  t' = told_granted g.grant t
+
+  pub fitting : is_due g.grant d q ≡ true
+  fitting = left _ _ may
+
+  module _ (s : Held) (r : reach d t s ≡ true) where
+    facts : given_well g.grant d q t s ≡ true
+    facts = given g.grant d q t s (both _ _ fitting r)
+
+    pub reached : reach d' t' (granted g.grant s) ≡ true
+    reached = left _ _ facts
+
+    facts2 : (implies (fresh d t s) (fresh d' t' (granted g.grant s)) && (same_truth (fills_told g.grant t) (fills g.grant s) && (implies (holds_data (granted g.grant s).copy && not (fills g.grant s)) (holds_data s.copy) && implies (fills g.grant s) (not (fresh d t s))))) ≡ true
+    facts2 = right (reach d' t' (granted g.grant s)) _ facts
+
+    pub unfresh : fresh d' t' (granted g.grant s) ≡ false → fresh d t s ≡ false
+    unfresh = contrary (fresh d t s) _ (left _ _ facts2)
+
+    facts3 : (same_truth (fills_told g.grant t) (fills g.grant s) && (implies (holds_data (granted g.grant s).copy && not (fills g.grant s)) (holds_data s.copy) && implies (fills g.grant s) (not (fresh d t s)))) ≡ true
+    facts3 = right (implies (fresh d t s) (fresh d' t' (granted g.grant s))) _ facts2
+
+    pub fills_same : fills_told g.grant t ≡ fills g.grant s
+    fills_same = same_truth_is _ _ (left _ _ facts3)
+
+    facts4 : (implies (holds_data (granted g.grant s).copy && not (fills g.grant s)) (holds_data s.copy) && implies (fills g.grant s) (not (fresh d t s))) ≡ true
+    facts4 = right (same_truth (fills_told g.grant t) (fills g.grant s)) _ facts3
+
+    pub had_data : holds_data (granted g.grant s).copy ≡ true → fills g.grant s ≡ false → holds_data s.copy ≡ true
+    had_data v e = follow _ _ (left _ _ facts4) (both _ _ v (flip _ e))
+
+    pub still : fills g.grant s ≡ true → fresh d t s ≡ false
+    still f = turned _ (follow (fills g.grant s) _ (right (implies (holds_data (granted g.grant s).copy && not (fills g.grant s)) (holds_data s.copy)) _ facts4) f)
+
+-- where its data fill a copy the home's words are the value
+not_dirty : (g : Bool) (t : Known) → (g && not (is_dirty (most t))) ≡ true → same (most t) UniqueDirty ≡ false
+not_dirty g t h = unowned (most t) (turned _ (right g _ h))
+  where
+    unowned : (s : Copy) → is_dirty s ≡ false → same s UniqueDirty ≡ false
+    unowned s e = search (rules, arith)
+
+module _ (o : Observed) (g : HomeFlit) (w : World) (sound : Sound o) (low : g.agent.0 < 32) (takes : takes_home o g ≡ true) (m : Meaning o w) where
+  abbrev at' : ℕ
+  at' = g.agent.0
+
+  may' : home_may o.public g ≡ true
+  may' = left _ _ takes
+
+  pub filled_last : fills g.grant (w.state at') ≡ true → w.last ≡ w.home
+  filled_last f =
+      let full : fills_told g.grant (o.told at') ≡ true = fills_same o g low may' (w.state at') (m.told at' low) ∙ f in
+      let valid : same (most (told_granted g.grant (o.told at'))) Invalid ≡ false = filled g.grant (o.public.due at') (o.public.snooped at') (o.told at') (both _ _ (fitting o g low may') full) in
+      let rest : (k : ℕ) → k ≢ at' → k < 32 → is_unique (most (o.told k)) ≡ false = λ k h lk. lone (told_granted g.grant (o.told at')) (o.told k) valid (goes_else o g sound low takes k h lk) in
+      agreed o w sound m
+      (split (λ k. k < 32 → same (most (o.told k)) UniqueDirty ≡ false) at'
+      (λ _. not_dirty (gives_data g.grant) (o.told at') full)
+      (λ k h lk. not_unique (most (o.told k)) (rest k h lk)))
+      (split (λ k. k < 32 → fresh (o.public.due k) (o.told k) (w.state k) ≡ false) at'
+      (λ _. still o g low may' (w.state at') (m.told at' low) f)
+      (λ k h lk. and_false (is_free (o.public.due k) (w.state k)) _ (ap (λ b. b && same (w.state k).copy UniqueDirty) (rest k h lk))))
+    where
+      not_unique : (s : Copy) → is_unique s ≡ false → same s UniqueDirty ≡ false
+      not_unique s e = search (rules, arith)

@@ -1,0 +1,324 @@
+-- The tables fit one another: tried at each place.
+use Rattle.std.proofs.Common.{rules, arith, ◌≡◌, refl, sym, ap, subst, ◌∙◌}
+use Rattle.std.specs.Prelude.{Bool, true, false, ◌&&◌, ◌||◌, not, Option, Some, None, if◌then◌else◌}
+use Rattle.chi_flit.specs.declared.kind.Kind.TheVariants.{Evict}
+use Rattle.chi_observer.specs.declared.told.Told.{Told}
+use Rattle.chi_observer.specs.declared.told.Told.TheVariants.{SD}
+use Rattle.chi_observer.specs.declared.flits.Due.{Due}
+use Rattle.chi_observer.specs.declared.flits.Due.TheVariants.{Nothing, Resending}
+use Rattle.chi_observer.specs.declared.flits.Act.{Act}
+use Rattle.chi_observer.specs.declared.flits.Act.TheVariants.{Request, Resend, CompAck}
+use Rattle.chi_observer.specs.Copies.{Copy, Held, holds_data, is_unique, is_dirty, is_clean, same, compatible}
+use Rattle.chi_observer.specs.Copies.Copy.{Invalid, UniqueDirty, SharedDirty}
+use Rattle.chi_observer.specs.Rules.{is_free, is_resending, acts, has_data, due_after}
+use Rattle.chi_observer.specs.Tables.{Known, strongest, most, may, may_drift, reach, fresh, goes_with, told_behind, told_after, fits_told, tells_dirty, renews}
+use Rattle.chi_observer.proofs.Finite.{no, left, right, both, implies, follow, all_spots, each_spot, all_sent, each_sent, all_told_spots, each_told_spot, all_act_tolds, each_act_told, all_due_copies, each_due_copy, all_pairs, each_pair, all_told_pairs, each_told_pair, all_copy_pairs, each_copy_pair}
+
+pub turned : (b : Bool) → not b ≡ true → b ≡ false
+turned true h = no h
+turned false h = refl
+
+pub flip : (b : Bool) → b ≡ false → not b ≡ true
+flip true h = no (sym h)
+flip false h = refl
+
+pub contrary : (a b : Bool) → implies a b ≡ true → b ≡ false → a ≡ false
+contrary true b h e = no (sym e ∙ h)
+contrary false b h e = refl
+
+pub and_false : (a b : Bool) → b ≡ false → (a && b) ≡ false
+and_false true b h = h
+and_false false b h = refl
+
+pub implied : (a b : Bool) → (a ≡ true → b ≡ true) → implies a b ≡ true
+implied true b h = h refl
+implied false b h = refl
+
+abbrev pub same_truth : Bool → Bool → Bool
+same_truth true b = b
+same_truth false b = not b
+
+pub same_truth_is : (a b : Bool) → same_truth a b ≡ true → a ≡ b
+same_truth_is true b h = sym h
+same_truth_is false true h = no h
+same_truth_is false false h = refl
+
+pub same_is : (a b : Copy) → same a b ≡ true → a ≡ b
+same_is a b h = search (rules, arith)
+
+abbrev pub same_held : Held → Held → Bool
+same_held a b = same a.copy b.copy && same_truth a.cancelled b.cancelled
+
+pub same_held_is : (a b : Held) → same_held a b ≡ true → a ≡ b
+same_held_is a b h = λ i. record { copy = same_is a.copy b.copy (left _ _ h) i; cancelled = same_truth_is a.cancelled b.cancelled (right (same a.copy b.copy) _ h) i }
+
+-- a copy of another form, cancelled or not as one is
+abbrev pub of_form : Copy → Held → Held
+of_form s h = record { copy = s; cancelled = h.cancelled }
+
+-- what is sent with data has data
+abbrev pub on_some : Option Held → (Held → Bool) → Bool
+on_some None f = true
+on_some (Some s) f = f s
+
+some_of : (o : Option Held) (s' : Held) (f : Held → Bool) → on_some o f ≡ true → o ≡ Some s' → f s' ≡ true
+some_of o s' f h e = subst (λ (x : Option Held). on_some x f ≡ true) e h
+
+sent_table : Act → Due → Held → Bool
+sent_table a d s = on_some (acts a d s) (λ s'. implies (has_data a) (holds_data s.copy))
+
+sent_holds : all_sent sent_table ≡ true
+unfolding sent_table
+sent_holds = refl
+
+pub sent_data : (a : Act) (d : Due) (s s' : Held) → acts a d s ≡ Some s' → has_data a ≡ true → holds_data s.copy ≡ true
+unfolding sent_table
+sent_data a d s s' e h = follow (has_data a) _ (some_of (acts a d s) s' (λ s'. implies (has_data a) (holds_data s.copy)) (each_sent sent_table sent_holds a d s) e) h
+
+-- what a flit that is sent leaves; b: its data aren't the value that is known
+abbrev pub taken_well : Act → Due → Known → Held → Bool → Held → Bool
+taken_well a d t s b s' = fits_told a d t
+    && (reach (due_after a d) (told_after a d t b) s'
+    && (implies (not (renews a d t)) (implies (fresh d t s) (fresh (due_after a d) (told_after a d t b) s'))
+    && (implies (has_data a) (implies (not (renews a d t)) (not (fresh d t s)))
+    && implies (holds_data s'.copy) (holds_data s.copy))))
+
+forward_table : Act → Due → Known → Held → Bool → Bool
+forward_table a d t s b = implies (reach d t s && implies b (has_data a && fresh d t s)) (on_some (acts a d s) (taken_well a d t s b))
+
+forward_holds : all_spots forward_table ≡ true
+unfolding forward_table
+forward_holds = refl
+
+pub forward : (a : Act) (d : Due) (t : Known) (s s' : Held) (b : Bool) → reach d t s ≡ true → implies b (has_data a && fresh d t s) ≡ true → acts a d s ≡ Some s' → taken_well a d t s b s' ≡ true
+unfolding forward_table
+forward a d t s s' b r h e = some_of (acts a d s) s' (taken_well a d t s b) (follow (reach d t s && implies b (has_data a && fresh d t s)) _ (each_spot forward_table forward_holds a d t s b) (both _ _ r h)) e
+
+-- the copy before, where it is told t and the flit leaves s': the strongest, a dirty one where the flit says so
+abbrev pub stored_before : Told → Copy
+stored_before SD = SharedDirty
+stored_before other = UniqueDirty
+
+abbrev pub copy_before : Act → Due → Known → Held → Held
+copy_before (Request Evict) d t s' = record { copy = most t; cancelled = is_resending d }
+copy_before (Request kind) d t s' = record { copy = s'.copy; cancelled = is_resending d }
+copy_before (Resend kind) d t s' = s'
+copy_before CompAck d t s' = s'
+copy_before a d t s' = of_form (if tells_dirty a then stored_before t.told else most t) s'
+
+abbrev pub is_some_of : Option Held → Held → Bool
+is_some_of None s' = false
+is_some_of (Some s) s' = same_held s s'
+
+abbrev pub led_well : Act → Due → Known → Held → Held → Bool → Bool
+led_well a d t s s' b = reach d t s
+    && (is_some_of (acts a d s) s'
+    && (implies (b || (renews a d t && not (has_data a))) (fresh d t s)
+    && implies (has_data a) (holds_data s.copy)))
+
+-- right behind the last flit, before hidden steps
+abbrev pub is_settled : Due → Known → Held → Bool
+is_settled Nothing t s = may t.told s.copy
+is_settled (Resending kind) t s = may t.told s.copy && same_truth s.cancelled t.cancelled
+is_settled other t s = true
+
+abbrev pub led_to : Act → Due → Known → Held → Bool → Bool
+led_to a d t s' b = fits_told a d t && (reach (due_after a d) (told_after a d t b) s' && (is_settled (due_after a d) (told_after a d t b) s' && implies b (has_data a && renews a d t)))
+
+backward_table : Act → Due → Known → Held → Bool → Bool
+backward_table a d t s' b = implies (led_to a d t s' b) (led_well a d t (copy_before a d t s') s' b)
+
+backward_holds : all_spots backward_table ≡ true
+unfolding backward_table
+backward_holds = refl
+
+pub backward : (a : Act) (d : Due) (t : Known) (s' : Held) (b : Bool) → led_to a d t s' b ≡ true → led_well a d t (copy_before a d t s') s' b ≡ true
+unfolding backward_table
+backward a d t s' b = follow (led_to a d t s' b) _ (each_spot backward_table backward_holds a d t s' b)
+
+pub some_same : (o : Option Held) (s : Held) → is_some_of o s ≡ true → o ≡ Some s
+some_same None s h = no h
+some_same (Some a) s h = ap (λ (x : Held). Some x) (same_held_is a s h)
+
+-- what may be below a told copy
+below_table : Due → Known → Held → Bool
+below_table d t s = implies (reach d t s) (may_drift t.told s.copy)
+
+below_holds : all_due_copies below_table ≡ true
+unfolding below_table
+below_holds = refl
+
+drifted : (d : Due) (t : Known) (s : Held) → reach d t s ≡ true → may_drift t.told s.copy ≡ true
+unfolding below_table
+drifted d t s h = follow (reach d t s) _ (each_due_copy below_table below_holds d t s) h
+
+pairs_table : Told → Told → Copy → Copy → Bool
+pairs_table t u s r = implies (may_drift t s) (implies (may_drift u r) (implies (compatible (strongest t) (strongest u)) (compatible s r)))
+
+pairs_holds : all_pairs pairs_table ≡ true
+unfolding pairs_table
+pairs_holds = refl
+
+pub below : (d e : Due) (t u : Known) (s r : Held) → reach d t s ≡ true → reach e u r ≡ true → goes_with t u ≡ true → compatible s.copy r.copy ≡ true
+unfolding pairs_table
+below d e t u s r a b c = follow (goes_with t u) _ (follow (may_drift u.told r.copy) _ (follow (may_drift t.told s.copy) _ (each_pair pairs_table pairs_holds t.told u.told s.copy r.copy) (drifted d t s a)) (drifted e u r b)) c
+
+-- beside a copy with data none may be stored to
+rival_table : Told → Told → Copy → Copy → Bool
+rival_table t u s r = implies (may_drift t s) (implies (holds_data s) (implies (compatible (strongest t) (strongest u)) (not (is_unique (strongest u) && same r UniqueDirty))))
+
+rival_holds : all_pairs rival_table ≡ true
+unfolding rival_table
+rival_holds = refl
+
+pub rival : (d e : Due) (t u : Known) (s r : Held) → reach d t s ≡ true → holds_data s.copy ≡ true → goes_with t u ≡ true → fresh e u r ≡ false
+unfolding rival_table
+rival d e t u s r a v c = and_false (is_free e r) (is_unique (most u) && same r.copy UniqueDirty) (turned _ (follow (goes_with t u) _ (follow (holds_data s.copy) _ (follow (may_drift t.told s.copy) _ (each_pair rival_table rival_holds t.told u.told s.copy r.copy) (drifted d t s a)) v) c))
+
+-- what is told then goes with what went with what was told
+told_table : Act → Due → Known → Told → Bool
+told_table a d t u = implies (fits_told a d t) (implies (compatible (most t) (strongest u)) (compatible (strongest (told_behind a d t.told)) (strongest u)))
+
+told_holds : all_told_spots told_table ≡ true
+unfolding told_table
+told_holds = refl
+
+pub told_goes : (a : Act) (d : Due) (t u : Known) (b : Bool) → fits_told a d t ≡ true → goes_with t u ≡ true → goes_with (told_after a d t b) u ≡ true
+unfolding told_table
+told_goes a d t u b f c = follow (goes_with t u) _ (follow (fits_told a d t) _ (each_told_spot told_table told_holds a d t u.told) f) c
+
+-- dirty, for sure
+dirty_table : Due → Known → Held → Bool
+dirty_table d t s = implies (same (most t) UniqueDirty && reach d t s) (is_dirty s.copy)
+
+dirty_holds : all_due_copies dirty_table ≡ true
+unfolding dirty_table
+dirty_holds = refl
+
+pub surely_dirty : (d : Due) (t : Known) (s : Held) → same (most t) UniqueDirty ≡ true → reach d t s ≡ true → is_dirty s.copy ≡ true
+unfolding dirty_table
+surely_dirty d t s h r = follow _ _ (each_due_copy dirty_table dirty_holds d t s) (both _ _ h r)
+
+stays_table : Act → Due → Known → Bool
+stays_table a d t = implies (fits_told a d t && (not (has_data a) && (same (most t) UniqueDirty || renews a d t))) (same (strongest (told_behind a d t.told)) UniqueDirty)
+
+stays_holds : all_act_tolds stays_table ≡ true
+unfolding stays_table
+stays_holds = refl
+
+pub stays_dirty : (a : Act) (d : Due) (t : Known) (b : Bool) → (fits_told a d t && (not (has_data a) && (same (most t) UniqueDirty || renews a d t))) ≡ true → same (most (told_after a d t b)) UniqueDirty ≡ true
+unfolding stays_table
+stays_dirty a d t b = follow _ _ (each_act_told stays_table stays_holds a d t)
+
+clean_table : Due → Known → Held → Bool
+clean_table d t s = implies (not (is_dirty s.copy)) (not (fresh d t s))
+
+clean_holds : all_due_copies clean_table ≡ true
+unfolding clean_table
+clean_holds = refl
+
+pub unstored_clean : (d : Due) (t : Known) (s : Held) → is_dirty s.copy ≡ false → fresh d t s ≡ false
+unfolding clean_table
+unstored_clean d t s h = turned _ (follow _ _ (each_due_copy clean_table clean_holds d t s) (flip _ h))
+
+-- a store, a drop, and a cancel
+store_table : Due → Known → Held → Bool
+store_table d t s = implies (is_free d s && (reach d t s && is_unique s.copy)) (reach d t (of_form UniqueDirty s) && fresh d t (of_form UniqueDirty s))
+
+store_holds : all_due_copies store_table ≡ true
+unfolding store_table
+store_holds = refl
+
+pub store_well : (d : Due) (t : Known) (s : Held) → (is_free d s && (reach d t s && is_unique s.copy)) ≡ true → (reach d t (of_form UniqueDirty s) && fresh d t (of_form UniqueDirty s)) ≡ true
+unfolding store_table
+store_well d t s = follow _ _ (each_due_copy store_table store_holds d t s)
+
+drop_table : Due → Known → Held → Bool
+drop_table d t s = implies (is_free d s && (reach d t s && is_clean s.copy)) (reach d t (of_form Invalid s) && not (fresh d t s))
+
+drop_holds : all_due_copies drop_table ≡ true
+unfolding drop_table
+drop_holds = refl
+
+pub drop_well : (d : Due) (t : Known) (s : Held) → (is_free d s && (reach d t s && is_clean s.copy)) ≡ true → (reach d t (of_form Invalid s) && not (fresh d t s)) ≡ true
+unfolding drop_table
+drop_well d t s = follow _ _ (each_due_copy drop_table drop_holds d t s)
+
+abbrev pub gone : Held → Held
+gone s = record { copy = s.copy; cancelled = true }
+
+abbrev pub waiting : Held → Held
+waiting s = record { copy = s.copy; cancelled = false }
+
+cancel_table : Due → Known → Held → Bool
+cancel_table d t s = implies (is_resending d && (reach d t s && not s.cancelled)) (reach d t (gone s) && not (fresh d t s))
+
+cancel_holds : all_due_copies cancel_table ≡ true
+unfolding cancel_table
+cancel_holds = refl
+
+pub cancel_well : (d : Due) (t : Known) (s : Held) → (is_resending d && (reach d t s && not s.cancelled)) ≡ true → (reach d t (gone s) && not (fresh d t s)) ≡ true
+unfolding cancel_table
+cancel_well d t s = follow _ _ (each_due_copy cancel_table cancel_holds d t s)
+
+-- from the strongest copy to the copy: a store, nothing, or a drop
+way_table : Due → Known → Held → Bool
+way_table d t s = implies (is_free d s && (reach d t s && not (may t.told s.copy && not (fresh d t s)))) ((reach d t (of_form (most t) s) && may t.told (most t)) && (if fresh d t s then is_unique (most t) && same s.copy UniqueDirty else is_clean (most t) && same s.copy Invalid))
+
+way_holds : all_due_copies way_table ≡ true
+unfolding way_table
+way_holds = refl
+
+pub way : (d : Due) (t : Known) (s : Held) → (is_free d s && (reach d t s && not (may t.told s.copy && not (fresh d t s)))) ≡ true → ((reach d t (of_form (most t) s) && may t.told (most t)) && (if fresh d t s then is_unique (most t) && same s.copy UniqueDirty else is_clean (most t) && same s.copy Invalid)) ≡ true
+unfolding way_table
+way d t s = follow _ _ (each_due_copy way_table way_holds d t s)
+
+-- and before, a cancel, or nothing
+back_table : Due → Known → Held → Bool
+back_table d t s = implies (reach d t s && implies (is_free d s) (may t.told s.copy)) (is_settled d t s || (is_resending d && (s.cancelled && (reach d t (waiting s) && is_settled d t (waiting s)))))
+
+back_holds : all_due_copies back_table ≡ true
+unfolding back_table
+back_holds = refl
+
+pub way_back : (d : Due) (t : Known) (s : Held) → (reach d t s && implies (is_free d s) (may t.told s.copy)) ≡ true → (is_settled d t s || (is_resending d && (s.cancelled && (reach d t (waiting s) && is_settled d t (waiting s))))) ≡ true
+unfolding back_table
+way_back d t s = follow _ _ (each_due_copy back_table back_holds d t s)
+
+-- the strongest copy, waiting if it may
+abbrev pub top_copy : Due → Known → Held
+top_copy d t = record { copy = most t; cancelled = is_resending d && t.cancelled }
+
+self_table : Due → Known → Held → Bool
+self_table d t s = reach d t (top_copy d t)
+
+self_holds : all_due_copies self_table ≡ true
+unfolding self_table
+self_holds = refl
+
+pub reach_self : (d : Due) (t : Known) → reach d t (top_copy d t) ≡ true
+unfolding self_table
+reach_self d t = each_due_copy self_table self_holds d t (record { copy = Invalid; cancelled = false })
+
+goes_back_table : Told → Told → Bool
+goes_back_table t u = implies (compatible (strongest t) (strongest u)) (compatible (strongest u) (strongest t))
+
+goes_back_holds : all_told_pairs goes_back_table ≡ true
+unfolding goes_back_table
+goes_back_holds = refl
+
+pub goes_back : (t u : Known) → goes_with t u ≡ true → goes_with u t ≡ true
+unfolding goes_back_table
+goes_back t u = follow (goes_with t u) _ (each_told_pair goes_back_table goes_back_holds t.told u.told)
+
+-- beside a unique copy no other has data
+unique_table : Copy → Copy → Bool
+unique_table s r = implies (is_unique s) (implies (compatible s r) (not (holds_data r)))
+
+unique_holds : all_copy_pairs unique_table ≡ true
+unfolding unique_table
+unique_holds = refl
+
+pub beside_unique : (s r : Copy) → is_unique s ≡ true → compatible s r ≡ true → holds_data r ≡ false
+unfolding unique_table
+beside_unique s r h c = turned _ (follow (compatible s r) _ (follow (is_unique s) _ (each_copy_pair unique_table unique_holds s r) h) c)

@@ -1,0 +1,74 @@
+-- A flit of the home leads to what is meant, and is safe.
+use Rattle.std.proofs.Common.{◌≡◌, ◌⊎◌, inl, inr, ℕ, ◌<◌, List, refl, sym, ap, subst, ◌∙◌}
+use Rattle.std.specs.Prelude.{Bool, true, false, Option, Some, if◌then◌else◌}
+use Rattle.chi_observer.specs.declared.flits.Due.{Due}
+use Rattle.chi_observer.specs.declared.flits.HomeFlit.{HomeFlit}
+use Rattle.chi_observer.specs.Copies.{Held, holds_data}
+use Rattle.chi_observer.specs.Rules.{fills, due_granted}
+use Rattle.chi_observer.specs.Tables.{Known, reach, fresh, told_granted, fills_told}
+use Rattle.chi_observer.specs.Worlds.{World, Gives, Informed, home_may}
+use Rattle.chi_observer.specs.Observed.{Observed, Sound, Unstored, Meaning, takes_home, next_home}
+use Rattle.chi_observer.specs.Laws.{HomeFlitsAreSafe, HomeFlitsLead}
+use Rattle.chi_observer.proofs.Finite.{left}
+use Rattle.chi_observer.proofs.Words.{some_is}
+use Rattle.chi_observer.proofs.Copies.{home_kept, reached, unfresh, fills_same, had_data, filled_last}
+use Rattle.chi_observer.proofs.Put.{split, everywhere, at_it, at_else}
+use Rattle.chi_observer.proofs.Cache.{coherent}
+
+value_cases : (e : Bool) (x : List ℕ) (o : Option (List ℕ)) (v : List ℕ) → (if e then Some x else o) ≡ Some v → ((e ≡ true) × (x ≡ v)) ⊎ ((e ≡ false) × (o ≡ Some v))
+value_cases true x o v h = inl (refl, some_is x v h)
+value_cases false x o v h = inr (refl, h)
+
+module _ (o : Observed) (g : HomeFlit) (w w' : World) (sound : Sound o) (low : g.agent.0 < 32) (takes : takes_home o g ≡ true) (m : Meaning o w) (informed : Informed g w) (gives : Gives g w w') where
+  abbrev n : ℕ
+  n = g.agent.0
+
+  abbrev d : Due
+  d = o.public.due n
+
+  abbrev t : Known
+  t = o.told n
+
+  abbrev s : Held
+  s = w.state n
+
+  abbrev d' : Due
+  d' = due_granted g.grant d
+
+  abbrev t' : Known
+  t' = told_granted g.grant t
+
+  may : home_may o.public g ≡ true
+  may = left _ _ takes
+
+  words_after : holds_data (w'.state n).copy ≡ true → (b : Bool) → fills g.grant s ≡ b → (if fills g.grant s then g.shown else w.words n) ≡ w.last
+  words_after v true f = ap (λ b. if b then g.shown else w.words n) f ∙ sym (filled_last o g w sound low takes m f ∙ informed f)
+  words_after v false f = ap (λ b. if b then g.shown else w.words n) f ∙ m.words n low (had_data o g low may s (m.told n low) (subst (λ (x : Held). holds_data x.copy ≡ true) gives.state v) f)
+
+  before : Unstored (next_home o g) w' → Unstored o w
+  before u = split (λ k. k < 32 → fresh (o.public.due k) (o.told k) (w.state k) ≡ false) n
+      (λ _. unfresh o g low may s (m.told n low) (subst (λ x. fresh d' t' x ≡ false) gives.state (at_it (λ k a b. k < 32 → fresh a b (w'.state k) ≡ false) n d' t' o.public.due o.told u low)))
+      (λ k h lk. subst (λ x. fresh (o.public.due k) (o.told k) x ≡ false) (gives.others.state k lk h)
+      (at_else (λ k a b. k < 32 → fresh a b (w'.state k) ≡ false) n d' t' o.public.due o.told u k h lk))
+
+  home_here : (v : List ℕ) → ((fills_told g.grant t ≡ true) × (g.shown ≡ v)) ⊎ ((fills_told g.grant t ≡ false) × (o.home ≡ Some v)) → w'.home ≡ v
+  home_here v (inl c) = gives.home ∙ informed (sym (fills_same o g low may s (m.told n low)) ∙ c.0) ∙ c.1
+  home_here v (inr c) = gives.home ∙ m.home v c.1
+
+  pub lead_here : Meaning (next_home o g) w'
+  lead_here = record {
+    told = everywhere (λ k a b. k < 32 → reach a b (w'.state k) ≡ true) n d' t' o.public.due o.told
+        (λ _. subst (λ x. reach d' t' x ≡ true) (sym gives.state) (reached o g low may s (m.told n low)))
+        (λ k h lk. subst (λ x. reach (o.public.due k) (o.told k) x ≡ true) (sym (gives.others.state k lk h)) (m.told k lk));
+    words = split (λ k. k < 32 → holds_data (w'.state k).copy ≡ true → w'.words k ≡ w'.last) n
+        (λ lk v. gives.words v ∙ words_after v (fills g.grant s) refl ∙ sym gives.last)
+        (λ k h lk v. gives.others.words k lk h ∙ m.words k lk (subst (λ (x : Held). holds_data x.copy ≡ true) (gives.others.state k lk h) v) ∙ sym gives.last);
+    home = λ v e. home_here v (value_cases (fills_told g.grant t) g.shown o.home v e);
+    current = λ c u. gives.last ∙ m.current c (before u) ∙ sym gives.home;
+  }
+
+pub home_leads : HomeFlitsLead
+home_leads o g w w' sound low takes m informed gives = lead_here o g w w' sound low takes m informed gives
+
+pub home_safe : HomeFlitsAreSafe
+home_safe o g w sound low takes m informed = (left _ _ takes, λ w' gives. coherent (next_home o g) w' (home_kept o g sound low takes) (home_leads o g w w' sound low takes m informed gives))

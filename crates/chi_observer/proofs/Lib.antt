@@ -1,0 +1,15 @@
+mod Finite
+mod Facts
+mod Grants
+mod Words
+mod Put
+mod Cache
+mod Comes
+mod Rewind
+mod Back
+mod Copies
+mod Home
+mod Origin
+mod Top
+mod Runs
+mod Lines

@@ -1,0 +1,107 @@
+-- The code's observer after a flit is what is kept then.
+use Rattle.std.proofs.Common.{◌≡◌, ℕ, zero, suc, ◌<◌, List, length, refl, sym, subst, ap, ◌∙◌, slice_set}
+use Rattle.std.proofs.Math.Path.{fun_ext}
+use Rattle.std.proofs.lemmas.List.{get_or-set_other}
+use Rattle.std.proofs.lemmas.Grind.{get_or-set_at}
+use Rattle.std.specs.Prelude.{replicate, Bool, true, false, ◌&&◌, ◌||◌, not, Option, Some, None, if◌then◌else◌}
+use Rattle.chi_flit.specs.declared.snoop.Snoop.{Snoop}
+use Rattle.chi_observer.specs.declared.flits.Due.{Due}
+use Rattle.chi_observer.specs.declared.flits.CacheFlit.{CacheFlit}
+use Rattle.chi_observer.specs.declared.flits.HomeFlit.{HomeFlit}
+use Rattle.chi_observer.specs.declared.observer.AgentSeen.{AgentSeen}
+use Rattle.chi_observer.specs.declared.observer.Observer.{Observer}
+use Rattle.chi_observer.specs.Rules.{has_data, passes_duty, needs_duty}
+use Rattle.chi_observer.specs.Tables.{Known, told_after, renews, fills_told}
+use Rattle.chi_observer.specs.Worlds.{put}
+use Rattle.chi_observer.specs.Observed.{Observed, differs, next, next_home}
+use Rattle.chi_observer.specs.Runs.{nothing_told}
+use Rattle.chi_observer.specs.Lines.{nobody, agent_of, known_of, observed, agent_after, agent_granted}
+use Rattle.chi_observer.proofs.Finite.{no}
+use Rattle.chi_observer.proofs.Put.{here, there, split}
+
+-- what is read of each agent, where one is set
+mapped : {B : Type 0} (f : AgentSeen → B) (xs : List AgentSeen) (n : ℕ) (x : AgentSeen) → n < length xs → (λ (m : ℕ). f (agent_of (slice_set xs n x) m)) ≡ put n (f x) (λ (m : ℕ). f (agent_of xs m))
+mapped f xs n x low = fun_ext (split (λ m. f (agent_of (slice_set xs n x) m) ≡ put n (f x) (λ (k : ℕ). f (agent_of xs k)) m) n
+    (ap f (get_or-set_at xs n n x nobody refl low) ∙ sym (here n (f x) (λ (k : ℕ). f (agent_of xs k))))
+    (λ m h. ap f (get_or-set_other xs n m x nobody h) ∙ sym (there n (f x) (λ (k : ℕ). f (agent_of xs k)) m h)))
+
+abbrev made : (ℕ → Due) → (ℕ → Option Snoop) → Bool → (ℕ → Known) → Option (List ℕ) → Bool → Observed
+made e q d t v c = record { public = record { due = e; snooped = q; duty = d }; told = t; home = v; current = c }
+
+made_same : (e e' : ℕ → Due) (q q' : ℕ → Option Snoop) (d d' : Bool) (t t' : ℕ → Known) (v v' : Option (List ℕ)) (c c' : Bool) → e ≡ e' → q ≡ q' → d ≡ d' → t ≡ t' → v ≡ v' → c ≡ c' → made e q d t v c ≡ made e' q' d' t' v' c'
+made_same e e' q q' d d' t t' v v' c c' he hq hd ht hv hc = λ i. made (he i) (hq i) (hd i) (ht i) (hv i) (hc i)
+
+abbrev pub whole : List AgentSeen → Option (List ℕ) → Bool → Bool → Observer
+whole agents home current duty = record { agents = agents; home = home; current = current; duty = duty }
+
+module _ (agents : List AgentSeen) (home : Option (List ℕ)) (current duty : Bool) (x : AgentSeen) (home' : Option (List ℕ)) (current' duty' : Bool) where
+  pub sent_after : (f : CacheFlit) (b : Bool) → f.agent.0 < length agents → x ≡ agent_after f.act (agent_of agents f.agent.0) b → b ≡ differs (observed (whole agents home current duty)) f → home' ≡ (if has_data f.act then Some f.shown else home) → current' ≡ (if has_data f.act then true else (if renews f.act (agent_of agents f.agent.0).due (known_of (agent_of agents f.agent.0)) then false else current)) → duty' ≡ (duty || passes_duty f.act) → observed (whole (slice_set agents f.agent.0 x) home' current' duty') ≡ next (observed (whole agents home current duty)) f
+  sent_after f b low e hb hv hc hd =
+      let n = f.agent.0 in
+      made_same _ _ _ _ _ _ _ _ _ _ _ _
+      (mapped (λ a. a.due) agents n x low ∙ ap (λ (y : AgentSeen). put n y.due (λ (m : ℕ). (agent_of agents m).due)) e)
+      (mapped (λ a. a.snooped) agents n x low ∙ ap (λ (y : AgentSeen). put n y.snooped (λ (m : ℕ). (agent_of agents m).snooped)) e)
+      hd
+      (mapped known_of agents n x low ∙ ap (λ (y : AgentSeen). put n (known_of y) (λ (m : ℕ). known_of (agent_of agents m))) e
+      ∙ ap (λ (z : Bool). put n (told_after f.act (agent_of agents n).due (known_of (agent_of agents n)) z) (λ (m : ℕ). known_of (agent_of agents m))) hb)
+      hv
+      hc
+
+  pub given_after : (g : HomeFlit) → g.agent.0 < length agents → x ≡ agent_granted g.grant (agent_of agents g.agent.0) → home' ≡ (if fills_told g.grant (known_of (agent_of agents g.agent.0)) then Some g.shown else home) → duty' ≡ (duty && not (needs_duty g.grant)) → observed (whole (slice_set agents g.agent.0 x) home' current duty') ≡ next_home (observed (whole agents home current duty)) g
+  given_after g low e hv hd =
+      let n = g.agent.0 in
+      made_same _ _ _ _ _ _ _ _ _ _ _ _
+      (mapped (λ a. a.due) agents n x low ∙ ap (λ (y : AgentSeen). put n y.due (λ (m : ℕ). (agent_of agents m).due)) e)
+      (mapped (λ a. a.snooped) agents n x low ∙ ap (λ (y : AgentSeen). put n y.snooped (λ (m : ℕ). (agent_of agents m).snooped)) e)
+      hd
+      (mapped known_of agents n x low ∙ ap (λ (y : AgentSeen). put n (known_of y) (λ (m : ℕ). known_of (agent_of agents m))) e)
+      hv
+      refl
+
+  pub sent_by : (f : CacheFlit) (n : ℕ) (b shows r : Bool) → n ≡ f.agent.0 → n < length agents → x ≡ agent_after f.act (agent_of agents n) b → b ≡ differs (observed (whole agents home current duty)) f → shows ≡ has_data f.act → r ≡ renews f.act (agent_of agents n).due (known_of (agent_of agents n)) → home' ≡ (if shows then Some f.shown else home) → current' ≡ (if shows then true else (if r then false else current)) → duty' ≡ (duty || passes_duty f.act) → observed (whole (slice_set agents n x) home' current' duty') ≡ next (observed (whole agents home current duty)) f
+  sent_by f n b shows r hn low e hb hs hr hv hc hd =
+      ap (λ (k : ℕ). observed (whole (slice_set agents k x) home' current' duty')) hn
+      ∙ sent_after f b (subst (λ (k : ℕ). k < length agents) hn low) (e ∙ ap (λ (k : ℕ). agent_after f.act (agent_of agents k) b) hn) hb
+      (hv ∙ ap (λ (z : Bool). if z then Some f.shown else home) hs)
+      (hc ∙ ap (λ (z : Bool). if z then true else (if r then false else current)) hs
+      ∙ ap (λ (z : Bool). if has_data f.act then true else (if z then false else current)) (hr ∙ ap (λ (k : ℕ). renews f.act (agent_of agents k).due (known_of (agent_of agents k))) hn))
+      hd
+
+  pub given_by : (g : HomeFlit) (n : ℕ) (full : Bool) → n ≡ g.agent.0 → n < length agents → x ≡ agent_granted g.grant (agent_of agents n) → full ≡ fills_told g.grant (known_of (agent_of agents n)) → home' ≡ (if full then Some g.shown else home) → duty' ≡ (duty && not (needs_duty g.grant)) → observed (whole (slice_set agents n x) home' current duty') ≡ next_home (observed (whole agents home current duty)) g
+  given_by g n full hn low e hf hv hd =
+      ap (λ (k : ℕ). observed (whole (slice_set agents k x) home' current duty')) hn
+      ∙ given_after g (subst (λ (k : ℕ). k < length agents) hn low) (e ∙ ap (λ (k : ℕ). agent_granted g.grant (agent_of agents k)) hn)
+      (hv ∙ ap (λ (z : Bool). if z then Some g.shown else home) (hf ∙ ap (λ (k : ℕ). fills_told g.grant (known_of (agent_of agents k))) hn))
+      hd
+
+-- at first nothing is told
+agent_new : (k n : ℕ) → agent_of (replicate k nobody) n ≡ nobody
+agent_new zero zero = refl
+agent_new zero (suc n) = refl
+agent_new (suc k) zero = refl
+agent_new (suc k) (suc n) = agent_new k n
+
+pub told_nothing : observed (whole (replicate 32 nobody) None true false) ≡ nothing_told
+told_nothing = made_same _ _ _ _ _ _ _ _ _ _ _ _
+    (fun_ext (λ n. ap (λ (a : AgentSeen). a.due) (agent_new 32 n)))
+    (fun_ext (λ n. ap (λ (a : AgentSeen). a.snooped) (agent_new 32 n)))
+    refl
+    (fun_ext (λ n. ap known_of (agent_new 32 n)))
+    refl
+    refl
+
+pub refused : (a b : Bool) → a ≡ false → false ≡ (a && b)
+refused true b h = no (sym h)
+refused false b h = refl
+
+words_stand : (h r c x : Bool) → (h && (not r && (c && not x))) ≡ false → true ≡ (not h || (r || (not c || x)))
+words_stand false r c x e = refl
+words_stand true true c x e = refl
+words_stand true false false x e = refl
+words_stand true false true true e = refl
+words_stand true false true false e = no (sym e)
+
+pub all_stand : (a f h r c x : Bool) → (a && f) ≡ true → (h && (not r && (c && not x))) ≡ false → true ≡ (a && (f && (not h || (r || (not c || x)))))
+all_stand true true h r c x e g = words_stand h r c x g
+all_stand true false h r c x e g = no e
+all_stand false f h r c x e g = no e

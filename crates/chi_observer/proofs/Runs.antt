@@ -1,0 +1,116 @@
+-- Whole traces.
+use Rattle.std.proofs.Common.{rules, arith, ◌≡◌, ℕ, ◌<◌, [], ◌∷◌, refl, sym, ap, subst}
+use Rattle.std.specs.Prelude.{Bool, true, false}
+use Rattle.chi_observer.specs.declared.told.Told.TheVariants.{I}
+use Rattle.chi_observer.specs.declared.flits.Due.TheVariants.{Nothing}
+use Rattle.chi_observer.specs.declared.flits.Flit.TheVariants.{Up, Down}
+use Rattle.chi_observer.specs.Copies.{Held, holds_data}
+use Rattle.chi_observer.specs.Copies.Copy.{Invalid}
+use Rattle.chi_observer.specs.Rules.{plain}
+use Rattle.chi_observer.specs.Tables.{Known, reach, fresh}
+use Rattle.chi_observer.specs.Worlds.{World, Sends, Drift, IsSafe, public_after, public_granted}
+use Rattle.chi_observer.specs.Worlds.Drift.{Stay, Step}
+use Rattle.chi_observer.specs.Observed.{Observed, Sound, Meaning, next, next_home}
+use Rattle.chi_observer.specs.Runs.{public_of, seen, LegalIsAccepted, AcceptedIsLegal, AcceptedIsExact, AcceptedIsCoherent}
+use Rattle.chi_observer.proofs.Finite.{no, implies, follow, all_helds, each_held}
+use Rattle.chi_observer.proofs.Facts.{same_held, same_held_is, top_copy, reach_self}
+use Rattle.chi_observer.proofs.Cache.{coherent, taken, leads}
+use Rattle.chi_observer.proofs.Comes.{closed, kept}
+use Rattle.chi_observer.proofs.Back.{comes}
+use Rattle.chi_observer.proofs.Copies.{home_kept}
+use Rattle.chi_observer.proofs.Home.{home_leads, home_safe}
+use Rattle.chi_observer.proofs.Top.{home_possible, safe_taken}
+use Rattle.chi_observer.proofs.Words.{or_words}
+use Rattle.chi_observer.proofs.Origin.{home_comes}
+
+drifts : (o : Observed) (w w' : World) → Sound o → Drift o.public w w' → Meaning o w → Meaning o w'
+drifts o w w' sound Stay m = m
+drifts o w w' sound (Step {u = u} {v = v} {w = w''} h d) m = drifts o v w'' sound d (closed o u v sound m h)
+
+abbrev none : Known
+none = record { told = I; cancelled = false }
+
+start_table : Held → Bool
+start_table s = implies (reach Nothing none s) (same_held s (plain Invalid))
+
+start_holds : all_helds start_table ≡ true
+unfolding start_table
+start_holds = refl
+
+start_copy : (s : Held) → reach Nothing none s ≡ true → s ≡ plain Invalid
+unfolding start_table
+start_copy s h = same_held_is s (plain Invalid) (follow (reach Nothing none s) _ (each_held start_table start_holds s) h)
+
+pub exact : AcceptedIsExact
+exact [] a = record {
+  sound = record { pairs = λ _ _ _ _ _. refl; owner = λ e. no (sym e) };
+  public = refl;
+  meant = λ w h. record {
+    told = λ n l. subst (λ x. reach Nothing none x ≡ true) (sym (h.0 n l)) refl;
+    words = λ n l v. no (subst (λ (x : Held). holds_data x.copy ≡ true) (h.0 n l) v);
+    home = λ v e. search (rules, arith);
+    current = λ _ _. sym h.1;
+  };
+  after = λ w m. let copies : (n : ℕ) → n < 32 → w.state n ≡ plain Invalid = λ n l. start_copy (w.state n) (m.told n l) in
+      (copies, sym (m.current refl (λ n l. subst (λ x. fresh Nothing none x ≡ false) (sym (copies n l)) refl)));
+}
+exact (Up f ∷ es) a =
+    let e = exact es a.0 in
+    let same_public : (next (seen es) f).public ≡ public_of (Up f ∷ es) = ap (public_after f) e.public in
+    let sound : Sound (next (seen es) f) = kept (seen es) f e.sound a.1 a.2 in
+    record {
+      sound = sound;
+      public = same_public;
+      meant = λ w h. drifts (next (seen es) f) h.1 w sound (subst (λ p. Drift p h.1 w) (sym same_public) h.4)
+          (leads (seen es) f h.0 h.1 e.sound a.1 (e.meant h.0 h.2) (subst (λ p. Sends p f h.0 h.1) (sym e.public) h.3));
+      after = λ w m. let c = comes (seen es) f w e.sound a.1 a.2 m in
+          (c.before, c.sent, e.after c.before c.meant, subst (λ p. Sends p f c.before c.sent) e.public c.sends, subst (λ p. Drift p c.sent w) same_public c.drifts);
+    }
+exact (Down g ∷ es) a =
+    let e = exact es a.0 in
+    let same_public : (next_home (seen es) g).public ≡ public_of (Down g ∷ es) = ap (public_granted g) e.public in
+    let sound : Sound (next_home (seen es) g) = home_kept (seen es) g e.sound a.1 a.2 in
+    record {
+      sound = sound;
+      public = same_public;
+      meant = λ w h. drifts (next_home (seen es) g) h.1 w sound (subst (λ p. Drift p h.1 w) (sym same_public) h.5)
+          (home_leads (seen es) g h.0 h.1 e.sound a.1 a.2 (e.meant h.0 h.2) h.3 h.4);
+      after = λ w m. let c = home_comes (seen es) g w e.sound a.1 a.2 m in
+          (c.before, c.given, e.after c.before c.meant, c.informed, c.gives, subst (λ p. Drift p c.given w) same_public c.drifts);
+    }
+
+pub coherent_after : AcceptedIsCoherent
+coherent_after es a w h = let e = exact es a in coherent (seen es) w e.sound (e.meant w h)
+
+pub accepted : LegalIsAccepted
+accepted [] l = l
+accepted (Up f ∷ es) l =
+    let a = accepted es l.0 in let e = exact es a in let h = l.2.1 in
+    (a, l.1, taken (seen es) f h.0 h.1 e.sound l.1 (e.meant h.0 h.2) (subst (λ p. Sends p f h.0 h.1) (sym e.public) h.3))
+accepted (Down g ∷ es) l =
+    let a = accepted es l.0 in let e = exact es a in (
+      a,
+      l.1,
+      safe_taken (seen es) g e.sound l.1 (record { world = l.2.0; meant = e.meant l.2.0 l.2.1; informed = l.2.2 })
+          (λ w m i. subst (λ p. IsSafe p g w) (sym e.public) (l.3 w (e.after w m) i)),
+    )
+
+-- each copy the strongest that it is told
+inhabited : (o : Observed) → (w : World) × Meaning o w
+inhabited o = (
+  record { state = λ k. top_copy (o.public.due k) (o.told k); words = λ _. or_words o.home []; last = or_words o.home []; home = or_words o.home [] },
+  record { told = λ k _. reach_self (o.public.due k) (o.told k); words = λ _ _ _. refl; home = λ v e. ap (λ z. or_words z []) e; current = λ _ _. refl },
+)
+
+pub legal : AcceptedIsLegal
+legal [] a = a
+legal (Up f ∷ es) a =
+    let e = exact (Up f ∷ es) a in let w = inhabited (seen (Up f ∷ es)) in
+    (legal es a.0, a.1, (w.0, e.after w.0 w.1))
+legal (Down g ∷ es) a =
+    let e = exact es a.0 in let i = home_possible (seen es) g e.sound a.1 a.2 in (
+      legal es a.0,
+      a.1,
+      (i.world, e.after i.world i.meant, i.informed),
+      λ w h i. subst (λ p. IsSafe p g w) e.public (home_safe (seen es) g w e.sound a.1 a.2 (e.meant w h) i),
+    )

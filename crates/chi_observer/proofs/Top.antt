@@ -1,0 +1,104 @@
+-- A flit of the home is taken where it is safe in each world.
+use Rattle.std.proofs.Common.{◌≡◌, ℕ, ◌<◌, List, [], refl, sym, ap, subst, ◌∙◌}
+use Rattle.std.specs.Prelude.{Bool, true, false, ◌||◌, ◌==◌, not, if◌then◌else◌}
+use Rattle.chi_observer.specs.declared.flits.HomeFlit.{HomeFlit}
+use Rattle.chi_observer.specs.Copies.{Held, compatible}
+use Rattle.chi_observer.specs.Rules.{granted, fills}
+use Rattle.chi_observer.specs.Tables.{Known, most, goes_with, told_granted, fills_told}
+use Rattle.chi_observer.specs.Worlds.{World, Gives, IsSafe, Informed, home_may, put}
+use Rattle.chi_observer.specs.Observed.{Observed, Sound, Meaning, fits, goes, takes_home}
+use Rattle.chi_observer.specs.Laws.{SomeInformed, HomeFlitsArePossible, SafeFlitsAreTaken}
+use Rattle.chi_observer.proofs.Finite.{left, right, both}
+use Rattle.chi_observer.proofs.Facts.{top_copy, reach_self}
+use Rattle.chi_observer.proofs.Grants.{most_granted}
+use Rattle.chi_observer.proofs.Words.{or_words, top_value, fits_by}
+use Rattle.chi_observer.proofs.Copies.{below_all, fills_same}
+use Rattle.chi_observer.proofs.Put.{differ, here, there}
+
+gift : HomeFlit → World → World
+gift g w = record {
+  state = put g.agent.0 (granted g.grant (w.state g.agent.0)) w.state;
+  words = put g.agent.0 (if fills g.grant (w.state g.agent.0) then g.shown else w.words g.agent.0) w.words;
+  last = w.last;
+  home = w.home;
+}
+
+gift_gives : (g : HomeFlit) (w : World) → Gives g w (gift g w)
+unfolding gift
+gift_gives g w = record {
+  state = here g.agent.0 _ w.state;
+  words = λ _. here g.agent.0 _ w.words;
+  last = refl;
+  home = refl;
+  others = record { state = λ k lk h. there g.agent.0 _ w.state k h; words = λ k lk h. there g.agent.0 _ w.words k h };
+}
+
+or_right : (a b : Bool) → (a ≡ false → b ≡ true) → (a || b) ≡ true
+or_right true b h = refl
+or_right false b h = h refl
+
+top_words : Observed → HomeFlit → List ℕ
+top_words o g = if fills_told g.grant (o.told g.agent.0) then g.shown else or_words o.home []
+
+-- each copy the strongest that it is told
+top : Observed → HomeFlit → World
+top o g = record { state = λ k. top_copy (o.public.due k) (o.told k); words = λ _. top_words o g; last = top_words o g; home = top_words o g }
+
+-- what fills a told copy fills the strongest
+same_fills : (o : Observed) (g : HomeFlit) → fills_told g.grant (o.told g.agent.0) ≡ fills g.grant (top_copy (o.public.due g.agent.0) (o.told g.agent.0))
+same_fills o g = refl
+
+top_is : (o : Observed) (g : HomeFlit) → g.agent.0 < 32 → (not (fills_told g.grant (o.told g.agent.0)) || fits o.home g.shown) ≡ true → SomeInformed o g
+unfolding top top_words
+top_is o g low h = record {
+  world = top o g;
+  meant = record {
+    told = λ k lk. reach_self (o.public.due k) (o.told k);
+    words = λ _ _ _. refl;
+    current = λ _ _. refl;
+    home = λ v e. top_value (fills_told g.grant (o.told g.agent.0)) o.home g.shown v h e;
+  };
+  informed = λ f. ap (λ b. if b then g.shown else or_words o.home []) f;
+}
+
+pub home_possible : HomeFlitsArePossible
+home_possible o g sound low takes = top_is o g low (left _ (goes o g) (right (home_may o.public g) _ takes))
+
+module _ (o : Observed) (g : HomeFlit) (sound : Sound o) (low : g.agent.0 < 32) (some : SomeInformed o g) (safe : (w : World) → Meaning o w → Informed g w → IsSafe o.public g w) where
+  abbrev n : ℕ
+  n = g.agent.0
+
+  abbrev t : Known
+  t = o.told n
+
+  abbrev w : World
+  w = some.world
+
+  abbrev tops : ℕ → Held
+  tops k = top_copy (o.public.due k) (o.told k)
+
+  may : home_may o.public g ≡ true
+  may = (safe w some.meant some.informed).0
+
+  fills_here : fills_told g.grant t ≡ true → fills g.grant (w.state n) ≡ true
+  fills_here f = sym (fills_same o g low may (w.state n) (some.meant.told n low)) ∙ f
+
+  fitting : (not (fills_told g.grant t) || fits o.home g.shown) ≡ true
+  fitting = fits_by (fills_told g.grant t) o.home g.shown (λ f v e. sym (some.meant.home v e) ∙ some.informed (fills_here f))
+
+  best : SomeInformed o g
+  best = top_is o g low fitting
+
+  all_go : goes o g ≡ true
+  unfolding gift top top_words top_is best
+  all_go = below_all 32 (λ m. m == n || goes_with (told_granted g.grant t) (o.told m)) (λ m lm. or_right (m == n) _ (λ h.
+      let e = differ m n h in
+      subst (λ x. compatible x (most (o.told m)) ≡ true) (ap (λ (z : Held). z.copy) (here n (granted g.grant (tops n)) tops) ∙ most_granted g.grant (o.public.due n) (o.public.snooped n) t)
+      (subst (λ (x : Held). compatible (put n (granted g.grant (tops n)) tops n).copy x.copy ≡ true) (there n (granted g.grant (tops n)) tops m e)
+      (((safe best.world best.meant best.informed).1 (gift g best.world) (gift_gives g best.world)).pairs n m low lm (λ x. e (sym x))))))
+
+  taken_home : takes_home o g ≡ true
+  taken_home = both _ _ may (both _ _ fitting all_go)
+
+pub safe_taken : SafeFlitsAreTaken
+safe_taken o g sound low some safe = taken_home o g sound low some safe

@@ -1,0 +1,11 @@
+-- So far each goes with it.
+use Rattle.std.proofs.Common.{◌≡◌}
+use Rattle.std.specs.Prelude.{◌||◌, ◌==◌}
+use Rattle.chi_observer.specs.Copies.{compatible}
+use Rattle.chi_observer.specs.Tables.{strongest}
+use Rattle.chi_observer.specs.Worlds.{all_below}
+use Rattle.chi_observer.specs.Lines.{agent_of}
+use Rattle.chi_observer.proofs.observer.stands_beside.Given as goal
+
+abbrev pub invariant-loop-n : goal.invariant-loop-n
+invariant-loop-n l = l.beside ≡ all_below l.n (λ m. m == l.agent || compatible (strongest l.told) (strongest (agent_of l.agents m).told))

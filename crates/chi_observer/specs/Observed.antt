@@ -1,0 +1,80 @@
+-- What the observer keeps of a line, which flits it takes, and which worlds that stands for (docs/OBSERVER.md, "What is
+-- kept", "What is proved").
+use Rattle.std.specs.Prelude.{◌≡◌, ◌≢◌, ℕ, ◌<◌, ◌==◌, List, Bool, true, false, ◌&&◌, ◌||◌, not, Option, Some, None, nat_eq, if◌then◌else◌}
+use Rattle.std.specs.Cmp.Lexicographic.{pointwise}
+use Rattle.chi_observer.specs.declared.flits.CacheFlit.{CacheFlit}
+use Rattle.chi_observer.specs.declared.flits.HomeFlit.{HomeFlit}
+use Rattle.chi_observer.specs.Copies.{holds_data, same}
+use Rattle.chi_observer.specs.Copies.Copy.{UniqueDirty}
+use Rattle.chi_observer.specs.Rules.{has_data, allows}
+use Rattle.chi_observer.specs.Tables.{Known, most, reach, fresh, goes_with, told_after, fits_told, renews, told_granted, fills_told}
+use Rattle.chi_observer.specs.Worlds.{Public, World, home_may, all_below, put, public_after, public_granted}
+
+-- what flits say by themselves; what is told of each copy; the home's words, where flits have shown them; whether the
+-- value last stored is the home's, but for stores that nobody saw
+pub record Observed : Type 0 where
+  pub public : Public
+  pub told : ℕ → Known
+  pub home : Option (List ℕ)
+  pub current : Bool
+
+-- what always holds of it: what is told goes together, and where the value isn't the home's someone is surely dirty
+pub record Sound (o : Observed) : Type 0 where
+  pub pairs : (n m : ℕ) → n < 32 → m < 32 → n ≢ m → goes_with (o.told n) (o.told m) ≡ true
+  pub owner : o.current ≡ false → (n : ℕ) × (n < 32) × (same (most (o.told n)) UniqueDirty ≡ true)
+
+-- nobody has stored since the value was told
+abbrev pub Unstored : Observed → World → Type 0
+Unstored o w = (n : ℕ) → n < 32 → fresh (o.public.due n) (o.told n) (w.state n) ≡ false
+
+-- the worlds that it stands for
+pub record Meaning (o : Observed) (w : World) : Type 0 where
+  pub told : (n : ℕ) → n < 32 → reach (o.public.due n) (o.told n) (w.state n) ≡ true
+  pub words : (n : ℕ) → n < 32 → holds_data (w.state n).copy ≡ true → w.words n ≡ w.last
+  pub home : (v : List ℕ) → o.home ≡ Some v → w.home ≡ v
+  pub current : o.current ≡ true → Unstored o w → w.last ≡ w.home
+
+-- such words may be what is known
+abbrev pub fits : Option (List ℕ) → List ℕ → Bool
+fits None v = true
+fits (Some u) v = pointwise nat_eq u v
+
+-- A FLIT OF A CACHE
+-- some copy sends it, and its data are the value, where that is known
+abbrev pub takes : Observed → CacheFlit → Bool
+takes o f = allows f.act (o.public.snooped f.agent.0) && (fits_told f.act (o.public.due f.agent.0) (o.told f.agent.0)
+    && (not (has_data f.act) || (renews f.act (o.public.due f.agent.0) (o.told f.agent.0) || (not o.current || fits o.home f.shown))))
+
+-- its data are surely not the value that is known
+abbrev pub differs : Observed → CacheFlit → Bool
+differs o f = has_data f.act && (o.current && not (fits o.home f.shown))
+
+abbrev pub home_after : CacheFlit → Option (List ℕ) → Option (List ℕ)
+home_after f home = if has_data f.act then Some f.shown else home
+
+abbrev pub current_after : CacheFlit → Bool → Bool → Bool
+current_after f renewed current = if has_data f.act then true else (if renewed then false else current)
+
+abbrev pub next : Observed → CacheFlit → Observed
+next o f = record {
+  public = public_after f o.public;
+  told = put f.agent.0 (told_after f.act (o.public.due f.agent.0) (o.told f.agent.0) (differs o f)) o.told;
+  home = home_after f o.home;
+  current = current_after f (renews f.act (o.public.due f.agent.0) (o.told f.agent.0)) o.current;
+}
+
+-- A FLIT OF THE HOME
+-- no other copy is told to be what doesn't go with the agent's then
+abbrev pub goes : Observed → HomeFlit → Bool
+goes o g = all_below 32 (λ m. m == g.agent.0 || goes_with (told_granted g.grant (o.told g.agent.0)) (o.told m))
+
+abbrev pub takes_home : Observed → HomeFlit → Bool
+takes_home o g = home_may o.public g && ((not (fills_told g.grant (o.told g.agent.0)) || fits o.home g.shown) && goes o g)
+
+abbrev pub next_home : Observed → HomeFlit → Observed
+next_home o g = record {
+  public = public_granted g o.public;
+  told = put g.agent.0 (told_granted g.grant (o.told g.agent.0)) o.told;
+  home = if fills_told g.grant (o.told g.agent.0) then Some g.shown else o.home;
+  current = o.current;
+}

@@ -1,0 +1,246 @@
+-- What a cache may send, by its own copy alone, and what a flit of the home makes of a copy (Arm IHI 0050 B, chapter 4;
+-- docs/OBSERVER.md, "Flits of a cache", "Flits of the home").
+use Rattle.std.specs.Prelude.{Bool, true, false, ◌&&◌, ◌||◌, not, Option, Some, None, if◌then◌else◌}
+use Rattle.chi_flit.specs.declared.state.State.{State}
+use Rattle.chi_flit.specs.declared.state.State.TheVariants.{I, SC, UC, UD, SD}
+use Rattle.chi_flit.specs.declared.snoop.Snoop.{Snoop}
+use Rattle.chi_flit.specs.declared.snoop.Snoop.TheVariants.{SnpUnique, SnpCleanInvalid}
+use Rattle.chi_flit.specs.declared.kind.Kind.{Kind}
+use Rattle.chi_flit.specs.declared.kind.Kind.TheVariants.{ReadNotSharedDirty, ReadShared, ReadUnique, CleanUnique, Evict, WriteBackFull, WriteCleanFull, WriteEvictFull}
+use Rattle.chi_flit.specs.Kind.{is_copy_back, gives_up}
+use Rattle.chi_observer.specs.declared.flits.Due.{Due}
+use Rattle.chi_observer.specs.declared.flits.Due.TheVariants.{Nothing, Completion, Resending, SureCompletion, WriteData, Acknowledgement}
+use Rattle.chi_observer.specs.declared.flits.Answer.{Answer}
+use Rattle.chi_observer.specs.declared.flits.Answer.TheVariants.{SnpRespI, SnpRespSC, SnpRespDataI, SnpRespDataSC, SnpRespDataSD, SnpRespDataIPD, SnpRespDataSCPD}
+use Rattle.chi_observer.specs.declared.flits.Act.{Act}
+use Rattle.chi_observer.specs.declared.flits.Act.TheVariants.{Request, Resend, SnpResp, CompAck, CopyBackWrData}
+use Rattle.chi_observer.specs.declared.flits.Grant.{Grant}
+use Rattle.chi_observer.specs.declared.flits.Grant.TheVariants.{RetryAck, Snp, CompData, CompUC, CompI, CompDBIDResp}
+use Rattle.chi_observer.specs.Copies.{Copy, Held, copy_of, holds_data, is_dirty, is_clean, same}
+use Rattle.chi_observer.specs.Copies.Copy.{Invalid, SharedClean, UniqueClean, UniqueEmpty, UniqueDirty, SharedDirty}
+
+-- A CACHE
+-- the copies that a kind is issued from
+abbrev pub is_issued_from : Kind → Copy → Bool
+is_issued_from ReadNotSharedDirty s = same s Invalid || same s UniqueEmpty
+is_issued_from ReadShared s = same s Invalid || same s UniqueEmpty
+is_issued_from ReadUnique s = not (same s UniqueClean || same s UniqueDirty)
+is_issued_from CleanUnique s = not (same s UniqueClean || same s UniqueDirty)
+is_issued_from Evict s = is_clean s
+is_issued_from WriteBackFull s = is_dirty s
+is_issued_from WriteCleanFull s = is_dirty s
+is_issued_from WriteEvictFull s = same s UniqueClean
+
+-- an Evict gives its copy up
+abbrev pub issued : Kind → Copy → Copy
+issued Evict s = Invalid
+issued other s = s
+
+abbrev pub same_kind : Kind → Kind → Bool
+same_kind ReadNotSharedDirty ReadNotSharedDirty = true
+same_kind ReadShared ReadShared = true
+same_kind ReadUnique ReadUnique = true
+same_kind CleanUnique CleanUnique = true
+same_kind Evict Evict = true
+same_kind WriteBackFull WriteBackFull = true
+same_kind WriteCleanFull WriteCleanFull = true
+same_kind WriteEvictFull WriteEvictFull = true
+same_kind a b = false
+
+-- what a snoop lets a copy be left as
+abbrev pub leaves : Snoop → State → Bool
+leaves SnpUnique I = true
+leaves SnpUnique other = false
+leaves SnpCleanInvalid I = true
+leaves SnpCleanInvalid other = false
+leaves other s = true
+
+-- what an answer says is left
+abbrev pub left_by : Answer → State
+left_by SnpRespI = I
+left_by SnpRespSC = SC
+left_by SnpRespDataI = I
+left_by SnpRespDataSC = SC
+left_by SnpRespDataSD = SD
+left_by SnpRespDataIPD = I
+left_by SnpRespDataSCPD = SC
+
+-- the copies that it is given from: of a dirty one always with its data, and the duty to write them is kept or passed on
+abbrev pub is_answered_from : Answer → Copy → Bool
+is_answered_from SnpRespI s = not (is_dirty s)
+is_answered_from SnpRespSC s = is_clean s && holds_data s
+is_answered_from SnpRespDataI s = is_clean s && holds_data s
+is_answered_from SnpRespDataSC s = is_clean s && holds_data s
+is_answered_from SnpRespDataSD s = is_dirty s
+is_answered_from SnpRespDataIPD s = is_dirty s
+is_answered_from SnpRespDataSCPD s = is_dirty s
+
+-- write data have the copy's own form, or that of no copy where it isn't dirty
+abbrev pub is_written_from : State → Copy → Bool
+is_written_from I s = not (is_dirty s)
+is_written_from form s = same s (copy_of form)
+
+-- what is left of a copy that was written
+abbrev pub cleaned : State → State
+cleaned UD = UC
+cleaned SD = SC
+cleaned s = s
+
+abbrev pub written : Kind → State → State
+written kind form = if gives_up kind then I else cleaned form
+
+-- nothing is pending of such a copy: no request, or one that was retried and cancelled
+abbrev pub is_free : Due → Held → Bool
+is_free Nothing h = true
+is_free (Resending kind) h = h.cancelled
+is_free other h = false
+
+abbrev pub is_resending : Due → Bool
+is_resending (Resending kind) = true
+is_resending other = false
+
+abbrev pub plain : Copy → Held
+plain s = record { copy = s; cancelled = false }
+
+-- whether the snoop that it hasn't answered, if the flit is an answer, lets it leave what it says
+abbrev pub allows : Act → Option Snoop → Bool
+allows (SnpResp answer) None = false
+allows (SnpResp answer) (Some snoop) = leaves snoop (left_by answer)
+allows other q = true
+
+-- the copy that a flit leaves, where its cache may send it
+abbrev pub acts : Act → Due → Held → Option Held
+acts (Request kind) d h = if is_free d h && is_issued_from kind h.copy then Some (plain (issued kind h.copy)) else None
+acts (Resend kind) (Resending asked) h = if same_kind kind asked && not h.cancelled then Some h else None
+acts (SnpResp answer) d h = if is_answered_from answer h.copy then Some (record { copy = copy_of (left_by answer); cancelled = h.cancelled }) else None
+acts CompAck Acknowledgement h = Some h
+acts (CopyBackWrData form) (WriteData kind) h = if is_written_from form h.copy then Some (record { copy = copy_of (written kind form); cancelled = h.cancelled }) else None
+acts a d h = None
+
+abbrev pub answer_has_data : Answer → Bool
+answer_has_data SnpRespI = false
+answer_has_data SnpRespSC = false
+answer_has_data other = true
+
+abbrev pub form_has_data : State → Bool
+form_has_data I = false
+form_has_data other = true
+
+abbrev pub has_data : Act → Bool
+has_data (Request kind) = false
+has_data (Resend kind) = false
+has_data (SnpResp answer) = answer_has_data answer
+has_data CompAck = false
+has_data (CopyBackWrData form) = form_has_data form
+
+-- what is due then, and which snoop isn't answered
+abbrev pub due_after : Act → Due → Due
+due_after (Request kind) d = Completion kind
+due_after (Resend kind) d = SureCompletion kind
+due_after (SnpResp answer) d = d
+due_after CompAck d = Nothing
+due_after (CopyBackWrData form) d = Nothing
+
+abbrev pub snooped_after : Act → Option Snoop → Option Snoop
+snooped_after (SnpResp answer) q = None
+snooped_after other q = q
+
+-- whether it passes the duty to write dirty data to the home
+abbrev pub answer_passes : Answer → Bool
+answer_passes SnpRespDataIPD = true
+answer_passes SnpRespDataSCPD = true
+answer_passes other = false
+
+abbrev pub form_passes : State → Bool
+form_passes UD = true
+form_passes SD = true
+form_passes other = false
+
+abbrev pub passes_duty : Act → Bool
+passes_duty (SnpResp answer) = answer_passes answer
+passes_duty (CopyBackWrData form) = form_passes form
+passes_duty other = false
+
+-- THE HOME
+-- the forms of data that complete a read
+abbrev pub completes : Kind → State → Bool
+completes ReadNotSharedDirty SC = true
+completes ReadNotSharedDirty UC = true
+completes ReadNotSharedDirty UD = true
+completes ReadShared SC = true
+completes ReadShared UC = true
+completes ReadShared UD = true
+completes ReadShared SD = true
+completes ReadUnique UC = true
+completes ReadUnique UD = true
+completes kind form = false
+
+-- the completion of a request, behind its agent's answer but for an Evict's
+abbrev pub is_completed : Grant → Kind → Option Snoop → Bool
+is_completed (CompData form) kind None = completes kind form
+is_completed CompUC CleanUnique None = true
+is_completed CompI Evict q = true
+is_completed CompDBIDResp kind None = is_copy_back kind
+is_completed g kind q = false
+
+-- whether what is due of an agent, and a snoop that it hasn't answered, let it be sent
+abbrev pub is_due : Grant → Due → Option Snoop → Bool
+is_due RetryAck (Completion kind) q = true
+is_due RetryAck other q = false
+is_due (Snp snoop) d None = true
+is_due g (Completion kind) q = is_completed g kind q
+is_due g (SureCompletion kind) q = is_completed g kind q
+is_due g d q = false
+
+abbrev pub gives_data : Grant → Bool
+gives_data (CompData form) = true
+gives_data other = false
+
+-- it passes the home's duty to write dirty data on
+abbrev pub needs_duty : Grant → Bool
+needs_duty (CompData form) = form_passes form
+needs_duty other = false
+
+-- while a CompAck or write data are due at the line nothing is snooped
+abbrev pub needs_quiet : Grant → Bool
+needs_quiet (Snp snoop) = true
+needs_quiet other = false
+
+abbrev pub is_busy : Due → Bool
+is_busy (WriteData kind) = true
+is_busy Acknowledgement = true
+is_busy other = false
+
+abbrev pub upgraded : Copy → Copy
+upgraded Invalid = UniqueEmpty
+upgraded SharedClean = UniqueClean
+upgraded SharedDirty = UniqueDirty
+upgraded s = s
+
+-- the copy of its agent then: data leave a dirty one as it is, but unique
+abbrev pub copy_granted : Grant → Copy → Copy
+copy_granted (CompData form) s = if is_dirty s then UniqueDirty else copy_of form
+copy_granted CompUC s = upgraded s
+copy_granted other s = s
+
+abbrev pub granted : Grant → Held → Held
+granted g h = record { copy = copy_granted g h.copy; cancelled = h.cancelled }
+
+-- its words are the copy's then
+abbrev pub fills : Grant → Held → Bool
+fills g h = gives_data g && not (is_dirty h.copy)
+
+abbrev pub due_granted : Grant → Due → Due
+due_granted RetryAck (Completion kind) = Resending kind
+due_granted RetryAck d = d
+due_granted (Snp snoop) d = d
+due_granted (CompData form) d = Acknowledgement
+due_granted CompUC d = Acknowledgement
+due_granted CompI d = Nothing
+due_granted CompDBIDResp (Completion kind) = WriteData kind
+due_granted CompDBIDResp (SureCompletion kind) = WriteData kind
+due_granted CompDBIDResp d = d
+
+abbrev pub snooped_granted : Grant → Option Snoop → Option Snoop
+snooped_granted (Snp snoop) q = Some snoop
+snooped_granted other q = q

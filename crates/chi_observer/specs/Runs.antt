@@ -1,0 +1,64 @@
+-- Whole traces, the newest flit first (docs/OBSERVER.md, "Worlds", "What is proved").
+use Rattle.std.specs.Prelude.{◌≡◌, ℕ, ◌<◌, true, false, None, List, [], ◌∷◌, ⊤}
+use Rattle.chi_observer.specs.declared.told.Told.TheVariants.{I}
+use Rattle.chi_observer.specs.declared.flits.Due.TheVariants.{Nothing}
+use Rattle.chi_observer.specs.declared.flits.Flit.{Flit}
+use Rattle.chi_observer.specs.declared.flits.Flit.TheVariants.{Up, Down}
+use Rattle.chi_observer.specs.Copies.Copy.{Invalid}
+use Rattle.chi_observer.specs.Rules.{plain}
+use Rattle.chi_observer.specs.Worlds.{Public, World, Coherent, Sends, Drift, Gives, Informed, IsSafe, public_after, public_granted}
+use Rattle.chi_observer.specs.Observed.{Observed, Sound, Meaning, takes, next, takes_home, next_home}
+
+-- THE TRUTH
+abbrev pub quiet_public : Public
+quiet_public = record { due = λ _. Nothing; snooped = λ _. None; duty = false }
+
+abbrev pub public_of : List Flit → Public
+public_of [] = quiet_public
+public_of (Up f ∷ es) = public_after f (public_of es)
+public_of (Down g ∷ es) = public_granted g (public_of es)
+
+-- the worlds that hidden steps and the flits leave
+abbrev pub After : List Flit → World → Type 0
+After [] w = ((n : ℕ) → n < 32 → w.state n ≡ plain Invalid) × (w.home ≡ w.last)
+After (Up f ∷ es) w = (before : World) × (sent : World) × After es before × Sends (public_of es) f before sent × Drift (public_of (Up f ∷ es)) sent w
+After (Down g ∷ es) w = (before : World) × (given : World) × After es before × Informed g before × Gives g before given × Drift (public_of (Down g ∷ es)) given w
+
+-- each flit of a cache may be sent, and each of the home is safe
+abbrev pub Legal : List Flit → Type 0
+Legal [] = ⊤
+Legal (Up f ∷ es) = Legal es × (f.agent.0 < 32) × ((w : World) × After (Up f ∷ es) w)
+Legal (Down g ∷ es) = Legal es × (g.agent.0 < 32) × ((w : World) × After es w × Informed g w) × ((w : World) → After es w → Informed g w → IsSafe (public_of es) g w)
+
+-- THE OBSERVER
+abbrev pub nothing_told : Observed
+nothing_told = record { public = quiet_public; told = λ _. record { told = I; cancelled = false }; home = None; current = true }
+
+abbrev pub seen : List Flit → Observed
+seen [] = nothing_told
+seen (Up f ∷ es) = next (seen es) f
+seen (Down g ∷ es) = next_home (seen es) g
+
+abbrev pub Accepted : List Flit → Type 0
+Accepted [] = ⊤
+Accepted (Up f ∷ es) = Accepted es × (f.agent.0 < 32) × (takes (seen es) f ≡ true)
+Accepted (Down g ∷ es) = Accepted es × (g.agent.0 < 32) × (takes_home (seen es) g ≡ true)
+
+-- what holds behind an accepted trace
+pub record IsExact (es : List Flit) : Type 0 where
+  pub sound : Sound (seen es)
+  pub public : (seen es).public ≡ public_of es
+  pub meant : (w : World) → After es w → Meaning (seen es) w
+  pub after : (w : World) → Meaning (seen es) w → After es w
+
+abbrev pub LegalIsAccepted : Type 0
+LegalIsAccepted = (es : List Flit) → Legal es → Accepted es
+
+abbrev pub AcceptedIsLegal : Type 0
+AcceptedIsLegal = (es : List Flit) → Accepted es → Legal es
+
+abbrev pub AcceptedIsExact : Type 0
+AcceptedIsExact = (es : List Flit) → Accepted es → IsExact es
+
+abbrev pub AcceptedIsCoherent : Type 0
+AcceptedIsCoherent = (es : List Flit) → Accepted es → (w : World) → After es w → Coherent w

@@ -1,0 +1,200 @@
+-- The observer's tables: what is told of a copy, and how flits change it (docs/OBSERVER.md, "What is told of a copy",
+-- "Flits of a cache", "Flits of the home").
+use Rattle.std.specs.Prelude.{Bool, true, false, ◌&&◌, ◌||◌, not, if◌then◌else◌}
+use Rattle.chi_flit.specs.declared.state.State.{State}
+use Rattle.chi_flit.specs.declared.state.State.TheVariants as states
+use Rattle.chi_flit.specs.declared.kind.Kind.{Kind}
+use Rattle.chi_flit.specs.declared.kind.Kind.TheVariants.{ReadNotSharedDirty, ReadShared, ReadUnique, CleanUnique, Evict, WriteBackFull, WriteCleanFull, WriteEvictFull}
+use Rattle.chi_observer.specs.declared.told.Told.{Told}
+use Rattle.chi_observer.specs.declared.told.Told.TheVariants.{I, SC, SCOrI, UC, UCE, UCEOrI, UCOrUCE, UD, SD}
+use Rattle.chi_observer.specs.declared.flits.Due.{Due}
+use Rattle.chi_observer.specs.declared.flits.Due.TheVariants.{Nothing, Resending, WriteData, Acknowledgement}
+use Rattle.chi_observer.specs.declared.flits.Answer.{Answer}
+use Rattle.chi_observer.specs.declared.flits.Answer.TheVariants.{SnpRespI, SnpRespSC, SnpRespDataI, SnpRespDataSC, SnpRespDataSD, SnpRespDataIPD, SnpRespDataSCPD}
+use Rattle.chi_observer.specs.declared.flits.Act.{Act}
+use Rattle.chi_observer.specs.declared.flits.Act.TheVariants.{Request, Resend, SnpResp, CompAck, CopyBackWrData}
+use Rattle.chi_observer.specs.declared.flits.Grant.{Grant}
+use Rattle.chi_observer.specs.declared.flits.Grant.TheVariants.{RetryAck, CompData, CompUC}
+use Rattle.chi_observer.specs.Copies.{Copy, Held, copy_of, holds_data, is_unique, is_dirty, is_clean, same, compatible}
+use Rattle.chi_observer.specs.Copies.Copy.{Invalid, SharedClean, UniqueClean, UniqueEmpty, UniqueDirty, SharedDirty}
+use Rattle.chi_observer.specs.Rules.{is_free, same_kind, left_by, written, gives_data}
+
+-- what is told of a copy, and whether a request of its agent that was retried is surely cancelled
+pub record Known : Type 0 where
+  pub told : Told
+  pub cancelled : Bool
+
+-- the strongest that it may be
+abbrev pub strongest : Told → Copy
+strongest I = Invalid
+strongest SC = SharedClean
+strongest SCOrI = SharedClean
+strongest UC = UniqueClean
+strongest UCE = UniqueEmpty
+strongest UCEOrI = UniqueEmpty
+strongest UCOrUCE = UniqueClean
+strongest UD = UniqueDirty
+strongest SD = SharedDirty
+
+-- what it may be right behind the flit that told it
+abbrev pub may : Told → Copy → Bool
+may SCOrI s = same s SharedClean || same s Invalid
+may UCEOrI s = same s UniqueEmpty || same s Invalid
+may UCOrUCE s = same s UniqueClean || same s UniqueEmpty
+may other s = same s (strongest other)
+
+-- and later, by stores and drops
+abbrev pub may_drift : Told → Copy → Bool
+may_drift t s = may t s || ((is_unique (strongest t) && same s UniqueDirty) || (is_clean (strongest t) && same s Invalid))
+
+abbrev pub most : Known → Copy
+most k = strongest k.told
+
+-- some copy told so may have nothing pending
+abbrev pub may_be_free : Due → Bool
+may_be_free Nothing = true
+may_be_free (Resending kind) = true
+may_be_free other = false
+
+-- what it may be: of a retried request that wasn't cancelled just what was told
+abbrev pub reach : Due → Known → Held → Bool
+reach Nothing k h = not h.cancelled && may_drift k.told h.copy
+reach (Resending kind) k h = if h.cancelled then may_drift k.told h.copy else (not k.cancelled && may k.told h.copy)
+reach other k h = not h.cancelled && may k.told h.copy
+
+-- such a copy may have been stored to since it was told
+abbrev pub fresh : Due → Known → Held → Bool
+fresh d k h = is_free d h && (is_unique (most k) && same h.copy UniqueDirty)
+
+-- what is told of two copies may be so together
+abbrev pub goes_with : Known → Known → Bool
+goes_with k l = compatible (most k) (most l)
+
+abbrev pub told_as : State → Told
+told_as states.I = I
+told_as states.SC = SC
+told_as states.UC = UC
+told_as states.UD = UD
+told_as states.SD = SD
+
+-- FLITS OF A CACHE
+-- a kind that is issued with no copy or an empty one; or with a shared one too
+abbrev pub told_empty : Told → Told
+told_empty UCE = UCEOrI
+told_empty UCEOrI = UCEOrI
+told_empty UCOrUCE = UCEOrI
+told_empty other = I
+
+abbrev pub told_shared : Told → Told
+told_shared SC = SCOrI
+told_shared SCOrI = SCOrI
+told_shared SD = SD
+told_shared other = told_empty other
+
+abbrev pub told_dirty : Told → Told
+told_dirty SD = SD
+told_dirty other = UD
+
+abbrev pub told_issued : Kind → Told → Told
+told_issued ReadNotSharedDirty t = told_empty t
+told_issued ReadShared t = told_empty t
+told_issued ReadUnique t = told_shared t
+told_issued CleanUnique t = told_shared t
+told_issued Evict t = I
+told_issued WriteBackFull t = told_dirty t
+told_issued WriteCleanFull t = told_dirty t
+told_issued WriteEvictFull t = UC
+
+-- the flit says that the copy was dirty
+abbrev pub kind_tells_dirty : Kind → Bool
+kind_tells_dirty WriteBackFull = true
+kind_tells_dirty WriteCleanFull = true
+kind_tells_dirty other = false
+
+abbrev pub answer_tells_dirty : Answer → Bool
+answer_tells_dirty SnpRespDataSD = true
+answer_tells_dirty SnpRespDataIPD = true
+answer_tells_dirty SnpRespDataSCPD = true
+answer_tells_dirty other = false
+
+abbrev pub tells_dirty : Act → Bool
+tells_dirty (Request kind) = kind_tells_dirty kind
+tells_dirty (SnpResp answer) = answer_tells_dirty answer
+tells_dirty other = false
+
+-- a dirty answer to a snoop, where a request was retried: it is surely cancelled where the copy was told clean, or where
+-- its words aren't the known ones
+abbrev pub is_cancelled : Act → Due → Known → Bool → Bool
+is_cancelled (SnpResp answer) (Resending kind) k differ = k.cancelled || (answer_tells_dirty answer && (is_unique (most k) && (differ || not (same (most k) UniqueDirty))))
+is_cancelled a d k differ = false
+
+-- what is told behind a flit
+abbrev pub told_behind : Act → Due → Told → Told
+told_behind (Request kind) d t = told_issued kind t
+told_behind (SnpResp answer) d t = told_as (left_by answer)
+told_behind (CopyBackWrData form) (WriteData kind) t = told_as (written kind form)
+told_behind a d t = t
+
+abbrev pub told_after : Act → Due → Known → Bool → Known
+told_after a d k differ = record { told = told_behind a d k.told; cancelled = is_cancelled a d k differ }
+
+-- the copy may be one that the kind is issued from
+abbrev pub fits_issue : Kind → Told → Bool
+fits_issue ReadNotSharedDirty t = not (is_dirty (strongest t))
+fits_issue ReadShared t = not (is_dirty (strongest t))
+fits_issue ReadUnique t = not (same (strongest t) UniqueDirty)
+fits_issue CleanUnique t = not (same (strongest t) UniqueDirty)
+fits_issue Evict t = is_clean (strongest t)
+fits_issue WriteBackFull t = is_dirty (strongest t) || is_unique (strongest t)
+fits_issue WriteCleanFull t = is_dirty (strongest t) || is_unique (strongest t)
+fits_issue WriteEvictFull t = same (strongest t) UniqueClean
+
+-- or that the answer is given from: a store may have been where the agent has no request open
+abbrev pub fits_answer : Answer → Due → Told → Bool
+fits_answer SnpRespI d t = not (is_dirty (strongest t))
+fits_answer SnpRespSC d t = is_clean (strongest t) && holds_data (strongest t)
+fits_answer SnpRespDataI d t = is_clean (strongest t) && holds_data (strongest t)
+fits_answer SnpRespDataSC d t = is_clean (strongest t) && holds_data (strongest t)
+fits_answer dirty d t = is_dirty (strongest t) || (may_be_free d && is_unique (strongest t))
+
+abbrev pub fits_form : State → Told → Bool
+fits_form states.I t = not (is_dirty (strongest t))
+fits_form form t = same (strongest t) (copy_of form)
+
+-- whether some copy that it may be sends the flit
+abbrev pub fits_told : Act → Due → Known → Bool
+fits_told (Request kind) d k = may_be_free d && fits_issue kind k.told
+fits_told (Resend kind) (Resending asked) k = same_kind kind asked && not k.cancelled
+fits_told (SnpResp answer) d k = fits_answer answer d k.told
+fits_told CompAck Acknowledgement k = true
+fits_told (CopyBackWrData form) (WriteData kind) k = fits_form form k.told
+fits_told a d k = false
+
+-- and so that there may have been a store since
+abbrev pub renews : Act → Due → Known → Bool
+renews a d k = may_be_free d && (is_unique (most k) && tells_dirty a)
+
+-- FLITS OF THE HOME
+abbrev pub told_upgraded : Told → Told
+told_upgraded I = UCE
+told_upgraded SC = UC
+told_upgraded SCOrI = UCOrUCE
+told_upgraded UCEOrI = UCE
+told_upgraded SD = UD
+told_upgraded t = t
+
+abbrev pub told_by : Grant → Told → Told
+told_by (CompData form) t = if is_dirty (strongest t) then UD else told_as form
+told_by CompUC t = told_upgraded t
+told_by other t = t
+
+-- a request that is retried just now isn't cancelled
+abbrev pub cancelled_by : Grant → Bool → Bool
+cancelled_by RetryAck c = false
+cancelled_by other c = c
+
+abbrev pub told_granted : Grant → Known → Known
+told_granted g k = record { told = told_by g k.told; cancelled = cancelled_by g k.cancelled }
+
+abbrev pub fills_told : Grant → Known → Bool
+fills_told g k = gives_data g && not (is_dirty (most k))

@@ -1,0 +1,99 @@
+//! The flits of a line, as an observer sees them.
+
+use chi_flit::{Agent, Data, Kind, Snoop, State};
+
+/// What is due next of an agent's request to the line.
+/// Source: `docs/OBSERVER.md`, "What is kept".
+#[derive(Clone, Copy, Debug, PartialEq, Eq)]
+pub enum Due {
+    /// Nothing: no request is open.
+    Nothing,
+    /// The home's completion, or its RetryAck, of a request of this kind that was sent with AllowRetry 1.
+    Completion(Kind),
+    /// The request again, of this kind, with AllowRetry 0; or nothing, where the agent cancels it, which nobody sees.
+    Resending(Kind),
+    /// The home's completion of a request of this kind that was sent with AllowRetry 0.
+    SureCompletion(Kind),
+    /// The write data of a copy-back of this kind.
+    WriteData(Kind),
+    /// The requester's CompAck.
+    Acknowledgement,
+}
+
+/// An answer to a snoop, by its opcode and RESP.
+/// Source: `docs/OBSERVER.md`, "Flits of a cache".
+#[derive(Clone, Copy, Debug, PartialEq, Eq)]
+pub enum Answer {
+    SnpRespI,
+    SnpRespSC,
+    SnpRespDataI,
+    SnpRespDataSC,
+    SnpRespDataSD,
+    SnpRespDataIPD,
+    SnpRespDataSCPD,
+}
+
+/// What a flit of a cache is.
+/// Source: `docs/OBSERVER.md`, "Flits of a cache".
+#[derive(Clone, Copy, Debug, PartialEq, Eq)]
+pub enum Act {
+    /// A request, with AllowRetry 1.
+    Request(Kind),
+    /// A request that was retried, with AllowRetry 0.
+    Resend(Kind),
+    /// An answer to a snoop.
+    SnpResp(Answer),
+    /// The acknowledgement of a completion.
+    CompAck,
+    /// Write data, in the form of its sender's state: `UD` for `CopyBackWrData_UD_PD`, `SD` for `_SD_PD`.
+    CopyBackWrData(State),
+}
+
+/// A flit of a cache.
+#[derive(Clone, Copy, Debug, PartialEq, Eq)]
+pub struct CacheFlit {
+    /// Whose cache sends it.
+    pub agent: Agent,
+    /// What it is.
+    pub act: Act,
+    /// Its words; of no meaning where it carries none.
+    pub shown: Data,
+}
+
+/// What a flit of the home is.
+/// Source: `docs/OBSERVER.md`, "Flits of the home".
+#[derive(Clone, Copy, Debug, PartialEq, Eq)]
+pub enum Grant {
+    /// RetryAck.
+    RetryAck,
+    /// A snoop.
+    Snp(Snoop),
+    /// The data of a read, by RESP: `UD` for `CompData_UD_PD`, `SD` for `_SD_PD`.
+    CompData(State),
+    /// The completion of a CleanUnique.
+    CompUC,
+    /// The completion of an Evict.
+    CompI,
+    /// The leave to send write data.
+    CompDBIDResp,
+}
+
+/// A flit of the home.
+#[derive(Clone, Copy, Debug, PartialEq, Eq)]
+pub struct HomeFlit {
+    /// To whom it goes.
+    pub agent: Agent,
+    /// What it is.
+    pub grant: Grant,
+    /// Its words; of no meaning where it carries none.
+    pub shown: Data,
+}
+
+/// A flit of a line.
+#[derive(Clone, Copy, Debug, PartialEq, Eq)]
+pub enum Flit {
+    /// Of a cache.
+    Up(CacheFlit),
+    /// Of the home.
+    Down(HomeFlit),
+}

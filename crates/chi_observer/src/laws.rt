@@ -1,0 +1,44 @@
+//! Laws of the rules.
+
+ghost use Rattle.chi_observer.specs.Runs.{LegalIsAccepted, AcceptedIsLegal, AcceptedIsExact, AcceptedIsCoherent};
+ghost use Rattle.chi_observer.specs.Laws.{MeaningIsCoherent, MeaningIsClosed, CacheFlitsAreTaken, CacheFlitsLead, CacheFlitsKeepSound, MeaningComes, HomeFlitsKeepSound, HomeFlitsAreSafe, HomeFlitsLead, HomeFlitsArePossible, SafeFlitsAreTaken, MeaningComesByHome};
+
+/// The law that each world that the observer's state stands for is coherent, and hidden steps lead to none that it
+/// doesn't stand for.
+/// Source: `docs/OBSERVER.md`, "What is proved".
+pub fn meaning()
+    ensures coherent { MeaningIsCoherent }
+    ensures closed { MeaningIsClosed }
+{}
+
+/// The law that a flit of a cache is taken exactly where some world sends it, and leads to just the worlds that it
+/// leaves.
+/// Source: `docs/OBSERVER.md`, "What is proved".
+pub fn cache_flits()
+    ensures taken { CacheFlitsAreTaken }
+    ensures leads { CacheFlitsLead }
+    ensures sound { CacheFlitsKeepSound }
+    ensures comes { MeaningComes }
+{}
+
+/// The law that a flit of the home is taken exactly where it is safe in each world that it may be sent in, and leads
+/// to just the worlds that it leaves.
+/// Source: `docs/OBSERVER.md`, "What is proved".
+pub fn home_flits()
+    ensures sound { HomeFlitsKeepSound }
+    ensures safe { HomeFlitsAreSafe }
+    ensures leads { HomeFlitsLead }
+    ensures possible { HomeFlitsArePossible }
+    ensures taken { SafeFlitsAreTaken }
+    ensures comes { MeaningComesByHome }
+{}
+
+/// The law that a whole trace is accepted exactly where it is legal; that the worlds behind an accepted one are those
+/// that the observer's state stands for; and that all of them are coherent.
+/// Source: `docs/OBSERVER.md`, "What is proved".
+pub fn traces()
+    ensures accepted { LegalIsAccepted }
+    ensures legal { AcceptedIsLegal }
+    ensures exact { AcceptedIsExact }
+    ensures coherent { AcceptedIsCoherent }
+{}

@@ -1,0 +1,321 @@
+//! The observer of one line.
+
+ghost use Rattle.std.specs.Prelude.{◌≡◌, ◌<◌, ◌&&◌, ◌||◌, IfErr, OnOk, OnErr, Some, false, if◌then◌else◌, is_ok, not, true};
+ghost use Rattle.chi_observer.specs.Rules.{allows, needs_duty, passes_duty};
+ghost use Rattle.chi_observer.specs.Tables.{fills_told, fits_told, is_cancelled, renews};
+ghost use Rattle.chi_observer.specs.Worlds.{all_below, home_may};
+ghost use Rattle.chi_observer.specs.Observed.{differs, fits, goes, takes, takes_home, next, next_home};
+ghost use Rattle.chi_observer.specs.Runs.{nothing_told};
+ghost use Rattle.chi_observer.specs.Lines.{agent_after, agent_granted, after, is_quiet, is_reason, is_taken, known_of, observed, stands_beside};
+
+use crate::flits::{Act, CacheFlit, Due, Flit, Grant, HomeFlit};
+use crate::rules::{
+    allows, due_after, due_granted, gives_data, has_data, is_busy, is_due, needs_duty, needs_quiet,
+    passes_duty, same_kind, snooped_after, snooped_granted,
+};
+use crate::told::{Told, answer_tells_dirty, may_be_free, tells_dirty};
+use chi_flit::{Data, Snoop};
+
+/// How many agents an observer follows; their numbers are below it.
+/// Source: `docs/OBSERVER.md`, "What is kept".
+pub const AGENTS: usize = 32;
+
+/// What flits have told of one agent at the line.
+/// Source: `docs/OBSERVER.md`, "What is kept".
+#[derive(Clone, Copy, Debug, PartialEq, Eq)]
+pub struct AgentSeen {
+    /// What its copy may be.
+    pub told: Told,
+    /// Its request that was retried is surely cancelled.
+    pub cancelled: bool,
+    /// What is due next of its request.
+    pub due: Due,
+    /// The snoop that it hasn't answered.
+    pub snooped: Option<Snoop>,
+}
+
+/// What flits have told of one line.
+/// Source: `docs/OBSERVER.md`, "What is kept".
+#[derive(Clone, Debug, Drop, PartialEq, Eq)]
+pub struct Observer {
+    /// Of each agent.
+    pub agents: [AgentSeen; 32],
+    /// The words of the home's own copy, once a flit has shown them.
+    pub home: Option<Data>,
+    /// Whether the value last stored is the home's, but for stores that nobody saw.
+    pub current: bool,
+    /// Whether the home has dirty data that it must write or pass on.
+    pub duty: bool,
+}
+
+/// Why a flit isn't taken. What it rests on can be read in the observer, which it leaves as it was.
+/// Source: `docs/OBSERVER.md`, "Faults".
+#[derive(Clone, Copy, Debug, PartialEq, Eq)]
+pub enum Reason {
+    /// The agent's number is 32 or more.
+    NoAgent,
+    /// No copy that the agent may have sends this flit of a cache now.
+    NotSent,
+    /// What is due of the agent, or a snoop that it hasn't answered, doesn't let the home send it.
+    NotDue,
+    /// A CompAck or write data are due at the line, and nothing is snooped meanwhile.
+    Busy,
+    /// The home has no dirty data to pass on.
+    NoDuty,
+    /// The words are known to be others.
+    OtherWords,
+    /// Another agent's copy was told to be what doesn't go with the one that this makes.
+    OtherCopy,
+}
+
+impl Observer {
+    /// An observer of a line that no cache has a copy of, with no request open, and whose memory has any words.
+    /// Source: `docs/OBSERVER.md`, "What is kept".
+    pub fn new() -> Observer
+        ensures { observed result ≡ nothing_told }
+    {
+        let nobody = AgentSeen {
+            told: Told::I,
+            cancelled: false,
+            due: Due::Nothing,
+            snooped: None,
+        };
+        Observer {
+            agents: [nobody; 32],
+            home: None,
+            current: true,
+            duty: false,
+        }
+    }
+
+    /// Takes the next flit of the line. `Ok` exactly where the rules take it: a flit of a cache where stores and drops
+    /// that nobody saw explain it, and one of the home where it is safe whatever they were. Else the first rule that
+    /// it breaks, and nothing changes.
+    /// Source: `docs/OBSERVER.md`, "Flits of a cache", "Flits of the home".
+    #[tactic(auto, using(crate::proofs::Lines::refused))]
+    pub fn take(&mut self, flit: Flit) -> Result<(), Reason>
+        ensures taken { is_ok result ≡ is_taken (observed self.old) flit }
+        ensures after { OnOk result (observed self.new ≡ after (observed self.old) flit) }
+        ensures kept { OnErr result (self.new ≡ self.old) }
+        ensures reason { IfErr result (λ reason. is_reason (observed self.old) flit reason ≡ true) }
+    {
+        match flit {
+            Flit::Up(sent) => {
+                if sent.agent.0 >= 32 {
+                    return Err(Reason::NoAgent);
+                }
+                self.take_sent(sent)
+            }
+            Flit::Down(given) => {
+                if given.agent.0 >= 32 {
+                    return Err(Reason::NoAgent);
+                }
+                self.take_given(given)
+            }
+        }
+    }
+
+    /// Takes a flit of a cache.
+    fn take_sent(&mut self, flit: CacheFlit) -> Result<(), Reason>
+        requires { flit.agent.0 < 32 }
+        ensures taken { is_ok result ≡ takes (observed self.old) flit }
+        ensures after { OnOk result (observed self.new ≡ next (observed self.old) flit) }
+        ensures kept { OnErr result (self.new ≡ self.old) }
+        ensures reason { IfErr result (λ reason. is_reason (observed self.old) (Flit.Up flit) reason ≡ true) }
+    {
+        let at = usize::from(flit.agent.0);
+        let agent = self.agents[at];
+        if !agent.sends(flit.act) {
+            return Err(Reason::NotSent);
+        }
+        let renewed = agent.is_renewed(flit.act);
+        let shows = has_data(flit.act);
+        let known = may_be(&self.home, &flit.shown);
+        if shows && !renewed && self.current && !known {
+            return Err(Reason::OtherWords);
+        }
+        let differs = shows_others(shows, self.current, known);
+        self.agents[at] = agent.after(flit.act, differs);
+        self.duty = duty_after(self.duty, flit.act);
+        self.home = shown(shows, flit.shown, self.home);
+        self.current = current_from(shows, renewed, self.current);
+        Ok(())
+    }
+
+    /// Takes a flit of the home.
+    fn take_given(&mut self, flit: HomeFlit) -> Result<(), Reason>
+        requires { flit.agent.0 < 32 }
+        ensures taken { is_ok result ≡ takes_home (observed self.old) flit }
+        ensures after { OnOk result (observed self.new ≡ next_home (observed self.old) flit) }
+        ensures kept { OnErr result (self.new ≡ self.old) }
+        ensures reason { IfErr result (λ reason. is_reason (observed self.old) (Flit.Down flit) reason ≡ true) }
+    {
+        let at = usize::from(flit.agent.0);
+        let agent = self.agents[at];
+        if !is_due(flit.grant, agent.due, agent.snooped) {
+            return Err(Reason::NotDue);
+        }
+        if needs_duty(flit.grant) && !self.duty {
+            return Err(Reason::NoDuty);
+        }
+        if needs_quiet(flit.grant) && !is_quiet(&self.agents) {
+            return Err(Reason::Busy);
+        }
+        let fills = agent.is_filled(flit.grant);
+        if fills && !may_be(&self.home, &flit.shown) {
+            return Err(Reason::OtherWords);
+        }
+        if !stands_beside(&self.agents, flit.agent.0, agent.told.granted(flit.grant)) {
+            return Err(Reason::OtherCopy);
+        }
+        self.agents[at] = agent.granted(flit.grant);
+        self.duty = duty_granted(self.duty, flit.grant);
+        self.home = shown(fills, flit.shown, self.home);
+        Ok(())
+    }
+}
+
+impl AgentSeen {
+    /// Whether some copy that the agent may have sends the flit now.
+    fn sends(self, act: Act) -> bool
+        ensures { result ≡ (allows act self.snooped && fits_told act self.due (known_of self)) }
+    {
+        allows(act, self.snooped) && self.may_send(act)
+    }
+
+    /// Whether some copy that the agent may have sends the flit, where the snoop allows it.
+    fn may_send(self, act: Act) -> bool
+        ensures { result ≡ fits_told act self.due (known_of self) }
+    {
+        match (act, self.due) {
+            (Act::Request(kind), due) => may_be_free(due) && self.told.may_issue(kind),
+            (Act::Resend(kind), Due::Resending(asked)) => {
+                same_kind(kind, asked) && !self.cancelled
+            }
+            (Act::SnpResp(answer), due) => self.told.may_answer(answer, due),
+            (Act::CompAck, Due::Acknowledgement) => true,
+            (Act::CopyBackWrData(form), Due::WriteData(_)) => self.told.may_write(form),
+            _ => false,
+        }
+    }
+
+    /// Whether the flit says that there may have been a store since the last one.
+    fn is_renewed(self, act: Act) -> bool
+        ensures { result ≡ renews act self.due (known_of self) }
+    {
+        may_be_free(self.due) && (self.told.is_unique() && tells_dirty(act))
+    }
+
+    /// Whether the request that was retried is surely cancelled behind the flit; `differs` says that its words aren't
+    /// the known ones.
+    fn is_cancelled(self, act: Act, differs: bool) -> bool
+        ensures { result ≡ is_cancelled act self.due (known_of self) differs }
+    {
+        match (act, self.due) {
+            (Act::SnpResp(answer), Due::Resending(_)) => {
+                self.cancelled
+                    || (answer_tells_dirty(answer)
+                        && (self.told.is_unique() && (differs || !matches!(self.told, Told::UD))))
+            }
+            _ => false,
+        }
+    }
+
+    /// Whether the data of a flit of the home to the agent are its copy's words then.
+    fn is_filled(self, grant: Grant) -> bool
+        ensures { result ≡ fills_told grant (known_of self) }
+    {
+        gives_data(grant) && !self.told.is_dirty()
+    }
+
+    /// What is told of the agent behind a flit of its cache.
+    fn after(self, act: Act, differs: bool) -> AgentSeen
+        ensures { result ≡ agent_after act self differs }
+    {
+        AgentSeen {
+            told: self.told.after(act, self.due),
+            cancelled: self.is_cancelled(act, differs),
+            due: due_after(act, self.due),
+            snooped: snooped_after(act, self.snooped),
+        }
+    }
+
+    /// What is told of the agent behind a flit of the home to it.
+    fn granted(self, grant: Grant) -> AgentSeen
+        ensures { result ≡ agent_granted grant self }
+    {
+        AgentSeen {
+            told: self.told.granted(grant),
+            cancelled: !matches!(grant, Grant::RetryAck) && self.cancelled,
+            due: due_granted(grant, self.due),
+            snooped: snooped_granted(grant, self.snooped),
+        }
+    }
+}
+
+/// Whether the words may be those that are known.
+fn may_be(known: &Option<Data>, words: &Data) -> bool
+    ensures { result ≡ fits known.now words.now }
+{
+    match known {
+        None => true,
+        Some(known) => *known == *words,
+    }
+}
+
+/// Whether the home has the duty to write dirty data behind a flit of a cache.
+fn duty_after(duty: bool, act: Act) -> bool
+    ensures { result ≡ (duty || passes_duty act) }
+{
+    duty || passes_duty(act)
+}
+
+/// Whether the home has the duty to write dirty data behind a flit of its own.
+fn duty_granted(duty: bool, grant: Grant) -> bool
+    ensures { result ≡ (duty && not (needs_duty grant)) }
+{
+    duty && !needs_duty(grant)
+}
+
+/// Whether a flit shows words that are surely not the value last stored, but for a store that nobody saw.
+fn shows_others(shows: bool, current: bool, known: bool) -> bool
+    ensures { result ≡ (shows && (current && not known)) }
+{
+    shows && (current && !known)
+}
+
+/// The words that are known behind a flit.
+fn shown(shows: bool, words: Data, known: Option<Data>) -> Option<Data>
+    ensures { result ≡ (if shows then Some words else known) }
+{
+    if shows { Some(words) } else { known }
+}
+
+/// Whether the value last stored is the home's behind a flit of a cache.
+fn current_from(shows: bool, renewed: bool, current: bool) -> bool
+    ensures { result ≡ (if shows then true else (if renewed then false else current)) }
+{
+    shows || (!renewed && current)
+}
+
+/// Whether no agent has a CompAck or write data due.
+fn is_quiet(agents: &[AgentSeen; 32]) -> bool
+    ensures { result ≡ is_quiet agents.now }
+{
+    let mut quiet = true;
+    for n in 0..32 {
+        quiet = !is_busy(agents[n].due) && quiet;
+    }
+    quiet
+}
+
+/// Whether a copy that is told so goes with each that another agent may have.
+fn stands_beside(agents: &[AgentSeen; 32], agent: u8, told: Told) -> bool
+    ensures { result ≡ stands_beside agents.now agent told }
+{
+    let mut beside = true;
+    for n in 0..32u8 {
+        beside = (n == agent || told.goes_with(agents[usize::from(n)].told)) && beside;
+    }
+    beside
+}

@@ -1,0 +1,226 @@
+//! What flits say by themselves.
+
+ghost use Rattle.std.specs.Prelude.{◌≡◌};
+ghost use Rattle.chi_observer.specs.Rules.{allows, completes, due_after, due_granted, form_passes, gives_data, has_data, is_busy, is_completed, is_due, leaves, left_by, needs_duty, needs_quiet, passes_duty, same_kind, snooped_after, snooped_granted, written};
+
+use crate::flits::{Act, Answer, Due, Grant};
+use chi_flit::{Kind, Snoop, State};
+
+/// What an answer says is left of the copy.
+pub(crate) fn left_by(answer: Answer) -> State
+    ensures { result ≡ left_by answer }
+{
+    match answer {
+        Answer::SnpRespI | Answer::SnpRespDataI | Answer::SnpRespDataIPD => State::I,
+        Answer::SnpRespSC | Answer::SnpRespDataSC | Answer::SnpRespDataSCPD => State::SC,
+        Answer::SnpRespDataSD => State::SD,
+    }
+}
+
+/// Whether two kinds are one.
+pub(crate) fn same_kind(kind: Kind, other: Kind) -> bool
+    ensures { result ≡ same_kind kind other }
+{
+    matches!(
+        (kind, other),
+        (Kind::ReadNotSharedDirty, Kind::ReadNotSharedDirty)
+            | (Kind::ReadShared, Kind::ReadShared)
+            | (Kind::ReadUnique, Kind::ReadUnique)
+            | (Kind::CleanUnique, Kind::CleanUnique)
+            | (Kind::Evict, Kind::Evict)
+            | (Kind::WriteBackFull, Kind::WriteBackFull)
+            | (Kind::WriteCleanFull, Kind::WriteCleanFull)
+            | (Kind::WriteEvictFull, Kind::WriteEvictFull)
+    )
+}
+
+/// Whether the snoop that isn't answered, if the flit is an answer, lets it leave what it says.
+pub(crate) fn allows(act: Act, snooped: Option<Snoop>) -> bool
+    ensures { result ≡ allows act snooped }
+{
+    match act {
+        Act::SnpResp(answer) => match snooped {
+            None => false,
+            Some(snoop) => leaves(snoop, left_by(answer)),
+        },
+        Act::Request(_) | Act::Resend(_) | Act::CompAck | Act::CopyBackWrData(_) => true,
+    }
+}
+
+/// Whether a snoop lets a copy be left so.
+fn leaves(snoop: Snoop, left: State) -> bool
+    ensures { result ≡ leaves snoop left }
+{
+    match snoop {
+        Snoop::SnpShared | Snoop::SnpNotSharedDirty => true,
+        Snoop::SnpUnique | Snoop::SnpCleanInvalid => matches!(left, State::I),
+    }
+}
+
+/// What write data of the form leave of the copy.
+pub(crate) fn written(kind: Kind, form: State) -> State
+    ensures { result ≡ written kind form }
+{
+    if kind.gives_up() {
+        return State::I;
+    }
+    match form {
+        State::UD => State::UC,
+        State::SD => State::SC,
+        State::I | State::SC | State::UC => form,
+    }
+}
+
+/// Whether a flit of a cache has data.
+pub(crate) fn has_data(act: Act) -> bool
+    ensures { result ≡ has_data act }
+{
+    match act {
+        Act::Request(_) | Act::Resend(_) | Act::CompAck => false,
+        Act::SnpResp(answer) => !matches!(answer, Answer::SnpRespI | Answer::SnpRespSC),
+        Act::CopyBackWrData(form) => !matches!(form, State::I),
+    }
+}
+
+/// What is due behind a flit of a cache.
+pub(crate) fn due_after(act: Act, due: Due) -> Due
+    ensures { result ≡ due_after act due }
+{
+    match act {
+        Act::Request(kind) => Due::Completion(kind),
+        Act::Resend(kind) => Due::SureCompletion(kind),
+        Act::SnpResp(_) => due,
+        Act::CompAck | Act::CopyBackWrData(_) => Due::Nothing,
+    }
+}
+
+/// Which snoop isn't answered behind a flit of a cache.
+pub(crate) fn snooped_after(act: Act, snooped: Option<Snoop>) -> Option<Snoop>
+    ensures { result ≡ snooped_after act snooped }
+{
+    match act {
+        Act::SnpResp(_) => None,
+        Act::Request(_) | Act::Resend(_) | Act::CompAck | Act::CopyBackWrData(_) => snooped,
+    }
+}
+
+/// Whether a flit of a cache passes the duty to write dirty data to the home.
+pub(crate) fn passes_duty(act: Act) -> bool
+    ensures { result ≡ passes_duty act }
+{
+    match act {
+        Act::SnpResp(answer) => {
+            matches!(answer, Answer::SnpRespDataIPD | Answer::SnpRespDataSCPD)
+        }
+        Act::CopyBackWrData(form) => passes_by(form),
+        Act::Request(_) | Act::Resend(_) | Act::CompAck => false,
+    }
+}
+
+/// Whether data of the form pass the duty on.
+fn passes_by(form: State) -> bool
+    ensures { result ≡ form_passes form }
+{
+    matches!(form, State::UD | State::SD)
+}
+
+/// Whether data of the form complete a request of the kind.
+fn completes(kind: Kind, form: State) -> bool
+    ensures { result ≡ completes kind form }
+{
+    match kind {
+        Kind::ReadNotSharedDirty => matches!(form, State::SC | State::UC | State::UD),
+        Kind::ReadShared => !matches!(form, State::I),
+        Kind::ReadUnique => matches!(form, State::UC | State::UD),
+        Kind::CleanUnique
+        | Kind::Evict
+        | Kind::WriteBackFull
+        | Kind::WriteCleanFull
+        | Kind::WriteEvictFull => false,
+    }
+}
+
+/// Whether a flit of the home is due to an agent.
+pub(crate) fn is_due(grant: Grant, due: Due, snooped: Option<Snoop>) -> bool
+    ensures { result ≡ is_due grant due snooped }
+{
+    match (grant, due) {
+        (Grant::RetryAck, Due::Completion(_)) => true,
+        (Grant::RetryAck, _) => false,
+        (Grant::Snp(_), _) => snooped.is_none(),
+        (_, Due::Completion(kind)) => is_completed(grant, kind, snooped),
+        (_, Due::SureCompletion(kind)) => is_completed(grant, kind, snooped),
+        _ => false,
+    }
+}
+
+/// Whether a flit of the home completes a request of the kind, or asks for its write data.
+fn is_completed(grant: Grant, kind: Kind, snooped: Option<Snoop>) -> bool
+    ensures { result ≡ is_completed grant kind snooped }
+{
+    match grant {
+        Grant::CompData(form) => snooped.is_none() && completes(kind, form),
+        Grant::CompUC => snooped.is_none() && matches!(kind, Kind::CleanUnique),
+        Grant::CompI => matches!(kind, Kind::Evict),
+        Grant::CompDBIDResp => snooped.is_none() && kind.is_copy_back(),
+        Grant::RetryAck | Grant::Snp(_) => false,
+    }
+}
+
+/// Whether a flit of the home has data.
+pub(crate) fn gives_data(grant: Grant) -> bool
+    ensures { result ≡ gives_data grant }
+{
+    matches!(grant, Grant::CompData(_))
+}
+
+/// Whether a flit of the home passes the duty to write dirty data on.
+pub(crate) fn needs_duty(grant: Grant) -> bool
+    ensures { result ≡ needs_duty grant }
+{
+    match grant {
+        Grant::CompData(form) => passes_by(form),
+        Grant::RetryAck | Grant::Snp(_) | Grant::CompUC | Grant::CompI | Grant::CompDBIDResp =>
+            false,
+    }
+}
+
+/// Whether it is sent only where no CompAck and no write data are due at the line.
+pub(crate) fn needs_quiet(grant: Grant) -> bool
+    ensures { result ≡ needs_quiet grant }
+{
+    matches!(grant, Grant::Snp(_))
+}
+
+/// Whether a CompAck or write data are due.
+pub(crate) fn is_busy(due: Due) -> bool
+    ensures { result ≡ is_busy due }
+{
+    matches!(due, Due::WriteData(_) | Due::Acknowledgement)
+}
+
+/// What is due behind a flit of the home.
+pub(crate) fn due_granted(grant: Grant, due: Due) -> Due
+    ensures { result ≡ due_granted grant due }
+{
+    match (grant, due) {
+        (Grant::RetryAck, Due::Completion(kind)) => Due::Resending(kind),
+        (Grant::RetryAck | Grant::Snp(_), _) => due,
+        (Grant::CompData(_) | Grant::CompUC, _) => Due::Acknowledgement,
+        (Grant::CompI, _) => Due::Nothing,
+        (Grant::CompDBIDResp, Due::Completion(kind)) => Due::WriteData(kind),
+        (Grant::CompDBIDResp, Due::SureCompletion(kind)) => Due::WriteData(kind),
+        (Grant::CompDBIDResp, _) => due,
+    }
+}
+
+/// Which snoop isn't answered behind a flit of the home.
+pub(crate) fn snooped_granted(grant: Grant, snooped: Option<Snoop>) -> Option<Snoop>
+    ensures { result ≡ snooped_granted grant snooped }
+{
+    match grant {
+        Grant::Snp(snoop) => Some(snoop),
+        Grant::RetryAck | Grant::CompData(_) | Grant::CompUC | Grant::CompI | Grant::CompDBIDResp =>
+            snooped,
+    }
+}

@@ -1,0 +1,252 @@
+//! What flits have told of a copy.
+
+ghost use Rattle.std.specs.Prelude.{◌≡◌, ◌&&◌};
+ghost use Rattle.chi_observer.specs.Copies.{compatible, holds_data, is_clean, is_dirty, is_unique};
+ghost use Rattle.chi_observer.specs.Tables.{answer_tells_dirty, fits_answer, fits_form, fits_issue, may_be_free, strongest, tells_dirty, told_as, told_behind, told_by, told_empty, told_issued, told_shared, told_upgraded};
+
+use crate::flits::{Act, Answer, Due, Grant};
+use crate::rules::{left_by, written};
+use chi_flit::{Kind, State};
+
+/// The copies that one may be right behind the last flit that told of it. From there it goes on unseen, by stores and
+/// drops, while its cache has nothing open at the line. `UCE` is the standard's unique copy without data, which
+/// `chi_flit::State` doesn't have; the pairs are for a request, which doesn't tell which of both it was sent from.
+/// Source: `docs/OBSERVER.md`, "What is told of a copy".
+#[derive(Clone, Copy, Debug, PartialEq, Eq)]
+pub enum Told {
+    /// No copy.
+    I,
+    /// Shared and clean.
+    SC,
+    /// Shared and clean, or dropped before the request was sent.
+    SCOrI,
+    /// Unique and clean.
+    UC,
+    /// Unique, without data.
+    UCE,
+    /// Unique without data, or dropped before the request was sent.
+    UCEOrI,
+    /// Unique and clean, or without data.
+    UCOrUCE,
+    /// Unique and dirty.
+    UD,
+    /// Shared and dirty.
+    SD,
+}
+
+impl Told {
+    /// Whether it is surely or possibly unique.
+    pub(crate) fn is_unique(self) -> bool
+        ensures { result ≡ is_unique (strongest self) }
+    {
+        matches!(
+            self,
+            Told::UC | Told::UCE | Told::UCEOrI | Told::UCOrUCE | Told::UD
+        )
+    }
+
+    /// Whether it is dirty.
+    pub(crate) fn is_dirty(self) -> bool
+        ensures { result ≡ is_dirty (strongest self) }
+    {
+        matches!(self, Told::UD | Told::SD)
+    }
+
+    /// Whether it may be clean, with data or without.
+    fn is_clean(self) -> bool
+        ensures { result ≡ is_clean (strongest self) }
+    {
+        matches!(
+            self,
+            Told::SC | Told::SCOrI | Told::UC | Told::UCE | Told::UCEOrI | Told::UCOrUCE
+        )
+    }
+
+    /// Whether it may be clean with data.
+    fn is_clean_data(self) -> bool
+        ensures { result ≡ (is_clean (strongest self) && holds_data (strongest self)) }
+    {
+        matches!(self, Told::SC | Told::SCOrI | Told::UC | Told::UCOrUCE)
+    }
+
+    /// Whether two agents' copies may have been told so together.
+    pub(crate) fn goes_with(self, other: Told) -> bool
+        ensures { result ≡ compatible (strongest self) (strongest other) }
+    {
+        match self {
+            Told::I => true,
+            Told::SC | Told::SCOrI => {
+                matches!(other, Told::I | Told::SC | Told::SCOrI | Told::SD)
+            }
+            Told::SD => matches!(other, Told::I | Told::SC | Told::SCOrI),
+            Told::UC | Told::UCE | Told::UCEOrI | Told::UCOrUCE | Told::UD => {
+                matches!(other, Told::I)
+            }
+        }
+    }
+
+    /// Whether a request of the kind may come from it, where nothing is open.
+    pub(crate) fn may_issue(self, kind: Kind) -> bool
+        ensures { result ≡ fits_issue kind self }
+    {
+        match kind {
+            Kind::ReadNotSharedDirty | Kind::ReadShared => !self.is_dirty(),
+            Kind::ReadUnique | Kind::CleanUnique => !matches!(self, Told::UD),
+            Kind::Evict => self.is_clean(),
+            Kind::WriteBackFull | Kind::WriteCleanFull => self.is_dirty() || self.is_unique(),
+            Kind::WriteEvictFull => matches!(self, Told::UC | Told::UCOrUCE),
+        }
+    }
+
+    /// Whether the answer may come from it; `due` says whether there may have been a store.
+    pub(crate) fn may_answer(self, answer: Answer, due: Due) -> bool
+        ensures { result ≡ fits_answer answer due self }
+    {
+        match answer {
+            Answer::SnpRespI => !self.is_dirty(),
+            Answer::SnpRespSC | Answer::SnpRespDataI | Answer::SnpRespDataSC => {
+                self.is_clean_data()
+            }
+            Answer::SnpRespDataSD | Answer::SnpRespDataIPD | Answer::SnpRespDataSCPD => {
+                self.is_dirty() || (may_be_free(due) && self.is_unique())
+            }
+        }
+    }
+
+    /// Whether write data of the form may come from it.
+    pub(crate) fn may_write(self, form: State) -> bool
+        ensures { result ≡ fits_form form self }
+    {
+        match form {
+            State::I => !self.is_dirty(),
+            State::SC => matches!(self, Told::SC | Told::SCOrI),
+            State::UC => matches!(self, Told::UC | Told::UCOrUCE),
+            State::UD => matches!(self, Told::UD),
+            State::SD => matches!(self, Told::SD),
+        }
+    }
+
+    /// What is told behind a flit of the copy's cache.
+    pub(crate) fn after(self, act: Act, due: Due) -> Told
+        ensures { result ≡ told_behind act due self }
+    {
+        match act {
+            Act::Request(kind) => self.after_request(kind),
+            Act::SnpResp(answer) => told_as(left_by(answer)),
+            Act::Resend(_) | Act::CompAck => self,
+            Act::CopyBackWrData(form) => match due {
+                Due::WriteData(kind) => told_as(written(kind, form)),
+                _ => self,
+            },
+        }
+    }
+
+    /// What is told behind a request.
+    fn after_request(self, kind: Kind) -> Told
+        ensures { result ≡ told_issued kind self }
+    {
+        match kind {
+            Kind::ReadNotSharedDirty | Kind::ReadShared => self.empty(),
+            Kind::ReadUnique | Kind::CleanUnique => self.shared(),
+            Kind::Evict => Told::I,
+            Kind::WriteBackFull | Kind::WriteCleanFull => {
+                if matches!(self, Told::SD) {
+                    Told::SD
+                } else {
+                    Told::UD
+                }
+            }
+            Kind::WriteEvictFull => Told::UC,
+        }
+    }
+
+    /// What is told behind a request that is issued without data.
+    fn empty(self) -> Told
+        ensures { result ≡ told_empty self }
+    {
+        match self {
+            Told::UCE | Told::UCEOrI | Told::UCOrUCE => Told::UCEOrI,
+            _ => Told::I,
+        }
+    }
+
+    /// What is told behind a request that is issued without data or from a shared copy.
+    fn shared(self) -> Told
+        ensures { result ≡ told_shared self }
+    {
+        match self {
+            Told::SC | Told::SCOrI => Told::SCOrI,
+            Told::SD => Told::SD,
+            _ => self.empty(),
+        }
+    }
+
+    /// What is told behind a flit of the home.
+    pub(crate) fn granted(self, grant: Grant) -> Told
+        ensures { result ≡ told_by grant self }
+    {
+        match grant {
+            Grant::CompData(form) => if self.is_dirty() {
+                Told::UD
+            } else {
+                told_as(form)
+            },
+            Grant::CompUC => self.upgraded(),
+            Grant::RetryAck | Grant::Snp(_) | Grant::CompI | Grant::CompDBIDResp => self,
+        }
+    }
+
+    /// What is told behind the completion of a CleanUnique.
+    fn upgraded(self) -> Told
+        ensures { result ≡ told_upgraded self }
+    {
+        match self {
+            Told::I | Told::UCEOrI => Told::UCE,
+            Told::SC => Told::UC,
+            Told::SCOrI => Told::UCOrUCE,
+            Told::SD => Told::UD,
+            _ => self,
+        }
+    }
+}
+
+/// What is told by a copy's own form.
+fn told_as(form: State) -> Told
+    ensures { result ≡ told_as form }
+{
+    match form {
+        State::I => Told::I,
+        State::SC => Told::SC,
+        State::UC => Told::UC,
+        State::UD => Told::UD,
+        State::SD => Told::SD,
+    }
+}
+
+/// Whether some copy of an agent of whom this is due may have nothing pending.
+pub(crate) fn may_be_free(due: Due) -> bool
+    ensures { result ≡ may_be_free due }
+{
+    matches!(due, Due::Nothing | Due::Resending(_))
+}
+
+/// Whether the answer says that its sender's copy was dirty.
+pub(crate) fn answer_tells_dirty(answer: Answer) -> bool
+    ensures { result ≡ answer_tells_dirty answer }
+{
+    matches!(
+        answer,
+        Answer::SnpRespDataSD | Answer::SnpRespDataIPD | Answer::SnpRespDataSCPD
+    )
+}
+
+/// Whether the flit says that its sender's copy was dirty.
+pub(crate) fn tells_dirty(act: Act) -> bool
+    ensures { result ≡ tells_dirty act }
+{
+    match act {
+        Act::Request(kind) => matches!(kind, Kind::WriteBackFull | Kind::WriteCleanFull),
+        Act::SnpResp(answer) => answer_tells_dirty(answer),
+        Act::Resend(_) | Act::CompAck | Act::CopyBackWrData(_) => false,
+    }
+}

@@ -1,0 +1,5 @@
+//! Tests of `chi_observer` through its public calls alone, by the tables of `docs/OBSERVER.md`.
+#![tactic(auto)]
+
+#[cfg(test)]
+mod traces;

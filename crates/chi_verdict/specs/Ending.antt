@@ -1,0 +1,44 @@
+-- What is open where a trace ends, and what is told of one that is explained (docs/TRACES.md, "What is printed").
+use Rattle.std.specs.Prelude.{ℕ, ◌||◌, ◌==◌, ◌++◌, Bool, true, false, not, List, length, nat_lt, Option, Some, None, Result, Ok, Err}
+use Rattle.std.specs.List.{list_any}
+use Rattle.chi_trace.specs.declared.fields.Address.{Address}
+use Rattle.chi_trace.specs.declared.flits.Seen.{Seen}
+use Rattle.chi_resolution.specs.Ledger.{owed_of, unused_of}
+use Rattle.chi_resolution.specs.Lines.{line_of}
+use Rattle.chi_resolution.specs.declared.beats.OpenData.{OpenData}
+use Rattle.chi_resolution.specs.declared.ids.OpenId.{OpenId}
+use Rattle.chi_resolution.specs.declared.ledger.CreditLedger.{CreditLedger}
+use Rattle.chi_resolution.specs.declared.lines.Resolved.{Resolved}
+use Rattle.chi_verdict.specs.declared.asked.Ending.{Ending}
+use Rattle.chi_verdict.specs.declared.asked.Ending.TheVariants.{Any, Complete}
+use Rattle.chi_verdict.specs.declared.reports.TraceOutcome.{TraceOutcome}
+use Rattle.chi_verdict.specs.declared.reports.TraceOutcome.TheVariants.{Explained, Incomplete, Nothing, Faulty}
+use Rattle.chi_verdict.specs.declared.reports.TraceStop.{TraceStop}
+use Rattle.chi_verdict.specs.declared.reports.TraceTotals.{TraceTotals}
+use Rattle.chi_verdict.specs.Lines.{is_on_line}
+
+-- credits are owed to the node, or it has some that it hasn't used
+abbrev pub is_account_open : CreditLedger → Bool
+is_account_open account = nat_lt 0 (owed_of account) || nat_lt 0 (unused_of account)
+
+-- a request, a completion, a snoop, data that lacks words, a load or a store that waits, or a credit is open
+abbrev pub is_anything_open : List OpenId → List OpenData → List Resolved → List CreditLedger → Bool
+is_anything_open ids unfinished waiting accounts =
+    nat_lt 0 (length ids) || (nat_lt 0 (length unfinished) || (nat_lt 0 (length waiting) || list_any is_account_open accounts))
+
+-- the trace has no flit, load or store, or none of the line of an address
+abbrev pub is_nothing_there : Option Address → List Seen → List Resolved → List Resolved → Bool
+is_nothing_there None seen flits waiting = length seen == 0
+is_nothing_there (Some address) seen flits waiting = not (list_any (is_on_line (line_of address)) flits || list_any (is_on_line (line_of address)) waiting)
+
+-- what is told of a trace each of whose lines is explained: by whether anything may be open, whether it is, and whether
+-- nothing was seen of what is asked for
+abbrev pub explained_outcome : Ending → Bool → Bool → TraceTotals → TraceOutcome
+explained_outcome ending is_open true totals = Nothing
+explained_outcome Any is_open false totals = Explained totals
+explained_outcome Complete true false totals = Incomplete totals
+explained_outcome Complete false false totals = Explained totals
+
+abbrev pub trace_outcome_of : Ending → Bool → Bool → Result TraceTotals TraceStop → TraceOutcome
+trace_outcome_of ending is_open nothing (Ok totals) = explained_outcome ending is_open nothing totals
+trace_outcome_of ending is_open nothing (Err stop) = Faulty stop
