@@ -1,7 +1,7 @@
 -- What the chart of a file writes (docs/FORMATS.md, "Charts" and "The program").
 use Rattle.std.specs.Prelude.{◌≡◌, ℕ, List, Option, Ok, IfSome}
 use Rattle.std.specs.Io.KnownBytes.{Appends}
-use Rattle.chi_devices.specs.Devices.{AppendsFront}
+use Rattle.chi_script.specs.Devices.{AppendsFront}
 use Rattle.chi_script.specs.Headers.{node_sizes}
 use Rattle.chi_script.specs.declared.headers.Header.{Header}
 use Rattle.chi_replay.specs.Texts.{MayAnswer, opening_ports}

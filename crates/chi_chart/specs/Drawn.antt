@@ -8,7 +8,7 @@ use Rattle.chi_flit.specs.declared.message.Channel.TheVariants as channels
 use Rattle.chi_flit.specs.Message.{channel_text, message_text}
 use Rattle.chi_flit.specs.State.{state_text}
 use Rattle.chi_slice.specs.Words.{Serving}
-use Rattle.chi_reply.specs.Replies.{serving_text}
+use Rattle.chi_replay.specs.Replies.{serving_text}
 use Rattle.chi_script.specs.Headers.{is_from}
 use Rattle.chi_chart.specs.declared.drawn.Sheet.{Sheet}
 use Rattle.chi_chart.specs.declared.drawn.SliceBox.{SliceBox}

@@ -1,7 +1,7 @@
 //! The parts of a chart as SVG, each on lines of its own. Numbers are pixels from the left and from the top.
 
 ghost use Rattle.std.specs.Prelude.{◌≡◌, ◌++◌, OnOk, Some};
-ghost use Rattle.chi_reply.specs.Replies.{serving_text};
+ghost use Rattle.chi_replay.specs.Replies.{serving_text};
 ghost use Rattle.chi_chart.specs.Drawn.{arrow_text, bar_text, caption_text, differs_text, end_text, escaped_text, escaped_byte, heading_text, legible_byte, legible_text, lifeline_text, name_text, number_text, paper_text, serving_title_text, sheet_text, slice_text, slice_title_text, title_text, turned_text, wanted_text};
 
 use crate::commands::Spelled;

@@ -3,7 +3,7 @@
 #![tactic(auto)]
 
 use anyhow::{Context, Result};
-use chi_devices::{MemoryInput, MemoryOutput};
+use chi_script::{MemoryInput, MemoryOutput};
 use chi_flit::{Agent, Kind, Line, Slot, WordNo};
 use chi_replay::replay;
 use chi_slice::{Action, Config, Slice, Step};

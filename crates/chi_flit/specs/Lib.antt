@@ -5,3 +5,4 @@ pub mod Snoop
 pub mod Message
 pub mod Refusal
 pub mod Numbers
+pub mod Config

@@ -5,6 +5,7 @@
 #![tactic(auto)]
 
 mod action;
+mod config;
 mod credit;
 mod kind;
 mod message;
@@ -15,6 +16,7 @@ mod snoop;
 mod state;
 
 pub use action::{Action, Effect, Step};
+pub use config::Config;
 pub use credit::{CreditType, Profile, credit_type};
 pub use kind::Kind;
 pub use message::{Channel, CompData, DatUp, Msg, Request, RspDown, RspUp, write_data};

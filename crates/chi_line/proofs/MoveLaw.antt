@@ -12,8 +12,8 @@ use Rattle.chi_flit.specs.declared.message.Request.{Request}
 use Rattle.chi_flit.specs.declared.message.RspDown.{RspDown}
 use Rattle.chi_flit.specs.declared.message.RspDown.TheVariants.{RetryAck, CompUC, CompI, CompDBIDResp}
 use Rattle.chi_flit.specs.Credit.{credit_type_of}
-use Rattle.chi_line.specs.declared.seen.Position.{Position}
-use Rattle.chi_line.specs.declared.seen.Position.TheVariants.{Sent, Refused, Retried, Riding, Admitted, Answered, Closing}
+use Rattle.chi_line.specs.declared.position.Position.{Position}
+use Rattle.chi_line.specs.declared.position.Position.TheVariants.{Sent, Refused, Retried, Riding, Admitted, Answered, Closing}
 use Rattle.chi_line.specs.LineState.{LineState, cells_of}
 use Rattle.chi_line.specs.Moves.{if_moved, moved_slot, moved_to}
 use Rattle.chi_line.specs.Places.{position_at}

@@ -11,9 +11,9 @@ use Rattle.chi_homeline.specs.declared.serving.Waiting.{Waiting}
 use Rattle.chi_homeline.specs.declared.serving.Serving.{Serving}
 use Rattle.chi_homeline.specs.declared.serving.Serving.TheVariants.{Snooping, AwaitingCompAck, AwaitingWriteData}
 use Rattle.chi_homeline.specs.Home.{acks_for, served_slot, waiting_of}
-use Rattle.chi_line.specs.declared.seen.Position.{Position}
-use Rattle.chi_line.specs.declared.seen.Position.TheVariants.{Answered}
-use Rattle.chi_line.specs.declared.seen.Position.TheVariants as places
+use Rattle.chi_line.specs.declared.position.Position.{Position}
+use Rattle.chi_line.specs.declared.position.Position.TheVariants.{Answered}
+use Rattle.chi_line.specs.declared.position.Position.TheVariants as places
 use Rattle.chi_line.specs.LineState.{LineState, rn_of, cells_of}
 use Rattle.chi_line.specs.Kept.{Kept, Lane, LaneKept, is_comp_unique, lane, snoops_for, writes_for}
 use Rattle.chi_line.specs.Step.{is_dbid, is_slot, line_uses, pending_slot, slot_served_for, waiting_slot}

@@ -14,8 +14,8 @@ use Rattle.chi_rnline.specs.declared.pending.Phase.{Phase}
 use Rattle.chi_rnline.specs.declared.pending.Phase.TheVariants as phases
 use Rattle.chi_rnline.specs.Rn.{in_phase}
 use Rattle.chi_homeline.specs.declared.serving.Waiting.{Waiting}
-use Rattle.chi_line.specs.declared.seen.Position.{Position}
-use Rattle.chi_line.specs.declared.seen.Position.TheVariants.{Sent, Refused, Retried, Riding, Admitted, Answered, Closing}
+use Rattle.chi_line.specs.declared.position.Position.{Position}
+use Rattle.chi_line.specs.declared.position.Position.TheVariants.{Sent, Refused, Retried, Riding, Admitted, Answered, Closing}
 use Rattle.chi_line.specs.Kept.{is_retried, is_retried_phase}
 use Rattle.chi_line.proofs.MoveLaw.{flit_at}
 use Rattle.chi_line.specs.Places.{is_at_home, phase_at, RequestsShown, sent_at, unasked_at, position_by, position_in}

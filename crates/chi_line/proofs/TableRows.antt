@@ -13,8 +13,8 @@ use Rattle.chi_rnline.specs.declared.pending.Phase.TheVariants.{Sent, Retried}
 use Rattle.chi_homeline.specs.declared.serving.Waiting.{Waiting}
 use Rattle.chi_homeline.specs.declared.serving.Serving.{Serving}
 use Rattle.chi_homeline.specs.Home.{waiting_of}
-use Rattle.chi_line.specs.declared.seen.Position.{Position}
-use Rattle.chi_line.specs.declared.seen.Position.TheVariants as places
+use Rattle.chi_line.specs.declared.position.Position.{Position}
+use Rattle.chi_line.specs.declared.position.Position.TheVariants as places
 use Rattle.chi_line.specs.LineState.{LineState, rn_of, cells_of}
 use Rattle.chi_line.specs.Kept.{Kept, Lane, LaneKept, is_comp_unique, is_retried, is_retried_phase, lane, snoops_for}
 use Rattle.chi_line.specs.Step.{is_dbid, is_slot, pending_slot, slot_served_for, waiting_slot}

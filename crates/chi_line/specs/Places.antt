@@ -9,8 +9,8 @@ use Rattle.chi_rnline.specs.declared.pending.Phase.{Phase}
 use Rattle.chi_rnline.specs.declared.pending.Phase.TheVariants as phases
 use Rattle.chi_homeline.specs.declared.serving.Waiting.{Waiting}
 use Rattle.chi_homeline.specs.Home.{waiting_of}
-use Rattle.chi_line.specs.declared.seen.Position.{Position}
-use Rattle.chi_line.specs.declared.seen.Position.TheVariants.{Sent, Refused, Retried, Riding, Admitted, Answered, Closing}
+use Rattle.chi_line.specs.declared.position.Position.{Position}
+use Rattle.chi_line.specs.declared.position.Position.TheVariants.{Sent, Refused, Retried, Riding, Admitted, Answered, Closing}
 use Rattle.chi_line.specs.LineState.{LineState, rn_of, cells_of}
 use Rattle.chi_line.specs.Step.{is_slot, slot_served_for, waiting_slot}
 

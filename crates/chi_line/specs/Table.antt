@@ -8,8 +8,8 @@ use Rattle.chi_flit.specs.declared.credit.CreditType.{CreditType}
 use Rattle.chi_flit.specs.declared.message.Request.{Request}
 use Rattle.chi_flit.specs.declared.message.RspDown.TheVariants.{RetryAck, CompI}
 use Rattle.chi_homeline.specs.Home.{waiting_of}
-use Rattle.chi_line.specs.declared.seen.Position.{Position}
-use Rattle.chi_line.specs.declared.seen.Position.TheVariants.{Sent, Refused, Retried, Riding, Admitted, Answered, Closing}
+use Rattle.chi_line.specs.declared.position.Position.{Position}
+use Rattle.chi_line.specs.declared.position.Position.TheVariants.{Sent, Refused, Retried, Riding, Admitted, Answered, Closing}
 use Rattle.chi_line.specs.LineState.{LineState, rn_of, cells_of}
 use Rattle.chi_line.specs.Step.{pending_slot, slot_served_for, waiting_slot}
 use Rattle.chi_line.specs.Kept.{is_retried, kind_if}

@@ -9,7 +9,7 @@ ghost use Rattle.chi_line.specs.Step.{after, effect_of, is_step_in_range};
 ghost use Rattle.chi_line.specs.Traffic.{KeepsFlits};
 
 use crate::line::CoherentLine;
-use crate::outcomes::ActionOutcome;
+use crate::position::ActionOutcome;
 use chi_flit::{Action, Profile, Refusal, Step};
 
 /// What an action needs to know beside its line.

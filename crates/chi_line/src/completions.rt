@@ -13,12 +13,10 @@ ghost use Rattle.chi_line.specs.Moves.{completed_to};
 ghost use Rattle.chi_line.specs.Step.{acknowledged_line, completed_effect, completion_received, data_written, dbid_received_line, is_comp, is_write_data, pending_slot, received_line, where_some};
 ghost use Rattle.chi_line.specs.Traffic.{Balances, completion_ack, flit_on};
 ghost use Rattle.chi_line.specs.Outcomes.{outcome_of_end, outcome_with_move};
-ghost use Rattle.chi_line.specs.declared.seen.Position.TheVariants.{Answered};
+ghost use Rattle.chi_line.specs.declared.position.Position.TheVariants.{Answered};
 
 use crate::line::CoherentLine;
-use crate::outcomes::ActionOutcome;
-use crate::seen::Position;
-use crate::slots::pending_slot;
+use crate::position::{ActionOutcome, Position, pending_slot};
 use chi_flit::{Agent, Channel, DatUp, RspDown};
 
 impl CoherentLine {

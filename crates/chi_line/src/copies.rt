@@ -8,8 +8,7 @@ ghost use Rattle.chi_line.specs.Step.{cancelled_line, dropped_line, pending_slot
 ghost use Rattle.chi_line.specs.Outcomes.{outcome_with_move, outcome_without_move};
 
 use crate::line::CoherentLine;
-use crate::outcomes::ActionOutcome;
-use crate::slots::pending_slot;
+use crate::position::{ActionOutcome, pending_slot};
 use chi_flit::{Agent, Effect, WordNo};
 
 impl CoherentLine {

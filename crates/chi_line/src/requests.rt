@@ -14,12 +14,10 @@ ghost use Rattle.chi_line.specs.Moves.{requested_slot};
 ghost use Rattle.chi_line.specs.Step.{admitted_line, issued_line, pending_slot, resent_line, retried_line, retry_received_line, started_line, waiting_effect, where_some};
 ghost use Rattle.chi_line.specs.Traffic.{Balances, flit_on, request_again, retry_ack, started_flits};
 ghost use Rattle.chi_line.specs.Outcomes.{outcome_of_start, outcome_with_move};
-ghost use Rattle.chi_line.specs.declared.seen.Position.TheVariants.{Admitted, Refused, Retried, Riding, Sent};
+ghost use Rattle.chi_line.specs.declared.position.Position.TheVariants.{Admitted, Refused, Retried, Riding, Sent};
 
 use crate::line::CoherentLine;
-use crate::outcomes::ActionOutcome;
-use crate::seen::Position;
-use crate::slots::pending_slot;
+use crate::position::{ActionOutcome, Position, pending_slot};
 use chi_flit::{
     Agent, Channel, CompData, Effect, Kind, Msg, Profile, Request, RspDown, Slot, credit_type,
 };

@@ -19,7 +19,7 @@ ghost use Rattle.chi_line.specs.Outcomes.{outcome_without_move};
 
 use crate::flits::answer_in;
 use crate::line::CoherentLine;
-use crate::outcomes::ActionOutcome;
+use crate::position::ActionOutcome;
 use chi_flit::{Agent, Channel, Effect};
 use chi_homeline::Completion;
 use chi_wires::Wires;

@@ -1,6 +1,6 @@
 -- The form of cells that a command line asks for (docs/FORMATS.md, "The program").
-use Rattle.chi_arguments.specs.declared.options.CellForm.{CellForm}
-use Rattle.chi_arguments.specs.declared.options.CellForm.TheVariants as asked
+use Rattle.chi_program.specs.declared.options.CellForm.{CellForm}
+use Rattle.chi_program.specs.declared.options.CellForm.TheVariants as asked
 use Rattle.chi_coverage.specs.declared.forms.CoverForm.{CoverForm}
 use Rattle.chi_coverage.specs.declared.forms.CoverForm.TheVariants as forms
 

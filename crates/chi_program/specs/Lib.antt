@@ -4,3 +4,7 @@ pub mod Endings
 pub mod Looks
 pub mod Stops
 pub mod Suites
+pub mod Faults
+pub mod Options
+pub mod Usage
+pub mod CommandLines

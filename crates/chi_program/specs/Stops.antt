@@ -3,9 +3,9 @@
 use Rattle.std.specs.Prelude.{ℕ, nat_lt, Bool, true, false, List, ◌∷◌, [], Option, Some, None, Result, Ok, Err, if◌then◌else◌}
 use Rattle.std.specs.declared.io.ErrorKind.{ErrorKind}
 use Rattle.std.specs.declared.io.ErrorKind.TheVariants as kinds
-use Rattle.chi_arguments.specs.declared.faults.ArgFault.{ArgFault}
-use Rattle.chi_arguments.specs.declared.faults.ArgFault.TheVariants as faults
-use Rattle.chi_arguments.specs.Faults as words
+use Rattle.chi_program.specs.declared.faults.ArgFault.{ArgFault}
+use Rattle.chi_program.specs.declared.faults.ArgFault.TheVariants as faults
+use Rattle.chi_program.specs.Faults as words
 use Rattle.chi_script.specs.declared.faults.Fault.{Fault}
 use Rattle.chi_script.specs.Faults as script
 use Rattle.chi_program.specs.declared.program.End.{End}

@@ -4,7 +4,15 @@
 //! Source: `docs/FORMATS.md`, "The program".
 #![tactic(auto)]
 
+mod faults;
+mod jobs;
 mod looks;
+mod options;
 mod program;
+mod usages;
 
+pub use faults::ArgFault;
+pub use jobs::{Job, arguments};
+pub use options::{CellForm, RowRange};
 pub use program::{Stop, serve};
+pub use usages::{Topic, usage, version};

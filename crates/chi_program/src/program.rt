@@ -2,7 +2,7 @@
 
 ghost use Rattle.std.specs.Prelude.{◌≡◌, Some, IfOk, IfErr, Contains, map, string_bytes};
 ghost use Rattle.std.specs.Vec.Iter.{into_iter_items};
-ghost use Rattle.chi_arguments.specs.declared.faults.ArgFault.{ArgFault};
+ghost use Rattle.chi_program.specs.declared.faults.ArgFault.{ArgFault};
 ghost use Rattle.chi_program.specs.declared.program.Stop.TheVariants.{Arguments, Run};
 ghost use Rattle.chi_program.specs.Stops.{check_end, cover_end, draw_end, end_status, explain_end, merge_end, run_status, statuses, stop_status, stop_text, storm_end, suite_stop, words_fault};
 ghost use Rattle.chi_program.specs.Charts.{part_asked};
@@ -12,14 +12,16 @@ ghost use Rattle.chi_program.specs.Suites.{given_in};
 ghost use Rattle.chi_replay.specs.Suites.{given_of};
 
 use crate::looks::{lacks_line, wants_answer};
-use chi_arguments::{ArgFault, CellForm, Job, RowRange, arguments, usage, version};
+use crate::faults::ArgFault;
+use crate::jobs::{Job, arguments};
+use crate::options::{CellForm, RowRange};
+use crate::usages::{usage, version};
 use chi_chart::{ChartPart, chart};
 use chi_coverage::{CoverForm, CoverShape, cover, merge};
-use chi_devices::{FileInput, MemoryInput, Output, StandardOutput, read_most};
+use chi_script::{Fault, FileInput, MOST_BYTES, MOST_CHECK_BYTES, MemoryInput, Output, StandardOutput, hint_at, read_most};
 use chi_flit::Line;
 use chi_replay::{SuiteFile, SuiteForm, check, check_suite, replay};
 use chi_resolution::Options;
-use chi_script::{Fault, MOST_BYTES, MOST_CHECK_BYTES, hint_at};
 use chi_stimulus::{DrawOptions, Weights, draw, read_kinds, read_weights};
 use chi_storm::storm;
 use chi_trace::Address;

@@ -1,6 +1,6 @@
 //! Command lines, good and bad, by `docs/FORMATS.md`, "The program".
 
-use chi_arguments::{ArgFault, CellForm, Job, RowRange, Topic, arguments};
+use chi_program::{ArgFault, CellForm, Job, RowRange, Topic, arguments};
 use chi_flit::Line;
 use std::alloc::Global;
 use std::process::Abort;

@@ -2,8 +2,7 @@
 
 use crate::comparison::same;
 use bumpalo::Bump;
-use chi_devices::{MemoryInput, read_all};
-use chi_script::{Command, Fault, ReplayFile, read_file};
+use chi_script::{Command, Fault, MemoryInput, ReplayFile, read_all, read_file};
 use linked_list_allocator::LocalHeap;
 use std::alloc::{AllocError, Allocator};
 use std::process::Abort;

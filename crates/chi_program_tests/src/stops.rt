@@ -1,8 +1,7 @@
 //! Each way in which the program stops, its line and its status.
 
 use crate::comparison::same;
-use chi_arguments::{ArgFault, arguments};
-use chi_program::Stop;
+use chi_program::{ArgFault, Stop, arguments};
 use chi_script::Fault;
 use std::alloc::AllocError;
 

@@ -5,7 +5,7 @@ use Rattle.chi_script.specs.declared.commands.Command.{Command}
 use Rattle.chi_script.specs.declared.commands.Command.TheVariants.{Act, Arrive, Audit, Flits, GiveBack, See, Show, Tend, Totals}
 use Rattle.chi_slice.specs.Slice.{SliceState}
 use Rattle.chi_node.specs.Words.{PortView}
-use Rattle.chi_reply.specs.Replies.{audit_text}
+use Rattle.chi_replay.specs.Replies.{audit_text}
 use Rattle.chi_slice.specs.Audits.{loads_in, stores_in}
 use Rattle.chi_replay.specs.Turns.{TurnAnswer, Claimed, Glanced, Judged, Machine, Owed, Saw, Spent, Tended, Went, turn}
 use Rattle.chi_replay.specs.Texts.{MayAnswer, AuditsTell, Ending, Plays, TellsAudit, TellsSlices}

@@ -13,8 +13,8 @@ use Rattle.chi_node.specs.Requester.{RequesterState}
 use Rattle.chi_node.specs.Home.{HomeState}
 use Rattle.chi_node.specs.System.{GivesBackIn, IsSystem, SeesIn, SystemState, TendsIn, agent_refusal, give_back_refusal_in, requester_of, tend_refusal_in}
 use Rattle.chi_node.proofs.Acts.{return_same, return_view, see_view, tend_view}
-use Rattle.chi_reply.specs.Replies.{credits_text, reply_text}
-use Rattle.chi_reply.specs.declared.replies.Reply.TheVariants as replies
+use Rattle.chi_replay.specs.Replies.{credits_text, reply_text}
+use Rattle.chi_replay.specs.declared.replies.Reply.TheVariants as replies
 use Rattle.chi_replay.specs.Ports.{PortGivesBack, PortSees, PortTends, seen_counts}
 use Rattle.chi_replay.specs.Turns.{Machine, Saw, Tended, Went, credits_of, give_back, less_one, slots_of, tend, turn_after_tend, turn, type_refusal, with_credits, with_account}
 use Rattle.chi_replay.specs.Texts.{Plays}

@@ -18,3 +18,6 @@ pub mod AnswerLines
 pub mod ReportLemmas
 pub mod Reported
 pub mod SuiteLemmas
+pub mod Messages
+pub mod Members
+pub mod Digits

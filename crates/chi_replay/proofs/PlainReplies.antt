@@ -33,11 +33,11 @@ use Rattle.chi_slice.specs.Servings as servings
 use Rattle.chi_node.specs.Words.{Released}
 use Rattle.chi_node.specs.Releases.{Granted, Freed}
 use Rattle.chi_slice.specs.declared.audits.Audit.{Audit}
-use Rattle.chi_reply.specs.declared.credits.SeenCredits.{SeenCredits}
-use Rattle.chi_reply.specs.declared.replies.Reply.{Reply}
-use Rattle.chi_reply.specs.declared.replies.Reply.TheVariants.{Done, Value, Admitted, Retry, Completed, Paid, Idle, Refused}
-use Rattle.chi_reply.specs.declared.totals.NodeTotals.{NodeTotals}
-use Rattle.chi_reply.specs.Replies.{agents_text, audit_text, copy_text, counts_text, credits_text, flits_text, joined_texts, members, messages_in, messages_text, released_text, reply_text, serving_text, shown_text, spaced_texts, totals_text, type_count, verdict_text, yes_no}
+use Rattle.chi_replay.specs.declared.credits.SeenCredits.{SeenCredits}
+use Rattle.chi_replay.specs.declared.replies.Reply.{Reply}
+use Rattle.chi_replay.specs.declared.replies.Reply.TheVariants.{Done, Value, Admitted, Retry, Completed, Paid, Idle, Refused}
+use Rattle.chi_replay.specs.declared.totals.NodeTotals.{NodeTotals}
+use Rattle.chi_replay.specs.Replies.{agents_text, audit_text, copy_text, counts_text, credits_text, flits_text, joined_texts, members, messages_in, messages_text, released_text, reply_text, serving_text, shown_text, spaced_texts, totals_text, type_count, verdict_text, yes_no}
 use Rattle.chi_script.proofs.LackLemmas.{chained, decimal_lacks, lacks}
 
 -- a text without a line end

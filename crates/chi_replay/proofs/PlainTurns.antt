@@ -16,7 +16,7 @@ use Rattle.chi_node.specs.SlotStates as states
 use Rattle.chi_slice.specs.Words.{cells_of, effect_of, line_view as shown_line}
 use Rattle.chi_node.specs.Calls.{arrival_refusal}
 use Rattle.chi_node.specs.Home.{node_flits_refusal, node_last, node_line, slice_of, node_view_refusal}
-use Rattle.chi_reply.specs.declared.replies.Reply.TheVariants as replies
+use Rattle.chi_replay.specs.declared.replies.Reply.TheVariants as replies
 use Rattle.chi_script.specs.declared.commands.Command.{Command}
 use Rattle.chi_script.specs.declared.commands.Command.TheVariants as commands
 use Rattle.chi_replay.specs.Turns.{TurnAnswer, Asks, Claimed, Ends, GiveBack, Glanced, Judged, Machine, Owed, Saw, Spent, Tended, Turn, Went, act_turn, act_refusal, machine_agent_refusal, arrive, arriving, turn_of_attempt, cancelled_refusal, turn_after_claim, turn_after_release, completing, credits_of, turn_after_action, give_back, credit_given_back, turn_after_glance, turn_after_verdict, or_refused, turn_after_owe, turn_after_see, slots_of, turn_after_spend, tend, turn_after_tend, turn, type_refusal}

@@ -31,8 +31,8 @@ use Rattle.chi_slice.specs.Audits.{IsAudited, loads_in}
 use Rattle.chi_node.specs.Headline.{Headline}
 use Rattle.chi_node.specs.Home.{HomeState, slices_after, node_line, slice_of}
 use Rattle.chi_node.specs.System.{ArrivesIn, IsSystem, OthersStay, StepsIn, SystemState, arrive_refusal, requester_of, system_step_refusal}
-use Rattle.chi_reply.specs.Replies.{audit_text, reply_text, totals_text}
-use Rattle.chi_reply.specs.declared.replies.Reply.TheVariants as replies
+use Rattle.chi_replay.specs.Replies.{audit_text, reply_text, totals_text}
+use Rattle.chi_replay.specs.declared.replies.Reply.TheVariants as replies
 use Rattle.chi_replay.specs.Ports.{PortClaims, PortOwes, PortReleases, PortSpends, seen_counts}
 use Rattle.chi_replay.specs.Turns.{Claimed, Ends, Glanced, Judged, Machine, Owed, Spent, Turn, Went, act_turn, act_refusal, machine_after_admission, arrive, arriving, turn_of_attempt, by_type, completing, credits_of, turn_after_action, less_one, or_refused, slots_after, slots_of, with_action, with_arrival, with_credits, with_end, turn}
 use Rattle.chi_replay.specs.NodeReplies.{arrival_reply, done_reply, step_reply, totals_told}

@@ -1,7 +1,7 @@
 -- What the check of a file writes (docs/FORMATS.md, "Check files" and "The program").
 use Rattle.std.specs.Prelude.{◌≡◌, ◌↔◌, ℕ, List, [], Bool, IfSome, IsTrue, Option, Ok, length, map}
 use Rattle.std.specs.Io.KnownBytes.{Appends}
-use Rattle.chi_devices.specs.Devices.{AppendsFront}
+use Rattle.chi_script.specs.Devices.{AppendsFront}
 use Rattle.chi_script.specs.Headers.{node_sizes}
 use Rattle.chi_script.specs.declared.commands.Command.{Command}
 use Rattle.chi_script.specs.declared.headers.Header.{Header}

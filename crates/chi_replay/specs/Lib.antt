@@ -8,3 +8,4 @@ pub mod Replays
 pub mod Reports
 pub mod Checks
 pub mod Suites
+pub mod Replies

@@ -8,9 +8,9 @@ use Rattle.chi_node.specs.Words.{Released, Counts}
 use Rattle.chi_node.specs.declared.answers.Arrived.{Arrived}
 use Rattle.chi_node.specs.declared.answers.Arrived.TheVariants as arrivals
 use Rattle.chi_node.specs.declared.answers.Stepped.{Stepped}
-use Rattle.chi_reply.specs.declared.replies.Reply.{Reply}
-use Rattle.chi_reply.specs.declared.totals.NodeTotals.{NodeTotals}
-use Rattle.chi_reply.specs.declared.replies.Reply.TheVariants.{Admitted, Completed, Done, Idle, Paid, Refused, Retry, Value}
+use Rattle.chi_replay.specs.declared.replies.Reply.{Reply}
+use Rattle.chi_replay.specs.declared.totals.NodeTotals.{NodeTotals}
+use Rattle.chi_replay.specs.declared.replies.Reply.TheVariants.{Admitted, Completed, Done, Idle, Paid, Refused, Retry, Value}
 
 abbrev pub arrival_reply : Result Arrived Refusal → Reply
 arrival_reply (Ok (arrivals.Admitted entry)) = Admitted entry

@@ -11,7 +11,7 @@ use Rattle.chi_script.specs.declared.faults.Fault.{Fault}
 use Rattle.chi_script.specs.declared.faults.Fault.TheVariants.{NoMemory, Read, Write}
 use Rattle.chi_script.specs.Files.{file_of}
 use Rattle.chi_script.specs.Headers.{node_sizes}
-use Rattle.chi_devices.specs.Devices.{AppendsFront}
+use Rattle.chi_script.specs.Devices.{AppendsFront}
 use Rattle.chi_replay.specs.Texts.{IsText}
 
 -- the sizes of a header, as a node of the profile is made

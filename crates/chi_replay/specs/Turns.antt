@@ -29,10 +29,10 @@ use Rattle.chi_node.specs.Parts.{is_of_profile}
 use Rattle.chi_node.specs.Calls.{arrival_action, arrival_refusal, is_slot_taken, place_at, wanted_credit, refused_with}
 use Rattle.chi_slice.specs.Audits.{loads_in, stores_in}
 use Rattle.chi_node.specs.Home.{HomeState, slices_after, node_flits_refusal, node_last, node_line, opening_home, slice_of, node_view_refusal}
-use Rattle.chi_reply.specs.Replies.{audit_text, credits_text, flits_text, reply_text, shown_text, totals_text}
-use Rattle.chi_reply.specs.declared.replies.Reply.{Reply}
-use Rattle.chi_reply.specs.declared.replies.Reply.TheVariants as replies
-use Rattle.chi_reply.specs.declared.totals.NodeTotals.{NodeTotals}
+use Rattle.chi_replay.specs.Replies.{audit_text, credits_text, flits_text, reply_text, shown_text, totals_text}
+use Rattle.chi_replay.specs.declared.replies.Reply.{Reply}
+use Rattle.chi_replay.specs.declared.replies.Reply.TheVariants as replies
+use Rattle.chi_replay.specs.declared.totals.NodeTotals.{NodeTotals}
 
 -- the slices, and for each agent its table of slots and its seen credits by type: the numbers of its last
 -- `see`, less one for each that was spent or given back since

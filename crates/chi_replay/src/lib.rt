@@ -4,19 +4,36 @@
 //! Source: `docs/FORMATS.md`, "Replay files" and "Check files".
 #![tactic(auto)]
 
+mod agents;
+mod audits;
 mod checks;
+mod copies;
+mod credits;
+mod flights;
 mod laws;
 mod node_replies;
+mod numbers;
+mod prints;
 mod replays;
+mod replies;
 mod reports;
 mod runs;
 mod session;
+mod shown;
 mod suites;
+mod totals;
 
+pub use audits::verdict_word;
 pub use checks::{check, commands_of};
+pub use credits::SeenCredits;
+pub use flights::InFlight;
 pub use laws::answers_are_lines;
 pub use node_replies::totals_told;
+pub use prints::Printable;
 pub use replays::{config_of, replay};
+pub use replies::Reply;
 pub use runs::{run, run_lines};
 pub use session::answer;
+pub use shown::Shown;
 pub use suites::{SuiteFile, SuiteForm, SuiteReport, check_suite};
+pub use totals::{NodeTotals, StormTotals};

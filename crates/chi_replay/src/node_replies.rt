@@ -5,7 +5,8 @@ ghost use Rattle.chi_replay.specs.NodeReplies.{arrival_reply, give_back_reply, s
 
 use chi_flit::{Effect, Profile, Refusal};
 use chi_node::{Arrived, Counts, Released, Stepped};
-use chi_reply::{NodeTotals, Reply};
+use crate::replies::Reply;
+use crate::totals::NodeTotals;
 
 /// What is answered to an arrival.
 pub(crate) fn arrival_reply(arrived: Result<Arrived, Refusal>) -> Reply

@@ -10,9 +10,8 @@ ghost use Rattle.chi_replay.specs.Texts.{IsTextOfLines};
 ghost use Rattle.chi_replay.specs.Replays.{AtWrite, IsTextOf, KeepsAtFault, NoText, NoTextAt, RefusesFault, WritesFront, WritesText, read_sizes};
 
 use crate::runs::run_lines;
-use chi_devices::{Failed, Input, Output, read_all};
+use chi_script::{Failed, Fault, Header, Input, Output, check_lines, read_all, read_head};
 use chi_flit::Profile;
-use chi_script::{Fault, Header, check_lines, read_head};
 use chi_slice::Config;
 use std::alloc::Allocator;
 

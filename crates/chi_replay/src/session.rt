@@ -1,7 +1,7 @@
 //! One command after the other, played on a node.
 
 ghost use Rattle.std.specs.Prelude.{◌≡◌, [], ◌∷◌, ◌++◌, OnOk, string_bytes};
-ghost use Rattle.chi_reply.specs.Replies.{reply_text};
+ghost use Rattle.chi_replay.specs.Replies.{reply_text};
 ghost use Rattle.chi_script.specs.declared.commands.Command.TheVariants as commands;
 ghost use Rattle.chi_replay.specs.Turns.{turn};
 ghost use Rattle.chi_replay.specs.Session.{PlaysOn, SaysTurn, machine_of};
@@ -9,7 +9,11 @@ ghost use Rattle.chi_replay.specs.Session.{PlaysOn, SaysTurn, machine_of};
 use crate::node_replies::{arrival_reply, give_back_reply, step_reply, tend_reply, totals_told};
 use chi_flit::{Agent, CreditType, Line, NoMemory};
 use chi_node::System;
-use chi_reply::{InFlight, Printable, Reply, SeenCredits, Shown};
+use crate::credits::SeenCredits;
+use crate::flights::InFlight;
+use crate::prints::Printable;
+use crate::replies::Reply;
+use crate::shown::Shown;
 use chi_script::Command;
 use std::alloc::Allocator;
 

@@ -2,8 +2,7 @@
 
 use crate::comparison::same;
 use chi_chart::{ChartPart, chart};
-use chi_devices::{MemoryInput, MemoryOutput};
-use chi_script::Fault;
+use chi_script::{Fault, MemoryInput, MemoryOutput};
 use linked_list_allocator::LocalHeap;
 use std::alloc::{AllocError, Allocator};
 use std::process::Abort;

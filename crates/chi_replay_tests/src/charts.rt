@@ -2,7 +2,7 @@
 
 use crate::comparison::same;
 use chi_chart::{ChartPart, chart};
-use chi_devices::{MemoryInput, MemoryOutput};
+use chi_script::{MemoryInput, MemoryOutput};
 use chi_flit::Line;
 use std::process::Abort;
 

@@ -2,7 +2,7 @@
 
 use crate::prints::prints;
 use chi_flit::Profile;
-use chi_reply::SeenCredits;
+use chi_replay::SeenCredits;
 
 #[test]
 fn prints_the_types_there_are(rt: HostRuntime) {

@@ -2,7 +2,7 @@
 
 use crate::prints::prints;
 use chi_flit::{CompData, DatUp, Kind, NO_DATA, Request, RspDown, RspUp, Slot, Snoop};
-use chi_reply::InFlight;
+use chi_replay::InFlight;
 use chi_slice::Cells;
 
 const REQUEST: Request = Request {

@@ -1,6 +1,6 @@
 //! Whether an answer prints as a text.
 
-use chi_reply::Printable;
+use chi_replay::Printable;
 use std::alloc::{AllocError, Global};
 use std::process::Abort;
 

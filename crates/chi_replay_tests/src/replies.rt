@@ -3,7 +3,7 @@
 use crate::prints::prints;
 use chi_flit::{Agent, CreditType, Entry, Refusal, Slot};
 use chi_node::Released;
-use chi_reply::Reply;
+use chi_replay::Reply;
 
 #[test]
 fn prints_what_was_done(rt: HostRuntime) {

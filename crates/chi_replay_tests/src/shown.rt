@@ -2,7 +2,7 @@
 
 use crate::prints::prints;
 use chi_flit::{Agent, Kind, NO_DATA, Slot, State};
-use chi_reply::Shown;
+use chi_replay::Shown;
 use chi_slice::{Cells, CopyView, LineView, Serving, Waiting};
 
 const NOBODY: [bool; 8] = [false; 8];

@@ -2,7 +2,7 @@
 
 use crate::prints::prints;
 use chi_flit::Profile;
-use chi_reply::NodeTotals;
+use chi_replay::NodeTotals;
 
 #[test]
 fn prints_two_types(rt: HostRuntime) {

@@ -9,7 +9,7 @@ use Rattle.chi_flit.specs.declared.credit.Profile.TheVariants.{Two, Four}
 use Rattle.chi_script.specs.declared.headers.Header.{Header}
 use Rattle.chi_script.specs.declared.headers.CreditTypes.{CreditTypes}
 use Rattle.chi_script.specs.Words.{◌>>=◌, is_text, words_of, number_of, has_no_space}
-use Rattle.chi_config.specs.Config.{are_entries}
+use Rattle.chi_flit.specs.Config.{are_entries}
 use Rattle.chi_script.specs.Headers.{types_of, header_sizes, header_in_limits, header_of, is_in_limits, IsInLimits}
 use Rattle.chi_script.specs.Spelling.{type_words, header_words, IsHeaderLine}
 use Rattle.chi_script.proofs.LimitLemmas.{each_few, entries_fit, limits_of, none_left}

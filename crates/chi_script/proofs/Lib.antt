@@ -23,3 +23,5 @@ pub mod OperationLoop
 pub mod StormLemmas
 pub mod StormTextLemmas
 pub mod LineEndLemmas
+pub mod FrontLemmas
+pub mod WriteLemmas

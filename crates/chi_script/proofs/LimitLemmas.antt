@@ -7,7 +7,7 @@ use Rattle.std.proofs.lemmas.List.Sums.{get_or-le-sum_by}
 use Rattle.chi_flit.specs.declared.credit.Profile.{Profile}
 use Rattle.chi_flit.specs.declared.credit.Profile.TheVariants.{Two, Four}
 use Rattle.chi_script.specs.declared.headers.Header.{Header}
-use Rattle.chi_config.specs.Config.{are_entries, are_in_limits, is_between, is_slice_count}
+use Rattle.chi_flit.specs.Config.{are_entries, are_in_limits, is_between, is_slice_count}
 use Rattle.chi_script.specs.Headers.{is_in_limits, node_sizes, IsInLimits}
 
 from_to : (least most n : ℕ) → is_between least most n ≡ true → (least ≤ n) × (n ≤ most)

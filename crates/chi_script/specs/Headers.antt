@@ -1,7 +1,7 @@
 -- The header of a replay file and its limits (docs/FORMATS.md, "Replay files", and docs/PROTOCOL.md, "Limits").
 use Rattle.std.specs.Prelude.{ℕ, sum, slice_index, ◌≤◌, ◌&&◌, nat_le, Bool, List, [], ◌∷◌, Option, Some, None, if◌then◌else◌, codes}
 use Rattle.chi_flit.specs.declared.credit.Profile.TheVariants.{Two, Four}
-use Rattle.chi_config.specs.Config as config
+use Rattle.chi_flit.specs.Config as config
 use Rattle.chi_script.specs.declared.headers.Header.{Header}
 use Rattle.chi_script.specs.declared.headers.CreditTypes.{CreditTypes}
 use Rattle.chi_script.specs.declared.headers.SizeFields.{SizeFields}

@@ -11,3 +11,4 @@ pub mod Operations
 pub mod Storms
 pub mod StormSpelling
 pub mod ShownWords
+pub mod Devices

@@ -3,7 +3,7 @@
 ghost use Rattle.std.specs.Prelude.{◌≡◌, IfSome, true};
 ghost use Rattle.std.specs.Option.{option_map};
 ghost use Rattle.chi_script.specs.Words.{texts_of};
-ghost use Rattle.chi_config.specs.Config.{are_entries, is_slice_count};
+ghost use Rattle.chi_flit.specs.Config.{are_entries, is_slice_count};
 ghost use Rattle.chi_script.specs.Headers.{header_of, header_sizes, types_of, is_from, is_in_limits, header_in_limits, header_of_sizes};
 
 use crate::numbers::number;

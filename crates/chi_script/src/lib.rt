@@ -7,23 +7,28 @@
 mod check_files;
 mod checks;
 mod commands;
+mod devices;
 mod faults;
 mod files;
 mod good_lines;
 mod headers;
 mod hints;
 mod laws;
+mod memory;
 mod numbers;
 mod operations;
+mod reading;
 mod requester_actions;
 mod shown_words;
 mod storms;
+mod system;
 mod usual_lines;
 mod words;
 
 pub use check_files::{CheckFile, MOST_CHECK_BYTES, read_checks};
 pub use checks::Check;
 pub use commands::{Command, read_command};
+pub use devices::{Failed, Input, Output};
 pub use faults::Fault;
 pub use files::{MOST_BYTES, ReplayFile, command_in, first_line, header_in, read_file, read_head};
 pub use good_lines::check_lines;
@@ -34,9 +39,15 @@ pub use laws::{
     headers_are_lines, numbers_are_decimal, operations_are_lines, replay_front_is_enough,
     replays_are_check_files, storm_front_is_enough, storms_are_files,
 };
+pub use memory::{MemoryInput, MemoryOutput};
 pub use numbers::{number, small};
 pub use operations::{AgentOperation, read_operation};
+pub use reading::{read_all, read_most};
 pub use requester_actions::RequesterAction;
 pub use shown_words::ShownWord;
 pub use storms::{StormFile, read_storm};
+pub use system::{FileInput, StandardOutput};
 pub use words::{first_word, is, read_words};
+
+#[cfg(test)]
+mod tests;

@@ -10,7 +10,7 @@ use Rattle.chi_line.specs.Protocol.{Standing}
 use Rattle.chi_line.specs.RefusalRows.{Room, refusal_row, refused_if}
 use Rattle.chi_line.specs.Step.{is_step_in_range}
 use Rattle.chi_slice.specs.declared.terms.Terms.{Terms}
-use Rattle.chi_config.specs.Config.{Sizes}
+use Rattle.chi_flit.specs.Config.{Sizes}
 use Rattle.chi_slice.specs.Run.{AreAlike, AreElsewhere, IsRun, IsSameRoom, IsTried}
 use Rattle.chi_slice.specs.Protocol.{lacks_credit, refused, refused_on_terms, room_for, room_under}
 use Rattle.chi_slice.specs.Slice.{SliceState, is_in_range, is_line_in_range, line}

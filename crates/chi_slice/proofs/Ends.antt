@@ -6,7 +6,7 @@ use Rattle.chi_flit.specs.declared.action.Effect.{Effect}
 use Rattle.chi_flit.specs.declared.refusal.Refusal.{Refusal}
 use Rattle.chi_journal.specs.Journal.{Log}
 use Rattle.chi_line.specs.declared.act.Conditions.{Conditions}
-use Rattle.chi_line.specs.declared.seen.Position.{Position}
+use Rattle.chi_line.specs.declared.position.Position.{Position}
 use Rattle.chi_line.specs.LineState.{LineState}
 use Rattle.chi_line.specs.Moves.{moved_slot, moved_to}
 use Rattle.chi_line.specs.Step.{effect_of}

@@ -5,7 +5,7 @@ use Rattle.std.proofs.lemmas.Bool.{and_from, eq-eqb}
 use Rattle.chi_flit.specs.declared.numbers.Line.{Line}
 use Rattle.chi_flit.specs.declared.numbers.Slot.{Slot}
 use Rattle.chi_slice.specs.declared.places.RequestPlace.{RequestPlace}
-use Rattle.chi_line.specs.declared.seen.Position.{Position}
+use Rattle.chi_line.specs.declared.position.Position.{Position}
 use Rattle.chi_slice.specs.Index.{is_slot_of, moved_in, place_number, place_of, place_of_position, with_place}
 use Rattle.chi_line.specs.Step.{is_slot}
 use Rattle.chi_line.proofs.EqualSlots.{same_slot}

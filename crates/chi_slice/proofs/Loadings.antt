@@ -6,11 +6,11 @@ use Rattle.std.proofs.Math.ListN.{length-replicate}
 use Rattle.std.proofs.lemmas.Bool.{and_from, and_parts, eqb-true, eq-eqb}
 use Rattle.std.proofs.lemmas.List.{get_or_read}
 use Rattle.chi_flit.specs.declared.numbers.Slot.{Slot}
-use Rattle.chi_config.specs.Config.{Sizes}
+use Rattle.chi_flit.specs.Config.{Sizes}
 use Rattle.chi_journal.specs.Journal.{Log}
 use Rattle.chi_line.specs.LineState.{LineState, opening_line}
-use Rattle.chi_line.specs.declared.seen.Position.{Position}
-use Rattle.chi_line.specs.contracts.seen.PositionPartialEq.TheImpl as positions
+use Rattle.chi_line.specs.declared.position.Position.{Position}
+use Rattle.chi_line.specs.contracts.position.PositionPartialEq.TheImpl as positions
 use Rattle.chi_line.proofs.EqualSlots.{same_slot}
 use Rattle.chi_slice.specs.declared.places.RequestPlace.{RequestPlace}
 use Rattle.chi_slice.specs.Index.{Indexed, IsInside, IsSliceIndexed, IsShown, at_line, no_places, place_number, place_of, with_place}

@@ -1,6 +1,6 @@
 -- A new slice is in the opening state.
 use Rattle.std.proofs.Common.{◌≡◌, ℕ, ◌<◌, List, replicate, true, refl, sym, ◌∙◌, ap, subst}
-use Rattle.chi_config.specs.Config.{Sizes, are_in_limits}
+use Rattle.chi_flit.specs.Config.{Sizes, are_in_limits}
 use Rattle.chi_journal.specs.Journal.{Log, opening_log}
 use Rattle.chi_line.specs.LineState.{LineState, opening_line}
 use Rattle.chi_line.specs.Meaning.{standing_of}

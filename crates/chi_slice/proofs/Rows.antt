@@ -4,7 +4,7 @@ use Rattle.std.proofs.lemmas.Bool.{and_from, eqb-true, eq-eqb}
 use Rattle.std.proofs.lemmas.Nat.{div-add-mod', div-mul-add, le-div, mod-mul-add}
 use Rattle.std.proofs.Math.Nat.{div-mul-le_self, mul-le-mul_right}
 use Rattle.chi_flit.specs.declared.action.Action.{Action}
-use Rattle.chi_config.specs.Config.{Sizes, are_in_limits, is_between, is_slice_count}
+use Rattle.chi_flit.specs.Config.{Sizes, are_in_limits, is_between, is_slice_count}
 use Rattle.chi_slice.specs.Slice.{SliceKept, SliceState, is_in_range, is_line_in_range, row_count, row_of_line}
 use Rattle.chi_line.specs.Step.{is_step_in_range}
 

@@ -4,7 +4,7 @@ use Rattle.std.proofs.lemmas.List.{get_or-replicate}
 use Rattle.std.proofs.Math.ListN.{length-set, length-replicate}
 use Rattle.std.proofs.lemmas.Bool.{and_parts, eqb-true, eqb-false, ltb-true}
 use Rattle.chi_flit.specs.Message.{no_words}
-use Rattle.chi_config.specs.Config.{Sizes, are_in_limits}
+use Rattle.chi_flit.specs.Config.{Sizes, are_in_limits}
 use Rattle.chi_line.specs.LineState.{LineState, opening_line}
 use Rattle.chi_line.specs.Kept.{Kept}
 use Rattle.chi_journal.specs.declared.record.Record.{Record}

@@ -1,7 +1,7 @@
 -- What the lines of a slice show of a slot, by the rows of the table.
 use Rattle.std.proofs.Common.{◌≡◌, ℕ, ◌<◌, true, Option, ◌↔◌, subst}
 use Rattle.chi_flit.specs.declared.numbers.Slot.{Slot}
-use Rattle.chi_line.specs.declared.seen.Position.{Position}
+use Rattle.chi_line.specs.declared.position.Position.{Position}
 use Rattle.chi_line.specs.Places.{position_at}
 use Rattle.chi_line.specs.Table.{IsFound}
 use Rattle.chi_line.proofs.TableRows.{rows_are}

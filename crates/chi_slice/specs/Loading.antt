@@ -2,7 +2,7 @@
 -- "Agreement" and "The journal and last values").
 use Rattle.std.specs.Prelude.{◌≡◌, ℕ, ◌<◌, List, length, Bool, true, Option, Some, None}
 use Rattle.chi_flit.specs.declared.numbers.Slot.{Slot}
-use Rattle.chi_config.specs.Config.{Sizes, are_in_limits}
+use Rattle.chi_flit.specs.Config.{Sizes, are_in_limits}
 use Rattle.chi_journal.specs.Journal.{IsLegalLog, LogKept, opening_log}
 use Rattle.chi_line.specs.LineState.{LineState}
 use Rattle.chi_line.specs.Keeping.{HasLowSlots}

@@ -13,7 +13,7 @@ use Rattle.chi_flit.specs.declared.refusal.Refusal.TheVariants.{OutOfRange}
 use Rattle.chi_flit.specs.Refusal.{refusal_of}
 use Rattle.chi_journal.specs.declared.record.Record.{Record}
 use Rattle.chi_journal.specs.Journal.{IsLegalLog, Log, LogKept, line_words, log_with, is_full, opening_log}
-use Rattle.chi_config.specs.Config.{Sizes, are_in_limits}
+use Rattle.chi_flit.specs.Config.{Sizes, are_in_limits}
 use Rattle.chi_slice.specs.declared.agent_line.AgentRow.{AgentRow}
 use Rattle.chi_slice.specs.declared.terms.Terms.{Terms}
 use Rattle.chi_slice.specs.declared.terms.Done.{Done}

@@ -1,7 +1,7 @@
 -- The place of an agent's slot by the rows of the table (docs/PROTOCOL.md, "Agreement").
 use Rattle.std.specs.Prelude.{◌≡◌, ◌↔◌, ℕ, true, Option}
 use Rattle.chi_flit.specs.declared.numbers.Slot.{Slot}
-use Rattle.chi_line.specs.declared.seen.Position.{Position}
+use Rattle.chi_line.specs.declared.position.Position.{Position}
 use Rattle.chi_line.specs.Table.{IsFound}
 use Rattle.chi_slice.specs.declared.places.RequestPlace.{RequestPlace}
 use Rattle.chi_slice.specs.Slice.{SliceState, is_line_in_range, line}

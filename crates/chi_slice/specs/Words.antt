@@ -1,6 +1,6 @@
 -- What the crates above say of a slice in the words of the crates below it, passed on from one place. Declares
 -- nothing.
-pub use Rattle.chi_config.specs.Config.{Sizes, are_entries, are_in_limits, config_if, four_types, is_between, is_slice_count, sizes_if, sizes_of, two_types}
+pub use Rattle.chi_flit.specs.Config.{Sizes, are_entries, are_in_limits, config_if, four_types, is_between, is_slice_count, sizes_if, sizes_of, two_types}
 pub use Rattle.chi_filter.specs.Filter.{has_any, is_in}
 pub use Rattle.chi_homeline.specs.Home.{Home, answer_taken, asks, completion_message, completion_of, finished_as, home_after_completion, memory_after, snoop_answered, started_as, started_sends_as, taken_up, waiting_of}
 pub use Rattle.chi_homeline.specs.declared.serving.Serving.{Serving}
@@ -23,7 +23,7 @@ pub use Rattle.chi_line.specs.Traffic.{completion_ack, flit_taken, flits_sent, r
 pub use Rattle.chi_line.specs.Types.{has_type, is_of_type, pending_credit, pending_kind_of, requested_kind_of}
 pub use Rattle.chi_line.specs.View.{line_view}
 pub use Rattle.chi_line.specs.declared.act.Conditions.{Conditions}
-pub use Rattle.chi_line.specs.declared.seen.Position.{Position}
+pub use Rattle.chi_line.specs.declared.position.Position.{Position}
 pub use Rattle.chi_line.specs.declared.view.CopyView.{CopyView}
 pub use Rattle.chi_line.specs.declared.view.LineView.{LineView}
 pub use Rattle.chi_rnline.specs.Rn.{Rn, is_clean_copy, load_refusal, resend_refusal, store_refusal}

@@ -15,8 +15,7 @@ mod verdict;
 
 pub use agent_line::{AgentLine, AgentRow};
 pub use audits::{Audit, audit_of, check_slice};
-pub use chi_config::Config;
-pub use chi_flit::{Action, Effect, Step};
+pub use chi_flit::{Action, Config, Effect, Step};
 pub use chi_homeline::{HomeLine, Serving, Waiting};
 pub use chi_journal::{Journal, Record, counted};
 pub use chi_line::{CopyView, LineView, Position, has_flit, pending_credit};

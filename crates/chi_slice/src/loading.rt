@@ -8,8 +8,7 @@ ghost use Rattle.chi_slice.specs.Slice.{SliceKept, is_line_in_range, line as lin
 
 use crate::places::{RequestPlace, RequestPlaces};
 use crate::slice::row_count;
-use chi_config::Config;
-use chi_flit::{Agent, Line, Slot};
+use chi_flit::{Agent, Config, Line, Slot};
 use chi_journal::Journal;
 use chi_line::{CoherentLine, Position};
 use std::alloc::Allocator;

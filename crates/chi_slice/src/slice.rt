@@ -1,38 +1,30 @@
 //! A slice: some of the node's lines, and all that belongs to them.
 
-ghost use Rattle.std.specs.Prelude.{◌≡◌, ◌↔◌, ℕ, ◌<◌, ◌&&◌, nat_lt, true, false, None, Some, is_some, replicate, IfErr, IfOk, IfSome, IsTrue, OnOk, OnErr};
+ghost use Rattle.std.specs.Prelude.{◌≡◌, ◌↔◌, ◌<◌, ◌&&◌, nat_lt, true, false, None, Some, is_some, replicate, IfErr, IfOk, IfSome, IsTrue, OnErr};
 ghost use Rattle.chi_flit.specs.Refusal.{refusal_of};
 ghost use Rattle.chi_flit.specs.declared.numbers.Slot.{Slot};
-ghost use Rattle.chi_journal.specs.Journal.{IsLegalLog};
-ghost use Rattle.chi_line.specs.Coherence.{Coherent};
-ghost use Rattle.chi_line.specs.LineState.{cells_of, opening_line, rn_of};
-ghost use Rattle.chi_line.specs.Meaning.{standing_of};
+ghost use Rattle.chi_line.specs.LineState.{opening_line};
 ghost use Rattle.chi_line.specs.RefusalRows.{is_of_actions};
 ghost use Rattle.chi_line.specs.Step.{is_step_in_range};
-ghost use Rattle.chi_line.specs.View.{line_view};
-ghost use Rattle.chi_slice.specs.declared.places.RequestPlace.{RequestPlace};
 ghost use Rattle.chi_slice.specs.declared.terms.Terms.{Terms};
-ghost use Rattle.chi_slice.specs.Coherence.{IsCoherentSlice};
-ghost use Rattle.chi_config.specs.Config.{are_in_limits};
-ghost use Rattle.chi_slice.specs.Idle.{lowest_idle};
-ghost use Rattle.chi_slice.specs.Index.{HasType, IsInside, IsShown, SlotsInRange, is_slot_of, typed_at};
+ghost use Rattle.chi_flit.specs.Config.{are_in_limits};
+ghost use Rattle.chi_slice.specs.Index.{SlotsInRange};
 ghost use Rattle.chi_slice.specs.Loading.{IsLoadable};
 ghost use Rattle.chi_slice.specs.Protocol.{HasLastValue, IsEnabled, IsOpening, WouldComplete, refused, refused_on_terms};
 ghost use Rattle.chi_slice.specs.Run.{IsDone, IsRun};
-ghost use Rattle.chi_slice.specs.Slice.{CanAct, Computed, ComputedUnder, IsRow, SliceKept, action_in, are_in_range, conditions_under, flits_refusal, is_in_range, is_line_in_range, is_slot_used, last_of, line as line_of_slice, no_terms, opening_slice, range_refusal, action_refusal, refused_under, row_count, row_of_line, run_after, slice_with, uses, view_refusal};
-ghost use Rattle.chi_slice.specs.Table.{IsByTable};
+ghost use Rattle.chi_slice.specs.Slice.{CanAct, Computed, ComputedUnder, IsRow, SliceKept, action_in, conditions_under, flits_refusal, is_in_range, is_slot_used, no_terms, opening_slice, range_refusal, action_refusal, refused_under, row_count, row_of_line, run_after, slice_with, uses};
 
-use crate::agent_line::{AgentLine, AgentRow};
+mod agreement;
+mod looks;
+
+use crate::agent_line::AgentRow;
 use crate::loading::{are_parts_kept, places_in};
-use crate::places::{RequestPlace, RequestPlaces};
+use crate::places::RequestPlaces;
 use crate::records::{is_step_in_range, note};
 use crate::terms::{Done, Terms};
-use chi_config::Config;
-use chi_flit::{Action, Agent, CreditType, Effect, Line, NoMemory, Refusal, Slot, Step};
-use chi_homeline::HomeLine;
+use chi_flit::{Action, Agent, Config, Effect, Line, NoMemory, Refusal, Slot, Step};
 use chi_journal::Journal;
-use chi_line::{Conditions, LineView, TypedSlot};
-use chi_wires::Cells;
+use chi_line::Conditions;
 use std::alloc::Allocator;
 use std::marker::Model;
 
@@ -223,23 +215,6 @@ impl<A: Allocator> Slice<A> {
         self.places.is_used(agent, slot)
     }
 
-    /// The agent's slot of the lowest number that is in use at no line of the slice; 8, which is none, where
-    /// each of the eight is.
-    ///
-    /// Conditions: the agent's number is below 8.
-    /// Source: `docs/PROTOCOL.md`, "Slots and accounts".
-    pub fn lowest_idle(&self, agent: Agent) -> Slot
-        requires { agent.0 < 8 }
-        ensures { result ≡ lowest_idle self.now agent.0 }
-    {
-        for number in 0..8 {
-            if !self.uses(agent, Slot(number)) {
-                return Slot(number);
-            }
-        }
-        Slot(8)
-    }
-
     /// Whether the slot that a step of the agent names is in use.
     fn is_slot_used(&self, agent: Agent, step: Step) -> bool
         requires agent { agent.0 < 8 }
@@ -352,39 +327,6 @@ impl<A: Allocator> Slice<A> {
         }
     }
 
-    /// What is in flight between an agent and the home for a line, lent.
-    ///
-    /// Conditions: the row is one that `row_for` of this slice answered.
-    /// Source: `docs/PROTOCOL.md`, "Messages".
-    pub fn flits_in(&self, at: AgentRow) -> &Cells
-        requires row { IsRow self.now at }
-        requires inside { CanAct self.now at }
-        ensures { result.now ≡ cells_of (line_of_slice self.now at.line.0) at.agent.0 }
-    {
-        self.lines[usize::from(at.row)].flits(at.agent)
-    }
-
-    /// What the home keeps of a line, lent.
-    ///
-    /// Conditions: the row is one that `row_for` of this slice answered.
-    /// Source: `docs/PROTOCOL.md`, "One line".
-    pub fn home_in(&self, at: AgentRow) -> &HomeLine
-        requires row { IsRow self.now at }
-        requires inside { CanAct self.now at }
-        ensures { result.now ≡ (line_of_slice self.now at.line.0).home }
-    {
-        self.line_in(at).home()
-    }
-
-    /// The line in a row, lent. Conditions: the row is one that `row_for` of this slice answered.
-    pub(crate) fn line_in(&self, at: AgentRow) -> &chi_line::CoherentLine
-        requires row { IsRow self.now at }
-        requires inside { CanAct self.now at }
-        ensures { result.now ≡ line_of_slice self.now at.line.0 }
-    {
-        &self.lines[usize::from(at.row)]
-    }
-
     /// Does one action of the agent in a row on the terms of its requester, as `act_under` does it, and asks
     /// for neither the agent nor the line again.
     ///
@@ -468,175 +410,6 @@ impl<A: Allocator> Slice<A> {
         }
     }
 
-    /// The line, where it is in this slice.
-    pub(crate) fn line(&self, line: Line) -> Option<&chi_line::CoherentLine>
-        ensures inside { is_some result ≡ is_line_in_range self.now line.0 }
-        ensures line { IfSome result (λ at. at.now ≡ line_of_slice self.now line.0) }
-        ensures kept { SliceKept self.now }
-        ensures slots { SlotsInRange self.now }
-    {
-        let row = self.config.row_in(self.index, line.0)?;
-        Some(&self.lines[usize::from(row)])
-    }
-
-    /// The line, where it is in this slice and the agent in the node; refused 10 (OutOfRange) exactly where
-    /// not.
-    fn line_for(&self, agent: Agent, line: Line) -> Result<&chi_line::CoherentLine, Refusal>
-        ensures line { IfOk result (λ at. at.now ≡ line_of_slice self.now line.0) }
-        ensures agent { OnOk result (agent.0 < 8) }
-        ensures refusal { refusal_of result ≡ flits_refusal self.now agent.0 line.0 }
-        ensures kept { SliceKept self.now }
-        ensures slots { SlotsInRange self.now }
-    {
-        match self.line(line) {
-            Some(at) if agent.0 < self.config.agents() => Ok(at),
-            Some(_) | None => Err(Refusal::OutOfRange),
-        }
-    }
-
-    /// All parts of a line, as plain data. The line is coherent. Takes no memory.
-    ///
-    /// Refused 10 (OutOfRange) exactly where the line is outside the node or in another slice.
-    /// Source: `docs/PROTOCOL.md`, "One line" and "Coherence".
-    pub fn view(&self, line: Line) -> Result<LineView, Refusal>
-        ensures shown { IfOk result
-            (λ view. view ≡ line_view (line_of_slice self.now line.0) (last_of self.now line.0)) }
-        ensures coherent { OnOk result
-            (Coherent (last_of self.now line.0) (standing_of (line_of_slice self.now line.0))) }
-        ensures refusal { refusal_of result ≡ view_refusal self.now line.0 }
-    {
-        match self.line(line) {
-            Some(at) => Ok(at.view(self.journal.last_words(line))),
-            None => Err(Refusal::OutOfRange),
-        }
-    }
-
-    /// What is in flight between an agent and the home for a line.
-    ///
-    /// Refused 10 (OutOfRange) exactly where the agent or the line is outside the node, or the line is in
-    /// another slice.
-    /// Source: `docs/PROTOCOL.md`, "Messages".
-    pub fn flits(&self, agent: Agent, line: Line) -> Result<Cells, Refusal>
-        ensures cells { IfOk result (λ cells. cells
-            ≡ cells_of (line_of_slice self.now line.0) agent.0) }
-        ensures refusal { refusal_of result ≡ flits_refusal self.now agent.0 line.0 }
-        ensures kept { SliceKept self.now }
-        ensures slots { SlotsInRange self.now }
-    {
-        let at = self.line_for(agent, line)?;
-        Ok(*at.flits(agent))
-    }
-
-    /// What an agent has of a line, what is in flight between it and the home for the line, and the line at
-    /// the home: all of one look, and lent.
-    ///
-    /// Refused 10 (OutOfRange) exactly where the agent or the line is outside the node, or the line is in
-    /// another slice.
-    /// Source: `docs/PROTOCOL.md`, "One line".
-    pub fn agent_line(&self, agent: Agent, line: Line) -> Result<AgentLine<'_>, Refusal>
-        ensures copy { IfOk result (λ at. at.copy.now
-            ≡ rn_of (line_of_slice self.now line.0) agent.0) }
-        ensures flits { IfOk result (λ at. at.flits.now
-            ≡ cells_of (line_of_slice self.now line.0) agent.0) }
-        ensures home { IfOk result (λ at. at.home.now ≡ (line_of_slice self.now line.0).home) }
-        ensures refusal { refusal_of result ≡ flits_refusal self.now agent.0 line.0 }
-    {
-        let at = self.line_for(agent, line)?;
-        Ok(AgentLine {
-            copy: at.copy(agent),
-            flits: at.flits(agent),
-            home: at.home(),
-        })
-    }
-
-    /// Whether the line is one of this slice: a line `l` of the node is where `l mod slices` is its index.
-    /// Source: `docs/PROTOCOL.md`, "Limits".
-    pub fn has_line(&self, line: Line) -> bool
-        ensures { result ≡ is_line_in_range self.now line.0 }
-    {
-        line.0 < self.config.lines() && self.config.slice_of(line) == self.index
-    }
-
-    /// The place of the request that uses an agent's slot: its line, which is in this slice, and where the
-    /// request is there, by the rows of the table. `None` where no row holds of the slot at any line of the
-    /// slice, and for an agent or slot outside the eight of each.
-    /// Source: `docs/PROTOCOL.md`, "Agreement".
-    pub fn place(&self, agent: Agent, slot: Slot) -> Option<RequestPlace>
-        ensures table { agent.0 < 8 → slot.0 < 8 → IsByTable self.now agent.0 slot result }
-        ensures shows { agent.0 < 8 → slot.0 < 8 → IsShown self.now agent.0 slot result }
-        ensures line { agent.0 < 8 → slot.0 < 8 → IsInside self.now result }
-        ensures outside { is_slot_of agent.0 slot ≡ false → result ≡ None }
-    {
-        self.places.get(agent, slot)
-    }
-
-    /// Whether the slot, whose place is this, has its credit type there.
-    fn is_type_in(&self, place: Option<RequestPlace>, typed: TypedSlot) -> bool
-        requires agent { (there : RequestPlace) → place ≡ Some there → typed.agent.0 < 8 }
-        requires line { IsInside self.now place }
-        ensures typed { result ≡ typed_at self.now typed.credit typed.agent.0 typed.slot place }
-        ensures kept { SliceKept self.now }
-    {
-        let profile = self.config.profile();
-        match place {
-            Some(place) => match self.line(place.line) {
-                Some(at) => at.is_of_type(profile, typed),
-                None => unreachable!(),
-            },
-            None => true,
-        }
-    }
-
-    /// Whether an agent's slot has this credit type wherever a line of the slice still keeps the kind of its
-    /// request: true where the slice has no place of the slot, and for an agent or slot outside the eight of
-    /// each. No line is looked at but that of the place.
-    /// Source: `docs/PROTOCOL.md`, "Agreement".
-    pub fn has_type(&self, agent: Agent, slot: Slot, credit: CreditType) -> bool
-        ensures typed { agent.0 < 8 → slot.0 < 8
-            → IsTrue result ↔ HasType self.now credit agent.0 slot }
-        ensures outside { is_slot_of agent.0 slot ≡ false → result ≡ true }
-        ensures kept { SliceKept self.now }
-    {
-        let typed = TypedSlot {
-            agent,
-            slot,
-            credit,
-        };
-        self.is_type_in(self.place(agent, slot), typed)
-    }
-
-    /// The loads and stores that were answered, in their order: each load had the value that was stored
-    /// last before it. Whoever asks for them knows what every slice keeps.
-    /// Source: `docs/PROTOCOL.md`, "The journal and last values".
-    pub fn journal(&self) -> &Journal<A>
-        ensures journal { result.now ≡ self.now.journal }
-        ensures legal { IsLegalLog self.now.journal }
-        ensures kept { SliceKept self.now }
-        ensures slots { SlotsInRange self.now }
-    {
-        &self.journal
-    }
-
-    /// What every slice keeps: each of its lines is coherent, with the values that the journal has as last
-    /// stored to its words, and each load in the journal had the value stored last before it. Nothing is
-    /// done.
-    /// Source: `docs/PROTOCOL.md`, "Coherence" and "The journal and last values".
-    pub fn coherence(&self)
-        ensures { IsCoherentSlice self.now }
-    {
-        let _ = self.journal();
-    }
-
-    /// The lines of the slice in the order of their rows, lent: line `l` of the node is in row `l / slices`.
-    /// Whoever asks for them knows that `of_parts` makes this slice of its parts.
-    /// Source: `docs/PROTOCOL.md`, "One line".
-    pub fn lines(&self) -> &[chi_line::CoherentLine]
-        ensures lines { result.now ≡ self.now.lines }
-        ensures parts { IsLoadable self.now }
-    {
-        &self.lines
-    }
-
     /// Whether the slices are the same: their sizes and their places in the node, each line with its flits,
     /// and the journal. One walk over both, up to the first difference; it takes no memory.
     /// Source: `docs/PROTOCOL.md`, "The system".
@@ -647,21 +420,5 @@ impl<A: Allocator> Slice<A> {
             && self.index == other.index
             && are_same_lines(&self.lines, &other.lines)
             && self.journal.equals(&other.journal)
-    }
-
-    /// The size of the node.
-    /// Source: `docs/PROTOCOL.md`, "Limits".
-    pub fn config(&self) -> &Config
-        ensures { result.now ≡ self.now.config }
-    {
-        &self.config
-    }
-
-    /// Which slice of the node this is.
-    /// Source: `docs/PROTOCOL.md`, "Limits".
-    pub fn index(&self) -> u8
-        ensures { result ≡ self.now.index }
-    {
-        self.index
     }
 }

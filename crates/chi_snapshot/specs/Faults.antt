@@ -1,6 +1,6 @@
 -- Why bytes are not made a slice, and what is printed of it (docs/SNAPSHOTS.md).
 use Rattle.std.specs.Prelude.{◌≡◌, ℕ, List, ◌++◌, take, length, codes}
-use Rattle.chi_config.specs.Config.{Sizes}
+use Rattle.chi_flit.specs.Config.{Sizes}
 use Rattle.chi_snapshot.specs.Bytes.{one_byte}
 use Rattle.chi_snapshot.specs.Snapshot.{head_bytes, sizes_bytes}
 use Rattle.chi_snapshot.specs.declared.faults.LoadFault.{LoadFault}

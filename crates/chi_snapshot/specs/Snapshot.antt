@@ -4,7 +4,7 @@ use Rattle.std.specs.Prelude.{ℕ, List, [], ◌∷◌, ◌++◌}
 use Rattle.sha2.specs.Sha256.{sha256}
 use Rattle.chi_flit.specs.declared.credit.Profile.{Profile}
 use Rattle.chi_flit.specs.declared.credit.Profile.TheVariants.{Two, Four}
-use Rattle.chi_config.specs.Config.{Sizes}
+use Rattle.chi_flit.specs.Config.{Sizes}
 use Rattle.chi_slice.specs.Slice.{SliceState}
 use Rattle.chi_snapshot.specs.Bytes.{one_byte, two_bytes, four_bytes, list_bytes, long_list_bytes}
 use Rattle.chi_snapshot.specs.Parts.{line_bytes}

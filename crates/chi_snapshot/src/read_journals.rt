@@ -6,8 +6,7 @@ ghost use Rattle.chi_snapshot.specs.Faults.{IsBehindFront};
 use crate::faults::LoadFault;
 use crate::read::Read;
 use crate::read_flits::read_words;
-use chi_config::Config;
-use chi_flit::{Agent, Data, Line, NoMemory, WordNo};
+use chi_flit::{Agent, Config, Data, Line, NoMemory, WordNo};
 use chi_journal::{Journal, JournalTotals, Record};
 use std::alloc::Allocator;
 

@@ -2,14 +2,13 @@
 
 ghost use Rattle.std.specs.Prelude.{◌≡◌, ◌++◌, ℕ, OnOk, IfOk};
 ghost use Rattle.sha2.specs.Sha256.{sha256};
-ghost use Rattle.chi_config.specs.Config.{Sizes};
+ghost use Rattle.chi_flit.specs.Config.{Sizes};
 ghost use Rattle.chi_snapshot.specs.Bytes.{one_byte};
 ghost use Rattle.chi_snapshot.specs.Snapshot.{head_bytes, plain_bytes, profile_byte, saved, sealed, sizes_bytes};
 
 use crate::journals::write_journal;
 use crate::written::{Written, write_list, write_long_list};
-use chi_config::Config;
-use chi_flit::{NoMemory, Profile};
+use chi_flit::{Config, NoMemory, Profile};
 use chi_slice::Slice;
 use sha2::{Digest, Sha256};
 use std::alloc::Allocator;

@@ -2,15 +2,15 @@
 use Rattle.std.specs.Prelude.{◌≡◌, ◌≢◌, ℕ, ◌/◌, ◌<◌, ◌≤◌, ◌⊎◌, All, Bool, true, false, List, Option, Some, None, length, map}
 use Rattle.std.specs.Io.KnownBytes.{Appends, Keeps}
 use Rattle.chi_flit.specs.declared.refusal.Refusal.{Refusal}
-use Rattle.chi_reply.specs.Replies.{reply_text}
-use Rattle.chi_reply.specs.declared.replies.Reply.TheVariants.{Refused}
+use Rattle.chi_replay.specs.Replies.{reply_text}
+use Rattle.chi_replay.specs.declared.replies.Reply.TheVariants.{Refused}
 use Rattle.chi_script.specs.declared.faults.Fault.{Fault}
 use Rattle.chi_script.specs.declared.faults.Fault.TheVariants as faults
 use Rattle.chi_script.specs.declared.headers.Header.{Header}
 use Rattle.chi_script.specs.CheckFiles.{most_check_bytes}
 use Rattle.chi_script.specs.Checks.{CheckLine}
 use Rattle.chi_script.specs.Headers.{line_header}
-use Rattle.chi_devices.specs.Devices.{AppendsFront}
+use Rattle.chi_script.specs.Devices.{AppendsFront}
 use Rattle.chi_replay.specs.Checks.{IsAnswered}
 use Rattle.chi_stimulus.specs.declared.options.DrawOptions.{DrawOptions}
 use Rattle.chi_stimulus.specs.Drafts.{IsDrawnBy}

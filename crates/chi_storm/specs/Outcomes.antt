@@ -1,7 +1,7 @@
 -- The four lines of a storm (docs/FORMATS.md, "The output of a storm").
 use Rattle.std.specs.Prelude.{ℕ, List, [], ◌∷◌, ◌++◌, codes}
 use Rattle.std.specs.Fmt.{decimal}
-use Rattle.chi_reply.specs.Replies.{storm_totals_text, verdict_text}
+use Rattle.chi_replay.specs.Replies.{storm_totals_text, verdict_text}
 use Rattle.chi_storm.specs.declared.outcome.Outcome.{Outcome}
 
 -- how many of the agents finished their scripts

@@ -2,7 +2,7 @@
 use Rattle.std.specs.Prelude.{◌≡◌, ◌↔◌, ℕ, ◌+◌, List, Bool, IfSome, IsTrue, Option, Ok}
 use Rattle.std.specs.Io.KnownBytes.{Appends, Keeps}
 use Rattle.chi_audit.specs.declared.reports.Report.{Report}
-use Rattle.chi_devices.specs.Devices.{AppendsFront}
+use Rattle.chi_script.specs.Devices.{AppendsFront}
 use Rattle.chi_script.specs.declared.headers.Header.{Header}
 use Rattle.chi_script.specs.declared.faults.Fault.{Fault}
 use Rattle.chi_script.specs.declared.faults.Fault.TheVariants.{NoMemory, Write}

@@ -1,8 +1,7 @@
 //! Storms from inputs and to outputs that fail, and of faulty files.
 
 use crate::comparison::same;
-use chi_devices::{MemoryInput, MemoryOutput};
-use chi_script::Fault;
+use chi_script::{Fault, MemoryInput, MemoryOutput};
 use chi_storm::storm;
 use std::process::Abort;
 use std::sync::Wait;

@@ -1,7 +1,7 @@
 //! The four lines of storms.
 
 use crate::comparison::same;
-use chi_devices::{MemoryInput, MemoryOutput};
+use chi_script::{MemoryInput, MemoryOutput};
 use chi_storm::storm;
 use std::process::Abort;
 use std::sync::Wait;

@@ -3,7 +3,7 @@ use Rattle.std.specs.Prelude.{◌≡◌, ◌<◌, ◌+◌, ℕ, Bool, true, fals
 use Rattle.std.specs.Io.KnownBytes.{Appends, Keeps}
 use Rattle.std.specs.List.{count_by}
 use Rattle.std.specs.Map.{values_of}
-use Rattle.chi_devices.specs.Devices.{AppendsFront}
+use Rattle.chi_script.specs.Devices.{AppendsFront}
 use Rattle.chi_script.specs.declared.faults.Fault.{Fault}
 use Rattle.chi_script.specs.declared.faults.Fault.TheVariants as faults
 use Rattle.chi_slice.specs.Words.{four_types, two_types, Sizes}

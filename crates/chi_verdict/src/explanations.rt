@@ -2,15 +2,14 @@
 
 ghost use Rattle.std.specs.Prelude.{◌≡◌, ◌≢◌, ◌+◌, ◌^◌, ◌<◌, IfErr, IfOk, IfSome, OnErr, OnOk, false, string_bytes};
 ghost use Rattle.std.specs.Io.KnownBytes.{Keeps};
-ghost use Rattle.chi_devices.specs.Devices.{AppendsFront, CountsFault};
+ghost use Rattle.chi_script.specs.Devices.{AppendsFront, CountsFault};
 ghost use Rattle.chi_verdict.specs.Verdicts.{AtFailedWrite, IsReport, IsReportFront, IsReportWritten, IsUnreported, KeepsUnlessWritten, is_malformed};
 
 use crate::asked::Asked;
 use crate::reports::{TraceOutcome, TraceReport, report_on};
-use chi_devices::{Failed, Input, Output, read_most};
+use chi_script::{Failed, Fault, Input, Output, read_most};
 use chi_flit::NoMemory;
 use chi_resolution::Options;
-use chi_script::Fault;
 use chi_trace::MOST_BYTES;
 use std::alloc::Allocator;
 

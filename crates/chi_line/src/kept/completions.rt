@@ -5,7 +5,7 @@ ghost use Rattle.chi_homeline.specs.Home.{served_slot};
 ghost use Rattle.chi_line.specs.Keeping.{AwaitedKept, CompletionsKept, IsApart, ReadDataKept, ReadKept, Reads, ResponseKept, lane_in};
 ghost use Rattle.chi_line.specs.Kept.{is_read};
 
-use crate::ends::served_slot;
+use crate::position::served_slot;
 use crate::kept::lane::{AgentLane, HomeTerms};
 use crate::kept::marks::{
     acks_for, is_ack, is_comp_unique, is_dbid, is_one_of_three, is_one_of_two, is_write_data,

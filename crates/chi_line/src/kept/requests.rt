@@ -6,7 +6,7 @@ ghost use Rattle.chi_line.specs.Kept.{kind_if, snoops_for};
 ghost use Rattle.chi_line.specs.RefusalRows.{is_retried};
 ghost use Rattle.chi_line.specs.Step.{pending_slot};
 
-use crate::ends::served_slot;
+use crate::position::served_slot;
 use crate::kept::lane::AgentLane;
 use crate::kept::marks::{bit, served_kind, snoops_for};
 use chi_flit::{Kind, Request, Slot};

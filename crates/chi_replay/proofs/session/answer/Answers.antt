@@ -2,7 +2,7 @@
 use Rattle.std.proofs.Common.{◌≡◌, IfOk, OnOk, string_bytes, subst, sym, rules}
 use Rattle.chi_flit.specs.declared.action.Action.{Action}
 use Rattle.chi_flit.specs.Refusal.{refusal_of}
-use Rattle.chi_reply.specs.Replies.{reply_text}
+use Rattle.chi_replay.specs.Replies.{reply_text}
 use Rattle.chi_script.specs.declared.commands.Command.{Command}
 use Rattle.chi_node.specs.System.{ArrivesIn, arrive_refusal}
 use Rattle.chi_replay.specs.NodeReplies.{arrival_reply, step_reply}

@@ -1,6 +1,6 @@
 -- The headline of the node is asked for, and the line has what was found.
 use Rattle.std.proofs.Common.{◌≡◌, [], ◌∷◌, ◌++◌, string_bytes, subst, rules}
-use Rattle.chi_reply.specs.Replies.{audit_text}
+use Rattle.chi_replay.specs.Replies.{audit_text}
 use Rattle.chi_script.specs.declared.commands.Command.TheVariants.{Audit}
 use Rattle.chi_node.specs.System.{SystemState}
 use Rattle.chi_slice.specs.Audits.{IsAudited}

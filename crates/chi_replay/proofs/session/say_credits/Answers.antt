@@ -2,7 +2,7 @@
 use Rattle.std.proofs.Common.{◌≡◌, None, Some, [], ◌∷◌, ◌++◌, ap, ◌∙◌, length, arith, rules, string_bytes}
 use Rattle.chi_flit.specs.declared.credit.Profile.{Profile}
 use Rattle.chi_slice.specs.Words.{Sizes}
-use Rattle.chi_reply.specs.Replies.{credits_text}
+use Rattle.chi_replay.specs.Replies.{credits_text}
 use Rattle.chi_node.specs.System.{SeesIn, agent_refusal}
 use Rattle.chi_replay.proofs.Credited.{see_plays}
 use Rattle.chi_replay.proofs.Turned.{refused_on, said_on}

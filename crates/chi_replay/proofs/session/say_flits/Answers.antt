@@ -1,7 +1,7 @@
 -- Where the agent and the line are in range, the line has what is in flight.
 use Rattle.std.proofs.Common.{◌≡◌, None, Some, ap, ◌∙◌, rules, refl, [], ◌∷◌, ◌++◌, string_bytes}
 use Rattle.chi_slice.specs.Words.{cells_of, Cells}
-use Rattle.chi_reply.specs.Replies.{flits_text}
+use Rattle.chi_replay.specs.Replies.{flits_text}
 use Rattle.chi_node.specs.Home.{node_flits_refusal, node_line}
 use Rattle.chi_replay.proofs.Turned.{refused_on, shown_on}
 use Rattle.chi_replay.proofs.session.say_flits.Goals as goal

@@ -1,7 +1,7 @@
 -- Where the line is in range, the answer has all its parts.
 use Rattle.std.proofs.Common.{◌≡◌, None, Some, [], ◌∷◌, ◌++◌, ap, refl, ◌∙◌, rules, string_bytes}
 use Rattle.chi_slice.specs.Words.{line_view, LineView, Sizes}
-use Rattle.chi_reply.specs.Replies.{shown_text}
+use Rattle.chi_replay.specs.Replies.{shown_text}
 use Rattle.chi_node.specs.Home.{node_last, node_line, node_view_refusal}
 use Rattle.chi_replay.proofs.Turned.{refused_on, shown_on}
 use Rattle.chi_replay.proofs.session.say_line.Goals as goal

@@ -3,7 +3,7 @@ use Rattle.std.proofs.Common.{◌≡◌, [], ◌∷◌, ◌++◌, ap, ◌∙◌,
 use Rattle.chi_flit.specs.declared.credit.Profile.{Profile}
 use Rattle.chi_slice.specs.Words.{Sizes}
 use Rattle.chi_node.specs.Words.{Counts}
-use Rattle.chi_reply.specs.Replies.{totals_text}
+use Rattle.chi_replay.specs.Replies.{totals_text}
 use Rattle.chi_replay.proofs.Turned.{AreFours, glance_says}
 use Rattle.chi_replay.specs.NodeReplies.{totals_told}
 use Rattle.chi_replay.proofs.session.say_totals.Goals as goal

@@ -1,7 +1,7 @@
 -- One line after the other is tested.
 use Rattle.std.proofs.Common.{◌≡◌, ◌∙◌, ap, arith, rules}
 use Rattle.chi_slice.specs.Coherence.{IsLineCoherent}
-use Rattle.chi_config.specs.Config.{Sizes}
+use Rattle.chi_flit.specs.Config.{Sizes}
 use Rattle.chi_slice.proofs.Below.{next_below, none_below}
 use Rattle.chi_slice.proofs.Lines.{all_lines}
 use Rattle.chi_slice.proofs.audits.are_lines_coherent.Goals as goal

@@ -1,4 +1,0 @@
-pub mod Faults
-pub mod Options
-pub mod Usage
-pub mod CommandLines

@@ -1,0 +1,16 @@
+-- The arguments, one after the other.
+use Rattle.std.proofs.Common.{codes}
+use Rattle.clap.specs.Words.{new_app, with_rule}
+use Rattle.chi_program.specs.CommandLines.{IsCommand, header_rule, option_rule}
+use Rattle.chi_program.proofs.Subcommands.{with_final, with_one}
+use Rattle.chi_program.proofs.jobs.draw_command.Goals as goal
+
+pub returns : goal.returns
+returns c =
+    let line_1 : IsCommand (with_rule (new_app (codes "draw")) header_rule) c.in_ok-arg.field-0 = with_one _ _ c.new.result c.header.result _ (record { words = c.new.ensures.app; local = c.new.ensures.local }) c.header.ensures.rule c.header.ensures.local c.in_ok-arg.ensures in
+    let line_2 : IsCommand (with_rule (with_rule (new_app (codes "draw")) header_rule) (option_rule (codes "seed"))) c.in_ok-arg-2.field-0 = with_one _ _ c.in_ok-arg.field-0 c.option.result _ line_1 c.option.ensures.rule c.option.ensures.local c.in_ok-arg-2.ensures in
+    let line_3 : IsCommand (with_rule (with_rule (with_rule (new_app (codes "draw")) header_rule) (option_rule (codes "seed"))) (option_rule (codes "commands"))) c.in_ok-arg-3.field-0 = with_one _ _ c.in_ok-arg-2.field-0 c.option-2.result _ line_2 c.option-2.ensures.rule c.option-2.ensures.local c.in_ok-arg-3.ensures in
+    let line_4 : IsCommand (with_rule (with_rule (with_rule (with_rule (new_app (codes "draw")) header_rule) (option_rule (codes "seed"))) (option_rule (codes "commands"))) (option_rule (codes "wild"))) c.in_ok-arg-4.field-0 = with_one _ _ c.in_ok-arg-3.field-0 c.option-3.result _ line_3 c.option-3.ensures.rule c.option-3.ensures.local c.in_ok-arg-4.ensures in
+    let line_5 : IsCommand (with_rule (with_rule (with_rule (with_rule (with_rule (new_app (codes "draw")) header_rule) (option_rule (codes "seed"))) (option_rule (codes "commands"))) (option_rule (codes "wild"))) (option_rule (codes "weights"))) c.in_ok-arg-5.field-0 = with_one _ _ c.in_ok-arg-4.field-0 c.option-4.result _ line_4 c.option-4.ensures.rule c.option-4.ensures.local c.in_ok-arg-5.ensures in
+    let line_6 : IsCommand (with_rule (with_rule (with_rule (with_rule (with_rule (with_rule (new_app (codes "draw")) header_rule) (option_rule (codes "seed"))) (option_rule (codes "commands"))) (option_rule (codes "wild"))) (option_rule (codes "weights"))) (option_rule (codes "kinds"))) c.in_ok-arg-6.field-0 = with_one _ _ c.in_ok-arg-5.field-0 c.option-5.result _ line_5 c.option-5.ensures.rule c.option-5.ensures.local c.in_ok-arg-6.ensures in
+    with_final _ _ c.in_ok-arg-6.field-0 c.flag.result c.arg-7.result line_6 c.flag.ensures.rule c.flag.ensures.local c.arg-7.ensures

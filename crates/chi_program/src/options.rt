@@ -1,0 +1,238 @@
+//! The values of options.
+
+ghost use Rattle.std.specs.Prelude.{◌≡◌, ◌==◌, Some, option_map};
+ghost use Rattle.std.specs.List.{position};
+ghost use Rattle.chi_program.specs.Options.{asked_address_of, commands_option, form_option, is_given, least_option, line_option, range_of, rows_option, seed_of, stores_option, turns_of, types_option, wild_option};
+
+use chi_explain::StoreListing;
+use chi_flit::Line;
+use chi_resolution::Types;
+use chi_script::{is, number};
+use chi_trace::{Address, read_address};
+
+/// The seed of a storm whose `--seed` has this value: 1 where it isn't given, and `None` where the value
+/// is no number of a replay file.
+/// Source: `docs/FORMATS.md`, "The program".
+pub fn seed(value: Option<&str>) -> Option<u64>
+    ensures { result ≡ seed_of (option_map (λ word. word.now) value.entry) }
+{
+    match value {
+        None => Some(1),
+        Some(word) => number(word.as_bytes()),
+    }
+}
+
+/// How many turns an agent takes at most in a storm whose `--turns` has this value: 10,000,000 where it
+/// isn't given, and `None` where the value is no number of a replay file from 1 to 4,000,000,000.
+/// Source: `docs/FORMATS.md`, "The program".
+pub fn turns(value: Option<&str>) -> Option<u64>
+    ensures { result ≡ turns_of (option_map (λ word. word.now) value.entry) }
+{
+    match value {
+        None => Some(10_000_000),
+        Some(word) => {
+            let turns = number(word.as_bytes())?;
+            (1..=4_000_000_000).contains(&turns).then_some(turns)
+        }
+    }
+}
+
+/// How many commands are drawn where `--commands` has this value: `None` where it isn't given, and where the value is no
+/// number of a replay file from 1 to 10,000,000.
+/// Source: `docs/FORMATS.md`, "The program".
+pub fn commands(value: Option<&str>) -> Option<u64>
+    ensures { result ≡ commands_option (option_map (λ word. word.now) value.entry) }
+{
+    let commands = number(value?.as_bytes())?;
+    (1..=10_000_000).contains(&commands).then_some(commands)
+}
+
+/// How many commands in a hundred are drawn from all where `--wild` has this value: 0 where it isn't given, and `None`
+/// where the value is no number of a replay file from 0 to 100.
+/// Source: `docs/FORMATS.md`, "The program".
+pub fn wild(value: Option<&str>) -> Option<u8>
+    ensures { result ≡ wild_option (option_map (λ word. word.now) value.entry) }
+{
+    match value {
+        None => Some(0),
+        Some(word) => match number(word.as_bytes())? {
+            wild @ 0..=100 => Some(wild as u8),
+            _ => None,
+        },
+    }
+}
+
+/// The line alone that a chart shows whose `--line` has this value: none where it isn't given, and `None`
+/// where the value is no number of a replay file from 0 to 63.
+/// Source: `docs/FORMATS.md`, "The program".
+pub fn only(value: Option<&str>) -> Option<Option<Line>>
+    ensures { result ≡ line_option (option_map (λ word. word.now) value.entry) }
+{
+    match value {
+        None => Some(None),
+        Some(word) => match number(word.as_bytes())? {
+            line @ 0..=63 => Some(Some(Line(line as u8))),
+            _ => None,
+        },
+    }
+}
+
+/// The rows of a chart that are drawn: those of the first to the last of these commands, counted from 1.
+/// Source: `docs/FORMATS.md`, "The program".
+#[derive(Clone, Copy, Debug, PartialEq, Eq)]
+pub struct RowRange {
+    /// At least 1.
+    pub first: u64,
+    /// No less than the first.
+    pub last: u64,
+}
+
+/// The rows that a chart shows whose `--rows` has this value: all where it isn't given, and `None` where the value
+/// isn't `A-B` with numbers of a replay file, of which A is at least 1 and B no less than A.
+/// Source: `docs/FORMATS.md`, "The program".
+pub fn rows(value: Option<&str>) -> Option<RowRange>
+    ensures { result ≡ rows_option (option_map (λ word. word.now) value.entry) }
+{
+    match value {
+        None => Some(RowRange {
+            first: 1,
+            last: u64::MAX,
+        }),
+        Some(word) => {
+            let word = word.as_bytes();
+            let dash = dash(word)?;
+            range(&word[..dash], &word[dash + 1..])
+        }
+    }
+}
+
+/// Where the first `-` stands.
+fn dash(word: &[u8]) -> Option<usize>
+    ensures { result ≡ position (λ byte. byte == 45) word.now }
+{
+    word.iter().position(|byte| *byte == b'-')
+}
+
+/// The range from this number to that one.
+fn range(first: &[u8], last: &[u8]) -> Option<RowRange>
+    ensures { result ≡ range_of first.now last.now }
+{
+    let (first, last) = (number(first)?, number(last)?);
+    (1..=last)
+        .contains(&first)
+        .then_some(RowRange { first, last })
+}
+
+/// Which types of credit a trace has whose `--types` has this value: those of profile `Two` where it isn't given, and
+/// `None` where the value is none of `two`, `four` and `any`.
+/// Source: `docs/FORMATS.md`, "The program".
+pub fn types(value: Option<&str>) -> Option<Types>
+    ensures { result ≡ types_option (option_map (λ word. word.now) value.entry) }
+{
+    match value {
+        None => Some(Types::Two),
+        Some(word) => types_in(word.as_bytes()),
+    }
+}
+
+/// The types of this name.
+fn types_in(word: &[u8]) -> Option<Types>
+    ensures { result ≡ types_option (Some word.now) }
+{
+    if is(word, "two") {
+        Some(Types::Two)
+    } else if is(word, "four") {
+        Some(Types::Four)
+    } else if is(word, "any") {
+        Some(Types::Any)
+    } else {
+        None
+    }
+}
+
+/// Which stores a trace lists whose `--stores` has this value: some or none where it isn't given, and `None` where the
+/// value is neither `hidden` nor `listed`.
+/// Source: `docs/FORMATS.md`, "The program".
+pub fn stores(value: Option<&str>) -> Option<StoreListing>
+    ensures { result ≡ stores_option (option_map (λ word. word.now) value.entry) }
+{
+    match value {
+        None => Some(StoreListing::Partial),
+        Some(word) => listing_in(word.as_bytes()),
+    }
+}
+
+/// The listing of this name.
+fn listing_in(word: &[u8]) -> Option<StoreListing>
+    ensures { result ≡ stores_option (Some word.now) }
+{
+    if is(word, "hidden") {
+        Some(StoreListing::Partial)
+    } else if is(word, "listed") {
+        Some(StoreListing::Complete)
+    } else {
+        None
+    }
+}
+
+/// How cells are written.
+/// Source: `docs/FORMATS.md`, "Coverage".
+#[derive(Clone, Copy, Debug, PartialEq, Eq)]
+pub enum CellForm {
+    /// A line of words for each cell.
+    Lines,
+    /// One JSON value.
+    Json,
+    /// Values between tabs, a line for each cell.
+    Tsv,
+}
+
+/// How cells are written where `--json` and `--tsv` have these values: as lines where none is given, and `None` where both
+/// are.
+/// Source: `docs/FORMATS.md`, "The program".
+pub fn form(json: Option<&str>, tsv: Option<&str>) -> Option<CellForm>
+    ensures { result ≡ form_option (is_given (option_map (λ word. word.now) json.entry))
+        (is_given (option_map (λ word. word.now) tsv.entry)) }
+{
+    match (is_given(json), is_given(tsv)) {
+        (false, false) => Some(CellForm::Lines),
+        (true, false) => Some(CellForm::Json),
+        (false, true) => Some(CellForm::Tsv),
+        (true, true) => None,
+    }
+}
+
+/// How many cells are to be reached at least where `--at-least` has this value: 0 where it isn't given, and `None` where
+/// the value is no number of a replay file.
+/// Source: `docs/FORMATS.md`, "The program".
+pub fn least(value: Option<&str>) -> Option<u64>
+    ensures { result ≡ least_option (option_map (λ word. word.now) value.entry) }
+{
+    match value {
+        None => Some(0),
+        Some(word) => number(word.as_bytes()),
+    }
+}
+
+/// Whether an option without a value was given, of which the command line has this word.
+/// Source: `docs/FORMATS.md`, "The program".
+pub fn is_given(value: Option<&str>) -> bool
+    ensures { result ≡ is_given (option_map (λ word. word.now) value.entry) }
+{
+    match value {
+        None => false,
+        Some(word) => is(word.as_bytes(), "true"),
+    }
+}
+
+/// The address whose line alone is explained where `--line` has this value: none where it isn't given, and `None`
+/// where the value is no address of a trace.
+/// Source: `docs/FORMATS.md`, "The program".
+pub fn address(value: Option<&str>) -> Option<Option<Address>>
+    ensures { result ≡ asked_address_of (option_map (λ word. word.now) value.entry) }
+{
+    match value {
+        None => Some(None),
+        Some(word) => Some(Some(read_address(word.as_bytes())?)),
+    }
+}

@@ -1,0 +1,209 @@
+//! How the commands are used, and which version this is.
+
+ghost use Rattle.std.specs.Prelude.{◌≡◌, option_map};
+ghost use Rattle.chi_program.specs.Usage.{all_lines, replay_lines, check_lines, chart_lines, storm_lines, explain_lines, cover_lines, draw_lines, usage_lines, version_lines, topic_named, topic_option, usage_text, version_text};
+
+use chi_script::is;
+
+/// What `usage` is asked about.
+/// Source: `docs/FORMATS.md`, "The program".
+#[derive(Clone, Copy, Debug, PartialEq, Eq)]
+pub enum Topic {
+    /// All commands: a line of words for each.
+    All,
+    Replay,
+    Check,
+    Chart,
+    Storm,
+    Explain,
+    Cover,
+    Draw,
+    Usage,
+    Version,
+}
+
+/// What is asked about where the word behind `usage` is this: all commands where there is none, and `None` where it names
+/// no command.
+/// Source: `docs/FORMATS.md`, "The program".
+pub fn topic_of(word: Option<&str>) -> Option<Topic>
+    ensures { result ≡ topic_option (option_map (λ word. word.now) word.entry) }
+{
+    match word {
+        None => Some(Topic::All),
+        Some(word) => topic_named(word.as_bytes()),
+    }
+}
+
+/// The command of this name.
+#[tactic(auto, unfolding(crate::specs::Usage::topic_named))]
+fn topic_named(word: &[u8]) -> Option<Topic>
+    ensures { result ≡ topic_named word.now }
+{
+    if is(word, "replay") {
+        Some(Topic::Replay)
+    } else if is(word, "check") {
+        Some(Topic::Check)
+    } else if is(word, "chart") {
+        Some(Topic::Chart)
+    } else if is(word, "storm") {
+        Some(Topic::Storm)
+    } else if is(word, "explain") {
+        Some(Topic::Explain)
+    } else if is(word, "cover") {
+        Some(Topic::Cover)
+    } else if is(word, "draw") {
+        Some(Topic::Draw)
+    } else if is(word, "usage") {
+        Some(Topic::Usage)
+    } else if is(word, "version") {
+        Some(Topic::Version)
+    } else {
+        None
+    }
+}
+
+/// How the command is used, or all of them: the line of each, and of one alone its options too.
+/// Source: `docs/FORMATS.md`, "The program".
+pub fn usage(topic: Topic) -> &'static str
+    ensures { result.now ≡ usage_text topic }
+{
+    match topic {
+        Topic::All => all_usage(),
+        Topic::Replay => replay_usage(),
+        Topic::Check => check_usage(),
+        Topic::Chart => chart_usage(),
+        Topic::Storm => storm_usage(),
+        Topic::Explain => explain_usage(),
+        Topic::Cover => cover_usage(),
+        Topic::Draw => draw_usage(),
+        Topic::Usage => usage_usage(),
+        Topic::Version => version_usage(),
+    }
+}
+
+/// All commands.
+#[tactic(auto, unfolding(crate::specs::Usage::all_lines))]
+fn all_usage() -> &'static str
+    ensures { result.now ≡ all_lines }
+{
+    "chihome replay FILE\n\
+     chihome check FILE.. [--tap]\n\
+     chihome chart FILE [--line L] [--rows A-B]\n\
+     chihome storm FILE [--seed N] [--turns N]\n\
+     chihome explain FILE [--types two|four|any] [--stores hidden|listed] [--early-grants] [--complete] [--line ADDR]\n\
+     chihome cover FILE.. [--missing] [--json] [--tsv] [--merge] [--at-least N]\n\
+     chihome draw [--seed N] --commands M [--wild P] [--weights FILE] [--kinds LIST] [--drain] HEADER\n\
+     chihome usage [COMMAND]\n\
+     chihome version\n"
+}
+
+/// How `replay` is used.
+#[tactic(auto, unfolding(crate::specs::Usage::replay_lines))]
+fn replay_usage() -> &'static str
+    ensures { result.now ≡ replay_lines }
+{
+    "chihome replay FILE\n\
+     Runs the commands of a replay file, and prints the answer of each.\n"
+}
+
+/// How `check` is used.
+#[tactic(auto, unfolding(crate::specs::Usage::check_lines))]
+fn check_usage() -> &'static str
+    ensures { result.now ≡ check_lines }
+{
+    "chihome check FILE.. [--tap]\n\
+     Compares the answers of the commands of check files with those that are wanted.\n\
+     \x20 --tap                by the Test Anything Protocol, a test point for each file\n"
+}
+
+/// How `chart` is used.
+#[tactic(auto, unfolding(crate::specs::Usage::chart_lines))]
+fn chart_usage() -> &'static str
+    ensures { result.now ≡ chart_lines }
+{
+    "chihome chart FILE [--line L] [--rows A-B]\n\
+     Draws the message sequence chart of a replay or check file, as an SVG.\n\
+     \x20 --line L             of line L alone, 0 to 63\n\
+     \x20 --rows A-B           of the commands from the Ath to the Bth alone\n"
+}
+
+/// How `storm` is used.
+#[tactic(auto, unfolding(crate::specs::Usage::storm_lines))]
+fn storm_usage() -> &'static str
+    ensures { result.now ≡ storm_lines }
+{
+    "chihome storm FILE [--seed N] [--turns N]\n\
+     Runs the scripts of a storm file in threads.\n\
+     \x20 --seed N             what the draws are made from; 1 where it isn't given\n\
+     \x20 --turns N            the turns that an agent takes at most, 1 to 4000000000; 10000000 where it isn't given\n"
+}
+
+/// How `explain` is used.
+#[tactic(auto, unfolding(crate::specs::Usage::explain_lines))]
+fn explain_usage() -> &'static str
+    ensures { result.now ≡ explain_lines }
+{
+    "chihome explain FILE [--types two|four|any] [--stores hidden|listed] [--early-grants] [--complete] [--line ADDR]\n\
+     Holds a trace against the model.\n\
+     \x20 --types T            its types of credit; two where it isn't given\n\
+     \x20 --stores S           hidden where not all stores are listed, as where it isn't given; listed where they are\n\
+     \x20 --early-grants       a grant may come before its RetryAck\n\
+     \x20 --complete           nothing may be open at its end\n\
+     \x20 --line ADDR          writes the explanation of the line at ADDR as a check file\n"
+}
+
+/// How `cover` is used.
+#[tactic(auto, unfolding(crate::specs::Usage::cover_lines))]
+fn cover_usage() -> &'static str
+    ensures { result.now ≡ cover_lines }
+{
+    "chihome cover FILE.. [--missing] [--json] [--tsv] [--merge] [--at-least N]\n\
+     Counts the cells of the protocol's tables that the commands of replay and check files reach.\n\
+     \x20 --missing            the cells alone that none reaches\n\
+     \x20 --json               as a JSON value\n\
+     \x20 --tsv                as values between tabs\n\
+     \x20 --merge              the files are earlier reports, without --missing: adds up their counts\n\
+     \x20 --at-least N         status 9 where fewer than N cells are reached\n"
+}
+
+/// How `draw` is used.
+#[tactic(auto, unfolding(crate::specs::Usage::draw_lines))]
+fn draw_usage() -> &'static str
+    ensures { result.now ≡ draw_lines }
+{
+    "chihome draw [--seed N] --commands M [--wild P] [--weights FILE] [--kinds LIST] [--drain] HEADER\n\
+     Writes a check file with this header, of commands that are drawn at random.\n\
+     \x20 --seed N             what the draws are made from; 1 where it isn't given\n\
+     \x20 --commands M         how many, 1 to 10000000\n\
+     \x20 --wild P             so many in a hundred are any command, which may be refused; 0 where it isn't given\n\
+     \x20 --weights FILE       the file that says how often each verb and each kind of request is drawn\n\
+     \x20 --kinds LIST         of these kinds of request alone, with commas between them\n\
+     \x20 --drain              goes on until nothing is in flight\n"
+}
+
+/// How `usage` is used.
+#[tactic(auto, unfolding(crate::specs::Usage::usage_lines))]
+fn usage_usage() -> &'static str
+    ensures { result.now ≡ usage_lines }
+{
+    "chihome usage [COMMAND]\n\
+     Says how a command is used, or all of them.\n"
+}
+
+/// How `version` is used.
+#[tactic(auto, unfolding(crate::specs::Usage::version_lines))]
+fn version_usage() -> &'static str
+    ensures { result.now ≡ version_lines }
+{
+    "chihome version\n\
+     Says which version this is.\n"
+}
+
+/// The version of the program, as the file `VERSION` has it, and a line end.
+/// Source: `docs/FORMATS.md`, "The program".
+#[tactic(auto, unfolding(crate::specs::Usage::version_text))]
+pub fn version() -> &'static str
+    ensures { result.now ≡ version_text }
+{
+    "chihome 0.1.0\n"
+}

@@ -1,3 +1,0 @@
-pub mod Messages
-pub mod Members
-pub mod Digits

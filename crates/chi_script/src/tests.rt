@@ -1,0 +1,92 @@
+use super::*;
+use crate::faults::Fault;
+use crate::files::MOST_BYTES;
+use std::alloc::AllocError;
+use std::{fs, io};
+
+#[test]
+fn all_of_an_input_is_read(rt: HostRuntime) -> Result<(), AllocError> {
+    let mut file = Vec::new(rt.alloc());
+    file.resize(10_000, b'a')?;
+    file.push(b'b')?;
+    let mut input = MemoryInput::new(&file, 100);
+    let bytes = read_all(rt.alloc(), &mut input).unwrap_or(Vec::new(rt.alloc()));
+    assert!(rt; bytes.as_slice() == file.as_slice());
+    Ok(())
+}
+
+#[test]
+fn of_a_large_input_one_byte_too_many_is_read(rt: HostRuntime) -> Result<(), AllocError> {
+    let mut file = Vec::new(rt.alloc());
+    file.resize(MOST_BYTES + 5_000, b'a')?;
+    let mut input = MemoryInput::new(&file, 1_000);
+    let bytes = read_all(rt.alloc(), &mut input).unwrap_or(Vec::new(rt.alloc()));
+    assert_eq!(rt; bytes.len(), MOST_BYTES + 1);
+    Ok(())
+}
+
+#[test]
+fn an_input_fails_at_each_read(rt: HostRuntime) {
+    let file = [b'a'; 9_000];
+    for good_reads in 0..4 {
+        let mut input = MemoryInput::new(&file, good_reads);
+        let fault = read_all(rt.alloc(), &mut input).err();
+        assert_eq!(rt; fault, Some(Fault::Read));
+    }
+    let mut input = MemoryInput::new(&file, 4);
+    assert!(rt; read_all(rt.alloc(), &mut input).is_ok());
+}
+
+#[test]
+fn an_output_takes_what_it_has_room_for(rt: HostRuntime) {
+    let text = b"refused 10 OutOfRange\n";
+    for room in 0..22 {
+        let mut output = MemoryOutput::new(rt.alloc(), room);
+        assert_eq!(rt; output.write_all(text), Err(Failed));
+        assert!(rt; output.bytes() == &text[..room]);
+    }
+    let mut output = MemoryOutput::new(rt.alloc(), 22);
+    assert_eq!(rt; output.write_all(text), Ok(()));
+    assert!(rt; output.bytes() == text.as_slice());
+    assert_eq!(rt; output.write_all(b"x"), Err(Failed));
+}
+
+#[test]
+fn after_a_write_that_failed_nothing_is_written(rt: HostRuntime) {
+    let mut output = MemoryOutput::new(rt.alloc(), 5);
+    assert_eq!(rt; output.write_all(b"refused"), Err(Failed));
+    assert_eq!(rt; output.write_all(b"ok"), Err(Failed));
+    assert!(rt; output.bytes() == b"refus".as_slice());
+    assert_eq!(rt; output.failures(), 2);
+}
+
+#[test]
+fn a_device_shows_how_often_it_failed(rt: HostRuntime) {
+    let mut input = MemoryInput::new(b"ok\n", 1);
+    let mut buffer = [0; 4];
+    assert_eq!(rt; input.read(&mut buffer), Ok(3));
+    assert_eq!(rt; input.failures(), 0);
+    assert_eq!(rt; input.read(&mut buffer), Err(Failed));
+    assert_eq!(rt; input.failures(), 1);
+}
+
+#[test]
+fn a_file_is_read_and_a_missing_one_is_not(rt: HostRuntime) -> io::Result<()> {
+    fs::write(&rt, "good.chi", "node 1 1 1 1 1 4\n")?;
+    match FileInput::open(&rt, "good.chi") {
+        Ok(mut input) => {
+            let bytes = read_all(rt.alloc(), &mut input).unwrap_or(Vec::new(rt.alloc()));
+            assert!(rt; bytes.as_slice() == b"node 1 1 1 1 1 4\n".as_slice());
+        }
+        Err(fault) => assert!(rt; false, "{fault}"),
+    }
+    fs::remove_file(&rt, "good.chi")?;
+    assert_eq!(rt; FileInput::open(&rt, "none.chi").err(), Some(Fault::Read));
+    Ok(())
+}
+
+#[test]
+fn standard_output_takes_bytes(rt: HostRuntime) {
+    let mut output = StandardOutput::new(io::writer(&rt));
+    assert_eq!(rt; output.write_all(b"ok\n"), Ok(()));
+}
