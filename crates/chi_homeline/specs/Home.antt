@@ -26,8 +26,6 @@ use Rattle.chi_homeline.specs.declared.serving.CompletionForm.TheVariants as for
 use Rattle.chi_homeline.specs.declared.serving.Waiting.{Waiting}
 use Rattle.chi_homeline.specs.declared.serving.Serving.{Serving}
 use Rattle.chi_homeline.specs.declared.serving.Serving.TheVariants.{Idle, Snooping, AwaitingCompAck, AwaitingWriteData}
-use Rattle.chi_homeline.specs.declared.serving.Started.{Started}
-use Rattle.chi_homeline.specs.declared.serving.Started.TheVariants.{Sends, Evicted, Snoops}
 use Rattle.chi_homeline.specs.declared.serving.SnoopAnswer.{SnoopAnswer}
 use Rattle.chi_homeline.specs.declared.serving.SnoopAnswer.TheVariants as answers
 use Rattle.chi_homeline.specs.declared.serving.Completion.{Completion}
@@ -99,6 +97,13 @@ home_after_completion home kind agent slot = record home {
   filter = completed_filter (completes_unique kind home.filter agent.0) home.filter agent.0;
   serving = AwaitingCompAck agent slot;
 }
+
+-- what a start sends: a message to the agent (a completion, or CompDBIDResp), Comp_I for an Evict of this slot, which is over
+-- then, or the snoop to each agent that has a mark
+pub data Started : Type 0 where
+  Sends : Msg → Started
+  Evicted : Slot → Started
+  Snoops : Snoop → List Bool → Started
 
 -- the form of a completion: a CleanUnique's has no data
 abbrev pub completion_form : Kind → Bool → CompletionForm

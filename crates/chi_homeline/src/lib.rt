@@ -7,4 +7,4 @@ mod home_line;
 mod serving;
 
 pub use home_line::HomeLine;
-pub use serving::{Begun, Completion, CompletionForm, Serving, SnoopAnswer, Started, Waiting};
+pub use serving::{Begun, Completion, CompletionForm, Serving, SnoopAnswer, Waiting};

@@ -38,18 +38,6 @@ pub enum Serving {
     },
 }
 
-/// What a start sends.
-/// Source: `docs/PROTOCOL.md`, "Start".
-#[derive(Clone, Copy, Debug, PartialEq, Eq)]
-pub enum Started {
-    /// This message to the agent: a completion, or CompDBIDResp.
-    Sends(Msg),
-    /// Comp_I to the agent, and its request, of this slot, is complete.
-    Evicted(Slot),
-    /// The snoop to each agent that has a mark.
-    Snoops { snoop: Snoop, agents: [bool; 8] },
-}
-
 /// A completion, before its data is added.
 /// Source: `docs/PROTOCOL.md`, "Completion".
 #[derive(Clone, Copy, Debug, PartialEq, Eq)]

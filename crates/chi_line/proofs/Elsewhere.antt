@@ -28,8 +28,8 @@ use Rattle.chi_homeline.specs.declared.serving.CompletionForm.TheVariants as for
 use Rattle.chi_homeline.specs.declared.serving.Waiting.{Waiting}
 use Rattle.chi_homeline.specs.declared.serving.Serving.{Serving}
 use Rattle.chi_homeline.specs.declared.serving.Serving.TheVariants.{Idle, Snooping, AwaitingCompAck, AwaitingWriteData}
-use Rattle.chi_homeline.specs.declared.serving.Started.{Started}
-use Rattle.chi_homeline.specs.declared.serving.Started.TheVariants.{Sends, Evicted, Snoops}
+use Rattle.chi_homeline.specs.Home.{Started}
+use Rattle.chi_homeline.specs.Home.Started.{Sends, Evicted, Snoops}
 use Rattle.chi_homeline.specs.declared.serving.SnoopAnswer.{SnoopAnswer}
 use Rattle.chi_homeline.specs.Home.{Home, acks_for, answer_taken, asks, completes_unique, completion_form, completion_of, data_to_send, finished_as, finished_sends_as, form_message, home_after_completion, home_after_service, served_sends, started_as, started_sends, taken_up, waiting_of}
 use Rattle.chi_line.specs.declared.act.Conditions.{Conditions}

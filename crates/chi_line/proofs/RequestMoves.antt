@@ -30,8 +30,8 @@ use Rattle.chi_homeline.specs.declared.serving.Waiting.{Waiting}
 use Rattle.chi_homeline.specs.declared.serving.Serving.{Serving}
 use Rattle.chi_homeline.specs.declared.serving.Serving.TheVariants.{Idle, Snooping, AwaitingWriteData}
 use Rattle.chi_homeline.specs.declared.serving.SnoopAnswer.{SnoopAnswer}
-use Rattle.chi_homeline.specs.declared.serving.Started.{Started}
-use Rattle.chi_homeline.specs.declared.serving.Started.TheVariants.{Sends, Snoops}
+use Rattle.chi_homeline.specs.Home.{Started}
+use Rattle.chi_homeline.specs.Home.Started.{Sends, Snoops}
 use Rattle.chi_homeline.specs.Home.{Home, acks_for, asks, completion_of, home_after_ack, home_after_admit, home_after_completion, home_after_service, home_after_write, served_kind, served_sends, served_slot, started_sends_as, taken_up, waiting_of, writes_for}
 use Rattle.chi_line.specs.declared.act.Conditions.{Conditions}
 use Rattle.chi_line.specs.declared.position.Position.{Position}

@@ -16,7 +16,7 @@ use Rattle.chi_wires.specs.Cell.{cell_of}
 use Rattle.chi_homeline.specs.declared.serving.CompletionForm.{CompletionForm}
 use Rattle.chi_homeline.specs.declared.serving.CompletionForm.TheVariants as forms
 use Rattle.chi_homeline.specs.declared.serving.Waiting.{Waiting}
-use Rattle.chi_homeline.specs.declared.serving.Started.TheVariants.{Sends, Snoops}
+use Rattle.chi_homeline.specs.Home.Started.{Sends, Snoops}
 use Rattle.chi_line.specs.Step.{completed_slot, slot_of_evict, slot_unless, started_effect, waiting_effect}
 use Rattle.chi_homeline.specs.Home.{Home, asks, completion_of, form_message, is_idle, served_sends, start_refusal, started_sends, started_sends_as, waiting_of}
 

@@ -19,8 +19,8 @@ use Rattle.chi_wires.specs.Cell.{no_flits}
 use Rattle.chi_wires.specs.Flits.{with_snoops}
 use Rattle.chi_homeline.specs.declared.serving.Waiting.{Waiting}
 use Rattle.chi_homeline.specs.declared.serving.Serving.TheVariants.{Idle, Snooping, AwaitingWriteData}
-use Rattle.chi_homeline.specs.declared.serving.Started.{Started}
-use Rattle.chi_homeline.specs.declared.serving.Started.TheVariants.{Sends, Snoops}
+use Rattle.chi_homeline.specs.Home.{Started}
+use Rattle.chi_homeline.specs.Home.Started.{Sends, Snoops}
 use Rattle.chi_homeline.specs.Home.{Home, asks, asks_shared, completes_unique, home_after_completion, completion_of, is_idle, taken_up, waiting_of}
 use Rattle.chi_line.specs.LineState.{LineState, cells_of}
 use Rattle.chi_line.specs.Step.{flits_after_start, started_line}

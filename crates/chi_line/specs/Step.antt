@@ -42,8 +42,8 @@ use Rattle.chi_homeline.specs.declared.serving.Serving.TheVariants.{Idle, Snoopi
 use Rattle.chi_homeline.specs.declared.serving.Waiting.{Waiting}
 use Rattle.chi_homeline.specs.declared.serving.SnoopAnswer.{SnoopAnswer}
 use Rattle.chi_homeline.specs.declared.serving.SnoopAnswer.TheVariants as answers
-use Rattle.chi_homeline.specs.declared.serving.Started.{Started}
-use Rattle.chi_homeline.specs.declared.serving.Started.TheVariants.{Sends, Evicted, Snoops}
+use Rattle.chi_homeline.specs.Home.{Started}
+use Rattle.chi_homeline.specs.Home.Started.{Sends, Evicted, Snoops}
 use Rattle.chi_homeline.specs.Home.{Home, home_after_ack, home_after_admit, served_kind, served_slot, snoop_answered, snoop_answered_sends, home_after_start}
 use Rattle.chi_homeline.specs.Home.{started_sends, waiting_of, home_after_write}
 use Rattle.chi_line.specs.LineState.{LineState, rn_of, cells_of}

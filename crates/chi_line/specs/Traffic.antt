@@ -24,8 +24,8 @@ use Rattle.chi_rnline.specs.declared.pending.Pending.{Pending}
 use Rattle.chi_rnline.specs.Rn.{Rn, request_message}
 use Rattle.chi_homeline.specs.declared.serving.Completion.{Completion}
 use Rattle.chi_homeline.specs.declared.serving.SnoopAnswer.{SnoopAnswer}
-use Rattle.chi_homeline.specs.declared.serving.Started.{Started}
-use Rattle.chi_homeline.specs.declared.serving.Started.TheVariants.{Sends, Evicted, Snoops}
+use Rattle.chi_homeline.specs.Home.{Started}
+use Rattle.chi_homeline.specs.Home.Started.{Sends, Evicted, Snoops}
 use Rattle.chi_homeline.specs.declared.serving.Waiting.{Waiting}
 use Rattle.chi_homeline.specs.Home.{Home, snoop_answered_sends, started_sends, waiting_of}
 use Rattle.chi_line.specs.LineState.{LineState, cells_of, rn_of}

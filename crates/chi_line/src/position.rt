@@ -14,7 +14,9 @@ ghost use Rattle.chi_line.specs.Types.{has_type, is_of_type, pending_credit, pen
 
 use crate::flits::has_flit;
 use crate::line::CoherentLine;
-use chi_flit::{Agent, CreditType, Effect, Kind, Profile, Request, RspDown, Slot, Step, credit_type};
+use chi_flit::{
+    Agent, CreditType, Effect, Kind, Profile, Request, RspDown, Slot, Step, credit_type,
+};
 use chi_homeline::{HomeLine, Serving, Waiting};
 use chi_rnline::{Pending, Phase};
 

@@ -26,8 +26,8 @@ use Rattle.chi_wires.specs.Flight.{in_flight}
 use Rattle.chi_wires.proofs.Moved.{clear_removes, put_adds}
 use Rattle.chi_homeline.specs.declared.serving.Serving.{Serving}
 use Rattle.chi_homeline.specs.declared.serving.Serving.TheVariants as serving
-use Rattle.chi_homeline.specs.declared.serving.Started.{Started}
-use Rattle.chi_homeline.specs.declared.serving.Started.TheVariants.{Evicted}
+use Rattle.chi_homeline.specs.Home.{Started}
+use Rattle.chi_homeline.specs.Home.Started.{Evicted}
 use Rattle.chi_homeline.specs.declared.serving.Waiting.{Waiting}
 use Rattle.chi_homeline.specs.Home.{Home, served_kind, served_slot, started_sends, started_sends_as, waiting_of}
 use Rattle.chi_line.specs.declared.act.Conditions.{Conditions}

@@ -5,13 +5,13 @@ ghost use Rattle.chi_homeline.specs.Home.{served_slot};
 ghost use Rattle.chi_line.specs.Keeping.{AwaitedKept, CompletionsKept, IsApart, ReadDataKept, ReadKept, Reads, ResponseKept, lane_in};
 ghost use Rattle.chi_line.specs.Kept.{is_read};
 
-use crate::position::served_slot;
 use crate::kept::lane::{AgentLane, HomeTerms};
 use crate::kept::marks::{
     acks_for, is_ack, is_comp_unique, is_dbid, is_one_of_three, is_one_of_two, is_write_data,
     served_kind, writes_for,
 };
 use crate::kept::requests::{is_pending_as, is_pending_kind, is_pending_slot};
+use crate::position::served_slot;
 use chi_flit::{CompData, Data, Kind, RspDown, Slot};
 use chi_homeline::Serving;
 use chi_rnline::Pending;

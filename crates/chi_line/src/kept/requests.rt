@@ -6,9 +6,9 @@ ghost use Rattle.chi_line.specs.Kept.{kind_if, snoops_for};
 ghost use Rattle.chi_line.specs.RefusalRows.{is_retried};
 ghost use Rattle.chi_line.specs.Step.{pending_slot};
 
-use crate::position::served_slot;
 use crate::kept::lane::AgentLane;
 use crate::kept::marks::{bit, served_kind, snoops_for};
+use crate::position::served_slot;
 use chi_flit::{Kind, Request, Slot};
 use chi_homeline::{Serving, Waiting};
 use chi_rnline::{Pending, Phase};
