@@ -7,7 +7,7 @@ use Rattle.chi_flit.specs.declared.message.Channel.{Channel}
 use Rattle.chi_flit.specs.declared.message.Channel.TheVariants as channels
 use Rattle.chi_flit.specs.declared.message.Msg.{Msg}
 use Rattle.chi_flit.specs.declared.state.State.{State}
-use Rattle.chi_flit.specs.declared.state.State.TheVariants as states
+use Rattle.chi_flit.specs.State.{state_number}
 use Rattle.chi_slice.specs.Words.{cell_of, no_flits, Cells, CopyView, LineView, Serving}
 use Rattle.chi_slice.specs.Servings as servings
 use Rattle.chi_chart.specs.declared.marks.ChannelCell.{ChannelCell}
@@ -46,16 +46,9 @@ channel_marks line agent before after channel =
 abbrev pub flit_marks : Line → Agent → Cells → Cells → List Mark
 flit_marks line agent before after = flat_map (channel_marks line agent before after) all_channels
 
-abbrev pub state_place : State → ℕ
-state_place states.I = 0
-state_place states.SC = 1
-state_place states.UC = 2
-state_place states.UD = 3
-state_place states.SD = 4
-
 -- a copy whose state is another than before
 abbrev pub state_marks : Agent → State → State → List Mark
-state_marks agent before after = if state_place before == state_place after then [] else (Turned agent after ∷ [])
+state_marks agent before after = if state_number before == state_number after then [] else (Turned agent after ∷ [])
 
 -- what changed of an agent's part of the line
 abbrev pub agent_marks : Line → LineView → LineView → ℕ → List Mark

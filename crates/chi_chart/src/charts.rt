@@ -13,9 +13,11 @@ use crate::frame::Layout;
 use crate::headings::LeftLines;
 use crate::picture::svg_of;
 use crate::rows::{ChartPart, below_headings, rows_of};
-use chi_script::{CheckFile, Failed, Fault, Header, Input, MOST_CHECK_BYTES, Output, read_checks, read_most};
 use chi_flit::NoMemory;
 use chi_replay::config_of;
+use chi_script::{
+    CheckFile, Failed, Fault, Header, Input, MOST_CHECK_BYTES, Output, read_checks, read_most,
+};
 use std::alloc::Allocator;
 
 /// How a chart of a node of a header's sizes is laid out.

@@ -2,7 +2,7 @@
 
 ghost use Rattle.std.specs.Prelude.{◌≡◌, ◌++◌, ◌<◌, OnOk, IfOk};
 ghost use Rattle.std.specs.List.{flat_map};
-ghost use Rattle.chi_chart.specs.Marks.{agent_marks, cell_marks, channel_marks, channel_place, flit_marks, is_same_cell, marks_between, serving_marks, serving_place, state_marks, state_place, view_marks};
+ghost use Rattle.chi_chart.specs.Marks.{agent_marks, cell_marks, channel_marks, channel_place, flit_marks, is_same_cell, marks_between, serving_marks, serving_place, state_marks, view_marks};
 
 use chi_flit::{Agent, Channel, Line, Msg, NoMemory, State};
 use chi_slice::{Cells, LineView, Serving};
@@ -63,19 +63,6 @@ impl ChannelCell {
         self.line.0 == other.line.0
             && self.agent.0 == other.agent.0
             && channel_place(self.channel) == channel_place(other.channel)
-    }
-}
-
-/// A number for each state.
-fn state_place(state: State) -> u8
-    ensures { result ≡ state_place state }
-{
-    match state {
-        State::I => 0,
-        State::SC => 1,
-        State::UC => 2,
-        State::UD => 3,
-        State::SD => 4,
     }
 }
 
@@ -181,7 +168,7 @@ fn add_state<A: Allocator>(
 ) -> Result<(), NoMemory>
     ensures { OnOk result (marks.new.items ≡ marks.old.items ++ state_marks agent before after) }
 {
-    if state_place(before) != state_place(after) {
+    if before.number() != after.number() {
         marks.push(Mark::Turned(agent, after))?;
     }
     Ok(())

@@ -1,6 +1,6 @@
 -- The table of kinds, a line a cell: the state that each needs at its issue, the snoop that serves it,
 -- which are copy-backs, and which of these give the copy up (Arm IHI 0050 B, chapter 4; docs/PROTOCOL.md, "Kinds of request").
-use Rattle.std.specs.Prelude.{ℕ, List, Bool, true, false, Option, Some, None, codes}
+use Rattle.std.specs.Prelude.{ℕ, List, Bool, true, false, Option, Some, None, codes, ◌==◌, if◌then◌else◌}
 use Rattle.chi_flit.specs.declared.state.State.{State}
 use Rattle.chi_flit.specs.declared.state.State.TheVariants.{I, SC, UC, UD, SD}
 use Rattle.chi_flit.specs.declared.snoop.Snoop.{Snoop}
@@ -54,3 +54,25 @@ kind_text Evict = codes "Evict"
 kind_text WriteBackFull = codes "WriteBackFull"
 kind_text WriteCleanFull = codes "WriteCleanFull"
 kind_text WriteEvictFull = codes "WriteEvictFull"
+
+-- numbered in this order, as files and interfaces for programs have it (docs/LIBRARY.md, "Numbers")
+abbrev pub kind_number : Kind → ℕ
+kind_number ReadNotSharedDirty = 0
+kind_number ReadShared = 1
+kind_number ReadUnique = 2
+kind_number CleanUnique = 3
+kind_number Evict = 4
+kind_number WriteBackFull = 5
+kind_number WriteCleanFull = 6
+kind_number WriteEvictFull = 7
+
+abbrev pub kind_numbered : ℕ → Option Kind
+kind_numbered n =
+    if n == 0 then Some ReadNotSharedDirty else (
+    if n == 1 then Some ReadShared else (
+    if n == 2 then Some ReadUnique else (
+    if n == 3 then Some CleanUnique else (
+    if n == 4 then Some Evict else (
+    if n == 5 then Some WriteBackFull else (
+    if n == 6 then Some WriteCleanFull else (
+    if n == 7 then Some WriteEvictFull else None)))))))

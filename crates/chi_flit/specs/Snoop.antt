@@ -1,6 +1,6 @@
 -- Answers to snoops, a line a cell: the next state and the message, by state and snoop
 -- (Arm IHI 0050 B, chapter 4; docs/PROTOCOL.md, "Answers to snoops").
-use Rattle.std.specs.Prelude.{ℕ, List, codes}
+use Rattle.std.specs.Prelude.{ℕ, List, codes, Option, Some, None, ◌==◌, if◌then◌else◌}
 use Rattle.chi_flit.specs.declared.state.State.{State}
 use Rattle.chi_flit.specs.declared.state.State.TheVariants.{I, SC, UC, UD, SD}
 use Rattle.chi_flit.specs.declared.snoop.Snoop.{Snoop}
@@ -30,3 +30,17 @@ snoop_text SnpShared = codes "SnpShared"
 snoop_text SnpNotSharedDirty = codes "SnpNotSharedDirty"
 snoop_text SnpUnique = codes "SnpUnique"
 snoop_text SnpCleanInvalid = codes "SnpCleanInvalid"
+
+-- numbered in this order, as files and interfaces for programs have it (docs/LIBRARY.md, "Numbers")
+abbrev pub snoop_number : Snoop → ℕ
+snoop_number SnpShared = 0
+snoop_number SnpNotSharedDirty = 1
+snoop_number SnpUnique = 2
+snoop_number SnpCleanInvalid = 3
+
+abbrev pub snoop_numbered : ℕ → Option Snoop
+snoop_numbered n =
+    if n == 0 then Some SnpShared else (
+    if n == 1 then Some SnpNotSharedDirty else (
+    if n == 2 then Some SnpUnique else (
+    if n == 3 then Some SnpCleanInvalid else None)))

@@ -2,6 +2,7 @@
 
 ghost use Rattle.std.specs.Prelude.{◌≡◌, Some};
 ghost use Rattle.chi_flit.specs.Credit.{credit_number, credit_text, credit_type_of};
+ghost use Rattle.chi_flit.specs.Numbers.{credit_of};
 
 use crate::kind::Kind;
 use std::fmt;
@@ -38,6 +39,20 @@ impl CreditType {
             CreditType::T1 => 1,
             CreditType::T2 => 2,
             CreditType::T3 => 3,
+        }
+    }
+
+    /// The type of a number; `None` above 3.
+    /// Source: `docs/PROTOCOL.md`, "Kinds of request".
+    pub fn numbered(number: u8) -> Option<CreditType>
+        ensures { result ≡ credit_of number }
+    {
+        match number {
+            0 => Some(CreditType::T0),
+            1 => Some(CreditType::T1),
+            2 => Some(CreditType::T2),
+            3 => Some(CreditType::T3),
+            _ => None,
         }
     }
 }

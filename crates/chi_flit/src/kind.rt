@@ -1,7 +1,7 @@
 //! The kinds of request.
 
 ghost use Rattle.std.specs.Prelude.{◌≡◌, Some};
-ghost use Rattle.chi_flit.specs.Kind.{gives_up, is_needed, snoop_of, is_copy_back, kind_text};
+ghost use Rattle.chi_flit.specs.Kind.{gives_up, is_needed, snoop_of, is_copy_back, kind_text, kind_number, kind_numbered};
 
 use crate::snoop::Snoop;
 use crate::state::State;
@@ -30,6 +30,41 @@ pub enum Kind {
 }
 
 impl Kind {
+    /// The kind's number, 0 to 7.
+    /// Source: `docs/LIBRARY.md`, "Numbers".
+    pub fn number(self) -> u8
+        ensures { result ≡ kind_number self }
+    {
+        match self {
+            Kind::ReadNotSharedDirty => 0,
+            Kind::ReadShared => 1,
+            Kind::ReadUnique => 2,
+            Kind::CleanUnique => 3,
+            Kind::Evict => 4,
+            Kind::WriteBackFull => 5,
+            Kind::WriteCleanFull => 6,
+            Kind::WriteEvictFull => 7,
+        }
+    }
+
+    /// The kind of a number; `None` above 7.
+    /// Source: `docs/LIBRARY.md`, "Numbers".
+    pub fn numbered(number: u8) -> Option<Kind>
+        ensures { result ≡ kind_numbered number }
+    {
+        match number {
+            0 => Some(Kind::ReadNotSharedDirty),
+            1 => Some(Kind::ReadShared),
+            2 => Some(Kind::ReadUnique),
+            3 => Some(Kind::CleanUnique),
+            4 => Some(Kind::Evict),
+            5 => Some(Kind::WriteBackFull),
+            6 => Some(Kind::WriteCleanFull),
+            7 => Some(Kind::WriteEvictFull),
+            _ => None,
+        }
+    }
+
     /// The kind's name.
     fn name(self) -> &'static str
         ensures { result.now ≡ kind_text self }

@@ -1,7 +1,7 @@
 //! Snoops, and what a snooped requester answers.
 
 ghost use Rattle.std.specs.Prelude.{◌≡◌, Some};
-ghost use Rattle.chi_flit.specs.Snoop.{answer_of, snoop_text};
+ghost use Rattle.chi_flit.specs.Snoop.{answer_of, snoop_text, snoop_number, snoop_numbered};
 
 use crate::message::{DatUp, Msg, RspUp};
 use crate::numbers::Data;
@@ -50,6 +50,33 @@ pub fn answer(state: State, snoop: Snoop, words: Data) -> (State, Msg)
 }
 
 impl Snoop {
+    /// The snoop's number, 0 to 3.
+    /// Source: `docs/LIBRARY.md`, "Numbers".
+    pub fn number(self) -> u8
+        ensures { result ≡ snoop_number self }
+    {
+        match self {
+            Snoop::SnpShared => 0,
+            Snoop::SnpNotSharedDirty => 1,
+            Snoop::SnpUnique => 2,
+            Snoop::SnpCleanInvalid => 3,
+        }
+    }
+
+    /// The snoop of a number; `None` above 3.
+    /// Source: `docs/LIBRARY.md`, "Numbers".
+    pub fn numbered(number: u8) -> Option<Snoop>
+        ensures { result ≡ snoop_numbered number }
+    {
+        match number {
+            0 => Some(Snoop::SnpShared),
+            1 => Some(Snoop::SnpNotSharedDirty),
+            2 => Some(Snoop::SnpUnique),
+            3 => Some(Snoop::SnpCleanInvalid),
+            _ => None,
+        }
+    }
+
     /// The snoop's name.
     fn name(self) -> &'static str
         ensures { result.now ≡ snoop_text self }

@@ -1,7 +1,7 @@
 //! The cache states of a copy.
 
 ghost use Rattle.std.specs.Prelude.{◌≡◌, Some};
-ghost use Rattle.chi_flit.specs.State.{state_text, is_valid, is_unique, is_dirty};
+ghost use Rattle.chi_flit.specs.State.{state_text, is_valid, is_unique, is_dirty, state_number, state_numbered};
 
 use std::fmt;
 
@@ -44,6 +44,35 @@ impl State {
         ensures { result ≡ is_dirty self }
     {
         matches!(self, State::UD | State::SD)
+    }
+
+    /// The state's number, 0 to 4.
+    /// Source: `docs/LIBRARY.md`, "Numbers".
+    pub fn number(self) -> u8
+        ensures { result ≡ state_number self }
+    {
+        match self {
+            State::I => 0,
+            State::SC => 1,
+            State::UC => 2,
+            State::UD => 3,
+            State::SD => 4,
+        }
+    }
+
+    /// The state of a number; `None` above 4.
+    /// Source: `docs/LIBRARY.md`, "Numbers".
+    pub fn numbered(number: u8) -> Option<State>
+        ensures { result ≡ state_numbered number }
+    {
+        match number {
+            0 => Some(State::I),
+            1 => Some(State::SC),
+            2 => Some(State::UC),
+            3 => Some(State::UD),
+            4 => Some(State::SD),
+            _ => None,
+        }
     }
 
     /// The state's name.

@@ -9,7 +9,9 @@ use Rattle.chi_library.specs.declared.lines.ChiCopy.{ChiCopy}
 use Rattle.chi_library.specs.declared.lines.ChiLine.{ChiLine}
 use Rattle.chi_library.specs.declared.lines.ChiRequest.{ChiRequest}
 use Rattle.chi_library.specs.declared.lines.ChiServing.{ChiServing}
-use Rattle.chi_library.specs.Numbers.{flag_number, kind_number, state_number}
+use Rattle.chi_flit.specs.Kind.{kind_number}
+use Rattle.chi_flit.specs.State.{state_number}
+use Rattle.chi_library.specs.Numbers.{flag_number}
 
 abbrev pub no_copy_told : ChiCopy
 no_copy_told = record { state = 0; words = no_words }

@@ -15,7 +15,8 @@ use Rattle.chi_monitor.specs.declared.faults.WrongForm.TheVariants as forms
 use Rattle.chi_monitor.specs.declared.faults.WrongSnoops.{WrongSnoops}
 use Rattle.chi_monitor.specs.declared.faults.WrongSnoops.TheVariants as snoops
 use Rattle.chi_monitor.specs.Bases.{basis_of}
-use Rattle.chi_library.specs.Numbers.{flag_number, state_number}
+use Rattle.chi_flit.specs.State.{state_number}
+use Rattle.chi_library.specs.Numbers.{flag_number}
 
 -- 1: the reason rests on a choice of the profile
 abbrev pub basis_number : Basis → ℕ

@@ -13,7 +13,7 @@ use Rattle.chi_flit.specs.declared.state.State.TheVariants.{I, SC, UC, UD, SD}
 use Rattle.chi_explain.specs.declared.sent.SentFlit.{SentFlit}
 use Rattle.chi_library.specs.declared.flits.ChiFlit.{ChiFlit}
 use Rattle.chi_library.specs.declared.flits.ChiSent.{ChiSent}
-use Rattle.chi_library.specs.Numbers.{kind_of}
+use Rattle.chi_flit.specs.Kind.{kind_numbered}
 
 -- a request needs a kind, and a RetryAck a credit type; a request's slot isn't read
 abbrev pub request_if : Option Kind → ChiFlit → Option Msg
@@ -27,7 +27,7 @@ retry_if (Some ty) = Some (RspDown (RetryAck ty))
 -- a request or a snoop
 abbrev pub asked_of : ChiFlit → Option Msg
 asked_of flit =
-    if flit.message == 1 then request_if (kind_of flit.kind) flit else (
+    if flit.message == 1 then request_if (kind_numbered flit.kind) flit else (
     if flit.message == 2 then Some (Snp SnpShared) else (
     if flit.message == 3 then Some (Snp SnpNotSharedDirty) else (
     if flit.message == 4 then Some (Snp SnpUnique) else (

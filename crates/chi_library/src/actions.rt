@@ -3,8 +3,7 @@
 ghost use Rattle.std.specs.Prelude.{◌≡◌};
 ghost use Rattle.chi_library.specs.Actions.{action_of, action_told, effect_told, issue_of, no_effect, step_number, step_of, step_told};
 
-use crate::numbers::{kind_at, kind_number};
-use chi_flit::{Action, Agent, Effect, Line, Slot, Step, WordNo};
+use chi_flit::{Action, Agent, Effect, Kind, Line, Slot, Step, WordNo};
 
 /// One action: `ChiAction` of `chihome.h`. `kind` and `slot` are read of an Issue, `word` of a Load and a
 /// Store, and `value` of a Store.
@@ -57,7 +56,7 @@ impl ChiEffect {
 fn issue(kind: u8, slot: Slot) -> Option<Step>
     ensures { result ≡ issue_of kind slot }
 {
-    Some(Step::Issue(kind_at(kind)?, slot))
+    Some(Step::Issue(Kind::numbered(kind)?, slot))
 }
 
 /// The step that an action's numbers name; `None` where they name none.
@@ -158,7 +157,7 @@ fn step_told(step: Step) -> ChiAction
         },
         Step::Issue(kind, slot) => ChiAction {
             step: 3,
-            kind: kind_number(kind),
+            kind: kind.number(),
             slot: slot.0,
             ..ChiAction::NONE
         },

@@ -6,7 +6,7 @@ ghost use Rattle.chi_slice.specs.Words.{cell_of, channel_number, flit, flit_of};
 ghost use Rattle.chi_library.specs.Standing.{data_sent, opened_sent, read_data, told_or};
 ghost use Rattle.chi_library.specs.Flits.{dat_down_message, dat_up_told, flit_told, flits_told, no_flit, request_told, response_told, rsp_up_message, sent_told, snoop_message, write_message};
 
-use crate::numbers::{flag_number, kind_number};
+use crate::numbers::flag_number;
 use chi_flit::{
     Agent, Channel, CompData, DatUp, Data, Msg, NO_DATA, Request, RspDown, RspUp, Snoop, State,
 };
@@ -84,7 +84,7 @@ fn tell_request(flit: &mut ChiFlit, request: &Request)
     ensures { flit.new ≡ request_told request.now }
 {
     flit.message = 1;
-    flit.kind = kind_number(request.kind);
+    flit.kind = request.kind.number();
     flit.slot = request.slot.0;
     flit.allow_retry = flag_number(request.allow_retry);
 }

@@ -4,7 +4,7 @@ ghost use Rattle.std.specs.Prelude.{◌≡◌, map};
 ghost use Rattle.chi_library.specs.Numbers.{flag_number};
 ghost use Rattle.chi_library.specs.Lines.{copy_told, line_told, owner_number, pending_told, phase_number, serving_told, waiting_told};
 
-use crate::numbers::{flag_number, kind_number, state_number};
+use crate::numbers::flag_number;
 use chi_flit::{Agent, NO_DATA};
 use chi_slice::{CopyView, LineView, Pending, Phase, Serving, Waiting};
 
@@ -108,7 +108,7 @@ fn copy_told(copy: CopyView) -> ChiCopy
 {
     let words = copy.words;
     ChiCopy {
-        state: state_number(copy.state),
+        state: copy.state.number(),
         words,
     }
 }
@@ -130,7 +130,7 @@ fn pending_told(pending: Option<Pending>) -> ChiRequest
     match pending {
         Some(request) => ChiRequest {
             phase: phase_number(request.phase),
-            kind: kind_number(request.kind),
+            kind: request.kind.number(),
             slot: request.slot.0,
         },
         None => ChiRequest::NONE,
@@ -144,7 +144,7 @@ fn waiting_told(waiting: Option<Waiting>) -> ChiRequest
     match waiting {
         Some(request) => ChiRequest {
             phase: 3,
-            kind: kind_number(request.kind),
+            kind: request.kind.number(),
             slot: request.slot.0,
         },
         None => ChiRequest::NONE,
@@ -160,7 +160,7 @@ fn serving_told(serving: Serving) -> ChiServing
         Serving::Snooping { agent, kind, slot } => ChiServing {
             form: 1,
             agent: agent.0,
-            kind: kind_number(kind),
+            kind: kind.number(),
             slot: slot.0,
         },
         Serving::AwaitingCompAck { agent, slot } => ChiServing {
@@ -172,7 +172,7 @@ fn serving_told(serving: Serving) -> ChiServing
         Serving::AwaitingWriteData { agent, kind, slot } => ChiServing {
             form: 3,
             agent: agent.0,
-            kind: kind_number(kind),
+            kind: kind.number(),
             slot: slot.0,
         },
     }

@@ -3,7 +3,7 @@
 ghost use Rattle.std.specs.Prelude.{◌≡◌};
 ghost use Rattle.chi_library.specs.MonitorFacts.{awaited_agent, awaited_since, basis_number, choice_number, differing_words, differs, expected, expected_words, other_agent, sharing_agent, sharing_since, sharing_state, since_of, snooped_agent, snooped_since, snooped_state, state_named, told_number, told_since};
 
-use crate::numbers::{flag_number, state_number};
+use crate::numbers::flag_number;
 use chi_flit::Data;
 use chi_monitor::{Awaited, Basis, KnownWord, LineFault, SeenAt, WrongForm, WrongSnoops};
 
@@ -79,7 +79,7 @@ fn snooped_state(wrong: &WrongSnoops) -> u8
     ensures { result ≡ snooped_state wrong.now }
 {
     match wrong {
-        WrongSnoops::Unsnooped(_, reach) => state_number(reach.base),
+        WrongSnoops::Unsnooped(_, reach) => reach.base.number(),
         WrongSnoops::Unanswered(_, _) | WrongSnoops::OfAnother(_) => NONE,
     }
 }
@@ -89,7 +89,7 @@ fn sharing_state(form: &WrongForm) -> u8
     ensures { result ≡ sharing_state form.now }
 {
     match form {
-        WrongForm::Shared(_, reach) => state_number(reach.base),
+        WrongForm::Shared(_, reach) => reach.base.number(),
         WrongForm::NotUnique | WrongForm::Alone => NONE,
     }
 }
@@ -101,7 +101,7 @@ pub(crate) fn state_named(fault: &LineFault) -> u8
     match fault {
         LineFault::Needs(_, reach)
         | LineFault::Answer(reach, _, _)
-        | LineFault::WriteForm(_, reach) => state_number(reach.base),
+        | LineFault::WriteForm(_, reach) => reach.base.number(),
         LineFault::Snoops(_, wrong) => snooped_state(wrong),
         LineFault::Form(form) => sharing_state(form),
         _ => NONE,

@@ -22,7 +22,7 @@ use crate::node_told::{
     ChiArrival, ChiAudit, ChiCredits, ChiRelease, ChiTotals, arrival_told, release_if,
     release_told, totals_told,
 };
-use crate::numbers::{credit_at, flag_number};
+use crate::numbers::flag_number;
 use crate::sizes::{ChiConfig, config_at};
 use chi_flit::{Action, Agent, CreditType, Line, NoMemory, Step};
 use chi_node::System;
@@ -150,7 +150,12 @@ pub extern "C" fn chi_node_give_back(
     *release = ChiRelease::NONE;
     match node.take(alloc) {
         Some(mut held) => {
-            let answer = give_back(&mut held, Agent(agent), credit_at(credit), release);
+            let answer = give_back(
+                &mut held,
+                Agent(agent),
+                CreditType::numbered(credit),
+                release,
+            );
             node.put(held);
             answer
         }
@@ -180,7 +185,12 @@ pub extern "C" fn chi_node_tend(
     *release = ChiRelease::NONE;
     match node.take(alloc) {
         Some(mut held) => {
-            let answer = tend(&mut held, Agent(agent), credit_at(credit), release);
+            let answer = tend(
+                &mut held,
+                Agent(agent),
+                CreditType::numbered(credit),
+                release,
+            );
             node.put(held);
             answer
         }

@@ -4,7 +4,6 @@ ghost use Rattle.std.specs.Prelude.{◌≡◌};
 ghost use Rattle.chi_library.specs.Observed.{answered_of, asked_of, observed_message, observed_of, request_if, response_of, retry_if, write_of};
 
 use crate::flits::{ChiFlit, ChiSent};
-use crate::numbers::{credit_at, kind_at};
 use chi_explain::SentFlit;
 use chi_flit::{
     Agent, CompData, CreditType, DatUp, Kind, Msg, Request, RspDown, RspUp, Slot, Snoop, State,
@@ -34,7 +33,7 @@ fn asked_at(flit: &ChiFlit) -> Option<Msg>
     ensures { result ≡ asked_of flit.now }
 {
     match flit.message {
-        1 => request_if(kind_at(flit.kind), flit),
+        1 => request_if(Kind::numbered(flit.kind), flit),
         2 => Some(Msg::Snp(Snoop::SnpShared)),
         3 => Some(Msg::Snp(Snoop::SnpNotSharedDirty)),
         4 => Some(Msg::Snp(Snoop::SnpUnique)),
@@ -49,7 +48,7 @@ fn response_at(flit: &ChiFlit) -> Option<Msg>
 {
     let words = flit.words;
     match flit.message {
-        6 => retry_if(credit_at(flit.credit)),
+        6 => retry_if(CreditType::numbered(flit.credit)),
         7 => Some(Msg::RspDown(RspDown::CompUC)),
         8 => Some(Msg::RspDown(RspDown::CompI)),
         9 => Some(Msg::RspDown(RspDown::CompDBIDResp)),

@@ -23,14 +23,17 @@ use Rattle.chi_rnline.specs.declared.pending.Phase.TheVariants.{Sent, Retried}
 use Rattle.chi_homeline.specs.declared.serving.Serving.{Serving}
 use Rattle.chi_homeline.specs.declared.serving.Serving.TheVariants.{Idle, Snooping, AwaitingCompAck, AwaitingWriteData}
 use Rattle.chi_snapshot.specs.Bytes.{one_byte}
-use Rattle.chi_snapshot.specs.Parts.{cells_bytes, data_down_bytes, data_up_bytes, data_up_parts, filter_bytes, home_bytes, kind_byte, line_bytes, pending_bytes, phase_byte, request_bytes, rn_bytes, rsp_down_bytes, rsp_up_byte, served_bytes, serving_bytes, snoop_byte, state_byte, waiting_bytes, words_bytes}
+use Rattle.chi_flit.specs.Kind.{kind_number}
+use Rattle.chi_flit.specs.Snoop.{snoop_number}
+use Rattle.chi_flit.specs.State.{state_number}
+use Rattle.chi_snapshot.specs.Parts.{cells_bytes, data_down_bytes, data_up_bytes, data_up_parts, filter_bytes, home_bytes, line_bytes, pending_bytes, phase_byte, request_bytes, rn_bytes, rsp_down_bytes, rsp_up_byte, served_bytes, serving_bytes, waiting_bytes, words_bytes}
 use Rattle.chi_snapshot.proofs.Once.{IsOnce, both, eight, list, mark, named, one, option, through}
 
 -- what each number names
 abbrev pub state_at : ℕ → State
 state_at n = if n == 0 then states.I else (if n == 1 then states.SC else (if n == 2 then states.UC else (if n == 3 then states.UD else states.SD)))
 
-state_again : (state : State) → state_at (state_byte state) ≡ state
+state_again : (state : State) → state_at (state_number state) ≡ state
 state_again states.I = refl
 state_again states.SC = refl
 state_again states.UC = refl
@@ -42,7 +45,7 @@ kind_at n =
     if n == 0 then kinds.ReadNotSharedDirty else (if n == 1 then kinds.ReadShared else (if n == 2 then kinds.ReadUnique else (if n == 3 then kinds.CleanUnique
     else (if n == 4 then kinds.Evict else (if n == 5 then kinds.WriteBackFull else (if n == 6 then kinds.WriteCleanFull else kinds.WriteEvictFull))))))
 
-kind_again : (kind : Kind) → kind_at (kind_byte kind) ≡ kind
+kind_again : (kind : Kind) → kind_at (kind_number kind) ≡ kind
 kind_again kinds.ReadNotSharedDirty = refl
 kind_again kinds.ReadShared = refl
 kind_again kinds.ReadUnique = refl
@@ -62,7 +65,7 @@ phase_again Retried = refl
 abbrev pub snoop_at : ℕ → Snoop
 snoop_at n = if n == 0 then snoops.SnpShared else (if n == 1 then snoops.SnpNotSharedDirty else (if n == 2 then snoops.SnpUnique else snoops.SnpCleanInvalid))
 
-snoop_again : (snoop : Snoop) → snoop_at (snoop_byte snoop) ≡ snoop
+snoop_again : (snoop : Snoop) → snoop_at (snoop_number snoop) ≡ snoop
 snoop_again snoops.SnpShared = refl
 snoop_again snoops.SnpNotSharedDirty = refl
 snoop_again snoops.SnpUnique = refl
@@ -79,17 +82,17 @@ rsp_up_again SnpRespI = refl
 rsp_up_again SnpRespSC = refl
 rsp_up_again CompAck = refl
 
-state : IsOnce (λ (s : State). one_byte (state_byte s))
-state = named state_byte state_at state_again
+state : IsOnce (λ (s : State). one_byte (state_number s))
+state = named state_number state_at state_again
 
-kind : IsOnce (λ (k : Kind). one_byte (kind_byte k))
-kind = named kind_byte kind_at kind_again
+kind : IsOnce (λ (k : Kind). one_byte (kind_number k))
+kind = named kind_number kind_at kind_again
 
 phase : IsOnce (λ (p : Phase). one_byte (phase_byte p))
 phase = named phase_byte phase_at phase_again
 
-snoop : IsOnce (λ (s : Snoop). one_byte (snoop_byte s))
-snoop = named snoop_byte snoop_at snoop_again
+snoop : IsOnce (λ (s : Snoop). one_byte (snoop_number s))
+snoop = named snoop_number snoop_at snoop_again
 
 rsp_up : IsOnce (λ (response : RspUp). one_byte (rsp_up_byte response))
 rsp_up = named rsp_up_byte rsp_up_at rsp_up_again
@@ -122,9 +125,9 @@ waiting = through (λ w. (w.kind, w.slot)) (λ p. record { kind = p.0; slot = p.
 -- what is served, as its form, agent, kind and slot
 abbrev serving_parts : Serving → (((ℕ × ℕ) × ℕ) × ℕ)
 serving_parts Idle = (((0, 0), 0), 0)
-serving_parts (Snooping a k s) = (((1, a.0), kind_byte k), s.0)
+serving_parts (Snooping a k s) = (((1, a.0), kind_number k), s.0)
 serving_parts (AwaitingCompAck a s) = (((2, a.0), 0), s.0)
-serving_parts (AwaitingWriteData a k s) = (((3, a.0), kind_byte k), s.0)
+serving_parts (AwaitingWriteData a k s) = (((3, a.0), kind_number k), s.0)
 
 abbrev serving_from : (((ℕ × ℕ) × ℕ) × ℕ) → Serving
 serving_from p =
@@ -197,7 +200,7 @@ abbrev up_parts : DatUp → ((ℕ × ℕ) × List ℕ)
 up_parts (SnpRespDataIPD ws) = ((0, 0), ws)
 up_parts (SnpRespDataSCPD ws) = ((1, 0), ws)
 up_parts (SnpRespDataSD ws) = ((2, 0), ws)
-up_parts (CopyBackWrData s ws) = ((3, state_byte s), ws)
+up_parts (CopyBackWrData s ws) = ((3, state_number s), ws)
 
 abbrev up_from : ((ℕ × ℕ) × List ℕ) → DatUp
 up_from p =

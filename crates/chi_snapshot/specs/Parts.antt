@@ -3,11 +3,8 @@
 use Rattle.std.specs.Prelude.{ℕ, List, [], ◌∷◌, ◌++◌}
 use Rattle.chi_flit.specs.declared.numbers.Agent.{Agent}
 use Rattle.chi_flit.specs.declared.state.State.{State}
-use Rattle.chi_flit.specs.declared.state.State.TheVariants as states
 use Rattle.chi_flit.specs.declared.kind.Kind.{Kind}
-use Rattle.chi_flit.specs.declared.kind.Kind.TheVariants as kinds
 use Rattle.chi_flit.specs.declared.snoop.Snoop.{Snoop}
-use Rattle.chi_flit.specs.declared.snoop.Snoop.TheVariants as snoops
 use Rattle.chi_flit.specs.declared.message.Request.{Request}
 use Rattle.chi_flit.specs.declared.message.RspDown.{RspDown}
 use Rattle.chi_flit.specs.declared.message.RspDown.TheVariants.{RetryAck, CompUC, CompI, CompDBIDResp}
@@ -17,6 +14,9 @@ use Rattle.chi_flit.specs.declared.message.RspUp.TheVariants.{SnpRespI, SnpRespS
 use Rattle.chi_flit.specs.declared.message.DatUp.{DatUp}
 use Rattle.chi_flit.specs.declared.message.DatUp.TheVariants.{SnpRespDataIPD, SnpRespDataSCPD, SnpRespDataSD, CopyBackWrData}
 use Rattle.chi_flit.specs.Credit.{credit_number}
+use Rattle.chi_flit.specs.Kind.{kind_number}
+use Rattle.chi_flit.specs.Snoop.{snoop_number}
+use Rattle.chi_flit.specs.State.{state_number}
 use Rattle.chi_rnline.specs.declared.pending.Pending.{Pending}
 use Rattle.chi_rnline.specs.declared.pending.Phase.{Phase}
 use Rattle.chi_rnline.specs.declared.pending.Phase.TheVariants.{Sent, Retried}
@@ -30,33 +30,10 @@ use Rattle.chi_wires.specs.declared.cells.Cells.{Cells}
 use Rattle.chi_line.specs.LineState.{LineState}
 use Rattle.chi_snapshot.specs.Bytes.{one_byte, eight_bytes, mark_bytes, option_bytes, list_bytes}
 
--- states, kinds, phases and snoops by the order of their declarations
-abbrev pub state_byte : State → ℕ
-state_byte states.I = 0
-state_byte states.SC = 1
-state_byte states.UC = 2
-state_byte states.UD = 3
-state_byte states.SD = 4
-
-abbrev pub kind_byte : Kind → ℕ
-kind_byte kinds.ReadNotSharedDirty = 0
-kind_byte kinds.ReadShared = 1
-kind_byte kinds.ReadUnique = 2
-kind_byte kinds.CleanUnique = 3
-kind_byte kinds.Evict = 4
-kind_byte kinds.WriteBackFull = 5
-kind_byte kinds.WriteCleanFull = 6
-kind_byte kinds.WriteEvictFull = 7
-
+-- phases by the order of their declarations
 abbrev pub phase_byte : Phase → ℕ
 phase_byte Sent = 0
 phase_byte Retried = 1
-
-abbrev pub snoop_byte : Snoop → ℕ
-snoop_byte snoops.SnpShared = 0
-snoop_byte snoops.SnpNotSharedDirty = 1
-snoop_byte snoops.SnpUnique = 2
-snoop_byte snoops.SnpCleanInvalid = 3
 
 -- the words of a line
 abbrev pub words_bytes : List ℕ → List ℕ
@@ -64,11 +41,11 @@ words_bytes words = list_bytes eight_bytes words
 
 -- a request that its requester waits for
 unfoldable pub pending_bytes : Pending → List ℕ
-pending_bytes pending = one_byte (kind_byte pending.kind) ++ one_byte pending.slot.0 ++ one_byte (phase_byte pending.phase)
+pending_bytes pending = one_byte (kind_number pending.kind) ++ one_byte pending.slot.0 ++ one_byte (phase_byte pending.phase)
 
 -- one requester's side of a line
 unfoldable pub rn_bytes : Rn → List ℕ
-rn_bytes rn = one_byte (state_byte rn.state) ++ words_bytes rn.words ++ option_bytes pending_bytes rn.pending
+rn_bytes rn = one_byte (state_number rn.state) ++ words_bytes rn.words ++ option_bytes pending_bytes rn.pending
 
 -- the snoop filter
 unfoldable pub filter_bytes : FilterState → List ℕ
@@ -76,7 +53,7 @@ filter_bytes filter = list_bytes mark_bytes filter.named ++ mark_bytes filter.un
 
 -- a request that waits at the home
 unfoldable pub waiting_bytes : Waiting → List ℕ
-waiting_bytes waiting = one_byte (kind_byte waiting.kind) ++ one_byte waiting.slot.0
+waiting_bytes waiting = one_byte (kind_number waiting.kind) ++ one_byte waiting.slot.0
 
 -- what is served: the number of the form, the agent, the kind and the slot
 unfoldable pub served_bytes : ℕ → ℕ → ℕ → ℕ → List ℕ
@@ -84,9 +61,9 @@ served_bytes form agent kind slot = one_byte form ++ one_byte agent ++ one_byte 
 
 abbrev pub serving_bytes : Serving → List ℕ
 serving_bytes Idle = served_bytes 0 0 0 0
-serving_bytes (Snooping agent kind slot) = served_bytes 1 agent.0 (kind_byte kind) slot.0
+serving_bytes (Snooping agent kind slot) = served_bytes 1 agent.0 (kind_number kind) slot.0
 serving_bytes (AwaitingCompAck agent slot) = served_bytes 2 agent.0 0 slot.0
-serving_bytes (AwaitingWriteData agent kind slot) = served_bytes 3 agent.0 (kind_byte kind) slot.0
+serving_bytes (AwaitingWriteData agent kind slot) = served_bytes 3 agent.0 (kind_number kind) slot.0
 
 -- what the home keeps of a line
 unfoldable pub home_bytes : Home → List ℕ
@@ -99,7 +76,7 @@ home_bytes home =
 
 -- a request in flight
 unfoldable pub request_bytes : Request → List ℕ
-request_bytes request = one_byte (kind_byte request.kind) ++ one_byte request.slot.0 ++ mark_bytes request.allow_retry
+request_bytes request = one_byte (kind_number request.kind) ++ one_byte request.slot.0 ++ mark_bytes request.allow_retry
 
 -- a response without data to a requester: the number of the form, and a credit type
 abbrev pub rsp_down_bytes : RspDown → List ℕ
@@ -126,13 +103,13 @@ abbrev pub data_up_bytes : DatUp → List ℕ
 data_up_bytes (SnpRespDataIPD words) = data_up_parts 0 0 words
 data_up_bytes (SnpRespDataSCPD words) = data_up_parts 1 0 words
 data_up_bytes (SnpRespDataSD words) = data_up_parts 2 0 words
-data_up_bytes (CopyBackWrData state words) = data_up_parts 3 (state_byte state) words
+data_up_bytes (CopyBackWrData state words) = data_up_parts 3 (state_number state) words
 
 -- what is in flight to and from one agent
 unfoldable pub cells_bytes : Cells → List ℕ
 cells_bytes cells =
     option_bytes request_bytes cells.req
-    ++ option_bytes (λ (snoop : Snoop). one_byte (snoop_byte snoop)) cells.snp
+    ++ option_bytes (λ (snoop : Snoop). one_byte (snoop_number snoop)) cells.snp
     ++ option_bytes rsp_down_bytes cells.rsp_down
     ++ option_bytes data_down_bytes cells.dat_down
     ++ option_bytes (λ (response : RspUp). one_byte (rsp_up_byte response)) cells.rsp_up

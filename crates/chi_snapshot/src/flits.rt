@@ -6,7 +6,10 @@ ghost use Rattle.chi_flit.specs.declared.message.RspUp.{RspUp};
 ghost use Rattle.chi_flit.specs.declared.kind.Kind.{Kind};
 ghost use Rattle.chi_flit.specs.declared.state.State.{State};
 ghost use Rattle.chi_snapshot.specs.Bytes.{one_byte};
-ghost use Rattle.chi_snapshot.specs.Parts.{cells_bytes, data_down_bytes, data_up_bytes, data_up_parts, kind_byte, request_bytes, rsp_down_bytes, rsp_up_byte, snoop_byte, state_byte, words_bytes};
+ghost use Rattle.chi_flit.specs.Kind.{kind_number};
+ghost use Rattle.chi_flit.specs.Snoop.{snoop_number};
+ghost use Rattle.chi_flit.specs.State.{state_number};
+ghost use Rattle.chi_snapshot.specs.Parts.{cells_bytes, data_down_bytes, data_up_bytes, data_up_parts, request_bytes, rsp_down_bytes, rsp_up_byte, words_bytes};
 
 use crate::written::{Written, write_list};
 use chi_flit::{CompData, DatUp, Data, Kind, NoMemory, Request, RspDown, RspUp, Snoop, State};
@@ -14,49 +17,26 @@ use chi_wires::Cells;
 use std::alloc::Allocator;
 
 impl Written for State {
-    ghost bytes = { λ (state : State). one_byte (state_byte state) };
+    ghost bytes = { λ (state : State). one_byte (state_number state) };
 
     fn write<A: Allocator>(&self, out: &mut Vec<u8, A>) -> Result<(), NoMemory> {
-        let number: u8 = match self {
-            State::I => 0,
-            State::SC => 1,
-            State::UC => 2,
-            State::UD => 3,
-            State::SD => 4,
-        };
-        number.write(out)
+        self.number().write(out)
     }
 }
 
 impl Written for Kind {
-    ghost bytes = { λ (kind : Kind). one_byte (kind_byte kind) };
+    ghost bytes = { λ (kind : Kind). one_byte (kind_number kind) };
 
     fn write<A: Allocator>(&self, out: &mut Vec<u8, A>) -> Result<(), NoMemory> {
-        let number: u8 = match self {
-            Kind::ReadNotSharedDirty => 0,
-            Kind::ReadShared => 1,
-            Kind::ReadUnique => 2,
-            Kind::CleanUnique => 3,
-            Kind::Evict => 4,
-            Kind::WriteBackFull => 5,
-            Kind::WriteCleanFull => 6,
-            Kind::WriteEvictFull => 7,
-        };
-        number.write(out)
+        self.number().write(out)
     }
 }
 
 impl Written for Snoop {
-    ghost bytes = { λ (snoop : Snoop). one_byte (snoop_byte snoop) };
+    ghost bytes = { λ (snoop : Snoop). one_byte (snoop_number snoop) };
 
     fn write<A: Allocator>(&self, out: &mut Vec<u8, A>) -> Result<(), NoMemory> {
-        let number: u8 = match self {
-            Snoop::SnpShared => 0,
-            Snoop::SnpNotSharedDirty => 1,
-            Snoop::SnpUnique => 2,
-            Snoop::SnpCleanInvalid => 3,
-        };
-        number.write(out)
+        self.number().write(out)
     }
 }
 
@@ -125,7 +105,7 @@ fn write_data_up<A: Allocator>(
     out: &mut Vec<u8, A>,
 ) -> Result<(), NoMemory>
     ensures { OnOk result
-        (out.new.items ≡ out.old.items ++ data_up_parts form (state_byte state) words.now) }
+        (out.new.items ≡ out.old.items ++ data_up_parts form (state_number state) words.now) }
 {
     form.write(out)?;
     state.write(out)?;

@@ -4,7 +4,8 @@ ghost use Rattle.std.specs.Prelude.{◌≡◌, ◌++◌, ℕ, OnOk};
 ghost use Rattle.chi_filter.specs.Filter.{FilterState};
 ghost use Rattle.chi_rnline.specs.declared.pending.Phase.{Phase};
 ghost use Rattle.chi_snapshot.specs.Bytes.{one_byte};
-ghost use Rattle.chi_snapshot.specs.Parts.{filter_bytes, home_bytes, kind_byte, line_bytes, pending_bytes, phase_byte, rn_bytes, served_bytes, serving_bytes, waiting_bytes};
+ghost use Rattle.chi_flit.specs.Kind.{kind_number};
+ghost use Rattle.chi_snapshot.specs.Parts.{filter_bytes, home_bytes, line_bytes, pending_bytes, phase_byte, rn_bytes, served_bytes, serving_bytes, waiting_bytes};
 
 use crate::flits::write_words;
 use crate::written::{Written, write_list};
@@ -80,7 +81,7 @@ fn write_served<A: Allocator>(
     out: &mut Vec<u8, A>,
 ) -> Result<(), NoMemory>
     ensures { OnOk result
-        (out.new.items ≡ out.old.items ++ served_bytes form agent.0 (kind_byte kind) slot.0) }
+        (out.new.items ≡ out.old.items ++ served_bytes form agent.0 (kind_number kind) slot.0) }
 {
     form.write(out)?;
     agent.write(out)?;

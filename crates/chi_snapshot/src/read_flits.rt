@@ -9,61 +9,28 @@ use chi_wires::Cells;
 impl Read for State {
     fn read(bytes: &[u8], at: usize) -> Option<(State, usize)> {
         let (number, at) = u8::read(bytes, at)?;
-        let state = match number {
-            0 => State::I,
-            1 => State::SC,
-            2 => State::UC,
-            3 => State::UD,
-            4 => State::SD,
-            _ => return None,
-        };
-        Some((state, at))
+        Some((State::numbered(number)?, at))
     }
 }
 
 impl Read for Kind {
     fn read(bytes: &[u8], at: usize) -> Option<(Kind, usize)> {
         let (number, at) = u8::read(bytes, at)?;
-        let kind = match number {
-            0 => Kind::ReadNotSharedDirty,
-            1 => Kind::ReadShared,
-            2 => Kind::ReadUnique,
-            3 => Kind::CleanUnique,
-            4 => Kind::Evict,
-            5 => Kind::WriteBackFull,
-            6 => Kind::WriteCleanFull,
-            7 => Kind::WriteEvictFull,
-            _ => return None,
-        };
-        Some((kind, at))
+        Some((Kind::numbered(number)?, at))
     }
 }
 
 impl Read for Snoop {
     fn read(bytes: &[u8], at: usize) -> Option<(Snoop, usize)> {
         let (number, at) = u8::read(bytes, at)?;
-        let snoop = match number {
-            0 => Snoop::SnpShared,
-            1 => Snoop::SnpNotSharedDirty,
-            2 => Snoop::SnpUnique,
-            3 => Snoop::SnpCleanInvalid,
-            _ => return None,
-        };
-        Some((snoop, at))
+        Some((Snoop::numbered(number)?, at))
     }
 }
 
 impl Read for CreditType {
     fn read(bytes: &[u8], at: usize) -> Option<(CreditType, usize)> {
         let (number, at) = u8::read(bytes, at)?;
-        let credit = match number {
-            0 => CreditType::T0,
-            1 => CreditType::T1,
-            2 => CreditType::T2,
-            3 => CreditType::T3,
-            _ => return None,
-        };
-        Some((credit, at))
+        Some((CreditType::numbered(number)?, at))
     }
 }
 
