@@ -3,9 +3,9 @@
 #![tactic(auto)]
 
 use anyhow::{Context, Result};
-use chi_script::{MemoryInput, MemoryOutput};
 use chi_flit::{Agent, Kind, Line, Slot, WordNo};
 use chi_replay::replay;
+use chi_script::{MemoryInput, MemoryOutput};
 use chi_slice::{Action, Config, Slice, Step};
 use std::alloc::Allocator;
 use std::io;

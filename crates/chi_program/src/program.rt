@@ -11,17 +11,20 @@ ghost use Rattle.chi_program.specs.Endings.{ending_asked};
 ghost use Rattle.chi_program.specs.Suites.{given_in};
 ghost use Rattle.chi_replay.specs.Suites.{given_of};
 
-use crate::looks::{lacks_line, wants_answer};
 use crate::faults::ArgFault;
 use crate::jobs::{Job, arguments};
+use crate::looks::{lacks_line, wants_answer};
 use crate::options::{CellForm, RowRange};
 use crate::usages::{usage, version};
 use chi_chart::{ChartPart, chart};
 use chi_coverage::{CoverForm, CoverShape, cover, merge};
-use chi_script::{Fault, FileInput, MOST_BYTES, MOST_CHECK_BYTES, MemoryInput, Output, StandardOutput, hint_at, read_most};
 use chi_flit::Line;
 use chi_replay::{SuiteFile, SuiteForm, check, check_suite, replay};
 use chi_resolution::Options;
+use chi_script::{
+    Fault, FileInput, MOST_BYTES, MOST_CHECK_BYTES, MemoryInput, Output, StandardOutput, hint_at,
+    read_most,
+};
 use chi_stimulus::{DrawOptions, Weights, draw, read_kinds, read_weights};
 use chi_storm::storm;
 use chi_trace::Address;

@@ -1,7 +1,7 @@
 //! Command lines, good and bad, by `docs/FORMATS.md`, "The program".
 
-use chi_program::{ArgFault, CellForm, Job, RowRange, Topic, arguments};
 use chi_flit::Line;
+use chi_program::{ArgFault, CellForm, Job, RowRange, Topic, arguments};
 use std::alloc::Global;
 use std::process::Abort;
 

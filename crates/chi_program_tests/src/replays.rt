@@ -2,8 +2,8 @@
 
 use crate::comparison::same;
 use bumpalo::Bump;
-use chi_script::{Fault, FileInput, MemoryInput, MemoryOutput, Output, StandardOutput};
 use chi_replay::replay;
+use chi_script::{Fault, FileInput, MemoryInput, MemoryOutput, Output, StandardOutput};
 use linked_list_allocator::LocalHeap;
 use std::alloc::{AllocError, Allocator};
 use std::io::{ErrorKind, Write};

@@ -12,8 +12,11 @@ ghost use Rattle.chi_replay.specs.Checks.{ComparesChecks, IsCheckReport, IsCompa
 use crate::replays::config_of;
 use crate::reports::{Comparison, compare, write_summary};
 use crate::runs::run;
-use chi_script::{Check, CheckFile, Command, Failed, Fault, Input, MOST_CHECK_BYTES, Output, read_checks, read_most};
 use chi_flit::NoMemory;
+use chi_script::{
+    Check, CheckFile, Command, Failed, Fault, Input, MOST_CHECK_BYTES, Output, read_checks,
+    read_most,
+};
 use std::alloc::{AllocError, Allocator};
 
 /// The commands of the checks, in order. Refused where memory for the list runs out.

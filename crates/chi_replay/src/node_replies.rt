@@ -3,10 +3,10 @@
 ghost use Rattle.std.specs.Prelude.{◌≡◌};
 ghost use Rattle.chi_replay.specs.NodeReplies.{arrival_reply, give_back_reply, step_reply, tend_reply, totals_told};
 
-use chi_flit::{Effect, Profile, Refusal};
-use chi_node::{Arrived, Counts, Released, Stepped};
 use crate::replies::Reply;
 use crate::totals::NodeTotals;
+use chi_flit::{Effect, Profile, Refusal};
+use chi_node::{Arrived, Counts, Released, Stepped};
 
 /// What is answered to an arrival.
 pub(crate) fn arrival_reply(arrived: Result<Arrived, Refusal>) -> Reply

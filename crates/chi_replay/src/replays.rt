@@ -10,8 +10,8 @@ ghost use Rattle.chi_replay.specs.Texts.{IsTextOfLines};
 ghost use Rattle.chi_replay.specs.Replays.{AtWrite, IsTextOf, KeepsAtFault, NoText, NoTextAt, RefusesFault, WritesFront, WritesText, read_sizes};
 
 use crate::runs::run_lines;
-use chi_script::{Failed, Fault, Header, Input, Output, check_lines, read_all, read_head};
 use chi_flit::Profile;
+use chi_script::{Failed, Fault, Header, Input, Output, check_lines, read_all, read_head};
 use chi_slice::Config;
 use std::alloc::Allocator;
 

@@ -6,14 +6,14 @@ ghost use Rattle.chi_script.specs.declared.commands.Command.TheVariants as comma
 ghost use Rattle.chi_replay.specs.Turns.{turn};
 ghost use Rattle.chi_replay.specs.Session.{PlaysOn, SaysTurn, machine_of};
 
-use crate::node_replies::{arrival_reply, give_back_reply, step_reply, tend_reply, totals_told};
-use chi_flit::{Agent, CreditType, Line, NoMemory};
-use chi_node::System;
 use crate::credits::SeenCredits;
 use crate::flights::InFlight;
+use crate::node_replies::{arrival_reply, give_back_reply, step_reply, tend_reply, totals_told};
 use crate::prints::Printable;
 use crate::replies::Reply;
 use crate::shown::Shown;
+use chi_flit::{Agent, CreditType, Line, NoMemory};
+use chi_node::System;
 use chi_script::Command;
 use std::alloc::Allocator;
 

@@ -2,8 +2,8 @@
 
 use crate::comparison::same;
 use chi_chart::{ChartPart, chart};
-use chi_script::{MemoryInput, MemoryOutput};
 use chi_flit::Line;
+use chi_script::{MemoryInput, MemoryOutput};
 use std::process::Abort;
 
 /// A read with a store, a refused load, and a request that is never taken, on two lines.

@@ -2,8 +2,8 @@
 
 use crate::comparison::same;
 use bumpalo::Bump;
-use chi_script::{Fault, MemoryInput, MemoryOutput};
 use chi_replay::check;
+use chi_script::{Fault, MemoryInput, MemoryOutput};
 use linked_list_allocator::LocalHeap;
 use std::alloc::{AllocError, Allocator};
 use std::process::Abort;

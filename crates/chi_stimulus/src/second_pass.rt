@@ -9,9 +9,9 @@ ghost use Rattle.chi_stimulus.specs.Drafts.{is_plain};
 ghost use Rattle.chi_stimulus.specs.SecondPass.{IsDrawn, is_told};
 
 use crate::options::DrawOptions;
-use chi_script::{Check, CheckFile, Fault, Header, MemoryInput, MemoryOutput, read_checks};
 use chi_flit::NoMemory;
 use chi_replay::check;
+use chi_script::{Check, CheckFile, Fault, Header, MemoryInput, MemoryOutput, read_checks};
 use std::alloc::Allocator;
 
 /// Whether all wanted answers of a text are those that its commands give. It was read as a check file before, so only

@@ -12,9 +12,9 @@ use crate::drawing::Drawing;
 use crate::options::DrawOptions;
 use crate::plan::Plan;
 use crate::second_pass::is_good;
-use chi_script::{Failed, Fault, Header, MOST_CHECK_BYTES, Output, header_in};
 use chi_flit::NoMemory;
 use chi_replay::config_of;
+use chi_script::{Failed, Fault, Header, MOST_CHECK_BYTES, Output, header_in};
 use std::alloc::Allocator;
 
 /// The fewest bytes of a command with its answer and its line end, as `snp 0 0 -> ok`.

@@ -7,9 +7,9 @@ ghost use Rattle.chi_verdict.specs.Verdicts.{AtFailedWrite, IsReport, IsReportFr
 
 use crate::asked::Asked;
 use crate::reports::{TraceOutcome, TraceReport, report_on};
-use chi_script::{Failed, Fault, Input, Output, read_most};
 use chi_flit::NoMemory;
 use chi_resolution::Options;
+use chi_script::{Failed, Fault, Input, Output, read_most};
 use chi_trace::MOST_BYTES;
 use std::alloc::Allocator;
 
