@@ -1,6 +1,6 @@
 -- What a turn has a requester do on the slice of its line: one choice, of three parts in their order
 -- (docs/FORMATS.md, "A turn").
-use Rattle.std.specs.Prelude.{◌≡◌, ℕ, ◌<◌, ◌/◌, ◌%◌, Bool, true, false, not, nat_lt, List}
+use Rattle.std.specs.Prelude.{◌≡◌, ℕ, ◌<◌, ◌/◌, ◌%◌, Bool, true, false, not, List}
 use Rattle.std.specs.Prelude.{[], ◌∷◌, length, slice_get, position, Option, Some, None, is_some, option_map, ⊤, if◌then◌else◌}
 use Rattle.std.specs.List.{filter}
 use Rattle.chi_flit.specs.declared.numbers.Line.{Line}
@@ -22,8 +22,9 @@ use Rattle.chi_flit.specs.State.{is_valid}
 use Rattle.chi_slice.specs.Words.{is_clean_copy, pending_credit, resend_refusal, rn_of, Pending, Phase, Rn, Sizes}
 use Rattle.chi_slice.specs.Phases.{Sent, Retried}
 use Rattle.chi_slice.specs.Slice.{SliceState, are_in_range, line, action_refusal}
-use Rattle.chi_node.specs.Words.{seen_of, SlotRecord, is_idle_state, riding_of}
-use Rattle.chi_node.specs.Calls.{arrival_refusal, is_own_step}
+use Rattle.chi_node.specs.Words.{SlotRecord, is_idle_state}
+use Rattle.chi_node.specs.Calls.{is_own_step}
+use Rattle.chi_node.specs.Outstanding.{has_spare, outstanding_of}
 use Rattle.chi_node.specs.Requester.{RequesterState}
 use Rattle.chi_agent.specs.declared.choice.Call.{Call}
 use Rattle.chi_agent.specs.declared.choice.Call.TheVariants as calls
@@ -48,7 +49,7 @@ is_pending_retried (Some request) = is_retried_in request.phase
 
 abbrev pub has_credit : RequesterState → Option CreditType → Bool
 has_credit r None = false
-has_credit r (Some ty) = nat_lt (riding_of r.slots (credit_number ty)) (seen_of r.port (credit_number ty))
+has_credit r (Some ty) = has_spare (outstanding_of r) (credit_number ty)
 
 abbrev pub cancel_or_resend : Option Refusal → Bool → Option Choice
 cancel_or_resend (Some refusal) credit = Some (Do (calls.Step steps.Cancel))
@@ -127,7 +128,7 @@ call_of RecvWrData = calls.Step steps.RecvWrData
 
 abbrev pub turn_call_refusal : SliceState → ℕ → Line → Call → Option Refusal
 turn_call_refusal s n l (calls.Step step) = action_refusal s (record { agent = record { 0 = n }; line = l; step = step })
-turn_call_refusal s n l calls.Arrival = arrival_refusal s n l.0
+turn_call_refusal s n l calls.Arrival = action_refusal s (record { agent = record { 0 = n }; line = l; step = steps.Admit })
 
 abbrev pub is_enabled : SliceState → ℕ → Line → Delivery → Bool
 is_enabled s n l delivery = not (is_some (turn_call_refusal s n l (call_of delivery)))

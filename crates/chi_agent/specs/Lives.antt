@@ -11,7 +11,8 @@ use Rattle.chi_node.specs.Words.{Released}
 use Rattle.chi_node.specs.Agree.{KeepsAgreement}
 use Rattle.chi_node.specs.Credits.{GivesBack, Sees, Tends}
 use Rattle.chi_node.specs.Node.{FoundAnother, IsSliceOf}
-use Rattle.chi_node.specs.Requester.{RequesterState, give_back_refusal, tend_refusal}
+use Rattle.chi_node.specs.Outstanding.{give_back_refusal, outstanding_of, tend_refusal}
+use Rattle.chi_node.specs.Requester.{RequesterState}
 use Rattle.chi_agent.specs.Draws.{stream_of, word_after}
 use Rattle.chi_agent.specs.declared.player.Player.{Player}
 use Rattle.chi_agent.specs.Choice.{drawn_line}
@@ -29,7 +30,7 @@ GivesBackIf None t r r' = (released : Released) × GivesBack t released r r'
 
 -- where so many credits of the type are seen: with none it isn't tried
 abbrev pub GivesBackSeen : ℕ → ℕ → RequesterState → RequesterState → Type 0
-GivesBackSeen n t r r' = ((n ≡ 0) × (r' ≡ r)) ⊎ GivesBackIf (give_back_refusal r t) t r r'
+GivesBackSeen n t r r' = ((n ≡ 0) × (r' ≡ r)) ⊎ GivesBackIf (give_back_refusal (outstanding_of r) t) t r r'
 
 -- a credit of each type in turn, where so many are seen
 pub record GivesEach (seen : List ℕ) (r r' : RequesterState) : Type 0 where
@@ -81,7 +82,7 @@ Visits config x p p' done = VisitsSlice config x p p' done ⊎ FindsAnother conf
 -- after a visit in which nothing was done, what is owed of the turn's type is tended
 abbrev pub EndsTurn : {A : Type 0} → Bool → Sizes → ℕ → Player A → Player A → Type 0
 EndsTurn true config number p p' = p' ≡ p
-EndsTurn false config number p p' = TendsIf (tend_refusal p.requester (tended_type config.profile number)) (tended_type config.profile number) p.requester p'.requester × (p' ≡ player_with p'.requester p)
+EndsTurn false config number p p' = TendsIf (tend_refusal (outstanding_of p.requester) (tended_type config.profile number)) (tended_type config.profile number) p.requester p'.requester × (p' ≡ player_with p'.requester p)
 
 -- the turn of that number, whose word is x
 pub record Turned {A : Type 0} (config : Sizes) (x number : ℕ) (p p' : Player A) (done : Bool) : Type 0 where

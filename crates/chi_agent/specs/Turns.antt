@@ -14,7 +14,8 @@ use Rattle.chi_node.specs.Words.{SlotRecord, state_at}
 use Rattle.chi_node.specs.declared.answers.Arrived.{Arrived}
 use Rattle.chi_node.specs.declared.answers.Stepped.{Stepped}
 use Rattle.chi_node.specs.Agree.{Agree}
-use Rattle.chi_node.specs.Calls.{arrival_refusal, call_refusal, ArrivesOn, CountsStep, OrNotOpen, StepsTo}
+use Rattle.chi_node.specs.Calls.{ArrivesOn, CountsStep, OrNotOpen, StepsTo}
+use Rattle.chi_node.specs.Outstanding.{arrival_refusal, outstanding_of, step_refusal}
 use Rattle.chi_node.specs.Requester.{RequesterState}
 use Rattle.chi_agent.specs.declared.choice.Call.{Call}
 use Rattle.chi_agent.specs.declared.choice.Call.TheVariants as calls
@@ -35,7 +36,7 @@ StepEnds (Some refusal) s s' action r r' = (s' ≡ s) × (r' ≡ r)
 StepEnds None s s' action r r' = (stepped : Stepped) × StepsTo s s' action r r' stepped × CountsStep s s' action r r'
 
 pub record StepTried (s s' : SliceState) (action : Action) (r r' : RequesterState) (answer : Option Refusal) : Type 0 where
-  pub refusal : OrNotOpen (call_refusal s r action) (Agree s r) answer
+  pub refusal : OrNotOpen (step_refusal s (outstanding_of r) action) (Agree s r) answer
   pub ends : StepEnds answer s s' action r r'
 
 -- an arrival that is refused leaves all

@@ -5,7 +5,7 @@ ghost use Rattle.std.specs.Prelude.{◌≡◌, slice_index};
 ghost use Rattle.chi_flit.specs.Credit.{credit_number};
 ghost use Rattle.chi_node.specs.Calls.{IsSameRequester};
 ghost use Rattle.chi_node.specs.Credits.{Sees};
-ghost use Rattle.chi_node.specs.Requester.{give_back_refusal, tend_refusal};
+ghost use Rattle.chi_node.specs.Outstanding.{give_back_refusal, outstanding_of, tend_refusal};
 ghost use Rattle.chi_agent.specs.Lives.{tended_type, GivesBackIf, GivesBackSeen, GivesEach, Prepares, TendsIf};
 
 use chi_flit::{CreditType, Profile};
@@ -16,8 +16,8 @@ use std::alloc::Allocator;
 fn returns<A: Allocator>(requester: &mut Requester, tracker: &Tracker<A>, ty: CreditType)
     requires { requester.old.table ≡ tracker.now.table }
     ensures same { IsSameRequester requester.old requester.new }
-    ensures gives { GivesBackIf (give_back_refusal requester.old (credit_number ty)) (credit_number ty)
-        requester.old requester.new }
+    ensures gives { GivesBackIf (give_back_refusal (outstanding_of requester.old) (credit_number ty))
+        (credit_number ty) requester.old requester.new }
 {
     let _ = requester.give_back(tracker, ty);
 }
@@ -98,8 +98,8 @@ pub(crate) fn tend<A: Allocator>(
 )
     requires { requester.old.table ≡ tracker.now.table }
     ensures same { IsSameRequester requester.old requester.new }
-    ensures tends { TendsIf (tend_refusal requester.old (tended_type profile turn)) (tended_type profile turn)
-        requester.old requester.new }
+    ensures tends { TendsIf (tend_refusal (outstanding_of requester.old) (tended_type profile turn))
+        (tended_type profile turn) requester.old requester.new }
 {
     let _ = requester.tend(tracker, type_of(profile, turn));
 }

@@ -1,7 +1,6 @@
 -- What is told of a node's step or arrival is what its action sent and took at its line.
 use Rattle.std.proofs.Common.{◌≡◌, ℕ, ◌&&◌, List, map, Bool, true, false, nat_lt, Option, Some, None, is_some, refl, ap, ◌∙◌, subst, if◌then◌else◌}
 use Rattle.std.proofs.lemmas.Grind.{get_or-set_at}
-use Rattle.std.specs.Option.{option_or}
 use Rattle.chi_flit.specs.declared.action.Action.{Action}
 use Rattle.chi_flit.specs.declared.action.Step.TheVariants as steps
 use Rattle.chi_flit.specs.declared.message.Request.{Request}
@@ -12,13 +11,14 @@ use Rattle.chi_flit.specs.declared.refusal.Refusal.TheVariants.{MustAccept, OutO
 use Rattle.chi_slice.specs.Words.{Serving, Sizes, cells_of, flit_of, flits_sent, no_flit_unless, retry_refusal}
 use Rattle.chi_slice.specs.Sendings.{message_taken}
 use Rattle.chi_slice.specs.Slice.{SliceKept, SliceState, action_refusal, is_line_in_range, line, opening_slice, slice_after}
-use Rattle.chi_slice.proofs.Passed.{neither}
-use Rattle.chi_slice.proofs.Refused.{on_terms_is}
+use Rattle.chi_slice.proofs.Refused.{on_terms_is, refused_is}
 use Rattle.chi_slice.proofs.Refusing.{allowed_alone}
 use Rattle.chi_node.specs.declared.answers.Arrived.{Arrived}
 use Rattle.chi_node.specs.declared.answers.Arrived.TheVariants.{Admitted, Retried}
 use Rattle.chi_node.specs.Arrives.{Arrives}
-use Rattle.chi_node.specs.Calls.{ArrivesAt, arrival_action, arrival_refusal, arrival_step, credit_refusal, is_slot_taken, refused_with, slot_terms, wanted_credit}
+use Rattle.chi_node.specs.Calls.{ArrivesAt, arrival_action, arrival_step}
+use Rattle.chi_node.specs.Outstanding.{arrival_refusal, outstanding_of, terms_of}
+use Rattle.chi_node.proofs.RowCalls.{admission}
 use Rattle.chi_node.specs.Home.{HomeState, index_of, node_line, slice_of, slices_after}
 use Rattle.chi_node.specs.Requester.{RequesterState}
 use Rattle.chi_node.specs.System.{IsSystem, SystemState, requester_of, system_step_refusal}
@@ -41,7 +41,7 @@ pub step_allowed : (y : SystemState) (action : Action) → system_step_refusal y
 step_allowed y action may =
     let s : SliceState = slice_of y.home action.line.0 in
     let r : RequesterState = requester_of y action.agent.0 in
-    allowed_alone (slot_terms (is_slot_taken r.slots action.step)) s action (on_terms_is (slot_terms (is_slot_taken r.slots action.step)) s action ∙ (neither (refused_with (is_slot_taken r.slots action.step) s action) (credit_refusal r (wanted_credit s action)) may).0)
+    allowed_alone (terms_of (outstanding_of r) action.step) s action (on_terms_is (terms_of (outstanding_of r) action.step) s action ∙ may)
 
 -- and of an arrival
 first_attempt : (b : Bool) (slot : ℕ) (ty : _) (r r' : RequesterState) → Arrives b slot (Retried ty) r r' → (if b then None else Some MustAccept) ≡ None
@@ -52,7 +52,7 @@ abbrev refusal_by : Bool → Bool → Option Request → Arrived → Option Refu
 refusal_by a b req (Admitted entry) = if a && (b && true) then no_flit_unless (is_some req) else Some OutOfRange
 refusal_by a b req (Retried ty) = if a && (b && true) then retry_refusal req else Some OutOfRange
 
-by_parts : (a b : Bool) (req : Option Request) (arrived : Arrived) (r r' : RequesterState) → option_or (if a && b then None else Some OutOfRange) (no_flit_unless (is_some req)) ≡ None → ArrivesAt req arrived r r' → refusal_by a b req arrived ≡ None
+by_parts : (a b : Bool) (req : Option Request) (arrived : Arrived) (r r' : RequesterState) → (if a && (b && true) then no_flit_unless (is_some req) else Some OutOfRange) ≡ None → ArrivesAt req arrived r r' → refusal_by a b req arrived ≡ None
 by_parts false b req arrived r r' may at = absurd (cc (may))
 by_parts true false req arrived r r' may at = absurd (cc (may))
 by_parts true true None arrived r r' may at = absurd at
@@ -60,8 +60,8 @@ by_parts true true (Some request) (Admitted entry) r r' may at = refl
 by_parts true true (Some request) (Retried ty) r r' may at = first_attempt request.allow_retry request.slot.0 ty r r' at
 
 pub arrival_allowed : (s : SliceState) (agent : Agent) (l : Line) (arrived : Arrived) (r r' : RequesterState) → arrival_refusal s agent.0 l.0 ≡ None → ArrivesAt (cells_of (line s l.0) agent.0).req arrived r r' → action_refusal s (arrival_action agent.0 l arrived) ≡ None
-arrival_allowed s agent l (Admitted entry) r r' may at = by_parts (nat_lt agent.0 s.config.agents) (is_line_in_range s l.0) (cells_of (line s l.0) agent.0).req (Admitted entry) r r' may at
-arrival_allowed s agent l (Retried ty) r r' may at = by_parts (nat_lt agent.0 s.config.agents) (is_line_in_range s l.0) (cells_of (line s l.0) agent.0).req (Retried ty) r r' may at
+arrival_allowed s agent l (Admitted entry) r r' may at = by_parts (nat_lt agent.0 s.config.agents) (is_line_in_range s l.0) (cells_of (line s l.0) agent.0).req (Admitted entry) r r' (refused_is s (admission agent.0 l.0) ∙ may) at
+arrival_allowed s agent l (Retried ty) r r' may at = by_parts (nat_lt agent.0 s.config.agents) (is_line_in_range s l.0) (cells_of (line s l.0) agent.0).req (Retried ty) r r' (refused_is s (admission agent.0 l.0) ∙ may) at
 
 -- an Admit and a Retry take the same flit
 pub arrival_told_is : (s : SliceState) (agent : Agent) (l : Line) (arrived : Arrived) (taken : ChiSent) → taken ≡ told_or (flit_of agent (message_taken (cells_of (line s l.0) agent.0) steps.Admit)) no_sent

@@ -16,7 +16,9 @@ use Rattle.chi_node.specs.declared.answers.Stepped.{Stepped}
 use Rattle.chi_node.specs.Calls.{is_own_step}
 use Rattle.chi_slice.specs.Audits.{IsAudited}
 use Rattle.chi_node.specs.Home.{node_flits_refusal, node_last, node_line, node_view_refusal}
-use Rattle.chi_node.specs.System.{SystemState, opening_system, agent_refusal, arrive_refusal, give_back_refusal_in, system_step_refusal, tend_refusal_in, ArrivesIn, GivesBackIn, Glances, SeesIn, StepsIn, TendsIn}
+use Rattle.chi_node.specs.Credits.{ForType, GivesBack, Sees, Tends}
+use Rattle.chi_node.specs.Outstanding.{see_refusal}
+use Rattle.chi_node.specs.System.{SystemState, opening_system, arrive_refusal, give_back_refusal_in, system_step_refusal, tend_refusal_in, ArrivesIn, DoesAlone, Glances, StepsIn}
 use Rattle.chi_node.specs.Releases.{Granted, Freed}
 use Rattle.chi_library.specs.declared.actions.ChiAction.{ChiAction}
 use Rattle.chi_library.specs.declared.actions.ChiEffect.{ChiEffect}
@@ -115,20 +117,20 @@ abbrev pub no_credits_told : ChiCredits
 no_credits_told = record { seen = 0 ∷ 0 ∷ 0 ∷ 0 ∷ [] }
 
 abbrev pub Looks : Agent → ChiCredits → SystemState → SystemState → Type 0
-Looks agent told y y' = SeesIn y y' agent told.seen
+Looks agent told y y' = DoesAlone y y' agent (Sees told.seen)
 
 abbrev pub LookCall : Agent → ChiCredits → SystemState → SystemState → Type 0
-LookCall agent told y y' = Called y y' (agent_refusal y agent.0) (Looks agent told y y') (told ≡ no_credits_told)
+LookCall agent told y y' = Called y y' (see_refusal y.home agent.0) (Looks agent told y y') (told ≡ no_credits_told)
 
 abbrev pub IsGiveBackTold : Agent → Option CreditType → ChiRelease → SystemState → SystemState → Type 0
-IsGiveBackTold agent ty told y y' = (released : Released) × (told ≡ release_told released) × GivesBackIn y y' agent ty released
+IsGiveBackTold agent ty told y y' = (released : Released) × (told ≡ release_told released) × DoesAlone y y' agent (ForType ty (λ t. GivesBack t released))
 
 abbrev pub ReturnCall : Agent → Option CreditType → ChiRelease → SystemState → SystemState → Type 0
 ReturnCall agent ty told y y' =
     Called y y' (give_back_refusal_in y agent.0 ty) (IsGiveBackTold agent ty told y y') (told ≡ no_release)
 
 abbrev pub IsTendTold : Agent → Option CreditType → ChiRelease → SystemState → SystemState → Type 0
-IsTendTold agent ty told y y' = (released : Option Released) × (told ≡ release_if released) × TendsIn y y' agent ty released
+IsTendTold agent ty told y y' = (released : Option Released) × (told ≡ release_if released) × DoesAlone y y' agent (ForType ty (λ t. Tends t released))
 
 abbrev pub TendCall : Agent → Option CreditType → ChiRelease → SystemState → SystemState → Type 0
 TendCall agent ty told y y' = Called y y' (tend_refusal_in y agent.0 ty) (IsTendTold agent ty told y y') (told ≡ no_release)

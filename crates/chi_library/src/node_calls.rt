@@ -11,7 +11,8 @@ ghost use Rattle.chi_library.specs.NodeCalls.{ArrivalCall, CalledOn, ReturnCall,
 ghost use Rattle.chi_library.specs.Sizes.{config_of};
 ghost use Rattle.chi_node.specs.Calls.{is_own_step};
 ghost use Rattle.chi_node.specs.Home.{node_flits_refusal, node_view_refusal};
-ghost use Rattle.chi_node.specs.System.{agent_refusal, arrive_refusal, give_back_refusal_in, tend_refusal_in};
+ghost use Rattle.chi_node.specs.Outstanding.{see_refusal};
+ghost use Rattle.chi_node.specs.System.{arrive_refusal, give_back_refusal_in, tend_refusal_in};
 
 use crate::actions::{ChiAction, ChiEffect, action_at, tell_effect};
 use crate::answers::{ALREADY_OPEN, CLOSED, DONE, NO_MEMORY, NOT_OPEN, OUT_OF_RANGE};
@@ -111,7 +112,7 @@ pub extern "C" fn chi_node_see(
     agent: u8,
     credits: &mut ChiCredits,
 ) -> u8
-    ensures answer { result ≡ answer_number node.old.value (λ y. agent_refusal y agent) }
+    ensures answer { result ≡ answer_number node.old.value (λ y. see_refusal y.home agent) }
     ensures call { CalledOn node.old.value node.new.value (LookCall (agent_at agent) credits.new) }
     ensures closed { node.old.value ≡ None → credits.new ≡ no_credits_told }
 {
@@ -450,7 +451,7 @@ fn step(
 /// An agent looks at its promises.
 fn see(node: &mut System<Global>, agent: Agent, credits: &mut ChiCredits) -> u8
     requires { credits.old ≡ no_credits_told }
-    ensures answer { result ≡ number_if (agent_refusal node.old agent.0) }
+    ensures answer { result ≡ number_if (see_refusal node.old.home agent.0) }
     ensures call { LookCall agent credits.new node.old node.new }
 {
     match node.see(agent) {

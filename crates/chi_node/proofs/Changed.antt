@@ -22,7 +22,8 @@ use Rattle.chi_slice.specs.declared.agent_line.AgentRow.{AgentRow}
 use Rattle.chi_node.specs.declared.answers.Arrived.{Arrived}
 use Rattle.chi_node.specs.declared.answers.Stepped.{Stepped}
 use Rattle.chi_node.specs.Agree.{Agree, KeepsAgreement}
-use Rattle.chi_node.specs.Calls.{arrival_action, arrival_refusal, call_refusal, place_at, ArrivesAt, ArrivesOn, IsRowOf, IsSameRequester, IsSameSlice, StepsTo}
+use Rattle.chi_node.specs.Outstanding.{arrival_refusal, outstanding_of, step_refusal}
+use Rattle.chi_node.specs.Calls.{arrival_action, place_at, ArrivesAt, ArrivesOn, IsRowOf, IsSameRequester, IsSameSlice, StepsTo}
 use Rattle.chi_node.specs.AfterStep.{Finishes}
 use Rattle.chi_node.specs.Parts.{HasTypes}
 use Rattle.chi_node.specs.Requester.{RequesterState, no_requester, IsRunning}
@@ -89,7 +90,7 @@ still_system tracker y y' n l s s' r r' own call slice requester agreement runni
 abbrev Said : {T : Type 0} → Result T Refusal → (SliceState → RequesterState → Option Refusal) → (SliceState → RequesterState → T → Type 0) → SliceState → RequesterState → SliceState → RequesterState → Type 0
 Said result why Did s' r' s r = (refusal_of result ≡ why s r) × IfOk result (Did s r) × OnErr result ((s' ≡ s) × (r' ≡ r))
 
-abbrev Answered : {T : Type 0} → Result T Refusal → Option Refusal → (SystemState → T → Type 0) → SystemState → SystemState → Type 0
+abbrev pub Answered : {T : Type 0} → Result T Refusal → Option Refusal → (SystemState → T → Type 0) → SystemState → SystemState → Type 0
 Answered result why Did y y' = (refusal_of result ≡ why) × IfOk result (Did y') × OnErr result (y' ≡ y)
 
 stays_node : (y : SystemState) (n l : ℕ) → left_node y n l (slice_of y.home l) (requester_of y n) ≡ y
@@ -133,13 +134,13 @@ arrival_answered y y' agent l at s s' r r' result k call is there_said =
     })
 
 pub step_answered : (y y' : SystemState) (action own : Action) (s s' : SliceState) (r r' : RequesterState) (result : Result Stepped Refusal) → IsSystem y → Called y y' action.agent.0 action.line.0 s s' r r' → own ≡ action
-    → Said result (λ x q. call_refusal x q own) (λ x q stepped. StepsTo x s' own q r' stepped) s' r' s r → Answered result (system_step_refusal y action) (λ z stepped. StepsIn y z action stepped) y y'
+    → Said result (λ x q. step_refusal x (outstanding_of q) own) (λ x q stepped. StepsTo x s' own q r' stepped) s' r' s r → Answered result (system_step_refusal y action) (λ z stepped. StepsIn y z action stepped) y y'
 step_answered y y' action own s s' r r' result k call is own_said =
-    let said = subst (λ (z : Action). Said result (λ x q. call_refusal x q z) (λ x q stepped. StepsTo x s' z q r' stepped) s' r' s r) is own_said in
+    let said = subst (λ (z : Action). Said result (λ x q. step_refusal x (outstanding_of q) z) (λ x q stepped. StepsTo x s' z q r' stepped) s' r' s r) is own_said in
     let n = action.agent.0 in
     let l = action.line.0 in
     let there = left_there y n r' k call.near in
-    answered result y y' n l s s' r r' (λ x q. call_refusal x q action) (system_step_refusal y action) (λ x q stepped. StepsTo x s' action q r' stepped) (λ z stepped. StepsIn y z action stepped) call said
+    answered result y y' n l s s' r r' (λ x q. step_refusal x (outstanding_of q) action) (system_step_refusal y action) (λ x q stepped. StepsTo x s' action q r' stepped) (λ z stepped. StepsIn y z action stepped) call said
     refl (λ stepped (done : StepsTo (slice_of y.home l) s' action (requester_of y n) r' stepped). record {
       protocol = subst (SliceStep (slice_of y.home l) action stepped.effect) (slice_there y l s' k) done.protocol;
       home = ap (λ (x : SliceState). with_slice y.home l x) done.slice;

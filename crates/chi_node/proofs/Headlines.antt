@@ -1,14 +1,12 @@
 -- The headline of a node, from what its slices keep, its ports know and its calls do.
-use Rattle.std.proofs.Common.{◌≡◌, ◌≢◌, inl, inr, ℕ, zero, suc, ◌<◌, ◌==◌, ◌%◌, ◌&&◌, Bool, true, false, All, Option, Some, None, List, [], ◌∷◌, length, is_some, nat_lt, if◌then◌else◌, refl, sym, ◌∙◌, ap, subst, arith}
+use Rattle.std.proofs.Common.{◌≡◌, ◌≢◌, inl, inr, ℕ, zero, suc, ◌<◌, ◌==◌, ◌%◌, ◌&&◌, Bool, true, false, All, Option, Some, List, [], ◌∷◌, length, is_some, nat_lt, refl, sym, ◌∙◌, ap, subst, arith}
 use Rattle.std.proofs.lemmas.Bool.Decides.{nat_tests}
-use Rattle.std.specs.Option.{option_or}
 use Rattle.std.specs.List.{slice_index_or}
 use Rattle.std.proofs.lemmas.List.{length-map}
 use Rattle.chi_flit.specs.declared.message.Request.{Request}
 use Rattle.chi_flit.specs.declared.numbers.Agent.{Agent}
 use Rattle.chi_flit.specs.declared.numbers.Entry.{Entry}
 use Rattle.chi_flit.specs.declared.numbers.Line.{Line}
-use Rattle.chi_flit.specs.declared.refusal.Refusal.TheVariants.{OutOfRange}
 use Rattle.chi_slice.specs.Words.{cells_of, no_flit_unless, standing_of, Coherent, Sizes}
 use Rattle.chi_slice.specs.Coherence.{IsCoherentSlice}
 use Rattle.chi_slice.specs.Slice.{are_in_range, is_line_in_range, opening_slice}
@@ -29,6 +27,7 @@ use Rattle.chi_node.specs.declared.answers.Arrived.TheVariants.{Admitted, Retrie
 use Rattle.chi_node.specs.Arrives.{Arrives}
 use Rattle.chi_node.specs.Calls.{ArrivesAt}
 use Rattle.chi_node.specs.Headline.{Headline, IsAdmitted, views_in}
+use Rattle.chi_node.proofs.RowCalls.{flit_wanted}
 use Rattle.chi_node.specs.Home.{HomeState, IsHome, index_of, node_last, node_line, slice_of}
 use Rattle.chi_node.specs.Requester.{no_requester, RequesterState}
 use Rattle.chi_node.specs.System.{IsSystem, SystemState, requester_of}
@@ -107,7 +106,7 @@ resent_entry s false (Retried ty) r r' is a = absurd a
 
 admitted : (y : SystemState) (agent : Agent) (l : Line) (request : Request) → IsSystem y → agent.0 < y.home.config.agents → l.0 < y.home.config.lines → (cells_of (node_line y.home l.0) agent.0).req ≡ Some request → request.allow_retry ≡ false → IsAdmitted y agent l
 admitted y agent l request k near low there resent = record {
-  allowed = ap (λ (b : Bool). option_or (if b then None else Some OutOfRange) (no_flit_unless (is_some (cells_of (node_line y.home l.0) agent.0).req))) (both_there y.home agent.0 l.0 k.home near low)
+  allowed = flit_wanted (slice_of y.home l.0) agent.0 l.0 (both_there y.home agent.0 l.0 k.home near low)
       ∙ ap (λ (o : Option Request). no_flit_unless (is_some o)) there;
   entry = λ y' arrived done. resent_entry request.slot.0 request.allow_retry arrived (requester_of y agent.0) (requester_of y' agent.0) resent
       (subst (λ (o : Option Request). ArrivesAt o arrived (requester_of y agent.0) (requester_of y' agent.0)) there done.requester);

@@ -1,14 +1,16 @@
 -- What a requester keeps, when its port and its slots change.
-use Rattle.std.proofs.Common.{◌≡◌, ℕ, zero, suc, ◌+◌, ◌<◌, ◌≤◌, List, length, slice_set, sym, ap, ◌∙◌, subst, arith}
+use Rattle.std.proofs.Common.{◌≡◌, ℕ, zero, suc, ◌+◌, ◌<◌, ◌≤◌, nat_lt, true, List, length, slice_set, refl, sym, ap, ◌∙◌, subst, arith}
 use Rattle.std.proofs.Math.ListN.{length-set}
-use Rattle.std.specs.Prelude.{slice_index}
+use Rattle.std.specs.Prelude.{◌↔◌, Bool, IsTrue, slice_index}
 use Rattle.std.specs.Int.{bit_at}
+use Rattle.std.proofs.lemmas.Bool.{ltb-true}
 use Rattle.std.proofs.lemmas.Nat.Bits.{bit_at-lt}
 use Rattle.std.proofs.lemmas.List.Sums.{count_by-le-length}
 use mathlib.Core.Logic.{dite}
 use native.Mathlib.Decide.{ℕ_discrete, dec_le}
 use Rattle.chi_flit.specs.declared.numbers.Entry.{Entry}
 use Rattle.chi_flit.specs.declared.credit.CreditType.{CreditType}
+use Rattle.chi_flit.specs.declared.credit.CreditType.TheVariants.{T0, T1, T2, T3}
 use Rattle.chi_flit.specs.Credit.{credit_number}
 use Rattle.chi_tracker.specs.declared.shape.Shape.{Shape}
 use Rattle.chi_tracker.specs.Sums.{below, set_at, one_more, with_bit, without_bit}
@@ -23,6 +25,7 @@ use Rattle.chi_credit.specs.declared.slot.SlotRecord.{SlotRecord}
 use Rattle.chi_credit.specs.declared.slot.SlotState.{SlotState}
 use Rattle.chi_credit.specs.declared.slot.SlotState.TheVariants.{Admitted}
 use Rattle.chi_credit.specs.Account.{riding_of, due_of, holders_of, FallsAt, GrowsAt, IsSameSlot, HasDue, HasEntries, IsWithinSeen}
+use Rattle.chi_node.specs.Outstanding.{seen_counts}
 use Rattle.chi_node.specs.Requester.{RequesterState, RequesterKept}
 
 -- sums of terms that only grow
@@ -131,11 +134,16 @@ still_entries a b p q same hand keeps = record { entries = λ e. let h : has e q
 pub still_eight : (a b : List SlotRecord) (s : ℕ) (x : SlotRecord) → b ≡ slice_set a s x → length a ≡ 8 → length b ≡ 8
 still_eight a b s x is eight = ap length is ∙ length-set a s x ∙ eight
 
--- one more slot rides, on a credit beyond those of the others
-pub ridden_within : (a b : List SlotRecord) (p : PortView) (t : ℕ) → GrowsAt t (riding_of a) (riding_of b) → riding_of a t < seen_of p t → IsWithinSeen a p → IsWithinSeen b p
-ridden_within a b p t grows free keeps = record {
-  within = λ u l. dite (ℕ_discrete u t)
-      (λ e. let more : riding_of b u ≡ riding_of a u + 1 = subst (λ (k : ℕ). riding_of b k ≡ riding_of a k + 1) (sym e) grows.more in
-      let left : riding_of a u < seen_of p u = subst (λ (k : ℕ). riding_of a k < seen_of p k) (sym e) free in omega arith)
-      (λ d. omega (arith, grows.others u d, keeps.within u l));
-}
+-- one number of the seen credits
+pub count_at : (p : PortView) (ty : CreditType) → slice_index (seen_counts p) (credit_number ty) ≡ seen_of p (credit_number ty)
+count_at p T0 = refl
+count_at p T1 = refl
+count_at p T2 = refl
+count_at p T3 = refl
+
+-- a spare credit, by the port's numbers
+pub spare_is : (slots : List SlotRecord) (p : PortView) (ty : CreditType) (b : Bool) (n : ℕ) → n ≡ seen_of p (credit_number ty) → IsTrue b ↔ (riding_of slots (credit_number ty) < n) → b ≡ nat_lt (riding_of slots (credit_number ty)) (slice_index (seen_counts p) (credit_number ty))
+spare_is slots p ty b n is found = grind (arith, found, is, count_at p ty)
+
+pub spare_seen : (slots : List SlotRecord) (p : PortView) (ty : CreditType) → nat_lt (riding_of slots (credit_number ty)) (slice_index (seen_counts p) (credit_number ty)) ≡ true → riding_of slots (credit_number ty) < seen_of p (credit_number ty)
+spare_seen slots p ty spare = subst (λ n. riding_of slots (credit_number ty) < n) (count_at p ty) (ltb-true (riding_of slots (credit_number ty)) (slice_index (seen_counts p) (credit_number ty)) spare)

@@ -6,7 +6,6 @@ pub mod AgreeRows
 pub mod Records
 pub mod Agreement
 pub mod Stepping
-pub mod Refusing
 pub mod StepCalls
 pub mod CallArrivals
 pub mod RowCalls

@@ -1,5 +1,5 @@
 -- A step that isn't refused, of a requester that agrees: what it asks of the account is met.
-use Rattle.std.proofs.Common.{◌≡◌, ℕ, ◌<◌, ◌==◌, ◌&&◌, ◌||◌, Bool, true, false, not, nat_lt, Option, Some, None, refl, sym, ap, ◌∙◌, subst, subst₂, if◌then◌else◌, arith}
+use Rattle.std.proofs.Common.{◌≡◌, ℕ, ◌<◌, ◌==◌, ◌&&◌, ◌||◌, Bool, true, false, not, nat_lt, Option, Some, None, refl, sym, ap, ◌∙◌, subst, subst₂, if◌then◌else◌}
 use Rattle.std.proofs.lemmas.Bool.{ltb-true}
 use Rattle.chi_flit.specs.declared.numbers.Agent.{Agent}
 use Rattle.chi_flit.specs.declared.numbers.Line.{Line}
@@ -12,9 +12,8 @@ use Rattle.chi_flit.specs.declared.credit.CreditType.{CreditType}
 use Rattle.chi_flit.specs.declared.credit.CreditType.TheVariants as types
 use Rattle.chi_flit.specs.declared.kind.Kind.{Kind}
 use Rattle.chi_flit.specs.declared.credit.Profile.{Profile}
-use Rattle.chi_flit.specs.declared.refusal.Refusal.TheVariants.{OutOfRange}
+use Rattle.chi_flit.specs.declared.refusal.Refusal.TheVariants.{NoCredit, OutOfRange}
 use Rattle.chi_flit.specs.Credit.{credit_number, credit_type_of}
-use Rattle.chi_tracker.specs.Calls.{seen_of}
 use Rattle.chi_tracker.specs.declared.released.Released.{Released}
 use Rattle.chi_slice.specs.Words.{cells_of, effect_of, has_type, is_comp, is_of_type, line_refusal, marked_credit_refusal as line_credit_refusal, pending_credit, pending_kind_of}
 use Rattle.chi_slice.specs.Words.{pending_slot, resend_refusal, rn_of, Pending}
@@ -29,12 +28,12 @@ use Rattle.chi_slice.proofs.SliceMoves.{slice_moves}
 use Rattle.chi_credit.specs.declared.slot.SlotState.{SlotState}
 use Rattle.chi_credit.specs.declared.slot.SlotState.TheVariants as states
 use Rattle.chi_credit.specs.Slot.{in_state, is_idle_state}
-use Rattle.chi_credit.specs.Account.{riding_of, slot_record_at, state_at, type_at}
+use Rattle.chi_credit.specs.Account.{slot_record_at, state_at, type_at}
 use Rattle.chi_node.specs.Requester.{RequesterKept, RequesterState}
 use Rattle.chi_node.specs.Agree.{Agree, MatchesRecord, KeepsAgreement}
 use Rattle.chi_node.specs.Calls.{BothKept, CountsStep, is_own_step, place_at}
 use Rattle.chi_slice.specs.declared.terms.Terms.{Terms}
-use Rattle.chi_node.specs.Terms.{is_taken, spare_credits, terms_of}
+use Rattle.chi_node.specs.Outstanding.{has_spare, is_taken, outstanding_of, terms_of}
 use Rattle.chi_node.specs.declared.steps.StepSubject.{StepSubject}
 use Rattle.chi_node.specs.AfterStep.{CanFinish, CanResend, Finishes}
 use Rattle.chi_node.proofs.Matches.{index_low, itself, same_number}
@@ -64,21 +63,21 @@ pub record CanStep (s : SliceState) (r : RequesterState) (action : Action) : Typ
   pub agrees : Agree s r
   pub own : action.agent.0 ≡ r.number
   pub mine : is_own_step action.step ≡ true
-  pub may : refused_under (terms_of r action.step) s action ≡ None
+  pub may : refused_under (terms_of (outstanding_of r) action.step) s action ≡ None
 
-pub can_step : (s : SliceState) (r : RequesterState) (action : Action) (terms : Terms) → BothKept s r → Agree s r → action.agent.0 ≡ r.number → is_own_step action.step ≡ true → terms ≡ terms_of r action.step → None ≡ refused_under terms s action → CanStep s r action
+pub can_step : (s : SliceState) (r : RequesterState) (action : Action) (terms : Terms) → BothKept s r → Agree s r → action.agent.0 ≡ r.number → is_own_step action.step ≡ true → terms ≡ terms_of (outstanding_of r) action.step → None ≡ refused_under terms s action → CanStep s r action
 can_step s r action terms both agrees own mine is may = record { both = both; agrees = agrees; own = own; mine = mine; may = ap (λ (t : Terms). refused_under t s action) (sym is) ∙ sym may }
 
 pub ready_of : (s : SliceState) (agent : Agent) (l : Line) (step : Step) (r : RequesterState) → CanStep s r (action_of agent l step) → Ready s agent l step r
-ready_of s agent l step r can = ready_by s agent l step r can.own can.both.slice can.both.slots (allowed_alone (terms_of r step) s (action_of agent l step) can.may) can.agrees can.both.requester
+ready_of s agent l step r can = ready_by s agent l step r can.own can.both.slice can.both.slots (allowed_alone (terms_of (outstanding_of r) step) s (action_of agent l step) can.may) can.agrees can.both.requester
 
 -- its line doesn't refuse it
 inside : (s : SliceState) (r : RequesterState) (action : Action) → CanStep s r action → is_in_range s action ≡ true
-inside s r action can = (allowed s action (allowed_alone (terms_of r action.step) s action can.may)).inside
+inside s r action can = (allowed s action (allowed_alone (terms_of (outstanding_of r) action.step) s action can.may)).inside
 
-by_line : (s : SliceState) (r : RequesterState) (action : Action) → CanStep s r action → line_refusal (conditions_under (terms_of r action.step) s action) (line s action.line.0) action ≡ None
+by_line : (s : SliceState) (r : RequesterState) (action : Action) → CanStep s r action → line_refusal (conditions_under (terms_of (outstanding_of r) action.step) s action) (line s action.line.0) action ≡ None
 by_line s r action can =
-    sym (ap (λ (b : Bool). if b then line_refusal (conditions_under (terms_of r action.step) s action) (line s action.line.0) action else Some OutOfRange) (inside s r action can)) ∙ can.may
+    sym (ap (λ (b : Bool). if b then line_refusal (conditions_under (terms_of (outstanding_of r) action.step) s action) (line s action.line.0) action else Some OutOfRange) (inside s r action can)) ∙ can.may
 
 -- an Issue's slot is Idle
 idle_of : (low used : Bool) (state : SlotState) → low ≡ true → (low && not (is_idle_state state) || used) ≡ false → state ≡ states.Idle
@@ -86,28 +85,32 @@ idle_of true used states.Idle is free = refl
 idle_of true used other is free = absurd (cc (free))
 idle_of false used state is free = absurd (cc (is))
 
--- a Resend has a seen credit of its type
-spare : (r : RequesterState) (ty : CreditType) → line_credit_refusal (spare_credits r) (Some ty) ≡ None → riding_of r.slots (credit_number ty) < seen_of r.port (credit_number ty)
-spare r types.T0 h = grind (arith, h)
-spare r types.T1 h = grind (arith, h)
-spare r types.T2 h = grind (arith, h)
-spare r types.T3 h = grind (arith, h)
+-- a Resend has a spare credit of its type
+pub given : (b : Bool) → (if b then None else Some NoCredit) ≡ None → b ≡ true
+given true h = refl
+given false h = absurd (cc (h))
+
+spare : (r : RequesterState) (ty : CreditType) → line_credit_refusal (terms_of (outstanding_of r) steps.Resend).credits (Some ty) ≡ None → has_spare (outstanding_of r) (credit_number ty) ≡ true
+spare r types.T0 h = given (has_spare (outstanding_of r) 0) h
+spare r types.T1 h = given (has_spare (outstanding_of r) 1) h
+spare r types.T2 h = given (has_spare (outstanding_of r) 2) h
+spare r types.T3 h = given (has_spare (outstanding_of r) 3) h
 
 free_credit : (r : RequesterState) (profile : Profile) (pending : Option Pending) (slot : Slot) (ty : CreditType) → pending_slot pending ≡ Some slot → has_type profile ty (pending_kind_of pending slot) ≡ true
-    → line_credit_refusal (spare_credits r) (pending_credit profile pending) ≡ None → riding_of r.slots (credit_number ty) < seen_of r.port (credit_number ty)
+    → line_credit_refusal (terms_of (outstanding_of r) steps.Resend).credits (pending_credit profile pending) ≡ None → has_spare (outstanding_of r) (credit_number ty) ≡ true
 free_credit r profile None slot ty is typed free = absurd (cc (is))
 free_credit r profile (Some request) slot ty is typed free =
     let same : request.slot ≡ slot = cc (is) in
     let here : (request.slot.0 == slot.0) ≡ true = subst (λ (z : Slot). (request.slot.0 == z.0) ≡ true) same (itself request.slot.0) in
     let kind : has_type profile ty (Some request.kind) ≡ true = subst (λ (b : Bool). has_type profile ty (if b then Some request.kind else None) ≡ true) here typed in
-    subst (λ (t : ℕ). riding_of r.slots t < seen_of r.port t) (same_number (credit_number (credit_type_of profile request.kind)) (credit_number ty) kind) (spare r (credit_type_of profile request.kind) free)
+    subst (λ (t : ℕ). has_spare (outstanding_of r) t ≡ true) (same_number (credit_number (credit_type_of profile request.kind)) (credit_number ty) kind) (spare r (credit_type_of profile request.kind) free)
 
 has_credit : (s : SliceState) (r : RequesterState) (agent : Agent) (l : Line) (slot : Slot) → CanStep s r (action_of agent l steps.Resend) → pending_slot (rn_of (line s l.0) agent.0).pending ≡ Some slot
-    → is_of_type s.config.profile (slot_record_at r.slots slot.0).credit (line s l.0) agent.0 slot ≡ true → riding_of r.slots (type_at r.slots slot.0) < seen_of r.port (type_at r.slots slot.0)
+    → is_of_type s.config.profile (slot_record_at r.slots slot.0).credit (line s l.0) agent.0 slot ≡ true → has_spare (outstanding_of r) (type_at r.slots slot.0) ≡ true
 has_credit s r agent l slot can is typed =
     let rn = rn_of (line s l.0) agent.0 in
     free_credit r s.config.profile rn.pending slot (slot_record_at r.slots slot.0).credit is (both (has_type s.config.profile (slot_record_at r.slots slot.0).credit (pending_kind_of rn.pending slot)) _ typed).0
-    (neither (resend_refusal rn) (line_credit_refusal (spare_credits r) (pending_credit s.config.profile rn.pending)) (by_line s r (action_of agent l steps.Resend) can)).1
+    (neither (resend_refusal rn) (line_credit_refusal (terms_of (outstanding_of r) steps.Resend).credits (pending_credit s.config.profile rn.pending)) (by_line s r (action_of agent l steps.Resend) can)).1
 
 idle_slot : (s : SliceState) (r : RequesterState) (agent : Agent) (l : Line) (kind : Kind) (slot : Slot) → CanStep s r (action_of agent l (steps.Issue kind slot)) → (slot.0 < 8) × (state_at r.slots slot.0 ≡ states.Idle)
 idle_slot s r agent l kind slot can =
@@ -173,7 +176,7 @@ pub step_kept : (s s' : SliceState) (r r' : RequesterState) (action : Action) (a
     → Finishes at action.step effect released r r' → StepKept s s' action r r'
 step_kept s s' r r' action at effect released can is after place finishes =
     let ready = ready_of s action.agent action.line action.step r can in
-    let legal = (kept_acted s action can.both.slice (allowed s action (allowed_alone (terms_of r action.step) s action can.may))).legal in
+    let legal = (kept_acted s action can.both.slice (allowed s action (allowed_alone (terms_of (outstanding_of r) action.step) s action can.may))).legal in
     let follows = (fine s action.agent action.line action.step r can).after released r' (subst₂ (λ (p : StepSubject) (e : Effect). Finishes p action.step e released r r') place is finishes) in
     subst (λ (z : SliceState). StepKept s z action r r') (sym after) (record {
       agreement = keeps s action.agent action.line action.step r r' can.both.slice ready.low ready.here ready.moves can.own follows;

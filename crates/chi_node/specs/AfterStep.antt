@@ -19,7 +19,8 @@ use Rattle.chi_credit.specs.Slot.{after_answer, after_finish, can_be_answered, i
 use Rattle.chi_credit.specs.Account.{slot_record_at, state_at, type_at}
 use Rattle.chi_slice.specs.Words.{counted}
 use Rattle.chi_node.specs.declared.steps.StepSubject.{StepSubject}
-use Rattle.chi_node.specs.Requester.{Acted, HasSpare, RequesterState, with_both}
+use Rattle.chi_node.specs.Requester.{Acted, RequesterState, with_both}
+use Rattle.chi_node.specs.Outstanding.{has_spare, outstanding_of}
 
 -- the record of a slot changes, if there is one
 abbrev pub changed_at : Option Slot → (SlotRecord → SlotRecord) → List SlotRecord → List SlotRecord
@@ -54,7 +55,7 @@ SlotMeets (Some slot) condition = (slot.0 < 8) × condition slot.0
 
 -- when the request of slot s can be sent again: on a spare credit
 abbrev pub CanResend : RequesterState → ℕ → Type 0
-CanResend r s = (state_at r.slots s ≡ Retried) × HasSpare r (type_at r.slots s)
+CanResend r s = (state_at r.slots s ≡ Retried) × (has_spare (outstanding_of r) (type_at r.slots s) ≡ true)
 
 -- when a step can be followed: its slot is in the state that the step needs
 abbrev pub CanFollow : StepSubject → Step → RequesterState → Type 0

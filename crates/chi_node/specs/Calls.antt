@@ -1,33 +1,25 @@
 -- The calls for a whole requester on a slice: when they are refused, and what they leave (docs/PROTOCOL.md,
 -- "A requester and its calls").
-use Rattle.std.specs.Prelude.{◌≡◌, ◌≢◌, ◌++◌, ◌∷◌, [], slice_index, ◌≤◌, ℕ, ◌⊎◌, Bool, false, Result, IfOk, OnErr, OnOk}
-use Rattle.std.specs.Option.{option_or}
-use Rattle.std.specs.Prelude.{List, Option, Some, None, true, length, replicate, is_some, if◌then◌else◌}
+use Rattle.std.specs.Prelude.{◌≡◌, ◌≢◌, ◌++◌, ◌∷◌, [], slice_index, ◌≤◌, ℕ, ◌⊎◌, Bool, false, true, Option, Some, None, length, Result, IfOk, OnErr, OnOk}
 use Rattle.chi_flit.specs.declared.action.Action.{Action}
 use Rattle.chi_flit.specs.declared.action.Step.{Step}
 use Rattle.chi_flit.specs.declared.action.Step.TheVariants as steps
 use Rattle.chi_flit.specs.declared.action.Effect.TheVariants.{Nothing}
-use Rattle.chi_flit.specs.declared.credit.CreditType.{CreditType}
-use Rattle.chi_flit.specs.declared.credit.Profile.{Profile}
 use Rattle.chi_flit.specs.declared.message.Request.{Request}
 use Rattle.chi_flit.specs.declared.numbers.Line.{Line}
 use Rattle.chi_flit.specs.declared.refusal.Refusal.{Refusal}
-use Rattle.chi_flit.specs.declared.refusal.Refusal.TheVariants.{NoCredit, NotOpen}
-use Rattle.chi_flit.specs.Credit.{credit_number}
-use Rattle.chi_slice.specs.Words.{cells_of, counted, effect_of, keeps_records, no_flit_unless, part_count, part_of, pending_credit, record_of, rn_of, IsLegalLog, Pending, Record}
-use Rattle.chi_slice.specs.Protocol.{SliceStep, refused_on_terms}
-use Rattle.chi_slice.specs.Slice.{CanAct, IsRow, SliceKept, SliceState, slice_after, are_in_range, flits_refusal, line, moved_by}
+use Rattle.chi_flit.specs.declared.refusal.Refusal.TheVariants.{NotOpen}
+use Rattle.chi_slice.specs.Words.{cells_of, counted, effect_of, keeps_records, part_count, part_of, record_of, IsLegalLog, Record}
+use Rattle.chi_slice.specs.Protocol.{SliceStep}
+use Rattle.chi_slice.specs.Slice.{CanAct, IsRow, SliceKept, SliceState, slice_after, are_in_range, line, moved_by}
 use Rattle.chi_slice.specs.declared.agent_line.AgentRow.{AgentRow}
-use Rattle.chi_slice.specs.declared.terms.Terms.{Terms}
 use Rattle.chi_slice.specs.Index.{SlotsInRange}
-use Rattle.chi_credit.specs.declared.slot.SlotRecord.{SlotRecord}
 use Rattle.chi_node.specs.declared.answers.Arrived.{Arrived}
 use Rattle.chi_node.specs.declared.answers.Arrived.TheVariants.{Admitted, Retried}
 use Rattle.chi_node.specs.declared.answers.Stepped.{Stepped}
 use Rattle.chi_node.specs.declared.steps.StepSubject.{StepSubject}
-use Rattle.chi_node.specs.Requester.{has_spare, IsRunning, RequesterKept, RequesterState}
-use Rattle.chi_node.specs.Terms.{is_taken}
-use Rattle.chi_node.specs.Agree.{Agree, KeepsAgreement}
+use Rattle.chi_node.specs.Requester.{IsRunning, RequesterKept, RequesterState}
+use Rattle.chi_node.specs.Agree.{KeepsAgreement}
 use Rattle.chi_node.specs.Arrives.{Arrives}
 use Rattle.chi_node.specs.AfterStep.{Finishes}
 
@@ -35,14 +27,6 @@ use Rattle.chi_node.specs.AfterStep.{Finishes}
 abbrev pub OrNotOpen : Option Refusal → Type 0 → Option Refusal → Type 0
 OrNotOpen (Some refusal) Agrees answer = answer ≡ Some refusal
 OrNotOpen None Agrees answer = (Agrees × (answer ≡ None)) ⊎ ((Agrees → ⊥) × (answer ≡ Some NotOpen))
-
--- why nothing of agent n arrives at a line: 10, then 7
-abbrev pub arrival_refusal : SliceState → ℕ → ℕ → Option Refusal
-arrival_refusal s n l = option_or (flits_refusal s n l) (no_flit_unless (is_some (cells_of (line s l) n).req))
-
--- why nothing arrives where it is also asked whether the requester agrees
-abbrev pub IsArrivalRefusal : SliceState → RequesterState → ℕ → Option Refusal → Type 0
-IsArrivalRefusal s r l answer = OrNotOpen (arrival_refusal s r.number l) (Agree s r) answer
 
 -- what the slice does where a request arrives
 abbrev pub arrival_step : Arrived → Step
@@ -67,39 +51,6 @@ pub record StepsTo (s s' : SliceState) (action : Action) (r r' : RequesterState)
   pub slice : s' ≡ slice_after s action
   pub effect : stepped.effect ≡ effect_of (line s action.line.0) action
   pub requester : Finishes (place_at s action) action.step stepped.effect stepped.released r r'
-
--- whether an Issue's slot is taken in the account
-abbrev pub is_slot_taken : List SlotRecord → Step → Bool
-is_slot_taken slots (steps.Issue kind slot) = is_taken slots slot
-is_slot_taken slots other = false
-
--- the credit type that a step wants a seen credit of: a Resend that of the pending request's kind
-abbrev pub step_credit : Profile → Option Pending → Step → Option CreditType
-step_credit profile pending steps.Resend = pending_credit profile pending
-step_credit profile pending other = None
-
-abbrev pub wanted_credit : SliceState → Action → Option CreditType
-wanted_credit s action = step_credit s.config.profile (rn_of (line s action.line.0) action.agent.0).pending action.step
-
--- 12: there is no spare credit of the type
-abbrev pub credit_refusal : RequesterState → Option CreditType → Option Refusal
-credit_refusal r None = None
-credit_refusal r (Some ty) = if has_spare r (credit_number ty) then None else Some NoCredit
-
--- the terms of a requester whose slot for an Issue is taken, or isn't, and that is asked for its credit apart
-abbrev pub slot_terms : Bool → Terms
-slot_terms taken = record { slot_taken = taken; credits = replicate 4 true }
-
-abbrev pub refused_with : Bool → SliceState → Action → Option Refusal
-refused_with taken s action = refused_on_terms (slot_terms taken) s action
-
--- why a step isn't done, before it is asked whether the requester agrees: the action's numbers, then 12
-abbrev pub call_refusal : SliceState → RequesterState → Action → Option Refusal
-call_refusal s r action = option_or (refused_with (is_slot_taken r.slots action.step) s action) (credit_refusal r (wanted_credit s action))
-
--- and why where it is asked
-abbrev pub IsStepRefusal : SliceState → RequesterState → Action → Option Refusal → Type 0
-IsStepRefusal s r action answer = OrNotOpen (call_refusal s r action) (Agree s r) answer
 
 -- a step is any but those of an arrival
 abbrev pub is_own_step : Step → Bool

@@ -4,13 +4,12 @@ pub mod AfterStep
 pub mod Arrives
 pub mod Agree
 pub mod Table
-pub mod Terms
+pub mod Outstanding
 pub mod Calls
 pub mod Credits
 pub mod Home
 pub mod System
 pub mod Headline
-pub mod Locked
 pub mod Node
 pub mod Words
 pub mod SlotStates

@@ -30,9 +30,17 @@ IsLockRefusal n l (Some OutOfRange) = nat_lt l n.config.lines ≡ false
 IsLockRefusal n l (Some NotOpen) = (nat_lt l n.config.lines ≡ true) × FoundAnother n.config l
 IsLockRefusal n l other = ⊥
 
+-- What a call under a lock did. Which state the slice had is known while the lock is held, and to no clause after it:
+-- so there was some state of the line's slice in which this was done.
+pub record OnSlice (sizes : Sizes) (l : ℕ) (Done : SliceState → SliceState → Type 0) : Type 0 where
+  pub before : SliceState
+  pub after : SliceState
+  pub own : IsSliceOf sizes l before
+  pub done : Done before after
+
 -- a call under the lock of a line's slice: the lock was refused and the requester stays, or this was done
-abbrev pub UnderLock : NodeState → ℕ → RequesterState → RequesterState → Option Refusal → Type 0 → Type 0
-UnderLock n l r r' answer Done = (IsLockRefusal n l answer × (r' ≡ r)) ⊎ Done
+abbrev pub UnderLock : NodeState → ℕ → RequesterState → RequesterState → Option Refusal → (SliceState → SliceState → Type 0) → Type 0
+UnderLock n l r r' answer Done = (IsLockRefusal n l answer × (r' ≡ r)) ⊎ OnSlice n.config l Done
 
 -- a requester whose port is one of the node's tracker
 pub record IsOwn (n : NodeState) (r : RequesterState) : Type 0 where

@@ -1,7 +1,6 @@
 -- A node on one thread: its slices and its requesters (docs/PROTOCOL.md, "A requester and its calls" and
 -- "Agreement").
-use Rattle.std.specs.Prelude.{◌≡◌, ℕ, ◌<◌, List, All, nat_lt, Option, Some, None, length, slice_set, if◌then◌else◌}
-use Rattle.std.specs.Option.{option_or}
+use Rattle.std.specs.Prelude.{◌≡◌, ℕ, ◌<◌, List, All, Option, length, slice_set}
 use Rattle.std.specs.List.{slice_index_or}
 use Rattle.atomic_table.specs.Seated.{TableId}
 use Rattle.chi_flit.specs.declared.action.Action.{Action}
@@ -9,8 +8,6 @@ use Rattle.chi_flit.specs.declared.credit.CreditType.{CreditType}
 use Rattle.chi_flit.specs.declared.numbers.Agent.{Agent}
 use Rattle.chi_flit.specs.declared.numbers.Line.{Line}
 use Rattle.chi_flit.specs.declared.refusal.Refusal.{Refusal}
-use Rattle.chi_flit.specs.declared.refusal.Refusal.TheVariants.{OutOfRange}
-use Rattle.chi_tracker.specs.declared.released.Released.{Released}
 use Rattle.chi_tracker.specs.declared.totals.Counts.{Counts}
 use Rattle.chi_tracker.specs.Calls.{TrackerState, shape_of}
 use Rattle.chi_tracker.specs.Totals.{IsGlance}
@@ -20,12 +17,12 @@ use Rattle.chi_slice.specs.Words.{cells_of, effect_of, Sizes}
 use Rattle.chi_node.specs.declared.answers.Arrived.{Arrived}
 use Rattle.chi_node.specs.declared.answers.Stepped.{Stepped}
 use Rattle.chi_node.specs.Agree.{AllAgree}
-use Rattle.chi_node.specs.Calls.{arrival_action, arrival_refusal, call_refusal, place_at, ArrivesAt}
+use Rattle.chi_node.specs.Calls.{arrival_action, place_at, ArrivesAt}
 use Rattle.chi_node.specs.AfterStep.{Finishes}
 use Rattle.chi_node.specs.Parts.{opening_requesters}
-use Rattle.chi_node.specs.Requester.{RequesterState, give_back_refusal, no_requester, tend_refusal, IsRunning}
+use Rattle.chi_node.specs.Requester.{RequesterState, no_requester, IsRunning}
+use Rattle.chi_node.specs.Outstanding.{Outstanding, arrival_refusal, give_back_refusal, outstanding_of, step_refusal, tend_refusal, typed_refusal}
 use Rattle.chi_node.specs.Home.{HomeState, IsHome, slices_after, node_line, opening_home, slice_of}
-use Rattle.chi_node.specs.Credits.{GivesBack, Sees, Tends, DidForType, typed_refusal}
 
 -- the slices of a node, and its requesters in rising order
 pub record SystemState : Type 0 where
@@ -39,24 +36,21 @@ requester_of y n = slice_index_or y.requesters n no_requester
 abbrev pub opening_system : Sizes → TableId → SystemState
 opening_system config table = record { home = opening_home config; requesters = opening_requesters table (shape_of config.entries config.agents) config.agents }
 
--- 10: the agent is none of the node's
-abbrev pub agent_refusal : SystemState → ℕ → Option Refusal
-agent_refusal y n = if nat_lt n y.home.config.agents then None else Some OutOfRange
+-- why an agent's calls are refused: by what is outstanding at its requester
+abbrev pub outstanding_at : SystemState → ℕ → Outstanding
+outstanding_at y n = outstanding_of (requester_of y n)
 
--- why nothing of an agent arrives at a line
 abbrev pub arrive_refusal : SystemState → ℕ → ℕ → Option Refusal
 arrive_refusal y n l = arrival_refusal (slice_of y.home l) n l
 
--- why an agent's step isn't done
 abbrev pub system_step_refusal : SystemState → Action → Option Refusal
-system_step_refusal y action = call_refusal (slice_of y.home action.line.0) (requester_of y action.agent.0) action
+system_step_refusal y action = step_refusal (slice_of y.home action.line.0) (outstanding_at y action.agent.0) action
 
--- why an agent can't give a credit back, and can't tend a type
 abbrev pub give_back_refusal_in : SystemState → ℕ → Option CreditType → Option Refusal
-give_back_refusal_in y n ty = option_or (agent_refusal y n) (typed_refusal (give_back_refusal (requester_of y n)) ty)
+give_back_refusal_in y n ty = typed_refusal y.home n (give_back_refusal (outstanding_at y n)) ty
 
 abbrev pub tend_refusal_in : SystemState → ℕ → Option CreditType → Option Refusal
-tend_refusal_in y n ty = option_or (agent_refusal y n) (typed_refusal (tend_refusal (requester_of y n)) ty)
+tend_refusal_in y n ty = typed_refusal y.home n (tend_refusal (outstanding_at y n)) ty
 
 -- all requesters but the agent's are as they were
 abbrev pub OthersStay : SystemState → SystemState → Agent → Type 0
@@ -78,20 +72,10 @@ pub record StepsIn (y y' : SystemState) (action : Action) (stepped : Stepped) : 
       (requester_of y action.agent.0) (requester_of y' action.agent.0)
   pub others : OthersStay y y' action.agent
 
--- an agent looked at its promises, gave a credit back, or tended a type: the slices stay
-pub record SeesIn (y y' : SystemState) (agent : Agent) (seen : List ℕ) : Type 0 where
+-- an agent's requester did a call of its own: the slices and the other requesters stay
+pub record DoesAlone (y y' : SystemState) (agent : Agent) (Did : RequesterState → RequesterState → Type 0) : Type 0 where
   pub home : y'.home ≡ y.home
-  pub requester : Sees seen (requester_of y agent.0) (requester_of y' agent.0)
-  pub others : OthersStay y y' agent
-
-pub record GivesBackIn (y y' : SystemState) (agent : Agent) (ty : Option CreditType) (released : Released) : Type 0 where
-  pub home : y'.home ≡ y.home
-  pub requester : DidForType ty (λ t. GivesBack t released (requester_of y agent.0) (requester_of y' agent.0))
-  pub others : OthersStay y y' agent
-
-pub record TendsIn (y y' : SystemState) (agent : Agent) (ty : Option CreditType) (released : Option Released) : Type 0 where
-  pub home : y'.home ≡ y.home
-  pub requester : DidForType ty (λ t. Tends t released (requester_of y agent.0) (requester_of y' agent.0))
+  pub requester : Did (requester_of y agent.0) (requester_of y' agent.0)
   pub others : OthersStay y y' agent
 
 -- what a node keeps: there are as many requesters as agents, each with its place as its number and with a

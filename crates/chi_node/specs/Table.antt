@@ -15,11 +15,9 @@ pub record ShowsByTable (profile : Profile) (z : LineState) (n : ℕ) (slot : Sl
   pub row : (found : Option Position) → (position_of_record x l ≡ found) ↔ IsFound z n slot found
   pub type : (at : Position) → IsAt z n slot at → is_of_type profile x.credit z n slot ≡ true
 
--- so does each line of a slice
-pub record MatchesByTable (s : SliceState) (n : ℕ) (slot : Slot) (x : SlotRecord) : Type 0 where
-  pub lines : (l : ℕ) → is_line_in_range s l ≡ true → ShowsByTable s.config.profile (line s l) n slot x l
-
--- so of each slot, and the count for the slice is how many loads and stores of the requester its journal counts
+-- so of each slot does each line of a slice, and the count for the slice is how many loads and stores of the requester
+-- its journal counts
 pub record AgreeByTable (s : SliceState) (r : RequesterState) : Type 0 where
-  pub slots : (slot : Slot) → slot.0 < 8 → MatchesByTable s r.number slot (slot_record_at r.slots slot.0)
+  pub slots : (slot : Slot) → slot.0 < 8 → (l : ℕ) → is_line_in_range s l ≡ true
+      → ShowsByTable s.config.profile (line s l) r.number slot (slot_record_at r.slots slot.0) l
   pub count : slice_index r.counts s.index ≡ part_count s.journal r.number

@@ -4,8 +4,8 @@ ghost use Rattle.std.specs.Prelude.{◌≡◌, true, IfOk};
 ghost use Rattle.chi_flit.specs.Refusal.{refusal_of};
 ghost use Rattle.chi_slice.specs.Slice.{action_in};
 ghost use Rattle.chi_node.specs.Agree.{Agree};
-ghost use Rattle.chi_node.specs.Calls.{arrival_refusal, arrival_step, call_refusal, is_own_step};
-ghost use Rattle.chi_node.specs.Calls.{BothKept, CanArriveOn, DoesArrival, DoesStep, IsArrivalRefusal, IsRowOf, IsStepRefusal};
+ghost use Rattle.chi_node.specs.Calls.{arrival_step, is_own_step, BothKept, CanArriveOn, DoesArrival, DoesStep, IsRowOf, OrNotOpen};
+ghost use Rattle.chi_node.specs.Outstanding.{arrival_refusal, outstanding_of, step_refusal};
 ghost use Rattle.chi_node.specs.Parts.{HasTypes};
 
 use crate::agree::agrees;
@@ -36,7 +36,8 @@ pub fn arrive_on<A: Allocator, B: Allocator>(
 ) -> Result<Arrived, Refusal>
     requires table { requester.old.table ≡ tracker.now.table }
     requires types { HasTypes slice.old.config requester.old.port.shape }
-    ensures refusal { IsArrivalRefusal slice.old requester.old line.0 (refusal_of result) }
+    ensures refusal { OrNotOpen (arrival_refusal slice.old requester.old.number line.0)
+        (Agree slice.old requester.old) (refusal_of result) }
     ensures call { DoesArrival slice.old slice.new line requester.old requester.new result }
 {
     let at = slice.row_for(requester.number(), line)?;
@@ -122,7 +123,8 @@ pub fn step_on<A: Allocator, B: Allocator>(
     requires table { requester.old.table ≡ tracker.now.table }
     requires agent { action.agent.0 ≡ requester.old.number }
     requires step { is_own_step action.step ≡ true }
-    ensures refusal { IsStepRefusal slice.old requester.old action (refusal_of result) }
+    ensures refusal { OrNotOpen (step_refusal slice.old (outstanding_of requester.old) action)
+        (Agree slice.old requester.old) (refusal_of result) }
     ensures call { DoesStep slice.old slice.new action requester.old requester.new result }
 {
     if agrees(slice, requester) {
@@ -152,7 +154,8 @@ pub fn step_agreed<A: Allocator, B: Allocator>(
     requires row { IsRowOf slice.old requester.old.number at }
     requires step { is_own_step step ≡ true }
     requires agrees { Agree slice.old requester.old }
-    ensures refusal { refusal_of result ≡ call_refusal slice.old requester.old (action_in at step) }
+    ensures refusal { refusal_of result
+        ≡ step_refusal slice.old (outstanding_of requester.old) (action_in at step) }
     ensures call { DoesStep slice.old slice.new (action_in at step)
         requester.old requester.new result }
 {
@@ -181,7 +184,7 @@ fn may_step<A: Allocator>(
     requester: &Requester,
     action: Action,
 ) -> Result<(), Refusal>
-    ensures { refusal_of result ≡ call_refusal slice.now requester.now action }
+    ensures { refusal_of result ≡ step_refusal slice.now (outstanding_of requester.now) action }
 {
     match slice.refusal(action, requester.terms(action.step)) {
         Some(refusal) => Err(refusal),

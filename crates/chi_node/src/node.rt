@@ -8,10 +8,11 @@ ghost use Rattle.chi_flit.specs.declared.refusal.Refusal.TheVariants.{OutOfRange
 ghost use Rattle.chi_tracker.specs.Calls.{shape_of};
 ghost use Rattle.chi_tracker.specs.Witness.{GoesOnFromEach};
 ghost use Rattle.chi_tracker.specs.Totals.{longest, views_of, IsBalanced, IsClosed};
-ghost use Rattle.chi_node.specs.Calls.{is_own_step, IsSameRequester};
+ghost use Rattle.chi_node.specs.Agree.{Agree};
+ghost use Rattle.chi_node.specs.Calls.{is_own_step, DoesArrival, DoesStep, IsSameRequester, OrNotOpen};
+ghost use Rattle.chi_node.specs.Outstanding.{arrival_refusal, outstanding_of, step_refusal};
 ghost use Rattle.chi_node.specs.Parts.{opening_requesters, HasTypes};
 ghost use Rattle.chi_node.specs.Node.{owners_of, AreOwn, IsLockRefusal, IsOwn, IsSliceOf, UnderLock};
-ghost use Rattle.chi_node.specs.Locked.{ArrivesLocked, StepsLocked};
 
 use crate::answers::{Arrived, Stepped};
 use crate::calls::{arrive_on, step_on};
@@ -145,7 +146,9 @@ impl<A: Allocator> Node<A> {
         ensures outside { nat_lt line.0 self.now.config.lines ≡ false
             → refusal_of result ≡ Some OutOfRange }
         ensures done { UnderLock self.now line.0 requester.old requester.new (refusal_of result)
-            (ArrivesLocked self.now.config line requester.old requester.new result) }
+            (λ s s'. OrNotOpen (arrival_refusal s requester.old.number line.0)
+            (Agree s requester.old) (refusal_of result)
+            × DoesArrival s s' line requester.old requester.new result) }
         ensures err { OnErr result (requester.new ≡ requester.old) }
         ensures same { IsSameRequester requester.old requester.new }
     {
@@ -173,7 +176,9 @@ impl<A: Allocator> Node<A> {
         ensures outside { nat_lt action.line.0 self.now.config.lines ≡ false
             → refusal_of result ≡ Some OutOfRange }
         ensures done { UnderLock self.now action.line.0 requester.old requester.new (refusal_of result)
-            (StepsLocked self.now.config action requester.old requester.new result) }
+            (λ s s'. OrNotOpen (step_refusal s (outstanding_of requester.old) action)
+            (Agree s requester.old) (refusal_of result)
+            × DoesStep s s' action requester.old requester.new result) }
         ensures err { OnErr result (requester.new ≡ requester.old) }
         ensures same { IsSameRequester requester.old requester.new }
     {

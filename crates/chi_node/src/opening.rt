@@ -3,7 +3,7 @@
 ghost use Rattle.std.specs.Prelude.{◌≡◌, true, IfOk};
 ghost use Rattle.chi_tracker.specs.Calls.{shape_of};
 ghost use Rattle.chi_slice.specs.Words.{are_in_limits};
-ghost use Rattle.chi_node.specs.Parts.{AgreeAtOpening, HasOwnTypes, opening_slices, requesters_of};
+ghost use Rattle.chi_node.specs.Parts.{AgreeAtOpening, HasOwnTypes, opening_requesters, opening_slices};
 
 use crate::requester::Requester;
 use arrayvec::ArrayVec;
@@ -36,7 +36,7 @@ fn requesters<A: Allocator>(
         ≡ shape_of config.now.entries config.now.agents) }
     ensures types { IfOk result (λ made. HasOwnTypes config.now made.0.shape) }
     ensures requesters { IfOk result (λ made. made.1.items
-        ≡ requesters_of made.0 config.now.agents) }
+        ≡ opening_requesters made.0.table made.0.shape config.now.agents) }
     ensures agree { IfOk result (λ made. AgreeAtOpening config.now made.0.table made.0.shape) }
 {
     let (entries, agents) = (config.entries(), config.agents());
@@ -65,7 +65,7 @@ pub fn parts<A: Allocator + Copy>(
         ≡ shape_of config.now.entries config.now.agents) }
     ensures types { IfOk result (λ made. HasOwnTypes config.now made.1.shape) }
     ensures requesters { IfOk result (λ made. made.2.items
-        ≡ requesters_of made.1 config.now.agents) }
+        ≡ opening_requesters made.1.table made.1.shape config.now.agents) }
     ensures agree { IfOk result (λ made. AgreeAtOpening config.now made.1.table made.1.shape) }
 {
     let slices = slices(alloc, config)?;

@@ -1,6 +1,6 @@
 //! A requester, with its port and its account.
 
-ghost use Rattle.std.specs.Prelude.{◌≡◌, ◌≢◌, ℕ, ◌<◌, ◌≤◌, [], IfOk, OnErr, IfSome, IfNone, IsTrue, ◌↔◌, slice_index};
+ghost use Rattle.std.specs.Prelude.{◌≡◌, ◌≢◌, ℕ, ◌<◌, ◌≤◌, [], IfOk, OnErr, IfSome, IfNone, slice_index};
 ghost use Rattle.chi_flit.specs.Credit.{credit_number};
 ghost use Rattle.chi_flit.specs.Refusal.{refusal_of};
 ghost use Rattle.chi_tracker.specs.Shape.{low};
@@ -12,7 +12,8 @@ ghost use Rattle.chi_credit.specs.Account.{slot_record_at, state_at, IsLowestIdl
 ghost use Rattle.chi_slice.specs.Slice.{SliceState};
 ghost use Rattle.chi_node.specs.Agree.{Agree};
 ghost use Rattle.chi_node.specs.Credits.{GivesBack, Sees, Tends};
-ghost use Rattle.chi_node.specs.Requester.{can_give_back, give_back_refusal, has_entries_of, no_requester, opening_requester, tend_refusal, HasSpare, RequesterKept};
+ghost use Rattle.chi_node.specs.Requester.{no_requester, opening_requester, RequesterKept};
+ghost use Rattle.chi_node.specs.Outstanding.{can_give_back, give_back_refusal, has_entries_of, has_spare, outstanding_of, tend_refusal};
 
 use chi_credit::{Account, SlotRecord, SlotState};
 use chi_flit::{Agent, CreditType, Refusal, Slot};
@@ -131,7 +132,7 @@ impl Requester {
     /// Whether a seen credit of the type is left beside those for the Riding slots.
     /// Source: `docs/PROTOCOL.md`, "Slots and accounts", can_resend.
     pub fn can_resend(&self, ty: CreditType) -> bool
-        ensures { IsTrue result ↔ HasSpare self.now (credit_number ty) }
+        ensures { result ≡ has_spare (outstanding_of self.now) (credit_number ty) }
     {
         let seen = self.port.seen();
         self.account.can_resend(ty, seen[usize::from(ty.number())])
@@ -139,14 +140,14 @@ impl Requester {
 
     /// Whether the tracker has entries of the type.
     fn has_type(&self, ty: CreditType) -> bool
-        ensures { result ≡ has_entries_of self.now (credit_number ty) }
+        ensures { result ≡ has_entries_of (outstanding_of self.now) (credit_number ty) }
     {
         0 < self.entries[usize::from(ty.number())]
     }
 
     /// Whether a slot of the type is Cancelled and a credit of the type can be given back for it.
     fn can_give_back(&self, ty: CreditType) -> bool
-        ensures { result ≡ can_give_back self.now (credit_number ty) }
+        ensures { result ≡ can_give_back (outstanding_of self.now) (credit_number ty) }
     {
         self.account.has_cancelled(ty) && self.can_resend(ty)
     }
@@ -208,7 +209,8 @@ impl Requester {
         ty: CreditType,
     ) -> Result<Released, Refusal>
         requires { self.old.table ≡ tracker.now.table }
-        ensures refusal { refusal_of result ≡ give_back_refusal self.old (credit_number ty) }
+        ensures refusal { refusal_of result
+            ≡ give_back_refusal (outstanding_of self.old) (credit_number ty) }
         ensures ok { IfOk result (λ released. GivesBack (credit_number ty) released self.old self.new) }
         ensures err { OnErr result (self.new ≡ self.old) }
         ensures agreement { (s : SliceState) → Agree s self.old → Agree s self.new }
@@ -236,7 +238,8 @@ impl Requester {
         ty: CreditType,
     ) -> Result<Option<Released>, Refusal>
         requires { self.old.table ≡ tracker.now.table }
-        ensures refusal { refusal_of result ≡ tend_refusal self.old (credit_number ty) }
+        ensures refusal { refusal_of result
+            ≡ tend_refusal (outstanding_of self.old) (credit_number ty) }
         ensures ok { IfOk result (λ released. Tends (credit_number ty) released self.old self.new) }
         ensures err { OnErr result (self.new ≡ self.old) }
         ensures agreement { (s : SliceState) → Agree s self.old → Agree s self.new }

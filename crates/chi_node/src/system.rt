@@ -1,7 +1,6 @@
 //! A node on one thread.
 
 ghost use Rattle.std.specs.Prelude.{◌≡◌, ◌<◌, ◌↔◌, All, IfOk, IsTrue, None, OnErr, OnOk, Some, length, nat_lt, slice_set, true};
-ghost use Rattle.std.specs.Option.{option_or};
 ghost use Rattle.std.specs.List.{slice_index_or};
 ghost use Rattle.atomic_table.specs.Seated.{TableId};
 ghost use Rattle.chi_flit.specs.Credit.{credit_number};
@@ -12,9 +11,10 @@ ghost use Rattle.chi_node.specs.Requester.{RequesterState, no_requester};
 ghost use Rattle.chi_slice.specs.Audits.{IsAudited};
 ghost use Rattle.chi_node.specs.Headline.{Headline};
 ghost use Rattle.chi_node.specs.Home.{node_flits_refusal, index_of, node_last, node_line, slice_of, node_view_refusal};
-ghost use Rattle.chi_node.specs.Credits.{GiveBackTry, Sees, TendTry, typed_refusal};
+ghost use Rattle.chi_node.specs.Credits.{ForType, GivesBack, Sees, Tends, Tried};
 ghost use Rattle.chi_node.specs.Agree.{AllAgree};
-ghost use Rattle.chi_node.specs.System.{agent_refusal, arrive_refusal, give_back_refusal_in, opening_system, system_step_refusal, tend_refusal_in, ArrivesIn, GivesBackIn, Glances, IsSystem, SeesIn, StepsIn, TendsIn};
+ghost use Rattle.chi_node.specs.Outstanding.{give_back_refusal, outstanding_of, see_refusal, tend_refusal, typed_refusal};
+ghost use Rattle.chi_node.specs.System.{arrive_refusal, give_back_refusal_in, opening_system, system_step_refusal, tend_refusal_in, ArrivesIn, DoesAlone, Glances, IsSystem, StepsIn};
 
 use crate::agree::all_agree;
 use crate::answers::{Arrived, Stepped};
@@ -128,8 +128,8 @@ impl<A: Allocator> System<A> {
     /// Refused 10 (OutOfRange) exactly where the agent is none of the node's; nothing changes then.
     /// Source: `docs/PROTOCOL.md`, "A requester and its calls", see.
     pub fn see(&mut self, agent: Agent) -> Result<[u32; 4], Refusal>
-        ensures refusal { refusal_of result ≡ agent_refusal self.old agent.0 }
-        ensures ok { IfOk result (λ seen. SeesIn self.old self.new agent seen) }
+        ensures refusal { refusal_of result ≡ see_refusal self.old.home agent.0 }
+        ensures ok { IfOk result (λ seen. DoesAlone self.old self.new agent (Sees seen)) }
         ensures err { OnErr result (self.new ≡ self.old) }
         ensures kept { IsSystem self.old }
     {
@@ -153,7 +153,8 @@ impl<A: Allocator> System<A> {
         credit: Option<CreditType>,
     ) -> Result<Released, Refusal>
         ensures refusal { refusal_of result ≡ give_back_refusal_in self.old agent.0 credit }
-        ensures ok { IfOk result (λ released. GivesBackIn self.old self.new agent credit released) }
+        ensures ok { IfOk result (λ released. DoesAlone self.old self.new agent
+            (ForType credit (λ t. GivesBack t released))) }
         ensures err { OnErr result (self.new ≡ self.old) }
         ensures kept { IsSystem self.old }
     {
@@ -176,7 +177,8 @@ impl<A: Allocator> System<A> {
         credit: Option<CreditType>,
     ) -> Result<Option<Released>, Refusal>
         ensures refusal { refusal_of result ≡ tend_refusal_in self.old agent.0 credit }
-        ensures ok { IfOk result (λ released. TendsIn self.old self.new agent credit released) }
+        ensures ok { IfOk result (λ released. DoesAlone self.old self.new agent
+            (ForType credit (λ t. Tends t released))) }
         ensures err { OnErr result (self.new ≡ self.old) }
         ensures kept { IsSystem self.old }
     {
@@ -220,7 +222,7 @@ impl<A: Allocator> System<A> {
     /// The type that a call for an agent names.
     fn type_for(&self, agent: Agent, credit: Option<CreditType>) -> Result<CreditType, Refusal>
         ensures refusal { refusal_of result
-            ≡ option_or (agent_refusal self.now agent.0) (typed_refusal (λ t. None) credit) }
+            ≡ typed_refusal self.now.home agent.0 (λ t. None) credit }
         ensures ok { IfOk result (λ ty. credit ≡ Some ty) }
         ensures agent { OnOk result (agent.0 < self.now.home.config.agents) }
         ensures kept { IsSystem self.now }
@@ -347,7 +349,9 @@ fn give_back_at<A: Allocator>(
     requires agent { agent.0 < length requesters.old }
     requires tables { All (λ r. r.table ≡ tracker.now.table) requesters.old }
     ensures { (r : RequesterState) × (requesters.new ≡ slice_set requesters.old agent.0 r)
-        × GiveBackTry (credit_number ty) (slice_index_or requesters.old agent.0 no_requester) r result }
+        × Tried (give_back_refusal (outstanding_of
+        (slice_index_or requesters.old agent.0 no_requester)) (credit_number ty))
+        (GivesBack (credit_number ty)) (slice_index_or requesters.old agent.0 no_requester) r result }
 {
     requesters[usize::from(agent.0)].give_back(tracker, ty)
 }
@@ -362,7 +366,9 @@ fn tend_at<A: Allocator>(
     requires agent { agent.0 < length requesters.old }
     requires tables { All (λ r. r.table ≡ tracker.now.table) requesters.old }
     ensures { (r : RequesterState) × (requesters.new ≡ slice_set requesters.old agent.0 r)
-        × TendTry (credit_number ty) (slice_index_or requesters.old agent.0 no_requester) r result }
+        × Tried (tend_refusal (outstanding_of
+        (slice_index_or requesters.old agent.0 no_requester)) (credit_number ty))
+        (Tends (credit_number ty)) (slice_index_or requesters.old agent.0 no_requester) r result }
 {
     requesters[usize::from(agent.0)].tend(tracker, ty)
 }

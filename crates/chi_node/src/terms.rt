@@ -1,8 +1,8 @@
 //! What a requester adds to the conditions of its steps.
 
-ghost use Rattle.std.specs.Prelude.{◌≡◌};
+ghost use Rattle.std.specs.Prelude.{◌≡◌, [], ◌∷◌};
 ghost use Rattle.chi_credit.specs.Slot.{is_idle_state};
-ghost use Rattle.chi_node.specs.Terms.{is_taken, spare_credits, terms_of};
+ghost use Rattle.chi_node.specs.Outstanding.{has_spare, is_taken, outstanding_of, terms_of};
 
 use crate::requester::Requester;
 use chi_credit::SlotState;
@@ -19,7 +19,9 @@ impl Requester {
 
     /// For each credit type whether a seen credit is left beside those for the Riding slots.
     fn spare_credits(&self) -> [bool; 4]
-        ensures { result ≡ spare_credits self.now }
+        ensures { result ≡ has_spare (outstanding_of self.now) 0
+            ∷ has_spare (outstanding_of self.now) 1 ∷ has_spare (outstanding_of self.now) 2
+            ∷ has_spare (outstanding_of self.now) 3 ∷ [] }
     {
         let seen = self.port.seen();
         [
@@ -33,7 +35,7 @@ impl Requester {
     /// What the requester adds to the conditions of its step: an Issue's slot has to be Idle in the account,
     /// and a Resend needs a credit.
     pub(crate) fn terms(&self, step: Step) -> Terms
-        ensures { result ≡ terms_of self.now step }
+        ensures { result ≡ terms_of (outstanding_of self.now) step }
     {
         match step {
             Step::Issue(_, slot) => Terms {

@@ -1,15 +1,15 @@
--- A node as the table of the commands sees it: of each requester its slots, its seen credits and its port.
+-- A node as the table of the commands sees it: of each requester what is outstanding, and its port.
 use Rattle.std.proofs.Common.{◌≡◌, ℕ, zero, suc, ◌<◌, List, [], ◌∷◌, length, map, get_or, refl, sym, ◌∙◌, ap, arith}
 use Rattle.std.proofs.lemmas.Option.{slice_get-get_or}
 use Rattle.std.proofs.Math.ListN.{set}
 use Rattle.std.specs.Prelude.{Some, slice_get}
 use Rattle.chi_flit.specs.declared.numbers.Agent.{Agent}
-use Rattle.chi_node.specs.Words.{PortView, SlotRecord}
+use Rattle.chi_node.specs.Words.{PortView}
+use Rattle.chi_node.specs.Outstanding.{Outstanding, outstanding_of, seen_counts}
 use Rattle.chi_node.specs.Requester.{RequesterState, no_requester}
 use Rattle.chi_node.specs.Home.{HomeState}
 use Rattle.chi_node.specs.System.{IsSystem, OthersStay, SystemState, requester_of}
-use Rattle.chi_replay.specs.Ports.{seen_counts}
-use Rattle.chi_replay.specs.Turns.{credits_of, slots_of}
+use Rattle.chi_replay.specs.Turns.{requester_in, with_requester}
 use Rattle.chi_replay.specs.Texts.{AtPort}
 use Rattle.chi_replay.specs.Session.{machine_of, ports_of}
 
@@ -38,46 +38,25 @@ set_twice [] n a b = refl
 set_twice (x ∷ l) zero a b = refl
 set_twice {A} (x ∷ l) (suc n) a b = ap (λ (t : List A). x ∷ t) (set_twice l n a b)
 
-pub slots_at : (y : SystemState) (agent : Agent) → slots_of (machine_of y) agent ≡ (requester_of y agent.0).slots
-slots_at y agent = mapped_at (λ (r : RequesterState). r.slots) y.requesters agent.0 no_requester
+pub requester_at : (y : SystemState) (agent : Agent) → requester_in (machine_of y) agent ≡ outstanding_of (requester_of y agent.0)
+requester_at y agent = mapped_at outstanding_of y.requesters agent.0 no_requester
 
-pub credits_at : (y : SystemState) (agent : Agent) → credits_of (machine_of y) agent ≡ seen_counts (requester_of y agent.0).port
-credits_at y agent = mapped_at (λ (r : RequesterState). seen_counts r.port) y.requesters agent.0 no_requester
+-- what is outstanding, by its parts
+pub outstanding_is : (r : RequesterState) (o : Outstanding) → r.port.shape.sizes ≡ o.entries → r.slots ≡ o.slots → seen_counts r.port ≡ o.seen → outstanding_of r ≡ o
+outstanding_is r o entries slots seen = λ i. record { entries = entries i; slots = slots i; seen = seen i }
 
 -- the table's state after an agent's requester has changed
-pub machine_after : (y y' : SystemState) (agent : Agent) (slots : List SlotRecord) (credits : List ℕ) → OthersStay y y' agent → (requester_of y' agent.0).slots ≡ slots → seen_counts (requester_of y' agent.0).port ≡ credits
-    → machine_of y' ≡ record { home = y'.home; accounts = set (machine_of y).accounts agent.0 slots; seen = set (machine_of y).seen agent.0 credits }
-machine_after y y' agent slots credits others slots_are credits_are =
-    let accounts : (machine_of y').accounts ≡ set (machine_of y).accounts agent.0 slots =
-    ap (λ (l : List RequesterState). map (λ r. r.slots) l) others ∙ mapped_set (λ (r : RequesterState). r.slots) y.requesters agent.0 (requester_of y' agent.0) ∙ ap (λ (x : List SlotRecord). set (machine_of y).accounts agent.0 x) slots_are in
-    let seen : (machine_of y').seen ≡ set (machine_of y).seen agent.0 credits =
-    ap (λ (l : List RequesterState). map (λ r. seen_counts r.port) l) others ∙ mapped_set (λ (r : RequesterState). seen_counts r.port) y.requesters agent.0 (requester_of y' agent.0) ∙ ap (λ (x : List ℕ). set (machine_of y).seen agent.0 x) credits_are in
-    ap (λ (a : List (List SlotRecord)). record { home = y'.home; accounts = a; seen = (machine_of y').seen }) accounts
-    ∙ ap (λ (s : List (List ℕ)). record { home = y'.home; accounts = set (machine_of y).accounts agent.0 slots; seen = s }) seen
-
--- and with the same seen credits
-pub machine_seen_same : (y y' : SystemState) (agent : Agent) (slots : List SlotRecord) → OthersStay y y' agent → (requester_of y' agent.0).slots ≡ slots → seen_counts (requester_of y' agent.0).port ≡ seen_counts (requester_of y agent.0).port
-    → machine_of y' ≡ record { home = y'.home; accounts = set (machine_of y).accounts agent.0 slots; seen = (machine_of y).seen }
-machine_seen_same y y' agent slots others slots_are same =
-    let credits : seen_counts (requester_of y' agent.0).port ≡ credits_of (machine_of y) agent = same ∙ sym (credits_at y agent) in
-    machine_after y y' agent slots (credits_of (machine_of y) agent) others slots_are credits
-    ∙ ap (λ (s : List (List ℕ)). record { home = y'.home; accounts = set (machine_of y).accounts agent.0 slots; seen = s }) (set_here (machine_of y).seen agent.0 (seen_counts no_requester.port))
-
--- and with the same slots
-pub machine_slots_same : (y y' : SystemState) (agent : Agent) (credits : List ℕ) → OthersStay y y' agent → (requester_of y' agent.0).slots ≡ (requester_of y agent.0).slots → seen_counts (requester_of y' agent.0).port ≡ credits
-    → machine_of y' ≡ record { home = y'.home; accounts = (machine_of y).accounts; seen = set (machine_of y).seen agent.0 credits }
-machine_slots_same y y' agent credits others same credits_are =
-    let slots : (requester_of y' agent.0).slots ≡ slots_of (machine_of y) agent = same ∙ sym (slots_at y agent) in
-    machine_after y y' agent (slots_of (machine_of y) agent) credits others slots credits_are
-    ∙ ap (λ (a : List (List SlotRecord)). record { home = y'.home; accounts = a; seen = set (machine_of y).seen agent.0 credits }) (set_here (machine_of y).accounts agent.0 no_requester.slots)
+pub machine_after : (y y' : SystemState) (agent : Agent) (home : HomeState) (o : Outstanding) → y'.home ≡ home → OthersStay y y' agent → outstanding_of (requester_of y' agent.0) ≡ o → machine_of y' ≡ with_requester (record (machine_of y) { home = home }) agent o
+machine_after y y' agent home o home_is others is =
+    ap (λ (l : List RequesterState). record { home = y'.home; requesters = map outstanding_of l }) others
+    ∙ (ap (λ (l : List Outstanding). record { home = y'.home; requesters = l }) (mapped_set outstanding_of y.requesters agent.0 (requester_of y' agent.0))
+    ∙ (λ i. record { home = home_is i; requesters = set (machine_of y).requesters agent.0 (is i) }))
 
 -- and with all of it the same
-pub machine_same : (y y' : SystemState) (agent : Agent) → y'.home ≡ y.home → OthersStay y y' agent → (requester_of y' agent.0).slots ≡ (requester_of y agent.0).slots → seen_counts (requester_of y' agent.0).port ≡ seen_counts (requester_of y agent.0).port
-    → machine_of y' ≡ machine_of y
-machine_same y y' agent home others slots_same seen_same =
-    machine_slots_same y y' agent (credits_of (machine_of y) agent) others slots_same (seen_same ∙ sym (credits_at y agent))
-    ∙ (ap (λ (s : List (List ℕ)). record { home = y'.home; accounts = (machine_of y).accounts; seen = s }) (set_here (machine_of y).seen agent.0 (seen_counts no_requester.port))
-    ∙ ap (λ (h : HomeState). record { home = h; accounts = (machine_of y).accounts; seen = (machine_of y).seen }) home)
+pub machine_same : (y y' : SystemState) (agent : Agent) → y'.home ≡ y.home → OthersStay y y' agent → outstanding_of (requester_of y' agent.0) ≡ outstanding_of (requester_of y agent.0) → machine_of y' ≡ machine_of y
+machine_same y y' agent home others same =
+    machine_after y y' agent y.home (requester_in (machine_of y) agent) home others (same ∙ sym (requester_at y agent))
+    ∙ ap (λ (l : List Outstanding). record { home = y.home; requesters = l }) (set_here (machine_of y).requesters agent.0 (outstanding_of no_requester))
 
 -- the ports after that
 pub ports_after : (y y' : SystemState) (agent : Agent) → OthersStay y y' agent → ports_of y' ≡ set (ports_of y) agent.0 (requester_of y' agent.0).port

@@ -1,6 +1,5 @@
 -- Whatever a turn is answered, no line that it says has a line end in it.
 use Rattle.std.proofs.Common.{ℕ, Bool, true, false, List, [], ◌∷◌, Option, Some, None, refl}
-use Rattle.std.specs.Option.{option_or}
 use Rattle.chi_flit.specs.declared.action.Action.{Action}
 use Rattle.chi_flit.specs.declared.action.Effect.{Effect}
 use Rattle.chi_flit.specs.declared.action.Effect.TheVariants as effects
@@ -14,12 +13,12 @@ use Rattle.chi_flit.specs.declared.refusal.Refusal.TheVariants.{OutOfRange}
 use Rattle.chi_node.specs.Words.{SlotState, state_at}
 use Rattle.chi_node.specs.SlotStates as states
 use Rattle.chi_slice.specs.Words.{cells_of, effect_of, line_view as shown_line}
-use Rattle.chi_node.specs.Calls.{arrival_refusal}
+use Rattle.chi_node.specs.Outstanding.{arrival_refusal, see_refusal}
 use Rattle.chi_node.specs.Home.{node_flits_refusal, node_last, node_line, slice_of, node_view_refusal}
 use Rattle.chi_replay.specs.declared.replies.Reply.TheVariants as replies
 use Rattle.chi_script.specs.declared.commands.Command.{Command}
 use Rattle.chi_script.specs.declared.commands.Command.TheVariants as commands
-use Rattle.chi_replay.specs.Turns.{TurnAnswer, Asks, Claimed, Ends, GiveBack, Glanced, Judged, Machine, Owed, Saw, Spent, Tended, Turn, Went, act_turn, act_refusal, machine_agent_refusal, arrive, arriving, turn_of_attempt, cancelled_refusal, turn_after_claim, turn_after_release, completing, credits_of, turn_after_action, give_back, credit_given_back, turn_after_glance, turn_after_verdict, or_refused, turn_after_owe, turn_after_see, slots_of, turn_after_spend, tend, turn_after_tend, turn, type_refusal}
+use Rattle.chi_replay.specs.Turns.{TurnAnswer, Asks, Claimed, Ends, GiveBack, Glanced, Judged, Machine, Owed, Saw, Spent, Tended, Turn, Went, act_turn, act_refusal, arrive, arriving, turn_of_attempt, turn_after_claim, turn_after_release, completing, turn_after_action, give_back, credit_given_back, turn_after_glance, turn_after_verdict, or_refused, turn_after_owe, turn_after_see, requester_in, return_refusal, turn_after_spend, tend, tend_refusal_of, turn_after_tend, turn}
 use Rattle.chi_replay.specs.Texts.{ending}
 use Rattle.chi_replay.proofs.PlainReplies.{IsPlain, audit, credits, flits, reply, shown, totals}
 
@@ -51,7 +50,7 @@ at_completion other m action slot = empty
 when_done : (effect : Effect) (m : Machine) (action : Action) → SaysPlain (turn_after_action effect m action)
 when_done effects.Nothing m action = reply replies.Done
 when_done (effects.Value word) m action = reply (replies.Value word)
-when_done (effects.Completed slot) m action = at_completion (state_at (slots_of m action.agent) slot.0) m action slot
+when_done (effects.Completed slot) m action = at_completion (state_at (requester_in m action.agent).slots slot.0) m action slot
 
 of_act : (m : Machine) (action : Action) → SaysPlain (act_turn m action)
 of_act m action = refused_or (act_refusal m action) m _ (when_done (effect_of (node_line m.home action.line.0) action) m action)
@@ -90,7 +89,7 @@ when_given m agent ty other = empty
 
 of_give_back : (m : Machine) (agent : Agent) (credit : Option CreditType) → SaysPlain (give_back m agent credit)
 of_give_back m agent None = reply (replies.Refused OutOfRange)
-of_give_back m agent (Some ty) = refused_or (option_or (type_refusal m agent ty) (cancelled_refusal (slots_of m agent) (credits_of m agent) ty)) m (Asks (GiveBack agent ty) (credit_given_back m agent ty)) (when_given m agent ty)
+of_give_back m agent (Some ty) = refused_or (return_refusal m agent (Some ty)) m (Asks (GiveBack agent ty) (credit_given_back m agent ty)) (when_given m agent ty)
 
 when_tended : (m : Machine) (answer : TurnAnswer) → SaysPlain (turn_after_tend m answer)
 when_tended m (Tended None) = reply replies.Idle
@@ -99,7 +98,7 @@ when_tended m other = empty
 
 of_tend : (m : Machine) (agent : Agent) (credit : Option CreditType) → SaysPlain (tend m agent credit)
 of_tend m agent None = reply (replies.Refused OutOfRange)
-of_tend m agent (Some ty) = refused_or (type_refusal m agent ty) m _ (when_tended m)
+of_tend m agent (Some ty) = refused_or (tend_refusal_of m agent (Some ty)) m _ (when_tended m)
 
 when_glanced : (m : Machine) (answer : TurnAnswer) → SaysPlain (turn_after_glance m answer)
 when_glanced m (Glanced free hand promised owed) = totals _
@@ -115,7 +114,7 @@ turn_plain m commands.Audit = when_judged m
 turn_plain m (commands.Show l) = refused_or (node_view_refusal m.home l.0) m _ (shown m.home.config.agents (shown_line (node_line m.home l.0) (node_last m.home l.0)))
 turn_plain m (commands.Flits agent l) = refused_or (node_flits_refusal m.home agent.0 l.0) m _ (flits (cells_of (node_line m.home l.0) agent.0))
 turn_plain m (commands.Arrive agent l) = of_arrive m agent l
-turn_plain m (commands.See agent) = refused_or (machine_agent_refusal m agent) m _ (when_seen m agent)
+turn_plain m (commands.See agent) = refused_or (see_refusal m.home agent.0) m _ (when_seen m agent)
 turn_plain m (commands.GiveBack agent ty) = of_give_back m agent ty
 turn_plain m (commands.Tend agent ty) = of_tend m agent ty
 turn_plain m (commands.Act action) = of_act m action

@@ -1,24 +1,20 @@
 -- How the seen credits of a port go on, by type.
-use Rattle.std.proofs.Common.{◌≡◌, ◌≢◌, ℕ, ◌-◌, ◌/◌, ◌%◌, ◌<◌, ◌≤◌, List, [], ◌∷◌, length, refl, ◌∙◌, ap, arith, ⊎_elim}
+use Rattle.std.proofs.Common.{◌≡◌, ◌≢◌, ℕ, ◌-◌, ◌/◌, ◌%◌, ◌<◌, ◌≤◌, List, [], ◌∷◌, length, ◌∙◌, ap, arith, ⊎_elim}
 use Rattle.std.proofs.lemmas.Bool.{cases_lt}
 use Rattle.std.proofs.lemmas.List.{get_or_past}
 use Rattle.std.proofs.lemmas.Nat.Bits.{bit_at-zero}
-use Rattle.std.specs.Prelude.{slice_index}
+use Rattle.std.specs.Prelude.{slice_index, slice_set}
 use Rattle.std.specs.Int.{bit_at}
 use Rattle.chi_flit.specs.declared.credit.CreditType.{CreditType}
 use Rattle.chi_flit.specs.declared.credit.CreditType.TheVariants.{T0, T1, T2, T3}
 use Rattle.chi_flit.specs.Credit.{credit_number}
 use Rattle.chi_node.specs.Words.{Shape, set_at, take_out, count_of, low, size, PortView, HasOneLess, IsLowestSeen, seen_of, set_count}
 use Rattle.chi_node.proofs.Passed.{taken_else, taken_here, count_kept, count_moved, credit_below, in_range}
-use Rattle.chi_replay.specs.Ports.{seen_counts}
-use Rattle.chi_replay.specs.Turns.{less_one}
+use Rattle.chi_node.specs.Outstanding.{seen_counts}
 
--- one number of them
-pub count_at : (p : PortView) (ty : CreditType) → slice_index (seen_counts p) (credit_number ty) ≡ seen_of p (credit_number ty)
-count_at p T0 = refl
-count_at p T1 = refl
-count_at p T2 = refl
-count_at p T3 = refl
+-- one seen credit of a type less
+abbrev pub one_less : List ℕ → CreditType → List ℕ
+one_less credits ty = slice_set credits (credit_number ty) (slice_index credits (credit_number ty) - 1)
 
 -- the numbers of each type are the list of them
 pub counts_are : (p : PortView) (counts : List ℕ) → length counts ≡ 4 → ((t : ℕ) → t < 4 → slice_index counts t ≡ seen_of p t) → counts ≡ seen_counts p
@@ -55,7 +51,7 @@ fewer p q t e lt le lowest shape seen =
       λ u lu d. now u ∙ count_kept p.shape u t e (set_at p.seen) (set_at (take_out p.seen e)) lu le is d apart,
     )
 
-less : (p q : PortView) (ty : CreditType) → HasOneLess (credit_number ty) p q → seen_counts q ≡ less_one (seen_counts p) ty
+less : (p q : PortView) (ty : CreditType) → HasOneLess (credit_number ty) p q → seen_counts q ≡ one_less (seen_counts p) ty
 less p q T0 one =
     let here : seen_of q 0 ≡ seen_of p 0 - 1 = omega (arith, one.0) in
     ap (λ n. n ∷ seen_of q 1 ∷ seen_of q 2 ∷ seen_of q 3 ∷ []) here ∙ (ap (λ n. (seen_of p 0 - 1) ∷ n ∷ seen_of q 2 ∷ seen_of q 3 ∷ []) (one.1 1 (omega arith) (λ e. absurd (omega (arith, e))))
@@ -74,5 +70,5 @@ less p q T3 one =
     ∙ (ap (λ n. seen_of p 0 ∷ seen_of p 1 ∷ n ∷ seen_of q 3 ∷ []) (one.1 2 (omega arith) (λ e. absurd (omega (arith, e)))) ∙ ap (λ n. seen_of p 0 ∷ seen_of p 1 ∷ seen_of p 2 ∷ n ∷ []) here))
 
 -- the lowest seen credit of a type taken out leaves one less of the type
-pub counts_less : (p q : PortView) (ty : CreditType) (e : ℕ) → low p.shape 4 ≤ 256 → IsLowestSeen p (credit_number ty) e → q.shape ≡ p.shape → q.seen ≡ take_out p.seen e → seen_counts q ≡ less_one (seen_counts p) ty
+pub counts_less : (p q : PortView) (ty : CreditType) (e : ℕ) → low p.shape 4 ≤ 256 → IsLowestSeen p (credit_number ty) e → q.shape ≡ p.shape → q.seen ≡ take_out p.seen e → seen_counts q ≡ one_less (seen_counts p) ty
 counts_less p q ty e le lowest shape seen = less p q ty (fewer p q (credit_number ty) e (credit_below ty) le lowest shape seen)

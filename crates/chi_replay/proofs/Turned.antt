@@ -15,7 +15,7 @@ use Rattle.chi_flit.specs.declared.message.Request.{Request}
 use Rattle.chi_flit.specs.declared.refusal.Refusal.{Refusal}
 use Rattle.chi_flit.specs.Credit.{credit_number}
 use Rattle.chi_flit.specs.Refusal.{refusal_of}
-use Rattle.chi_node.specs.Words.{Released, Counts, PortView, owed_one, SlotRecord, SlotState, after_finish, slots_with_state, slot_record_at, state_at}
+use Rattle.chi_node.specs.Words.{Released, Counts, PortView, Shape, owed_one, SlotState, slots_with_state, slot_record_at, state_at}
 use Rattle.chi_slice.specs.Words.{cells_of}
 use Rattle.chi_slice.specs.Slice.{SliceState}
 use Rattle.chi_node.specs.SlotStates as states
@@ -29,16 +29,17 @@ use Rattle.chi_node.specs.Calls.{ArrivesAt, arrival_action, place_at}
 use Rattle.chi_script.specs.declared.commands.Command.TheVariants as commands
 use Rattle.chi_slice.specs.Audits.{IsAudited, loads_in}
 use Rattle.chi_node.specs.Headline.{Headline}
-use Rattle.chi_node.specs.Home.{HomeState, slices_after, node_line, slice_of}
+use Rattle.chi_node.specs.Home.{slices_after, node_line, slice_of}
 use Rattle.chi_node.specs.System.{ArrivesIn, IsSystem, OthersStay, StepsIn, SystemState, arrive_refusal, requester_of, system_step_refusal}
 use Rattle.chi_replay.specs.Replies.{audit_text, reply_text, totals_text}
 use Rattle.chi_replay.specs.declared.replies.Reply.TheVariants as replies
-use Rattle.chi_replay.specs.Ports.{PortClaims, PortOwes, PortReleases, PortSpends, seen_counts}
-use Rattle.chi_replay.specs.Turns.{Claimed, Ends, Glanced, Judged, Machine, Owed, Spent, Turn, Went, act_turn, act_refusal, machine_after_admission, arrive, arriving, turn_of_attempt, by_type, completing, credits_of, turn_after_action, less_one, or_refused, slots_after, slots_of, with_action, with_arrival, with_credits, with_end, turn}
+use Rattle.chi_node.specs.Outstanding.{Outstanding, outstanding_of, seen_counts}
+use Rattle.chi_replay.specs.Ports.{PortClaims, PortOwes, PortReleases, PortSpends}
+use Rattle.chi_replay.specs.Turns.{Claimed, Ends, Glanced, Judged, Machine, Owed, Spent, Turn, Went, act_turn, act_refusal, admitted_in, arrive, arriving, turn_of_attempt, by_type, completing, turn_after_action, less_one, or_refused, requester_after_action, requester_after_end, requester_in, with_action, with_arrival, with_end, with_state, turn}
 use Rattle.chi_replay.specs.NodeReplies.{arrival_reply, done_reply, step_reply, totals_told}
 use Rattle.chi_replay.specs.Session.{PlaysOn, SaysOn, machine_of, ports_of}
 use Rattle.chi_node.proofs.Acts.{claim_view, release_view, retry_view}
-use Rattle.chi_replay.proofs.Machines.{at_port, at_port_again, credits_at, machine_after, machine_seen_same, ports_after, ports_same, slots_at}
+use Rattle.chi_replay.proofs.Machines.{at_port, at_port_again, machine_after, outstanding_is, ports_after, ports_same, requester_at}
 use Rattle.chi_replay.proofs.Reasons.{act_same, arrives_low, few_there, steps_low}
 use Rattle.chi_replay.proofs.Seen.{counts_less, same_counts}
 
@@ -70,16 +71,18 @@ same_type T3 T1 e = absurd (omega (arith, e))
 same_type T3 T2 e = absurd (omega (arith, e))
 same_type T3 T3 e = refl
 
--- the slots of a requester of which one was moved
-moved_slots : (y y' : SystemState) (agent : Agent) (s : ℕ) (state : SlotState) → (requester_of y' agent.0).slots ≡ slots_with_state (requester_of y agent.0).slots s state → (requester_of y' agent.0).slots ≡ slots_with_state (slots_of (machine_of y) agent) s state
-moved_slots y y' agent s state is = is ∙ ap (λ (x : List SlotRecord). slots_with_state x s state) (sym (slots_at y agent))
+-- what is outstanding where one slot was moved
+moved : (y y' : SystemState) (agent : Agent) (s : ℕ) (state : SlotState) → (requester_of y' agent.0).port.shape ≡ (requester_of y agent.0).port.shape → (requester_of y' agent.0).slots ≡ slots_with_state (requester_of y agent.0).slots s state
+    → seen_counts (requester_of y' agent.0).port ≡ seen_counts (requester_of y agent.0).port → outstanding_of (requester_of y' agent.0) ≡ with_state (requester_in (machine_of y) agent) s state
+moved y y' agent s state shape slots seen =
+    outstanding_is (requester_of y' agent.0) (with_state (outstanding_of (requester_of y agent.0)) s state) (ap (λ (z : Shape). z.sizes) shape) slots seen
+    ∙ ap (λ (o : Outstanding). with_state o s state) (sym (requester_at y agent))
 
 -- the table's state after an arrival
 arrived_state : (y y' : SystemState) (agent : Agent) (l : Line) (s : ℕ) (arrived : Arrived) (state : SlotState) → y'.home ≡ slices_after y.home (arrival_action agent.0 l arrived) → OthersStay y y' agent
-    → (requester_of y' agent.0).slots ≡ slots_with_state (requester_of y agent.0).slots s state → seen_counts (requester_of y' agent.0).port ≡ seen_counts (requester_of y agent.0).port → machine_of y' ≡ with_arrival (machine_of y) agent l s arrived state
-arrived_state y y' agent l s arrived state home others slots seen =
-    machine_seen_same y y' agent (slots_with_state (slots_of (machine_of y) agent) s state) others (moved_slots y y' agent s state slots) seen
-    ∙ ap (λ (h : HomeState). record { home = h; accounts = set (machine_of y).accounts agent.0 (slots_with_state (slots_of (machine_of y) agent) s state); seen = (machine_of y).seen }) home
+    → (requester_of y' agent.0).port.shape ≡ (requester_of y agent.0).port.shape → (requester_of y' agent.0).slots ≡ slots_with_state (requester_of y agent.0).slots s state → seen_counts (requester_of y' agent.0).port ≡ seen_counts (requester_of y agent.0).port
+    → machine_of y' ≡ with_arrival (machine_of y) agent l arrived (with_state (requester_in (machine_of y) agent) s state)
+arrived_state y y' agent l s arrived state home others shape slots seen = machine_after y y' agent _ _ home others (moved y y' agent s state shape slots seen)
 
 -- a first attempt that is admitted, one that is retried, and a resent request
 first_admitted : (y y' : SystemState) (agent : Agent) (l : Line) (s : ℕ) (e : Entry) → IsSystem y → agent.0 < y.home.config.agents → y'.home ≡ slices_after y.home (arrival_action agent.0 l (Admitted e)) → OthersStay y y' agent
@@ -91,7 +94,7 @@ first_admitted y y' agent l s e k low home others h =
       (
         ports_of y',
         at_port y agent (ports_of y') (requester_of y' agent.0).port (λ before after. PortClaims before ty (Some e) after) k low (ports_after y y' agent others) (claim_view r (requester_of y' agent.0) (credit_number ty) (Some e) h.4),
-        (refl, arrived_state y y' agent l s (Admitted e) (states.Admitted e) home others (ap (λ (x : RequesterState). x.slots) h.3) (same_counts r.port (requester_of y' agent.0).port h.2.1 h.2.2), refl),
+        (refl, arrived_state y y' agent l s (Admitted e) (states.Admitted e) home others h.2.1 (ap (λ (x : RequesterState). x.slots) h.3) (same_counts r.port (requester_of y' agent.0).port h.2.1 h.2.2), refl),
       ),
     )
 
@@ -110,7 +113,7 @@ first_retried y y' agent l s told k low home others h =
         (
           ports_of y',
           at_port_again y agent (ports_of y') mid (requester_of y' agent.0).port (λ before after. PortOwes before ty after) k low (ports_after y y' agent others) after,
-          (ap (λ (c : CreditType). reply_text (replies.Retry c)) (same_type told ty h.0), arrived_state y y' agent l s (Retried ty) states.Refused home others (ap (λ (x : RequesterState). x.slots) h.3) (same_counts r.port (requester_of y' agent.0).port h.2.1 h.2.2), refl),
+          (ap (λ (c : CreditType). reply_text (replies.Retry c)) (same_type told ty h.0), arrived_state y y' agent l s (Retried ty) states.Refused home others h.2.1 (ap (λ (x : RequesterState). x.slots) h.3) (same_counts r.port (requester_of y' agent.0).port h.2.1 h.2.2), refl),
         ),
       ),
     )
@@ -122,11 +125,12 @@ resent_admitted y y' agent l s e k low home others h =
     let ty : CreditType = (slot_record_at r.slots s).credit in
     let m : Machine = machine_of y in
     let after = ap (λ (x : RequesterState). x.port) h.3 in
-    let credits : seen_counts (requester_of y' agent.0).port ≡ less_one (credits_of m agent) ty =
-    counts_less r.port (requester_of y' agent.0).port ty e.0 (few_there y agent.0 k low) h.1 (ap (λ (p : PortView). p.shape) after) (ap (λ (p : PortView). p.seen) after) ∙ ap (λ (x : List ℕ). less_one x ty) (sym (credits_at y agent)) in
-    let state : machine_of y' ≡ with_credits (machine_after_admission m agent l s e) agent (less_one (credits_of m agent) ty) =
-    machine_after y y' agent (slots_with_state (slots_of m agent) s (states.Admitted e)) (less_one (credits_of m agent) ty) others (moved_slots y y' agent s (states.Admitted e) (ap (λ (x : RequesterState). x.slots) h.3)) credits
-    ∙ ap (λ (z : HomeState). record { home = z; accounts = set m.accounts agent.0 (slots_with_state (slots_of m agent) s (states.Admitted e)); seen = set m.seen agent.0 (less_one (credits_of m agent) ty) }) home in (
+    let shape = ap (λ (p : PortView). p.shape) after in
+    let seen = counts_less r.port (requester_of y' agent.0).port ty e.0 (few_there y agent.0 k low) h.1 shape (ap (λ (p : PortView). p.seen) after) in
+    let spent : outstanding_of (requester_of y' agent.0) ≡ less_one (admitted_in m agent s e) ty =
+    outstanding_is (requester_of y' agent.0) (less_one (with_state (outstanding_of r) s (states.Admitted e)) ty) (ap (λ (z : Shape). z.sizes) shape) (ap (λ (x : RequesterState). x.slots) h.3) seen
+    ∙ ap (λ (o : Outstanding). less_one (with_state o s (states.Admitted e)) ty) (sym (requester_at y agent)) in
+    let state : machine_of y' ≡ with_arrival m agent l (Admitted e) (less_one (admitted_in m agent s e) ty) = machine_after y y' agent _ _ home others spent in (
       Spent e ∷ [],
       (
         ports_of y',
@@ -146,7 +150,7 @@ arriving_plays : (y y' : SystemState) (agent : Agent) (l : Line) (o : Option Req
     → ArrivesAt o arrived (requester_of y agent.0) (requester_of y' agent.0) → PlaysOn (arriving (machine_of y) agent l o) y y' (reply_text (arrival_reply (Ok arrived)))
 arriving_plays y y' agent l None arrived k low home others h = absurd h
 arriving_plays y y' agent l (Some request) arrived k low home others h =
-    subst (λ (x : List SlotRecord). PlaysOn (turn_of_attempt request.allow_retry (machine_of y) agent l request.slot.0 (slot_record_at x request.slot.0).credit) y y' (reply_text (arrival_reply (Ok arrived)))) (sym (slots_at y agent))
+    subst (λ (o : Outstanding). PlaysOn (turn_of_attempt request.allow_retry (machine_of y) agent l request.slot.0 (slot_record_at o.slots request.slot.0).credit) y y' (reply_text (arrival_reply (Ok arrived)))) (sym (requester_at y agent))
     (attempt_plays y y' agent l request.slot.0 request.allow_retry arrived k low home others h)
 
 -- an arrival
@@ -163,11 +167,10 @@ stepped_state : (y y' : SystemState) (action : Action) → y'.home ≡ slices_af
 stepped_state y y' action home others is =
     let r : RequesterState = requester_of y action.agent.0 in
     let z : SliceState = slice_of y.home action.line.0 in
-    let slots : (requester_of y' action.agent.0).slots ≡ slots_after (machine_of y) action =
-    ap (λ (x : RequesterState). x.slots) is ∙ ap (λ (x : List SlotRecord). account_after (place_at z action) action.step x) (sym (slots_at y action.agent)) in
+    let followed : outstanding_of (requester_of y' action.agent.0) ≡ requester_after_action (machine_of y) action =
+    ap outstanding_of is ∙ ap (λ (o : Outstanding). record o { slots = account_after (place_at z action) action.step o.slots }) (sym (requester_at y action.agent)) in
     let port : (requester_of y' action.agent.0).port ≡ r.port = ap (λ (x : RequesterState). x.port) is in (
-      machine_seen_same y y' action.agent (slots_after (machine_of y) action) others slots (ap seen_counts port)
-          ∙ ap (λ (h : HomeState). record { home = h; accounts = set (machine_of y).accounts action.agent.0 (slots_after (machine_of y) action); seen = (machine_of y).seen }) home,
+      machine_after y y' action.agent _ _ home others followed,
       ports_same y y' action.agent others port,
     )
 
@@ -178,12 +181,10 @@ completing_plays y y' action slot released k low home others c =
     let m : Machine = machine_of y in
     let r : RequesterState = requester_of y action.agent.0 in
     let e : Entry = c.acted.0 in
-    let ended : List SlotRecord = set (slots_of m action.agent) slot.0 (after_finish (slot_record_at (slots_of m action.agent) slot.0)) in
-    let slots : (requester_of y' action.agent.0).slots ≡ ended =
-    ap (λ (x : RequesterState). x.slots) c.after ∙ ap (λ (x : List SlotRecord). set x slot.0 (after_finish (slot_record_at x slot.0))) (sym (slots_at y action.agent)) in
-    let state : machine_of y' ≡ with_end m action slot =
-    machine_seen_same y y' action.agent ended others slots (same_counts r.port (requester_of y' action.agent.0).port c.credits.1 c.credits.2)
-    ∙ ap (λ (h : HomeState). record { home = h; accounts = set m.accounts action.agent.0 ended; seen = m.seen }) home in
+    let ended : outstanding_of (requester_of y' action.agent.0) ≡ requester_after_end (requester_in m action.agent) slot =
+    outstanding_is (requester_of y' action.agent.0) (requester_after_end (outstanding_of r) slot) (ap (λ (z : Shape). z.sizes) c.credits.1) (ap (λ (x : RequesterState). x.slots) c.after) (same_counts r.port (requester_of y' action.agent.0).port c.credits.1 c.credits.2)
+    ∙ ap (λ (o : Outstanding). requester_after_end o slot) (sym (requester_at y action.agent)) in
+    let state : machine_of y' ≡ with_end m action slot = machine_after y y' action.agent _ _ home others ended in
     subst (λ (x : SlotState). PlaysOn (completing x m action slot) y y' (reply_text (replies.Completed slot released))) (sym c.acted.1) (
       Went released ∷ [],
       (
@@ -199,7 +200,7 @@ done_plays y y' action Nothing o k low home others h = let at = stepped_state y 
 done_plays y y' action (Value word) o k low home others h = let at = stepped_state y y' action home others h.1 in ([], (refl, at.0, at.1))
 done_plays y y' action (Completed slot) None k low home others h = absurd h.0
 done_plays y y' action (Completed slot) (Some released) k low home others h =
-    subst (λ (x : List SlotRecord). PlaysOn (completing (state_at x slot.0) (machine_of y) action slot) y y' (reply_text (replies.Completed slot released))) (sym (slots_at y action.agent))
+    subst (λ (o : Outstanding). PlaysOn (completing (state_at o.slots slot.0) (machine_of y) action slot) y y' (reply_text (replies.Completed slot released))) (sym (requester_at y action.agent))
     (completing_plays y y' action slot released k low home others h.1)
 
 -- a step

@@ -1,10 +1,11 @@
 -- What each call does to the view of the port that is called, and what it answers (docs/PROTOCOL.md, "Steps
 -- of the tracker").
-use Rattle.std.specs.Prelude.{◌≡◌, ℕ, ◌<◌, ◌≤◌, List, [], ◌∷◌, Option}
+use Rattle.std.specs.Prelude.{◌≡◌, ℕ, ◌<◌, ◌≤◌, List, Option}
 use Rattle.chi_flit.specs.declared.numbers.Entry.{Entry}
 use Rattle.chi_flit.specs.declared.credit.CreditType.{CreditType}
 use Rattle.chi_flit.specs.Credit.{credit_number}
-use Rattle.chi_node.specs.Words.{Released, set_at, PortView, has, spends, Claims, HasReturned, LeavesHandAsItsType, IsLowestSeen, owed_one, saw_all, seen_of}
+use Rattle.chi_node.specs.Words.{Released, set_at, PortView, has, spends, Claims, HasReturned, LeavesHandAsItsType, IsLowestSeen, owed_one, saw_all}
+use Rattle.chi_node.specs.Outstanding.{seen_counts}
 use Rattle.chi_node.specs.Words as words
 
 -- An entry of the type that wasn't in hand comes to hand, in a scan that found the lower entries of the
@@ -23,10 +24,6 @@ PortSpends before ty entry after = IsLowestSeen before (credit_number ty) entry.
 -- an entry that is in hand leaves it: it is promised on to who is owed a credit of its type, or freed
 abbrev pub PortReleases : PortView → Entry → Released → PortView → Type 0
 PortReleases before entry released after = (has entry.0 before ≡ 1) × LeavesHandAsItsType before entry.0 released after
-
--- a port's seen credits by type
-abbrev pub seen_counts : PortView → List ℕ
-seen_counts p = seen_of p 0 ∷ seen_of p 1 ∷ seen_of p 2 ∷ seen_of p 3 ∷ []
 
 -- the port looks at what is promised to it, and what it had seen stays seen; the answer counts it by type
 abbrev pub PortSees : PortView → List ℕ → PortView → Type 0

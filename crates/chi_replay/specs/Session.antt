@@ -3,14 +3,14 @@
 use Rattle.std.specs.Prelude.{ℕ, List, map}
 use Rattle.chi_script.specs.declared.commands.Command.{Command}
 use Rattle.chi_node.specs.Words.{PortView}
+use Rattle.chi_node.specs.Outstanding.{outstanding_of}
 use Rattle.chi_node.specs.System.{SystemState}
-use Rattle.chi_replay.specs.Ports.{seen_counts}
 use Rattle.chi_replay.specs.Turns.{TurnAnswer, Machine, Turn, turn}
 use Rattle.chi_replay.specs.Texts.{Plays, Says}
 
--- its state in the table: the slices, and each requester's slots and seen credits
+-- its state in the table: the slices, and what is outstanding at each requester
 abbrev pub machine_of : SystemState → Machine
-machine_of y = record { home = y.home; accounts = map (λ r. r.slots) y.requesters; seen = map (λ r. seen_counts r.port) y.requesters }
+machine_of y = record { home = y.home; requesters = map outstanding_of y.requesters }
 
 -- the views of its requesters' ports
 abbrev pub ports_of : SystemState → List PortView

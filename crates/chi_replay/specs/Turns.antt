@@ -1,7 +1,6 @@
 -- What each command of a replay file asks of the tracker, answers and leaves: the table of the commands
 -- (docs/FORMATS.md, "Replay files").
-use Rattle.std.specs.Prelude.{ℕ, ◌-◌, nat_lt, List, [], ◌∷◌, Bool, true, false, ◌&&◌, Option, Some, None, replicate, slice_index, slice_set, if◌then◌else◌}
-use Rattle.std.specs.Option.{option_or}
+use Rattle.std.specs.Prelude.{ℕ, ◌-◌, List, [], ◌∷◌, Bool, true, false, Option, Some, None, replicate, slice_index, slice_set}
 use Rattle.std.specs.List.{slice_index_or}
 use Rattle.chi_flit.specs.declared.numbers.Agent.{Agent}
 use Rattle.chi_flit.specs.declared.numbers.Entry.{Entry}
@@ -15,18 +14,17 @@ use Rattle.chi_flit.specs.declared.action.Effect.{Effect}
 use Rattle.chi_flit.specs.declared.action.Effect.TheVariants as effects
 use Rattle.chi_flit.specs.declared.message.Request.{Request}
 use Rattle.chi_flit.specs.declared.refusal.Refusal.{Refusal}
-use Rattle.chi_flit.specs.declared.refusal.Refusal.TheVariants.{NoCredit, OutOfRange}
 use Rattle.chi_flit.specs.Credit.{credit_number}
 use Rattle.chi_script.specs.declared.commands.Command.{Command}
 use Rattle.chi_script.specs.declared.commands.Command.TheVariants as commands
-use Rattle.chi_node.specs.Words.{Released, SlotState, SlotRecord, after_finish, idle_slot, all_idle, lowest_cancelled, slots_with_state, riding_of, slot_record_at, state_at}
+use Rattle.chi_node.specs.Words.{Released, SlotState, after_finish, idle_slot, all_idle, lowest_cancelled, slots_with_state, slot_record_at, state_at}
 use Rattle.chi_slice.specs.Words.{cells_of, effect_of, line_view, Sizes}
 use Rattle.chi_node.specs.SlotStates as states
 use Rattle.chi_node.specs.declared.answers.Arrived.{Arrived}
 use Rattle.chi_node.specs.declared.answers.Arrived.TheVariants as arrivals
 use Rattle.chi_node.specs.AfterStep.{account_after}
-use Rattle.chi_node.specs.Parts.{is_of_profile}
-use Rattle.chi_node.specs.Calls.{arrival_action, arrival_refusal, is_slot_taken, place_at, wanted_credit, refused_with}
+use Rattle.chi_node.specs.Outstanding.{Outstanding, arrival_refusal, give_back_refusal, see_refusal, step_refusal, tend_refusal, typed_refusal}
+use Rattle.chi_node.specs.Calls.{arrival_action, place_at}
 use Rattle.chi_slice.specs.Audits.{loads_in, stores_in}
 use Rattle.chi_node.specs.Home.{HomeState, slices_after, node_flits_refusal, node_last, node_line, opening_home, slice_of, node_view_refusal}
 use Rattle.chi_replay.specs.Replies.{audit_text, credits_text, flits_text, reply_text, shown_text, totals_text}
@@ -34,36 +32,33 @@ use Rattle.chi_replay.specs.declared.replies.Reply.{Reply}
 use Rattle.chi_replay.specs.declared.replies.Reply.TheVariants as replies
 use Rattle.chi_replay.specs.declared.totals.NodeTotals.{NodeTotals}
 
--- the slices, and for each agent its table of slots and its seen credits by type: the numbers of its last
--- `see`, less one for each that was spent or given back since
+-- a node as the commands count it: its slices, and of each agent what is outstanding at its requester; the seen credits
+-- are the numbers of the agent's last `see`, less one for each that was spent or given back since
 pub record Machine : Type 0 where
   pub home : HomeState
-  pub accounts : List (List SlotRecord)
-  pub seen : List (List ℕ)
+  pub requesters : List Outstanding
 
-abbrev pub no_seen_credits : List ℕ
-no_seen_credits = 0 ∷ 0 ∷ 0 ∷ 0 ∷ []
+-- nothing is, where the tracker has these entries
+abbrev pub none_outstanding : List ℕ → Outstanding
+none_outstanding entries = record { entries = entries; slots = all_idle; seen = replicate 4 0 }
 
 -- a new node
 abbrev pub machine_at_start : Sizes → Machine
-machine_at_start config = record { home = opening_home config; accounts = replicate config.agents all_idle; seen = replicate config.agents no_seen_credits }
+machine_at_start config = record { home = opening_home config; requesters = replicate config.agents (none_outstanding config.entries) }
 
-abbrev pub slots_of : Machine → Agent → List SlotRecord
-slots_of m agent = slice_index_or m.accounts agent.0 all_idle
+abbrev pub requester_in : Machine → Agent → Outstanding
+requester_in m agent = slice_index_or m.requesters agent.0 (none_outstanding (replicate 4 0))
 
-abbrev pub credits_of : Machine → Agent → List ℕ
-credits_of m agent = slice_index_or m.seen agent.0 no_seen_credits
+-- an agent's requester becomes another one, and all else stays
+abbrev pub with_requester : Machine → Agent → Outstanding → Machine
+with_requester m agent r = record m { requesters = slice_set m.requesters agent.0 r }
 
--- an agent's table of slots, or its seen credits, become others, and all else stays
-abbrev pub with_account : Machine → Agent → List SlotRecord → Machine
-with_account m agent slots = record m { accounts = slice_set m.accounts agent.0 slots }
+-- a slot of a requester comes to another state, and a seen credit of a type is gone
+abbrev pub with_state : Outstanding → ℕ → SlotState → Outstanding
+with_state r s state = record r { slots = slots_with_state r.slots s state }
 
-abbrev pub with_credits : Machine → Agent → List ℕ → Machine
-with_credits m agent credits = record m { seen = slice_set m.seen agent.0 credits }
-
--- one seen credit of a type less
-abbrev pub less_one : List ℕ → CreditType → List ℕ
-less_one credits ty = slice_set credits (credit_number ty) (slice_index credits (credit_number ty) - 1)
+abbrev pub less_one : Outstanding → CreditType → Outstanding
+less_one r ty = record r { seen = slice_set r.seen (credit_number ty) (slice_index r.seen (credit_number ty) - 1) }
 
 -- what a command asks: of the tracker, or whether the slices of a node are coherent
 pub data TurnCall : Type 0 where
@@ -109,34 +104,26 @@ or_refused (Some refusal) m else_turn = says (replies.Refused refusal) m
 abbrev pub never : Machine → Turn
 never m = Ends [] m
 
--- whether a seen credit of the type is beyond those for the Riding slots; 12 where one is wanted and none is
-abbrev pub has_spare_credit : List SlotRecord → List ℕ → CreditType → Bool
-has_spare_credit slots credits ty = nat_lt (riding_of slots (credit_number ty)) (slice_index credits (credit_number ty))
-
-abbrev pub machine_credit_refusal : List SlotRecord → List ℕ → Option CreditType → Option Refusal
-machine_credit_refusal slots credits None = None
-machine_credit_refusal slots credits (Some ty) = if has_spare_credit slots credits ty then None else Some NoCredit
-
--- why an action isn't done: its own numbers, with 3 also where an Issue's slot isn't Idle, and then 12
+-- why an action isn't done
 abbrev pub act_refusal : Machine → Action → Option Refusal
-act_refusal m action = option_or
-    (refused_with (is_slot_taken (slots_of m action.agent) action.step) (slice_of m.home action.line.0) action)
-    (machine_credit_refusal (slots_of m action.agent) (credits_of m action.agent) (wanted_credit (slice_of m.home action.line.0) action))
+act_refusal m action = step_refusal (slice_of m.home action.line.0) (requester_in m action.agent) action
 
--- an agent's slots after its action, as its requester follows it
-abbrev pub slots_after : Machine → Action → List SlotRecord
-slots_after m action = account_after (place_at (slice_of m.home action.line.0) action) action.step (slots_of m action.agent)
+-- an agent's requester after its action, as its slots follow it
+abbrev pub requester_after_action : Machine → Action → Outstanding
+requester_after_action m action = record (requester_in m action.agent) {
+  slots = account_after (place_at (slice_of m.home action.line.0) action) action.step (requester_in m action.agent).slots;
+}
 
 -- the state after an action that completes no request, and after one that completes the request of a slot
 abbrev pub with_action : Machine → Action → Machine
-with_action m action = with_account (record m { home = slices_after m.home action }) action.agent (slots_after m action)
+with_action m action = with_requester (record m { home = slices_after m.home action }) action.agent (requester_after_action m action)
 
--- an agent's slots after the request of a slot is complete
-abbrev pub slots_finished : Machine → Agent → Slot → List SlotRecord
-slots_finished m agent slot = slice_set (slots_of m agent) slot.0 (after_finish (slot_record_at (slots_of m agent) slot.0))
+-- a requester after the request of a slot is complete
+abbrev pub requester_after_end : Outstanding → Slot → Outstanding
+requester_after_end r slot = record r { slots = slice_set r.slots slot.0 (after_finish (slot_record_at r.slots slot.0)) }
 
 abbrev pub with_end : Machine → Action → Slot → Machine
-with_end m action slot = with_account (record m { home = slices_after m.home action }) action.agent (slots_finished m action.agent slot)
+with_end m action slot = with_requester (record m { home = slices_after m.home action }) action.agent (requester_after_end (requester_in m action.agent) slot)
 
 abbrev pub turn_after_release : Machine → Slot → TurnAnswer → Turn
 turn_after_release m slot (Went released) = says (replies.Completed slot released) m
@@ -151,22 +138,21 @@ completing other m action slot = never m
 abbrev pub turn_after_action : Effect → Machine → Action → Turn
 turn_after_action effects.Nothing m action = says replies.Done (with_action m action)
 turn_after_action (effects.Value word) m action = says (replies.Value word) (with_action m action)
-turn_after_action (effects.Completed slot) m action = completing (state_at (slots_of m action.agent) slot.0) m action slot
+turn_after_action (effects.Completed slot) m action = completing (state_at (requester_in m action.agent).slots slot.0) m action slot
 
 abbrev pub act_turn : Machine → Action → Turn
 act_turn m action = or_refused (act_refusal m action) m (turn_after_action (effect_of (node_line m.home action.line.0) action) m action)
 
 -- the state after the request of a slot arrived
-abbrev pub with_arrival : Machine → Agent → Line → ℕ → Arrived → SlotState → Machine
-with_arrival m agent l s arrived state =
-    with_account (record m { home = slices_after m.home (arrival_action agent.0 l arrived) }) agent (slots_with_state (slots_of m agent) s state)
+abbrev pub with_arrival : Machine → Agent → Line → Arrived → Outstanding → Machine
+with_arrival m agent l arrived r = with_requester (record m { home = slices_after m.home (arrival_action agent.0 l arrived) }) agent r
 
 -- the request of slot s arrived: it is let in with an entry, or retried
-abbrev pub machine_after_admission : Machine → Agent → Line → ℕ → Entry → Machine
-machine_after_admission m agent l s entry = with_arrival m agent l s (arrivals.Admitted entry) (states.Admitted entry)
+abbrev pub admitted_in : Machine → Agent → ℕ → Entry → Outstanding
+admitted_in m agent s entry = with_state (requester_in m agent) s (states.Admitted entry)
 
 abbrev pub machine_after_retry : Machine → Agent → Line → ℕ → CreditType → Machine
-machine_after_retry m agent l s ty = with_arrival m agent l s (arrivals.Retried ty) states.Refused
+machine_after_retry m agent l s ty = with_arrival m agent l (arrivals.Retried ty) (with_state (requester_in m agent) s states.Refused)
 
 abbrev pub turn_after_owe : Machine → CreditType → TurnAnswer → Turn
 turn_after_owe m ty Owed = says (replies.Retry ty) m
@@ -174,15 +160,13 @@ turn_after_owe m ty other = never m
 
 -- a first attempt, by what the claim answers
 abbrev pub turn_after_claim : Machine → Agent → Line → ℕ → CreditType → TurnAnswer → Turn
-turn_after_claim m agent l s ty (Claimed (Some entry)) = says (replies.Admitted entry) (machine_after_admission m agent l s entry)
+turn_after_claim m agent l s ty (Claimed (Some entry)) = says (replies.Admitted entry) (with_arrival m agent l (arrivals.Admitted entry) (admitted_in m agent s entry))
 turn_after_claim m agent l s ty (Claimed None) = Asks (Owe agent ty) (turn_after_owe (machine_after_retry m agent l s ty) ty)
 turn_after_claim m agent l s ty other = never m
 
 -- a resent request, by the entry of the credit that is spent for it
 abbrev pub turn_after_spend : Machine → Agent → Line → ℕ → CreditType → TurnAnswer → Turn
-turn_after_spend m agent l s ty (Spent entry) = says
-    (replies.Admitted entry)
-    (with_credits (machine_after_admission m agent l s entry) agent (less_one (credits_of m agent) ty))
+turn_after_spend m agent l s ty (Spent entry) = says (replies.Admitted entry) (with_arrival m agent l (arrivals.Admitted entry) (less_one (admitted_in m agent s entry) ty))
 turn_after_spend m agent l s ty other = never m
 
 -- a request of slot s and a credit type arrives, with AllowRetry or without
@@ -192,45 +176,33 @@ turn_of_attempt false m agent l s ty = Asks (Spend agent ty) (turn_after_spend m
 
 abbrev pub arriving : Machine → Agent → Line → Option Request → Turn
 arriving m agent l None = never m
-arriving m agent l (Some request) = turn_of_attempt request.allow_retry m agent l request.slot.0 (slot_record_at (slots_of m agent) request.slot.0).credit
+arriving m agent l (Some request) = turn_of_attempt request.allow_retry m agent l request.slot.0 (slot_record_at (requester_in m agent).slots request.slot.0).credit
 
 abbrev pub arrive : Machine → Agent → Line → Turn
 arrive m agent l = or_refused (arrival_refusal (slice_of m.home l.0) agent.0 l.0) m (arriving m agent l (cells_of (node_line m.home l.0) agent.0).req)
 
--- 10: there is no such agent
-abbrev pub machine_agent_refusal : Machine → Agent → Option Refusal
-machine_agent_refusal m agent = if nat_lt agent.0 m.home.config.agents then None else Some OutOfRange
-
--- 10: there is no such agent, or no such type
-abbrev pub type_refusal : Machine → Agent → CreditType → Option Refusal
-type_refusal m agent ty = option_or (machine_agent_refusal m agent) (if is_of_profile m.home.config.profile (credit_number ty) then None else Some OutOfRange)
-
 abbrev pub turn_after_see : Machine → Agent → TurnAnswer → Turn
-turn_after_see m agent (Saw counts) = Ends (credits_text (record { counts = counts; profile = m.home.config.profile })) (with_credits m agent counts)
+turn_after_see m agent (Saw counts) = Ends (credits_text (record { counts = counts; profile = m.home.config.profile })) (with_requester m agent (record (requester_in m agent) { seen = counts }))
 turn_after_see m agent other = never m
 
--- 12: no slot of the type is Cancelled, or no seen credit of the type is to spare
-abbrev pub cancelled_refusal : List SlotRecord → List ℕ → CreditType → Option Refusal
-cancelled_refusal slots credits ty = if nat_lt (lowest_cancelled slots (credit_number ty)) 8 && has_spare_credit slots credits ty then None else Some NoCredit
-
--- an agent's slots where its lowest Cancelled one of the type is Idle
-abbrev pub slots_idle : Machine → Agent → CreditType → List SlotRecord
-slots_idle m agent ty = slice_set (slots_of m agent) (lowest_cancelled (slots_of m agent) (credit_number ty)) idle_slot
-
--- the state after that slot's credit is given back
-abbrev pub with_return : Machine → Agent → CreditType → Machine
-with_return m agent ty = with_credits (with_account m agent (slots_idle m agent ty)) agent (less_one (credits_of m agent) ty)
+-- a requester whose lowest Cancelled slot of the type is Idle, and one seen credit of the type gone
+abbrev pub after_return : Outstanding → CreditType → Outstanding
+after_return r ty = less_one (record r { slots = slice_set r.slots (lowest_cancelled r.slots (credit_number ty)) idle_slot }) ty
 
 abbrev pub credit_given_back : Machine → Agent → CreditType → TurnAnswer → Turn
-credit_given_back m agent ty (Went released) = says (replies.Paid released) (with_return m agent ty)
+credit_given_back m agent ty (Went released) = says (replies.Paid released) (with_requester m agent (after_return (requester_in m agent) ty))
 credit_given_back m agent ty other = never m
 
-abbrev pub return_refusal : Machine → Agent → CreditType → Option Refusal
-return_refusal m agent ty = option_or (type_refusal m agent ty) (cancelled_refusal (slots_of m agent) (credits_of m agent) ty)
+-- why a call of an agent for a type isn't done
+abbrev pub return_refusal : Machine → Agent → Option CreditType → Option Refusal
+return_refusal m agent ty = typed_refusal m.home agent.0 (give_back_refusal (requester_in m agent)) ty
+
+abbrev pub tend_refusal_of : Machine → Agent → Option CreditType → Option Refusal
+tend_refusal_of m agent ty = typed_refusal m.home agent.0 (tend_refusal (requester_in m agent)) ty
 
 abbrev pub give_back : Machine → Agent → Option CreditType → Turn
-give_back m agent None = says (replies.Refused OutOfRange) m
-give_back m agent (Some ty) = or_refused (return_refusal m agent ty) m (Asks (GiveBack agent ty) (credit_given_back m agent ty))
+give_back m agent None = or_refused (return_refusal m agent None) m (never m)
+give_back m agent (Some ty) = or_refused (return_refusal m agent (Some ty)) m (Asks (GiveBack agent ty) (credit_given_back m agent ty))
 
 abbrev pub turn_after_tend : Machine → TurnAnswer → Turn
 turn_after_tend m (Tended None) = says replies.Idle m
@@ -238,8 +210,8 @@ turn_after_tend m (Tended (Some released)) = says (replies.Paid released) m
 turn_after_tend m other = never m
 
 abbrev pub tend : Machine → Agent → Option CreditType → Turn
-tend m agent None = says (replies.Refused OutOfRange) m
-tend m agent (Some ty) = or_refused (type_refusal m agent ty) m (Asks (Tend agent ty) (turn_after_tend m))
+tend m agent None = or_refused (tend_refusal_of m agent None) m (never m)
+tend m agent (Some ty) = or_refused (tend_refusal_of m agent (Some ty)) m (Asks (Tend agent ty) (turn_after_tend m))
 
 -- the four numbers of the types, by rising type
 abbrev pub by_type : (CreditType → ℕ) → List ℕ
@@ -267,7 +239,7 @@ turn m commands.Audit = Asks (Judge m.home) (turn_after_verdict m)
 turn m (commands.Show l) = or_refused (node_view_refusal m.home l.0) m (Ends (shown_text m.home.config.agents (line_view (node_line m.home l.0) (node_last m.home l.0))) m)
 turn m (commands.Flits agent l) = or_refused (node_flits_refusal m.home agent.0 l.0) m (Ends (flits_text (cells_of (node_line m.home l.0) agent.0)) m)
 turn m (commands.Arrive agent l) = arrive m agent l
-turn m (commands.See agent) = or_refused (machine_agent_refusal m agent) m (Asks (See agent) (turn_after_see m agent))
+turn m (commands.See agent) = or_refused (see_refusal m.home agent.0) m (Asks (See agent) (turn_after_see m agent))
 turn m (commands.GiveBack agent ty) = give_back m agent ty
 turn m (commands.Tend agent ty) = tend m agent ty
 turn m (commands.Act action) = act_turn m action

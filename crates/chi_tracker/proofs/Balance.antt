@@ -104,17 +104,16 @@ closes key s ws gathered ports known history dues counts credits key_is all know
       rule = kept;
       no_duty = idle;
       counted = counted;
-      requesters = handed.requesters;
-      owed = handed.owed;
-      promised = handed.promised;
-      due = λ n t ln lt. let h = handed.due n t ln lt in let k = due n t (omega (arith, kept.agents)) lt in omega arith;
+      dues = dues;
+      due = due;
+      handed = handed;
     }
 
 -- what is due is what is owed and what is promised
 pub balances : (s : Shape) (ports : List PortView) (history : List Act) (counts : Counts) (credits : List Credits) → IsClosed s ports history counts credits → IsBalanced s.agents credits
 balances s ports history counts credits closed n t ln lt =
     let led : Ledger s (p_of closed.words) (o_of closed.words) ports n t = subst (λ (ps : List PortView). Ledger s (p_of closed.words) (o_of closed.words) ps n t) (append-nil ports) (ledgers s (closed_state closed.words ports) closed.rule n t ln lt) in let i : ℕ = led.0 in
-    let h = closed.due n t ln lt in let d = closed.no_duty n t in let o = closed.owed n t ln lt in let q = closed.promised n t ln lt in
+    let h = closed.handed.due n t ln lt in let k = closed.due n t (omega (arith, closed.rule.agents)) lt in let d = closed.no_duty n t in let o = closed.handed.owed n t ln lt in let q = closed.handed.promised n t ln lt in
     let mine : (f : PortView → ℕ) → sum_of n f ports ≡ f (port_at ports i) = λ f. sum-mine n f ports i led.1 led.2 led.3 in
     let a = mine (λ x. slice_index x.retries t) in let b = mine (λ x. slice_index x.spent t) in let e = mine (λ x. slice_index x.returned t) in let g = led.4 in omega arith
   where

@@ -12,12 +12,13 @@ use Rattle.chi_tracker.specs.declared.step.AtomicStep.TheVariants.{Claim, Free, 
 use Rattle.chi_tracker.specs.Sums.{with_bit}
 use Rattle.chi_tracker.specs.Shape.{low, size, IsOf}
 use Rattle.chi_tracker.specs.Views.{PortView, has}
-use Rattle.chi_tracker.specs.Calls.{Owner, owner_in, swept_by, port_after_scan}
+use Rattle.chi_tracker.specs.Calls.{Owner, owner_in, port_after_scan}
 use Rattle.chi_tracker.specs.Steps.{SeatPorts, shown, solo, port_of, claims, byte_of, effect, first_clear}
 use Rattle.chi_tracker.specs.History.{port_in}
 use Rattle.chi_tracker.specs.declared.released.Released.{Released}
 use Rattle.chi_tracker.specs.Conduct.{Steps, after_steps, ClaimActs, Then, Each, One, Found, Looked, FoundTaken, FoundFree, Tried, FoundClear, SweptAt, SweptFor, Settled, SettledIn, PromisedAt, EndActs, LookedInVain, LookedUntil, OweActs, SeeActs, TendActs, Does, HasStepped}
 use Rattle.chi_tracker.proofs.Advance.{done_other}
+use Rattle.chi_tracker.proofs.Sweeps.{swept_by}
 
 pub done-both : (n : ℕ) (xs ys : List Act) → done_by n (xs ++ ys) ≡ done_by n xs ++ done_by n ys
 done-both n [] ys = refl

@@ -10,12 +10,12 @@ use Rattle.chi_tracker.specs.Sums.{with_bit, without_bit}
 use Rattle.chi_tracker.specs.Shape.{low, size}
 use Rattle.chi_tracker.specs.Views.{PortView}
 use Rattle.chi_tracker.specs.Steps.{SeatPorts, solo, port_of, byte_of, claims, effect, frees, returns_credit, settles, sweeps}
-use Rattle.chi_tracker.specs.Calls.{Owner, granted_to, into_hand, port_after_scan, saw_all, stands_at, swept_by, swept_all, with_sweep, Claims, HasReturned, LeavesHand, LeavesHandAsItsType, Tended}
+use Rattle.chi_tracker.specs.Calls.{Owner, granted_to, into_hand, port_after_scan, saw_all, stands_at, swept_all, with_sweep, Claims, HasReturned, LeavesHand, LeavesHandAsItsType, Tended}
 use Rattle.chi_tracker.specs.declared.shape.Shape.{Shape}
 use Rattle.chi_tracker.specs.Conduct.{HasActed, Steps, after_steps, Then, Found, Looked, FoundTaken, FoundFree, Tried, FoundClear, SweptAt, SweptFor, Settled, PromisedAt, LookedInVain, ClaimActs, EndActs, ReleaseActs, ReturnActs, SeeActs, TendActs}
 use Rattle.chi_tracker.proofs.Conduct.{after-both}
 use Rattle.chi_tracker.proofs.Entries.{first_found}
-use Rattle.chi_tracker.proofs.Sweeps.{IsSettled, both_true, settled_first, settled_unset, settled_clear, settled_all}
+use Rattle.chi_tracker.proofs.Sweeps.{swept_by, IsSettled, both_true, settled_first, settled_unset, settled_clear, settled_all}
 
 -- one step; and what comes after something else
 pub made_one : (steps : Steps) (k : AtomicStep) (r : ℕ) (p : PortView) → steps ≡ (k, r) ∷ [] → after_steps steps p ≡ effect k r p

@@ -138,11 +138,6 @@ IsLowestSeen p t e = IsOf p.shape t e × (set_at p.seen e ≡ 1) × ((i : ℕ) �
 abbrev pub stands_at : ℕ → ℕ → ℕ → PortView → PortView
 stands_at t m left p = record p { sweep = record { opened = p.sweep.opened + 1; kind = t; at = m; left = left } }
 
--- a sweep of type t was opened, has looked at the first m requesters, and has no bit left
-abbrev pub swept_by : ℕ → ℕ → PortView → PortView
-swept_by t zero p = p
-swept_by t (suc m) p = stands_at t m 0 p
-
 -- a sweep of type t was opened, has looked at all requesters, and has no bit left
 abbrev pub swept_all : ℕ → PortView → PortView
 swept_all t p = stands_at t (p.shape.agents - 1) 0 p

@@ -98,11 +98,9 @@ pub record IsClosed (s : Shape) (ports : List PortView) (history : List Act) (co
   pub rule : TrackerRule s (closed_state words ports)
   pub no_duty : (n t : ℕ) → duties n t ports ≡ 0
   pub counted : IsCount s words counts
-  pub requesters : length credits ≡ s.agents
-  pub owed : (n t : ℕ) → n < s.agents → t < 4 → slice_index (credits_at credits n).owed t ≡ owed_in t (o_of words n)
-  pub promised : (n t : ℕ) → n < s.agents → t < 4 → slice_index (credits_at credits n).promised t ≡ count_of s t (p_of words n)
-  pub due : (n t : ℕ) → n < s.agents → t < 4
-      → slice_index (credits_at credits n).due t + paid_by n t ports ≡ sum_of n (λ x. slice_index x.retries t) ports
+  pub dues : List ℕ
+  pub due : AreDue dues ports
+  pub handed : AreCredits s words dues s.agents credits
 
 -- what is due to each requester is what is owed to it and what is promised to it
 abbrev pub IsBalanced : ℕ → List Credits → Type 0

@@ -1,10 +1,10 @@
 -- The step can be followed, and agreement is kept.
 use Rattle.std.proofs.Common.{◌≡◌, Some, ◌∙◌, ap, rules}
 use Rattle.chi_slice.specs.declared.terms.Terms.{Terms}
-use Rattle.chi_slice.specs.Slice.{action_in, refused_under}
-use Rattle.chi_node.specs.Calls.{call_refusal}
+use Rattle.chi_slice.specs.Protocol.{refused_on_terms}
+use Rattle.chi_slice.specs.Slice.{action_in}
+use Rattle.chi_node.specs.Outstanding.{outstanding_of, step_refusal}
 use Rattle.chi_node.proofs.Histories.{step_running, step_same}
-use Rattle.chi_node.proofs.Refusing.{called}
 use Rattle.chi_node.proofs.StepCalls.{StepKept, can_finish, can_step, place_is, step_kept}
 use Rattle.chi_node.proofs.calls.step_agreed.Given as given
 use Rattle.chi_node.proofs.calls.step_agreed.Goals as goal
@@ -17,12 +17,12 @@ finish-released-requires-clause-fits g c =
 
 pub returns-in_err-done-clause-refusal : goal.returns-in_err-done-clause-refusal
 returns-in_err-done-clause-refusal g c =
-    let told : Some c.in_err-done.field-0.0 ≡ call_refusal c.args.slice.now c.args.requester.now (action_in c.args.at c.args.step) =
-    c.in_err-done.ensures.computed.refusal ∙ (ap (λ (t : Terms). refused_under t c.args.slice.now (action_in c.args.at c.args.step)) c.terms-terms.ensures ∙ called c.args.slice.now c.args.requester.now (action_in c.args.at c.args.step)) in
+    let told : Some c.in_err-done.field-0.0 ≡ step_refusal c.args.slice.now (outstanding_of c.args.requester.now) (action_in c.args.at c.args.step) =
+    c.in_err-done.ensures.refused ∙ ap (λ (t : Terms). refused_on_terms t c.args.slice.now (action_in c.args.at c.args.step)) c.terms-terms.ensures in
     search (rules, told)
 
 pub returns-clause-refusal : goal.returns-clause-refusal
-returns-clause-refusal g c = c.in_ok-done.ensures.computed.refusal ∙ (ap (λ (t : Terms). refused_under t c.args.slice.now (action_in c.args.at c.args.step)) c.terms-terms.ensures ∙ called c.args.slice.now c.args.requester.now (action_in c.args.at c.args.step))
+returns-clause-refusal g c = c.in_ok-done.ensures.refused ∙ ap (λ (t : Terms). refused_on_terms t c.args.slice.now (action_in c.args.at c.args.step)) c.terms-terms.ensures
 
 kept : (g : given.Over) (c : goal.After-finish-released g) → StepKept c.args.slice.now c.act_in.new.self (action_in c.args.at c.args.step) c.args.requester.now c.finish-released.new.self
 kept g c =

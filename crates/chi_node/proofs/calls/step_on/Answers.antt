@@ -5,12 +5,13 @@ use Rattle.chi_flit.specs.declared.numbers.Line.{Line}
 use Rattle.chi_flit.specs.declared.action.Action.{Action}
 use Rattle.chi_slice.specs.Slice.{action_in}
 use Rattle.chi_node.specs.Calls.{DoesStep}
+use Rattle.chi_node.specs.Outstanding.{outstanding_of}
 use Rattle.chi_node.proofs.RowCalls.{row_refused}
 use Rattle.chi_node.proofs.calls.step_on.Goals as goal
 
 pub returns-in_err-at-clause-refusal : goal.returns-in_err-at-clause-refusal
 returns-in_err-at-clause-refusal g c =
-    let told = row_refused c.args.slice.now c.args.requester.now c.args.action c.in_err-at.field-0.0 c.in_err-at.ensures.refusal in
+    let told = row_refused c.args.slice.now (outstanding_of c.args.requester.now) c.args.action c.in_err-at.field-0.0 c.in_err-at.ensures.refusal in
     search (rules, told)
 
 pub returns-then-agrees-clause-call : goal.returns-then-agrees-clause-call

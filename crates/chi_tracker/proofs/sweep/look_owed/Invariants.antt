@@ -1,7 +1,8 @@
 use Rattle.std.proofs.Common.{◌≡◌, ◌<◌}
 use Rattle.chi_tracker.specs.Steps.{shown, solo}
 use Rattle.chi_tracker.specs.History.{IsAfter, port_in}
-use Rattle.chi_tracker.specs.Calls.{owner_in, swept_by}
+use Rattle.chi_tracker.specs.Calls.{owner_in}
+use Rattle.chi_tracker.proofs.Sweeps.{swept_by}
 use Rattle.chi_tracker.specs.Conduct.{Does, LookedInVain}
 use Rattle.chi_tracker.proofs.sweep.look_owed.Given as goal
 

@@ -7,4 +7,4 @@ pub returns-clause-done : goal.returns-clause-done
 returns-clause-done g c =
     let own : IsSliceOf c.args.self.now.config c.args.line.0 c.deref_mut.result.now = subst (IsSliceOf c.args.self.now.config c.args.line.0) (sym c.deref_mut.ensures.value) c.in_ok-slice.ensures.slice in
     let e = c.arrive_on.ensures in
-    inr (record { before = c.deref_mut.result.now; after = c.arrive_on.new.slice; own = own; refusal = e.refusal; call = e.call })
+    inr (record { before = c.deref_mut.result.now; after = c.arrive_on.new.slice; own = own; done = (e.refusal, e.call) })

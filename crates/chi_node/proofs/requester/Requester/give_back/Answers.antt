@@ -1,6 +1,6 @@
 -- The port's credits are as after the return, and the account keeps to them. A Cancelled slot became Idle, and
 -- nothing else that agreement asks for changed.
-use Rattle.std.proofs.Common.{◌≡◌, ◌≤◌, List, ◌∙◌, ap, sym, subst}
+use Rattle.std.proofs.Common.{◌≡◌, ◌≤◌, true, nat_lt, List, ◌∙◌, ap, sym, subst, slice_set, rules}
 use Rattle.atomic_table.specs.Seated.{TableId}
 use Rattle.chi_flit.specs.Credit.{credit_number}
 use Rattle.chi_tracker.specs.declared.shape.Shape.{Shape}
@@ -9,11 +9,20 @@ use Rattle.chi_credit.specs.declared.slot.SlotRecord.{SlotRecord}
 use Rattle.chi_credit.specs.Slot.{idle_slot}
 use Rattle.chi_credit.specs.Account.{lowest_cancelled}
 use Rattle.chi_node.specs.Agree.{Agree}
-use Rattle.chi_node.specs.Requester.{RequesterState, without_cancelled}
+use Rattle.chi_node.specs.Requester.{RequesterState, with_both}
 use Rattle.chi_node.proofs.CreditCalls.{freed_agrees}
-use Rattle.chi_node.proofs.Keeps.{still_eight}
+use Rattle.chi_slice.proofs.Rows.{both}
+use Rattle.chi_node.specs.Outstanding.{can_give_back, outstanding_of}
+use Rattle.chi_node.proofs.Keeps.{spare_seen, still_eight}
 use Rattle.chi_node.proofs.requester.Requester.give_back.Given as given
 use Rattle.chi_node.proofs.requester.Requester.give_back.Goals as goal
+
+pub give_back-requires-clause-credit : goal.give_back-requires-clause-credit
+give_back-requires-clause-credit g c =
+    let t = credit_number c.args.ty in
+    let can : can_give_back (outstanding_of c.args.self.now) t ≡ true = search (rules, c.can_give_back.ensures, c.if-not-can_give_back.false) in
+    let own = subst (λ (r : RequesterState). can_give_back (outstanding_of r) t ≡ true) (sym c.self.view_is) can in
+    spare_seen c.self.inside.account c.self.inside.port.port c.args.ty (both (nat_lt (lowest_cancelled c.self.inside.account t) 8) _ own).1
 
 pub invariant_of-self : goal.invariant_of-self
 invariant_of-self g c =
@@ -39,7 +48,7 @@ before g c = record { number = c.self.inside.number.0; table = c.self.inside.por
 abbrev after : (g : given.Over) (c : goal.After-give_back g) → RequesterState
 after g c = record (before g c) { table = c.give_back.new.port.table; port = c.give_back.new.port.port; history = c.give_back.new.port.history; slots = c.give_back.new.self }
 
-freed : (g : given.Over) (c : goal.After-give_back g) → after g c ≡ without_cancelled (credit_number c.args.ty) c.give_back.new.port.port c.give_back.new.port.history (before g c)
+freed : (g : given.Over) (c : goal.After-give_back g) → after g c ≡ with_both c.give_back.new.port.port c.give_back.new.port.history (slice_set (before g c).slots (lowest_cancelled (before g c).slots (credit_number c.args.ty)) idle_slot) (before g c)
 freed g c =
     let port = c.give_back.new.port in
     ap (λ (t : TableId). record (before g c) { table = t; port = port.port; history = port.history; slots = c.give_back.new.self }) c.give_back.ensures.returned.acts.table

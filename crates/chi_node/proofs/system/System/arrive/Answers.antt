@@ -1,9 +1,10 @@
 -- The slice of the line and the agent's requester are lent, and come back changed.
-use Rattle.std.proofs.Common.{◌≡◌, ◌<◌, subst, sym}
+use Rattle.std.proofs.Common.{◌≡◌, ◌<◌, rules, subst, sym}
 use Rattle.chi_node.specs.Calls.{IsRowOf}
 use Rattle.chi_node.specs.Home.{index_of, slice_of}
 use Rattle.chi_node.specs.System.{SystemState}
 use Rattle.chi_node.proofs.Changed.{arrival_answered, called, can_call, row_found, still_system}
+use Rattle.chi_node.proofs.RowCalls.{arrival_refused}
 use Rattle.chi_node.proofs.system.System.arrive.Goals as goal
 
 pub arrive_agreed-requires : goal.arrive_agreed-requires
@@ -31,3 +32,8 @@ returns g c =
     let e = c.arrive_agreed.ensures in
     let said = arrival_answered y _ c.args.agent c.args.line _ _ _ _ _ c.arrive_agreed.result c.self.invariant.system call c.in_ok-place.ensures.line (e.refusal, e.call.ok, e.call.err) in
     rw (← c.self.view_is) (record { refusal = said.0; ok = said.1; err = said.2; kept = c.self.invariant.system })
+
+pub returns-in_err-place-clause-refusal : goal.returns-in_err-place-clause-refusal
+returns-in_err-place-clause-refusal g c =
+    let told = arrival_refused (slice_of c.args.self.now.home c.args.line.0) c.args.agent.0 c.args.line.0 c.in_err-place.field-0.0 c.in_err-place.ensures.refusal in
+    search (rules, told)

@@ -3,7 +3,7 @@ use Rattle.std.proofs.Common.{◌≡◌, ◌<◌, rules, subst, sym}
 use Rattle.chi_slice.specs.Slice.{action_in}
 use Rattle.chi_node.specs.Calls.{IsRowOf}
 use Rattle.chi_node.specs.Home.{index_of, slice_of}
-use Rattle.chi_node.specs.System.{SystemState, requester_of}
+use Rattle.chi_node.specs.System.{SystemState, outstanding_at}
 use Rattle.chi_node.proofs.Changed.{step_answered, called, can_call, row_found, still_system}
 use Rattle.chi_node.proofs.RowCalls.{row_refused}
 use Rattle.chi_node.proofs.system.System.step.Goals as goal
@@ -37,5 +37,5 @@ returns g c =
 
 pub returns-in_err-place-clause-refusal : goal.returns-in_err-place-clause-refusal
 returns-in_err-place-clause-refusal g c =
-    let told = row_refused (slice_of c.args.self.now.home c.args.action.line.0) (requester_of c.args.self.now c.args.action.agent.0) c.args.action c.in_err-place.field-0.0 c.in_err-place.ensures.refusal in
+    let told = row_refused (slice_of c.args.self.now.home c.args.action.line.0) (outstanding_at c.args.self.now c.args.action.agent.0) c.args.action c.in_err-place.field-0.0 c.in_err-place.ensures.refusal in
     search (rules, told)
