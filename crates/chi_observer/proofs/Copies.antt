@@ -1,16 +1,16 @@
 -- An agent's copy at a flit of the home, and the others beside it.
-use Rattle.std.proofs.Common.{rules, arith, ◌≡◌, ◌≢◌, ℕ, ◌<◌, zero, suc, refl, sym, ap, subst, ◌∙◌}
+use Rattle.std.proofs.Common.{rules, arith, ◌≡◌, ◌≢◌, ℕ, ◌<◌, ◌+◌, zero, suc, refl, sym, ap, subst, ◌∙◌}
 use Rattle.std.specs.Prelude.{Bool, true, false, ◌&&◌, ◌||◌, ◌==◌, not, Option}
-use Rattle.chi_flit.specs.declared.snoop.Snoop.{Snoop}
+use Rattle.chi_observer.specs.declared.kinds.Snoop.{Snoop}
 use Rattle.chi_observer.specs.declared.flits.Due.{Due}
 use Rattle.std.proofs.lemmas.Bool.{eqb-true}
 use Rattle.chi_observer.specs.declared.flits.HomeFlit.{HomeFlit}
 use Rattle.chi_observer.specs.Copies.{Copy, Held, holds_data, is_unique, is_dirty, same}
 use Rattle.chi_observer.specs.Copies.Copy.{Invalid, UniqueDirty}
-use Rattle.chi_observer.specs.Rules.{is_free, is_due, gives_data, granted, fills, due_granted}
-use Rattle.chi_observer.specs.Tables.{Known, most, reach, fresh, goes_with, told_granted, fills_told}
+use Rattle.chi_observer.specs.Rules.{is_free, is_due, gives_data, needs_alone, needs_quiet, granted, fills, due_granted}
+use Rattle.chi_observer.specs.Tables.{Known, most, may as told_may, reach, fresh, goes_with, told_granted, fills_told}
 use Rattle.chi_observer.specs.Worlds.{World, home_may, all_below, put}
-use Rattle.chi_observer.specs.Observed.{Observed, Sound, Meaning, goes, takes_home, next_home}
+use Rattle.chi_observer.specs.Observed.{Observed, Sound, Meaning, is_beside, goes, takes_home, next_home}
 use Rattle.chi_observer.specs.Laws.{HomeFlitsKeepSound}
 use Rattle.chi_observer.proofs.Finite.{no, left, right, both, implies, follow}
 use Rattle.chi_observer.proofs.Facts.{turned, flip, and_false, contrary, goes_back, same_truth, same_truth_is}
@@ -30,6 +30,19 @@ pub below_all : (k : ℕ) (f : ℕ → Bool) → ((m : ℕ) → m < k → f m �
 below_all zero f h = refl
 below_all (suc k) f h = both (f k) (all_below k f) (h k (search (rules, arith))) (below_all k f (λ m l. h m (search (rules, arith))))
 
+swap : (a b : Bool) → (a && b) ≡ (b && a)
+swap true true = refl
+swap true false = refl
+swap false true = refl
+swap false false = refl
+
+suc_is : (k : ℕ) → suc k ≡ k + 1
+suc_is k = search (rules, arith)
+
+-- one more
+pub next_below : (k : ℕ) (f : ℕ → Bool) (a b : Bool) → a ≡ all_below k f → b ≡ f k → (a && b) ≡ all_below (k + 1) f
+next_below k f a b h e = (λ i. h i && e i) ∙ swap (all_below k f) (f k) ∙ ap (λ (n : ℕ). all_below n f) (suc_is k)
+
 one_of : (a b : Bool) → (a || b) ≡ true → a ≡ false → b ≡ true
 one_of true b h e = no (sym e)
 one_of false b h e = h
@@ -39,10 +52,21 @@ module _ (o : Observed) (g : HomeFlit) (sound : Sound o) (low : g.agent.0 < 32) 
   at = g.agent.0
 
   abbrev left_told : Known
-  left_told = told_granted g.grant (o.told at)
+  left_told = told_granted g.grant (o.public.due at) (o.told at)
+
+  stands_else : (m : ℕ) → m ≢ at → m < 32 → is_beside left_told (needs_alone g.grant (o.public.due at)) (o.told m) ≡ true
+  stands_else m h k = one_of (m == at) _ (each_below 32 (λ m. m == at || is_beside left_told (needs_alone g.grant (o.public.due at)) (o.told m)) (right _ (goes o g) (right (home_may o.public g) _ takes)) m k) (unlike m at h)
 
   pub goes_else : (m : ℕ) → m ≢ at → m < 32 → goes_with left_told (o.told m) ≡ true
-  goes_else m h k = one_of (m == at) _ (each_below 32 (λ m. m == at || goes_with left_told (o.told m)) (right _ (goes o g) (right (home_may o.public g) _ takes)) m k) (unlike m at h)
+  goes_else m h k = left _ _ (stands_else m h k)
+
+  -- where the flit says that no other copy is left
+  pub gone_else : needs_alone g.grant (o.public.due at) ≡ true → (m : ℕ) → m ≢ at → m < 32 → same (most (o.told m)) Invalid ≡ true
+  gone_else e m h k = so (needs_alone g.grant (o.public.due at)) _ (right (goes_with left_told (o.told m)) _ (stands_else m h k)) e
+    where
+      so : (a b : Bool) → (not a || b) ≡ true → a ≡ true → b ≡ true
+      so true b h e = h
+      so false b h e = no e
 
   kept_here : Sound (next_home o g)
   kept_here = record {
@@ -52,7 +76,7 @@ module _ (o : Observed) (g : HomeFlit) (sound : Sound o) (low : g.agent.0 < 32) 
       w.0,
       w.1,
       split (λ k. same (most (o.told k)) UniqueDirty ≡ true → same (most (put at left_told o.told k)) UniqueDirty ≡ true) at
-          (λ h. subst (λ x. same (most x) UniqueDirty ≡ true) (sym (here at left_told o.told)) (keeps_dirty g.grant (o.public.due at) (o.public.snooped at) (o.told at) h))
+          (λ h. subst (λ x. same (most x) UniqueDirty ≡ true) (sym (here at left_told o.told)) (keeps_dirty g.grant (o.public.due at) (o.public.snooped at) (o.told at) (left _ _ (left (home_may o.public g) _ takes)) h))
           (λ k d h. subst (λ x. same (most x) UniqueDirty ≡ true) (sym (there at left_told o.told k d)) h) w.0 w.2,
     );
   }
@@ -78,7 +102,7 @@ module _ (o : Observed) (g : HomeFlit) (low : g.agent.0 < 32) (may : home_may o.
   d' = due_granted g.grant d
 
   abbrev t' : Known
-  t' = told_granted g.grant t
+  t' = told_granted g.grant d t
 
   pub fitting : is_due g.grant d q ≡ true
   fitting = left _ _ may
@@ -87,29 +111,33 @@ module _ (o : Observed) (g : HomeFlit) (low : g.agent.0 < 32) (may : home_may o.
     facts : given_well g.grant d q t s ≡ true
     facts = given g.grant d q t s (both _ _ fitting r)
 
-    pub reached : reach d' t' (granted g.grant s) ≡ true
-    reached = left _ _ facts
+    pub reached : reach d' t' (granted g.grant d s) ≡ true
+    reached = left _ _ (left _ _ facts)
 
-    facts2 : (implies (fresh d t s) (fresh d' t' (granted g.grant s)) && (same_truth (fills_told g.grant t) (fills g.grant s) && (implies (holds_data (granted g.grant s).copy && not (fills g.grant s)) (holds_data s.copy) && implies (fills g.grant s) (not (fresh d t s))))) ≡ true
-    facts2 = right (reach d' t' (granted g.grant s)) _ facts
+    -- and is as it is told, but at a snoop
+    pub settled_given : (needs_quiet g.grant || told_may t'.told (granted g.grant d s).copy) ≡ true
+    settled_given = right (reach d' t' (granted g.grant d s)) _ (left _ _ facts)
 
-    pub unfresh : fresh d' t' (granted g.grant s) ≡ false → fresh d t s ≡ false
+    facts2 : (implies (fresh d t s) (fresh d' t' (granted g.grant d s)) && (same_truth (fills_told g.grant t) (fills g.grant s) && (implies (holds_data (granted g.grant d s).copy && not (fills g.grant s)) (holds_data s.copy) && implies (fills g.grant s) (not (fresh d t s))))) ≡ true
+    facts2 = right (reach d' t' (granted g.grant d s) && (needs_quiet g.grant || told_may t'.told (granted g.grant d s).copy)) _ facts
+
+    pub unfresh : fresh d' t' (granted g.grant d s) ≡ false → fresh d t s ≡ false
     unfresh = contrary (fresh d t s) _ (left _ _ facts2)
 
-    facts3 : (same_truth (fills_told g.grant t) (fills g.grant s) && (implies (holds_data (granted g.grant s).copy && not (fills g.grant s)) (holds_data s.copy) && implies (fills g.grant s) (not (fresh d t s)))) ≡ true
-    facts3 = right (implies (fresh d t s) (fresh d' t' (granted g.grant s))) _ facts2
+    facts3 : (same_truth (fills_told g.grant t) (fills g.grant s) && (implies (holds_data (granted g.grant d s).copy && not (fills g.grant s)) (holds_data s.copy) && implies (fills g.grant s) (not (fresh d t s)))) ≡ true
+    facts3 = right (implies (fresh d t s) (fresh d' t' (granted g.grant d s))) _ facts2
 
     pub fills_same : fills_told g.grant t ≡ fills g.grant s
     fills_same = same_truth_is _ _ (left _ _ facts3)
 
-    facts4 : (implies (holds_data (granted g.grant s).copy && not (fills g.grant s)) (holds_data s.copy) && implies (fills g.grant s) (not (fresh d t s))) ≡ true
+    facts4 : (implies (holds_data (granted g.grant d s).copy && not (fills g.grant s)) (holds_data s.copy) && implies (fills g.grant s) (not (fresh d t s))) ≡ true
     facts4 = right (same_truth (fills_told g.grant t) (fills g.grant s)) _ facts3
 
-    pub had_data : holds_data (granted g.grant s).copy ≡ true → fills g.grant s ≡ false → holds_data s.copy ≡ true
+    pub had_data : holds_data (granted g.grant d s).copy ≡ true → fills g.grant s ≡ false → holds_data s.copy ≡ true
     had_data v e = follow _ _ (left _ _ facts4) (both _ _ v (flip _ e))
 
     pub still : fills g.grant s ≡ true → fresh d t s ≡ false
-    still f = turned _ (follow (fills g.grant s) _ (right (implies (holds_data (granted g.grant s).copy && not (fills g.grant s)) (holds_data s.copy)) _ facts4) f)
+    still f = turned _ (follow (fills g.grant s) _ (right (implies (holds_data (granted g.grant d s).copy && not (fills g.grant s)) (holds_data s.copy)) _ facts4) f)
 
 -- where its data fill a copy the home's words are the value
 not_dirty : (g : Bool) (t : Known) → (g && not (is_dirty (most t))) ≡ true → same (most t) UniqueDirty ≡ false
@@ -128,8 +156,8 @@ module _ (o : Observed) (g : HomeFlit) (w : World) (sound : Sound o) (low : g.ag
   pub filled_last : fills g.grant (w.state at') ≡ true → w.last ≡ w.home
   filled_last f =
       let full : fills_told g.grant (o.told at') ≡ true = fills_same o g low may' (w.state at') (m.told at' low) ∙ f in
-      let valid : same (most (told_granted g.grant (o.told at'))) Invalid ≡ false = filled g.grant (o.public.due at') (o.public.snooped at') (o.told at') (both _ _ (fitting o g low may') full) in
-      let rest : (k : ℕ) → k ≢ at' → k < 32 → is_unique (most (o.told k)) ≡ false = λ k h lk. lone (told_granted g.grant (o.told at')) (o.told k) valid (goes_else o g sound low takes k h lk) in
+      let valid : same (most (told_granted g.grant (o.public.due at') (o.told at'))) Invalid ≡ false = filled g.grant (o.public.due at') (o.public.snooped at') (o.told at') (fitting o g low may') full in
+      let rest : (k : ℕ) → k ≢ at' → k < 32 → is_unique (most (o.told k)) ≡ false = λ k h lk. lone (told_granted g.grant (o.public.due at') (o.told at')) (o.told k) valid (goes_else o g sound low takes k h lk) in
       agreed o w sound m
       (split (λ k. k < 32 → same (most (o.told k)) UniqueDirty ≡ false) at'
       (λ _. not_dirty (gives_data g.grant) (o.told at') full)

@@ -1,4 +1,5 @@
 mod Finite
+mod Spots
 mod Facts
 mod Grants
 mod Words
@@ -12,4 +13,6 @@ mod Home
 mod Origin
 mod Top
 mod Runs
+mod Since
+mod Legal
 mod Lines

@@ -1,8 +1,10 @@
 pub mod Copies
+pub mod Judged
 pub mod Rules
 pub mod Worlds
 pub mod Tables
 pub mod Observed
+pub mod Moments
 pub mod Laws
 pub mod Runs
 pub mod Lines

@@ -2,19 +2,21 @@
 
 ghost use Rattle.std.specs.Prelude.{◌≡◌, ◌<◌, ◌&&◌, ◌||◌, IfErr, OnOk, OnErr, Some, false, if◌then◌else◌, is_ok, not, true};
 ghost use Rattle.chi_observer.specs.Rules.{allows, needs_duty, passes_duty};
-ghost use Rattle.chi_observer.specs.Tables.{fills_told, fits_told, is_cancelled, renews};
+ghost use Rattle.chi_observer.specs.Tables.{fills_told, fits_told, is_cancelled, renews, strongest};
 ghost use Rattle.chi_observer.specs.Worlds.{all_below, home_may};
 ghost use Rattle.chi_observer.specs.Observed.{differs, fits, goes, takes, takes_home, next, next_home};
-ghost use Rattle.chi_observer.specs.Runs.{nothing_told};
-ghost use Rattle.chi_observer.specs.Lines.{agent_after, agent_granted, after, is_quiet, is_reason, is_taken, known_of, observed, stands_beside};
+ghost use Rattle.chi_observer.specs.Moments.{after, has_moment};
+ghost use Rattle.chi_observer.specs.Lines.{agent_after, agent_granted, goes_beside, is_given_reason, is_judged_reason, is_quiet, is_reason, is_sent_reason, is_taken, known_of, nothing_watched, observed, stands_beside, takes_flit, watch, watched};
 
 use crate::flits::{Act, CacheFlit, Due, Flit, Grant, HomeFlit};
+use crate::kinds::Snoop;
+use crate::moments::shown_behind;
 use crate::rules::{
-    allows, due_after, due_granted, gives_data, has_data, is_busy, is_due, needs_duty, needs_quiet,
-    passes_duty, same_kind, snooped_after, snooped_granted,
+    allows, due_after, due_granted, gives_data, has_data, is_busy, is_due, needs_alone, needs_duty,
+    needs_moment, needs_quiet, passes_duty, same_kind, snooped_after, snooped_granted, tells_words,
 };
 use crate::told::{Told, answer_tells_dirty, may_be_free, tells_dirty};
-use chi_flit::{Data, Snoop};
+use chi_flit::Data;
 
 /// How many agents an observer follows; their numbers are below it.
 /// Source: `docs/OBSERVER.md`, "What is kept".
@@ -46,12 +48,16 @@ pub struct Observer {
     pub current: bool,
     /// Whether the home has dirty data that it must write or pass on.
     pub duty: bool,
+    /// Of each agent whose CleanShared is open: there was a moment since its issue at which no other copy was dirty.
+    pub shown: [bool; 32],
 }
 
 /// Why a flit isn't taken. What it rests on can be read in the observer, which it leaves as it was.
 /// Source: `docs/OBSERVER.md`, "Faults".
 #[derive(Clone, Copy, Debug, PartialEq, Eq)]
 pub enum Reason {
+    /// The observer doesn't judge such flits, as `Flit::is_judged` says. The line is the caller's to set aside.
+    NotJudged,
     /// The agent's number is 32 or more.
     NoAgent,
     /// No copy that the agent may have sends this flit of a cache now.
@@ -60,6 +66,8 @@ pub enum Reason {
     NotDue,
     /// A CompAck or write data are due at the line, and nothing is snooped meanwhile.
     Busy,
+    /// Since the agent's CleanShared was sent another copy may always have been dirty.
+    NoMoment,
     /// The home has no dirty data to pass on.
     NoDuty,
     /// The words are known to be others.
@@ -72,7 +80,7 @@ impl Observer {
     /// An observer of a line that no cache has a copy of, with no request open, and whose memory has any words.
     /// Source: `docs/OBSERVER.md`, "What is kept".
     pub fn new() -> Observer
-        ensures { observed result ≡ nothing_told }
+        ensures { watched result ≡ nothing_watched }
     {
         let nobody = AgentSeen {
             told: Told::I,
@@ -85,6 +93,7 @@ impl Observer {
             home: None,
             current: true,
             duty: false,
+            shown: [false; 32],
         }
     }
 
@@ -92,12 +101,38 @@ impl Observer {
     /// that nobody saw explain it, and one of the home where it is safe whatever they were. Else the first rule that
     /// it breaks, and nothing changes.
     /// Source: `docs/OBSERVER.md`, "Flits of a cache", "Flits of the home".
-    #[tactic(auto, using(crate::proofs::Lines::refused))]
     pub fn take(&mut self, flit: Flit) -> Result<(), Reason>
-        ensures taken { is_ok result ≡ is_taken (observed self.old) flit }
-        ensures after { OnOk result (observed self.new ≡ after (observed self.old) flit) }
+        ensures taken { is_ok result ≡ is_taken (watched self.old) flit }
+        ensures after { OnOk result (watched self.new ≡ watch (watched self.old) flit) }
         ensures kept { OnErr result (self.new ≡ self.old) }
-        ensures reason { IfErr result (λ reason. is_reason (observed self.old) flit reason ≡ true) }
+        ensures reason { IfErr result (λ reason. is_reason (watched self.old) flit reason ≡ true) }
+    {
+        if !flit.is_judged() {
+            return Err(Reason::NotJudged);
+        }
+        self.take_judged(flit)
+    }
+
+    /// Takes a flit that is judged.
+    fn take_judged(&mut self, flit: Flit) -> Result<(), Reason>
+        ensures taken { is_ok result ≡ takes_flit (watched self.old) flit }
+        ensures after { OnOk result (watched self.new ≡ watch (watched self.old) flit) }
+        ensures kept { OnErr result (self.new ≡ self.old) }
+        ensures reason { IfErr result (λ reason. is_judged_reason (watched self.old) flit reason ≡ true) }
+    {
+        self.take_told(flit)?;
+        self.shown = shown_behind(&self.agents, &self.shown, flit);
+        Ok(())
+    }
+
+    /// Takes what a flit that is judged tells of copies.
+    #[tactic(auto, using(crate::proofs::Lines::refused))]
+    fn take_told(&mut self, flit: Flit) -> Result<(), Reason>
+        ensures taken { is_ok result ≡ takes_flit (watched self.old) flit }
+        ensures after { OnOk result (observed self.new ≡ after (observed self.old) flit) }
+        ensures shown { self.new.shown ≡ self.old.shown }
+        ensures kept { OnErr result (self.new ≡ self.old) }
+        ensures reason { IfErr result (λ reason. is_judged_reason (watched self.old) flit reason ≡ true) }
     {
         match flit {
             Flit::Up(sent) => {
@@ -110,9 +145,21 @@ impl Observer {
                 if given.agent.0 >= 32 {
                     return Err(Reason::NoAgent);
                 }
+                if !self.has_moment(given) {
+                    return Err(Reason::NoMoment);
+                }
                 self.take_given(given)
             }
         }
+    }
+
+    /// Whether there was the moment that a flit of the home needs.
+    fn has_moment(&self, flit: HomeFlit) -> bool
+        requires { flit.agent.0 < 32 }
+        ensures { result ≡ has_moment (observed self.now) (watched self.now).shown flit }
+    {
+        let at = usize::from(flit.agent.0);
+        !needs_moment(flit.grant, self.agents[at].due) || self.shown[at]
     }
 
     /// Takes a flit of a cache.
@@ -120,8 +167,9 @@ impl Observer {
         requires { flit.agent.0 < 32 }
         ensures taken { is_ok result ≡ takes (observed self.old) flit }
         ensures after { OnOk result (observed self.new ≡ next (observed self.old) flit) }
+        ensures shown { self.new.shown ≡ self.old.shown }
         ensures kept { OnErr result (self.new ≡ self.old) }
-        ensures reason { IfErr result (λ reason. is_reason (observed self.old) (Flit.Up flit) reason ≡ true) }
+        ensures reason { IfErr result (λ reason. is_sent_reason (observed self.old) flit reason ≡ true) }
     {
         let at = usize::from(flit.agent.0);
         let agent = self.agents[at];
@@ -135,10 +183,11 @@ impl Observer {
             return Err(Reason::OtherWords);
         }
         let differs = shows_others(shows, self.current, known);
+        let tells = tells_words(flit.act);
         self.agents[at] = agent.after(flit.act, differs);
         self.duty = duty_after(self.duty, flit.act);
-        self.home = shown(shows, flit.shown, self.home);
-        self.current = current_from(shows, renewed, self.current);
+        self.home = shown(tells, flit.shown, self.home);
+        self.current = current_from(tells, renewed, self.current);
         Ok(())
     }
 
@@ -147,8 +196,9 @@ impl Observer {
         requires { flit.agent.0 < 32 }
         ensures taken { is_ok result ≡ takes_home (observed self.old) flit }
         ensures after { OnOk result (observed self.new ≡ next_home (observed self.old) flit) }
+        ensures shown { self.new.shown ≡ self.old.shown }
         ensures kept { OnErr result (self.new ≡ self.old) }
-        ensures reason { IfErr result (λ reason. is_reason (observed self.old) (Flit.Down flit) reason ≡ true) }
+        ensures reason { IfErr result (λ reason. is_given_reason (observed self.old) flit reason ≡ true) }
     {
         let at = usize::from(flit.agent.0);
         let agent = self.agents[at];
@@ -165,7 +215,9 @@ impl Observer {
         if fills && !may_be(&self.home, &flit.shown) {
             return Err(Reason::OtherWords);
         }
-        if !stands_beside(&self.agents, flit.agent.0, agent.told.granted(flit.grant)) {
+        let told = agent.told.granted(flit.grant, agent.due);
+        let alone = needs_alone(flit.grant, agent.due);
+        if !stands_beside(&self.agents, flit.agent.0, told, alone) {
             return Err(Reason::OtherCopy);
         }
         self.agents[at] = agent.granted(flit.grant);
@@ -194,7 +246,12 @@ impl AgentSeen {
             }
             (Act::SnpResp(answer), due) => self.told.may_answer(answer, due),
             (Act::CompAck, Due::Acknowledgement) => true,
-            (Act::CopyBackWrData(form), Due::WriteData(_)) => self.told.may_write(form),
+            (Act::CopyBackWrData(form), Due::WriteData(kind)) => {
+                kind.is_copy_back() && self.told.may_write(form)
+            }
+            (Act::NonCopyBackWrData, Due::WriteData(kind)) => {
+                kind.is_whole_write() && matches!(self.told, Told::Writing)
+            }
             _ => false,
         }
     }
@@ -245,7 +302,7 @@ impl AgentSeen {
         ensures { result ≡ agent_granted grant self }
     {
         AgentSeen {
-            told: self.told.granted(grant),
+            told: self.told.granted(grant, self.due),
             cancelled: !matches!(grant, Grant::RetryAck) && self.cancelled,
             due: due_granted(grant, self.due),
             snooped: snooped_granted(grant, self.snooped),
@@ -309,13 +366,21 @@ fn is_quiet(agents: &[AgentSeen; 32]) -> bool
     quiet
 }
 
-/// Whether a copy that is told so goes with each that another agent may have.
-fn stands_beside(agents: &[AgentSeen; 32], agent: u8, told: Told) -> bool
-    ensures { result ≡ stands_beside agents.now agent told }
+/// Whether a copy that is told so goes with each that another agent may have; `alone` says that there is to be none.
+fn stands_beside(agents: &[AgentSeen; 32], agent: u8, told: Told, alone: bool) -> bool
+    ensures { result ≡ stands_beside agents.now agent told alone }
 {
     let mut beside = true;
     for n in 0..32u8 {
-        beside = (n == agent || told.goes_with(agents[usize::from(n)].told)) && beside;
+        let other = agents[usize::from(n)].told;
+        beside = (n == agent || is_beside(told, other, alone)) && beside;
     }
     beside
+}
+
+/// Whether two agents' copies may have been told so together, and the other is none where it has to be.
+fn is_beside(told: Told, other: Told, alone: bool) -> bool
+    ensures { result ≡ goes_beside told alone other }
+{
+    told.goes_with(other) && (!alone || other.is_gone())
 }

@@ -1,10 +1,11 @@
 //! What flits say by themselves.
 
 ghost use Rattle.std.specs.Prelude.{◌≡◌};
-ghost use Rattle.chi_observer.specs.Rules.{allows, completes, due_after, due_granted, form_passes, gives_data, has_data, is_busy, is_completed, is_due, leaves, left_by, needs_duty, needs_quiet, passes_duty, same_kind, snooped_after, snooped_granted, written};
+ghost use Rattle.chi_observer.specs.Rules.{allows, awaits_moment, completes, due_after, due_granted, form_passes, gives_data, has_data, is_busy, is_clean_form, is_completed, is_due, is_shared_form, is_upgraded, is_written_whole, leaves, left_by, needs_alone, needs_duty, needs_moment, needs_quiet, passes_duty, same_kind, snooped_after, snooped_granted, tells_words, writes, written};
 
 use crate::flits::{Act, Answer, Due, Grant};
-use chi_flit::{Kind, Snoop, State};
+use crate::kinds::{Kind, Snoop};
+use chi_flit::State;
 
 /// What an answer says is left of the copy.
 pub(crate) fn left_by(answer: Answer) -> State
@@ -13,6 +14,8 @@ pub(crate) fn left_by(answer: Answer) -> State
     match answer {
         Answer::SnpRespI | Answer::SnpRespDataI | Answer::SnpRespDataIPD => State::I,
         Answer::SnpRespSC | Answer::SnpRespDataSC | Answer::SnpRespDataSCPD => State::SC,
+        Answer::SnpRespUC | Answer::SnpRespDataUC | Answer::SnpRespDataUCPD => State::UC,
+        Answer::SnpRespDataUD => State::UD,
         Answer::SnpRespDataSD => State::SD,
     }
 }
@@ -25,12 +28,19 @@ pub(crate) fn same_kind(kind: Kind, other: Kind) -> bool
         (kind, other),
         (Kind::ReadNotSharedDirty, Kind::ReadNotSharedDirty)
             | (Kind::ReadShared, Kind::ReadShared)
+            | (Kind::ReadClean, Kind::ReadClean)
+            | (Kind::ReadOnce, Kind::ReadOnce)
             | (Kind::ReadUnique, Kind::ReadUnique)
             | (Kind::CleanUnique, Kind::CleanUnique)
+            | (Kind::MakeUnique, Kind::MakeUnique)
+            | (Kind::CleanShared, Kind::CleanShared)
+            | (Kind::CleanInvalid, Kind::CleanInvalid)
+            | (Kind::MakeInvalid, Kind::MakeInvalid)
             | (Kind::Evict, Kind::Evict)
             | (Kind::WriteBackFull, Kind::WriteBackFull)
             | (Kind::WriteCleanFull, Kind::WriteCleanFull)
             | (Kind::WriteEvictFull, Kind::WriteEvictFull)
+            | (Kind::WriteUniqueFull, Kind::WriteUniqueFull)
     )
 }
 
@@ -43,7 +53,11 @@ pub(crate) fn allows(act: Act, snooped: Option<Snoop>) -> bool
             None => false,
             Some(snoop) => leaves(snoop, left_by(answer)),
         },
-        Act::Request(_) | Act::Resend(_) | Act::CompAck | Act::CopyBackWrData(_) => true,
+        Act::Request(_)
+        | Act::Resend(_)
+        | Act::CompAck
+        | Act::CopyBackWrData(_)
+        | Act::NonCopyBackWrData => true,
     }
 }
 
@@ -52,9 +66,27 @@ fn leaves(snoop: Snoop, left: State) -> bool
     ensures { result ≡ leaves snoop left }
 {
     match snoop {
-        Snoop::SnpShared | Snoop::SnpNotSharedDirty => true,
-        Snoop::SnpUnique | Snoop::SnpCleanInvalid => matches!(left, State::I),
+        Snoop::SnpOnce => true,
+        Snoop::SnpClean | Snoop::SnpShared | Snoop::SnpNotSharedDirty => is_shared_form(left),
+        Snoop::SnpCleanShared => is_clean_form(left),
+        Snoop::SnpUnique | Snoop::SnpCleanInvalid | Snoop::SnpMakeInvalid => {
+            matches!(left, State::I)
+        }
     }
+}
+
+/// Whether a copy left so is shared, or none.
+fn is_shared_form(left: State) -> bool
+    ensures { result ≡ is_shared_form left }
+{
+    matches!(left, State::I | State::SC | State::SD)
+}
+
+/// Whether a copy left so is clean, or none.
+fn is_clean_form(left: State) -> bool
+    ensures { result ≡ is_clean_form left }
+{
+    matches!(left, State::I | State::SC | State::UC)
 }
 
 /// What write data of the form leave of the copy.
@@ -71,15 +103,34 @@ pub(crate) fn written(kind: Kind, form: State) -> State
     }
 }
 
-/// Whether a flit of a cache has data.
+/// Whether a flit of a cache has the data of its copy.
 pub(crate) fn has_data(act: Act) -> bool
     ensures { result ≡ has_data act }
 {
     match act {
-        Act::Request(_) | Act::Resend(_) | Act::CompAck => false,
-        Act::SnpResp(answer) => !matches!(answer, Answer::SnpRespI | Answer::SnpRespSC),
+        Act::Request(_) | Act::Resend(_) | Act::CompAck | Act::NonCopyBackWrData => false,
+        Act::SnpResp(answer) => {
+            !matches!(
+                answer,
+                Answer::SnpRespI | Answer::SnpRespSC | Answer::SnpRespUC
+            )
+        }
         Act::CopyBackWrData(form) => !matches!(form, State::I),
     }
+}
+
+/// Whether a flit of a cache has the whole line, which its cache writes without a copy.
+fn writes(act: Act) -> bool
+    ensures { result ≡ writes act }
+{
+    matches!(act, Act::NonCopyBackWrData)
+}
+
+/// Whether the home has the words of a flit of a cache then.
+pub(crate) fn tells_words(act: Act) -> bool
+    ensures { result ≡ tells_words act }
+{
+    has_data(act) || writes(act)
 }
 
 /// What is due behind a flit of a cache.
@@ -90,7 +141,7 @@ pub(crate) fn due_after(act: Act, due: Due) -> Due
         Act::Request(kind) => Due::Completion(kind),
         Act::Resend(kind) => Due::SureCompletion(kind),
         Act::SnpResp(_) => due,
-        Act::CompAck | Act::CopyBackWrData(_) => Due::Nothing,
+        Act::CompAck | Act::CopyBackWrData(_) | Act::NonCopyBackWrData => Due::Nothing,
     }
 }
 
@@ -100,7 +151,11 @@ pub(crate) fn snooped_after(act: Act, snooped: Option<Snoop>) -> Option<Snoop>
 {
     match act {
         Act::SnpResp(_) => None,
-        Act::Request(_) | Act::Resend(_) | Act::CompAck | Act::CopyBackWrData(_) => snooped,
+        Act::Request(_)
+        | Act::Resend(_)
+        | Act::CompAck
+        | Act::CopyBackWrData(_)
+        | Act::NonCopyBackWrData => snooped,
     }
 }
 
@@ -110,9 +165,13 @@ pub(crate) fn passes_duty(act: Act) -> bool
 {
     match act {
         Act::SnpResp(answer) => {
-            matches!(answer, Answer::SnpRespDataIPD | Answer::SnpRespDataSCPD)
+            matches!(
+                answer,
+                Answer::SnpRespDataIPD | Answer::SnpRespDataSCPD | Answer::SnpRespDataUCPD
+            )
         }
         Act::CopyBackWrData(form) => passes_by(form),
+        Act::NonCopyBackWrData => true,
         Act::Request(_) | Act::Resend(_) | Act::CompAck => false,
     }
 }
@@ -131,12 +190,19 @@ fn completes(kind: Kind, form: State) -> bool
     match kind {
         Kind::ReadNotSharedDirty => matches!(form, State::SC | State::UC | State::UD),
         Kind::ReadShared => !matches!(form, State::I),
+        Kind::ReadClean => matches!(form, State::SC | State::UC),
         Kind::ReadUnique => matches!(form, State::UC | State::UD),
-        Kind::CleanUnique
+        Kind::ReadOnce
+        | Kind::CleanUnique
+        | Kind::MakeUnique
+        | Kind::CleanShared
+        | Kind::CleanInvalid
+        | Kind::MakeInvalid
         | Kind::Evict
         | Kind::WriteBackFull
         | Kind::WriteCleanFull
-        | Kind::WriteEvictFull => false,
+        | Kind::WriteEvictFull
+        | Kind::WriteUniqueFull => false,
     }
 }
 
@@ -160,11 +226,75 @@ fn is_completed(grant: Grant, kind: Kind, snooped: Option<Snoop>) -> bool
 {
     match grant {
         Grant::CompData(form) => snooped.is_none() && completes(kind, form),
-        Grant::CompUC => snooped.is_none() && matches!(kind, Kind::CleanUnique),
-        Grant::CompI => matches!(kind, Kind::Evict),
-        Grant::CompDBIDResp => snooped.is_none() && kind.is_copy_back(),
+        Grant::CompUC => {
+            snooped.is_none() && matches!(kind, Kind::CleanUnique | Kind::CleanShared)
+        }
+        Grant::CompSC => snooped.is_none() && matches!(kind, Kind::CleanShared),
+        Grant::CompI => {
+            matches!(kind, Kind::Evict)
+                || (snooped.is_none() && matches!(kind, Kind::CleanShared | Kind::CleanInvalid))
+        }
+        Grant::CompDBIDResp => {
+            snooped.is_none() && (kind.is_copy_back() || kind.is_whole_write())
+        }
         Grant::RetryAck | Grant::Snp(_) => false,
     }
+}
+
+/// Whether the completion of a CleanUnique is due.
+pub(crate) fn is_upgraded(due: Due) -> bool
+    ensures { result ≡ is_upgraded due }
+{
+    matches!(
+        due,
+        Due::Completion(Kind::CleanUnique) | Due::SureCompletion(Kind::CleanUnique)
+    )
+}
+
+/// Whether the home's leave to send the data of a WriteUniqueFull is due.
+pub(crate) fn is_written_whole(due: Due) -> bool
+    ensures { result ≡ is_written_whole due }
+{
+    matches!(
+        due,
+        Due::Completion(Kind::WriteUniqueFull) | Due::SureCompletion(Kind::WriteUniqueFull)
+    )
+}
+
+/// Whether a flit of the home says that no other copy is left.
+pub(crate) fn needs_alone(grant: Grant, due: Due) -> bool
+    ensures { result ≡ needs_alone grant due }
+{
+    matches!(
+        (grant, due),
+        (
+            Grant::CompI,
+            Due::Completion(Kind::CleanInvalid) | Due::SureCompletion(Kind::CleanInvalid)
+        )
+    )
+}
+
+/// Whether a CleanShared is open, whose completion needs a moment since its issue at which no other copy was dirty.
+pub(crate) fn awaits_moment(due: Due) -> bool
+    ensures { result ≡ awaits_moment due }
+{
+    matches!(
+        due,
+        Due::Completion(Kind::CleanShared)
+            | Due::Resending(Kind::CleanShared)
+            | Due::SureCompletion(Kind::CleanShared)
+    )
+}
+
+/// Whether a flit of the home is such a completion.
+pub(crate) fn needs_moment(grant: Grant, due: Due) -> bool
+    ensures { result ≡ needs_moment grant due }
+{
+    matches!(grant, Grant::CompUC | Grant::CompSC | Grant::CompI)
+        && matches!(
+            due,
+            Due::Completion(Kind::CleanShared) | Due::SureCompletion(Kind::CleanShared)
+        )
 }
 
 /// Whether a flit of the home has data.
@@ -180,8 +310,12 @@ pub(crate) fn needs_duty(grant: Grant) -> bool
 {
     match grant {
         Grant::CompData(form) => passes_by(form),
-        Grant::RetryAck | Grant::Snp(_) | Grant::CompUC | Grant::CompI | Grant::CompDBIDResp =>
-            false,
+        Grant::RetryAck
+        | Grant::Snp(_)
+        | Grant::CompUC
+        | Grant::CompSC
+        | Grant::CompI
+        | Grant::CompDBIDResp => false,
     }
 }
 
@@ -206,8 +340,13 @@ pub(crate) fn due_granted(grant: Grant, due: Due) -> Due
     match (grant, due) {
         (Grant::RetryAck, Due::Completion(kind)) => Due::Resending(kind),
         (Grant::RetryAck | Grant::Snp(_), _) => due,
-        (Grant::CompData(_) | Grant::CompUC, _) => Due::Acknowledgement,
-        (Grant::CompI, _) => Due::Nothing,
+        (Grant::CompData(_), _) => Due::Acknowledgement,
+        (Grant::CompUC, _) => if is_upgraded(due) {
+            Due::Acknowledgement
+        } else {
+            Due::Nothing
+        },
+        (Grant::CompSC | Grant::CompI, _) => Due::Nothing,
         (Grant::CompDBIDResp, Due::Completion(kind)) => Due::WriteData(kind),
         (Grant::CompDBIDResp, Due::SureCompletion(kind)) => Due::WriteData(kind),
         (Grant::CompDBIDResp, _) => due,
@@ -220,7 +359,11 @@ pub(crate) fn snooped_granted(grant: Grant, snooped: Option<Snoop>) -> Option<Sn
 {
     match grant {
         Grant::Snp(snoop) => Some(snoop),
-        Grant::RetryAck | Grant::CompData(_) | Grant::CompUC | Grant::CompI | Grant::CompDBIDResp =>
-            snooped,
+        Grant::RetryAck
+        | Grant::CompData(_)
+        | Grant::CompUC
+        | Grant::CompSC
+        | Grant::CompI
+        | Grant::CompDBIDResp => snooped,
     }
 }

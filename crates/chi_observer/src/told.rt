@@ -1,12 +1,13 @@
 //! What flits have told of a copy.
 
 ghost use Rattle.std.specs.Prelude.{◌≡◌, ◌&&◌};
-ghost use Rattle.chi_observer.specs.Copies.{compatible, holds_data, is_clean, is_dirty, is_unique};
-ghost use Rattle.chi_observer.specs.Tables.{answer_tells_dirty, fits_answer, fits_form, fits_issue, may_be_free, strongest, tells_dirty, told_as, told_behind, told_by, told_empty, told_issued, told_shared, told_upgraded};
+ghost use Rattle.chi_observer.specs.Copies.{compatible, Copy, holds_data, is_clean, is_dirty, is_unique, same};
+ghost use Rattle.chi_observer.specs.Tables.{answer_tells_dirty, fits_answer, fits_form, fits_issue, may_be_free, may_be_gone, strongest, tells_dirty, told_answered, told_as, told_behind, told_by, told_clean, told_empty, told_issued, told_shared, told_unique, told_upgraded};
 
 use crate::flits::{Act, Answer, Due, Grant};
-use crate::rules::{left_by, written};
-use chi_flit::{Kind, State};
+use crate::kinds::Kind;
+use crate::rules::{is_upgraded, is_written_whole, left_by, written};
+use chi_flit::State;
 
 /// The copies that one may be right behind the last flit that told of it. From there it goes on unseen, by stores and
 /// drops, while its cache has nothing open at the line. `UCE` is the standard's unique copy without data, which
@@ -22,6 +23,8 @@ pub enum Told {
     SCOrI,
     /// Unique and clean.
     UC,
+    /// Unique and clean, or dropped before the request was sent.
+    UCOrI,
     /// Unique, without data.
     UCE,
     /// Unique without data, or dropped before the request was sent.
@@ -32,6 +35,8 @@ pub enum Told {
     UD,
     /// Shared and dirty.
     SD,
+    /// No copy; the data of a WriteUniqueFull are due, and nobody else has a copy.
+    Writing,
 }
 
 impl Told {
@@ -41,7 +46,7 @@ impl Told {
     {
         matches!(
             self,
-            Told::UC | Told::UCE | Told::UCEOrI | Told::UCOrUCE | Told::UD
+            Told::UC | Told::UCOrI | Told::UCE | Told::UCEOrI | Told::UCOrUCE | Told::UD
         )
     }
 
@@ -58,15 +63,45 @@ impl Told {
     {
         matches!(
             self,
-            Told::SC | Told::SCOrI | Told::UC | Told::UCE | Told::UCEOrI | Told::UCOrUCE
+            Told::SC
+                | Told::SCOrI
+                | Told::UC
+                | Told::UCOrI
+                | Told::UCE
+                | Told::UCEOrI
+                | Told::UCOrUCE
         )
+    }
+
+    /// Whether it may be none, or none any more.
+    fn may_be_gone(self) -> bool
+        ensures { result ≡ may_be_gone self }
+    {
+        !matches!(self, Told::UD | Told::SD | Told::Writing)
+    }
+
+    /// Whether it is surely none.
+    pub(crate) fn is_gone(self) -> bool
+        ensures { result ≡ same (strongest self) Copy.Invalid }
+    {
+        matches!(self, Told::I)
+    }
+
+    /// Whether it may be unique and clean with data.
+    fn is_unique_clean(self) -> bool
+        ensures { result ≡ same (strongest self) Copy.UniqueClean }
+    {
+        matches!(self, Told::UC | Told::UCOrI | Told::UCOrUCE)
     }
 
     /// Whether it may be clean with data.
     fn is_clean_data(self) -> bool
         ensures { result ≡ (is_clean (strongest self) && holds_data (strongest self)) }
     {
-        matches!(self, Told::SC | Told::SCOrI | Told::UC | Told::UCOrUCE)
+        matches!(
+            self,
+            Told::SC | Told::SCOrI | Told::UC | Told::UCOrI | Told::UCOrUCE
+        )
     }
 
     /// Whether two agents' copies may have been told so together.
@@ -79,9 +114,13 @@ impl Told {
                 matches!(other, Told::I | Told::SC | Told::SCOrI | Told::SD)
             }
             Told::SD => matches!(other, Told::I | Told::SC | Told::SCOrI),
-            Told::UC | Told::UCE | Told::UCEOrI | Told::UCOrUCE | Told::UD => {
-                matches!(other, Told::I)
-            }
+            Told::UC
+            | Told::UCOrI
+            | Told::UCE
+            | Told::UCEOrI
+            | Told::UCOrUCE
+            | Told::UD
+            | Told::Writing => matches!(other, Told::I),
         }
     }
 
@@ -90,11 +129,19 @@ impl Told {
         ensures { result ≡ fits_issue kind self }
     {
         match kind {
-            Kind::ReadNotSharedDirty | Kind::ReadShared => !self.is_dirty(),
-            Kind::ReadUnique | Kind::CleanUnique => !matches!(self, Told::UD),
+            Kind::ReadNotSharedDirty
+            | Kind::ReadShared
+            | Kind::ReadClean
+            | Kind::CleanShared
+            | Kind::CleanInvalid
+            | Kind::WriteUniqueFull => self.may_be_gone(),
+            Kind::ReadUnique | Kind::CleanUnique => {
+                self.may_be_gone() || matches!(self, Told::SD)
+            }
             Kind::Evict => self.is_clean(),
             Kind::WriteBackFull | Kind::WriteCleanFull => self.is_dirty() || self.is_unique(),
-            Kind::WriteEvictFull => matches!(self, Told::UC | Told::UCOrUCE),
+            Kind::WriteEvictFull => self.is_unique_clean(),
+            Kind::ReadOnce | Kind::MakeUnique | Kind::MakeInvalid => false,
         }
     }
 
@@ -103,9 +150,14 @@ impl Told {
         ensures { result ≡ fits_answer answer due self }
     {
         match answer {
-            Answer::SnpRespI => !self.is_dirty(),
+            Answer::SnpRespI => self.may_be_gone(),
             Answer::SnpRespSC | Answer::SnpRespDataI | Answer::SnpRespDataSC => {
                 self.is_clean_data()
+            }
+            Answer::SnpRespUC => self.is_clean() && self.is_unique(),
+            Answer::SnpRespDataUC => self.is_unique_clean(),
+            Answer::SnpRespDataUD | Answer::SnpRespDataUCPD => {
+                matches!(self, Told::UD) || (may_be_free(due) && self.is_unique())
             }
             Answer::SnpRespDataSD | Answer::SnpRespDataIPD | Answer::SnpRespDataSCPD => {
                 self.is_dirty() || (may_be_free(due) && self.is_unique())
@@ -118,9 +170,9 @@ impl Told {
         ensures { result ≡ fits_form form self }
     {
         match form {
-            State::I => !self.is_dirty(),
+            State::I => self.may_be_gone(),
             State::SC => matches!(self, Told::SC | Told::SCOrI),
-            State::UC => matches!(self, Told::UC | Told::UCOrUCE),
+            State::UC => self.is_unique_clean(),
             State::UD => matches!(self, Told::UD),
             State::SD => matches!(self, Told::SD),
         }
@@ -132,7 +184,8 @@ impl Told {
     {
         match act {
             Act::Request(kind) => self.after_request(kind),
-            Act::SnpResp(answer) => told_as(left_by(answer)),
+            Act::SnpResp(answer) => self.after_answer(answer),
+            Act::NonCopyBackWrData => Told::I,
             Act::Resend(_) | Act::CompAck => self,
             Act::CopyBackWrData(form) => match due {
                 Due::WriteData(kind) => told_as(written(kind, form)),
@@ -141,14 +194,41 @@ impl Told {
         }
     }
 
+    /// What is told behind an answer.
+    fn after_answer(self, answer: Answer) -> Told
+        ensures { result ≡ told_answered answer self }
+    {
+        match answer {
+            Answer::SnpRespUC => self.unique(),
+            _ => told_as(left_by(answer)),
+        }
+    }
+
+    /// What is told of a unique copy that stays as it is.
+    fn unique(self) -> Told
+        ensures { result ≡ told_unique self }
+    {
+        match self {
+            Told::UCE | Told::UCEOrI => Told::UCE,
+            Told::UCOrUCE => Told::UCOrUCE,
+            _ => Told::UC,
+        }
+    }
+
     /// What is told behind a request.
     fn after_request(self, kind: Kind) -> Told
         ensures { result ≡ told_issued kind self }
     {
         match kind {
-            Kind::ReadNotSharedDirty | Kind::ReadShared => self.empty(),
+            Kind::ReadNotSharedDirty | Kind::ReadShared | Kind::ReadClean => self.empty(),
             Kind::ReadUnique | Kind::CleanUnique => self.shared(),
-            Kind::Evict => Told::I,
+            Kind::CleanShared => self.clean(),
+            Kind::Evict
+            | Kind::ReadOnce
+            | Kind::MakeUnique
+            | Kind::CleanInvalid
+            | Kind::MakeInvalid
+            | Kind::WriteUniqueFull => Told::I,
             Kind::WriteBackFull | Kind::WriteCleanFull => {
                 if matches!(self, Told::SD) {
                     Told::SD
@@ -181,9 +261,20 @@ impl Told {
         }
     }
 
+    /// What is told behind a request that is issued without data or from a clean copy.
+    fn clean(self) -> Told
+        ensures { result ≡ told_clean self }
+    {
+        match self {
+            Told::SC | Told::SCOrI => Told::SCOrI,
+            Told::UC | Told::UCOrI | Told::UCOrUCE => Told::UCOrI,
+            _ => Told::I,
+        }
+    }
+
     /// What is told behind a flit of the home.
-    pub(crate) fn granted(self, grant: Grant) -> Told
-        ensures { result ≡ told_by grant self }
+    pub(crate) fn granted(self, grant: Grant, due: Due) -> Told
+        ensures { result ≡ told_by grant due self }
     {
         match grant {
             Grant::CompData(form) => if self.is_dirty() {
@@ -191,8 +282,17 @@ impl Told {
             } else {
                 told_as(form)
             },
-            Grant::CompUC => self.upgraded(),
-            Grant::RetryAck | Grant::Snp(_) | Grant::CompI | Grant::CompDBIDResp => self,
+            Grant::CompUC => if is_upgraded(due) {
+                self.upgraded()
+            } else {
+                self
+            },
+            Grant::CompDBIDResp => if is_written_whole(due) && !self.is_dirty() {
+                Told::Writing
+            } else {
+                self
+            },
+            Grant::RetryAck | Grant::Snp(_) | Grant::CompSC | Grant::CompI => self,
         }
     }
 
@@ -203,7 +303,7 @@ impl Told {
         match self {
             Told::I | Told::UCEOrI => Told::UCE,
             Told::SC => Told::UC,
-            Told::SCOrI => Told::UCOrUCE,
+            Told::SCOrI | Told::UCOrI => Told::UCOrUCE,
             Told::SD => Told::UD,
             _ => self,
         }
@@ -236,7 +336,11 @@ pub(crate) fn answer_tells_dirty(answer: Answer) -> bool
 {
     matches!(
         answer,
-        Answer::SnpRespDataSD | Answer::SnpRespDataIPD | Answer::SnpRespDataSCPD
+        Answer::SnpRespDataUD
+            | Answer::SnpRespDataSD
+            | Answer::SnpRespDataIPD
+            | Answer::SnpRespDataSCPD
+            | Answer::SnpRespDataUCPD
     )
 }
 
@@ -247,6 +351,6 @@ pub(crate) fn tells_dirty(act: Act) -> bool
     match act {
         Act::Request(kind) => matches!(kind, Kind::WriteBackFull | Kind::WriteCleanFull),
         Act::SnpResp(answer) => answer_tells_dirty(answer),
-        Act::Resend(_) | Act::CompAck | Act::CopyBackWrData(_) => false,
+        Act::Resend(_) | Act::CompAck | Act::CopyBackWrData(_) | Act::NonCopyBackWrData => false,
     }
 }
