@@ -1,14 +1,14 @@
 -- The flits are told out of the line before the step and after it.
 use Rattle.std.proofs.Common.{rules, ◌≡◌, None}
 use Rattle.chi_node.specs.Home.{slice_of}
-use Rattle.chi_node.specs.System.{StepsIn, SystemState, requester_of, system_step_refusal}
+use Rattle.chi_node.specs.System.{StepsIn, SystemState, outstanding_at, system_step_refusal}
 use Rattle.chi_node.proofs.RowCalls.{row_refused}
 use Rattle.chi_library.proofs.NodeSent.{node_sent_is, node_taken_is, step_allowed}
 use Rattle.chi_library.proofs.node_steps.step_telling.Goals as goal
 
 pub returns-in_err-before-clause-refusal : goal.returns-in_err-before-clause-refusal
 returns-in_err-before-clause-refusal c =
-    let told = row_refused (slice_of c.args.node.now.home c.args.action.line.0) (requester_of c.args.node.now c.args.action.agent.0) c.args.action c.in_err-before.field-0.0 c.in_err-before.ensures.refusal in
+    let told = row_refused (slice_of c.args.node.now.home c.args.action.line.0) (outstanding_at c.args.node.now c.args.action.agent.0) c.args.action c.in_err-before.field-0.0 c.in_err-before.ensures.refusal in
     search (rules, told)
 
 pub returns-clause-taken : goal.returns-clause-taken
