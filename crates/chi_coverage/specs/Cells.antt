@@ -1,4 +1,4 @@
--- The cells of the protocol's tables (docs/PROTOCOL.md): their names, which no run reaches, and short lists of them.
+-- The cells of the protocol's tables (docs/PROTOCOL.md): their names, which are left out, and short lists of them.
 use Rattle.std.specs.Prelude.{ℕ, List, [], ◌∷◌, ◌++◌, Bool, true, false, Option, Some, None, codes}
 use Rattle.chi_flit.specs.declared.credit.Profile.TheVariants as profiles
 use Rattle.chi_flit.specs.declared.kind.Kind.{Kind}
@@ -173,7 +173,7 @@ section_text (cells.Released a b) = codes "Steps of the tracker"
 section_text (cells.Requester cell) = requester_cell_section cell
 section_text (cells.Situation situation) = situation_section situation
 
--- which no run reaches (docs/DECISIONS.md, "The suite")
+-- which are left out, as no run is known to reach them (docs/DECISIONS.md, "The suite")
 abbrev pub is_write_unreachable : Kind → State → Bool
 is_write_unreachable kinds.WriteBackFull states.UC = true
 is_write_unreachable kinds.WriteCleanFull states.UC = true

@@ -1,10 +1,11 @@
 -- Of the code alone, no public promise cites it: counts by place, as cells are counted (docs/FORMATS.md, "Coverage").
-use Rattle.std.specs.Prelude.{◌≡◌, ℕ, ◌+◌, ◌++◌, List, [], ◌∷◌, Ok, Option, slice_index, slice_set}
+use Rattle.std.specs.Prelude.{◌≡◌, ℕ, Bool, ◌+◌, ◌++◌, List, [], ◌∷◌, Ok, Option, slice_index, slice_set}
 use Rattle.chi_script.specs.declared.commands.Command.{Command}
 use Rattle.chi_script.specs.declared.faults.Fault.{Fault}
 use Rattle.chi_script.specs.declared.headers.Header.{Header}
 use Rattle.chi_script.specs.Checks.{CheckLine}
 use Rattle.chi_script.specs.CheckFiles.{check_file_of}
+use Rattle.chi_coverage.specs.Fillers.{fillers_of}
 use Rattle.chi_script.specs.Headers.{node_sizes}
 use Rattle.chi_replay.specs.Checks.{commands_in}
 use Rattle.chi_node.specs.System.{SystemState}
@@ -27,29 +28,30 @@ cells_counted counts (cell ∷ cells) = cells_counted (slice_set counts (cell_pl
 abbrev pub count_at : List ℕ → Cell → ℕ
 count_at counts cell = slice_index counts (cell_place cell)
 
--- a command was played on a node, which went on so, and the cells of its step were counted behind the steps before
-pub record IsCountedStep (config : Sizes) (past later : Past) (old new : SystemState) (command : Command) (before after : List ℕ) : Type 0 where
+-- a command was played on a node, which went on so, and the cells of its step were counted behind the steps before, where
+-- it is no filler
+pub record IsCountedStep (config : Sizes) (past later : Past) (old new : SystemState) (command : Command) (filler : Bool) (before after : List ℕ) : Type 0 where
   pub answers : List TurnAnswer
   pub said : List ℕ
   pub plays : Plays (turn (machine_of old) command) (ports_of old) answers said (machine_of new) (ports_of new)
-  pub is : after ≡ cells_counted before (cells_of_step config past (record { command = command; answer = said ++ (10 ∷ []); before = old.home; after = new.home }))
-  pub leaves : later ≡ past_of_step config past (record { command = command; answer = said ++ (10 ∷ []); before = old.home; after = new.home })
+  pub is : after ≡ cells_counted before (cells_of_step config past (record { command = command; filler = filler; answer = said ++ (10 ∷ []); before = old.home; after = new.home }))
+  pub leaves : later ≡ past_of_step config past (record { command = command; filler = filler; answer = said ++ (10 ∷ []); before = old.home; after = new.home })
 
--- all commands were played on a new node, and the cells of the run were counted
-pub record IsCountedRun (config : Sizes) (all : List Command) (before after : List ℕ) : Type 0 where
+-- all commands were played on a new node, and the cells of the run were counted, but of the filler
+pub record IsCountedRun (config : Sizes) (fillers : List Bool) (all : List CheckLine) (before after : List ℕ) : Type 0 where
   pub answers : List TurnAnswer
-  pub allowed : MayAnswer (machine_at_start config) (opening_ports config) all answers
-  pub is : after ≡ cells_counted before (cells_of_steps config no_past (played_steps (machine_at_start config) all answers))
+  pub allowed : MayAnswer (machine_at_start config) (opening_ports config) (commands_in all) answers
+  pub is : after ≡ cells_counted before (cells_of_steps config no_past (played_steps fillers (machine_at_start config) all answers))
 
 -- so of the commands of a header and checks, and of a good file
-abbrev pub IsCountedScript : Header → List CheckLine → List ℕ → List ℕ → Type 0
-IsCountedScript header checks before after = IsCountedRun (node_sizes header) (commands_in checks) before after
+abbrev pub IsCountedScript : Header → List Bool → List CheckLine → List ℕ → List ℕ → Type 0
+IsCountedScript header fillers checks before after = IsCountedRun (node_sizes header) fillers checks before after
 
 pub record IsCountedFile (file : List ℕ) (before after : List ℕ) : Type 0 where
   pub header : Header
   pub checks : List CheckLine
   pub good : check_file_of file ≡ Ok (header, checks)
-  pub run : IsCountedScript header checks before after
+  pub run : IsCountedScript header (fillers_of file) checks before after
 
 -- what was counted and told of the files so far
 pub record CoverState : Type 0 where

@@ -11,6 +11,7 @@ use Rattle.chi_script.specs.declared.headers.Header.{Header}
 use Rattle.chi_script.specs.Checks.{CheckLine}
 use Rattle.chi_script.specs.CheckFiles.{check_file_of}
 use Rattle.chi_script.specs.Files.{IsOneLine}
+use Rattle.chi_coverage.specs.Fillers.{fillers_of, is_filler}
 use Rattle.chi_script.specs.Headers.{node_sizes}
 use Rattle.chi_slice.specs.Words.{line_view, LineView, Sizes}
 use Rattle.chi_node.specs.Home.{HomeState, node_last, node_line, node_view_refusal}
@@ -31,24 +32,27 @@ use Rattle.chi_coverage.specs.Places.{is_cell}
 use Rattle.chi_coverage.specs.Scenes.{scene_named}
 use Rattle.chi_coverage.specs.Steps.{cells_seen}
 
--- a step of a run: a command, the line that answers it, with its end, and the home before and after
+-- a step of a run: a command, whether it is filler, the line that answers it, with its end, and the home before and
+-- after
 pub record PlayedStep : Type 0 where
   pub command : Command
+  pub filler : Bool
   pub answer : List ℕ
   pub before : HomeState
   pub after : HomeState
 
--- the steps of commands one after the other, where the tracker answers so
-abbrev pub played_steps : Machine → List Command → List TurnAnswer → List PlayedStep
-played_steps m [] answers = []
-played_steps m (command ∷ rest) answers =
+-- the steps of checks one after the other, where the tracker answers so, and these lines of their file are filler
+abbrev pub played_steps : List Bool → Machine → List CheckLine → List TurnAnswer → List PlayedStep
+played_steps fillers m [] answers = []
+played_steps fillers m (check ∷ rest) answers =
     record {
-      command = command;
-      answer = (ending (turn m command) answers).said ++ (10 ∷ []);
+      command = check.command;
+      filler = is_filler fillers check.line;
+      answer = (ending (turn m check.command) answers).said ++ (10 ∷ []);
       before = m.home;
-      after = (ending (turn m command) answers).state.home;
+      after = (ending (turn m check.command) answers).state.home;
     }
-    ∷ played_steps (ending (turn m command) answers).state rest (ending (turn m command) answers).left
+    ∷ played_steps fillers (ending (turn m check.command) answers).state rest (ending (turn m check.command) answers).left
 
 -- a line as it is shown, where one is named, and there is one of that number
 abbrev pub view_unless : Option Refusal → LineView → Option LineView
@@ -67,9 +71,13 @@ abbrev pub cells_shown : Sizes → Past → Command → Option LineView → List
 cells_shown sizes past command before answer after =
     listed (cells_seen sizes past (named_of command) (scene_named before (named_of command).agent) answer after)
 
+-- a filler is in none
+abbrev pub cells_unless : Bool → List Cell → List Cell
+cells_unless filler cells = if filler then [] else cells
+
 abbrev pub cells_of_step : Sizes → Past → PlayedStep → List Cell
 cells_of_step sizes past step =
-    cells_shown sizes past step.command (view_in step.before (named_of step.command).line) step.answer (view_in step.after (named_of step.command).line)
+    cells_unless step.filler (cells_shown sizes past step.command (view_in step.before (named_of step.command).line) step.answer (view_in step.after (named_of step.command).line))
 
 -- what a step leaves to those behind it
 abbrev pub past_shown : Sizes → Past → Command → Option LineView → List ℕ → Past
@@ -88,15 +96,15 @@ cells_of_steps sizes past (step ∷ rest) = cells_of_step sizes past step ++ cel
 abbrev pub times_met : Cell → List Cell → ℕ
 times_met cell cells = length (filter (is_cell cell) cells)
 
--- the cells of a good file's steps: its commands were played on a new node of its header's size, under answers that the
--- tracker may give
+-- the cells of a good file's steps, but of its filler: its commands were played on a new node of its header's size, under
+-- answers that the tracker may give
 pub record IsCovered (file : List ℕ) (cells : List Cell) : Type 0 where
   pub header : Header
   pub checks : List CheckLine
   pub good : check_file_of file ≡ Ok (header, checks)
   pub answers : List TurnAnswer
   pub allowed : MayAnswer (machine_at_start (node_sizes header)) (opening_ports (node_sizes header)) (commands_in checks) answers
-  pub are : cells ≡ cells_of_steps (node_sizes header) no_past (played_steps (machine_at_start (node_sizes header)) (commands_in checks) answers)
+  pub are : cells ≡ cells_of_steps (node_sizes header) no_past (played_steps (fillers_of file) (machine_at_start (node_sizes header)) checks answers)
 
 -- what comes of a file: the cells of its steps, or its fault, and a hint, which is what more is told of it
 pub data CoverCame : Type 0 where
@@ -141,7 +149,7 @@ cell_line Json cell count =
     codes ",\n{\"section\":\"" ++ (section_text cell ++ (codes "\",\"cell\":\"" ++ (cell_text cell ++ (codes "\",\"count\":" ++ (count ++ codes "}")))))
 cell_line Tsv cell count = section_text cell ++ (codes "\t" ++ (cell_text cell ++ (codes "\t" ++ (count ++ (10 ∷ [])))))
 
--- what stands in the place of a count where no run reaches the cell
+-- what stands in the place of a count where the cell is left out
 abbrev pub unreachable_text : CoverForm → List ℕ
 unreachable_text Lines = codes "unreachable"
 unreachable_text Json = codes "null"

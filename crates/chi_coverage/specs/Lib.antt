@@ -17,6 +17,7 @@ pub mod Journals
 pub mod Sharing
 pub mod Past
 pub mod Steps
+pub mod Fillers
 pub mod Coverage
 pub mod Counts
 pub mod Merging

@@ -368,7 +368,7 @@ impl Cell {
         }
     }
 
-    /// Whether no run reaches it.
+    /// Whether it is left out, as no run is known to reach it.
     /// Source: `docs/DECISIONS.md`, "The suite".
     pub(crate) fn is_unreachable(&self) -> bool
         ensures { result ≡ is_unreachable self.now }

@@ -166,7 +166,7 @@ fn write_cell<A: Allocator>(
     }
 }
 
-/// Puts the line of a cell that no run reaches behind the text.
+/// Puts the line of a cell that is left out behind the text.
 fn write_unreachable<A: Allocator>(
     text: &mut Vec<u8, A>,
     cell: &Cell,

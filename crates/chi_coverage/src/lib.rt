@@ -9,6 +9,7 @@ mod cells;
 mod completions;
 mod counts;
 mod coverage;
+mod fillers;
 mod forms;
 mod journals;
 mod laws;

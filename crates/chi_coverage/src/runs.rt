@@ -4,17 +4,19 @@ ghost use Rattle.std.specs.Prelude.{◌≡◌, ◌≢◌, IfErr, OnOk, Some, len
 ghost use Rattle.chi_script.specs.Checks.{line_of_check};
 ghost use Rattle.chi_script.specs.CheckFiles.{check_file_of};
 ghost use Rattle.chi_script.specs.Faults.{Fails};
+ghost use Rattle.chi_coverage.specs.Fillers.{is_filler};
 ghost use Rattle.chi_coverage.specs.Coverage.{view_in};
 ghost use Rattle.chi_coverage.specs.Counts.{IsCountedFile, IsCountedRun, IsCountedStep, IsCountedScript};
 ghost use Rattle.chi_coverage.specs.Places.{place_count};
 
 use crate::counts::count_step;
+use crate::fillers::filler_lines;
 use crate::named::named_of;
 use crate::past::Past;
 use chi_flit::{Line, NoMemory};
 use chi_node::System;
-use chi_replay::{answer, commands_of, config_of};
-use chi_script::{CheckFile, Command, Fault, read_checks};
+use chi_replay::{answer, config_of};
+use chi_script::{Check, CheckFile, Command, Fault, read_checks};
 use chi_slice::{Config, LineView};
 use std::alloc::Allocator;
 
@@ -28,18 +30,19 @@ fn view_in<A: Allocator>(system: &System<A>, line: Option<Line>) -> Option<LineV
     }
 }
 
-/// Plays a command, and counts the cells of its step. The text is room for its answer.
+/// Plays a command, and counts the cells of its step, where it is no filler. The text is room for its answer.
 fn count_command<A: Allocator, B: Allocator>(
     config: &Config,
     system: &mut System<A>,
     command: &Command,
+    filler: bool,
     text: &mut String<B>,
     past: &mut Past,
     counts: &mut [u64],
 ) -> Result<(), NoMemory>
     requires { length counts.old ≡ place_count }
     ensures { OnOk result (IsCountedStep config.now past.old past.new
-        system.old system.new command.now counts.old counts.new) }
+        system.old system.new command.now filler counts.old counts.new) }
 {
     let line = named_of(*command).line;
     let before = view_in(system, line);
@@ -47,26 +50,50 @@ fn count_command<A: Allocator, B: Allocator>(
     answer(system, *command, text)?;
     let after = view_in(system, line);
     let said = text.as_bytes();
+    if filler {
+        return past.follow(config, *command, &before, said);
+    }
     count_step(counts, config, past, *command, &before, said, &after)?;
     past.follow(config, *command, &before, said)
 }
 
-/// Plays the commands on a new node of that size, and counts the cells of each step. Refused where memory
-/// runs out.
+/// Whether a command at the line of this number is filler.
+fn is_filler(fillers: &[bool], line: usize) -> bool
+    ensures { result ≡ is_filler fillers.now line }
+{
+    match fillers.get(line) {
+        Some(filler) => *filler,
+        None => false,
+    }
+}
+
+/// Plays the checks' commands on a new node of that size, and counts the cells of each step that is no filler. Refused
+/// where memory runs out.
 fn count_run<A: Allocator + Copy>(
     alloc: A,
     config: &Config,
-    commands: &[Command],
+    checks: &[Check<'_>],
+    fillers: &[bool],
     counts: &mut [u64],
 ) -> Result<(), NoMemory>
     requires { length counts.old ≡ place_count }
-    ensures { OnOk result (IsCountedRun config.now commands.now counts.old counts.new) }
+    ensures { OnOk result (IsCountedRun config.now fillers.now
+        (map line_of_check checks.now) counts.old counts.new) }
 {
     let mut system = System::new(alloc, config)?;
     let mut text = String::new(alloc);
     let mut past = Past::new();
-    for command in commands {
-        count_command(config, &mut system, command, &mut text, &mut past, counts)?;
+    for check in checks {
+        let filler = is_filler(fillers, check.line);
+        count_command(
+            config,
+            &mut system,
+            &check.command,
+            filler,
+            &mut text,
+            &mut past,
+            counts,
+        )?;
     }
     Ok(())
 }
@@ -75,15 +102,15 @@ fn count_run<A: Allocator + Copy>(
 fn count_script<A: Allocator + Copy>(
     alloc: A,
     script: &CheckFile<'_, A>,
+    fillers: &[bool],
     counts: &mut [u64],
 ) -> Result<(), NoMemory>
     requires { length counts.old ≡ place_count }
-    ensures { OnOk result (IsCountedScript script.now.header
+    ensures { OnOk result (IsCountedScript script.now.header fillers.now
         (map line_of_check script.now.checks.items) counts.old counts.new) }
 {
     let config = config_of(&script.header);
-    let commands = commands_of(alloc, &script.checks)?;
-    count_run(alloc, &config, &commands, counts)
+    count_run(alloc, &config, &script.checks, fillers, counts)
 }
 
 /// The same of the commands of a file, whose bytes these are; else its first fault, and nothing is counted, or
@@ -99,7 +126,8 @@ pub(crate) fn count_file<A: Allocator + Copy>(
     ensures kept { IfErr result (λ fault. fault ≢ Fault.NoMemory → counts.new ≡ counts.old) }
 {
     let script = read_checks(alloc, bytes)?;
-    match count_script(alloc, &script, counts) {
+    let fillers = filler_lines(alloc, bytes)?;
+    match count_script(alloc, &script, &fillers, counts) {
         Ok(()) => Ok(()),
         Err(_) => Err(Fault::NoMemory),
     }

@@ -1,7 +1,7 @@
 //! The explanation of a line as a check file. Its items are those that chi_explain has done; no clause says how they are
 //! written: that each check file holds is tested.
 
-use crate::ballast::Ballast;
+use crate::ballast::{Ballast, write_beginning, write_end};
 use crate::names::{LineName, NodeName, SeenName, kept, requester_of};
 use chi_explain::{Observed, WitnessItem};
 use chi_flit::{Agent, Data, NO_DATA, NoMemory, Profile, Step};
@@ -93,6 +93,7 @@ fn write_memory<A: Allocator>(text: &mut String<A>, memory: &Data) -> Result<(),
     }
     let words = Known(memory.map(|word| Some(word)));
     kept(writeln!(text, "# memory has {words} at first"))?;
+    write_beginning(text)?;
     kept(writeln!(
         text,
         "issue 0 0 ReadUnique 0\narrive 0 0\nstart 0 0\ndata 0 0\nack 0 0"
@@ -103,7 +104,8 @@ fn write_memory<A: Allocator>(text: &mut String<A>, memory: &Data) -> Result<(),
     kept(writeln!(
         text,
         "issue 0 0 WriteBackFull 0\narrive 0 0\nstart 0 0\ndbid 0 0\nwrdata 0 0"
-    ))
+    ))?;
+    write_end(text)
 }
 
 /// Puts the commands of some items behind the text.
