@@ -10,15 +10,22 @@ use Rattle.chi_flit.specs.declared.message.RspUp.{RspUp}
 use Rattle.chi_flit.specs.declared.message.RspUp.TheVariants as ups
 use Rattle.chi_flit.specs.declared.snoop.Snoop.{Snoop}
 use Rattle.chi_flit.specs.declared.state.State.{State}
+use Rattle.chi_trace.specs.Flits.{flit_opcode}
+use Rattle.chi_trace.specs.declared.fields.Address.{Address}
+use Rattle.chi_trace.specs.declared.fields.DbId.{DbId}
 use Rattle.chi_trace.specs.declared.fields.PcrdType.{PcrdType}
 use Rattle.chi_trace.specs.declared.fields.Resp.{Resp}
+use Rattle.chi_trace.specs.declared.fields.TxnId.{TxnId}
+use Rattle.chi_trace.specs.declared.flits.Flit.{Flit}
+use Rattle.chi_trace.specs.declared.flits.Flit.TheVariants as flits
 use Rattle.chi_trace.specs.declared.flits.Seen.{Seen}
+use Rattle.chi_trace.specs.declared.flits.Transaction.{Transaction}
 use Rattle.chi_trace.specs.declared.opcodes.Opcode.{Opcode}
-use Rattle.chi_trace.specs.declared.opcodes.Opcode.TheVariants as opcodes
+use Rattle.chi_resolution.specs.declared.data_flits.DataFlit.{DataFlit}
 use Rattle.chi_resolution.specs.declared.beats.OpenData.{OpenData}
-use Rattle.chi_resolution.specs.declared.changes.Change.{Change}
-use Rattle.chi_resolution.specs.declared.changes.Change.TheVariants.{Flit, Credit, Beat}
-use Rattle.chi_resolution.specs.declared.changes.LineFlit.{LineFlit}
+use Rattle.chi_resolution.specs.declared.tables.Change.{Change}
+use Rattle.chi_resolution.specs.declared.tables.Change.TheVariants as changes
+use Rattle.chi_resolution.specs.declared.tables.LineFlit.{LineFlit}
 use Rattle.chi_resolution.specs.declared.ids.OpenId.{OpenId}
 use Rattle.chi_resolution.specs.declared.ids.OpenKey.{OpenKey}
 use Rattle.chi_resolution.specs.declared.ids.OpenKey.TheVariants as keys
@@ -30,14 +37,18 @@ use Rattle.chi_resolution.specs.declared.nodes.Ends.{Ends}
 use Rattle.chi_resolution.specs.declared.reasons.IdReason.{IdReason}
 use Rattle.chi_resolution.specs.declared.reasons.IdReason.TheVariants as reasons
 use Rattle.chi_resolution.specs.declared.resolution.Options.{Options}
-use Rattle.chi_resolution.specs.Changes.{Open, access_of, answered, beat_by, beat_of, begun_or_freed, booking_of, completed, request_completion, completed_with, credit_change, cancelled_by, early_of, change_by, change_of, first_beat, flit_change, freed, given_back, granted, later_beat, may_grant, named, new_id, opened, received, replied, request_by, requested, responded, retried, retry_event, right_type, sent_again, snooped, unless_lacking, with_credit, with_loss, with_loss_in, with_loss_of}
+use Rattle.chi_resolution.specs.Changes.{credit_change, cancelled_by, change_by, change_of, flit_change, received, unless_lacking, with_loss, with_loss_in, with_loss_of}
+use Rattle.chi_resolution.specs.Credits.{early_of, given_back, granted, may_grant}
+use Rattle.chi_resolution.specs.DataFlits.{beat_by, beat_of, begun_or_freed, first_beat, later_beat, opened}
+use Rattle.chi_resolution.specs.Requests.{request_by, requested, retried, retry_event, right_type, sent_again, snooped, with_credit}
+use Rattle.chi_resolution.specs.Responses.{answered, completed, replied, responded}
+use Rattle.chi_resolution.specs.Tables.{Open, booking_of, freed, named, new_id}
 use Rattle.chi_resolution.specs.Ledger.{IsLedgerBalanced, held_of, wanted_of, with_event}
-use Rattle.chi_resolution.specs.Beats.{data_before, data_of, filled, is_whole}
+use Rattle.chi_resolution.specs.Beats.{data_before, data_of, is_whole}
 use Rattle.chi_resolution.specs.Cancels.{is_lost, is_unfit, left_by}
 use Rattle.chi_resolution.specs.Ids.{id_of}
 use Rattle.chi_resolution.specs.Messages.{answer_form, completion_response, message_of}
-use Rattle.chi_resolution.specs.Nodes.{ends_of}
-use Rattle.chi_resolution.specs.Reasons.{needed_address, needed_allow_retry, buffer_of, needed_dbid, needed_pcrd, needed_resp, needed_txn, value_in, words_in}
+use Rattle.chi_resolution.specs.Nodes.{ends_of, sides_of}
 use Rattle.chi_resolution.specs.declared.resolution.Allowed.{Allowed}
 use Rattle.chi_resolution.specs.Resolution.{IdOutcome, IdProgress, open_after, ended, nothing, resolution_of, resolved_from, allowed_of, taken}
 use Rattle.chi_resolution.proofs.Balance.{IsKept, booked_all_balanced, booked_balanced, each, each_of, held_balanced, if_not, if_so, more_cancelled, more_granted, more_in_vain, more_resent, more_returned, more_retried}
@@ -48,9 +59,9 @@ FlitKept early flit = IfSome flit.books (IsKept early)
 
 -- what any flit books
 abbrev pub ChangeKept : Bool → Change → Type 0
-ChangeKept early (Flit flit) = FlitKept early flit
-ChangeKept early (Credit booking) = IsKept early booking
-ChangeKept early (Beat further) = Unit {0}
+ChangeKept early (changes.Flit flit) = FlitKept early flit
+ChangeKept early (changes.Credit booking) = IsKept early booking
+ChangeKept early (changes.Beat further) = Unit {0}
 
 -- the accounts that there are
 abbrev pub TableKept : Bool → Open → Type 0
@@ -61,113 +72,82 @@ credit_kept : (early : Bool) (ends : Ends) (pcrd : PcrdType) (id : OpenId) (flit
 credit_kept early ends pcrd id flit retried table all =
     if_not _ _ _ (FlitKept early) (λ some. more_resent early _ (held_balanced early ends.requester pcrd table.accounts all) some)
 
-again_kept : (early : Bool) (table : Open) (ends : Ends) (seen : Seen) (id : OpenId) (flit : Observed) → TableKept early table → IfOk (sent_again table ends seen id flit) (FlitKept early)
+again_kept : (early : Bool) (table : Open) (ends : Ends) (pcrd : PcrdType) (id : OpenId) (flit : Observed) → TableKept early table → IfOk (sent_again table ends pcrd id flit) (FlitKept early)
 unfolding sent_again
-again_kept early table ends seen id flit all =
-    each (needed_pcrd seen) _ (FlitKept early) (λ pcrd.
+again_kept early table ends pcrd id flit all =
     each (ok_or (id_of (keys.Retried ends.requester id.line) table.ids) (reasons.NotOpen (keys.Retried ends.requester id.line))) _ (FlitKept early) (λ retried.
     each (right_type pcrd retried.waits_for) _ (FlitKept early) (λ type.
-    credit_kept early ends type id flit retried table all)))
+    credit_kept early ends type id flit retried table all))
 
-request_by_kept : (early allow : Bool) (table : Open) (ends : Ends) (seen : Seen) (kind : Kind) (id : OpenId) (flit : Observed) → TableKept early table → IfOk (request_by allow table ends seen kind id flit) (FlitKept early)
-request_by_kept early true table ends seen kind id flit all = tt
-request_by_kept early false table ends seen kind id flit all = again_kept early table ends seen id flit all
+request_by_kept : (early : Bool) (spends : Option PcrdType) (table : Open) (ends : Ends) (kind : Kind) (id : OpenId) (flit : Observed) → TableKept early table → IfOk (request_by spends table ends kind id flit) (FlitKept early)
+request_by_kept early None table ends kind id flit all = tt
+request_by_kept early (Some pcrd) table ends kind id flit all = again_kept early table ends pcrd id flit all
 
-request_kept : (early : Bool) (table : Open) (ends : Ends) (seen : Seen) (kind : Kind) → TableKept early table → IfOk (requested table ends seen kind) (FlitKept early)
+request_kept : (early : Bool) (table : Open) (ends : Ends) (kind : Kind) (spends : Option PcrdType) (txn : TxnId) (address : Address) → TableKept early table → IfOk (requested table ends kind spends txn address) (FlitKept early)
 unfolding requested
-request_kept early table ends seen kind all =
-    each (needed_address seen) _ (FlitKept early) (λ address.
-    each (needed_txn seen) _ (FlitKept early) (λ txn.
-    each (needed_allow_retry seen) _ (FlitKept early) (λ allow.
+request_kept early table ends kind spends txn address all =
     each (new_id table (keys.Request ends.requester txn)) _ (FlitKept early) (λ key.
-    request_by_kept early allow table ends seen kind _ _ all))))
+    request_by_kept early spends table ends kind _ _ all)
 
-snoop_kept : (early : Bool) (table : Open) (ends : Ends) (seen : Seen) (snoop : Snoop) → IfOk (snooped table ends seen snoop) (FlitKept early)
+snoop_kept : (early : Bool) (table : Open) (ends : Ends) (snoop : Snoop) (txn : TxnId) (address : Address) → IfOk (snooped table ends snoop txn address) (FlitKept early)
 unfolding snooped
-snoop_kept early table ends seen snoop =
-    each (needed_address seen) _ (FlitKept early) (λ address.
-    each (needed_txn seen) _ (FlitKept early) (λ txn.
-    each (new_id table (keys.Snoop ends.requester txn)) _ (FlitKept early) (λ key. tt)))
+snoop_kept early table ends snoop txn address = each (new_id table (keys.Snoop ends.requester txn)) _ (FlitKept early) (λ key. tt)
 
 retried_kept : (early lost : Bool) (account : CreditLedger) → IsLedgerBalanced early account → IsLedgerBalanced early (with_event (retry_event lost) account)
 retried_kept early true account is = more_in_vain early account is
 retried_kept early false account is = more_retried early account is
 
-retry_kept : (early : Bool) (options : Options) (table : Open) (ends : Ends) (seen : Seen) → TableKept early table → IfOk (retried options table ends seen) (FlitKept early)
+retry_kept : (early : Bool) (options : Options) (table : Open) (ends : Ends) (pcrd : PcrdType) (transaction : Transaction) → TableKept early table → IfOk (retried options table ends pcrd transaction) (FlitKept early)
 unfolding retried
-retry_kept early options table ends seen all =
-    each (needed_txn seen) _ (FlitKept early) (λ txn.
-    each (needed_pcrd seen) _ (FlitKept early) (λ pcrd.
-    each (freed table (keys.Request ends.requester txn) seen) _ (FlitKept early) (λ found.
-    each (ok_or found.may_retry (reasons.NotRetryable ends.requester txn)) _ (FlitKept early) (λ kind.
+retry_kept early options table ends pcrd transaction all =
+    each (freed table (keys.Request ends.requester transaction.txn) transaction.address) _ (FlitKept early) (λ found.
+    each (ok_or found.may_retry (reasons.NotRetryable ends.requester transaction.txn)) _ (FlitKept early) (λ kind.
     each (right_type pcrd (wanted_of options.types kind)) _ (FlitKept early) (λ type.
     each (new_id table (keys.Retried ends.requester found.line)) _ (FlitKept early) (λ key.
-    retried_kept early (is_lost kind ends.agent found table.flits) _ (held_balanced early ends.requester type table.accounts all)))))))
+    retried_kept early (is_lost kind ends.agent found table.flits) _ (held_balanced early ends.requester type table.accounts all)))))
 
-respond_kept : (early : Bool) (table : Open) (ends : Ends) (seen : Seen) (response : RspDown) → IfOk (responded table ends seen response) (FlitKept early)
+respond_kept : (early : Bool) (table : Open) (ends : Ends) (response : RspDown) (dbid : DbId) (transaction : Transaction) → IfOk (responded table ends response dbid transaction) (FlitKept early)
 unfolding responded
-respond_kept early table ends seen response =
-    each (needed_txn seen) _ (FlitKept early) (λ txn.
-    each (needed_dbid seen) _ (FlitKept early) (λ dbid.
-    each (freed table (keys.Request ends.requester txn) seen) _ (FlitKept early) (λ found.
-    each (new_id table (keys.Buffer ends.requester dbid)) _ (FlitKept early) (λ key. tt))))
+respond_kept early table ends response dbid transaction =
+    each (freed table (keys.Request ends.requester transaction.txn) transaction.address) _ (FlitKept early) (λ found.
+    each (new_id table (keys.Buffer ends.requester dbid)) _ (FlitKept early) (λ key. tt))
 
-complete_by_kept : (early : Bool) (table : Open) (ends : Ends) (seen : Seen) (response : RspDown) → IfOk (request_completion table ends seen response) (FlitKept early)
-complete_by_kept early table ends seen response =
-    each (needed_txn seen) _ (FlitKept early) (λ txn.
-    each (freed table (keys.Request ends.requester txn) seen) _ (FlitKept early) (λ found. tt))
-
-complete_with_kept : (early : Bool) (table : Open) (ends : Ends) (seen : Seen) (resp : Resp) (response : Option RspDown) → IfOk (completed_with table ends seen resp response) (FlitKept early)
-complete_with_kept early table ends seen resp None = tt
-complete_with_kept early table ends seen resp (Some downs.CompUC) = respond_kept early table ends seen downs.CompUC
-complete_with_kept early table ends seen resp (Some downs.CompI) = complete_by_kept early table ends seen downs.CompI
-complete_with_kept early table ends seen resp (Some downs.CompDBIDResp) = complete_by_kept early table ends seen downs.CompDBIDResp
-complete_with_kept early table ends seen resp (Some (downs.RetryAck type)) = complete_by_kept early table ends seen (downs.RetryAck type)
-
-complete_kept : (early : Bool) (table : Open) (ends : Ends) (seen : Seen) → IfOk (completed table ends seen) (FlitKept early)
+complete_kept : (early : Bool) (table : Open) (ends : Ends) (resp : Resp) (transaction : Transaction) → IfOk (completed table ends resp transaction) (FlitKept early)
 unfolding completed
-complete_kept early table ends seen = each (needed_resp seen) _ (FlitKept early) (λ resp. complete_with_kept early table ends seen resp (completion_response resp))
+complete_kept early table ends resp transaction =
+    each (ok_or (completion_response resp) (reasons.Form resp)) _ (FlitKept early) (λ response.
+    each (freed table (keys.Request ends.requester transaction.txn) transaction.address) _ (FlitKept early) (λ found. tt))
 
-reply_kept : (early : Bool) (table : Open) (ends : Ends) (seen : Seen) (key : OpenKey) (response : RspUp) → IfOk (replied table ends seen key response) (FlitKept early)
+reply_kept : (early : Bool) (table : Open) (ends : Ends) (key : OpenKey) (address : Option Address) (response : RspUp) → IfOk (replied table ends key address response) (FlitKept early)
 unfolding replied
-reply_kept early table ends seen key response = each (freed table key seen) _ (FlitKept early) (λ found. tt)
+reply_kept early table ends key address response = each (freed table key address) _ (FlitKept early) (λ found. tt)
 
-answer_kept : (early : Bool) (table : Open) (ends : Ends) (seen : Seen) → IfOk (answered table ends seen) (FlitKept early)
+answer_kept : (early : Bool) (table : Open) (ends : Ends) (resp : Resp) (transaction : Transaction) → IfOk (answered table ends resp transaction) (FlitKept early)
 unfolding answered
-answer_kept early table ends seen =
-    each (needed_resp seen) _ (FlitKept early) (λ resp.
-    each (needed_txn seen) _ (FlitKept early) (λ txn.
+answer_kept early table ends resp transaction =
     each (ok_or (answer_form resp) (reasons.Form resp)) _ (FlitKept early) (λ response.
-    reply_kept early table ends seen (keys.Snoop ends.requester txn) response)))
+    reply_kept early table ends (keys.Snoop ends.requester transaction.txn) transaction.address response)
 
 begun_kept : (early whole : Bool) (table : Open) (found : OpenId) (begun : OpenData) (flit : LineFlit) → FlitKept early flit → FlitKept early (begun_or_freed whole table found begun flit)
 begun_kept early true table found begun flit is = is
 begun_kept early false table found begun flit is = is
 
-first_kept : (early : Bool) (table : Open) (ends : Ends) (seen : Seen) (found : OpenId) (words : List (Option ℕ)) → IfOk (first_beat table ends seen found words) (FlitKept early)
+first_kept : (early : Bool) (table : Open) (ends : Ends) (flit : DataFlit) (found : OpenId) → IfOk (first_beat table ends flit found) (FlitKept early)
 unfolding first_beat
-first_kept early table ends seen found words =
-    each (needed_resp seen) _ (FlitKept early) (λ resp.
-    each (ok_or (message_of seen.opcode resp (filled words)) (reasons.Form resp)) _ (FlitKept early) (λ message.
-    each (opened table ends seen found.line seen.opcode) _ (FlitKept early) (λ opens.
-    begun_kept early (is_whole words) table found _ _ tt)))
+first_kept early table ends flit found =
+    each (ok_or (message_of flit.sort flit.resp flit.beat.words) (reasons.Form flit.resp)) _ (FlitKept early) (λ message.
+    each (opened table ends found.line flit.sort) _ (FlitKept early) (λ opens.
+    begun_kept early (is_whole flit.beat) table found _ _ tt))
 
-beat_by_kept : (early : Bool) (table : Open) (ends : Ends) (seen : Seen) (found : OpenId) (words : List (Option ℕ)) (begun : Option OpenData) → IfOk (beat_by table ends seen found words begun) (ChangeKept early)
-beat_by_kept early table ends seen found words None = each_of (first_beat table ends seen found words) _ (FlitKept early) (ChangeKept early) (first_kept early table ends seen found words) (λ flit is. is)
-beat_by_kept early table ends seen found words (Some begun) = each (later_beat ends seen found begun words) _ (ChangeKept early) (λ further. tt)
+beat_by_kept : (early : Bool) (table : Open) (ends : Ends) (flit : DataFlit) (found : OpenId) (begun : Option OpenData) → IfOk (beat_by table ends flit found begun) (ChangeKept early)
+beat_by_kept early table ends flit found None = each_of (first_beat table ends flit found) _ (FlitKept early) (ChangeKept early) (first_kept early table ends flit found) (λ first is. is)
+beat_by_kept early table ends flit found (Some begun) = each (later_beat ends flit found begun) _ (ChangeKept early) (λ further. tt)
 
-beat_kept : (early : Bool) (table : Open) (ends : Ends) (seen : Seen) (key : OpenKey) → IfOk (beat_of table ends seen key) (ChangeKept early)
+beat_kept : (early : Bool) (table : Open) (ends : Ends) (flit : DataFlit) → IfOk (beat_of table ends flit) (ChangeKept early)
 unfolding beat_of
-beat_kept early table ends seen key =
-    each (words_in seen.payload) _ (ChangeKept early) (λ words.
-    each (named table key seen) _ (ChangeKept early) (λ found.
-    beat_by_kept early table ends seen found words (data_of key table.unfinished)))
-
-access_kept : (early : Bool) (table : Open) (ends : Ends) (seen : Seen) → IfOk (access_of table ends seen) (FlitKept early)
-unfolding access_of
-access_kept early table ends seen =
-    each (needed_address seen) _ (FlitKept early) (λ address.
-    each (value_in seen.payload) _ (FlitKept early) (λ value. tt))
+beat_kept early table ends flit =
+    each (named table flit.key flit.address) _ (ChangeKept early) (λ found.
+    beat_by_kept early table ends flit found (data_of flit.key table.unfinished))
 
 may_grant_less : (account : CreditLedger) (n : ℕ) → may_grant account n ≡ true → n ≡ 0 → account.granted < account.retried
 may_grant_less account n may none = grind (arith, nat_tests)
@@ -176,17 +156,16 @@ none_early : (b : Bool) (n : ℕ) → b ≡ false → cond b n 0 ≡ 0
 none_early true n e = cc
 none_early false n e = refl
 
-grant_kept : (options : Options) (table : Open) (ends : Ends) (seen : Seen) → TableKept options.early_grants table → IfOk (granted options table ends seen) (IsKept options.early_grants)
+grant_kept : (options : Options) (table : Open) (ends : Ends) (pcrd : PcrdType) → TableKept options.early_grants table → IfOk (granted options table ends pcrd) (IsKept options.early_grants)
 unfolding granted
-grant_kept options table ends seen all =
-    each (needed_pcrd seen) _ (IsKept options.early_grants) (λ pcrd. if_so _ _ _ (IsKept options.early_grants) (λ may.
+grant_kept options table ends pcrd all =
+    if_so _ _ _ (IsKept options.early_grants) (λ may.
     more_granted options.early_grants _ (held_balanced options.early_grants ends.requester pcrd table.accounts all)
-    (λ late. may_grant_less (held_of ends.requester pcrd table.accounts).account (early_of options table ends.requester pcrd) may (none_early options.early_grants _ late))))
+    (λ late. may_grant_less (held_of ends.requester pcrd table.accounts).account (early_of options table ends.requester pcrd) may (none_early options.early_grants _ late)))
 
-return_kept : (early : Bool) (table : Open) (ends : Ends) (seen : Seen) → TableKept early table → IfOk (given_back table ends seen) (IsKept early)
+return_kept : (early : Bool) (table : Open) (ends : Ends) (pcrd : PcrdType) → TableKept early table → IfOk (given_back table ends pcrd) (IsKept early)
 unfolding given_back
-return_kept early table ends seen all =
-    each (needed_pcrd seen) _ (IsKept early) (λ pcrd. if_so _ _ _ (IsKept early) (λ may. more_returned early _ (held_balanced early ends.requester pcrd table.accounts all) may))
+return_kept early table ends pcrd all = if_so _ _ _ (IsKept early) (λ may. more_returned early _ (held_balanced early ends.requester pcrd table.accounts all) may)
 
 as_flit : (early : Bool) (flit : Result LineFlit IdReason) → IfOk flit (FlitKept early) → IfOk (flit_change flit) (ChangeKept early)
 as_flit early (Ok flit) is = is
@@ -196,21 +175,22 @@ as_credit : (early : Bool) (booking : Result Booking IdReason) → IfOk booking 
 as_credit early (Ok booking) is = is
 as_credit early (Err reason) is = tt
 
-by_opcode : (opcode : Opcode) (options : Options) (table : Open) (ends : Ends) (seen : Seen) → TableKept options.early_grants table → IfOk (change_by opcode options table ends seen) (ChangeKept options.early_grants)
-by_opcode (opcodes.Request kind) options table ends seen all = as_flit options.early_grants _ (request_kept options.early_grants table ends seen kind all)
-by_opcode opcodes.PCrdReturn options table ends seen all = as_credit options.early_grants _ (return_kept options.early_grants table ends seen all)
-by_opcode (opcodes.Snoop snoop) options table ends seen all = as_flit options.early_grants _ (snoop_kept options.early_grants table ends seen snoop)
-by_opcode opcodes.RetryAck options table ends seen all = as_flit options.early_grants _ (retry_kept options.early_grants options table ends seen all)
-by_opcode opcodes.Comp options table ends seen all = as_flit options.early_grants _ (complete_kept options.early_grants table ends seen)
-by_opcode opcodes.CompDBIDResp options table ends seen all = as_flit options.early_grants _ (respond_kept options.early_grants table ends seen downs.CompDBIDResp)
-by_opcode opcodes.PCrdGrant options table ends seen all = as_credit options.early_grants _ (grant_kept options table ends seen all)
-by_opcode opcodes.SnpResp options table ends seen all = as_flit options.early_grants _ (answer_kept options.early_grants table ends seen)
-by_opcode opcodes.CompAck options table ends seen all = each (buffer_of seen) _ (ChangeKept options.early_grants) (λ dbid. as_flit options.early_grants _ (reply_kept options.early_grants table ends seen _ ups.CompAck))
-by_opcode opcodes.CompData options table ends seen all = each (needed_txn seen) _ (ChangeKept options.early_grants) (λ txn. beat_kept options.early_grants table ends seen _)
-by_opcode opcodes.SnpRespData options table ends seen all = each (needed_txn seen) _ (ChangeKept options.early_grants) (λ txn. beat_kept options.early_grants table ends seen _)
-by_opcode opcodes.CopyBackWrData options table ends seen all = each (buffer_of seen) _ (ChangeKept options.early_grants) (λ dbid. beat_kept options.early_grants table ends seen _)
-by_opcode opcodes.Load options table ends seen all = as_flit options.early_grants _ (access_kept options.early_grants table ends seen)
-by_opcode opcodes.Store options table ends seen all = as_flit options.early_grants _ (access_kept options.early_grants table ends seen)
+by_flit : (flit : Flit) (options : Options) (table : Open) (ends : Ends) → TableKept options.early_grants table → IfOk (change_by flit options table ends) (ChangeKept options.early_grants)
+by_flit (flits.Request kind spends target txn address) options table ends all = as_flit options.early_grants _ (request_kept options.early_grants table ends kind spends txn address all)
+by_flit (flits.PCrdReturn pcrd target) options table ends all = as_credit options.early_grants _ (return_kept options.early_grants table ends pcrd all)
+by_flit (flits.Snoop snoop target txn address) options table ends all = as_flit options.early_grants _ (snoop_kept options.early_grants table ends snoop txn address)
+by_flit (flits.RetryAck pcrd transaction) options table ends all = as_flit options.early_grants _ (retry_kept options.early_grants options table ends pcrd transaction all)
+by_flit (flits.CompUC dbid transaction) options table ends all = as_flit options.early_grants _ (respond_kept options.early_grants table ends downs.CompUC dbid transaction)
+by_flit (flits.Comp resp transaction) options table ends all = as_flit options.early_grants _ (complete_kept options.early_grants table ends resp transaction)
+by_flit (flits.CompDBIDResp dbid transaction) options table ends all = as_flit options.early_grants _ (respond_kept options.early_grants table ends downs.CompDBIDResp dbid transaction)
+by_flit (flits.PCrdGrant pcrd target) options table ends all = as_credit options.early_grants _ (grant_kept options table ends pcrd all)
+by_flit (flits.SnpResp resp transaction) options table ends all = as_flit options.early_grants _ (answer_kept options.early_grants table ends resp transaction)
+by_flit (flits.CompAck transaction) options table ends all = as_flit options.early_grants _ (reply_kept options.early_grants table ends _ transaction.address ups.CompAck)
+by_flit (flits.CompData resp dbid transaction beat) options table ends all = beat_kept options.early_grants table ends _
+by_flit (flits.SnpRespData resp transaction beat) options table ends all = beat_kept options.early_grants table ends _
+by_flit (flits.CopyBackWrData resp transaction beat) options table ends all = beat_kept options.early_grants table ends _
+by_flit (flits.Load address value) options table ends all = tt
+by_flit (flits.Store address value) options table ends all = tt
 
 cancelled_by_kept : (early : Bool) (table : Open) (ends : Ends) (waiting : OpenId) (flit : LineFlit) (pcrd : Option PcrdType) → TableKept early table → FlitKept early flit → FlitKept early (cancelled_by table ends waiting flit pcrd)
 cancelled_by_kept early table ends waiting flit None all is = is
@@ -233,20 +213,20 @@ unless_lacking_kept early flit None is = is
 unless_lacking_kept early flit (Some begun) is = tt
 
 received_kept : (early : Bool) (table : Open) (ends : Ends) (opcode : Opcode) → TableKept early table → (change : Change) → ChangeKept early change → IfOk (received table ends opcode change) (ChangeKept early)
-received_kept early table ends opcode all (Flit flit) is =
+received_kept early table ends opcode all (changes.Flit flit) is =
     unless_lacking_kept early (with_loss table ends flit) (data_before opcode (with_loss table ends flit).line table.unfinished) (loss_in_kept early table ends flit (left_by flit.flit) all is)
-received_kept early table ends opcode all (Credit booking) is = is
-received_kept early table ends opcode all (Beat further) is = is
+received_kept early table ends opcode all (changes.Credit booking) is = is
+received_kept early table ends opcode all (changes.Beat further) is = is
 
-change_kept : (options : Options) (table : Open) (ends : Ends) (seen : Seen) → TableKept options.early_grants table → IfOk (change_of options table ends seen) (ChangeKept options.early_grants)
+change_kept : (options : Options) (table : Open) (ends : Ends) (flit : Flit) → TableKept options.early_grants table → IfOk (change_of options table ends flit) (ChangeKept options.early_grants)
 unfolding change_of
-change_kept options table ends seen all =
-    each_of (change_by seen.opcode options table ends seen) _ (ChangeKept options.early_grants) (ChangeKept options.early_grants) (by_opcode seen.opcode options table ends seen all) (received_kept options.early_grants table ends seen.opcode all)
+change_kept options table ends flit all =
+    each_of (change_by flit options table ends) _ (ChangeKept options.early_grants) (ChangeKept options.early_grants) (by_flit flit options table ends all) (received_kept options.early_grants table ends (flit_opcode flit) all)
 
 after_kept : (early : Bool) (at : ℕ) (change : Change) (table : Open) → ChangeKept early change → TableKept early table → TableKept early (open_after at change table)
-after_kept early at (Flit flit) table is all = booked_all_balanced early flit.books table.accounts is all
-after_kept early at (Credit booking) table is all = booked_balanced early booking table.accounts is all
-after_kept early at (Beat further) table is all = all
+after_kept early at (changes.Flit flit) table is all = booked_all_balanced early flit.books table.accounts is all
+after_kept early at (changes.Credit booking) table is all = booked_balanced early booking table.accounts is all
+after_kept early at (changes.Beat further) table is all = all
 
 abbrev ProgressKept : Bool → IdProgress → Type 0
 ProgressKept early progress = TableKept early progress.table
@@ -254,8 +234,8 @@ ProgressKept early progress = TableKept early progress.table
 step_kept : (options : Options) (progress : IdProgress) (seen : Seen) → ProgressKept options.early_grants progress → IfOk (allowed_of options progress seen) (λ allowed. ChangeKept options.early_grants allowed.change)
 unfolding allowed_of
 step_kept options progress seen all =
-    each (ends_of progress.home progress.requesters seen) _ (λ allowed. ChangeKept options.early_grants allowed.change) (λ ends.
-    each_of (change_of options progress.table ends seen) _ (ChangeKept options.early_grants) (λ allowed. ChangeKept options.early_grants allowed.change) (change_kept options progress.table ends seen all) (λ change is. is))
+    each (ends_of progress.home progress.requesters (sides_of seen.source seen.flit)) _ (λ allowed. ChangeKept options.early_grants allowed.change) (λ ends.
+    each_of (change_of options progress.table ends seen.flit) _ (ChangeKept options.early_grants) (λ allowed. ChangeKept options.early_grants allowed.change) (change_kept options progress.table ends seen.flit all) (λ change is. is))
 
 ended_kept : (early : Bool) (at : ℕ) (progress : IdProgress) (next : Result Allowed IdReason) (rest : Allowed → IdOutcome) → ProgressKept early progress → IfOk next (λ allowed. ChangeKept early allowed.change)
     → ((allowed : Allowed) → ChangeKept early allowed.change → ProgressKept early (rest allowed).progress) → ProgressKept early (ended at progress next rest).progress

@@ -1,6 +1,6 @@
 -- When a retried request is cancelled: it is a copy-back, and an answer to a snoop has left its copy in another state than
 -- it needs. Nothing else changes the copy while it is pending (docs/PROTOCOL.md, "The actions", Cancel).
-use Rattle.std.specs.Prelude.{ℕ, ◌==◌, ◌&&◌, not, Bool, true, false, List, Option, Some, None, drop}
+use Rattle.std.specs.Prelude.{◌==◌, ◌&&◌, not, Bool, false, List, Option, Some, None, drop}
 use Rattle.std.specs.List.{list_any}
 use Rattle.chi_explain.specs.declared.observed.Observed.{Observed}
 use Rattle.chi_explain.specs.declared.observed.Observed.TheVariants as observed

@@ -1,6 +1,8 @@
 pub mod Beats
 pub mod Cancels
 pub mod Changes
+pub mod Credits
+pub mod DataFlits
 pub mod Grants
 pub mod Ids
 pub mod Ledger
@@ -8,4 +10,7 @@ pub mod Lines
 pub mod Messages
 pub mod Nodes
 pub mod Reasons
+pub mod Requests
 pub mod Resolution
+pub mod Responses
+pub mod Tables

@@ -14,12 +14,11 @@ use Rattle.chi_flit.specs.declared.state.State.{State}
 use Rattle.chi_flit.specs.declared.state.State.TheVariants as states
 use Rattle.chi_trace.specs.declared.fields.Resp.{Resp}
 use Rattle.chi_trace.specs.declared.fields.Resp.TheVariants.{I, SC, UC, UD, SD, IPD, SCPD, UCPD, UDPD, SDPD}
-use Rattle.chi_trace.specs.declared.opcodes.Opcode.{Opcode}
-use Rattle.chi_trace.specs.declared.opcodes.Opcode.TheVariants as opcodes
+use Rattle.chi_resolution.specs.declared.data_flits.DataSort.{DataSort}
+use Rattle.chi_resolution.specs.declared.data_flits.DataSort.TheVariants as sorts
 
--- Comp
+-- Comp, but for Comp_UC, which a CompAck follows
 abbrev pub completion_response : Resp → Option RspDown
-completion_response UC = Some downs.CompUC
 completion_response I = Some downs.CompI
 completion_response other = None
 
@@ -50,11 +49,10 @@ state_of SDPD = Some states.SD
 state_of other = None
 
 -- the message of a flit with data
-abbrev pub message_of : Opcode → Resp → List ℕ → Option Msg
-message_of opcodes.CompData resp words = option_map messages.DatDown (read_data_of resp words)
-message_of opcodes.SnpRespData resp words = option_map messages.DatUp (snoop_data_of resp words)
-message_of opcodes.CopyBackWrData resp words = option_map (λ state. messages.DatUp (ups.CopyBackWrData state words)) (state_of resp)
-message_of other resp words = None
+abbrev pub message_of : DataSort → Resp → List ℕ → Option Msg
+message_of (sorts.Read dbid) resp words = option_map messages.DatDown (read_data_of resp words)
+message_of sorts.Snooped resp words = option_map messages.DatUp (snoop_data_of resp words)
+message_of sorts.Written resp words = option_map (λ state. messages.DatUp (ups.CopyBackWrData state words)) (state_of resp)
 
 -- whether two RESPs are the same
 abbrev pub is_same_resp : Resp → Resp → Bool

@@ -1,44 +1,42 @@
 -- The nodes of a trace: its home, and its requesters in the order of their first flits (docs/TRACES.md,
 -- "Nodes, ids and credits").
-use Rattle.std.specs.Prelude.{ℕ, ◌==◌, ◌||◌, nat_lt, Bool, false, List, [], ◌∷◌, ◌++◌, Option, Some, None, Result, Ok, Err, if◌then◌else◌, length, is_some, ok_or}
+use Rattle.std.specs.Prelude.{ℕ, ◌==◌, ◌||◌, nat_lt, Bool, false, List, [], ◌∷◌, ◌++◌, Option, Some, None, Result, Ok, Err, if◌then◌else◌, length, is_some}
 use Rattle.std.specs.List.{position}
 use Rattle.std.specs.Option.{unwrap_or}
 use Rattle.chi_flit.specs.declared.numbers.Agent.{Agent}
-use Rattle.chi_trace.specs.declared.columns.Column.TheVariants as columns
 use Rattle.chi_trace.specs.declared.fields.NodeId.{NodeId}
-use Rattle.chi_trace.specs.declared.flits.Seen.{Seen}
-use Rattle.chi_trace.specs.declared.opcodes.Opcode.{Opcode}
-use Rattle.chi_trace.specs.declared.opcodes.Opcode.TheVariants.{Request, PCrdReturn, Snoop, RetryAck, Comp, CompDBIDResp, PCrdGrant, SnpResp, CompAck, CompData, SnpRespData, CopyBackWrData, Load, Store}
+use Rattle.chi_trace.specs.declared.flits.Flit.{Flit}
+use Rattle.chi_trace.specs.declared.flits.Flit.TheVariants as flits
 use Rattle.chi_resolution.specs.declared.nodes.Ends.{Ends}
 use Rattle.chi_resolution.specs.declared.nodes.Sides.{Sides}
-use Rattle.chi_resolution.specs.declared.nodes.Way.{Way}
-use Rattle.chi_resolution.specs.declared.nodes.Way.TheVariants.{Up, Down, Aside}
 use Rattle.chi_resolution.specs.declared.reasons.IdReason.{IdReason}
-use Rattle.chi_resolution.specs.declared.reasons.IdReason.TheVariants.{Lacks, NinthRequester, BothSides, SecondHome}
+use Rattle.chi_resolution.specs.declared.reasons.IdReason.TheVariants.{NinthRequester, BothSides, SecondHome}
 use Rattle.chi_resolution.specs.Reasons.{◌>>=◌}
 
--- which way a flit goes
-abbrev pub way_of : Opcode → Way
-way_of (Request kind) = Up
-way_of PCrdReturn = Up
-way_of (Snoop snoop) = Down
-way_of RetryAck = Down
-way_of Comp = Down
-way_of CompDBIDResp = Down
-way_of PCrdGrant = Down
-way_of SnpResp = Up
-way_of CompAck = Up
-way_of CompData = Down
-way_of SnpRespData = Up
-way_of CopyBackWrData = Up
-way_of Load = Aside
-way_of Store = Aside
+-- the requester and the home of a flit that goes up from a requester, or down to one
+abbrev pub up : NodeId → NodeId → Sides
+up source target = record { requester = source; home = Some target }
 
--- its requester and its home; the target of a snoop is the requester that is snooped
-abbrev pub sides_of : Way → Seen → Result Sides IdReason
-sides_of Up seen = ok_or seen.target (Lacks columns.Target) >>= λ target. Ok (record { requester = seen.source; home = Some target })
-sides_of Down seen = ok_or seen.target (Lacks columns.Target) >>= λ target. Ok (record { requester = target; home = Some seen.source })
-sides_of Aside seen = Ok (record { requester = seen.source; home = None })
+abbrev pub down : NodeId → NodeId → Sides
+down source target = record { requester = target; home = Some source }
+
+-- those of each flit; the target of a snoop is the requester that is snooped
+abbrev pub sides_of : NodeId → Flit → Sides
+sides_of source (flits.Request kind spends target txn address) = up source target
+sides_of source (flits.PCrdReturn pcrd target) = up source target
+sides_of source (flits.Snoop snoop target txn address) = down source target
+sides_of source (flits.RetryAck pcrd transaction) = down source transaction.target
+sides_of source (flits.CompUC dbid transaction) = down source transaction.target
+sides_of source (flits.Comp resp transaction) = down source transaction.target
+sides_of source (flits.CompDBIDResp dbid transaction) = down source transaction.target
+sides_of source (flits.PCrdGrant pcrd target) = down source target
+sides_of source (flits.SnpResp resp transaction) = up source transaction.target
+sides_of source (flits.CompAck transaction) = up source transaction.target
+sides_of source (flits.CompData resp dbid transaction beat) = down source transaction.target
+sides_of source (flits.SnpRespData resp transaction beat) = up source transaction.target
+sides_of source (flits.CopyBackWrData resp transaction beat) = up source transaction.target
+sides_of source (flits.Load address value) = record { requester = source; home = None }
+sides_of source (flits.Store address value) = record { requester = source; home = None }
 
 abbrev pub is_node : NodeId → NodeId → Bool
 is_node node other = other.0 == node.0
@@ -68,9 +66,8 @@ home_in home requesters requester None = Ok None
 home_in home requesters requester (Some node) = home_of home requesters requester node
 
 -- the nodes of a flit, as those before it allow
-unfoldable pub ends_of : Option NodeId → List NodeId → Seen → Result Ends IdReason
-ends_of home requesters seen = do
-  sides ← sides_of (way_of seen.opcode) seen
+unfoldable pub ends_of : Option NodeId → List NodeId → Sides → Result Ends IdReason
+ends_of home requesters sides = do
   agent ← agent_of home requesters sides.requester
   node ← home_in home requesters sides.requester sides.home
   Ok (record { requester = sides.requester; agent = agent; home = node })

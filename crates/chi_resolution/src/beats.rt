@@ -1,17 +1,14 @@
 //! Data in more than one beat.
 
 ghost use Rattle.std.specs.Prelude.{◌≡◌, position};
-ghost use Rattle.chi_resolution.specs.Beats.{completes_data, data_at, data_before, data_of, filled, is_before, is_whole, joined, merged_one, waits_for};
+ghost use Rattle.chi_resolution.specs.Beats.{completes_data, data_at, data_before, data_of, is_before, is_whole, joined, merged_one, waits_for};
 
 use crate::ids::{KeyTable, OpenKey, numbers_of};
 use crate::lines::CacheLine;
 use crate::reasons::IdReason;
-use chi_flit::{Data, WordNo};
-use chi_trace::{DbId, Opcode, Resp};
+use chi_flit::WordNo;
+use chi_trace::{Beat, DbId, Opcode, Resp};
 use std::alloc::Allocator;
-
-/// The words of a line that a beat, or some beats, have.
-pub(crate) type BeatWords = [Option<u64>; 8];
 
 /// Data that lacks words yet: its id stays in use.
 /// Source: `docs/TRACES.md`, "Nodes, ids and credits".
@@ -26,7 +23,7 @@ pub struct OpenData {
     pub resp: Resp,
     pub dbid: Option<DbId>,
     /// The words so far.
-    pub words: [Option<u64>; 8],
+    pub beat: Beat,
 }
 
 /// The unfinished data that frees an id.
@@ -103,47 +100,27 @@ pub(crate) fn find_before<A: Allocator>(
 }
 
 /// Whether no word lacks.
-pub(crate) fn is_whole(words: &BeatWords) -> bool
-    ensures { result ≡ is_whole words.now }
+pub(crate) fn is_whole(beat: &Beat) -> bool
+    ensures { result ≡ is_whole beat.now }
 {
-    words.iter().all(|word| word.is_some())
-}
-
-/// The words, with 0 in place of those that lack.
-pub(crate) fn filled(words: &BeatWords) -> Data
-    ensures { result ≡ filled words.now }
-{
-    [
-        words[0].unwrap_or(0),
-        words[1].unwrap_or(0),
-        words[2].unwrap_or(0),
-        words[3].unwrap_or(0),
-        words[4].unwrap_or(0),
-        words[5].unwrap_or(0),
-        words[6].unwrap_or(0),
-        words[7].unwrap_or(0),
-    ]
+    beat.there.iter().all(|there| *there)
 }
 
 /// The words of the beats so far and those of a further one. `WordAgain` where both have a word.
 #[tactic(auto, unfolding(crate::specs::Beats::joined))]
-pub(crate) fn joined(
-    key: OpenKey,
-    words: &BeatWords,
-    more: &BeatWords,
-) -> Result<BeatWords, IdReason>
-    ensures { result ≡ joined key words.now more.now }
+pub(crate) fn joined(key: OpenKey, begun: &Beat, more: &Beat) -> Result<Beat, IdReason>
+    ensures { result ≡ joined key begun.now more.now }
 {
-    Ok([
-        one_of(key, WordNo(0), words[0], more[0])?,
-        one_of(key, WordNo(1), words[1], more[1])?,
-        one_of(key, WordNo(2), words[2], more[2])?,
-        one_of(key, WordNo(3), words[3], more[3])?,
-        one_of(key, WordNo(4), words[4], more[4])?,
-        one_of(key, WordNo(5), words[5], more[5])?,
-        one_of(key, WordNo(6), words[6], more[6])?,
-        one_of(key, WordNo(7), words[7], more[7])?,
-    ])
+    Ok(Beat::with(&[
+        one_of(key, WordNo(0), begun.word(0), more.word(0))?,
+        one_of(key, WordNo(1), begun.word(1), more.word(1))?,
+        one_of(key, WordNo(2), begun.word(2), more.word(2))?,
+        one_of(key, WordNo(3), begun.word(3), more.word(3))?,
+        one_of(key, WordNo(4), begun.word(4), more.word(4))?,
+        one_of(key, WordNo(5), begun.word(5), more.word(5))?,
+        one_of(key, WordNo(6), begun.word(6), more.word(6))?,
+        one_of(key, WordNo(7), begun.word(7), more.word(7))?,
+    ]))
 }
 
 /// The word that one of the two has, if one has.

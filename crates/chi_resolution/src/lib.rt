@@ -7,13 +7,18 @@
 mod beats;
 mod cancels;
 mod changes;
+mod credits;
+mod data_flits;
 mod ids;
 mod ledger;
 mod lines;
 mod messages;
 mod nodes;
 mod reasons;
+mod requests;
 mod resolution;
+mod responses;
+mod tables;
 
 pub use beats::OpenData;
 pub use ids::{OpenId, OpenKey};
@@ -21,4 +26,4 @@ pub use ledger::{CreditLedger, Types};
 pub use lines::{CacheLine, Resolved, line_of};
 pub use nodes::Nodes;
 pub use reasons::{IdFault, IdReason};
-pub use resolution::{Options, Resolution, resolve};
+pub use resolution::{Options, Resolution, Resolver, resolve};

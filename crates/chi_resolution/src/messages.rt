@@ -3,17 +3,18 @@
 ghost use Rattle.std.specs.Prelude.{◌≡◌};
 ghost use Rattle.chi_resolution.specs.Messages.{answer_form, completion_response, is_same_resp, message_of, read_data_of, snoop_data_of, state_of};
 
+use crate::data_flits::DataSort;
 use chi_flit::{CompData, DatUp, Data, Msg, RspDown, RspUp, State};
-use chi_trace::{Opcode, Resp};
+use chi_trace::Resp;
 
-/// A Comp of this form.
+/// A Comp of this form that no CompAck follows.
 pub(crate) fn completion(resp: Resp) -> Option<RspDown>
     ensures { result ≡ completion_response resp }
 {
     match resp {
-        Resp::UC => Some(RspDown::CompUC),
         Resp::I => Some(RspDown::CompI),
         Resp::SC
+        | Resp::UC
         | Resp::UD
         | Resp::SD
         | Resp::IPD
@@ -42,25 +43,14 @@ pub(crate) fn answer(resp: Resp) -> Option<RspUp>
     }
 }
 
-/// The message of a flit with data: of an opcode that has data, in this form and with these words.
-pub(crate) fn message_with(opcode: Opcode, resp: Resp, words: Data) -> Option<Msg>
-    ensures { result ≡ message_of opcode resp words }
+/// The message of data in this form and with these words.
+pub(crate) fn message_with(sort: DataSort, resp: Resp, words: Data) -> Option<Msg>
+    ensures { result ≡ message_of sort resp words }
 {
-    match opcode {
-        Opcode::CompData => Some(Msg::DatDown(read_data(resp, words)?)),
-        Opcode::SnpRespData => Some(Msg::DatUp(snoop_data(resp, words)?)),
-        Opcode::CopyBackWrData => Some(Msg::DatUp(DatUp::CopyBackWrData(form(resp)?, words))),
-        Opcode::Request(_)
-        | Opcode::PCrdReturn
-        | Opcode::Snoop(_)
-        | Opcode::RetryAck
-        | Opcode::Comp
-        | Opcode::CompDBIDResp
-        | Opcode::PCrdGrant
-        | Opcode::SnpResp
-        | Opcode::CompAck
-        | Opcode::Load
-        | Opcode::Store => None,
+    match sort {
+        DataSort::Read(_) => Some(Msg::DatDown(read_data(resp, words)?)),
+        DataSort::Snooped => Some(Msg::DatUp(snoop_data(resp, words)?)),
+        DataSort::Written => Some(Msg::DatUp(DatUp::CopyBackWrData(form(resp)?, words))),
     }
 }
 

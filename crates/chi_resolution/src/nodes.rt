@@ -1,11 +1,11 @@
 //! The nodes of a trace: its home, and its requesters in the order of their first flits.
 
-ghost use Rattle.std.specs.Prelude.{◌≡◌, [], position, OnOk};
-ghost use Rattle.chi_resolution.specs.Nodes.{numbered_requester, agent_of, ends_of, home_in, home_of, is_node, same_home, sides_of, way_of, with_home, with_requester};
+ghost use Rattle.std.specs.Prelude.{◌≡◌, [], None, position, OnOk};
+ghost use Rattle.chi_resolution.specs.Nodes.{numbered_requester, agent_of, down, ends_of, home_in, home_of, is_node, same_home, sides_of, up, with_home, with_requester};
 
 use crate::reasons::IdReason;
 use chi_flit::Agent;
-use chi_trace::{Column, NodeId, Opcode, Seen};
+use chi_trace::{Flit, NodeId, Seen};
 use std::alloc::{AllocError, Allocator};
 
 /// The nodes that flits have named so far.
@@ -33,61 +33,57 @@ pub(crate) struct Sides {
     pub home: Option<NodeId>,
 }
 
-/// Which way a flit goes.
-#[derive(Clone, Copy)]
-pub(crate) enum Way {
-    /// From a requester to the home.
-    Up,
-    /// From the home to a requester.
-    Down,
-    /// It is what a requester's processor did.
-    Aside,
-}
-
-/// Which way a flit of this opcode goes.
-fn way_of(opcode: Opcode) -> Way
-    ensures { result ≡ way_of opcode }
+/// The nodes of a flit that goes up to the home.
+fn up(source: NodeId, target: NodeId) -> Sides
+    ensures { result ≡ up source target }
 {
-    match opcode {
-        Opcode::Request(_)
-        | Opcode::PCrdReturn
-        | Opcode::SnpResp
-        | Opcode::SnpRespData
-        | Opcode::CompAck
-        | Opcode::CopyBackWrData => Way::Up,
-        Opcode::Snoop(_)
-        | Opcode::RetryAck
-        | Opcode::Comp
-        | Opcode::CompDBIDResp
-        | Opcode::PCrdGrant
-        | Opcode::CompData => Way::Down,
-        Opcode::Load | Opcode::Store => Way::Aside,
+    Sides {
+        requester: source,
+        home: Some(target),
     }
 }
 
-/// The requester and the home of a flit that goes this way.
-fn sides_of(way: Way, seen: &Seen) -> Result<Sides, IdReason>
-    ensures { result ≡ sides_of way seen.now }
+/// The nodes of a flit that goes down to a requester.
+fn down(source: NodeId, target: NodeId) -> Sides
+    ensures { result ≡ down source target }
 {
-    match way {
-        Way::Up => {
-            let target = seen.target.ok_or(IdReason::Lacks(Column::Target))?;
-            Ok(Sides {
-                requester: seen.source,
-                home: Some(target),
-            })
-        }
-        Way::Down => {
-            let target = seen.target.ok_or(IdReason::Lacks(Column::Target))?;
-            Ok(Sides {
-                requester: target,
-                home: Some(seen.source),
-            })
-        }
-        Way::Aside => Ok(Sides {
-            requester: seen.source,
-            home: None,
-        }),
+    Sides {
+        requester: target,
+        home: Some(source),
+    }
+}
+
+/// The nodes of what a requester's processor did.
+fn aside(source: NodeId) -> Sides
+    ensures requester { result.requester ≡ source }
+    ensures home { result.home ≡ None }
+{
+    Sides {
+        requester: source,
+        home: None,
+    }
+}
+
+/// The requester and the home of a flit of this node.
+fn sides_of(source: NodeId, flit: &Flit) -> Sides
+    ensures { result ≡ sides_of source flit.now }
+{
+    match flit {
+        Flit::Request { target, .. } => up(source, *target),
+        Flit::PCrdReturn { target, .. } => up(source, *target),
+        Flit::Snoop { target, .. } => down(source, *target),
+        Flit::RetryAck { transaction, .. } => down(source, transaction.target),
+        Flit::CompUC { transaction, .. } => down(source, transaction.target),
+        Flit::Comp { transaction, .. } => down(source, transaction.target),
+        Flit::CompDBIDResp { transaction, .. } => down(source, transaction.target),
+        Flit::PCrdGrant { target, .. } => down(source, *target),
+        Flit::SnpResp { transaction, .. } => up(source, transaction.target),
+        Flit::CompAck { transaction } => up(source, transaction.target),
+        Flit::CompData { transaction, .. } => down(source, transaction.target),
+        Flit::SnpRespData { transaction, .. } => up(source, transaction.target),
+        Flit::CopyBackWrData { transaction, .. } => up(source, transaction.target),
+        Flit::Load { .. } => aside(source),
+        Flit::Store { .. } => aside(source),
     }
 }
 
@@ -177,9 +173,10 @@ impl<A: Allocator> Nodes<A> {
     /// The nodes of a flit, as those before it allow.
     #[tactic(auto, unfolding(crate::specs::Nodes::ends_of))]
     pub(crate) fn ends_of(&self, seen: &Seen) -> Result<Ends, IdReason>
-        ensures { result ≡ ends_of self.now.home self.now.requesters.items seen.now }
+        ensures { result ≡ ends_of self.now.home self.now.requesters.items
+            (sides_of seen.now.source seen.now.flit) }
     {
-        let sides = sides_of(way_of(seen.opcode), seen)?;
+        let sides = sides_of(seen.source, &seen.flit);
         let agent = self.agent_of(sides.requester)?;
         let home = self.home_in(sides)?;
         Ok(Ends {

@@ -3,7 +3,7 @@
 use crate::ids::OpenKey;
 use crate::lines::CacheLine;
 use chi_flit::WordNo;
-use chi_trace::{Address, Column, NodeId, PcrdType, Resp, TxnId};
+use chi_trace::{Address, NodeId, PcrdType, Resp, TxnId};
 
 /// The first flit that the ids or the ledger don't allow, counted from 0 in the flits that were seen, and why.
 /// Source: `docs/TRACES.md`, "Nodes, ids and credits".
@@ -17,8 +17,6 @@ pub struct IdFault {
 /// Source: `docs/TRACES.md`, "Nodes, ids and credits".
 #[derive(Clone, Copy, Debug, PartialEq, Eq)]
 pub enum IdReason {
-    /// The flit has no field that its opcode needs. Flits of a trace that was read have them all.
-    Lacks(Column),
     /// The RESP, or the form of the data, isn't one that a flit of this opcode has in the profile.
     Form(Resp),
     /// A ninth requester.

@@ -6,15 +6,15 @@ ghost use Rattle.std.specs.Map.{values_of};
 ghost use Rattle.chi_resolution.specs.Grants.{AreGrantsDue};
 ghost use Rattle.chi_resolution.specs.Ids.{with_id, without};
 ghost use Rattle.chi_resolution.specs.Ledger.{IsLedgerBalanced, booked};
-ghost use Rattle.chi_resolution.specs.Resolution.{after_beat, after_flit, acting_agent, allowed_of, data_after, ids_after, is_ack_of, is_released, nothing, placed, resolution_of, taken, waiting_after, with_data};
+ghost use Rattle.chi_resolution.specs.Resolution.{after_beat, after_flit, acting_agent, allowed_of, data_after, ids_after, is_ack_of, is_released, nothing, placed, resolution_of, stepped, taken, waiting_after, with_data};
 
 use crate::beats::OpenData;
-use crate::changes::{Change, Further, LineFlit, Tables};
 use crate::ids::{KeyTable, OpenId, OpenKey, numbers_of};
 use crate::ledger::{Booking, CreditLedger, Types};
 use crate::lines::Resolved;
 use crate::nodes::{Ends, Nodes};
 use crate::reasons::{IdFault, IdReason};
+use crate::tables::{Change, Further, LineFlit, Tables};
 use chi_explain::{Observed, StoreListing};
 use chi_flit::{Agent, Msg, NoMemory, RspUp};
 use chi_trace::Seen;
@@ -54,8 +54,9 @@ pub struct Resolution<A: Allocator> {
 }
 
 /// What the flits so far have left open, and those that are resolved.
+/// Source: `docs/TRACES.md`, "Nodes, ids and credits".
 #[derive(Drop)]
-struct Resolver<A: Allocator> {
+pub struct Resolver<A: Allocator> {
     nodes: Nodes<A>,
     ids: KeyTable<OpenId, A>,
     unfinished: KeyTable<OpenData, A>,
@@ -117,9 +118,8 @@ pub fn resolve<A: Allocator + Copy>(
 {
     let mut state = Resolver::new(alloc, seen.len())?;
     for (at, flit) in seen.iter().enumerate() {
-        match state.allowed_of(options, flit) {
-            Ok(allowed) => state.take(at, &allowed)?,
-            Err(reason) => return state.ended(alloc, Some(IdFault { at, reason })),
+        if let Some(reason) = state.take(options, at, flit)? {
+            return state.ended(alloc, Some(IdFault { at, reason }));
         }
     }
     state.ended(alloc, None)
@@ -289,8 +289,11 @@ fn place<A: Allocator>(
 }
 
 impl<A: Allocator + Copy> Resolver<A> {
-    /// Nothing is seen yet, and there is room for so many flits.
-    fn new(alloc: A, count: usize) -> Result<Resolver<A>, AllocError>
+    /// Nothing is seen yet, and there is room for so many flits; more may come.
+    ///
+    /// `NoMemory` where memory runs out.
+    /// Source: `docs/TRACES.md`, "Nodes, ids and credits".
+    pub fn new(alloc: A, count: usize) -> Result<Resolver<A>, NoMemory>
         ensures { IfOk result (λ state. state ≡ nothing) }
     {
         let flits = Vec::with_capacity(alloc, count)?;
@@ -304,8 +307,11 @@ impl<A: Allocator + Copy> Resolver<A> {
         })
     }
 
-    /// What the flits so far are resolved to.
-    fn ended(self, alloc: A, fault: Option<IdFault>) -> Result<Resolution<A>, NoMemory>
+    /// What the flits so far are resolved to, where this one is the first that isn't allowed.
+    ///
+    /// `NoMemory` where memory runs out.
+    /// Source: `docs/TRACES.md`, "Nodes, ids and credits".
+    pub fn ended(self, alloc: A, fault: Option<IdFault>) -> Result<Resolution<A>, NoMemory>
         ensures flits { IfOk result (λ r. r.flits.items ≡ self.table.flits) }
         ensures fault { IfOk result (λ r. r.fault ≡ fault) }
         ensures home { IfOk result (λ r. r.nodes.home ≡ self.home) }
@@ -345,12 +351,35 @@ impl<A: Allocator> Resolver<A> {
             flits: &self.flits,
             waiting: &self.waiting,
         };
-        let change = tables.change(&ends, seen)?;
+        let change = tables.change(&ends, &seen.flit)?;
         Ok(Allowed { ends, change })
     }
 
+    /// Takes the next flit, of this number; the reason where the ids or the ledger don't allow it, and then all stays as
+    /// it is.
+    ///
+    /// `NoMemory` where memory runs out: what is open isn't known then.
+    /// Source: `docs/TRACES.md`, "Nodes, ids and credits".
+    pub fn take(
+        &mut self,
+        options: Options,
+        at: usize,
+        seen: &Seen,
+    ) -> Result<Option<IdReason>, NoMemory>
+        ensures { IfOk result
+            (λ reason. (self.new, reason) ≡ stepped options at self.old seen.now) }
+    {
+        match self.allowed_of(options, seen) {
+            Ok(allowed) => {
+                self.take_allowed(at, &allowed)?;
+                Ok(None)
+            }
+            Err(reason) => Ok(Some(reason)),
+        }
+    }
+
     /// Takes the flit of this number.
-    fn take(&mut self, at: usize, allowed: &Allowed) -> Result<(), AllocError>
+    fn take_allowed(&mut self, at: usize, allowed: &Allowed) -> Result<(), AllocError>
         ensures { OnOk result (self.new ≡ taken at allowed.now self.old) }
     {
         self.nodes.add(&allowed.ends)?;

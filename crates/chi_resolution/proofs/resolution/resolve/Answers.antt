@@ -8,12 +8,11 @@ use Rattle.chi_resolution.proofs.resolution.resolve.Goals as goal
 
 pub loop-at-preserved : goal.loop-at-preserved
 loop-at-preserved g c =
-    goes_on c.args.options c.args.seen.now c.loop-at.at c.loop-at.state c.take.new.self c.in-Ok.allowed _ (resolution_of c.args.options c.args.seen.now) c.loop-at-test.true c.in-Ok.ensures
-    c.in_ok-take-in-Ok.ensures c.loop-at.invariant
+    goes_on c.args.options c.args.seen.now c.loop-at.at c.loop-at.state c.take.new.self _ (resolution_of c.args.options c.args.seen.now) c.loop-at-test.true (rw (c.in_default.is) at c.in_ok-reason.ensures) c.loop-at.invariant
 
-pub returns-in-Err : goal.returns-in-Err
-returns-in-Err g c =
-    let e = stops c.args.options c.args.seen.now c.loop-at.at c.loop-at.state c.in-Err.reason _ (resolution_of c.args.options c.args.seen.now) c.loop-at-test.true c.in-Err.ensures c.loop-at.invariant in
+pub returns-in-Some : goal.returns-in-Some
+returns-in-Some g c =
+    let e = stops c.args.options c.args.seen.now c.loop-at.at c.loop-at.state c.take.new.self c.in-Some.reason _ (resolution_of c.args.options c.args.seen.now) c.loop-at-test.true (rw (c.in-Some.is) at c.in_ok-reason.ensures) c.loop-at.invariant in
     record {
       flits = rw (← e) c.ended.ensures.flits;
       fault = rw (← e) c.ended.ensures.fault;
