@@ -39,6 +39,11 @@ abbrev pub check_end : Bool → End
 check_end true = ends.Done
 check_end false = ends.Differs
 
+-- the end of a check of which all answers hold, where some answer is wanted, or none
+abbrev pub wanted_end : Bool → End
+wanted_end true = ends.Done
+wanted_end false = ends.Nothing
+
 -- the end of a check of several files: the first fault comes before any answer that differs
 abbrev pub suite_stop : Option Fault → Bool → End
 suite_stop None hold = check_end hold

@@ -1,10 +1,10 @@
 //! The program over the system: its arguments, its file, its streams and its status.
 
-ghost use Rattle.std.specs.Prelude.{◌≡◌, Some, IfOk, IfErr, Contains, map, string_bytes};
+ghost use Rattle.std.specs.Prelude.{◌≡◌, Ok, Some, IfOk, IfErr, Contains, map, string_bytes};
 ghost use Rattle.std.specs.Vec.Iter.{into_iter_items};
 ghost use Rattle.chi_program.specs.declared.faults.ArgFault.{ArgFault};
 ghost use Rattle.chi_program.specs.declared.program.Stop.TheVariants.{Arguments, Run};
-ghost use Rattle.chi_program.specs.Stops.{check_end, cover_end, draw_end, end_status, explain_end, merge_end, run_status, statuses, stop_status, stop_text, storm_end, suite_stop, words_fault};
+ghost use Rattle.chi_program.specs.Stops.{check_end, cover_end, draw_end, end_status, explain_end, merge_end, run_status, statuses, stop_status, stop_text, storm_end, suite_stop, wanted_end, words_fault};
 ghost use Rattle.chi_program.specs.Charts.{part_asked};
 ghost use Rattle.chi_program.specs.Covers.{form_asked};
 ghost use Rattle.chi_program.specs.Endings.{ending_asked};
@@ -340,9 +340,19 @@ fn tell<R: AllocGlobal + Eprint>(rt: &R, bytes: &[u8], fault: Fault) -> Result<E
     Ok(End::Faulty(fault))
 }
 
+/// Tells on standard error that the file at the path can't be read.
+fn tell_unread<R: AllocGlobal + Eprint>(rt: &R, path: &str) -> Result<End, Fault> {
+    let mut text = String::new(rt.alloc());
+    write!(text, "chihome: {path}: cannot read").map_err(|_| Fault::NoMemory)?;
+    let _ = rt.eprintln(text.as_str());
+    Ok(End::Faulty(Fault::Read))
+}
+
 /// Checks the file at the path, and writes to standard output what came of it.
 fn check_file<R: Files + AllocGlobal + Print + Eprint>(rt: &R, path: &str) -> Result<End, Fault> {
-    let bytes = bytes_of(rt, path, MOST_CHECK_BYTES + 1)?;
+    let Some(bytes) = read_file(rt, path, MOST_CHECK_BYTES + 1)? else {
+        return tell_unread(rt, path);
+    };
     let mut input = MemoryInput::new(&bytes, u64::MAX);
     let mut output = StandardOutput::new(io::writer(rt));
     match check(rt.alloc(), &mut input, &mut output) {
@@ -388,7 +398,9 @@ fn some_wants(alloc: Global, files: &[SuiteFile]) -> Result<bool, Fault> {
 
 /// The end of a check of which all answers hold, where some answer is wanted, or none. That none is wanted is told on
 /// standard error.
-fn wanted_end<R: Eprint>(rt: &R, wants: bool) -> Result<End, Fault> {
+fn wanted_end<R: Eprint>(rt: &R, wants: bool) -> Result<End, Fault>
+    ensures { result ≡ Ok (wanted_end wants) }
+{
     if wants {
         return Ok(End::Done);
     }
@@ -430,15 +442,19 @@ fn read_files<'a, R: Files + AllocGlobal>(
 {
     let mut files = Vec::new(rt.alloc());
     for path in paths {
-        let bytes = read_file(rt, path)?;
+        let bytes = read_file(rt, path, MOST_CHECK_BYTES + 1)?;
         files.push(ReadFile { path, bytes })?;
     }
     Ok(files)
 }
 
-/// The bytes of the file at the path, where it can be read; `NoMemory` where memory runs out.
-fn read_file<R: Files + AllocGlobal>(rt: &R, path: &str) -> Result<Option<Vec<u8>>, Fault> {
-    match bytes_of(rt, path, MOST_CHECK_BYTES + 1) {
+/// The bytes of the file at the path, so many at most, where it can be read; `NoMemory` where memory runs out.
+fn read_file<R: Files + AllocGlobal>(
+    rt: &R,
+    path: &str,
+    most: usize,
+) -> Result<Option<Vec<u8>>, Fault> {
+    match bytes_of(rt, path, most) {
         Ok(bytes) => Ok(Some(bytes)),
         Err(Fault::NoMemory) => Err(Fault::NoMemory),
         Err(_) => Ok(None),
@@ -486,7 +502,9 @@ fn chart_file<R: Files + AllocGlobal + Print + Eprint>(
     path: &str,
     part: ChartPart,
 ) -> Result<End, Fault> {
-    let bytes = bytes_of(rt, path, MOST_CHECK_BYTES + 1)?;
+    let Some(bytes) = read_file(rt, path, MOST_CHECK_BYTES + 1)? else {
+        return tell_unread(rt, path);
+    };
     if let Some(line) = part.line {
         if let Ok(true) = lacks_line(rt.alloc(), &bytes, line) {
             let _ = rt.eprintln("chihome: the file has no such line");
@@ -604,7 +622,9 @@ fn draw_by<R: Files + AllocGlobal + Print + Eprint>(
 ) -> Result<End, Stop> {
     let mut options = options;
     if let Some(path) = path {
-        let bytes = bytes_of(rt, path, MOST_BYTES + 1)?;
+        let Some(bytes) = read_file(rt, path, MOST_BYTES + 1)? else {
+            return Ok(tell_unread(rt, path)?);
+        };
         match read_weights(&bytes) {
             Ok(weights) => options.weights = Some(weights),
             Err(fault) => {
@@ -650,9 +670,17 @@ fn explain_file<R: Files + AllocGlobal + Print + Eprint>(
     options: Options,
     asked: Asked,
 ) -> Result<End, Fault> {
-    let mut input = FileInput::open(rt, file_of(path))?;
+    let mut input = match FileInput::open(rt, file_of(path)) {
+        Ok(input) => input,
+        Err(Fault::Read) => return tell_unread(rt, path),
+        Err(fault) => return Err(fault),
+    };
     let mut output = StandardOutput::new(io::writer(rt));
-    let report = explain(rt.alloc(), &mut input, &mut output, options, asked)?;
+    let report = match explain(rt.alloc(), &mut input, &mut output, options, asked) {
+        Ok(report) => report,
+        Err(Fault::Read) => return tell_unread(rt, path),
+        Err(fault) => return Err(fault),
+    };
     if matches!(report.outcome, TraceOutcome::Malformed(_)) {
         let _ = rt.eprintln(report.text.as_str());
     }

@@ -3,6 +3,7 @@
 ghost use Rattle.std.specs.Prelude.{IfOk, string_bytes};
 ghost use Rattle.chi_script.specs.Files.{IsOneLine};
 
+use crate::check_files::MOST_CHECK_BYTES;
 use crate::checks::parts;
 use crate::commands::read_kind;
 use crate::faults::Fault;
@@ -60,6 +61,8 @@ const NUMBER: &str = "a number without a leading zero, 18446744073709551615 at m
 enum Hint<'a> {
     /// Nothing more is told than the fault.
     None,
+    /// The file has more bytes than these.
+    Large(usize),
     /// There is no line where this one was expected.
     NoLine,
     /// A carriage return stands at the line's end.
@@ -80,6 +83,7 @@ impl fmt::Display for Hint<'_> {
     fn fmt<W: fmt::Write>(&self, f: &mut fmt::Formatter<W>) -> fmt::Result {
         match self {
             Hint::None => Ok(()),
+            Hint::Large(most) => write!(f, ", expected {most} bytes at most"),
             Hint::NoLine => write!(f, ": no line, expected {HEADER}"),
             Hint::Return => f.write_str(": a carriage return at the line's end, expected LF alone"),
             Hint::Space => f.write_str(": a space behind the last word"),
@@ -100,8 +104,9 @@ impl fmt::Display for Hint<'_> {
 }
 
 /// What is told behind a fault of a check file, whose bytes these are: the word that is wrong, and what was
-/// expected there, or that a carriage return or a space stands at the line's end. No text where the fault is
-/// none of a line. Refused where memory runs out.
+/// expected there, or that a carriage return or a space stands at the line's end; and that a byte-order mark stands
+/// before a wrong line 1. Of a file that is too large it is how large one may be; no text of any other fault. Refused
+/// where memory runs out.
 /// Source: `docs/FORMATS.md`, "Faults of check files".
 pub fn hint_at<A: Allocator + Copy>(
     alloc: A,
@@ -112,10 +117,19 @@ pub fn hint_at<A: Allocator + Copy>(
 {
     let hint = hint_of(bytes, fault);
     let mut text = String::new(alloc);
-    write!(text, "{hint}").map_err(|_| AllocError)?;
+    let mark = mark_at(bytes, fault);
+    write!(text, "{hint}{mark}").map_err(|_| AllocError)?;
     match first_line(text.as_bytes()) {
         None => Ok(text),
         Some(_) => Ok(String::new(alloc)),
+    }
+}
+
+/// What is told of a byte-order mark before line 1, where that line is wrong.
+fn mark_at(bytes: &[u8], fault: Fault) -> &'static str {
+    match (fault, bytes) {
+        (Fault::BadHeader(1), [0xef, 0xbb, 0xbf, ..]) => "; the file begins with a byte-order mark",
+        _ => "",
     }
 }
 
@@ -130,6 +144,7 @@ fn hint_of(bytes: &[u8], fault: Fault) -> Hint<'_> {
             let line = line_at(bytes, number);
             spacing_of(line, command_hint(parts(line).0))
         }
+        Fault::TooLarge => Hint::Large(MOST_CHECK_BYTES),
         _ => Hint::None,
     }
 }

@@ -1,6 +1,6 @@
 -- The bytes of a slice (docs/SNAPSHOTS.md): a magic word and a version, the sizes, the index, the
 -- lines and the journal, and a digest of all before it.
-use Rattle.std.specs.Prelude.{ℕ, List, [], ◌∷◌, ◌++◌}
+use Rattle.std.specs.Prelude.{ℕ, ◌-◌, nat_le, Bool, ◌&&◌, List, [], ◌∷◌, ◌++◌, bytes_eq, drop, length, take}
 use Rattle.sha2.specs.Sha256.{sha256}
 use Rattle.chi_flit.specs.declared.credit.Profile.{Profile}
 use Rattle.chi_flit.specs.declared.credit.Profile.TheVariants.{Two, Four}
@@ -35,6 +35,10 @@ plain_bytes s = head_bytes ++ sizes_bytes s.config ++ one_byte s.index ++ long_l
 -- bytes with their digest
 abbrev pub sealed : List ℕ → List ℕ
 sealed bytes = bytes ++ sha256 bytes
+
+-- the last 32 bytes are the digest of those before
+abbrev pub is_sealed : List ℕ → Bool
+is_sealed bytes = nat_le 32 (length bytes) && bytes_eq (drop (length bytes - 32) bytes) (sha256 (take (length bytes - 32) bytes))
 
 -- the bytes of a slice
 abbrev pub saved : SliceState → List ℕ

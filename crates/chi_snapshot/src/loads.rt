@@ -1,8 +1,8 @@
 //! A slice out of bytes.
 
-ghost use Rattle.std.specs.Prelude.{◌≡◌, ◌↔◌, IfErr, IfOk, IsTrue};
-ghost use Rattle.chi_snapshot.specs.Faults.{HasFront, IsFaultOf, IsBehindFront, front_bytes};
-ghost use Rattle.chi_snapshot.specs.Snapshot.{saved};
+ghost use Rattle.std.specs.Prelude.{◌≡◌, ◌↔◌, IfErr, IfOk, IsTrue, OnOk};
+ghost use Rattle.chi_snapshot.specs.Faults.{HasFront, IsAtFront, IsFaultOf, IsBehindFront, front_bytes};
+ghost use Rattle.chi_snapshot.specs.Snapshot.{is_sealed, saved};
 
 use crate::faults::LoadFault;
 use crate::read::Read;
@@ -37,7 +37,9 @@ fn has_front(bytes: &[u8], front: &[u8]) -> bool
 }
 
 /// Whether the last bytes are the digest of those before.
-fn is_sealed(bytes: &[u8]) -> bool {
+fn is_sealed(bytes: &[u8]) -> bool
+    ensures { result ≡ is_sealed bytes.now }
+{
     if bytes.len() < DIGEST {
         return false;
     }
@@ -54,7 +56,8 @@ fn lines_from<A: Allocator>(
     index: u8,
     bytes: &[u8],
 ) -> Result<usize, LoadFault>
-    ensures { IfErr result (λ fault. IsFaultOf config.now index bytes.now fault) }
+    ensures front { OnOk result (IsAtFront config.now index bytes.now) }
+    ensures fault { IfErr result (λ fault. IsFaultOf config.now index bytes.now fault) }
 {
     if !has_front(bytes, &HEAD[..4]) {
         return Err(LoadFault::Damaged);
@@ -100,6 +103,7 @@ fn guessed<A: Allocator + Copy>(
 ) -> Result<Slice<A>, LoadFault>
     ensures config { IfOk result (λ slice. slice.config ≡ config.now) }
     ensures index { IfOk result (λ slice. slice.index ≡ index) }
+    ensures front { OnOk result (IsAtFront config.now index bytes.now) }
     ensures fault { IfErr result (λ fault. IsFaultOf config.now index bytes.now fault) }
 {
     let at = lines_from(alloc, config, index, bytes)?;
@@ -111,8 +115,9 @@ fn guessed<A: Allocator + Copy>(
 /// The slice of this size and index whose bytes these are: what it does from now on is what the slice that was
 /// saved does. All memory that it ever needs is found here.
 ///
-/// Refused `OtherVersion`, `OtherSize` or `Damaged` where the bytes are of no such slice, and `NoMemory` where
-/// memory runs out.
+/// Refused `OtherVersion` where the bytes begin with "CHIS" and not with this version's head, `OtherSize` where they have
+/// the head and their digest, and don't begin as those of this size and index do, `Damaged` where they are of no such
+/// slice otherwise, and `NoMemory` where memory runs out.
 /// Source: `docs/SNAPSHOTS.md`.
 pub fn load<A: Allocator + Copy>(
     alloc: A,
