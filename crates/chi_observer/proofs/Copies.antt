@@ -7,14 +7,14 @@ use Rattle.std.proofs.lemmas.Bool.{eqb-true}
 use Rattle.chi_observer.specs.declared.flits.HomeFlit.{HomeFlit}
 use Rattle.chi_observer.specs.Copies.{Copy, Held, holds_data, is_unique, is_dirty, same}
 use Rattle.chi_observer.specs.Copies.Copy.{Invalid, UniqueDirty}
-use Rattle.chi_observer.specs.Rules.{is_free, is_due, gives_data, needs_alone, needs_quiet, granted, fills, due_granted}
+use Rattle.chi_observer.specs.Rules.{is_free, is_due, gives_data, makes, needs_alone, needs_quiet, granted, fills, due_granted}
 use Rattle.chi_observer.specs.Tables.{Known, most, may as told_may, reach, fresh, goes_with, told_granted, fills_told}
 use Rattle.chi_observer.specs.Worlds.{World, home_may, all_below, put}
 use Rattle.chi_observer.specs.Observed.{Observed, Sound, Meaning, is_beside, goes, takes_home, next_home}
 use Rattle.chi_observer.specs.Laws.{HomeFlitsKeepSound}
 use Rattle.chi_observer.proofs.Finite.{no, left, right, both, implies, follow}
 use Rattle.chi_observer.proofs.Facts.{turned, flip, and_false, contrary, goes_back, same_truth, same_truth_is}
-use Rattle.chi_observer.proofs.Grants.{keeps_dirty, given_well, given, lone, filled}
+use Rattle.chi_observer.proofs.Grants.{made_told, keeps_dirty, given_well, given, lone, filled}
 use Rattle.chi_observer.proofs.Cache.{agreed}
 use Rattle.chi_observer.proofs.Put.{unlike, differ, here, there, split, pairwise}
 
@@ -68,17 +68,26 @@ module _ (o : Observed) (g : HomeFlit) (sound : Sound o) (low : g.agent.0 < 32) 
       so true b h e = h
       so false b h e = no e
 
+  was_not : (c m : Bool) → m ≡ false → (c && not m) ≡ false → c ≡ false
+  was_not true true h e = no (sym h)
+  was_not true false h e = e
+  was_not false m h e = refl
+
+  owner_by : (m : Bool) → makes g.grant (o.public.due at) ≡ m → (o.current && not (makes g.grant (o.public.due at))) ≡ false → (k : ℕ) × (k < 32) × (same (most (put at left_told o.told k)) UniqueDirty ≡ true)
+  owner_by true hm e = (at, low, subst (λ x. same (most x) UniqueDirty ≡ true) (sym (here at left_told o.told)) (made_told g.grant (o.public.due at) (o.told at) hm))
+  owner_by false hm e = let w = sound.owner (was_not o.current (makes g.grant (o.public.due at)) hm e) in (
+    w.0,
+    w.1,
+    split (λ k. same (most (o.told k)) UniqueDirty ≡ true → same (most (put at left_told o.told k)) UniqueDirty ≡ true) at
+        (λ h. subst (λ x. same (most x) UniqueDirty ≡ true) (sym (here at left_told o.told)) (keeps_dirty g.grant (o.public.due at) (o.public.snooped at) (o.told at) (left _ _ (left (home_may o.public g) _ takes)) h))
+        (λ k d h. subst (λ x. same (most x) UniqueDirty ≡ true) (sym (there at left_told o.told k d)) h) w.0 w.2,
+  )
+
   kept_here : Sound (next_home o g)
   kept_here = record {
     pairs = λ i j li lj d. pairwise (λ i j a b. i < 32 → j < 32 → goes_with a b ≡ true) at left_told o.told
         (λ m h l k. goes_else m h k) (λ m h k l. goes_back left_told (o.told m) (goes_else m h k)) (λ i j d li lj. sound.pairs i j li lj d) i j d li lj;
-    owner = λ e. let w = sound.owner e in (
-      w.0,
-      w.1,
-      split (λ k. same (most (o.told k)) UniqueDirty ≡ true → same (most (put at left_told o.told k)) UniqueDirty ≡ true) at
-          (λ h. subst (λ x. same (most x) UniqueDirty ≡ true) (sym (here at left_told o.told)) (keeps_dirty g.grant (o.public.due at) (o.public.snooped at) (o.told at) (left _ _ (left (home_may o.public g) _ takes)) h))
-          (λ k d h. subst (λ x. same (most x) UniqueDirty ≡ true) (sym (there at left_told o.told k d)) h) w.0 w.2,
-    );
+    owner = λ e. owner_by (makes g.grant (o.public.due at)) refl e;
   }
 
 pub home_kept : HomeFlitsKeepSound
@@ -118,26 +127,26 @@ module _ (o : Observed) (g : HomeFlit) (low : g.agent.0 < 32) (may : home_may o.
     pub settled_given : (needs_quiet g.grant || told_may t'.told (granted g.grant d s).copy) ≡ true
     settled_given = right (reach d' t' (granted g.grant d s)) _ (left _ _ facts)
 
-    facts2 : (implies (fresh d t s) (fresh d' t' (granted g.grant d s)) && (same_truth (fills_told g.grant t) (fills g.grant s) && (implies (holds_data (granted g.grant d s).copy && not (fills g.grant s)) (holds_data s.copy) && implies (fills g.grant s) (not (fresh d t s))))) ≡ true
+    facts2 : (implies (fresh d t s) (fresh d' t' (granted g.grant d s)) && (same_truth (fills_told g.grant t) (fills g.grant s) && (implies ((holds_data (granted g.grant d s).copy && not (fills g.grant s)) && not (makes g.grant d)) (holds_data s.copy) && implies (fills g.grant s) (not (fresh d t s))))) ≡ true
     facts2 = right (reach d' t' (granted g.grant d s) && (needs_quiet g.grant || told_may t'.told (granted g.grant d s).copy)) _ facts
 
     pub unfresh : fresh d' t' (granted g.grant d s) ≡ false → fresh d t s ≡ false
     unfresh = contrary (fresh d t s) _ (left _ _ facts2)
 
-    facts3 : (same_truth (fills_told g.grant t) (fills g.grant s) && (implies (holds_data (granted g.grant d s).copy && not (fills g.grant s)) (holds_data s.copy) && implies (fills g.grant s) (not (fresh d t s)))) ≡ true
+    facts3 : (same_truth (fills_told g.grant t) (fills g.grant s) && (implies ((holds_data (granted g.grant d s).copy && not (fills g.grant s)) && not (makes g.grant d)) (holds_data s.copy) && implies (fills g.grant s) (not (fresh d t s)))) ≡ true
     facts3 = right (implies (fresh d t s) (fresh d' t' (granted g.grant d s))) _ facts2
 
     pub fills_same : fills_told g.grant t ≡ fills g.grant s
     fills_same = same_truth_is _ _ (left _ _ facts3)
 
-    facts4 : (implies (holds_data (granted g.grant d s).copy && not (fills g.grant s)) (holds_data s.copy) && implies (fills g.grant s) (not (fresh d t s))) ≡ true
+    facts4 : (implies ((holds_data (granted g.grant d s).copy && not (fills g.grant s)) && not (makes g.grant d)) (holds_data s.copy) && implies (fills g.grant s) (not (fresh d t s))) ≡ true
     facts4 = right (same_truth (fills_told g.grant t) (fills g.grant s)) _ facts3
 
-    pub had_data : holds_data (granted g.grant d s).copy ≡ true → fills g.grant s ≡ false → holds_data s.copy ≡ true
-    had_data v e = follow _ _ (left _ _ facts4) (both _ _ v (flip _ e))
+    pub had_data : holds_data (granted g.grant d s).copy ≡ true → fills g.grant s ≡ false → makes g.grant d ≡ false → holds_data s.copy ≡ true
+    had_data v e k = follow _ _ (left _ _ facts4) (both _ _ (both _ _ v (flip _ e)) (flip _ k))
 
     pub still : fills g.grant s ≡ true → fresh d t s ≡ false
-    still f = turned _ (follow (fills g.grant s) _ (right (implies (holds_data (granted g.grant d s).copy && not (fills g.grant s)) (holds_data s.copy)) _ facts4) f)
+    still f = turned _ (follow (fills g.grant s) _ (right (implies ((holds_data (granted g.grant d s).copy && not (fills g.grant s)) && not (makes g.grant d)) (holds_data s.copy)) _ facts4) f)
 
 -- where its data fill a copy the home's words are the value
 not_dirty : (g : Bool) (t : Known) → (g && not (is_dirty (most t))) ≡ true → same (most t) UniqueDirty ≡ false

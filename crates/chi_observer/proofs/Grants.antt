@@ -1,16 +1,16 @@
 -- The tables of the home's flits fit the others.
-use Rattle.std.proofs.Common.{◌≡◌, refl, sym}
+use Rattle.std.proofs.Common.{◌≡◌, refl, sym, subst}
 use Rattle.std.specs.Prelude.{Bool, true, false, ◌&&◌, ◌||◌, not, Option, if◌then◌else◌}
 use Rattle.chi_observer.specs.declared.kinds.Snoop.{Snoop}
 use Rattle.chi_observer.specs.declared.told.Told.{Told}
-use Rattle.chi_observer.specs.declared.told.Told.TheVariants.{I, SCOrI, UC, UCOrI, UCOrUCE, SD}
+use Rattle.chi_observer.specs.declared.told.Told.TheVariants.{I, SCOrI, UC, UCOrI, UCOrUCE, UD, SD}
 use Rattle.chi_observer.specs.declared.flits.Due.{Due}
 use Rattle.chi_observer.specs.declared.flits.Grant.{Grant}
-use Rattle.chi_observer.specs.declared.flits.Grant.TheVariants.{CompData, CompUC, CompDBIDResp}
+use Rattle.chi_observer.specs.declared.flits.Grant.TheVariants.{RetryAck, Snp, CompData, CompUC, CompSC, CompI, CompDBIDResp}
 use Rattle.chi_observer.specs.Copies.{Copy, Held, holds_data, is_unique, same, compatible}
 use Rattle.chi_observer.specs.Copies.Copy.{Invalid, SharedClean, UniqueClean, UniqueEmpty, UniqueDirty, SharedDirty}
-use Rattle.chi_observer.specs.Rules.{is_due, needs_quiet, is_upgraded, is_written_whole, due_granted, copy_granted, granted, fills}
-use Rattle.chi_observer.specs.Tables.{Known, strongest, most, may, reach, fresh, goes_with, told_granted, fills_told}
+use Rattle.chi_observer.specs.Rules.{is_due, needs_quiet, makes, is_upgraded, is_written_whole, due_granted, upgraded, copy_granted, granted, fills}
+use Rattle.chi_observer.specs.Tables.{Known, strongest, most, may, reach, fresh, goes_with, told_granted, told_upgraded, fills_told}
 use Rattle.chi_observer.proofs.Finite.{no, left, right, implies, follow}
 use Rattle.chi_observer.proofs.Spots.{all_gifts, held_gifts, each_gift, told_gifts, each_told_gift, all_told_pairs, each_told_pair}
 use Rattle.chi_observer.proofs.Facts.{turned, same_truth, same_is, same_held, of_form, is_settled}
@@ -20,7 +20,7 @@ abbrev pub given_well : Grant → Due → Option Snoop → Known → Held → Bo
 given_well g d q t s = (reach (due_granted g d) (told_granted g d t) (granted g d s) && (needs_quiet g || may (told_granted g d t).told (granted g d s).copy))
     && (implies (fresh d t s) (fresh (due_granted g d) (told_granted g d t) (granted g d s))
     && (same_truth (fills_told g t) (fills g s)
-    && (implies (holds_data (granted g d s).copy && not (fills g s)) (holds_data s.copy)
+    && (implies ((holds_data (granted g d s).copy && not (fills g s)) && not (makes g d)) (holds_data s.copy)
     && implies (fills g s) (not (fresh d t s)))))
 
 given_table : Grant → Due → Option Snoop → Known → Held → Bool
@@ -59,7 +59,7 @@ upgraded_from t s' = s'
 
 abbrev pub form_before : Grant → Due → Told → Copy → Copy
 form_before (CompData form) d t s' = strongest t
-form_before CompUC d t s' = if is_upgraded d then upgraded_from t s' else s'
+form_before CompUC d t s' = if makes CompUC d then strongest t else (if is_upgraded d then upgraded_from t s' else s')
 form_before CompDBIDResp d t s' = if is_written_whole d then strongest t else s'
 form_before other d t s' = s'
 
@@ -130,3 +130,22 @@ most_holds = refl
 pub most_granted : (g : Grant) (d : Due) (q : Option Snoop) (t : Known) → is_due g d q ≡ true → copy_granted g d (most t) ≡ most (told_granted g d t)
 unfolding most_table
 most_granted g d q t h = same_is _ _ (each_told_gift most_table most_holds g d q h t)
+
+-- what its agent writes is told, and is, unique and dirty
+pub made_told : (g : Grant) (d : Due) (t : Known) → makes g d ≡ true → same (most (told_granted g d t)) UniqueDirty ≡ true
+made_told RetryAck d t h = no h
+made_told (Snp x) d t h = no h
+made_told (CompData x) d t h = no h
+made_told CompUC d t h = subst (λ b. same (strongest (if b then UD else (if is_upgraded d then told_upgraded t.told else t.told))) UniqueDirty ≡ true) (sym h) refl
+made_told CompSC d t h = no h
+made_told CompI d t h = no h
+made_told CompDBIDResp d t h = no h
+
+pub made_copy : (g : Grant) (d : Due) (s : Copy) → makes g d ≡ true → (is_unique (copy_granted g d s) && holds_data (copy_granted g d s)) ≡ true
+made_copy RetryAck d s h = no h
+made_copy (Snp x) d s h = no h
+made_copy (CompData x) d s h = no h
+made_copy CompUC d s h = subst (λ b. (is_unique (if b then UniqueDirty else (if is_upgraded d then upgraded s else s)) && holds_data (if b then UniqueDirty else (if is_upgraded d then upgraded s else s))) ≡ true) (sym h) refl
+made_copy CompSC d s h = no h
+made_copy CompI d s h = no h
+made_copy CompDBIDResp d s h = no h

@@ -1,19 +1,20 @@
 -- A flit of the home leads to what is meant, and is safe.
-use Rattle.std.proofs.Common.{◌≡◌, ◌⊎◌, inl, inr, ℕ, ◌<◌, List, refl, sym, ap, subst, ◌∙◌}
+use Rattle.std.proofs.Common.{◌≡◌, ◌≢◌, ◌⊎◌, inl, inr, ℕ, ◌<◌, List, refl, sym, ap, subst, ◌∙◌}
 use Rattle.std.specs.Prelude.{Bool, true, false, Option, Some, if◌then◌else◌}
 use Rattle.chi_observer.specs.declared.flits.Due.{Due}
 use Rattle.chi_observer.specs.declared.flits.HomeFlit.{HomeFlit}
 use Rattle.chi_observer.specs.Copies.{Held, holds_data}
-use Rattle.chi_observer.specs.Rules.{fills, due_granted}
+use Rattle.chi_observer.specs.Rules.{fills, granted, makes, due_granted}
 use Rattle.chi_observer.specs.Tables.{Known, reach, fresh, told_granted, fills_told}
 use Rattle.chi_observer.specs.Worlds.{World, Gives, Informed, home_may}
 use Rattle.chi_observer.specs.Observed.{Observed, Sound, Unstored, Meaning, takes_home, next_home}
 use Rattle.chi_observer.specs.Laws.{HomeFlitsAreSafe, HomeFlitsLead}
-use Rattle.chi_observer.proofs.Finite.{left}
+use Rattle.chi_observer.proofs.Finite.{no, left, right}
 use Rattle.chi_observer.proofs.Words.{some_is}
-use Rattle.chi_observer.proofs.Copies.{home_kept, gone_else, reached, unfresh, fills_same, had_data, filled_last}
+use Rattle.chi_observer.proofs.Copies.{home_kept, goes_else, gone_else, reached, unfresh, fills_same, had_data, filled_last}
 use Rattle.chi_observer.proofs.Put.{split, everywhere, at_it, at_else}
-use Rattle.chi_observer.proofs.Facts.{none_left}
+use Rattle.chi_observer.proofs.Facts.{none_left, turned, below, beside_unique}
+use Rattle.chi_observer.proofs.Grants.{made_copy}
 use Rattle.chi_observer.proofs.Cache.{coherent}
 
 value_cases : (e : Bool) (x : List ℕ) (o : Option (List ℕ)) (v : List ℕ) → (if e then Some x else o) ≡ Some v → ((e ≡ true) × (x ≡ v)) ⊎ ((e ≡ false) × (o ≡ Some v))
@@ -42,9 +43,22 @@ module _ (o : Observed) (g : HomeFlit) (w w' : World) (sound : Sound o) (low : g
   may : home_may o.public g ≡ true
   may = left _ _ takes
 
-  words_after : holds_data (w'.state n).copy ≡ true → (b : Bool) → fills g.grant s ≡ b → (if fills g.grant s then g.shown else w.words n) ≡ w.last
-  words_after v true f = ap (λ b. if b then g.shown else w.words n) f ∙ sym (filled_last o g w sound low takes m f ∙ informed f)
-  words_after v false f = ap (λ b. if b then g.shown else w.words n) f ∙ m.words n low (had_data o g low may s (m.told n low) (subst (λ (x : Held). holds_data x.copy ≡ true) gives.state v) f)
+  words_after : makes g.grant d ≡ false → holds_data (w'.state n).copy ≡ true → (b : Bool) → fills g.grant s ≡ b → (if fills g.grant s then g.shown else w.words n) ≡ w.last
+  words_after k v true f = ap (λ b. if b then g.shown else w.words n) f ∙ sym (filled_last o g w sound low takes m f ∙ informed f)
+  words_after k v false f = ap (λ b. if b then g.shown else w.words n) f ∙ m.words n low (had_data o g low may s (m.told n low) (subst (λ (x : Held). holds_data x.copy ≡ true) gives.state v) f k)
+
+  here_words : holds_data (w'.state n).copy ≡ true → (b : Bool) → makes g.grant d ≡ b → w'.words n ≡ w'.last
+  here_words v true e = gives.made e
+  here_words v false e = gives.words v e ∙ words_after e v (fills g.grant s) refl ∙ sym (gives.last e)
+
+  -- beside what its agent writes there is none
+  alone : makes g.grant d ≡ true → (k : ℕ) → k ≢ n → k < 32 → holds_data (w.state k).copy ≡ false
+  alone e k h lk = beside_unique (granted g.grant d s).copy (w.state k).copy (left _ _ (made_copy g.grant d s.copy e))
+      (below d' (o.public.due k) t' (o.told k) (granted g.grant d s) (w.state k) (reached o g low may s (m.told n low)) (m.told k lk) (goes_else o g sound low takes k h lk))
+
+  else_words : (k : ℕ) → k ≢ n → k < 32 → holds_data (w.state k).copy ≡ true → (b : Bool) → makes g.grant d ≡ b → w.words k ≡ w'.last
+  else_words k h lk v true e = no (sym (alone e k h lk) ∙ v)
+  else_words k h lk v false e = m.words k lk v ∙ sym (gives.last e)
 
   before : Unstored (next_home o g) w' → Unstored o w
   before u = split (λ k. k < 32 → fresh (o.public.due k) (o.told k) (w.state k) ≡ false) n
@@ -62,10 +76,10 @@ module _ (o : Observed) (g : HomeFlit) (w w' : World) (sound : Sound o) (low : g
         (λ _. subst (λ x. reach d' t' x ≡ true) (sym gives.state) (reached o g low may s (m.told n low)))
         (λ k h lk. subst (λ x. reach (o.public.due k) (o.told k) x ≡ true) (sym (gives.others.state k lk h)) (m.told k lk));
     words = split (λ k. k < 32 → holds_data (w'.state k).copy ≡ true → w'.words k ≡ w'.last) n
-        (λ lk v. gives.words v ∙ words_after v (fills g.grant s) refl ∙ sym gives.last)
-        (λ k h lk v. gives.others.words k lk h ∙ m.words k lk (subst (λ (x : Held). holds_data x.copy ≡ true) (gives.others.state k lk h) v) ∙ sym gives.last);
+        (λ lk v. here_words v (makes g.grant d) refl)
+        (λ k h lk v. gives.others.words k lk h ∙ else_words k h lk (subst (λ (x : Held). holds_data x.copy ≡ true) (gives.others.state k lk h) v) (makes g.grant d) refl);
     home = λ v e. home_here v (value_cases (fills_told g.grant t) g.shown o.home v e);
-    current = λ c u. gives.last ∙ m.current c (before u) ∙ sym gives.home;
+    current = λ c u. gives.last (turned _ (right o.current _ c)) ∙ m.current (left _ _ c) (before u) ∙ sym gives.home;
   }
 
 pub home_leads : HomeFlitsLead

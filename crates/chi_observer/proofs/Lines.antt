@@ -11,7 +11,7 @@ use Rattle.chi_observer.specs.declared.flits.HomeFlit.{HomeFlit}
 use Rattle.chi_observer.specs.declared.flits.Flit.{Flit}
 use Rattle.chi_observer.specs.declared.observer.AgentSeen.{AgentSeen}
 use Rattle.chi_observer.specs.declared.observer.Observer.{Observer}
-use Rattle.chi_observer.specs.Rules.{awaits_moment, tells_words, passes_duty, needs_duty}
+use Rattle.chi_observer.specs.Rules.{awaits_moment, makes, tells_words, passes_duty, needs_duty}
 use Rattle.chi_observer.specs.Moments.{is_issue, shown_after}
 use Rattle.chi_observer.specs.Tables.{Known, told_after, renews, fills_told}
 use Rattle.chi_observer.specs.Worlds.{put}
@@ -50,8 +50,8 @@ module _ (agents : List AgentSeen) (home : Option (List ℕ)) (current duty : Bo
       hv
       hc
 
-  pub given_after : (g : HomeFlit) → g.agent.0 < length agents → x ≡ agent_granted g.grant (agent_of agents g.agent.0) → home' ≡ (if fills_told g.grant (known_of (agent_of agents g.agent.0)) then Some g.shown else home) → duty' ≡ (duty && not (needs_duty g.grant)) → observed (whole (slice_set agents g.agent.0 x) home' current duty') ≡ next_home (observed (whole agents home current duty)) g
-  given_after g low e hv hd =
+  pub given_after : (g : HomeFlit) → g.agent.0 < length agents → x ≡ agent_granted g.grant (agent_of agents g.agent.0) → home' ≡ (if fills_told g.grant (known_of (agent_of agents g.agent.0)) then Some g.shown else home) → current' ≡ (current && not (makes g.grant (agent_of agents g.agent.0).due)) → duty' ≡ (duty && not (needs_duty g.grant)) → observed (whole (slice_set agents g.agent.0 x) home' current' duty') ≡ next_home (observed (whole agents home current duty)) g
+  given_after g low e hv hc hd =
       let n = g.agent.0 in
       made_same _ _ _ _ _ _ _ _ _ _ _ _
       (mapped (λ a. a.due) agents n x low ∙ ap (λ (y : AgentSeen). put n y.due (λ (m : ℕ). (agent_of agents m).due)) e)
@@ -59,7 +59,7 @@ module _ (agents : List AgentSeen) (home : Option (List ℕ)) (current duty : Bo
       hd
       (mapped known_of agents n x low ∙ ap (λ (y : AgentSeen). put n (known_of y) (λ (m : ℕ). known_of (agent_of agents m))) e)
       hv
-      refl
+      hc
 
   pub sent_by : (f : CacheFlit) (n : ℕ) (b shows r : Bool) → n ≡ f.agent.0 → n < length agents → x ≡ agent_after f.act (agent_of agents n) b → b ≡ differs (observed (whole agents home current duty)) f → shows ≡ tells_words f.act → r ≡ renews f.act (agent_of agents n).due (known_of (agent_of agents n)) → home' ≡ (if shows then Some f.shown else home) → current' ≡ (if shows then true else (if r then false else current)) → duty' ≡ (duty || passes_duty f.act) → observed (whole (slice_set agents n x) home' current' duty') ≡ next (observed (whole agents home current duty)) f
   sent_by f n b shows r hn low e hb hs hr hv hc hd =
@@ -70,11 +70,12 @@ module _ (agents : List AgentSeen) (home : Option (List ℕ)) (current duty : Bo
       ∙ ap (λ (z : Bool). if tells_words f.act then true else (if z then false else current)) (hr ∙ ap (λ (k : ℕ). renews f.act (agent_of agents k).due (known_of (agent_of agents k))) hn))
       hd
 
-  pub given_by : (g : HomeFlit) (n : ℕ) (full : Bool) → n ≡ g.agent.0 → n < length agents → x ≡ agent_granted g.grant (agent_of agents n) → full ≡ fills_told g.grant (known_of (agent_of agents n)) → home' ≡ (if full then Some g.shown else home) → duty' ≡ (duty && not (needs_duty g.grant)) → observed (whole (slice_set agents n x) home' current duty') ≡ next_home (observed (whole agents home current duty)) g
-  given_by g n full hn low e hf hv hd =
-      ap (λ (k : ℕ). observed (whole (slice_set agents k x) home' current duty')) hn
+  pub given_by : (g : HomeFlit) (n : ℕ) (full : Bool) → n ≡ g.agent.0 → n < length agents → x ≡ agent_granted g.grant (agent_of agents n) → full ≡ fills_told g.grant (known_of (agent_of agents n)) → home' ≡ (if full then Some g.shown else home) → current' ≡ (current && not (makes g.grant (agent_of agents n).due)) → duty' ≡ (duty && not (needs_duty g.grant)) → observed (whole (slice_set agents n x) home' current' duty') ≡ next_home (observed (whole agents home current duty)) g
+  given_by g n full hn low e hf hv hc hd =
+      ap (λ (k : ℕ). observed (whole (slice_set agents k x) home' current' duty')) hn
       ∙ given_after g (subst (λ (k : ℕ). k < length agents) hn low) (e ∙ ap (λ (k : ℕ). agent_granted g.grant (agent_of agents k)) hn)
       (hv ∙ ap (λ (z : Bool). if z then Some g.shown else home) (hf ∙ ap (λ (k : ℕ). fills_told g.grant (known_of (agent_of agents k))) hn))
+      (hc ∙ ap (λ (k : ℕ). current && not (makes g.grant (agent_of agents k).due)) hn)
       hd
 
 -- at first nothing is told

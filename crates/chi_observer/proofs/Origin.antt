@@ -3,17 +3,17 @@ use Rattle.std.proofs.Common.{◌≡◌, ◌≢◌, ℕ, ◌<◌, List, refl, sy
 use Rattle.std.specs.Prelude.{Bool, true, false, ◌&&◌, ◌||◌, Some, if◌then◌else◌}
 use Rattle.chi_observer.specs.declared.flits.Due.{Due}
 use Rattle.chi_observer.specs.declared.flits.HomeFlit.{HomeFlit}
-use Rattle.chi_observer.specs.Copies.{Held, holds_data}
-use Rattle.chi_observer.specs.Rules.{granted, fills, due_granted, needs_quiet}
+use Rattle.chi_observer.specs.Copies.{Held, holds_data, is_unique}
+use Rattle.chi_observer.specs.Rules.{granted, fills, makes, due_granted, needs_quiet}
 use Rattle.chi_observer.specs.Tables.{Known, reach, fresh, told_granted, fills_told}
 use Rattle.chi_observer.specs.Worlds.{World, Gives, Informed, home_may, put}
 use Rattle.chi_observer.specs.Observed.{Observed, Sound, Unstored, Meaning, goes, takes_home, next_home}
 use Rattle.chi_observer.specs.Laws.{MeaningComesByHome}
-use Rattle.chi_observer.proofs.Finite.{left, right, both}
-use Rattle.chi_observer.proofs.Facts.{same_held, same_held_is, is_settled, or_there}
-use Rattle.chi_observer.proofs.Grants.{granted_before, got}
+use Rattle.chi_observer.proofs.Finite.{no, left, right, both}
+use Rattle.chi_observer.proofs.Facts.{same_held, same_held_is, is_settled, or_there, flip, below, beside_unique}
+use Rattle.chi_observer.proofs.Grants.{granted_before, got, made_copy}
 use Rattle.chi_observer.proofs.Words.{fitted, some_value, old_value}
-use Rattle.chi_observer.proofs.Copies.{home_kept, fitting, fills_same, filled_last}
+use Rattle.chi_observer.proofs.Copies.{home_kept, goes_else, fitting, fills_same, filled_last}
 use Rattle.chi_observer.proofs.Put.{here, there, split}
 use Rattle.chi_observer.proofs.Rewind.{Undone, rewind}
 
@@ -39,8 +39,15 @@ module _ (o : Observed) (g : HomeFlit) (w2 : World) (sound : Sound o) (low : g.a
   abbrev was : Held
   was = granted_before g.grant d t s2
 
+  -- the value before: what its agent writes at the completion of a MakeUnique is another
+  abbrev value : List ℕ
+  value = if makes g.grant d then w2.home else w2.last
+
   abbrev old : World
-  old = record { state = put n was w2.state; words = put n w2.last w2.words; last = w2.last; home = w2.home }
+  old = record { state = put n was w2.state; words = put n value w2.words; last = value; home = w2.home }
+
+  value_same : makes g.grant d ≡ false → value ≡ w2.last
+  value_same e = ap (λ b. if b then w2.home else w2.last) e
 
   allowed : home_may o.public g ≡ true
   allowed = left _ _ takes
@@ -67,9 +74,9 @@ module _ (o : Observed) (g : HomeFlit) (w2 : World) (sound : Sound o) (low : g.a
   Quiet : Type 0
   Quiet = (k : ℕ) → k ≢ n → k < 32 → fresh (o.public.due k) (o.told k) (w2.state k) ≡ false
 
-  now : Quiet → o.current ≡ true → w2.last ≡ w2.home
+  now : makes g.grant d ≡ false → Quiet → o.current ≡ true → w2.last ≡ w2.home
   unfolding Quiet
-  now u c = un.current c (λ k h lk. subst (λ x. fresh x (put n t' o.told k) (w2.state k) ≡ false) (sym (there n d' o.public.due k h))
+  now e u c = un.current (both _ _ c (flip _ e)) (λ k h lk. subst (λ x. fresh x (put n t' o.told k) (w2.state k) ≡ false) (sym (there n d' o.public.due k h))
       (subst (λ x. fresh (o.public.due k) x (w2.state k) ≡ false) (sym (there n t' o.told k h)) (u k h lk)))
 
   quiet_of : Unstored o old → Quiet
@@ -83,24 +90,38 @@ module _ (o : Observed) (g : HomeFlit) (w2 : World) (sound : Sound o) (low : g.a
   home_was v e true f = home_shown f ∙ sym (fitted (fills_told g.grant t) o.home g.shown v (left _ (goes o g) (right (home_may o.public g) _ takes)) f e)
   home_was v e false f = un.home v (old_value (fills_told g.grant t) g.shown o.home f ∙ e)
 
+  made : makes g.grant d ≡ true → (is_unique s2.copy && holds_data s2.copy) ≡ true
+  made e = subst (λ (x : Held). (is_unique x.copy && holds_data x.copy) ≡ true) (sym gives) (made_copy g.grant d was.copy e)
+
+  alone : makes g.grant d ≡ true → (k : ℕ) → k ≢ n → k < 32 → holds_data (w2.state k).copy ≡ false
+  alone e k h lk = beside_unique s2.copy (w2.state k).copy (left _ _ (made e)) (below d' (o.public.due k) t' (o.told k) s2 (w2.state k) reached (told_else k h lk) (goes_else o g sound low takes k h lk))
+
+  else_words : (k : ℕ) → k ≢ n → k < 32 → holds_data (w2.state k).copy ≡ true → (b : Bool) → makes g.grant d ≡ b → w2.words k ≡ value
+  else_words k h lk v true e = no (sym (alone e k h lk) ∙ v)
+  else_words k h lk v false e = un.words k lk v ∙ sym (value_same e)
+
+  old_current : o.current ≡ true → Quiet → (b : Bool) → makes g.grant d ≡ b → value ≡ w2.home
+  old_current c u true e = ap (λ b. if b then w2.home else w2.last) e
+  old_current c u false e = value_same e ∙ now e u c
+
   pub old_meant : Meaning o old
   old_meant = record {
     told = split (λ k. k < 32 → reach (o.public.due k) (o.told k) (old.state k) ≡ true) n
         (λ _. subst (λ x. reach d t x ≡ true) (sym (here n was w2.state)) old_reach)
         (λ k h lk. subst (λ x. reach (o.public.due k) (o.told k) x ≡ true) (sym (there n was w2.state k h)) (told_else k h lk));
-    words = split (λ k. k < 32 → holds_data (old.state k).copy ≡ true → old.words k ≡ w2.last) n
-        (λ _ _. here n w2.last w2.words)
-        (λ k h lk v. there n w2.last w2.words k h ∙ un.words k lk (subst (λ (x : Held). holds_data x.copy ≡ true) (there n was w2.state k h) v));
+    words = split (λ k. k < 32 → holds_data (old.state k).copy ≡ true → old.words k ≡ value) n
+        (λ _ _. here n value w2.words)
+        (λ k h lk v. there n value w2.words k h ∙ else_words k h lk (subst (λ (x : Held). holds_data x.copy ≡ true) (there n was w2.state k h) v) (makes g.grant d) refl);
     home = λ v e. home_was v e (fills_told g.grant t) refl;
-    current = λ c u. now (quiet_of u) c;
+    current = λ c u. old_current c (quiet_of u) (makes g.grant d) refl;
   }
 
-  last_shown : fills g.grant was ≡ true → w2.last ≡ g.shown
-  last_shown f = filled_last o g old sound low takes old_meant (subst (λ x. fills g.grant x ≡ true) (sym (here n was w2.state)) f) ∙ home_shown (fills_same o g low allowed was old_reach ∙ f)
+  last_shown : makes g.grant d ≡ false → fills g.grant was ≡ true → w2.last ≡ g.shown
+  last_shown e f = sym (value_same e) ∙ filled_last o g old sound low takes old_meant (subst (λ x. fills g.grant x ≡ true) (sym (here n was w2.state)) f) ∙ home_shown (fills_same o g low allowed was old_reach ∙ f)
 
-  words_are : (b : Bool) → fills g.grant was ≡ b → w2.last ≡ (if fills g.grant was then g.shown else put n w2.last w2.words n)
-  words_are true f = last_shown f ∙ sym (ap (λ b. if b then g.shown else put n w2.last w2.words n) f)
-  words_are false f = sym (here n w2.last w2.words) ∙ sym (ap (λ b. if b then g.shown else put n w2.last w2.words n) f)
+  words_are : makes g.grant d ≡ false → (b : Bool) → fills g.grant was ≡ b → w2.last ≡ (if fills g.grant was then g.shown else put n value w2.words n)
+  words_are e true f = last_shown e f ∙ sym (ap (λ b. if b then g.shown else put n value w2.words n) f)
+  words_are e false f = sym (value_same e) ∙ sym (here n value w2.words) ∙ sym (ap (λ b. if b then g.shown else put n value w2.words n) f)
 
   pub old_informed : Informed g old
   old_informed f = home_shown (fills_same o g low allowed was old_reach ∙ subst (λ x. fills g.grant x ≡ true) (here n was w2.state) f)
@@ -108,20 +129,23 @@ module _ (o : Observed) (g : HomeFlit) (w2 : World) (sound : Sound o) (low : g.a
   pub old_gives : Gives o.public g old w2
   old_gives = record {
     state = gives ∙ ap (granted g.grant d) (sym (here n was w2.state));
-    words = λ v. un.words n low v ∙ subst (λ x. w2.last ≡ (if fills g.grant x then g.shown else put n w2.last w2.words n)) (sym (here n was w2.state)) (words_are (fills g.grant was) refl);
-    last = refl;
+    words = λ v e. un.words n low v ∙ subst (λ x. w2.last ≡ (if fills g.grant x then g.shown else put n value w2.words n)) (sym (here n was w2.state)) (words_are e (fills g.grant was) refl);
+    last = λ e. sym (value_same e);
+    made = λ e. un.words n low (right (is_unique s2.copy) _ (made e));
     home = refl;
-    others = record { state = λ k lk h. sym (there n was w2.state k h); words = λ k lk h. sym (there n w2.last w2.words k h) };
+    others = record { state = λ k lk h. sym (there n was w2.state k h); words = λ k lk h. sym (there n value w2.words k h) };
   }
 
 -- the world before
 abbrev pub world_given : Observed → HomeFlit → World → World
-world_given o g w2 = record {
-  state = put g.agent.0 (granted_before g.grant (o.public.due g.agent.0) (o.told g.agent.0) (w2.state g.agent.0)) w2.state;
-  words = put g.agent.0 w2.last w2.words;
-  last = w2.last;
-  home = w2.home;
-}
+world_given o g w2 =
+    let value : List ℕ = if makes g.grant (o.public.due g.agent.0) then w2.home else w2.last in
+    record {
+      state = put g.agent.0 (granted_before g.grant (o.public.due g.agent.0) (o.told g.agent.0) (w2.state g.agent.0)) w2.state;
+      words = put g.agent.0 value w2.words;
+      last = value;
+      home = w2.home;
+    }
 
 pub home_comes : MeaningComesByHome
 home_comes o g w' sound low takes m =

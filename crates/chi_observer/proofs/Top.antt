@@ -4,7 +4,7 @@ use Rattle.std.specs.Prelude.{Bool, true, false, ◌||◌, ◌==◌, not, if◌t
 use Rattle.chi_observer.specs.declared.flits.HomeFlit.{HomeFlit}
 use Rattle.chi_observer.specs.Copies.{Held, compatible, same}
 use Rattle.chi_observer.specs.Copies.Copy.{Invalid}
-use Rattle.chi_observer.specs.Rules.{granted, fills, needs_alone}
+use Rattle.chi_observer.specs.Rules.{granted, fills, makes, needs_alone}
 use Rattle.chi_observer.specs.Tables.{Known, most, goes_with, told_granted, fills_told}
 use Rattle.chi_observer.specs.Worlds.{Public, World, Gives, IsSafe, Informed, home_may, put}
 use Rattle.chi_observer.specs.Observed.{Observed, Sound, Meaning, fits, is_beside, goes, takes_home}
@@ -19,7 +19,7 @@ use Rattle.chi_observer.proofs.Put.{differ, here, there}
 gift : Public → HomeFlit → World → World
 gift p g w = record {
   state = put g.agent.0 (granted g.grant (p.due g.agent.0) (w.state g.agent.0)) w.state;
-  words = put g.agent.0 (if fills g.grant (w.state g.agent.0) then g.shown else w.words g.agent.0) w.words;
+  words = put g.agent.0 (if makes g.grant (p.due g.agent.0) then w.last else (if fills g.grant (w.state g.agent.0) then g.shown else w.words g.agent.0)) w.words;
   last = w.last;
   home = w.home;
 }
@@ -28,8 +28,9 @@ gift_gives : (p : Public) (g : HomeFlit) (w : World) → Gives p g w (gift p g w
 unfolding gift
 gift_gives p g w = record {
   state = here g.agent.0 _ w.state;
-  words = λ _. here g.agent.0 _ w.words;
-  last = refl;
+  words = λ _ e. here g.agent.0 _ w.words ∙ ap (λ b. if b then w.last else (if fills g.grant (w.state g.agent.0) then g.shown else w.words g.agent.0)) e;
+  last = λ _. refl;
+  made = λ e. here g.agent.0 _ w.words ∙ ap (λ b. if b then w.last else (if fills g.grant (w.state g.agent.0) then g.shown else w.words g.agent.0)) e;
   home = refl;
   others = record { state = λ k lk h. there g.agent.0 _ w.state k h; words = λ k lk h. there g.agent.0 _ w.words k h };
 }

@@ -31,8 +31,10 @@ is_issued_from ReadShared s = same s Invalid || same s UniqueEmpty
 is_issued_from ReadClean s = same s Invalid || same s UniqueEmpty
 is_issued_from ReadUnique s = is_shared s || (same s Invalid || same s UniqueEmpty)
 is_issued_from CleanUnique s = is_shared s || (same s Invalid || same s UniqueEmpty)
+is_issued_from MakeUnique s = is_shared s || (same s Invalid || same s UniqueEmpty)
 is_issued_from CleanShared s = same s Invalid || (same s SharedClean || same s UniqueClean)
 is_issued_from CleanInvalid s = same s Invalid
+is_issued_from MakeInvalid s = same s Invalid
 is_issued_from Evict s = is_clean s
 is_issued_from WriteBackFull s = is_dirty s
 is_issued_from WriteCleanFull s = is_dirty s
@@ -262,10 +264,12 @@ completes kind form = false
 abbrev pub is_completed : Grant → Kind → Option Snoop → Bool
 is_completed (CompData form) kind None = completes kind form
 is_completed CompUC CleanUnique None = true
+is_completed CompUC MakeUnique None = true
 is_completed CompUC CleanShared None = true
 is_completed CompSC CleanShared None = true
 is_completed CompI CleanShared None = true
 is_completed CompI CleanInvalid None = true
+is_completed CompI MakeInvalid None = true
 is_completed CompI Evict q = true
 is_completed CompDBIDResp kind None = is_copy_back kind || is_whole_write kind
 is_completed g kind q = false
@@ -330,15 +334,25 @@ is_upgraded d = is_of (same_kind CleanUnique) d
 abbrev pub is_written_whole : Due → Bool
 is_written_whole d = is_of is_whole_write d
 
--- the completion of a CleanInvalid says that no other copy is left
+-- the completion of a MakeUnique: its agent writes the whole line
+abbrev pub makes : Grant → Due → Bool
+makes CompUC d = is_of (same_kind MakeUnique) d
+makes other d = false
+
+-- the completion of a CleanInvalid or a MakeInvalid says that no other copy is left
+abbrev pub is_invalidating : Kind → Bool
+is_invalidating CleanInvalid = true
+is_invalidating MakeInvalid = true
+is_invalidating other = false
+
 abbrev pub needs_alone : Grant → Due → Bool
-needs_alone CompI d = is_of (same_kind CleanInvalid) d
+needs_alone CompI d = is_of is_invalidating d
 needs_alone other d = false
 
 -- the copy of its agent then: data leave a dirty one as it is, but unique
 abbrev pub copy_granted : Grant → Due → Copy → Copy
 copy_granted (CompData form) d s = if is_dirty s then UniqueDirty else copy_of form
-copy_granted CompUC d s = if is_upgraded d then upgraded s else s
+copy_granted CompUC d s = if makes CompUC d then UniqueDirty else (if is_upgraded d then upgraded s else s)
 copy_granted CompDBIDResp d s = if is_written_whole d && not (is_dirty s) then Writing else s
 copy_granted other d s = s
 
@@ -354,7 +368,7 @@ due_granted RetryAck (Completion kind) = Resending kind
 due_granted RetryAck d = d
 due_granted (Snp snoop) d = d
 due_granted (CompData form) d = Acknowledgement
-due_granted CompUC d = if is_upgraded d then Acknowledgement else Nothing
+due_granted CompUC d = if makes CompUC d || is_upgraded d then Acknowledgement else Nothing
 due_granted CompSC d = Nothing
 due_granted CompI d = Nothing
 due_granted CompDBIDResp (Completion kind) = WriteData kind

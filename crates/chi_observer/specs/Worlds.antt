@@ -7,7 +7,7 @@ use Rattle.chi_observer.specs.declared.flits.CacheFlit.{CacheFlit}
 use Rattle.chi_observer.specs.declared.flits.HomeFlit.{HomeFlit}
 use Rattle.chi_observer.specs.Copies.{Held, holds_data, is_unique, is_clean, is_dirty, same, compatible}
 use Rattle.chi_observer.specs.Copies.Copy.{Invalid, UniqueDirty}
-use Rattle.chi_observer.specs.Rules.{is_free, is_resending, allows, acts, has_data, writes, tells_words, needs_alone, due_after, snooped_after, passes_duty, is_due, needs_duty, needs_quiet, is_busy, granted, fills, due_granted, snooped_granted}
+use Rattle.chi_observer.specs.Rules.{is_free, is_resending, allows, acts, has_data, writes, tells_words, needs_alone, makes, due_after, snooped_after, passes_duty, is_due, needs_duty, needs_quiet, is_busy, granted, fills, due_granted, snooped_granted}
 
 -- what flits say by themselves: requests, snoops without an answer, and whether the home has dirty data that it must
 -- write or pass on
@@ -106,12 +106,13 @@ abbrev pub home_may : Public → HomeFlit → Bool
 home_may p g = is_due g.grant (p.due g.agent.0) (p.snooped g.agent.0)
     && ((not (needs_duty g.grant) || p.duty) && (not (needs_quiet g.grant) || all_below 32 (λ m. not (is_busy (p.due m)))))
 
--- what it does
+-- what it does; at the completion of a MakeUnique its agent writes any words
 pub record Gives (p : Public) (g : HomeFlit) (w w' : World) : Type 0 where
   pub state : w'.state g.agent.0 ≡ granted g.grant (p.due g.agent.0) (w.state g.agent.0)
   pub home : w'.home ≡ w.home
-  pub words : holds_data (w'.state g.agent.0).copy ≡ true → w'.words g.agent.0 ≡ (if fills g.grant (w.state g.agent.0) then g.shown else w.words g.agent.0)
-  pub last : w'.last ≡ w.last
+  pub words : holds_data (w'.state g.agent.0).copy ≡ true → makes g.grant (p.due g.agent.0) ≡ false → w'.words g.agent.0 ≡ (if fills g.grant (w.state g.agent.0) then g.shown else w.words g.agent.0)
+  pub last : makes g.grant (p.due g.agent.0) ≡ false → w'.last ≡ w.last
+  pub made : makes g.grant (p.due g.agent.0) ≡ true → w'.words g.agent.0 ≡ w'.last
   pub others : Elsewhere g.agent.0 w w'
 
 -- no other copy is left

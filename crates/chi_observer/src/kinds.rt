@@ -69,14 +69,16 @@ impl Kind {
         ensures { result ≡ judges_kind self }
     {
         match self {
-            Kind::ReadOnce | Kind::MakeUnique | Kind::MakeInvalid => false,
+            Kind::ReadOnce => false,
             Kind::ReadNotSharedDirty
             | Kind::ReadShared
             | Kind::ReadClean
             | Kind::ReadUnique
             | Kind::CleanUnique
+            | Kind::MakeUnique
             | Kind::CleanShared
             | Kind::CleanInvalid
+            | Kind::MakeInvalid
             | Kind::Evict
             | Kind::WriteBackFull
             | Kind::WriteCleanFull

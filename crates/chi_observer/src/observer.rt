@@ -1,7 +1,7 @@
 //! The observer of one line.
 
 ghost use Rattle.std.specs.Prelude.{◌≡◌, ◌<◌, ◌&&◌, ◌||◌, IfErr, OnOk, OnErr, Some, false, if◌then◌else◌, is_ok, not, true};
-ghost use Rattle.chi_observer.specs.Rules.{allows, needs_duty, passes_duty};
+ghost use Rattle.chi_observer.specs.Rules.{allows, makes, needs_duty, passes_duty};
 ghost use Rattle.chi_observer.specs.Tables.{fills_told, fits_told, is_cancelled, renews, strongest};
 ghost use Rattle.chi_observer.specs.Worlds.{all_below, home_may};
 ghost use Rattle.chi_observer.specs.Observed.{differs, fits, goes, takes, takes_home, next, next_home};
@@ -12,8 +12,9 @@ use crate::flits::{Act, CacheFlit, Due, Flit, Grant, HomeFlit};
 use crate::kinds::Snoop;
 use crate::moments::shown_behind;
 use crate::rules::{
-    allows, due_after, due_granted, gives_data, has_data, is_busy, is_due, needs_alone, needs_duty,
-    needs_moment, needs_quiet, passes_duty, same_kind, snooped_after, snooped_granted, tells_words,
+    allows, due_after, due_granted, gives_data, has_data, is_busy, is_due, makes, needs_alone,
+    needs_duty, needs_moment, needs_quiet, passes_duty, same_kind, snooped_after, snooped_granted,
+    tells_words,
 };
 use crate::told::{Told, answer_tells_dirty, may_be_free, tells_dirty};
 use chi_flit::Data;
@@ -222,6 +223,7 @@ impl Observer {
         }
         self.agents[at] = agent.granted(flit.grant);
         self.duty = duty_granted(self.duty, flit.grant);
+        self.current = current_granted(self.current, flit.grant, agent.due);
         self.home = shown(fills, flit.shown, self.home);
         Ok(())
     }
@@ -353,6 +355,13 @@ fn current_from(shows: bool, renewed: bool, current: bool) -> bool
     ensures { result ≡ (if shows then true else (if renewed then false else current)) }
 {
     shows || (!renewed && current)
+}
+
+/// Whether the value last stored is the home's behind a flit of the home.
+fn current_granted(current: bool, grant: Grant, due: Due) -> bool
+    ensures { result ≡ (current && not (makes grant due)) }
+{
+    current && !makes(grant, due)
 }
 
 /// Whether no agent has a CompAck or write data due.

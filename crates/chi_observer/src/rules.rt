@@ -1,7 +1,7 @@
 //! What flits say by themselves.
 
 ghost use Rattle.std.specs.Prelude.{◌≡◌};
-ghost use Rattle.chi_observer.specs.Rules.{allows, awaits_moment, completes, due_after, due_granted, form_passes, gives_data, has_data, is_busy, is_clean_form, is_completed, is_due, is_shared_form, is_upgraded, is_written_whole, leaves, left_by, needs_alone, needs_duty, needs_moment, needs_quiet, passes_duty, same_kind, snooped_after, snooped_granted, tells_words, writes, written};
+ghost use Rattle.chi_observer.specs.Rules.{allows, awaits_moment, completes, due_after, due_granted, form_passes, gives_data, has_data, is_busy, is_clean_form, is_completed, is_due, is_shared_form, is_upgraded, is_written_whole, leaves, left_by, makes, needs_alone, needs_duty, needs_moment, needs_quiet, passes_duty, same_kind, snooped_after, snooped_granted, tells_words, writes, written};
 
 use crate::flits::{Act, Answer, Due, Grant};
 use crate::kinds::{Kind, Snoop};
@@ -227,12 +227,20 @@ fn is_completed(grant: Grant, kind: Kind, snooped: Option<Snoop>) -> bool
     match grant {
         Grant::CompData(form) => snooped.is_none() && completes(kind, form),
         Grant::CompUC => {
-            snooped.is_none() && matches!(kind, Kind::CleanUnique | Kind::CleanShared)
+            snooped.is_none()
+                && matches!(
+                    kind,
+                    Kind::CleanUnique | Kind::MakeUnique | Kind::CleanShared
+                )
         }
         Grant::CompSC => snooped.is_none() && matches!(kind, Kind::CleanShared),
         Grant::CompI => {
             matches!(kind, Kind::Evict)
-                || (snooped.is_none() && matches!(kind, Kind::CleanShared | Kind::CleanInvalid))
+                || (snooped.is_none()
+                    && matches!(
+                        kind,
+                        Kind::CleanShared | Kind::CleanInvalid | Kind::MakeInvalid
+                    ))
         }
         Grant::CompDBIDResp => {
             snooped.is_none() && (kind.is_copy_back() || kind.is_whole_write())
@@ -261,6 +269,19 @@ pub(crate) fn is_written_whole(due: Due) -> bool
     )
 }
 
+/// Whether a flit of the home is the completion of a MakeUnique, at which its agent writes the whole line.
+pub(crate) fn makes(grant: Grant, due: Due) -> bool
+    ensures { result ≡ makes grant due }
+{
+    matches!(
+        (grant, due),
+        (
+            Grant::CompUC,
+            Due::Completion(Kind::MakeUnique) | Due::SureCompletion(Kind::MakeUnique)
+        )
+    )
+}
+
 /// Whether a flit of the home says that no other copy is left.
 pub(crate) fn needs_alone(grant: Grant, due: Due) -> bool
     ensures { result ≡ needs_alone grant due }
@@ -269,7 +290,8 @@ pub(crate) fn needs_alone(grant: Grant, due: Due) -> bool
         (grant, due),
         (
             Grant::CompI,
-            Due::Completion(Kind::CleanInvalid) | Due::SureCompletion(Kind::CleanInvalid)
+            Due::Completion(Kind::CleanInvalid | Kind::MakeInvalid)
+                | Due::SureCompletion(Kind::CleanInvalid | Kind::MakeInvalid)
         )
     )
 }
@@ -341,7 +363,7 @@ pub(crate) fn due_granted(grant: Grant, due: Due) -> Due
         (Grant::RetryAck, Due::Completion(kind)) => Due::Resending(kind),
         (Grant::RetryAck | Grant::Snp(_), _) => due,
         (Grant::CompData(_), _) => Due::Acknowledgement,
-        (Grant::CompUC, _) => if is_upgraded(due) {
+        (Grant::CompUC, _) => if makes(grant, due) || is_upgraded(due) {
             Due::Acknowledgement
         } else {
             Due::Nothing

@@ -2,11 +2,11 @@
 
 ghost use Rattle.std.specs.Prelude.{◌≡◌, ◌&&◌};
 ghost use Rattle.chi_observer.specs.Copies.{compatible, Copy, holds_data, is_clean, is_dirty, is_unique, same};
-ghost use Rattle.chi_observer.specs.Tables.{answer_tells_dirty, fits_answer, fits_form, fits_issue, may_be_free, may_be_gone, strongest, tells_dirty, told_answered, told_as, told_behind, told_by, told_clean, told_empty, told_issued, told_shared, told_unique, told_upgraded};
+ghost use Rattle.chi_observer.specs.Tables.{answer_tells_dirty, fits_answer, fits_form, fits_issue, may_be_free, may_be_gone, strongest, tells_dirty, told_answered, told_as, told_behind, told_by, told_clean, told_completed, told_empty, told_issued, told_shared, told_unique, told_upgraded};
 
 use crate::flits::{Act, Answer, Due, Grant};
 use crate::kinds::Kind;
-use crate::rules::{is_upgraded, is_written_whole, left_by, written};
+use crate::rules::{is_upgraded, is_written_whole, left_by, makes, written};
 use chi_flit::State;
 
 /// The copies that one may be right behind the last flit that told of it. From there it goes on unseen, by stores and
@@ -134,14 +134,15 @@ impl Told {
             | Kind::ReadClean
             | Kind::CleanShared
             | Kind::CleanInvalid
+            | Kind::MakeInvalid
             | Kind::WriteUniqueFull => self.may_be_gone(),
-            Kind::ReadUnique | Kind::CleanUnique => {
+            Kind::ReadUnique | Kind::CleanUnique | Kind::MakeUnique => {
                 self.may_be_gone() || matches!(self, Told::SD)
             }
             Kind::Evict => self.is_clean(),
             Kind::WriteBackFull | Kind::WriteCleanFull => self.is_dirty() || self.is_unique(),
             Kind::WriteEvictFull => self.is_unique_clean(),
-            Kind::ReadOnce | Kind::MakeUnique | Kind::MakeInvalid => false,
+            Kind::ReadOnce => false,
         }
     }
 
@@ -221,11 +222,10 @@ impl Told {
     {
         match kind {
             Kind::ReadNotSharedDirty | Kind::ReadShared | Kind::ReadClean => self.empty(),
-            Kind::ReadUnique | Kind::CleanUnique => self.shared(),
+            Kind::ReadUnique | Kind::CleanUnique | Kind::MakeUnique => self.shared(),
             Kind::CleanShared => self.clean(),
             Kind::Evict
             | Kind::ReadOnce
-            | Kind::MakeUnique
             | Kind::CleanInvalid
             | Kind::MakeInvalid
             | Kind::WriteUniqueFull => Told::I,
@@ -282,11 +282,7 @@ impl Told {
             } else {
                 told_as(form)
             },
-            Grant::CompUC => if is_upgraded(due) {
-                self.upgraded()
-            } else {
-                self
-            },
+            Grant::CompUC => self.completed(due),
             Grant::CompDBIDResp => if is_written_whole(due) && !self.is_dirty() {
                 Told::Writing
             } else {
@@ -294,6 +290,19 @@ impl Told {
             },
             Grant::RetryAck | Grant::Snp(_) | Grant::CompSC | Grant::CompI => self,
         }
+    }
+
+    /// What is told behind Comp_UC.
+    fn completed(self, due: Due) -> Told
+        ensures { result ≡ told_completed due self }
+    {
+        if makes(Grant::CompUC, due) {
+            return Told::UD;
+        }
+        if is_upgraded(due) {
+            return self.upgraded();
+        }
+        self
     }
 
     /// What is told behind the completion of a CleanUnique.

@@ -9,8 +9,8 @@ use chi_observer::Answer::{
 };
 use chi_observer::Grant::{CompDBIDResp, CompData, CompI, CompSC, CompUC, Snp};
 use chi_observer::Kind::{
-    CleanInvalid, CleanShared, MakeUnique, ReadClean, ReadShared, ReadUnique, WriteBackFull,
-    WriteEvictFull, WriteUniqueFull,
+    CleanInvalid, CleanShared, MakeInvalid, MakeUnique, ReadClean, ReadOnce, ReadShared,
+    ReadUnique, WriteBackFull, WriteEvictFull, WriteUniqueFull,
 };
 use chi_observer::Snoop::{
     SnpCleanInvalid, SnpCleanShared, SnpMakeInvalid, SnpOnce, SnpShared, SnpUnique,
@@ -89,7 +89,7 @@ fn a_clean_read_takes_no_duty(rt: HostRuntime) {
 
 #[test]
 fn what_is_not_judged_is_said(rt: HostRuntime) {
-    let flits = [up(0, Request(MakeUnique), NO_DATA)];
+    let flits = [up(0, Request(ReadOnce), NO_DATA)];
     assert!(rt; fault_of(&flits) == Some((0, Reason::NotJudged)));
     let snoops = [down(0, Snp(SnpMakeInvalid), NO_DATA)];
     assert!(rt; fault_of(&snoops) == Some((0, Reason::NotJudged)));
@@ -260,4 +260,53 @@ fn a_cleaning_waits_for_write_data(rt: HostRuntime) {
     ];
     let found = fault_beside_an_owner(&rt, &last);
     assert!(rt; found == Some((3, Reason::NoMoment)), "{found:?}");
+}
+
+#[test]
+fn a_line_that_is_made_unique_is_written(rt: HostRuntime) {
+    let flits = [
+        up(0, Request(MakeUnique), NO_DATA),
+        down(0, CompUC, NO_DATA),
+        up(0, CompAck, NO_DATA),
+        up(1, Request(ReadShared), NO_DATA),
+        down(0, Snp(SnpUnique), NO_DATA),
+        up(0, SnpResp(SnpRespI), NO_DATA),
+    ];
+    let found = fault_of(&flits);
+    assert!(rt; found == Some((5, Reason::NotSent)), "{found:?}");
+}
+
+#[test]
+fn words_of_a_line_that_is_made_unique_are_its_own(rt: HostRuntime) {
+    let flits = [
+        up(0, Request(MakeUnique), NO_DATA),
+        down(0, CompUC, NO_DATA),
+        up(0, CompAck, NO_DATA),
+        up(1, Request(ReadShared), NO_DATA),
+        down(0, Snp(SnpUnique), NO_DATA),
+        up(0, SnpResp(SnpRespDataIPD), NEW),
+        down(1, CompData(UD), NEW),
+    ];
+    let found = fault_of(&flits);
+    assert!(rt; found.is_none(), "{found:?}");
+}
+
+#[test]
+fn a_line_that_is_made_unique_beside_a_copy_is_a_fault(rt: HostRuntime) {
+    let last = [
+        up(1, Request(MakeUnique), NO_DATA),
+        down(1, CompUC, NO_DATA),
+    ];
+    let found = fault_beside_an_owner(&rt, &last);
+    assert!(rt; found == Some((1, Reason::OtherCopy)), "{found:?}");
+}
+
+#[test]
+fn a_line_that_is_made_invalid_beside_a_copy_is_a_fault(rt: HostRuntime) {
+    let last = [
+        up(1, Request(MakeInvalid), NO_DATA),
+        down(1, CompI, NO_DATA),
+    ];
+    let found = fault_beside_an_owner(&rt, &last);
+    assert!(rt; found == Some((1, Reason::OtherCopy)), "{found:?}");
 }
