@@ -1,20 +1,19 @@
 -- The data of a line is read as it is written, and only so.
 use Rattle.std.proofs.Common.{◌≡◌, ◌⊎◌, inl, inr, ℕ, zero, suc, ◌+◌, ◌==◌, ◌&&◌, Bool, true, false, cond, List, [], ◌∷◌, ◌++◌, length, Option, Some, None, refl, sym, ap, subst, ◌∙◌, arith, codes, append_assoc}
 use Rattle.std.specs.Prelude.{is_none}
-use Rattle.std.specs.List.{position, slice_split}
+use Rattle.std.specs.List.{position}
 use Rattle.std.proofs.lemmas.Bool.Decides.{nat_tests}
 use Rattle.std.proofs.lemmas.List.{append-nil}
 use Rattle.chi_script.specs.Words.{◌>>=◌, is_text}
 use Rattle.chi_script.proofs.LineLemmas.{uncut}
 use Rattle.chi_script.proofs.NumberLemmas.{bound}
-use Rattle.chi_trace.specs.declared.fields.Payload.{Payload}
-use Rattle.chi_trace.specs.declared.fields.Payload.TheVariants as payloads
-use Rattle.chi_trace.specs.declared.uses.Form.{Form}
-use Rattle.chi_trace.specs.declared.uses.Form.TheVariants as forms
-use Rattle.chi_trace.specs.Fields.{first_part, is_dash, line_words_of, listed_of, only_of, comma_parts, payload_of, vector_of, word_in, words_payload, zeros}
+use Rattle.chi_trace.specs.declared.fields.Beat.{Beat}
+use Rattle.chi_trace.specs.declared.fields.Resp.{Resp}
+use Rattle.chi_trace.specs.declared.fields.Resp.TheVariants.{I}
+use Rattle.chi_trace.specs.Fields.{beat_of, beat_with, first_part, is_dash, line_words_of, listed_of, only_of, comma_parts, vector_of, word_in, written_of, zeros}
 use Rattle.chi_trace.specs.Numbers.{hex_of, plain_of, unmarked}
-use Rattle.chi_trace.specs.Spelling.{AreListed, AreNumbers, AreWords, IsHex, IsPayload, IsPlain, IsVector, IsWord, sixteens}
-use Rattle.chi_trace.proofs.FieldLemmas.{is_same, text_is}
+use Rattle.chi_trace.specs.Spelling.{AreListed, AreNumbers, AreWords, IsBeat, IsHex, IsVector, IsWord, IsWritten, sixteens}
+use Rattle.chi_trace.proofs.FieldLemmas.{text_is}
 use Rattle.chi_trace.proofs.HexLemmas.{hex_again, hex_read, plain_again, plain_read}
 
 -- one word of a list
@@ -193,47 +192,28 @@ words_no_dash : (words : List (Option ℕ)) (word : List ℕ) (b : Bool) → is_
 words_no_dash words word false at is = refl
 words_no_dash words word true at is = absurd (dash_no_words words (subst (λ (w : List ℕ). AreListed words w ⊎ IsVector words w) (text_is word (codes "-") at) is))
 
-words_read : (word : List ℕ) (payload : Payload) → words_payload word ≡ Some payload → IsPayload forms.Words payload word
-words_read word payload e =
-    let one = bound (line_words_of word) (λ ws. Some (payloads.Words ws)) payload e in
-    let same : payloads.Words one.0 ≡ payload = let last = one.2 in cc in
-    subst (λ (p : Payload). IsPayload forms.Words p word) same (line_read word one.0 one.1)
+pub beat_read : (word : List ℕ) (beat : Beat) → beat_of word ≡ Some beat → IsBeat beat word
+beat_read word beat e =
+    let one = bound (line_words_of word) (λ ws. Some (beat_with ws)) beat e in
+    let same : beat_with one.0 ≡ beat = let last = one.2 in cc in
+    record { words = one.0; is = sym same; text = line_read word one.0 one.1 }
+
+pub beat_again : (beat : Beat) (word : List ℕ) → IsBeat beat word → beat_of word ≡ Some beat
+beat_again beat word is = rw (line_again is.words word is.text) (ap Some (sym is.is))
 
 -- words, where a dash may stand for them
-or_dash : (payload : Payload) (word : List ℕ) → IsPayload forms.Words payload word → IsPayload forms.WordsOrDash payload word
-or_dash payloads.Nothing word is = absurd is
-or_dash (payloads.Words ws) word is = inr is
-or_dash (payloads.Value n) word is = absurd is
+dash_case : (word : List ℕ) (beat : Beat) (b : Bool) → is_dash word ≡ b → cond b (Some zeros) (beat_of word) ≡ Some beat → IsWritten I beat word
+dash_case word beat true at e = let same : zeros ≡ beat = cc in inl (text_is word (codes "-") at, sym same)
+dash_case word beat false at e = inr (beat_read word beat e)
 
-dash_case : (word : List ℕ) (payload : Payload) (b : Bool) → is_dash word ≡ b → cond b (Some (payloads.Words zeros)) (words_payload word) ≡ Some payload → IsPayload forms.WordsOrDash payload word
-dash_case word payload true at e =
-    let same : payloads.Words zeros ≡ payload = cc in
-    subst (λ (p : Payload). IsPayload forms.WordsOrDash p word) same (inl (text_is word (codes "-") at, refl))
-dash_case word payload false at e = or_dash payload word (words_read word payload e)
+dash_again : (beat : Beat) (word : List ℕ) → IsWritten I beat word → written_of I word ≡ Some beat
+dash_again beat word (inl is) = ap (written_of I) is.0 ∙ ap Some (sym is.1)
+dash_again beat word (inr is) = let plain : is_dash word ≡ false = words_no_dash is.words word (is_dash word) refl is.text in rw plain (beat_again beat word is)
 
-dash_again : (ws : List (Option ℕ)) (word : List ℕ) → ((word ≡ codes "-") × (ws ≡ zeros)) ⊎ (AreListed ws word ⊎ IsVector ws word) → payload_of forms.WordsOrDash word ≡ Some (payloads.Words ws)
-dash_again ws word (inl is) = ap (payload_of forms.WordsOrDash) is.0 ∙ ap (λ (w : List (Option ℕ)). Some (payloads.Words w)) (sym is.1)
-dash_again ws word (inr is) = let plain : is_dash word ≡ false = words_no_dash ws word (is_dash word) refl is in rw (plain, line_again ws word is) refl
+pub written_read : (resp : Resp) (word : List ℕ) (beat : Beat) → written_of resp word ≡ Some beat → IsWritten resp beat word
+written_read I word beat e = dash_case word beat (is_dash word) refl e
+written_read other word beat e = beat_read word beat e
 
-pub payload_read : (form : Form) (word : List ℕ) (payload : Payload) → payload_of form word ≡ Some payload → IsPayload form payload word
-payload_read forms.Nothing word payload e = let same : payloads.Nothing ≡ payload = cc in subst (λ (p : Payload). IsPayload forms.Nothing p word) same tt
-payload_read forms.Words word payload e = words_read word payload e
-payload_read forms.WordsOrDash word payload e = dash_case word payload (is_dash word) refl e
-payload_read forms.Value word payload e =
-    let one = bound (hex_of 0xffff_ffff_ffff_ffff word) (λ n. Some (payloads.Value n)) payload e in
-    let same : payloads.Value one.0 ≡ payload = let last = one.2 in cc in
-    subst (λ (p : Payload). IsPayload forms.Value p word) same (hex_read 0xffff_ffff_ffff_ffff one.0 word one.1)
-
-pub payload_again : (form : Form) (payload : Payload) (word : List ℕ) → IsPayload form payload word → payload_of form word ≡ Some payload
-payload_again forms.Nothing payloads.Nothing word is = refl
-payload_again forms.Nothing (payloads.Words ws) word is = absurd is
-payload_again forms.Nothing (payloads.Value n) word is = absurd is
-payload_again forms.Words payloads.Nothing word is = absurd is
-payload_again forms.Words (payloads.Words ws) word is = rw (line_again ws word is) refl
-payload_again forms.Words (payloads.Value n) word is = absurd is
-payload_again forms.WordsOrDash payloads.Nothing word is = absurd is
-payload_again forms.WordsOrDash (payloads.Words ws) word is = dash_again ws word is
-payload_again forms.WordsOrDash (payloads.Value n) word is = absurd is
-payload_again forms.Value payloads.Nothing word is = absurd is
-payload_again forms.Value (payloads.Words ws) word is = absurd is
-payload_again forms.Value (payloads.Value n) word is = rw (hex_again 0xffff_ffff_ffff_ffff n word is) refl
+pub written_again : (resp : Resp) (beat : Beat) (word : List ℕ) → IsWritten resp beat word → written_of resp word ≡ Some beat
+written_again I beat word is = dash_again beat word is
+written_again other beat word is = beat_again beat word is

@@ -1,12 +1,11 @@
 -- The fields of a flit are read as they are written, and only so.
-use Rattle.std.proofs.Common.{◌≡◌, ◌⊎◌, inl, inr, ℕ, zero, suc, ◌+◌, ◌==◌, Bool, true, false, cond, List, [], ◌∷◌, ◌++◌, length, Option, Some, None, Result, Ok, Err, refl, sym, ap, subst, ◌∙◌, arith, codes, append_assoc}
-use Rattle.std.specs.Prelude.{ok_or, is_none}
-use Rattle.std.specs.List.{position}
-use Rattle.std.proofs.lemmas.Bool.Decides.{nat_tests}
+use Rattle.std.proofs.Common.{◌≡◌, ℕ, Bool, true, false, cond, List, Option, Some, None, Result, Ok, refl, ap, subst, ◌∙◌, codes}
+use Rattle.std.specs.Prelude.{ok_or}
 use Rattle.std.proofs.lemmas.Slice.Eq.{bytes_eq-Decides}
-use Rattle.chi_script.specs.Words.{◌>>=◌, is_text}
+use Rattle.chi_script.specs.Words.{is_text}
 use Rattle.chi_script.proofs.NumberLemmas.{bound}
 use Rattle.chi_trace.specs.declared.columns.Column.{Column}
+use Rattle.chi_trace.specs.declared.columns.Column.TheVariants as columns
 use Rattle.chi_trace.specs.declared.fields.Address.{Address}
 use Rattle.chi_trace.specs.declared.fields.DbId.{DbId}
 use Rattle.chi_trace.specs.declared.fields.NodeId.{NodeId}
@@ -14,12 +13,11 @@ use Rattle.chi_trace.specs.declared.fields.PcrdType.{PcrdType}
 use Rattle.chi_trace.specs.declared.fields.TxnId.{TxnId}
 use Rattle.chi_trace.specs.declared.fields.Resp.{Resp}
 use Rattle.chi_trace.specs.declared.fields.Resp.TheVariants.{I, SC, UC, UD, SD, IPD, SCPD, UCPD, UDPD, SDPD}
-use Rattle.chi_trace.specs.declared.uses.Use.{Use}
-use Rattle.chi_trace.specs.declared.uses.Use.TheVariants.{Needed, Allowed, Unused}
+use Rattle.chi_trace.specs.Columns.{Row}
 use Rattle.chi_trace.specs.Fields.{address_of, allow_of, dbid_of, is_dash, node_of, pcrd_of, resp_of, resp_text, txn_of}
+use Rattle.chi_trace.specs.Flits.{◌>>=◌, allow_in, named_in, spent_by}
 use Rattle.chi_trace.specs.Numbers.{hex_of}
-use Rattle.chi_trace.specs.Spelling.{Holds, IsAddress, IsAllow, IsDbid, IsHex, IsNode, IsPcrd, IsResp, IsTxn}
-use Rattle.chi_trace.specs.Uses.{needed_in, used_in}
+use Rattle.chi_trace.specs.Spelling.{IsAddress, IsAllow, IsDbid, IsHex, IsNamed, IsNode, IsPcrd, IsResp, IsSpent, IsTxn}
 use Rattle.chi_trace.proofs.HexLemmas.{hex_again, hex_read}
 
 pub text_is : (word text : List ℕ) → is_text word text ≡ true → word ≡ text
@@ -109,40 +107,6 @@ resp_named SDPD = refl
 pub resp_again : (x : Resp) (word : List ℕ) → IsResp x word → resp_of word ≡ Some x
 resp_again x word is = ap resp_of is ∙ resp_named x
 
--- a field by its use
-needed_read : {A : Type 0} (read : Option A) (column : Column) (field : Option A) → needed_in read column ≡ Ok field → read ≡ field
-needed_read None column field e = cc
-needed_read (Some x) column field e = cc
-
-holds_needed : {A : Type 0} (Is : A → List ℕ → Type 0) (word : List ℕ) (read field : Option A) (column : Column) → ((x : A) → read ≡ Some x → Is x word) → needed_in read column ≡ Ok field → Holds Is Needed field word
-holds_needed Is word None field column is e = cc
-holds_needed Is word (Some x) field column is e =
-    let same : Some x ≡ field = cc in
-    subst (λ f. Holds Is Needed f word) same (is x refl)
-
-dash_case : {A : Type 0} (Is : A → List ℕ → Type 0) (word : List ℕ) (read field : Option A) (column : Column) (dash : Bool) → is_dash word ≡ dash → ((x : A) → read ≡ Some x → Is x word)
-    → cond dash (Ok None) (needed_in read column) ≡ Ok field → Holds Is Allowed field word
-dash_case Is word read field column true at is e =
-    let same : None ≡ field = cc in
-    subst (λ f. Holds Is Allowed f word) same (text_is word (codes "-") at)
-dash_case Is word None field column false at is e = cc
-dash_case Is word (Some x) field column false at is e =
-    let same : Some x ≡ field = cc in
-    subst (λ f. Holds Is Allowed f word) same (is x refl)
-
-pub used_read : {A : Type 0} (Is : A → List ℕ → Type 0) (usage : Use) (word : List ℕ) (read field : Option A) (column : Column) → ((x : A) → read ≡ Some x → Is x word) → used_in usage word read column ≡ Ok field → Holds Is usage field word
-used_read Is Unused word read field column is e = let same : None ≡ field = cc in sym same
-used_read Is Needed word read field column is e = holds_needed Is word read field column is e
-used_read Is Allowed word read field column is e = dash_case Is word read field column (is_dash word) refl is e
-
-pub used_again : {A : Type 0} (Is : A → List ℕ → Type 0) (usage : Use) (word : List ℕ) (read field : Option A) (column : Column)
-    → ((x : A) → Is x word → read ≡ Some x) → ((x : A) → Is x word → is_dash word ≡ false) → Holds Is usage field word → used_in usage word read column ≡ Ok field
-used_again Is Unused word read field column is plain holds = ap Ok (sym holds)
-used_again Is Needed word read None column is plain holds = absurd holds
-used_again Is Needed word read (Some x) column is plain holds = rw (is x holds) refl
-used_again Is Allowed word read None column is plain holds = let dash : is_dash word ≡ true = ap is_dash holds ∙ is_same (codes "-") in rw dash refl
-used_again Is Allowed word read (Some x) column is plain holds = rw (plain x holds, is x holds) refl
-
 -- a dash is no number
 dash_no_hex : (most n : ℕ) (b : Bool) (word : List ℕ) → is_dash word ≡ b → IsHex most n word → b ≡ false
 dash_no_hex most n false word at is = refl
@@ -154,18 +118,46 @@ dash_no_hex most n true word at is = absurd (no_dash most n (subst (λ (w : List
 pub hex_no_dash : (most n : ℕ) (word : List ℕ) → IsHex most n word → is_dash word ≡ false
 hex_no_dash most n word is = dash_no_hex most n (is_dash word) word refl is
 
-pub resp_no_dash : (x : Resp) (word : List ℕ) → IsResp x word → is_dash word ≡ false
-resp_no_dash I word is = ap is_dash is
-resp_no_dash SC word is = ap is_dash is
-resp_no_dash UC word is = ap is_dash is
-resp_no_dash UD word is = ap is_dash is
-resp_no_dash SD word is = ap is_dash is
-resp_no_dash IPD word is = ap is_dash is
-resp_no_dash SCPD word is = ap is_dash is
-resp_no_dash UCPD word is = ap is_dash is
-resp_no_dash UDPD word is = ap is_dash is
-resp_no_dash SDPD word is = ap is_dash is
+-- an address that may be left out
+abbrev named_or : Bool → List ℕ → Result (Option Address) Column
+named_or b word = cond b (Ok None) (ok_or (address_of word) columns.Address >>= λ address. Ok (Some address))
 
-pub allow_no_dash : (x : Bool) (word : List ℕ) → IsAllow x word → is_dash word ≡ false
-allow_no_dash true word is = ap is_dash is
-allow_no_dash false word is = ap is_dash is
+named_case : (word : List ℕ) (address : Option Address) (b : Bool) → is_dash word ≡ b → named_or b word ≡ Ok address → IsNamed address word
+named_case word address true at e = let same : None ≡ address = cc in subst (λ (a : Option Address). IsNamed a word) same (text_is word (codes "-") at)
+named_case word address false at e = found (address_of word) refl e
+  where
+    found : (read : Option Address) → address_of word ≡ read → (ok_or read columns.Address >>= λ a. Ok (Some a)) ≡ Ok address → IsNamed address word
+    found None is f = cc
+    found (Some x) is f = let same : Some x ≡ address = cc in subst (λ (a : Option Address). IsNamed a word) same (address_read word x is)
+
+pub named_read : (row : Row) (address : Option Address) → named_in row ≡ Ok address → IsNamed address row.address
+named_read row address e = named_case row.address address (is_dash row.address) refl e
+
+pub named_again : (address : Option Address) (row : Row) → IsNamed address row.address → named_in row ≡ Ok address
+named_again None row is = let dash : is_dash row.address ≡ true = ap is_dash is ∙ is_same (codes "-") in rw dash refl
+named_again (Some x) row is = rw (hex_no_dash 0xffff_ffff_ffff_ffff x.0 row.address is, address_again x row.address is) refl
+
+-- a column that each flit has that has it
+pub taken : {A : Type 0} (o : Option A) (column : Column) (x : A) → ok_or o column ≡ Ok x → o ≡ Some x
+taken None column x e = cc
+taken (Some y) column x e = let same : y ≡ x = cc in ap Some same
+
+pub given : {A : Type 0} (o : Option A) (column : Column) (x : A) → o ≡ Some x → ok_or o column ≡ Ok x
+given o column x e = ap (λ r. ok_or r column) e
+
+-- AllowRetry, and the credit that is spent without it
+pub spent_read : (allow : Bool) (row : Row) (spends : Option PcrdType) → allow_in row ≡ Ok allow → spent_by allow row ≡ Ok spends → IsSpent spends row
+spent_read true row spends at e =
+    let same : None ≡ spends = cc in
+    subst (λ (s : Option PcrdType). IsSpent s row) same (allow_read row.allow_retry true (taken (allow_of row.allow_retry) columns.AllowRetry true at))
+spent_read false row spends at e = found (pcrd_of row.pcrd) refl e
+  where
+    found : (read : Option PcrdType) → pcrd_of row.pcrd ≡ read → (ok_or read columns.Pcrd >>= λ p. Ok (Some p)) ≡ Ok spends → IsSpent spends row
+    found None is f = cc
+    found (Some x) is f =
+        let same : Some x ≡ spends = cc in
+        subst (λ (s : Option PcrdType). IsSpent s row) same (allow_read row.allow_retry false (taken (allow_of row.allow_retry) columns.AllowRetry false at), pcrd_read row.pcrd x is)
+
+pub spent_again : {A : Type 0} (spends : Option PcrdType) (row : Row) (next : Option PcrdType → Result A Column) → IsSpent spends row → (allow_in row >>= λ allow. spent_by allow row >>= next) ≡ next spends
+spent_again None row next is = rw (allow_again true row.allow_retry is) refl
+spent_again (Some pcrd) row next is = rw (allow_again false row.allow_retry is.0, pcrd_again pcrd row.pcrd is.1) refl

@@ -1,5 +1,5 @@
 -- A trace is read from lines that are its comments and its flits, and from those alone.
-use Rattle.std.proofs.Common.{◌≡◌, ◌⊎◌, inl, inr, ℕ, ◌+◌, ◌<◌, ◌≤◌, ◌==◌, nat_lt, Bool, true, false, cond, List, [], ◌∷◌, ◌++◌, length, Option, Some, None, Result, Ok, Err, refl, sym, ap, subst, ◌∙◌, arith}
+use Rattle.std.proofs.Common.{◌≡◌, inl, inr, ℕ, ◌+◌, ◌≤◌, ◌==◌, nat_lt, Bool, true, false, cond, List, [], ◌∷◌, ◌++◌, length, Option, Some, None, Result, Ok, Err, refl, sym, ap, subst, ◌∙◌, arith}
 use Rattle.std.proofs.lemmas.Bool.Decides.{nat_tests}
 use Rattle.chi_script.specs.Files.{lines_of}
 use Rattle.chi_script.proofs.LineLemmas.{parts_of}
@@ -8,7 +8,7 @@ use Rattle.chi_trace.specs.declared.faults.TraceFault.TheVariants.{MissingNewlin
 use Rattle.chi_trace.specs.declared.flits.Seen.{Seen}
 use Rattle.chi_trace.specs.Files.{◌>>=◌, flits_at, trace_flits, one_of, trace_of}
 use Rattle.chi_trace.specs.Flits.{flit_at}
-use Rattle.chi_trace.specs.Spelling.{AreFlits, IsCommentLine, IsFlitLine, IsTrace}
+use Rattle.chi_trace.specs.Spelling.{AreFlits, IsTrace}
 use Rattle.chi_trace.specs.Words.{blank_words}
 use Rattle.chi_trace.proofs.LineLemmas.{comment_again, comment_read, line_again, line_read}
 

@@ -1,7 +1,6 @@
 -- Numbers are read as they are written, and only so.
-use Rattle.std.proofs.Common.{◌≡◌, ℕ, ◌+◌, ◌*◌, ◌≤◌, nat_le, Bool, true, false, cond, List, [], ◌∷◌, Option, Some, None, refl, sym, ap, subst, ◌∙◌, arith}
+use Rattle.std.proofs.Common.{◌≡◌, ℕ, ◌+◌, ◌*◌, ◌≤◌, nat_le, cond, List, [], ◌∷◌, Some, None, sym, ap, subst, arith}
 use Rattle.std.proofs.lemmas.Bool.Decides.{nat_tests}
-use Rattle.chi_script.specs.Words.{◌>>=◌}
 use Rattle.chi_script.proofs.NumberLemmas.{bound}
 use Rattle.chi_trace.specs.Numbers.{digit_of, digits_from, hex_of, plain_of, unmarked, with_hex_digit}
 use Rattle.chi_trace.specs.Spelling.{Continue, IsHex, IsPlain}

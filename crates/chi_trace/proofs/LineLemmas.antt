@@ -1,15 +1,11 @@
 -- Which lines are flits, and which comments.
-use Rattle.std.proofs.Common.{◌≡◌, ℕ, Bool, true, false, cond, List, [], ◌∷◌, Option, Some, None, Result, Ok, Err, refl, sym, ap, subst, ◌∙◌}
-use Rattle.chi_script.specs.Words.{◌>>=◌}
-use Rattle.chi_script.proofs.NumberLemmas.{bound}
+use Rattle.std.proofs.Common.{◌≡◌, ℕ, Bool, true, false, cond, List, [], ◌∷◌, Option, Some, None, Result, Ok, Err, refl, ap, subst, ◌∙◌}
 use Rattle.chi_trace.specs.declared.columns.Column.{Column}
-use Rattle.chi_trace.specs.declared.faults.TraceFault.{TraceFault}
-use Rattle.chi_trace.specs.declared.faults.TraceFault.TheVariants.{BadWord, FewWords}
 use Rattle.chi_trace.specs.declared.flits.Seen.{Seen}
 use Rattle.chi_trace.specs.declared.opcodes.TraceChannel.{TraceChannel}
 use Rattle.chi_trace.specs.declared.opcodes.TraceChannel.TheVariants as channels
-use Rattle.chi_trace.specs.Columns.{Row, first_word_of, row_behind}
-use Rattle.chi_trace.specs.Flits.{flit_at, flit_of_row, is_comment_word, seen_in, told_at}
+use Rattle.chi_trace.specs.Columns.{Row, row_behind}
+use Rattle.chi_trace.specs.Flits.{flit_at, flit_of_row, flit_opcode, is_comment_word, seen_in, told_at}
 use Rattle.chi_trace.specs.Opcodes.{opcode_channel, channel_word}
 use Rattle.chi_trace.specs.Spelling.{IsCommentLine, IsFlit, IsFlitLine, row_words}
 use Rattle.chi_trace.specs.Words.{blank_words}
@@ -95,7 +91,7 @@ no_comment channels.Cpu = refl
 
 words_again : (n : ℕ) (seen : Seen) (row : Row) (more : List (List ℕ)) → IsFlit n seen row → flit_at n (row_words row more) ≡ Ok (Some seen)
 words_again n seen row more is =
-    let plain : is_comment_word row.channel ≡ false = ap is_comment_word is.channel ∙ no_comment (opcode_channel seen.opcode) in
+    let plain : is_comment_word row.channel ≡ false = ap is_comment_word is.channel ∙ no_comment (opcode_channel (flit_opcode seen.flit)) in
     rw (plain, flit_again n seen row is) refl
 
 pub line_again : (n : ℕ) (seen : Seen) (line : List ℕ) → IsFlitLine n seen line → flit_at n (blank_words line) ≡ Ok (Some seen)

@@ -1,5 +1,5 @@
 -- Opcodes are read as they are named, and only so.
-use Rattle.std.proofs.Common.{◌≡◌, ℕ, Bool, true, false, List, Option, Some, None, Result, Ok, Err, refl, sym, ap, subst, ◌∙◌, codes}
+use Rattle.std.proofs.Common.{◌≡◌, ℕ, List, Some, None, Result, Ok, Err, refl, ap, ◌∙◌, codes}
 use Rattle.std.specs.Prelude.{ok_or}
 use Rattle.chi_flit.specs.Kind.{kind_text}
 use Rattle.chi_flit.specs.Snoop.{snoop_text}
@@ -15,7 +15,7 @@ use Rattle.chi_trace.specs.declared.opcodes.Opcode.TheVariants as opcodes
 use Rattle.chi_trace.specs.Columns.{Row}
 use Rattle.chi_trace.specs.Flits.{◌>>=◌, opcode_of}
 use Rattle.chi_trace.specs.Opcodes.{channel_in, opcode_channel, channel_word, cpu_opcode, data_opcode, opcode_in, opcode_text, request_opcode, response_opcode, snoop_opcode}
-use Rattle.chi_trace.proofs.FieldLemmas.{none_left, pick, text_is}
+use Rattle.chi_trace.proofs.FieldLemmas.{none_left, pick, taken, text_is}
 
 channel_read : (word : List ℕ) (channel : TraceChannel) → channel_in word ≡ Some channel → word ≡ channel_word channel
 channel_read word channel e =
@@ -123,10 +123,6 @@ opcode_named opcodes.Store = refl
 pub bound : {A B : Type 0} (step : Result A Column) (next : A → Result B Column) (y : B) → (step >>= next) ≡ Ok y → (x : A) × (step ≡ Ok x) × (next x ≡ Ok y)
 bound (Ok x) next y e = (x, refl, e)
 bound (Err column) next y e = cc
-
-pub taken : {A : Type 0} (o : Option A) (column : Column) (x : A) → ok_or o column ≡ Ok x → o ≡ Some x
-taken None column x e = cc
-taken (Some y) column x e = let same : y ≡ x = cc in ap Some same
 
 -- the words of a row that name its opcode
 pub record IsOpcode (row : Row) (opcode : Opcode) : Type 0 where

@@ -1,6 +1,6 @@
 -- The words of a list with commas between them.
-use Rattle.std.proofs.Common.{◌≡◌, ℕ, ◌+◌, ◌-◌, ◌==◌, List, [], ◌∷◌, length, take, drop, Option, Some, None, refl, ap, sym, ◌∙◌}
-use Rattle.std.specs.List.{slice_split, position}
+use Rattle.std.proofs.Common.{◌≡◌, ℕ, ◌+◌, ◌-◌, ◌==◌, List, length, take, drop, Option, Some, None, refl, ap, sym, ◌∙◌}
+use Rattle.std.specs.List.{position}
 use Rattle.chi_script.specs.Words.{◌>>=◌}
 use Rattle.chi_script.proofs.LineLemmas.{cut_at, uncut}
 use Rattle.chi_script.proofs.LineLemmas.{parts_of as some_parts}

@@ -1,82 +1,278 @@
 -- A line is read as a flit exactly where it is a spelling of it.
-use Rattle.std.proofs.Common.{◌≡◌, ◌⊎◌, inl, inr, ℕ, ◌+◌, Bool, true, false, cond, List, [], ◌∷◌, Option, Some, None, Result, Ok, Err, refl, sym, ap, subst, ◌∙◌}
-use Rattle.std.specs.Prelude.{ok_or}
+use Rattle.std.proofs.Common.{◌≡◌, ℕ, false, Result, Ok, refl, sym, subst}
+use Rattle.chi_flit.specs.declared.kind.Kind.{Kind}
+use Rattle.chi_flit.specs.declared.snoop.Snoop.{Snoop}
 use Rattle.chi_trace.specs.declared.columns.Column.{Column}
 use Rattle.chi_trace.specs.declared.columns.Column.TheVariants as columns
 use Rattle.chi_trace.specs.declared.fields.Address.{Address}
+use Rattle.chi_trace.specs.declared.fields.Beat.{Beat}
+use Rattle.chi_trace.specs.declared.fields.DbId.{DbId}
 use Rattle.chi_trace.specs.declared.fields.NodeId.{NodeId}
+use Rattle.chi_trace.specs.declared.fields.PcrdType.{PcrdType}
+use Rattle.chi_trace.specs.declared.fields.Resp.{Resp}
+use Rattle.chi_trace.specs.declared.fields.Resp.TheVariants.{UC}
 use Rattle.chi_trace.specs.declared.fields.TxnId.{TxnId}
+use Rattle.chi_trace.specs.declared.flits.Flit.{Flit}
+use Rattle.chi_trace.specs.declared.flits.Flit.TheVariants as flits
 use Rattle.chi_trace.specs.declared.flits.Seen.{Seen}
+use Rattle.chi_trace.specs.declared.flits.Transaction.{Transaction}
 use Rattle.chi_trace.specs.declared.opcodes.Opcode.{Opcode}
+use Rattle.chi_trace.specs.declared.opcodes.Opcode.TheVariants as opcodes
 use Rattle.chi_trace.specs.Columns.{Row}
-use Rattle.chi_trace.specs.Fields.{address_of, allow_of, dbid_of, is_dash, node_of, payload_of, pcrd_of, resp_of, resp_text, txn_of}
-use Rattle.chi_trace.specs.Flits.{◌>>=◌, opcode_of, seen_in}
-use Rattle.chi_trace.specs.Spelling.{Holds, IsAddress, IsAllow, IsDbid, IsFlit, IsNode, IsPcrd, IsResp, IsTxn}
-use Rattle.chi_trace.specs.Uses.{address_use, allow_use, dbid_use, form_of, pcrd_use, resp_use, target_use, txn_use, used_in}
-use Rattle.chi_trace.proofs.DataLemmas.{payload_again, payload_read}
-use Rattle.chi_trace.proofs.FieldLemmas.{address_again, address_read, allow_again, allow_no_dash, allow_read, dbid_again, dbid_read, hex_no_dash, node_again, node_read, pcrd_again, pcrd_read, resp_again, resp_no_dash, resp_read, txn_again, txn_read, used_again, used_read}
-use Rattle.chi_trace.proofs.OpcodeLemmas.{IsOpcode, bound, opcode_again, opcode_read, taken}
+use Rattle.chi_trace.specs.Fields.{address_of, beat_of, dbid_of, node_of, pcrd_of, resp_of, txn_of, value_of, written_of}
+use Rattle.chi_trace.specs.Flits.{ack_in, address_in, allow_in, answer_in, beat_in, comp_by, comp_dbid_in, comp_in, dbid_in, flit_by, flit_opcode, grant_in, load_in, named_in, opcode_of, pcrd_in, read_data_in, request_in, resp_in, retry_in, return_in, seen_in, snoop_data_in, snoop_in, source_in, spent_by, store_in, target_in, transaction_in, txn_in, value_in, write_data_in, written_in}
+use Rattle.chi_trace.specs.Opcodes.{channel_word, opcode_channel, opcode_text}
+use Rattle.chi_trace.specs.Spelling.{HasColumns, IsAddress, IsBeat, IsDbid, IsFlit, IsNode, IsPcrd, IsResp, IsTransaction, IsTxn, IsValue, is_unique}
+use Rattle.chi_trace.proofs.DataLemmas.{beat_again, beat_read, written_again, written_read}
+use Rattle.chi_trace.proofs.FieldLemmas.{address_again, address_read, dbid_again, dbid_read, given, named_again, named_read, node_again, node_read, pcrd_again, pcrd_read, resp_again, resp_read, spent_again, spent_read, taken, txn_again, txn_read}
+use Rattle.chi_trace.proofs.HexLemmas.{hex_again, hex_read}
+use Rattle.chi_trace.proofs.OpcodeLemmas.{bound, opcode_again, opcode_read}
 
--- the last five columns
-tail_of : ℕ → Row → Opcode → NodeId → Option NodeId → Option TxnId → Option Address → Result Seen Column
-tail_of n row opcode source target txn address =
-    used_in (resp_use opcode) row.resp (resp_of row.resp) columns.Resp >>= λ resp. used_in (dbid_use opcode resp) row.dbid (dbid_of row.dbid) columns.Dbid >>= λ dbid. used_in (allow_use opcode) row.allow_retry (allow_of row.allow_retry) columns.AllowRetry >>= λ allow. used_in (pcrd_use opcode allow) row.pcrd (pcrd_of row.pcrd) columns.Pcrd >>= λ pcrd. ok_or (payload_of (form_of opcode resp) row.payload) columns.Data >>= λ payload. Ok (record { line = n; opcode = opcode; source = source; target = target; txn = txn; address = address; resp = resp; dbid = dbid; allow_retry = allow; pcrd = pcrd; payload = payload })
+-- each column, read
+target_read : (row : Row) (x : NodeId) → target_in row ≡ Ok x → IsNode x row.target
+target_read row x e = node_read row.target x (taken (node_of row.target) columns.Target x e)
 
-seen_is : (n : ℕ) (row : Row) → seen_in n row ≡ (opcode_of row >>= λ opcode. ok_or (node_of row.source) columns.Source >>= λ source. used_in (target_use opcode) row.target (node_of row.target) columns.Target >>= λ target. used_in (txn_use opcode) row.txn (txn_of row.txn) columns.Txn >>= λ txn. used_in (address_use opcode) row.address (address_of row.address) columns.Address >>= λ address. tail_of n row opcode source target txn address)
-unfolding seen_in tail_of
-seen_is n row = refl
+txn_read_in : (row : Row) (x : TxnId) → txn_in row ≡ Ok x → IsTxn x row.txn
+txn_read_in row x e = txn_read row.txn x (taken (txn_of row.txn) columns.Txn x e)
 
-tail_read : (n : ℕ) (row : Row) (opcode : Opcode) (source : NodeId) (target : Option NodeId) (txn : Option TxnId) (address : Option Address) (seen : Seen) → IsOpcode row opcode → IsNode source row.source → Holds IsNode (target_use opcode) target row.target
-    → Holds IsTxn (txn_use opcode) txn row.txn → Holds IsAddress (address_use opcode) address row.address → tail_of n row opcode source target txn address ≡ Ok seen → IsFlit n seen row
-unfolding tail_of
-tail_read n row opcode source target txn address seen named is_source is_target is_txn is_address e =
-    let b0 = bound (used_in (resp_use opcode) row.resp (resp_of row.resp) columns.Resp) (λ resp. used_in (dbid_use opcode resp) row.dbid (dbid_of row.dbid) columns.Dbid >>= λ dbid. used_in (allow_use opcode) row.allow_retry (allow_of row.allow_retry) columns.AllowRetry >>= λ allow. used_in (pcrd_use opcode allow) row.pcrd (pcrd_of row.pcrd) columns.Pcrd >>= λ pcrd. ok_or (payload_of (form_of opcode resp) row.payload) columns.Data >>= λ payload. Ok (record { line = n; opcode = opcode; source = source; target = target; txn = txn; address = address; resp = resp; dbid = dbid; allow_retry = allow; pcrd = pcrd; payload = payload })) seen e in
-    let b1 = bound (used_in (dbid_use opcode b0.0) row.dbid (dbid_of row.dbid) columns.Dbid) (λ dbid. used_in (allow_use opcode) row.allow_retry (allow_of row.allow_retry) columns.AllowRetry >>= λ allow. used_in (pcrd_use opcode allow) row.pcrd (pcrd_of row.pcrd) columns.Pcrd >>= λ pcrd. ok_or (payload_of (form_of opcode b0.0) row.payload) columns.Data >>= λ payload. Ok (record { line = n; opcode = opcode; source = source; target = target; txn = txn; address = address; resp = b0.0; dbid = dbid; allow_retry = allow; pcrd = pcrd; payload = payload })) seen b0.2 in
-    let b2 = bound (used_in (allow_use opcode) row.allow_retry (allow_of row.allow_retry) columns.AllowRetry) (λ allow. used_in (pcrd_use opcode allow) row.pcrd (pcrd_of row.pcrd) columns.Pcrd >>= λ pcrd. ok_or (payload_of (form_of opcode b0.0) row.payload) columns.Data >>= λ payload. Ok (record { line = n; opcode = opcode; source = source; target = target; txn = txn; address = address; resp = b0.0; dbid = b1.0; allow_retry = allow; pcrd = pcrd; payload = payload })) seen b1.2 in
-    let b3 = bound (used_in (pcrd_use opcode b2.0) row.pcrd (pcrd_of row.pcrd) columns.Pcrd) (λ pcrd. ok_or (payload_of (form_of opcode b0.0) row.payload) columns.Data >>= λ payload. Ok (record { line = n; opcode = opcode; source = source; target = target; txn = txn; address = address; resp = b0.0; dbid = b1.0; allow_retry = b2.0; pcrd = pcrd; payload = payload })) seen b2.2 in
-    let b4 = bound (ok_or (payload_of (form_of opcode b0.0) row.payload) columns.Data) (λ payload. Ok (record { line = n; opcode = opcode; source = source; target = target; txn = txn; address = address; resp = b0.0; dbid = b1.0; allow_retry = b2.0; pcrd = b3.0; payload = payload })) seen b3.2 in
-    let same : record { line = n; opcode = opcode; source = source; target = target; txn = txn; address = address; resp = b0.0; dbid = b1.0; allow_retry = b2.0; pcrd = b3.0; payload = b4.0 } ≡ seen = let last = b4.2 in cc in
-    subst (λ (s : Seen). IsFlit n s row) same (record {
-      line = refl;
-      channel = named.channel;
-      opcode = named.word;
-      source = is_source;
-      target = is_target;
-      txn = is_txn;
-      address = is_address;
-      resp = used_read IsResp (resp_use opcode) row.resp (resp_of row.resp) b0.0 columns.Resp (λ x at. resp_read row.resp x at) b0.1;
-      dbid = used_read IsDbid (dbid_use opcode b0.0) row.dbid (dbid_of row.dbid) b1.0 columns.Dbid (λ x at. dbid_read row.dbid x at) b1.1;
-      allow_retry = used_read IsAllow (allow_use opcode) row.allow_retry (allow_of row.allow_retry) b2.0 columns.AllowRetry (λ x at. allow_read row.allow_retry x at) b2.1;
-      pcrd = used_read IsPcrd (pcrd_use opcode b2.0) row.pcrd (pcrd_of row.pcrd) b3.0 columns.Pcrd (λ x at. pcrd_read row.pcrd x at) b3.1;
-      payload = payload_read (form_of opcode b0.0) row.payload b4.0 (taken (payload_of (form_of opcode b0.0) row.payload) columns.Data b4.0 b4.1);
+address_read_in : (row : Row) (x : Address) → address_in row ≡ Ok x → IsAddress x row.address
+address_read_in row x e = address_read row.address x (taken (address_of row.address) columns.Address x e)
+
+resp_read_in : (row : Row) (x : Resp) → resp_in row ≡ Ok x → IsResp x row.resp
+resp_read_in row x e = resp_read row.resp x (taken (resp_of row.resp) columns.Resp x e)
+
+dbid_read_in : (row : Row) (x : DbId) → dbid_in row ≡ Ok x → IsDbid x row.dbid
+dbid_read_in row x e = dbid_read row.dbid x (taken (dbid_of row.dbid) columns.Dbid x e)
+
+pcrd_read_in : (row : Row) (x : PcrdType) → pcrd_in row ≡ Ok x → IsPcrd x row.pcrd
+pcrd_read_in row x e = pcrd_read row.pcrd x (taken (pcrd_of row.pcrd) columns.Pcrd x e)
+
+beat_read_in : (row : Row) (x : Beat) → beat_in row ≡ Ok x → IsBeat x row.payload
+beat_read_in row x e = beat_read row.payload x (taken (beat_of row.payload) columns.Data x e)
+
+value_read_in : (row : Row) (x : ℕ) → value_in row ≡ Ok x → IsValue x row.payload
+value_read_in row x e = hex_read 0xffff_ffff_ffff_ffff x row.payload (taken (value_of row.payload) columns.Data x e)
+
+transaction_read : (row : Row) (x : Transaction) → transaction_in row ≡ Ok x → IsTransaction x row
+unfolding transaction_in
+transaction_read row x e =
+    let target = bound (target_in row) _ x e in
+    let txn = bound (txn_in row) _ x target.2 in
+    let address = bound (named_in row) _ x txn.2 in
+    let same : record { target = target.0; txn = txn.0; address = address.0 } ≡ x = let last = address.2 in cc in
+    subst (λ (t : Transaction). IsTransaction t row) same (record { target = target_read row target.0 target.1; txn = txn_read_in row txn.0 txn.1; address = named_read row address.0 address.1 })
+
+-- the flit of each opcode, read
+record IsRead (opcode : Opcode) (flit : Flit) (row : Row) : Type 0 where
+  named : flit_opcode flit ≡ opcode
+  columns : HasColumns flit row
+
+request_read : (kind : Kind) (row : Row) (flit : Flit) → request_in kind row ≡ Ok flit → IsRead (opcodes.Request kind) flit row
+unfolding request_in
+request_read kind row flit e =
+    let target = bound (target_in row) _ flit e in
+    let txn = bound (txn_in row) _ flit target.2 in
+    let address = bound (address_in row) _ flit txn.2 in
+    let allow = bound (allow_in row) _ flit address.2 in
+    let spends = bound (spent_by allow.0 row) _ flit allow.2 in
+    let same : flits.Request kind spends.0 target.0 txn.0 address.0 ≡ flit = let last = spends.2 in cc in
+    subst (λ (f : Flit). IsRead (opcodes.Request kind) f row) same (record {
+      named = refl;
+      columns = (target_read row target.0 target.1, txn_read_in row txn.0 txn.1, address_read_in row address.0 address.1, spent_read allow.0 row spends.0 allow.1 spends.1);
     })
 
+comp_case : (resp : Resp) (transaction : Transaction) (row : Row) (flit : Flit) → is_unique resp ≡ false → ◌≡◌ {A = Result Flit Column} (Ok (flits.Comp resp transaction)) (Ok flit) → IsTransaction transaction row → IsResp resp row.resp → IsRead opcodes.Comp flit row
+comp_case resp transaction row flit other e is_transaction is_resp =
+    let same : flits.Comp resp transaction ≡ flit = cc in
+    subst (λ (f : Flit). IsRead opcodes.Comp f row) same (record { named = refl; columns = (is_transaction, is_resp, other) })
+
+unique_case : (transaction : Transaction) (row : Row) (flit : Flit) → comp_by UC transaction row ≡ Ok flit → IsTransaction transaction row → IsResp UC row.resp → IsRead opcodes.Comp flit row
+unique_case transaction row flit e is_transaction is_resp =
+    let dbid = bound (dbid_in row) (λ dbid. Ok (flits.CompUC dbid transaction)) flit e in
+    let same : flits.CompUC dbid.0 transaction ≡ flit = let last = dbid.2 in cc in
+    subst (λ (f : Flit). IsRead opcodes.Comp f row) same (record { named = refl; columns = (is_transaction, is_resp, dbid_read_in row dbid.0 dbid.1) })
+
+comp_by_read : (resp : Resp) (transaction : Transaction) (row : Row) (flit : Flit) → comp_by resp transaction row ≡ Ok flit → IsTransaction transaction row → IsResp resp row.resp → IsRead opcodes.Comp flit row
+comp_by_read UC transaction row flit e is_transaction is_resp = unique_case transaction row flit e is_transaction is_resp
+comp_by_read other transaction row flit e is_transaction is_resp = comp_case other transaction row flit refl e is_transaction is_resp
+
+comp_read : (row : Row) (flit : Flit) → comp_in row ≡ Ok flit → IsRead opcodes.Comp flit row
+unfolding comp_in
+comp_read row flit e =
+    let transaction = bound (transaction_in row) _ flit e in
+    let resp = bound (resp_in row) _ flit transaction.2 in
+    comp_by_read resp.0 transaction.0 row flit resp.2 (transaction_read row transaction.0 transaction.1) (resp_read_in row resp.0 resp.1)
+
+write_data_read : (row : Row) (flit : Flit) → write_data_in row ≡ Ok flit → IsRead opcodes.CopyBackWrData flit row
+unfolding write_data_in
+write_data_read row flit e =
+    let transaction = bound (transaction_in row) _ flit e in
+    let resp = bound (resp_in row) _ flit transaction.2 in
+    let beat = bound (written_in resp.0 row) _ flit resp.2 in
+    let same : flits.CopyBackWrData resp.0 transaction.0 beat.0 ≡ flit = let last = beat.2 in cc in
+    subst (λ (f : Flit). IsRead opcodes.CopyBackWrData f row) same (record {
+      named = refl;
+      columns = (transaction_read row transaction.0 transaction.1, resp_read_in row resp.0 resp.1, written_read resp.0 row.payload beat.0 (taken (written_of resp.0 row.payload) columns.Data beat.0 beat.1));
+    })
+
+return_read : (row : Row) (flit : Flit) → return_in row ≡ Ok flit → IsRead opcodes.PCrdReturn flit row
+unfolding return_in
+return_read row flit e =
+    let target = bound (target_in row) _ flit e in
+    let pcrd = bound (pcrd_in row) _ flit target.2 in
+    let same : flits.PCrdReturn pcrd.0 target.0 ≡ flit = let last = pcrd.2 in cc in
+    subst (λ (f : Flit). IsRead opcodes.PCrdReturn f row) same (record { named = refl; columns = (target_read row target.0 target.1, pcrd_read_in row pcrd.0 pcrd.1) })
+
+snoop_read : (snoop : Snoop) (row : Row) (flit : Flit) → snoop_in snoop row ≡ Ok flit → IsRead (opcodes.Snoop snoop) flit row
+unfolding snoop_in
+snoop_read snoop row flit e =
+    let target = bound (target_in row) _ flit e in
+    let txn = bound (txn_in row) _ flit target.2 in
+    let address = bound (address_in row) _ flit txn.2 in
+    let same : flits.Snoop snoop target.0 txn.0 address.0 ≡ flit = let last = address.2 in cc in
+    subst (λ (f : Flit). IsRead (opcodes.Snoop snoop) f row) same (record { named = refl; columns = (target_read row target.0 target.1, txn_read_in row txn.0 txn.1, address_read_in row address.0 address.1) })
+
+retry_read : (row : Row) (flit : Flit) → retry_in row ≡ Ok flit → IsRead opcodes.RetryAck flit row
+unfolding retry_in
+retry_read row flit e =
+    let transaction = bound (transaction_in row) _ flit e in
+    let pcrd = bound (pcrd_in row) _ flit transaction.2 in
+    let same : flits.RetryAck pcrd.0 transaction.0 ≡ flit = let last = pcrd.2 in cc in
+    subst (λ (f : Flit). IsRead opcodes.RetryAck f row) same (record { named = refl; columns = (transaction_read row transaction.0 transaction.1, pcrd_read_in row pcrd.0 pcrd.1) })
+
+comp_dbid_read : (row : Row) (flit : Flit) → comp_dbid_in row ≡ Ok flit → IsRead opcodes.CompDBIDResp flit row
+unfolding comp_dbid_in
+comp_dbid_read row flit e =
+    let transaction = bound (transaction_in row) _ flit e in
+    let dbid = bound (dbid_in row) _ flit transaction.2 in
+    let same : flits.CompDBIDResp dbid.0 transaction.0 ≡ flit = let last = dbid.2 in cc in
+    subst (λ (f : Flit). IsRead opcodes.CompDBIDResp f row) same (record { named = refl; columns = (transaction_read row transaction.0 transaction.1, dbid_read_in row dbid.0 dbid.1) })
+
+grant_read : (row : Row) (flit : Flit) → grant_in row ≡ Ok flit → IsRead opcodes.PCrdGrant flit row
+unfolding grant_in
+grant_read row flit e =
+    let target = bound (target_in row) _ flit e in
+    let pcrd = bound (pcrd_in row) _ flit target.2 in
+    let same : flits.PCrdGrant pcrd.0 target.0 ≡ flit = let last = pcrd.2 in cc in
+    subst (λ (f : Flit). IsRead opcodes.PCrdGrant f row) same (record { named = refl; columns = (target_read row target.0 target.1, pcrd_read_in row pcrd.0 pcrd.1) })
+
+answer_read : (row : Row) (flit : Flit) → answer_in row ≡ Ok flit → IsRead opcodes.SnpResp flit row
+unfolding answer_in
+answer_read row flit e =
+    let transaction = bound (transaction_in row) _ flit e in
+    let resp = bound (resp_in row) _ flit transaction.2 in
+    let same : flits.SnpResp resp.0 transaction.0 ≡ flit = let last = resp.2 in cc in
+    subst (λ (f : Flit). IsRead opcodes.SnpResp f row) same (record { named = refl; columns = (transaction_read row transaction.0 transaction.1, resp_read_in row resp.0 resp.1) })
+
+ack_read : (row : Row) (flit : Flit) → ack_in row ≡ Ok flit → IsRead opcodes.CompAck flit row
+unfolding ack_in
+ack_read row flit e =
+    let transaction = bound (transaction_in row) _ flit e in
+    let same : flits.CompAck transaction.0 ≡ flit = let last = transaction.2 in cc in
+    subst (λ (f : Flit). IsRead opcodes.CompAck f row) same (record { named = refl; columns = transaction_read row transaction.0 transaction.1 })
+
+read_data_read : (row : Row) (flit : Flit) → read_data_in row ≡ Ok flit → IsRead opcodes.CompData flit row
+unfolding read_data_in
+read_data_read row flit e =
+    let transaction = bound (transaction_in row) _ flit e in
+    let resp = bound (resp_in row) _ flit transaction.2 in
+    let dbid = bound (dbid_in row) _ flit resp.2 in
+    let beat = bound (beat_in row) _ flit dbid.2 in
+    let same : flits.CompData resp.0 dbid.0 transaction.0 beat.0 ≡ flit = let last = beat.2 in cc in
+    subst (λ (f : Flit). IsRead opcodes.CompData f row) same (record { named = refl; columns = (transaction_read row transaction.0 transaction.1, resp_read_in row resp.0 resp.1, dbid_read_in row dbid.0 dbid.1, beat_read_in row beat.0 beat.1) })
+
+snoop_data_read : (row : Row) (flit : Flit) → snoop_data_in row ≡ Ok flit → IsRead opcodes.SnpRespData flit row
+unfolding snoop_data_in
+snoop_data_read row flit e =
+    let transaction = bound (transaction_in row) _ flit e in
+    let resp = bound (resp_in row) _ flit transaction.2 in
+    let beat = bound (beat_in row) _ flit resp.2 in
+    let same : flits.SnpRespData resp.0 transaction.0 beat.0 ≡ flit = let last = beat.2 in cc in
+    subst (λ (f : Flit). IsRead opcodes.SnpRespData f row) same (record { named = refl; columns = (transaction_read row transaction.0 transaction.1, resp_read_in row resp.0 resp.1, beat_read_in row beat.0 beat.1) })
+
+load_read : (row : Row) (flit : Flit) → load_in row ≡ Ok flit → IsRead opcodes.Load flit row
+unfolding load_in
+load_read row flit e =
+    let address = bound (address_in row) _ flit e in
+    let value = bound (value_in row) _ flit address.2 in
+    let same : flits.Load address.0 value.0 ≡ flit = let last = value.2 in cc in
+    subst (λ (f : Flit). IsRead opcodes.Load f row) same (record { named = refl; columns = (address_read_in row address.0 address.1, value_read_in row value.0 value.1) })
+
+store_read : (row : Row) (flit : Flit) → store_in row ≡ Ok flit → IsRead opcodes.Store flit row
+unfolding store_in
+store_read row flit e =
+    let address = bound (address_in row) _ flit e in
+    let value = bound (value_in row) _ flit address.2 in
+    let same : flits.Store address.0 value.0 ≡ flit = let last = value.2 in cc in
+    subst (λ (f : Flit). IsRead opcodes.Store f row) same (record { named = refl; columns = (address_read_in row address.0 address.1, value_read_in row value.0 value.1) })
+
+by_read : (opcode : Opcode) (row : Row) (flit : Flit) → flit_by opcode row ≡ Ok flit → IsRead opcode flit row
+by_read (opcodes.Request kind) row flit e = request_read kind row flit e
+by_read opcodes.PCrdReturn row flit e = return_read row flit e
+by_read (opcodes.Snoop snoop) row flit e = snoop_read snoop row flit e
+by_read opcodes.RetryAck row flit e = retry_read row flit e
+by_read opcodes.Comp row flit e = comp_read row flit e
+by_read opcodes.CompDBIDResp row flit e = comp_dbid_read row flit e
+by_read opcodes.PCrdGrant row flit e = grant_read row flit e
+by_read opcodes.SnpResp row flit e = answer_read row flit e
+by_read opcodes.CompAck row flit e = ack_read row flit e
+by_read opcodes.CompData row flit e = read_data_read row flit e
+by_read opcodes.SnpRespData row flit e = snoop_data_read row flit e
+by_read opcodes.CopyBackWrData row flit e = write_data_read row flit e
+by_read opcodes.Load row flit e = load_read row flit e
+by_read opcodes.Store row flit e = store_read row flit e
+
 pub flit_read : (n : ℕ) (row : Row) (seen : Seen) → seen_in n row ≡ Ok seen → IsFlit n seen row
+unfolding seen_in
 flit_read n row seen e =
-    let f : (opcode_of row >>= λ opcode. ok_or (node_of row.source) columns.Source >>= λ source. used_in (target_use opcode) row.target (node_of row.target) columns.Target >>= λ target. used_in (txn_use opcode) row.txn (txn_of row.txn) columns.Txn >>= λ txn. used_in (address_use opcode) row.address (address_of row.address) columns.Address >>= λ address. tail_of n row opcode source target txn address) ≡ Ok seen = sym (seen_is n row) ∙ e in
-    let b0 = bound (opcode_of row) (λ opcode. ok_or (node_of row.source) columns.Source >>= λ source. used_in (target_use opcode) row.target (node_of row.target) columns.Target >>= λ target. used_in (txn_use opcode) row.txn (txn_of row.txn) columns.Txn >>= λ txn. used_in (address_use opcode) row.address (address_of row.address) columns.Address >>= λ address. tail_of n row opcode source target txn address) seen f in
-    let b1 = bound (ok_or (node_of row.source) columns.Source) (λ source. used_in (target_use b0.0) row.target (node_of row.target) columns.Target >>= λ target. used_in (txn_use b0.0) row.txn (txn_of row.txn) columns.Txn >>= λ txn. used_in (address_use b0.0) row.address (address_of row.address) columns.Address >>= λ address. tail_of n row b0.0 source target txn address) seen b0.2 in
-    let b2 = bound (used_in (target_use b0.0) row.target (node_of row.target) columns.Target) (λ target. used_in (txn_use b0.0) row.txn (txn_of row.txn) columns.Txn >>= λ txn. used_in (address_use b0.0) row.address (address_of row.address) columns.Address >>= λ address. tail_of n row b0.0 b1.0 target txn address) seen b1.2 in
-    let b3 = bound (used_in (txn_use b0.0) row.txn (txn_of row.txn) columns.Txn) (λ txn. used_in (address_use b0.0) row.address (address_of row.address) columns.Address >>= λ address. tail_of n row b0.0 b1.0 b2.0 txn address) seen b2.2 in
-    let b4 = bound (used_in (address_use b0.0) row.address (address_of row.address) columns.Address) (λ address. tail_of n row b0.0 b1.0 b2.0 b3.0 address) seen b3.2 in
-    tail_read n row b0.0 b1.0 b2.0 b3.0 b4.0 seen (opcode_read row b0.0 b0.1)
-    (node_read row.source b1.0 (taken (node_of row.source) columns.Source b1.0 b1.1))
-    (used_read IsNode (target_use b0.0) row.target (node_of row.target) b2.0 columns.Target (λ x at. node_read row.target x at) b2.1)
-    (used_read IsTxn (txn_use b0.0) row.txn (txn_of row.txn) b3.0 columns.Txn (λ x at. txn_read row.txn x at) b3.1)
-    (used_read IsAddress (address_use b0.0) row.address (address_of row.address) b4.0 columns.Address (λ x at. address_read row.address x at) b4.1)
-    b4.2
+    let opcode = bound (opcode_of row) _ seen e in
+    let source = bound (source_in row) _ seen opcode.2 in
+    let flit = bound (flit_by opcode.0 row) _ seen source.2 in
+    let same : record { line = n; source = source.0; flit = flit.0 } ≡ seen = let last = flit.2 in cc in
+    let named = opcode_read row opcode.0 opcode.1 in
+    let is = by_read opcode.0 row flit.0 flit.1 in
+    subst (λ (s : Seen). IsFlit n s row) same (record {
+      line = refl;
+      channel = subst (λ (o : Opcode). row.channel ≡ channel_word (opcode_channel o)) (sym is.named) named.channel;
+      opcode = subst (λ (o : Opcode). row.opcode ≡ opcode_text o) (sym is.named) named.word;
+      source = node_read row.source source.0 (taken (node_of row.source) columns.Source source.0 source.1);
+      columns = is.columns;
+    })
+
+-- and again: what is written is read
+transaction_again : (x : Transaction) (row : Row) → IsTransaction x row → transaction_in row ≡ Ok x
+unfolding transaction_in
+transaction_again x row is = rw (node_again x.target row.target is.target, txn_again x.txn row.txn is.txn, named_again x.address row is.address) refl
+
+value_again : (n : ℕ) (row : Row) → IsValue n row.payload → value_in row ≡ Ok n
+value_again n row is = given (value_of row.payload) columns.Data n (hex_again 0xffff_ffff_ffff_ffff n row.payload is)
+
+comp_again : (resp : Resp) (transaction : Transaction) (row : Row) → is_unique resp ≡ false → comp_by resp transaction row ≡ Ok (flits.Comp resp transaction)
+comp_again UC transaction row other = cc
+comp_again resp transaction row other = refl
+
+by_again : (flit : Flit) (row : Row) → HasColumns flit row → flit_by (flit_opcode flit) row ≡ Ok flit
+unfolding request_in return_in snoop_in retry_in comp_in comp_dbid_in grant_in answer_in ack_in read_data_in snoop_data_in write_data_in load_in store_in
+by_again (flits.Request kind spends target txn address) row is =
+    rw (node_again target row.target is.0, txn_again txn row.txn is.1, address_again address row.address is.2) (spent_again spends row (λ s. Ok (flits.Request kind s target txn address)) is.3)
+by_again (flits.PCrdReturn pcrd target) row is = rw (node_again target row.target is.0, pcrd_again pcrd row.pcrd is.1) refl
+by_again (flits.Snoop snoop target txn address) row is = rw (node_again target row.target is.0, txn_again txn row.txn is.1, address_again address row.address is.2) refl
+by_again (flits.RetryAck pcrd transaction) row is = rw (transaction_again transaction row is.0, pcrd_again pcrd row.pcrd is.1) refl
+by_again (flits.CompUC dbid transaction) row is = rw (transaction_again transaction row is.0, resp_again UC row.resp is.1, dbid_again dbid row.dbid is.2) refl
+by_again (flits.Comp resp transaction) row is = rw (transaction_again transaction row is.0, resp_again resp row.resp is.1) (comp_again resp transaction row is.2)
+by_again (flits.CompDBIDResp dbid transaction) row is = rw (transaction_again transaction row is.0, dbid_again dbid row.dbid is.1) refl
+by_again (flits.PCrdGrant pcrd target) row is = rw (node_again target row.target is.0, pcrd_again pcrd row.pcrd is.1) refl
+by_again (flits.SnpResp resp transaction) row is = rw (transaction_again transaction row is.0, resp_again resp row.resp is.1) refl
+by_again (flits.CompAck transaction) row is = rw (transaction_again transaction row is) refl
+by_again (flits.CompData resp dbid transaction beat) row is = rw (transaction_again transaction row is.0, resp_again resp row.resp is.1, dbid_again dbid row.dbid is.2, beat_again beat row.payload is.3) refl
+by_again (flits.SnpRespData resp transaction beat) row is = rw (transaction_again transaction row is.0, resp_again resp row.resp is.1, beat_again beat row.payload is.2) refl
+by_again (flits.CopyBackWrData resp transaction beat) row is = rw (transaction_again transaction row is.0, resp_again resp row.resp is.1, written_again resp beat row.payload is.2) refl
+by_again (flits.Load address value) row is = rw (address_again address row.address is.0, value_again value row is.1) refl
+by_again (flits.Store address value) row is = rw (address_again address row.address is.0, value_again value row is.1) refl
 
 pub flit_again : (n : ℕ) (seen : Seen) (row : Row) → IsFlit n seen row → seen_in n row ≡ Ok seen
 unfolding seen_in
 flit_again n seen row is =
-    let opcode = opcode_again row seen.opcode is.channel is.opcode in
+    let opcode = opcode_again row (flit_opcode seen.flit) is.channel is.opcode in
     let source = node_again seen.source row.source is.source in
-    let target = used_again IsNode (target_use seen.opcode) row.target (node_of row.target) seen.target columns.Target (λ x at. node_again x row.target at) (λ x at. hex_no_dash 0xffff x.0 row.target at) is.target in
-    let txn = used_again IsTxn (txn_use seen.opcode) row.txn (txn_of row.txn) seen.txn columns.Txn (λ x at. txn_again x row.txn at) (λ x at. hex_no_dash 0xffff x.0 row.txn at) is.txn in
-    let address = used_again IsAddress (address_use seen.opcode) row.address (address_of row.address) seen.address columns.Address (λ x at. address_again x row.address at) (λ x at. hex_no_dash 0xffff_ffff_ffff_ffff x.0 row.address at) is.address in
-    let resp = used_again IsResp (resp_use seen.opcode) row.resp (resp_of row.resp) seen.resp columns.Resp (λ x at. resp_again x row.resp at) (λ x at. resp_no_dash x row.resp at) is.resp in
-    let dbid = used_again IsDbid (dbid_use seen.opcode seen.resp) row.dbid (dbid_of row.dbid) seen.dbid columns.Dbid (λ x at. dbid_again x row.dbid at) (λ x at. hex_no_dash 0xffff x.0 row.dbid at) is.dbid in
-    let allow_retry = used_again IsAllow (allow_use seen.opcode) row.allow_retry (allow_of row.allow_retry) seen.allow_retry columns.AllowRetry (λ x at. allow_again x row.allow_retry at) (λ x at. allow_no_dash x row.allow_retry at) is.allow_retry in
-    let pcrd = used_again IsPcrd (pcrd_use seen.opcode seen.allow_retry) row.pcrd (pcrd_of row.pcrd) seen.pcrd columns.Pcrd (λ x at. pcrd_again x row.pcrd at) (λ x at. hex_no_dash 0xf x.0 row.pcrd at) is.pcrd in
-    let payload = payload_again (form_of seen.opcode seen.resp) seen.payload row.payload is.payload in
-    rw (opcode, source, target, txn, address, resp, dbid, allow_retry, pcrd, payload) (λ i. Ok (record seen { line = sym is.line i }))
+    rw (opcode, source, by_again seen.flit row is.columns) (λ i. Ok (record seen { line = sym is.line i }))

@@ -1,7 +1,7 @@
 -- What the columns of a flit hold (docs/TRACES.md, "Traces").
-use Rattle.std.specs.Prelude.{ℕ, ◌==◌, ◌&&◌, Bool, true, false, List, [], ◌∷◌, Option, Some, None, if◌then◌else◌, codes, is_none, length, replicate, slice_range}
-use Rattle.std.specs.List.{position, slice_split}
-use Rattle.std.specs.Option.{option_map}
+use Rattle.std.specs.Prelude.{ℕ, ◌==◌, ◌&&◌, Bool, true, false, List, [], ◌∷◌, Option, Some, None, if◌then◌else◌, codes, is_none, is_some, length, replicate, slice_range}
+use Rattle.std.specs.List.{position, slice_index_or, slice_split}
+use Rattle.std.specs.Option.{unwrap_or}
 use Rattle.chi_script.specs.Words.{◌>>=◌, is_text}
 use Rattle.chi_trace.specs.Numbers.{hex_of, plain_of, unmarked}
 use Rattle.chi_trace.specs.declared.fields.NodeId.{NodeId}
@@ -11,10 +11,7 @@ use Rattle.chi_trace.specs.declared.fields.PcrdType.{PcrdType}
 use Rattle.chi_trace.specs.declared.fields.Address.{Address}
 use Rattle.chi_trace.specs.declared.fields.Resp.{Resp}
 use Rattle.chi_trace.specs.declared.fields.Resp.TheVariants.{I, SC, UC, UD, SD, IPD, SCPD, UCPD, UDPD, SDPD}
-use Rattle.chi_trace.specs.declared.fields.Payload.{Payload}
-use Rattle.chi_trace.specs.declared.fields.Payload.TheVariants as payloads
-use Rattle.chi_trace.specs.declared.uses.Form.{Form}
-use Rattle.chi_trace.specs.declared.uses.Form.TheVariants as forms
+use Rattle.chi_trace.specs.declared.fields.Beat.{Beat}
 
 -- there is nothing
 abbrev pub is_dash : List ℕ → Bool
@@ -113,15 +110,39 @@ vector_of digits = do
 abbrev pub line_words_of : List ℕ → Option (List (Option ℕ))
 line_words_of word = if length (unmarked word) == 128 && is_none (position (λ b. b == 44) word) then vector_of (unmarked word) else listed_of (comma_parts word)
 
+-- a beat: its words, with 0 in place of each that it hasn't, and which of them it has
+abbrev pub word_or_zero : List (Option ℕ) → ℕ → ℕ
+word_or_zero ws n = unwrap_or (slice_index_or ws n None) 0
+
+abbrev pub has_word : List (Option ℕ) → ℕ → Bool
+has_word ws n = is_some (slice_index_or ws n None)
+
+abbrev pub beat_with : List (Option ℕ) → Beat
+beat_with ws = record {
+  words =
+      word_or_zero ws 0 ∷ word_or_zero ws 1 ∷ word_or_zero ws 2 ∷ word_or_zero ws 3
+      ∷ word_or_zero ws 4 ∷ word_or_zero ws 5 ∷ word_or_zero ws 6 ∷ word_or_zero ws 7 ∷ [];
+  there =
+      has_word ws 0 ∷ has_word ws 1 ∷ has_word ws 2 ∷ has_word ws 3
+      ∷ has_word ws 4 ∷ has_word ws 5 ∷ has_word ws 6 ∷ has_word ws 7 ∷ [];
+}
+
+-- a word, where the beat has it
+abbrev pub word_at : Beat → ℕ → Option ℕ
+word_at beat n = if slice_index_or beat.there n false then Some (slice_index_or beat.words n 0) else None
+
+abbrev pub beat_of : List ℕ → Option Beat
+beat_of word = line_words_of word >>= λ ws. Some (beat_with ws)
+
 -- the data of a copy that is lost
-abbrev pub zeros : List (Option ℕ)
-zeros = replicate 8 (Some 0)
+abbrev pub zeros : Beat
+zeros = record { words = replicate 8 0; there = replicate 8 true }
 
-abbrev pub words_payload : List ℕ → Option Payload
-words_payload word = line_words_of word >>= λ ws. Some (payloads.Words ws)
+-- write data of a copy that is lost is 0, and may be left out
+abbrev pub written_of : Resp → List ℕ → Option Beat
+written_of I word = if is_dash word then Some zeros else beat_of word
+written_of resp word = beat_of word
 
-abbrev pub payload_of : Form → List ℕ → Option Payload
-payload_of forms.Nothing word = Some payloads.Nothing
-payload_of forms.Words word = words_payload word
-payload_of forms.WordsOrDash word = if is_dash word then Some (payloads.Words zeros) else words_payload word
-payload_of forms.Value word = hex_of 0xffff_ffff_ffff_ffff word >>= λ n. Some (payloads.Value n)
+-- one word
+abbrev pub value_of : List ℕ → Option ℕ
+value_of word = hex_of 0xffff_ffff_ffff_ffff word

@@ -3,7 +3,6 @@ pub mod Numbers
 pub mod Columns
 pub mod Fields
 pub mod Opcodes
-pub mod Uses
 pub mod Flits
 pub mod Faults
 pub mod Files

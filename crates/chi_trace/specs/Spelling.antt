@@ -3,24 +3,22 @@ use Rattle.std.specs.Prelude.{◌≡◌, ◌⊎◌, ◌==◌, ℕ, ◌+◌, ◌*
 use Rattle.std.specs.List.{position}
 use Rattle.chi_script.specs.Files.{lines_of}
 use Rattle.chi_trace.specs.declared.fields.Address.{Address}
+use Rattle.chi_trace.specs.declared.fields.Beat.{Beat}
 use Rattle.chi_trace.specs.declared.fields.DbId.{DbId}
 use Rattle.chi_trace.specs.declared.fields.NodeId.{NodeId}
-use Rattle.chi_trace.specs.declared.fields.Payload.{Payload}
-use Rattle.chi_trace.specs.declared.fields.Payload.TheVariants as payloads
 use Rattle.chi_trace.specs.declared.fields.PcrdType.{PcrdType}
 use Rattle.chi_trace.specs.declared.fields.Resp.{Resp}
+use Rattle.chi_trace.specs.declared.fields.Resp.TheVariants.{I, UC}
 use Rattle.chi_trace.specs.declared.fields.TxnId.{TxnId}
+use Rattle.chi_trace.specs.declared.flits.Flit.{Flit}
+use Rattle.chi_trace.specs.declared.flits.Flit.TheVariants as flits
 use Rattle.chi_trace.specs.declared.flits.Seen.{Seen}
-use Rattle.chi_trace.specs.declared.uses.Form.{Form}
-use Rattle.chi_trace.specs.declared.uses.Form.TheVariants as forms
-use Rattle.chi_trace.specs.declared.uses.Use.{Use}
-use Rattle.chi_trace.specs.declared.uses.Use.TheVariants.{Needed, Allowed, Unused}
+use Rattle.chi_trace.specs.declared.flits.Transaction.{Transaction}
 use Rattle.chi_trace.specs.Columns.{Row}
-use Rattle.chi_trace.specs.Fields.{comma_parts, resp_text, zeros}
-use Rattle.chi_trace.specs.Flits.{is_comment_word}
+use Rattle.chi_trace.specs.Fields.{beat_with, comma_parts, resp_text, zeros}
+use Rattle.chi_trace.specs.Flits.{flit_opcode, is_comment_word}
 use Rattle.chi_trace.specs.Numbers.{digit_of, unmarked}
 use Rattle.chi_trace.specs.Opcodes.{opcode_channel, channel_word, opcode_text}
-use Rattle.chi_trace.specs.Uses.{address_use, allow_use, dbid_use, form_of, pcrd_use, resp_use, target_use, txn_use}
 use Rattle.chi_trace.specs.Words.{blank_words}
 
 -- digits that continue a number, in hexadecimal
@@ -59,14 +57,6 @@ IsAllow false word = word ≡ codes "0"
 abbrev pub IsResp : Resp → List ℕ → Type 0
 IsResp resp word = word ≡ resp_text resp
 
--- a field by its use: where a flit has it, it is there and written so, or left out where it may be
-abbrev pub Holds : {A : Type 0} → (A → List ℕ → Type 0) → Use → Option A → List ℕ → Type 0
-Holds Is Unused field word = field ≡ None
-Holds Is Needed None word = ⊥
-Holds Is Needed (Some x) word = Is x word
-Holds Is Allowed None word = word ≡ codes "-"
-Holds Is Allowed (Some x) word = Is x word
-
 -- a word of a line, or x where it is in another beat
 abbrev pub IsWord : Option ℕ → List ℕ → Type 0
 IsWord None text = text ≡ codes "x"
@@ -98,27 +88,64 @@ pub record IsVector (words : List (Option ℕ)) (word : List ℕ) : Type 0 where
   pub no_comma : None ≡ position (λ b. b == 44) word
   pub numbers : AreNumbers words (sixteens (unmarked word))
 
-abbrev pub IsPayload : Form → Payload → List ℕ → Type 0
-IsPayload forms.Nothing payloads.Nothing word = Unit {0}
-IsPayload forms.Words (payloads.Words words) word = AreListed words word ⊎ IsVector words word
-IsPayload forms.WordsOrDash (payloads.Words words) word = ((word ≡ codes "-") × (words ≡ zeros)) ⊎ (AreListed words word ⊎ IsVector words word)
-IsPayload forms.Value (payloads.Value n) word = IsHex 0xffff_ffff_ffff_ffff n word
-IsPayload form payload word = ⊥
+-- the beat with these words: a list, or one number
+pub record IsBeat (beat : Beat) (word : List ℕ) : Type 0 where
+  pub words : List (Option ℕ)
+  pub is : beat ≡ beat_with words
+  pub text : AreListed words word ⊎ IsVector words word
+
+-- the data of a write back; of a copy that is lost it is 0, and may be left out
+abbrev pub IsWritten : Resp → Beat → List ℕ → Type 0
+IsWritten I beat word = ((word ≡ codes "-") × (beat ≡ zeros)) ⊎ IsBeat beat word
+IsWritten resp beat word = IsBeat beat word
+
+abbrev pub IsValue : ℕ → List ℕ → Type 0
+IsValue n word = IsHex 0xffff_ffff_ffff_ffff n word
+
+-- an address that may be left out
+abbrev pub IsNamed : Option Address → List ℕ → Type 0
+IsNamed None word = word ≡ codes "-"
+IsNamed (Some address) word = IsAddress address word
+
+-- AllowRetry, and without it the type of the credit that is spent
+abbrev pub IsSpent : Option PcrdType → Row → Type 0
+IsSpent None row = IsAllow true row.allow_retry
+IsSpent (Some pcrd) row = IsAllow false row.allow_retry × IsPcrd pcrd row.pcrd
+
+pub record IsTransaction (transaction : Transaction) (row : Row) : Type 0 where
+  pub target : IsNode transaction.target row.target
+  pub txn : IsTxn transaction.txn row.txn
+  pub address : IsNamed transaction.address row.address
+
+abbrev pub is_unique : Resp → Bool
+is_unique UC = true
+is_unique other = false
+
+-- the columns of each flit behind its opcode and its source; a Comp with RESP UC is one that a CompAck follows
+abbrev pub HasColumns : Flit → Row → Type 0
+HasColumns (flits.Request kind spends target txn address) row = IsNode target row.target × IsTxn txn row.txn × IsAddress address row.address × IsSpent spends row
+HasColumns (flits.PCrdReturn pcrd target) row = IsNode target row.target × IsPcrd pcrd row.pcrd
+HasColumns (flits.Snoop snoop target txn address) row = IsNode target row.target × IsTxn txn row.txn × IsAddress address row.address
+HasColumns (flits.RetryAck pcrd transaction) row = IsTransaction transaction row × IsPcrd pcrd row.pcrd
+HasColumns (flits.CompUC dbid transaction) row = IsTransaction transaction row × IsResp UC row.resp × IsDbid dbid row.dbid
+HasColumns (flits.Comp resp transaction) row = IsTransaction transaction row × IsResp resp row.resp × (is_unique resp ≡ false)
+HasColumns (flits.CompDBIDResp dbid transaction) row = IsTransaction transaction row × IsDbid dbid row.dbid
+HasColumns (flits.PCrdGrant pcrd target) row = IsNode target row.target × IsPcrd pcrd row.pcrd
+HasColumns (flits.SnpResp resp transaction) row = IsTransaction transaction row × IsResp resp row.resp
+HasColumns (flits.CompAck transaction) row = IsTransaction transaction row
+HasColumns (flits.CompData resp dbid transaction beat) row = IsTransaction transaction row × IsResp resp row.resp × IsDbid dbid row.dbid × IsBeat beat row.payload
+HasColumns (flits.SnpRespData resp transaction beat) row = IsTransaction transaction row × IsResp resp row.resp × IsBeat beat row.payload
+HasColumns (flits.CopyBackWrData resp transaction beat) row = IsTransaction transaction row × IsResp resp row.resp × IsWritten resp beat row.payload
+HasColumns (flits.Load address value) row = IsAddress address row.address × IsValue value row.payload
+HasColumns (flits.Store address value) row = IsAddress address row.address × IsValue value row.payload
 
 -- the columns of line n, which is this flit; the columns that a flit hasn't may hold anything
 pub record IsFlit (n : ℕ) (seen : Seen) (row : Row) : Type 0 where
   pub line : seen.line ≡ n
-  pub channel : row.channel ≡ channel_word (opcode_channel seen.opcode)
-  pub opcode : row.opcode ≡ opcode_text seen.opcode
+  pub channel : row.channel ≡ channel_word (opcode_channel (flit_opcode seen.flit))
+  pub opcode : row.opcode ≡ opcode_text (flit_opcode seen.flit)
   pub source : IsNode seen.source row.source
-  pub target : Holds IsNode (target_use seen.opcode) seen.target row.target
-  pub txn : Holds IsTxn (txn_use seen.opcode) seen.txn row.txn
-  pub address : Holds IsAddress (address_use seen.opcode) seen.address row.address
-  pub resp : Holds IsResp (resp_use seen.opcode) seen.resp row.resp
-  pub dbid : Holds IsDbid (dbid_use seen.opcode seen.resp) seen.dbid row.dbid
-  pub allow_retry : Holds IsAllow (allow_use seen.opcode) seen.allow_retry row.allow_retry
-  pub pcrd : Holds IsPcrd (pcrd_use seen.opcode seen.allow_retry) seen.pcrd row.pcrd
-  pub payload : IsPayload (form_of seen.opcode seen.resp) seen.payload row.payload
+  pub columns : HasColumns seen.flit row
 
 -- the words of a row, with whatever words behind them
 abbrev pub row_words : Row → List (List ℕ) → List (List ℕ)

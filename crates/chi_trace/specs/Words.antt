@@ -1,5 +1,5 @@
 -- The words of a line of a trace: what stands between blanks (docs/TRACES.md, "Traces").
-use Rattle.std.specs.Prelude.{ℕ, ◌==◌, ◌||◌, not, Bool, true, false, List, [], ◌∷◌, filter}
+use Rattle.std.specs.Prelude.{ℕ, ◌==◌, ◌||◌, Bool, true, false, List, [], ◌∷◌, filter}
 use Rattle.std.specs.List.{slice_split}
 
 -- a space, a tab, or the carriage return before a line end

@@ -1,12 +1,11 @@
 //! What the columns of a flit hold.
 
-ghost use Rattle.std.specs.Prelude.{◌≡◌, ◌==◌, length, Some};
+ghost use Rattle.std.specs.Prelude.{◌≡◌, ◌==◌, ◌<◌, length, Some};
 ghost use Rattle.std.specs.List.{position};
 ghost use Rattle.std.specs.Option.{option_map};
-ghost use Rattle.chi_trace.specs.Fields.{address_of, allow_of, dbid_of, first_part, is_dash, line_words_of, listed_of, node_of, only_of, comma_parts, payload_of, pcrd_of, resp_of, resp_text, txn_of, vector_of, word_in};
+ghost use Rattle.chi_trace.specs.Fields.{address_of, allow_of, beat_of, beat_with, dbid_of, first_part, is_dash, line_words_of, listed_of, node_of, only_of, comma_parts, pcrd_of, resp_of, resp_text, txn_of, value_of, vector_of, word_at, word_in, written_of};
 
 use crate::numbers::{hex, plain, unmarked};
-use crate::uses::Form;
 use chi_script::is;
 use std::fmt;
 
@@ -52,16 +51,58 @@ pub enum Resp {
     SDPD,
 }
 
-/// What the data of a line holds.
+/// The words of a cache line that a beat of data has.
 /// Source: `docs/TRACES.md`, "Traces".
 #[derive(Clone, Copy, Debug, PartialEq, Eq)]
-pub enum Payload {
-    /// No data belongs to the flit.
-    Nothing,
-    /// The words 0 to 7 of the cache line, but for those that are in another beat.
-    Words([Option<u64>; 8]),
-    /// The one word that a load read or a store wrote.
-    Value(u64),
+pub struct Beat {
+    /// The words 0 to 7, with 0 in place of each that is in another beat.
+    pub words: [u64; 8],
+    /// Which of them the beat has.
+    pub there: [bool; 8],
+}
+
+impl Beat {
+    /// The beat that has these words.
+    /// Source: `docs/TRACES.md`, "Traces".
+    pub fn with(words: &[Option<u64>; 8]) -> Beat
+        ensures { result ≡ beat_with words.now }
+    {
+        Beat {
+            words: [
+                words[0].unwrap_or(0),
+                words[1].unwrap_or(0),
+                words[2].unwrap_or(0),
+                words[3].unwrap_or(0),
+                words[4].unwrap_or(0),
+                words[5].unwrap_or(0),
+                words[6].unwrap_or(0),
+                words[7].unwrap_or(0),
+            ],
+            there: [
+                words[0].is_some(),
+                words[1].is_some(),
+                words[2].is_some(),
+                words[3].is_some(),
+                words[4].is_some(),
+                words[5].is_some(),
+                words[6].is_some(),
+                words[7].is_some(),
+            ],
+        }
+    }
+
+    /// The word of this number, where the beat has it.
+    /// Source: `docs/TRACES.md`, "Traces".
+    pub fn word(&self, number: usize) -> Option<u64>
+        requires { number < 8 }
+        ensures { result ≡ word_at self.now number }
+    {
+        if self.there[number] {
+            Some(self.words[number])
+        } else {
+            None
+        }
+    }
 }
 
 impl Resp {
@@ -276,14 +317,30 @@ fn line_words(word: &[u8]) -> Option<[Option<u64>; 8]>
     }
 }
 
-/// The data that the word names, in the form that belongs to the flit.
-pub(crate) fn read_payload(form: Form, word: &[u8]) -> Option<Payload>
-    ensures { result ≡ payload_of form word.now }
+/// The words of the beat that the word names.
+pub(crate) fn read_beat(word: &[u8]) -> Option<Beat>
+    ensures { result ≡ beat_of word.now }
 {
-    match form {
-        Form::Nothing => Some(Payload::Nothing),
-        Form::WordsOrDash if is_dash(word) => Some(Payload::Words([Some(0); 8])),
-        Form::Words | Form::WordsOrDash => Some(Payload::Words(line_words(word)?)),
-        Form::Value => Some(Payload::Value(hex(word, u64::MAX)?)),
+    let words = line_words(word)?;
+    Some(Beat::with(&words))
+}
+
+/// The same of a write back with this RESP: `-` stands for the words of a copy that is lost, which are all 0.
+pub(crate) fn read_written(resp: Resp, word: &[u8]) -> Option<Beat>
+    ensures { result ≡ written_of resp word.now }
+{
+    match resp {
+        Resp::I if is_dash(word) => Some(Beat {
+            words: [0; 8],
+            there: [true; 8],
+        }),
+        _ => read_beat(word),
     }
+}
+
+/// The word of 64 bits that the word names.
+pub(crate) fn read_value(word: &[u8]) -> Option<u64>
+    ensures { result ≡ value_of word.now }
+{
+    hex(word, u64::MAX)
 }

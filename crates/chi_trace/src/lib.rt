@@ -12,13 +12,13 @@ mod flits;
 mod laws;
 mod numbers;
 mod opcodes;
-mod uses;
+mod reading;
 mod words;
 
 pub use columns::Column;
 pub use faults::TraceFault;
-pub use fields::{Address, DbId, NodeId, Payload, PcrdType, Resp, TxnId, read_address};
+pub use fields::{Address, Beat, DbId, NodeId, PcrdType, Resp, TxnId, read_address};
 pub use files::{MOST_BYTES, read_trace};
-pub use flits::Seen;
+pub use flits::{Flit, Seen, Transaction, flit_in};
 pub use laws::{lines_are_flits, numbers_are_hexadecimal, traces_are_lines};
 pub use opcodes::{Opcode, TraceChannel};

@@ -1,7 +1,10 @@
 //! Traces that are read.
 
 use chi_flit::{Kind, Snoop};
-use chi_trace::{Address, DbId, NodeId, Opcode, Payload, PcrdType, Resp, Seen, TxnId, read_trace};
+use chi_trace::{
+    Address, Beat, Column, DbId, Flit, NodeId, PcrdType, Resp, Seen, TraceFault, Transaction,
+    TxnId, flit_in, read_trace,
+};
 use std::test::Fail;
 
 /// Two requesters and a home: a read that is retried, and the snoop of the other's copy.
@@ -20,38 +23,31 @@ CPU 0c  -   -   Load         1048 -    -    -  -    2a
 const READ: [Seen; 2] = [
     Seen {
         line: 2,
-        opcode: Opcode::Request(Kind::ReadUnique),
         source: NodeId(8),
-        target: Some(NodeId(0x40)),
-        txn: Some(TxnId(1)),
-        address: Some(Address(0x1048)),
-        resp: None,
-        dbid: None,
-        allow_retry: Some(true),
-        pcrd: None,
-        payload: Payload::Nothing,
+        flit: Flit::Request {
+            kind: Kind::ReadUnique,
+            spends: None,
+            target: NodeId(0x40),
+            txn: TxnId(1),
+            address: Address(0x1048),
+        },
     },
     Seen {
         line: 3,
-        opcode: Opcode::CompData,
         source: NodeId(0x40),
-        target: Some(NodeId(8)),
-        txn: Some(TxnId(1)),
-        address: None,
-        resp: Some(Resp::UC),
-        dbid: Some(DbId(0x11)),
-        allow_retry: None,
-        pcrd: None,
-        payload: Payload::Words([
-            Some(5),
-            None,
-            Some(0),
-            Some(0),
-            Some(0),
-            Some(0),
-            Some(0),
-            Some(0xff),
-        ]),
+        flit: Flit::CompData {
+            resp: Resp::UC,
+            dbid: DbId(0x11),
+            transaction: Transaction {
+                target: NodeId(8),
+                txn: TxnId(1),
+                address: None,
+            },
+            beat: Beat {
+                words: [5, 0, 0, 0, 0, 0, 0, 0xff],
+                there: [true, false, true, true, true, true, true, true],
+            },
+        },
     },
 ];
 
@@ -59,42 +55,32 @@ const READ: [Seen; 2] = [
 const LAST: [Seen; 3] = [
     Seen {
         line: 7,
-        opcode: Opcode::Request(Kind::ReadUnique),
         source: NodeId(0xc),
-        target: Some(NodeId(0x40)),
-        txn: Some(TxnId(2)),
-        address: Some(Address(0x1040)),
-        resp: None,
-        dbid: None,
-        allow_retry: Some(false),
-        pcrd: Some(PcrdType(0)),
-        payload: Payload::Nothing,
+        flit: Flit::Request {
+            kind: Kind::ReadUnique,
+            spends: Some(PcrdType(0)),
+            target: NodeId(0x40),
+            txn: TxnId(2),
+            address: Address(0x1040),
+        },
     },
     Seen {
         line: 8,
-        opcode: Opcode::Snoop(Snoop::SnpUnique),
         source: NodeId(0x40),
-        target: Some(NodeId(8)),
-        txn: Some(TxnId(0x7f)),
-        address: Some(Address(0x1040)),
-        resp: None,
-        dbid: None,
-        allow_retry: None,
-        pcrd: None,
-        payload: Payload::Nothing,
+        flit: Flit::Snoop {
+            snoop: Snoop::SnpUnique,
+            target: NodeId(8),
+            txn: TxnId(0x7f),
+            address: Address(0x1040),
+        },
     },
     Seen {
         line: 9,
-        opcode: Opcode::Load,
         source: NodeId(0xc),
-        target: None,
-        txn: None,
-        address: Some(Address(0x1048)),
-        resp: None,
-        dbid: None,
-        allow_retry: None,
-        pcrd: None,
-        payload: Payload::Value(0x2a),
+        flit: Flit::Load {
+            address: Address(0x1048),
+            value: 0x2a,
+        },
     },
 ];
 
@@ -117,5 +103,42 @@ fn example_is_read(rt: HostRuntime) -> Result<(), Fail> {
     assert!(rt; count == 7, "{count}");
     assert!(rt; are(&flits[..2], &READ), "the first two");
     assert!(rt; are(&flits[4..], &LAST), "the last three");
+    Ok(())
+}
+
+/// Lines alone, and what they are.
+const LINES: [(&[u8], Result<Option<Seen>, TraceFault>); 4] = [
+    (b"# REQ 8 40", Ok(None)),
+    (
+        b"RSP 40 8 1 Comp 1040 I - - - -",
+        Ok(Some(Seen {
+            line: 3,
+            source: NodeId(0x40),
+            flit: Flit::Comp {
+                resp: Resp::I,
+                transaction: Transaction {
+                    target: NodeId(8),
+                    txn: TxnId(1),
+                    address: Some(Address(0x1040)),
+                },
+            },
+        })),
+    ),
+    (b"RSP 40 8 1 Comp", Err(TraceFault::FewWords(3))),
+    (
+        b"RSP 40 8 1 Comp - UC - - - -",
+        Err(TraceFault::BadWord {
+            line: 3,
+            column: Column::Dbid,
+        }),
+    ),
+];
+
+#[test]
+fn lines_are_read_alone(rt: HostRuntime) -> Result<(), Fail> {
+    for (line, wanted) in &LINES {
+        let found = flit_in(line, 3);
+        assert!(rt; found == *wanted, "{found:?} for {wanted:?}");
+    }
     Ok(())
 }
