@@ -1,7 +1,7 @@
 -- An agent's copy at a flit of the home, and the others beside it.
 use Rattle.std.proofs.Common.{rules, arith, ◌≡◌, ◌≢◌, ℕ, ◌<◌, zero, suc, refl, sym, ap, subst, ◌∙◌}
 use Rattle.std.specs.Prelude.{Bool, true, false, ◌&&◌, ◌||◌, ◌==◌, not, Option}
-use Rattle.chi_flit.specs.declared.snoop.Snoop.{Snoop}
+use Rattle.chi_observer.specs.declared.kinds.Snoop.{Snoop}
 use Rattle.chi_observer.specs.declared.flits.Due.{Due}
 use Rattle.std.proofs.lemmas.Bool.{eqb-true}
 use Rattle.chi_observer.specs.declared.flits.HomeFlit.{HomeFlit}
@@ -39,7 +39,7 @@ module _ (o : Observed) (g : HomeFlit) (sound : Sound o) (low : g.agent.0 < 32) 
   at = g.agent.0
 
   abbrev left_told : Known
-  left_told = told_granted g.grant (o.told at)
+  left_told = told_granted g.grant (o.public.due at) (o.told at)
 
   pub goes_else : (m : ℕ) → m ≢ at → m < 32 → goes_with left_told (o.told m) ≡ true
   goes_else m h k = one_of (m == at) _ (each_below 32 (λ m. m == at || goes_with left_told (o.told m)) (right _ (goes o g) (right (home_may o.public g) _ takes)) m k) (unlike m at h)
@@ -52,7 +52,7 @@ module _ (o : Observed) (g : HomeFlit) (sound : Sound o) (low : g.agent.0 < 32) 
       w.0,
       w.1,
       split (λ k. same (most (o.told k)) UniqueDirty ≡ true → same (most (put at left_told o.told k)) UniqueDirty ≡ true) at
-          (λ h. subst (λ x. same (most x) UniqueDirty ≡ true) (sym (here at left_told o.told)) (keeps_dirty g.grant (o.public.due at) (o.public.snooped at) (o.told at) h))
+          (λ h. subst (λ x. same (most x) UniqueDirty ≡ true) (sym (here at left_told o.told)) (keeps_dirty g.grant (o.public.due at) (o.public.snooped at) (o.told at) (left _ _ (left (home_may o.public g) _ takes)) h))
           (λ k d h. subst (λ x. same (most x) UniqueDirty ≡ true) (sym (there at left_told o.told k d)) h) w.0 w.2,
     );
   }
@@ -78,7 +78,7 @@ module _ (o : Observed) (g : HomeFlit) (low : g.agent.0 < 32) (may : home_may o.
   d' = due_granted g.grant d
 
   abbrev t' : Known
-  t' = told_granted g.grant t
+  t' = told_granted g.grant d t
 
   pub fitting : is_due g.grant d q ≡ true
   fitting = left _ _ may
@@ -87,29 +87,29 @@ module _ (o : Observed) (g : HomeFlit) (low : g.agent.0 < 32) (may : home_may o.
     facts : given_well g.grant d q t s ≡ true
     facts = given g.grant d q t s (both _ _ fitting r)
 
-    pub reached : reach d' t' (granted g.grant s) ≡ true
+    pub reached : reach d' t' (granted g.grant d s) ≡ true
     reached = left _ _ facts
 
-    facts2 : (implies (fresh d t s) (fresh d' t' (granted g.grant s)) && (same_truth (fills_told g.grant t) (fills g.grant s) && (implies (holds_data (granted g.grant s).copy && not (fills g.grant s)) (holds_data s.copy) && implies (fills g.grant s) (not (fresh d t s))))) ≡ true
-    facts2 = right (reach d' t' (granted g.grant s)) _ facts
+    facts2 : (implies (fresh d t s) (fresh d' t' (granted g.grant d s)) && (same_truth (fills_told g.grant t) (fills g.grant s) && (implies (holds_data (granted g.grant d s).copy && not (fills g.grant s)) (holds_data s.copy) && implies (fills g.grant s) (not (fresh d t s))))) ≡ true
+    facts2 = right (reach d' t' (granted g.grant d s)) _ facts
 
-    pub unfresh : fresh d' t' (granted g.grant s) ≡ false → fresh d t s ≡ false
+    pub unfresh : fresh d' t' (granted g.grant d s) ≡ false → fresh d t s ≡ false
     unfresh = contrary (fresh d t s) _ (left _ _ facts2)
 
-    facts3 : (same_truth (fills_told g.grant t) (fills g.grant s) && (implies (holds_data (granted g.grant s).copy && not (fills g.grant s)) (holds_data s.copy) && implies (fills g.grant s) (not (fresh d t s)))) ≡ true
-    facts3 = right (implies (fresh d t s) (fresh d' t' (granted g.grant s))) _ facts2
+    facts3 : (same_truth (fills_told g.grant t) (fills g.grant s) && (implies (holds_data (granted g.grant d s).copy && not (fills g.grant s)) (holds_data s.copy) && implies (fills g.grant s) (not (fresh d t s)))) ≡ true
+    facts3 = right (implies (fresh d t s) (fresh d' t' (granted g.grant d s))) _ facts2
 
     pub fills_same : fills_told g.grant t ≡ fills g.grant s
     fills_same = same_truth_is _ _ (left _ _ facts3)
 
-    facts4 : (implies (holds_data (granted g.grant s).copy && not (fills g.grant s)) (holds_data s.copy) && implies (fills g.grant s) (not (fresh d t s))) ≡ true
+    facts4 : (implies (holds_data (granted g.grant d s).copy && not (fills g.grant s)) (holds_data s.copy) && implies (fills g.grant s) (not (fresh d t s))) ≡ true
     facts4 = right (same_truth (fills_told g.grant t) (fills g.grant s)) _ facts3
 
-    pub had_data : holds_data (granted g.grant s).copy ≡ true → fills g.grant s ≡ false → holds_data s.copy ≡ true
+    pub had_data : holds_data (granted g.grant d s).copy ≡ true → fills g.grant s ≡ false → holds_data s.copy ≡ true
     had_data v e = follow _ _ (left _ _ facts4) (both _ _ v (flip _ e))
 
     pub still : fills g.grant s ≡ true → fresh d t s ≡ false
-    still f = turned _ (follow (fills g.grant s) _ (right (implies (holds_data (granted g.grant s).copy && not (fills g.grant s)) (holds_data s.copy)) _ facts4) f)
+    still f = turned _ (follow (fills g.grant s) _ (right (implies (holds_data (granted g.grant d s).copy && not (fills g.grant s)) (holds_data s.copy)) _ facts4) f)
 
 -- where its data fill a copy the home's words are the value
 not_dirty : (g : Bool) (t : Known) → (g && not (is_dirty (most t))) ≡ true → same (most t) UniqueDirty ≡ false
@@ -128,8 +128,8 @@ module _ (o : Observed) (g : HomeFlit) (w : World) (sound : Sound o) (low : g.ag
   pub filled_last : fills g.grant (w.state at') ≡ true → w.last ≡ w.home
   filled_last f =
       let full : fills_told g.grant (o.told at') ≡ true = fills_same o g low may' (w.state at') (m.told at' low) ∙ f in
-      let valid : same (most (told_granted g.grant (o.told at'))) Invalid ≡ false = filled g.grant (o.public.due at') (o.public.snooped at') (o.told at') (both _ _ (fitting o g low may') full) in
-      let rest : (k : ℕ) → k ≢ at' → k < 32 → is_unique (most (o.told k)) ≡ false = λ k h lk. lone (told_granted g.grant (o.told at')) (o.told k) valid (goes_else o g sound low takes k h lk) in
+      let valid : same (most (told_granted g.grant (o.public.due at') (o.told at'))) Invalid ≡ false = filled g.grant (o.public.due at') (o.public.snooped at') (o.told at') (fitting o g low may') full in
+      let rest : (k : ℕ) → k ≢ at' → k < 32 → is_unique (most (o.told k)) ≡ false = λ k h lk. lone (told_granted g.grant (o.public.due at') (o.told at')) (o.told k) valid (goes_else o g sound low takes k h lk) in
       agreed o w sound m
       (split (λ k. k < 32 → same (most (o.told k)) UniqueDirty ≡ false) at'
       (λ _. not_dirty (gives_data g.grant) (o.told at') full)

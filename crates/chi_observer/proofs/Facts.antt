@@ -1,18 +1,20 @@
 -- The tables fit one another: tried at each place.
 use Rattle.std.proofs.Common.{rules, arith, ◌≡◌, refl, sym, ap, subst, ◌∙◌}
 use Rattle.std.specs.Prelude.{Bool, true, false, ◌&&◌, ◌||◌, not, Option, Some, None, if◌then◌else◌}
-use Rattle.chi_flit.specs.declared.kind.Kind.TheVariants.{Evict}
+use Rattle.chi_observer.specs.declared.kinds.Kind.TheVariants.{Evict}
 use Rattle.chi_observer.specs.declared.told.Told.{Told}
 use Rattle.chi_observer.specs.declared.told.Told.TheVariants.{SD}
 use Rattle.chi_observer.specs.declared.flits.Due.{Due}
-use Rattle.chi_observer.specs.declared.flits.Due.TheVariants.{Nothing, Resending}
+use Rattle.chi_observer.specs.declared.flits.Due.TheVariants.{Nothing, Completion, Resending, SureCompletion, WriteData, Acknowledgement}
 use Rattle.chi_observer.specs.declared.flits.Act.{Act}
-use Rattle.chi_observer.specs.declared.flits.Act.TheVariants.{Request, Resend, CompAck}
+use Rattle.chi_observer.specs.declared.flits.Act.TheVariants.{Request, Resend, SnpResp, CompAck}
+use Rattle.chi_observer.specs.declared.flits.Answer.TheVariants.{SnpRespUC}
 use Rattle.chi_observer.specs.Copies.{Copy, Held, holds_data, is_unique, is_dirty, is_clean, same, compatible}
 use Rattle.chi_observer.specs.Copies.Copy.{Invalid, UniqueDirty, SharedDirty}
 use Rattle.chi_observer.specs.Rules.{is_free, is_resending, acts, has_data, due_after}
 use Rattle.chi_observer.specs.Tables.{Known, strongest, most, may, may_drift, reach, fresh, goes_with, told_behind, told_after, fits_told, tells_dirty, renews}
-use Rattle.chi_observer.proofs.Finite.{no, left, right, both, implies, follow, all_spots, each_spot, all_sent, each_sent, all_told_spots, each_told_spot, all_act_tolds, each_act_told, all_due_copies, each_due_copy, all_pairs, each_pair, all_told_pairs, each_told_pair, all_copy_pairs, each_copy_pair}
+use Rattle.chi_observer.proofs.Finite.{no, left, right, both, implies, follow}
+use Rattle.chi_observer.proofs.Spots.{acted_can, fits_can, Tried, all_plain, all_paired, spots, each_spot, sent_spots, each_sent, told_spots, each_told_spot, known_spots, each_known_spot, all_due_copies, each_due_copy, all_pairs, each_pair, all_told_pairs, each_told_pair, all_copy_pairs, each_copy_pair}
 
 pub turned : (b : Bool) → not b ≡ true → b ≡ false
 turned true h = no h
@@ -67,13 +69,25 @@ some_of o s' f h e = subst (λ (x : Option Held). on_some x f ≡ true) e h
 sent_table : Act → Due → Held → Bool
 sent_table a d s = on_some (acts a d s) (λ s'. implies (has_data a) (holds_data s.copy))
 
-sent_holds : all_sent sent_table ≡ true
+sent_holds_plain : (d : Due) → all_plain (λ a. sent_spots sent_table a d) ≡ true
 unfolding sent_table
-sent_holds = refl
+sent_holds_plain Nothing = refl
+sent_holds_plain (Completion k) = refl
+sent_holds_plain (Resending k) = refl
+sent_holds_plain (SureCompletion k) = refl
+sent_holds_plain (WriteData k) = refl
+sent_holds_plain Acknowledgement = refl
+
+sent_holds_paired : all_paired (sent_spots sent_table) ≡ true
+unfolding sent_table
+sent_holds_paired = refl
+
+sent_holds : Tried (sent_spots sent_table)
+sent_holds = record { plain = sent_holds_plain; paired = sent_holds_paired }
 
 pub sent_data : (a : Act) (d : Due) (s s' : Held) → acts a d s ≡ Some s' → has_data a ≡ true → holds_data s.copy ≡ true
 unfolding sent_table
-sent_data a d s s' e h = follow (has_data a) _ (some_of (acts a d s) s' (λ s'. implies (has_data a) (holds_data s.copy)) (each_sent sent_table sent_holds a d s) e) h
+sent_data a d s s' e h = follow (has_data a) _ (some_of (acts a d s) s' (λ s'. implies (has_data a) (holds_data s.copy)) (each_sent sent_table sent_holds a d (acted_can a d s s' e) s) e) h
 
 -- what a flit that is sent leaves; b: its data aren't the value that is known
 abbrev pub taken_well : Act → Due → Known → Held → Bool → Held → Bool
@@ -86,13 +100,25 @@ taken_well a d t s b s' = fits_told a d t
 forward_table : Act → Due → Known → Held → Bool → Bool
 forward_table a d t s b = implies (reach d t s && implies b (has_data a && fresh d t s)) (on_some (acts a d s) (taken_well a d t s b))
 
-forward_holds : all_spots forward_table ≡ true
+forward_holds_plain : (d : Due) → all_plain (λ a. spots forward_table a d) ≡ true
 unfolding forward_table
-forward_holds = refl
+forward_holds_plain Nothing = refl
+forward_holds_plain (Completion k) = refl
+forward_holds_plain (Resending k) = refl
+forward_holds_plain (SureCompletion k) = refl
+forward_holds_plain (WriteData k) = refl
+forward_holds_plain Acknowledgement = refl
+
+forward_holds_paired : all_paired (spots forward_table) ≡ true
+unfolding forward_table
+forward_holds_paired = refl
+
+forward_holds : Tried (spots forward_table)
+forward_holds = record { plain = forward_holds_plain; paired = forward_holds_paired }
 
 pub forward : (a : Act) (d : Due) (t : Known) (s s' : Held) (b : Bool) → reach d t s ≡ true → implies b (has_data a && fresh d t s) ≡ true → acts a d s ≡ Some s' → taken_well a d t s b s' ≡ true
 unfolding forward_table
-forward a d t s s' b r h e = some_of (acts a d s) s' (taken_well a d t s b) (follow (reach d t s && implies b (has_data a && fresh d t s)) _ (each_spot forward_table forward_holds a d t s b) (both _ _ r h)) e
+forward a d t s s' b r h e = some_of (acts a d s) s' (taken_well a d t s b) (follow (reach d t s && implies b (has_data a && fresh d t s)) _ (each_spot forward_table forward_holds a d (acted_can a d s s' e) t s b) (both _ _ r h)) e
 
 -- the copy before, where it is told t and the flit leaves s': the strongest, a dirty one where the flit says so
 abbrev pub stored_before : Told → Copy
@@ -104,6 +130,7 @@ copy_before (Request Evict) d t s' = record { copy = most t; cancelled = is_rese
 copy_before (Request kind) d t s' = record { copy = s'.copy; cancelled = is_resending d }
 copy_before (Resend kind) d t s' = s'
 copy_before CompAck d t s' = s'
+copy_before (SnpResp SnpRespUC) d t s' = s'
 copy_before a d t s' = of_form (if tells_dirty a then stored_before t.told else most t) s'
 
 abbrev pub is_some_of : Option Held → Held → Bool
@@ -128,13 +155,25 @@ led_to a d t s' b = fits_told a d t && (reach (due_after a d) (told_after a d t 
 backward_table : Act → Due → Known → Held → Bool → Bool
 backward_table a d t s' b = implies (led_to a d t s' b) (led_well a d t (copy_before a d t s') s' b)
 
-backward_holds : all_spots backward_table ≡ true
+backward_holds_plain : (d : Due) → all_plain (λ a. spots backward_table a d) ≡ true
 unfolding backward_table
-backward_holds = refl
+backward_holds_plain Nothing = refl
+backward_holds_plain (Completion k) = refl
+backward_holds_plain (Resending k) = refl
+backward_holds_plain (SureCompletion k) = refl
+backward_holds_plain (WriteData k) = refl
+backward_holds_plain Acknowledgement = refl
+
+backward_holds_paired : all_paired (spots backward_table) ≡ true
+unfolding backward_table
+backward_holds_paired = refl
+
+backward_holds : Tried (spots backward_table)
+backward_holds = record { plain = backward_holds_plain; paired = backward_holds_paired }
 
 pub backward : (a : Act) (d : Due) (t : Known) (s' : Held) (b : Bool) → led_to a d t s' b ≡ true → led_well a d t (copy_before a d t s') s' b ≡ true
 unfolding backward_table
-backward a d t s' b = follow (led_to a d t s' b) _ (each_spot backward_table backward_holds a d t s' b)
+backward a d t s' b h = follow (led_to a d t s' b) _ (each_spot backward_table backward_holds a d (fits_can a d t (left _ _ h)) t s' b) h
 
 pub some_same : (o : Option Held) (s : Held) → is_some_of o s ≡ true → o ≡ Some s
 some_same None s h = no h
@@ -179,13 +218,25 @@ rival d e t u s r a v c = and_false (is_free e r) (is_unique (most u) && same r.
 told_table : Act → Due → Known → Told → Bool
 told_table a d t u = implies (fits_told a d t) (implies (compatible (most t) (strongest u)) (compatible (strongest (told_behind a d t.told)) (strongest u)))
 
-told_holds : all_told_spots told_table ≡ true
+told_holds_plain : (d : Due) → all_plain (λ a. told_spots told_table a d) ≡ true
 unfolding told_table
-told_holds = refl
+told_holds_plain Nothing = refl
+told_holds_plain (Completion k) = refl
+told_holds_plain (Resending k) = refl
+told_holds_plain (SureCompletion k) = refl
+told_holds_plain (WriteData k) = refl
+told_holds_plain Acknowledgement = refl
+
+told_holds_paired : all_paired (told_spots told_table) ≡ true
+unfolding told_table
+told_holds_paired = refl
+
+told_holds : Tried (told_spots told_table)
+told_holds = record { plain = told_holds_plain; paired = told_holds_paired }
 
 pub told_goes : (a : Act) (d : Due) (t u : Known) (b : Bool) → fits_told a d t ≡ true → goes_with t u ≡ true → goes_with (told_after a d t b) u ≡ true
 unfolding told_table
-told_goes a d t u b f c = follow (goes_with t u) _ (follow (fits_told a d t) _ (each_told_spot told_table told_holds a d t u.told) f) c
+told_goes a d t u b f c = follow (goes_with t u) _ (follow (fits_told a d t) _ (each_told_spot told_table told_holds a d (fits_can a d t f) t u.told) f) c
 
 -- dirty, for sure
 dirty_table : Due → Known → Held → Bool
@@ -202,13 +253,25 @@ surely_dirty d t s h r = follow _ _ (each_due_copy dirty_table dirty_holds d t s
 stays_table : Act → Due → Known → Bool
 stays_table a d t = implies (fits_told a d t && (not (has_data a) && (same (most t) UniqueDirty || renews a d t))) (same (strongest (told_behind a d t.told)) UniqueDirty)
 
-stays_holds : all_act_tolds stays_table ≡ true
+stays_holds_plain : (d : Due) → all_plain (λ a. known_spots stays_table a d) ≡ true
 unfolding stays_table
-stays_holds = refl
+stays_holds_plain Nothing = refl
+stays_holds_plain (Completion k) = refl
+stays_holds_plain (Resending k) = refl
+stays_holds_plain (SureCompletion k) = refl
+stays_holds_plain (WriteData k) = refl
+stays_holds_plain Acknowledgement = refl
+
+stays_holds_paired : all_paired (known_spots stays_table) ≡ true
+unfolding stays_table
+stays_holds_paired = refl
+
+stays_holds : Tried (known_spots stays_table)
+stays_holds = record { plain = stays_holds_plain; paired = stays_holds_paired }
 
 pub stays_dirty : (a : Act) (d : Due) (t : Known) (b : Bool) → (fits_told a d t && (not (has_data a) && (same (most t) UniqueDirty || renews a d t))) ≡ true → same (most (told_after a d t b)) UniqueDirty ≡ true
 unfolding stays_table
-stays_dirty a d t b = follow _ _ (each_act_told stays_table stays_holds a d t)
+stays_dirty a d t b h = follow _ _ (each_known_spot stays_table stays_holds a d (fits_can a d t (left _ _ h)) t) h
 
 clean_table : Due → Known → Held → Bool
 clean_table d t s = implies (not (is_dirty s.copy)) (not (fresh d t s))

@@ -1,22 +1,20 @@
 -- What holds of each of a few values is found by trying each.
 use Rattle.std.proofs.Common.{rules, arith, ◌≡◌, refl}
-use Rattle.std.specs.Prelude.{Bool, true, false, ◌&&◌, Option, Some, None, if◌then◌else◌}
+use Rattle.std.specs.Prelude.{Bool, true, false, ◌&&◌, ⊤, if◌then◌else◌}
 use Rattle.chi_flit.specs.declared.state.State.{State}
 use Rattle.chi_flit.specs.declared.state.State.TheVariants as states
-use Rattle.chi_flit.specs.declared.snoop.Snoop.{Snoop}
-use Rattle.chi_flit.specs.declared.snoop.Snoop.TheVariants.{SnpShared, SnpNotSharedDirty, SnpUnique, SnpCleanInvalid}
-use Rattle.chi_flit.specs.declared.kind.Kind.{Kind}
-use Rattle.chi_flit.specs.declared.kind.Kind.TheVariants.{ReadNotSharedDirty, ReadShared, ReadUnique, CleanUnique, Evict, WriteBackFull, WriteCleanFull, WriteEvictFull}
+use Rattle.chi_observer.specs.declared.kinds.Snoop.{Snoop}
+use Rattle.chi_observer.specs.declared.kinds.Snoop.TheVariants.{SnpOnce, SnpClean, SnpShared, SnpNotSharedDirty, SnpCleanShared, SnpUnique, SnpCleanInvalid, SnpMakeInvalid}
+use Rattle.chi_observer.specs.declared.kinds.Kind.{Kind}
+use Rattle.chi_observer.specs.declared.kinds.Kind.TheVariants.{ReadNotSharedDirty, ReadShared, ReadClean, ReadOnce, ReadUnique, CleanUnique, MakeUnique, CleanShared, CleanInvalid, MakeInvalid, Evict, WriteBackFull, WriteCleanFull, WriteEvictFull, WriteUniqueFull}
 use Rattle.chi_observer.specs.declared.told.Told.{Told}
 use Rattle.chi_observer.specs.declared.told.Told.TheVariants.{I, SC, SCOrI, UC, UCE, UCEOrI, UCOrUCE, UD, SD}
 use Rattle.chi_observer.specs.declared.flits.Due.{Due}
 use Rattle.chi_observer.specs.declared.flits.Due.TheVariants.{Nothing, Completion, Resending, SureCompletion, WriteData, Acknowledgement}
 use Rattle.chi_observer.specs.declared.flits.Answer.{Answer}
-use Rattle.chi_observer.specs.declared.flits.Answer.TheVariants.{SnpRespI, SnpRespSC, SnpRespDataI, SnpRespDataSC, SnpRespDataSD, SnpRespDataIPD, SnpRespDataSCPD}
-use Rattle.chi_observer.specs.declared.flits.Act.{Act}
-use Rattle.chi_observer.specs.declared.flits.Act.TheVariants.{Request, Resend, SnpResp, CompAck, CopyBackWrData}
+use Rattle.chi_observer.specs.declared.flits.Answer.TheVariants.{SnpRespI, SnpRespSC, SnpRespUC, SnpRespDataI, SnpRespDataSC, SnpRespDataUC, SnpRespDataUD, SnpRespDataSD, SnpRespDataIPD, SnpRespDataSCPD, SnpRespDataUCPD}
 use Rattle.chi_observer.specs.declared.flits.Grant.{Grant}
-use Rattle.chi_observer.specs.declared.flits.Grant.TheVariants.{RetryAck, Snp, CompData, CompUC, CompI, CompDBIDResp}
+use Rattle.chi_observer.specs.declared.flits.Grant.TheVariants.{RetryAck, Snp, CompData, CompUC, CompSC, CompI, CompDBIDResp}
 use Rattle.chi_observer.specs.Copies.{Copy, Held}
 use Rattle.chi_observer.specs.Copies.Copy.{Invalid, SharedClean, UniqueClean, UniqueEmpty, UniqueDirty, SharedDirty}
 use Rattle.chi_observer.specs.Tables.{Known}
@@ -47,6 +45,15 @@ pub follow : (a b : Bool) → implies a b ≡ true → a ≡ true → b ≡ true
 follow true b h e = h
 follow false b h e = no e
 
+-- what is tried only where a holds
+abbrev pub where_it : Bool → (⊤ → Bool) → Bool
+where_it true f = f tt
+where_it false f = true
+
+pub tried : (a : Bool) (f : ⊤ → Bool) → where_it a f ≡ true → a ≡ true → f tt ≡ true
+tried true f h e = h
+tried false f h e = no e
+
 abbrev pub all_forms : (State → Bool) → Bool
 all_forms f = f states.I && (f states.SC && (f states.UC && (f states.UD && f states.SD)))
 
@@ -58,26 +65,37 @@ each_form f h states.UD = left (f states.UD) _ (right (f states.UC) _ (right (f 
 each_form f h states.SD = right (f states.UD) _ (right (f states.UC) _ (right (f states.SC) _ (right (f states.I) _ h)))
 
 abbrev pub all_snoops : (Snoop → Bool) → Bool
-all_snoops f = f SnpShared && (f SnpNotSharedDirty && (f SnpUnique && f SnpCleanInvalid))
+all_snoops f = f SnpOnce && (f SnpClean && (f SnpShared && (f SnpNotSharedDirty && (f SnpCleanShared && (f SnpUnique && (f SnpCleanInvalid && f SnpMakeInvalid))))))
 
 pub each_snoop : (f : Snoop → Bool) → all_snoops f ≡ true → (x : Snoop) → f x ≡ true
-each_snoop f h SnpShared = left (f SnpShared) _ h
-each_snoop f h SnpNotSharedDirty = left (f SnpNotSharedDirty) _ (right (f SnpShared) _ h)
-each_snoop f h SnpUnique = left (f SnpUnique) _ (right (f SnpNotSharedDirty) _ (right (f SnpShared) _ h))
-each_snoop f h SnpCleanInvalid = right (f SnpUnique) _ (right (f SnpNotSharedDirty) _ (right (f SnpShared) _ h))
+each_snoop f h SnpOnce = left (f SnpOnce) _ h
+each_snoop f h SnpClean = left (f SnpClean) _ (right (f SnpOnce) _ h)
+each_snoop f h SnpShared = left (f SnpShared) _ (right (f SnpClean) _ (right (f SnpOnce) _ h))
+each_snoop f h SnpNotSharedDirty = left (f SnpNotSharedDirty) _ (right (f SnpShared) _ (right (f SnpClean) _ (right (f SnpOnce) _ h)))
+each_snoop f h SnpCleanShared = left (f SnpCleanShared) _ (right (f SnpNotSharedDirty) _ (right (f SnpShared) _ (right (f SnpClean) _ (right (f SnpOnce) _ h))))
+each_snoop f h SnpUnique = left (f SnpUnique) _ (right (f SnpCleanShared) _ (right (f SnpNotSharedDirty) _ (right (f SnpShared) _ (right (f SnpClean) _ (right (f SnpOnce) _ h)))))
+each_snoop f h SnpCleanInvalid = left (f SnpCleanInvalid) _ (right (f SnpUnique) _ (right (f SnpCleanShared) _ (right (f SnpNotSharedDirty) _ (right (f SnpShared) _ (right (f SnpClean) _ (right (f SnpOnce) _ h))))))
+each_snoop f h SnpMakeInvalid = right (f SnpCleanInvalid) _ (right (f SnpUnique) _ (right (f SnpCleanShared) _ (right (f SnpNotSharedDirty) _ (right (f SnpShared) _ (right (f SnpClean) _ (right (f SnpOnce) _ h))))))
 
 abbrev pub all_kinds : (Kind → Bool) → Bool
-all_kinds f = f ReadNotSharedDirty && (f ReadShared && (f ReadUnique && (f CleanUnique && (f Evict && (f WriteBackFull && (f WriteCleanFull && f WriteEvictFull))))))
+all_kinds f = f ReadNotSharedDirty && (f ReadShared && (f ReadClean && (f ReadOnce && (f ReadUnique && (f CleanUnique && (f MakeUnique && (f CleanShared && (f CleanInvalid && (f MakeInvalid && (f Evict && (f WriteBackFull && (f WriteCleanFull && (f WriteEvictFull && f WriteUniqueFull)))))))))))))
 
 pub each_kind : (f : Kind → Bool) → all_kinds f ≡ true → (x : Kind) → f x ≡ true
 each_kind f h ReadNotSharedDirty = left (f ReadNotSharedDirty) _ h
 each_kind f h ReadShared = left (f ReadShared) _ (right (f ReadNotSharedDirty) _ h)
-each_kind f h ReadUnique = left (f ReadUnique) _ (right (f ReadShared) _ (right (f ReadNotSharedDirty) _ h))
-each_kind f h CleanUnique = left (f CleanUnique) _ (right (f ReadUnique) _ (right (f ReadShared) _ (right (f ReadNotSharedDirty) _ h)))
-each_kind f h Evict = left (f Evict) _ (right (f CleanUnique) _ (right (f ReadUnique) _ (right (f ReadShared) _ (right (f ReadNotSharedDirty) _ h))))
-each_kind f h WriteBackFull = left (f WriteBackFull) _ (right (f Evict) _ (right (f CleanUnique) _ (right (f ReadUnique) _ (right (f ReadShared) _ (right (f ReadNotSharedDirty) _ h)))))
-each_kind f h WriteCleanFull = left (f WriteCleanFull) _ (right (f WriteBackFull) _ (right (f Evict) _ (right (f CleanUnique) _ (right (f ReadUnique) _ (right (f ReadShared) _ (right (f ReadNotSharedDirty) _ h))))))
-each_kind f h WriteEvictFull = right (f WriteCleanFull) _ (right (f WriteBackFull) _ (right (f Evict) _ (right (f CleanUnique) _ (right (f ReadUnique) _ (right (f ReadShared) _ (right (f ReadNotSharedDirty) _ h))))))
+each_kind f h ReadClean = left (f ReadClean) _ (right (f ReadShared) _ (right (f ReadNotSharedDirty) _ h))
+each_kind f h ReadOnce = left (f ReadOnce) _ (right (f ReadClean) _ (right (f ReadShared) _ (right (f ReadNotSharedDirty) _ h)))
+each_kind f h ReadUnique = left (f ReadUnique) _ (right (f ReadOnce) _ (right (f ReadClean) _ (right (f ReadShared) _ (right (f ReadNotSharedDirty) _ h))))
+each_kind f h CleanUnique = left (f CleanUnique) _ (right (f ReadUnique) _ (right (f ReadOnce) _ (right (f ReadClean) _ (right (f ReadShared) _ (right (f ReadNotSharedDirty) _ h)))))
+each_kind f h MakeUnique = left (f MakeUnique) _ (right (f CleanUnique) _ (right (f ReadUnique) _ (right (f ReadOnce) _ (right (f ReadClean) _ (right (f ReadShared) _ (right (f ReadNotSharedDirty) _ h))))))
+each_kind f h CleanShared = left (f CleanShared) _ (right (f MakeUnique) _ (right (f CleanUnique) _ (right (f ReadUnique) _ (right (f ReadOnce) _ (right (f ReadClean) _ (right (f ReadShared) _ (right (f ReadNotSharedDirty) _ h)))))))
+each_kind f h CleanInvalid = left (f CleanInvalid) _ (right (f CleanShared) _ (right (f MakeUnique) _ (right (f CleanUnique) _ (right (f ReadUnique) _ (right (f ReadOnce) _ (right (f ReadClean) _ (right (f ReadShared) _ (right (f ReadNotSharedDirty) _ h))))))))
+each_kind f h MakeInvalid = left (f MakeInvalid) _ (right (f CleanInvalid) _ (right (f CleanShared) _ (right (f MakeUnique) _ (right (f CleanUnique) _ (right (f ReadUnique) _ (right (f ReadOnce) _ (right (f ReadClean) _ (right (f ReadShared) _ (right (f ReadNotSharedDirty) _ h)))))))))
+each_kind f h Evict = left (f Evict) _ (right (f MakeInvalid) _ (right (f CleanInvalid) _ (right (f CleanShared) _ (right (f MakeUnique) _ (right (f CleanUnique) _ (right (f ReadUnique) _ (right (f ReadOnce) _ (right (f ReadClean) _ (right (f ReadShared) _ (right (f ReadNotSharedDirty) _ h))))))))))
+each_kind f h WriteBackFull = left (f WriteBackFull) _ (right (f Evict) _ (right (f MakeInvalid) _ (right (f CleanInvalid) _ (right (f CleanShared) _ (right (f MakeUnique) _ (right (f CleanUnique) _ (right (f ReadUnique) _ (right (f ReadOnce) _ (right (f ReadClean) _ (right (f ReadShared) _ (right (f ReadNotSharedDirty) _ h)))))))))))
+each_kind f h WriteCleanFull = left (f WriteCleanFull) _ (right (f WriteBackFull) _ (right (f Evict) _ (right (f MakeInvalid) _ (right (f CleanInvalid) _ (right (f CleanShared) _ (right (f MakeUnique) _ (right (f CleanUnique) _ (right (f ReadUnique) _ (right (f ReadOnce) _ (right (f ReadClean) _ (right (f ReadShared) _ (right (f ReadNotSharedDirty) _ h))))))))))))
+each_kind f h WriteEvictFull = left (f WriteEvictFull) _ (right (f WriteCleanFull) _ (right (f WriteBackFull) _ (right (f Evict) _ (right (f MakeInvalid) _ (right (f CleanInvalid) _ (right (f CleanShared) _ (right (f MakeUnique) _ (right (f CleanUnique) _ (right (f ReadUnique) _ (right (f ReadOnce) _ (right (f ReadClean) _ (right (f ReadShared) _ (right (f ReadNotSharedDirty) _ h)))))))))))))
+each_kind f h WriteUniqueFull = right (f WriteEvictFull) _ (right (f WriteCleanFull) _ (right (f WriteBackFull) _ (right (f Evict) _ (right (f MakeInvalid) _ (right (f CleanInvalid) _ (right (f CleanShared) _ (right (f MakeUnique) _ (right (f CleanUnique) _ (right (f ReadUnique) _ (right (f ReadOnce) _ (right (f ReadClean) _ (right (f ReadShared) _ (right (f ReadNotSharedDirty) _ h)))))))))))))
 
 abbrev pub all_tolds : (Told → Bool) → Bool
 all_tolds f = f I && (f SC && (f SCOrI && (f UC && (f UCE && (f UCEOrI && (f UCOrUCE && (f UD && f SD)))))))
@@ -105,26 +123,23 @@ each_copy f h UniqueDirty = left (f UniqueDirty) _ (right (f UniqueEmpty) _ (rig
 each_copy f h SharedDirty = right (f UniqueDirty) _ (right (f UniqueEmpty) _ (right (f UniqueClean) _ (right (f SharedClean) _ (right (f Invalid) _ h))))
 
 abbrev pub all_answers : (Answer → Bool) → Bool
-all_answers f = f SnpRespI && (f SnpRespSC && (f SnpRespDataI && (f SnpRespDataSC && (f SnpRespDataSD && (f SnpRespDataIPD && f SnpRespDataSCPD)))))
+all_answers f = f SnpRespI && (f SnpRespSC && (f SnpRespUC && (f SnpRespDataI && (f SnpRespDataSC && (f SnpRespDataUC && (f SnpRespDataUD && (f SnpRespDataSD && (f SnpRespDataIPD && (f SnpRespDataSCPD && f SnpRespDataUCPD)))))))))
 
 pub each_answer : (f : Answer → Bool) → all_answers f ≡ true → (x : Answer) → f x ≡ true
 each_answer f h SnpRespI = left (f SnpRespI) _ h
 each_answer f h SnpRespSC = left (f SnpRespSC) _ (right (f SnpRespI) _ h)
-each_answer f h SnpRespDataI = left (f SnpRespDataI) _ (right (f SnpRespSC) _ (right (f SnpRespI) _ h))
-each_answer f h SnpRespDataSC = left (f SnpRespDataSC) _ (right (f SnpRespDataI) _ (right (f SnpRespSC) _ (right (f SnpRespI) _ h)))
-each_answer f h SnpRespDataSD = left (f SnpRespDataSD) _ (right (f SnpRespDataSC) _ (right (f SnpRespDataI) _ (right (f SnpRespSC) _ (right (f SnpRespI) _ h))))
-each_answer f h SnpRespDataIPD = left (f SnpRespDataIPD) _ (right (f SnpRespDataSD) _ (right (f SnpRespDataSC) _ (right (f SnpRespDataI) _ (right (f SnpRespSC) _ (right (f SnpRespI) _ h)))))
-each_answer f h SnpRespDataSCPD = right (f SnpRespDataIPD) _ (right (f SnpRespDataSD) _ (right (f SnpRespDataSC) _ (right (f SnpRespDataI) _ (right (f SnpRespSC) _ (right (f SnpRespI) _ h)))))
-
-abbrev pub all_snooped : (Option Snoop → Bool) → Bool
-all_snooped f = f None && all_snoops (λ x. f (Some x))
-
-pub each_snooped : (f : Option Snoop → Bool) → all_snooped f ≡ true → (x : Option Snoop) → f x ≡ true
-each_snooped f h None = left (f None) _ h
-each_snooped f h (Some x) = each_snoop (λ x. f (Some x)) (right (f None) _ h) x
+each_answer f h SnpRespUC = left (f SnpRespUC) _ (right (f SnpRespSC) _ (right (f SnpRespI) _ h))
+each_answer f h SnpRespDataI = left (f SnpRespDataI) _ (right (f SnpRespUC) _ (right (f SnpRespSC) _ (right (f SnpRespI) _ h)))
+each_answer f h SnpRespDataSC = left (f SnpRespDataSC) _ (right (f SnpRespDataI) _ (right (f SnpRespUC) _ (right (f SnpRespSC) _ (right (f SnpRespI) _ h))))
+each_answer f h SnpRespDataUC = left (f SnpRespDataUC) _ (right (f SnpRespDataSC) _ (right (f SnpRespDataI) _ (right (f SnpRespUC) _ (right (f SnpRespSC) _ (right (f SnpRespI) _ h)))))
+each_answer f h SnpRespDataUD = left (f SnpRespDataUD) _ (right (f SnpRespDataUC) _ (right (f SnpRespDataSC) _ (right (f SnpRespDataI) _ (right (f SnpRespUC) _ (right (f SnpRespSC) _ (right (f SnpRespI) _ h))))))
+each_answer f h SnpRespDataSD = left (f SnpRespDataSD) _ (right (f SnpRespDataUD) _ (right (f SnpRespDataUC) _ (right (f SnpRespDataSC) _ (right (f SnpRespDataI) _ (right (f SnpRespUC) _ (right (f SnpRespSC) _ (right (f SnpRespI) _ h)))))))
+each_answer f h SnpRespDataIPD = left (f SnpRespDataIPD) _ (right (f SnpRespDataSD) _ (right (f SnpRespDataUD) _ (right (f SnpRespDataUC) _ (right (f SnpRespDataSC) _ (right (f SnpRespDataI) _ (right (f SnpRespUC) _ (right (f SnpRespSC) _ (right (f SnpRespI) _ h))))))))
+each_answer f h SnpRespDataSCPD = left (f SnpRespDataSCPD) _ (right (f SnpRespDataIPD) _ (right (f SnpRespDataSD) _ (right (f SnpRespDataUD) _ (right (f SnpRespDataUC) _ (right (f SnpRespDataSC) _ (right (f SnpRespDataI) _ (right (f SnpRespUC) _ (right (f SnpRespSC) _ (right (f SnpRespI) _ h)))))))))
+each_answer f h SnpRespDataUCPD = right (f SnpRespDataSCPD) _ (right (f SnpRespDataIPD) _ (right (f SnpRespDataSD) _ (right (f SnpRespDataUD) _ (right (f SnpRespDataUC) _ (right (f SnpRespDataSC) _ (right (f SnpRespDataI) _ (right (f SnpRespUC) _ (right (f SnpRespSC) _ (right (f SnpRespI) _ h)))))))))
 
 abbrev pub all_dues : (Due → Bool) → Bool
-all_dues f = f Nothing && (all_kinds (λ k. f (Completion k)) && (all_kinds (λ k. f (Resending k)) && (all_kinds (λ k. f (SureCompletion k)) && (all_kinds (λ k. f (WriteData k)) && f Acknowledgement))))
+all_dues f = f Nothing && (all_kinds (λ k. f (Completion k)) && (all_kinds (λ k. f (Resending k)) && (all_kinds (λ k. f (SureCompletion k)) && (all_kinds (λ k. f (WriteData k)) && (f Acknowledgement)))))
 
 pub each_due : (f : Due → Bool) → all_dues f ≡ true → (x : Due) → f x ≡ true
 each_due f h Nothing = left (f Nothing) _ h
@@ -134,26 +149,17 @@ each_due f h (SureCompletion k) = each_kind (λ k. f (SureCompletion k)) (left (
 each_due f h (WriteData k) = each_kind (λ k. f (WriteData k)) (left (all_kinds (λ k. f (WriteData k))) _ (right (all_kinds (λ k. f (SureCompletion k))) _ (right (all_kinds (λ k. f (Resending k))) _ (right (all_kinds (λ k. f (Completion k))) _ (right (f Nothing) _ h))))) k
 each_due f h Acknowledgement = right (all_kinds (λ k. f (WriteData k))) _ (right (all_kinds (λ k. f (SureCompletion k))) _ (right (all_kinds (λ k. f (Resending k))) _ (right (all_kinds (λ k. f (Completion k))) _ (right (f Nothing) _ h))))
 
-abbrev pub all_acts : (Act → Bool) → Bool
-all_acts f = all_kinds (λ k. f (Request k)) && (all_kinds (λ k. f (Resend k)) && (all_answers (λ a. f (SnpResp a)) && (f CompAck && all_forms (λ s. f (CopyBackWrData s)))))
-
-pub each_act : (f : Act → Bool) → all_acts f ≡ true → (x : Act) → f x ≡ true
-each_act f h (Request k) = each_kind (λ k. f (Request k)) (left (all_kinds (λ k. f (Request k))) _ h) k
-each_act f h (Resend k) = each_kind (λ k. f (Resend k)) (left (all_kinds (λ k. f (Resend k))) _ (right (all_kinds (λ k. f (Request k))) _ h)) k
-each_act f h (SnpResp a) = each_answer (λ a. f (SnpResp a)) (left (all_answers (λ a. f (SnpResp a))) _ (right (all_kinds (λ k. f (Resend k))) _ (right (all_kinds (λ k. f (Request k))) _ h))) a
-each_act f h CompAck = left (f CompAck) _ (right (all_answers (λ a. f (SnpResp a))) _ (right (all_kinds (λ k. f (Resend k))) _ (right (all_kinds (λ k. f (Request k))) _ h)))
-each_act f h (CopyBackWrData s) = each_form (λ s. f (CopyBackWrData s)) (right (f CompAck) _ (right (all_answers (λ a. f (SnpResp a))) _ (right (all_kinds (λ k. f (Resend k))) _ (right (all_kinds (λ k. f (Request k))) _ h)))) s
-
 abbrev pub all_grants : (Grant → Bool) → Bool
-all_grants f = f RetryAck && (all_snoops (λ x. f (Snp x)) && (all_forms (λ s. f (CompData s)) && (f CompUC && (f CompI && f CompDBIDResp))))
+all_grants f = f RetryAck && (all_snoops (λ x. f (Snp x)) && (all_forms (λ s. f (CompData s)) && (f CompUC && (f CompSC && (f CompI && (f CompDBIDResp))))))
 
 pub each_grant : (f : Grant → Bool) → all_grants f ≡ true → (x : Grant) → f x ≡ true
 each_grant f h RetryAck = left (f RetryAck) _ h
 each_grant f h (Snp x) = each_snoop (λ x. f (Snp x)) (left (all_snoops (λ x. f (Snp x))) _ (right (f RetryAck) _ h)) x
 each_grant f h (CompData s) = each_form (λ s. f (CompData s)) (left (all_forms (λ s. f (CompData s))) _ (right (all_snoops (λ x. f (Snp x))) _ (right (f RetryAck) _ h))) s
 each_grant f h CompUC = left (f CompUC) _ (right (all_forms (λ s. f (CompData s))) _ (right (all_snoops (λ x. f (Snp x))) _ (right (f RetryAck) _ h)))
-each_grant f h CompI = left (f CompI) _ (right (f CompUC) _ (right (all_forms (λ s. f (CompData s))) _ (right (all_snoops (λ x. f (Snp x))) _ (right (f RetryAck) _ h))))
-each_grant f h CompDBIDResp = right (f CompI) _ (right (f CompUC) _ (right (all_forms (λ s. f (CompData s))) _ (right (all_snoops (λ x. f (Snp x))) _ (right (f RetryAck) _ h))))
+each_grant f h CompSC = left (f CompSC) _ (right (f CompUC) _ (right (all_forms (λ s. f (CompData s))) _ (right (all_snoops (λ x. f (Snp x))) _ (right (f RetryAck) _ h))))
+each_grant f h CompI = left (f CompI) _ (right (f CompSC) _ (right (f CompUC) _ (right (all_forms (λ s. f (CompData s))) _ (right (all_snoops (λ x. f (Snp x))) _ (right (f RetryAck) _ h)))))
+each_grant f h CompDBIDResp = right (f CompI) _ (right (f CompSC) _ (right (f CompUC) _ (right (all_forms (λ s. f (CompData s))) _ (right (all_snoops (λ x. f (Snp x))) _ (right (f RetryAck) _ h)))))
 
 abbrev pub all_bools : (Bool → Bool) → Bool
 all_bools f = f true && f false
@@ -173,63 +179,3 @@ all_knowns f = all_bools (λ c. all_tolds (λ t. f (record { told = t; cancelled
 
 pub each_known : (f : Known → Bool) → all_knowns f ≡ true → (x : Known) → f x ≡ true
 each_known f h x = each_told (λ t. f (record { told = t; cancelled = x.cancelled })) (each_bool (λ c. all_tolds (λ t. f (record { told = t; cancelled = c }))) h x.cancelled) x.told
-
-abbrev pub all_spots : (Act → Due → Known → Held → Bool → Bool) → Bool
-all_spots f = all_acts (λ a. all_dues (λ d. all_knowns (λ k. all_helds (λ h. all_bools (λ b. f a d k h b)))))
-
-pub each_spot : (f : Act → Due → Known → Held → Bool → Bool) → all_spots f ≡ true → (a : Act) → (d : Due) → (k : Known) → (h : Held) → (b : Bool) → f a d k h b ≡ true
-each_spot f e a d k h b = each_bool (λ b. f a d k h b) (each_held (λ h. all_bools (λ b. f a d k h b)) (each_known (λ k. all_helds (λ h. all_bools (λ b. f a d k h b))) (each_due (λ d. all_knowns (λ k. all_helds (λ h. all_bools (λ b. f a d k h b)))) (each_act (λ a. all_dues (λ d. all_knowns (λ k. all_helds (λ h. all_bools (λ b. f a d k h b))))) e a) d) k) h) b
-
-abbrev pub all_sent : (Act → Due → Held → Bool) → Bool
-all_sent f = all_acts (λ a. all_dues (λ d. all_helds (λ h. f a d h)))
-
-pub each_sent : (f : Act → Due → Held → Bool) → all_sent f ≡ true → (a : Act) → (d : Due) → (h : Held) → f a d h ≡ true
-each_sent f e a d h = each_held (λ h. f a d h) (each_due (λ d. all_helds (λ h. f a d h)) (each_act (λ a. all_dues (λ d. all_helds (λ h. f a d h))) e a) d) h
-
-abbrev pub all_told_spots : (Act → Due → Known → Told → Bool) → Bool
-all_told_spots f = all_acts (λ a. all_dues (λ d. all_knowns (λ k. all_tolds (λ u. f a d k u))))
-
-pub each_told_spot : (f : Act → Due → Known → Told → Bool) → all_told_spots f ≡ true → (a : Act) → (d : Due) → (k : Known) → (u : Told) → f a d k u ≡ true
-each_told_spot f e a d k u = each_told (λ u. f a d k u) (each_known (λ k. all_tolds (λ u. f a d k u)) (each_due (λ d. all_knowns (λ k. all_tolds (λ u. f a d k u))) (each_act (λ a. all_dues (λ d. all_knowns (λ k. all_tolds (λ u. f a d k u)))) e a) d) k) u
-
-abbrev pub all_act_tolds : (Act → Due → Known → Bool) → Bool
-all_act_tolds f = all_acts (λ a. all_dues (λ d. all_knowns (λ k. f a d k)))
-
-pub each_act_told : (f : Act → Due → Known → Bool) → all_act_tolds f ≡ true → (a : Act) → (d : Due) → (k : Known) → f a d k ≡ true
-each_act_told f e a d k = each_known (λ k. f a d k) (each_due (λ d. all_knowns (λ k. f a d k)) (each_act (λ a. all_dues (λ d. all_knowns (λ k. f a d k))) e a) d) k
-
-abbrev pub all_due_copies : (Due → Known → Held → Bool) → Bool
-all_due_copies f = all_dues (λ d. all_knowns (λ k. all_helds (λ h. f d k h)))
-
-pub each_due_copy : (f : Due → Known → Held → Bool) → all_due_copies f ≡ true → (d : Due) → (k : Known) → (h : Held) → f d k h ≡ true
-each_due_copy f e d k h = each_held (λ h. f d k h) (each_known (λ k. all_helds (λ h. f d k h)) (each_due (λ d. all_knowns (λ k. all_helds (λ h. f d k h))) e d) k) h
-
-abbrev pub all_pairs : (Told → Told → Copy → Copy → Bool) → Bool
-all_pairs f = all_tolds (λ t. all_tolds (λ u. all_copies (λ s. all_copies (λ r. f t u s r))))
-
-pub each_pair : (f : Told → Told → Copy → Copy → Bool) → all_pairs f ≡ true → (t : Told) → (u : Told) → (s : Copy) → (r : Copy) → f t u s r ≡ true
-each_pair f e t u s r = each_copy (λ r. f t u s r) (each_copy (λ s. all_copies (λ r. f t u s r)) (each_told (λ u. all_copies (λ s. all_copies (λ r. f t u s r))) (each_told (λ t. all_tolds (λ u. all_copies (λ s. all_copies (λ r. f t u s r)))) e t) u) s) r
-
-abbrev pub all_told_pairs : (Told → Told → Bool) → Bool
-all_told_pairs f = all_tolds (λ t. all_tolds (λ u. f t u))
-
-pub each_told_pair : (f : Told → Told → Bool) → all_told_pairs f ≡ true → (t : Told) → (u : Told) → f t u ≡ true
-each_told_pair f e t u = each_told (λ u. f t u) (each_told (λ t. all_tolds (λ u. f t u)) e t) u
-
-abbrev pub all_copy_pairs : (Copy → Copy → Bool) → Bool
-all_copy_pairs f = all_copies (λ s. all_copies (λ r. f s r))
-
-pub each_copy_pair : (f : Copy → Copy → Bool) → all_copy_pairs f ≡ true → (s : Copy) → (r : Copy) → f s r ≡ true
-each_copy_pair f e s r = each_copy (λ r. f s r) (each_copy (λ s. all_copies (λ r. f s r)) e s) r
-
-abbrev pub all_gifts : (Grant → Due → Option Snoop → Known → Held → Bool) → Bool
-all_gifts f = all_grants (λ g. all_dues (λ d. all_snooped (λ q. all_knowns (λ k. all_helds (λ h. f g d q k h)))))
-
-pub each_gift : (f : Grant → Due → Option Snoop → Known → Held → Bool) → all_gifts f ≡ true → (g : Grant) → (d : Due) → (q : Option Snoop) → (k : Known) → (h : Held) → f g d q k h ≡ true
-each_gift f e g d q k h = each_held (λ h. f g d q k h) (each_known (λ k. all_helds (λ h. f g d q k h)) (each_snooped (λ q. all_knowns (λ k. all_helds (λ h. f g d q k h))) (each_due (λ d. all_snooped (λ q. all_knowns (λ k. all_helds (λ h. f g d q k h)))) (each_grant (λ g. all_dues (λ d. all_snooped (λ q. all_knowns (λ k. all_helds (λ h. f g d q k h))))) e g) d) q) k) h
-
-abbrev pub all_told_gifts : (Grant → Due → Option Snoop → Known → Bool) → Bool
-all_told_gifts f = all_grants (λ g. all_dues (λ d. all_snooped (λ q. all_knowns (λ k. f g d q k))))
-
-pub each_told_gift : (f : Grant → Due → Option Snoop → Known → Bool) → all_told_gifts f ≡ true → (g : Grant) → (d : Due) → (q : Option Snoop) → (k : Known) → f g d q k ≡ true
-each_told_gift f e g d q k = each_known (λ k. f g d q k) (each_snooped (λ q. all_knowns (λ k. f g d q k)) (each_due (λ d. all_snooped (λ q. all_knowns (λ k. f g d q k))) (each_grant (λ g. all_dues (λ d. all_snooped (λ q. all_knowns (λ k. f g d q k)))) e g) d) q) k

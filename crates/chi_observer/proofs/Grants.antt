@@ -1,7 +1,7 @@
 -- The tables of the home's flits fit the others.
 use Rattle.std.proofs.Common.{◌≡◌, refl, sym}
-use Rattle.std.specs.Prelude.{Bool, true, false, ◌&&◌, not, Option}
-use Rattle.chi_flit.specs.declared.snoop.Snoop.{Snoop}
+use Rattle.std.specs.Prelude.{Bool, true, false, ◌&&◌, not, Option, if◌then◌else◌}
+use Rattle.chi_observer.specs.declared.kinds.Snoop.{Snoop}
 use Rattle.chi_observer.specs.declared.told.Told.{Told}
 use Rattle.chi_observer.specs.declared.told.Told.TheVariants.{I, SCOrI, UC, UCOrUCE, SD}
 use Rattle.chi_observer.specs.declared.flits.Due.{Due}
@@ -9,29 +9,30 @@ use Rattle.chi_observer.specs.declared.flits.Grant.{Grant}
 use Rattle.chi_observer.specs.declared.flits.Grant.TheVariants.{CompData, CompUC}
 use Rattle.chi_observer.specs.Copies.{Copy, Held, holds_data, is_unique, same, compatible}
 use Rattle.chi_observer.specs.Copies.Copy.{Invalid, SharedClean, UniqueClean, UniqueEmpty, UniqueDirty, SharedDirty}
-use Rattle.chi_observer.specs.Rules.{is_due, due_granted, copy_granted, granted, fills}
+use Rattle.chi_observer.specs.Rules.{is_due, is_upgraded, due_granted, copy_granted, granted, fills}
 use Rattle.chi_observer.specs.Tables.{Known, strongest, most, reach, fresh, goes_with, told_granted, fills_told}
-use Rattle.chi_observer.proofs.Finite.{no, implies, follow, all_gifts, each_gift, all_told_gifts, each_told_gift, all_told_pairs, each_told_pair}
+use Rattle.chi_observer.proofs.Finite.{no, left, right, implies, follow}
+use Rattle.chi_observer.proofs.Spots.{all_gifts, held_gifts, each_gift, told_gifts, each_told_gift, all_told_pairs, each_told_pair}
 use Rattle.chi_observer.proofs.Facts.{turned, same_truth, same_is, same_held, of_form, is_settled}
 
 -- forward
 abbrev pub given_well : Grant → Due → Option Snoop → Known → Held → Bool
-given_well g d q t s = reach (due_granted g d) (told_granted g t) (granted g s)
-    && (implies (fresh d t s) (fresh (due_granted g d) (told_granted g t) (granted g s))
+given_well g d q t s = reach (due_granted g d) (told_granted g d t) (granted g d s)
+    && (implies (fresh d t s) (fresh (due_granted g d) (told_granted g d t) (granted g d s))
     && (same_truth (fills_told g t) (fills g s)
-    && (implies (holds_data (granted g s).copy && not (fills g s)) (holds_data s.copy)
+    && (implies (holds_data (granted g d s).copy && not (fills g s)) (holds_data s.copy)
     && implies (fills g s) (not (fresh d t s)))))
 
 given_table : Grant → Due → Option Snoop → Known → Held → Bool
-given_table g d q t s = implies (is_due g d q && reach d t s) (given_well g d q t s)
+given_table g d q t s = implies (reach d t s) (given_well g d q t s)
 
-given_holds : all_gifts given_table ≡ true
+given_holds : all_gifts (held_gifts given_table) ≡ true
 unfolding given_table
 given_holds = refl
 
 pub given : (g : Grant) (d : Due) (q : Option Snoop) (t : Known) (s : Held) → (is_due g d q && reach d t s) ≡ true → given_well g d q t s ≡ true
 unfolding given_table
-given g d q t s = follow _ _ (each_gift given_table given_holds g d q t s)
+given g d q t s h = follow _ _ (each_gift given_table given_holds g d q (left _ _ h) t s) (right (is_due g d q) _ h)
 
 -- and back: the copy before
 abbrev pub empty_before : Told → Copy
@@ -48,29 +49,33 @@ abbrev pub dirty_before : Told → Copy
 dirty_before SD = SharedDirty
 dirty_before other = UniqueDirty
 
-abbrev pub form_before : Grant → Told → Copy → Copy
-form_before (CompData form) t s' = strongest t
-form_before CompUC t UniqueEmpty = empty_before t
-form_before CompUC t UniqueClean = clean_before t
-form_before CompUC t UniqueDirty = dirty_before t
-form_before other t s' = s'
+abbrev pub upgraded_from : Told → Copy → Copy
+upgraded_from t UniqueEmpty = empty_before t
+upgraded_from t UniqueClean = clean_before t
+upgraded_from t UniqueDirty = dirty_before t
+upgraded_from t s' = s'
 
-abbrev pub granted_before : Grant → Known → Held → Held
-granted_before g t s' = of_form (form_before g t.told s'.copy) s'
+abbrev pub form_before : Grant → Due → Told → Copy → Copy
+form_before (CompData form) d t s' = strongest t
+form_before CompUC d t s' = if is_upgraded d then upgraded_from t s' else s'
+form_before other d t s' = s'
+
+abbrev pub granted_before : Grant → Due → Known → Held → Held
+granted_before g d t s' = of_form (form_before g d t.told s'.copy) s'
 
 abbrev pub got_to : Grant → Due → Option Snoop → Known → Held → Bool
-got_to g d q t s' = is_due g d q && (reach (due_granted g d) (told_granted g t) s' && is_settled (due_granted g d) (told_granted g t) s')
+got_to g d q t s' = reach (due_granted g d) (told_granted g d t) s' && is_settled (due_granted g d) (told_granted g d t) s'
 
 got_table : Grant → Due → Option Snoop → Known → Held → Bool
-got_table g d q t s' = implies (got_to g d q t s') (reach d t (granted_before g t s') && same_held s' (granted g (granted_before g t s')))
+got_table g d q t s' = implies (got_to g d q t s') (reach d t (granted_before g d t s') && same_held s' (granted g d (granted_before g d t s')))
 
-got_holds : all_gifts got_table ≡ true
+got_holds : all_gifts (held_gifts got_table) ≡ true
 unfolding got_table
 got_holds = refl
 
-pub got : (g : Grant) (d : Due) (q : Option Snoop) (t : Known) (s' : Held) → got_to g d q t s' ≡ true → (reach d t (granted_before g t s') && same_held s' (granted g (granted_before g t s'))) ≡ true
+pub got : (g : Grant) (d : Due) (q : Option Snoop) (t : Known) (s' : Held) → is_due g d q ≡ true → got_to g d q t s' ≡ true → (reach d t (granted_before g d t s') && same_held s' (granted g d (granted_before g d t s'))) ≡ true
 unfolding got_table
-got g d q t s' = follow _ _ (each_gift got_table got_holds g d q t s')
+got g d q t s' h = follow _ _ (each_gift got_table got_holds g d q h t s')
 
 -- beside any copy none is told to be unique
 lone_table : Told → Told → Bool
@@ -89,36 +94,36 @@ lone t u h c = turned _ (follow _ _ (each_told_pair lone_table lone_holds t.told
     join false b h e = e
 
 keeps_table : Grant → Due → Option Snoop → Known → Bool
-keeps_table g d q t = implies (same (most t) UniqueDirty) (same (most (told_granted g t)) UniqueDirty)
+keeps_table g d q t = implies (same (most t) UniqueDirty) (same (most (told_granted g d t)) UniqueDirty)
 
-keeps_holds : all_told_gifts keeps_table ≡ true
+keeps_holds : all_gifts (told_gifts keeps_table) ≡ true
 unfolding keeps_table
 keeps_holds = refl
 
-pub keeps_dirty : (g : Grant) (d : Due) (q : Option Snoop) (t : Known) → same (most t) UniqueDirty ≡ true → same (most (told_granted g t)) UniqueDirty ≡ true
+pub keeps_dirty : (g : Grant) (d : Due) (q : Option Snoop) (t : Known) → is_due g d q ≡ true → same (most t) UniqueDirty ≡ true → same (most (told_granted g d t)) UniqueDirty ≡ true
 unfolding keeps_table
-keeps_dirty g d q t = follow _ _ (each_told_gift keeps_table keeps_holds g d q t)
+keeps_dirty g d q t h = follow _ _ (each_told_gift keeps_table keeps_holds g d q h t)
 
 -- data leave a copy
 filled_table : Grant → Due → Option Snoop → Known → Bool
-filled_table g d q t = implies (is_due g d q && fills_told g t) (not (same (most (told_granted g t)) Invalid))
+filled_table g d q t = implies (fills_told g t) (not (same (most (told_granted g d t)) Invalid))
 
-filled_holds : all_told_gifts filled_table ≡ true
+filled_holds : all_gifts (told_gifts filled_table) ≡ true
 unfolding filled_table
 filled_holds = refl
 
-pub filled : (g : Grant) (d : Due) (q : Option Snoop) (t : Known) → (is_due g d q && fills_told g t) ≡ true → same (most (told_granted g t)) Invalid ≡ false
+pub filled : (g : Grant) (d : Due) (q : Option Snoop) (t : Known) → is_due g d q ≡ true → fills_told g t ≡ true → same (most (told_granted g d t)) Invalid ≡ false
 unfolding filled_table
-filled g d q t h = turned _ (follow _ _ (each_told_gift filled_table filled_holds g d q t) h)
+filled g d q t c h = turned _ (follow _ _ (each_told_gift filled_table filled_holds g d q c t) h)
 
 -- the strongest copy becomes the strongest
 most_table : Grant → Due → Option Snoop → Known → Bool
-most_table g d q t = same (copy_granted g (most t)) (most (told_granted g t))
+most_table g d q t = same (copy_granted g d (most t)) (most (told_granted g d t))
 
-most_holds : all_told_gifts most_table ≡ true
+most_holds : all_gifts (told_gifts most_table) ≡ true
 unfolding most_table
 most_holds = refl
 
-pub most_granted : (g : Grant) (d : Due) (q : Option Snoop) (t : Known) → copy_granted g (most t) ≡ most (told_granted g t)
+pub most_granted : (g : Grant) (d : Due) (q : Option Snoop) (t : Known) → is_due g d q ≡ true → copy_granted g d (most t) ≡ most (told_granted g d t)
 unfolding most_table
-most_granted g d q t = same_is _ _ (each_told_gift most_table most_holds g d q t)
+most_granted g d q t h = same_is _ _ (each_told_gift most_table most_holds g d q h t)

@@ -19,7 +19,7 @@ value_cases : (e : Bool) (x : List ℕ) (o : Option (List ℕ)) (v : List ℕ) �
 value_cases true x o v h = inl (refl, some_is x v h)
 value_cases false x o v h = inr (refl, h)
 
-module _ (o : Observed) (g : HomeFlit) (w w' : World) (sound : Sound o) (low : g.agent.0 < 32) (takes : takes_home o g ≡ true) (m : Meaning o w) (informed : Informed g w) (gives : Gives g w w') where
+module _ (o : Observed) (g : HomeFlit) (w w' : World) (sound : Sound o) (low : g.agent.0 < 32) (takes : takes_home o g ≡ true) (m : Meaning o w) (informed : Informed g w) (gives : Gives o.public g w w') where
   abbrev n : ℕ
   n = g.agent.0
 
@@ -36,7 +36,7 @@ module _ (o : Observed) (g : HomeFlit) (w w' : World) (sound : Sound o) (low : g
   d' = due_granted g.grant d
 
   abbrev t' : Known
-  t' = told_granted g.grant t
+  t' = told_granted g.grant d t
 
   may : home_may o.public g ≡ true
   may = left _ _ takes

@@ -1,4 +1,5 @@
 mod Finite
+mod Spots
 mod Facts
 mod Grants
 mod Words

@@ -4,7 +4,7 @@ use Rattle.std.proofs.Math.Path.{fun_ext}
 use Rattle.std.proofs.lemmas.List.{get_or-set_other}
 use Rattle.std.proofs.lemmas.Grind.{get_or-set_at}
 use Rattle.std.specs.Prelude.{replicate, Bool, true, false, ◌&&◌, ◌||◌, not, Option, Some, None, if◌then◌else◌}
-use Rattle.chi_flit.specs.declared.snoop.Snoop.{Snoop}
+use Rattle.chi_observer.specs.declared.kinds.Snoop.{Snoop}
 use Rattle.chi_observer.specs.declared.flits.Due.{Due}
 use Rattle.chi_observer.specs.declared.flits.CacheFlit.{CacheFlit}
 use Rattle.chi_observer.specs.declared.flits.HomeFlit.{HomeFlit}
@@ -105,3 +105,8 @@ pub all_stand : (a f h r c x : Bool) → (a && f) ≡ true → (h && (not r && (
 all_stand true true h r c x e g = words_stand h r c x g
 all_stand true false h r c x e g = no e
 all_stand false f h r c x e g = no e
+
+pub stale : (a f h r c x : Bool) → h ≡ true → r ≡ false → c ≡ true → x ≡ false → false ≡ (a && (f && (not h || (r || (not c || x)))))
+stale true true h r c x hh hr hc hx = sym (λ i. not (hh i) || (hr i || (not (hc i) || hx i)))
+stale true false h r c x hh hr hc hx = refl
+stale false f h r c x hh hr hc hx = refl

@@ -31,13 +31,13 @@ module _ (o : Observed) (g : HomeFlit) (w2 : World) (sound : Sound o) (low : g.a
   d' = due_granted g.grant d
 
   abbrev t' : Known
-  t' = told_granted g.grant t
+  t' = told_granted g.grant d t
 
   abbrev s2 : Held
   s2 = w2.state n
 
   abbrev was : Held
-  was = granted_before g.grant t s2
+  was = granted_before g.grant d t s2
 
   abbrev old : World
   old = record { state = put n was w2.state; words = put n w2.last w2.words; last = w2.last; home = w2.home }
@@ -55,14 +55,14 @@ module _ (o : Observed) (g : HomeFlit) (w2 : World) (sound : Sound o) (low : g.a
   told_else k h lk = subst (λ x. reach x (o.told k) (w2.state k) ≡ true) (there n d' o.public.due k h)
       (subst (λ x. reach (put n d' o.public.due k) x (w2.state k) ≡ true) (there n t' o.told k h) (st.undone.told k lk))
 
-  facts : (reach d t was && same_held s2 (granted g.grant was)) ≡ true
-  facts = got g.grant d (o.public.snooped n) t s2 (both _ _ (fitting o g low allowed) (both _ _ reached topped))
+  facts : (reach d t was && same_held s2 (granted g.grant d was)) ≡ true
+  facts = got g.grant d (o.public.snooped n) t s2 (fitting o g low allowed) (both _ _ reached topped)
 
   old_reach : reach d t was ≡ true
   old_reach = left _ _ facts
 
-  gives : s2 ≡ granted g.grant was
-  gives = same_held_is s2 (granted g.grant was) (right (reach d t was) _ facts)
+  gives : s2 ≡ granted g.grant d was
+  gives = same_held_is s2 (granted g.grant d was) (right (reach d t was) _ facts)
 
   Quiet : Type 0
   Quiet = (k : ℕ) → k ≢ n → k < 32 → fresh (o.public.due k) (o.told k) (w2.state k) ≡ false
@@ -105,9 +105,9 @@ module _ (o : Observed) (g : HomeFlit) (w2 : World) (sound : Sound o) (low : g.a
   pub old_informed : Informed g old
   old_informed f = home_shown (fills_same o g low allowed was old_reach ∙ subst (λ x. fills g.grant x ≡ true) (here n was w2.state) f)
 
-  pub old_gives : Gives g old w2
+  pub old_gives : Gives o.public g old w2
   old_gives = record {
-    state = gives ∙ ap (granted g.grant) (sym (here n was w2.state));
+    state = gives ∙ ap (granted g.grant d) (sym (here n was w2.state));
     words = λ v. st.undone.words n low v ∙ subst (λ x. w2.last ≡ (if fills g.grant x then g.shown else put n w2.last w2.words n)) (sym (here n was w2.state)) (words_are (fills g.grant was) refl);
     last = refl;
     home = refl;
@@ -118,7 +118,7 @@ pub home_comes : MeaningComesByHome
 home_comes o g w' sound low takes m =
     let back = rewind (next_home o g) w' (home_kept o g sound low takes) m g.agent.0 low in
     record {
-      before = record { state = put g.agent.0 (granted_before g.grant (o.told g.agent.0) (back.before.state g.agent.0)) back.before.state; words = put g.agent.0 back.before.last back.before.words; last = back.before.last; home = back.before.home };
+      before = record { state = put g.agent.0 (granted_before g.grant (o.public.due g.agent.0) (o.told g.agent.0) (back.before.state g.agent.0)) back.before.state; words = put g.agent.0 back.before.last back.before.words; last = back.before.last; home = back.before.home };
       given = back.before;
       meant = old_meant o g back.before sound low takes back.settled;
       informed = old_informed o g back.before sound low takes back.settled;

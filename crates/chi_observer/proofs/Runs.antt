@@ -8,7 +8,7 @@ use Rattle.chi_observer.specs.Copies.{Held, holds_data}
 use Rattle.chi_observer.specs.Copies.Copy.{Invalid}
 use Rattle.chi_observer.specs.Rules.{plain}
 use Rattle.chi_observer.specs.Tables.{Known, reach, fresh}
-use Rattle.chi_observer.specs.Worlds.{World, Sends, Drift, IsSafe, public_after, public_granted}
+use Rattle.chi_observer.specs.Worlds.{World, Sends, Gives, Drift, IsSafe, public_after, public_granted}
 use Rattle.chi_observer.specs.Worlds.Drift.{Stay, Step}
 use Rattle.chi_observer.specs.Observed.{Observed, Sound, Meaning, next, next_home}
 use Rattle.chi_observer.specs.Runs.{public_of, seen, LegalIsAccepted, AcceptedIsLegal, AcceptedIsExact, AcceptedIsCoherent}
@@ -74,9 +74,9 @@ exact (Down g ∷ es) a =
       sound = sound;
       public = same_public;
       meant = λ w h. drifts (next_home (seen es) g) h.1 w sound (subst (λ p. Drift p h.1 w) (sym same_public) h.5)
-          (home_leads (seen es) g h.0 h.1 e.sound a.1 a.2 (e.meant h.0 h.2) h.3 h.4);
+          (home_leads (seen es) g h.0 h.1 e.sound a.1 a.2 (e.meant h.0 h.2) h.3 (subst (λ p. Gives p g h.0 h.1) (sym e.public) h.4));
       after = λ w m. let c = home_comes (seen es) g w e.sound a.1 a.2 m in
-          (c.before, c.given, e.after c.before c.meant, c.informed, c.gives, subst (λ p. Drift p c.given w) same_public c.drifts);
+          (c.before, c.given, e.after c.before c.meant, c.informed, subst (λ p. Gives p g c.before c.given) e.public c.gives, subst (λ p. Drift p c.given w) same_public c.drifts);
     }
 
 pub coherent_after : AcceptedIsCoherent
@@ -86,13 +86,14 @@ pub accepted : LegalIsAccepted
 accepted [] l = l
 accepted (Up f ∷ es) l =
     let a = accepted es l.0 in let e = exact es a in let h = l.2.1 in
-    (a, l.1, taken (seen es) f h.0 h.1 e.sound l.1 (e.meant h.0 h.2) (subst (λ p. Sends p f h.0 h.1) (sym e.public) h.3))
+    (a, l.1, taken (seen es) f h.0 h.1 e.sound l.1 (e.meant h.0 h.2) (subst (λ p. Sends p f h.0 h.1) (sym e.public) h.3), l.3)
 accepted (Down g ∷ es) l =
     let a = accepted es l.0 in let e = exact es a in (
       a,
       l.1,
       safe_taken (seen es) g e.sound l.1 (record { world = l.2.0; meant = e.meant l.2.0 l.2.1; informed = l.2.2 })
           (λ w m i. subst (λ p. IsSafe p g w) (sym e.public) (l.3 w (e.after w m) i)),
+      l.4,
     )
 
 -- each copy the strongest that it is told
@@ -106,11 +107,12 @@ pub legal : AcceptedIsLegal
 legal [] a = a
 legal (Up f ∷ es) a =
     let e = exact (Up f ∷ es) a in let w = inhabited (seen (Up f ∷ es)) in
-    (legal es a.0, a.1, (w.0, e.after w.0 w.1))
+    (legal es a.0, a.1, (w.0, e.after w.0 w.1), a.3)
 legal (Down g ∷ es) a =
     let e = exact es a.0 in let i = home_possible (seen es) g e.sound a.1 a.2 in (
       legal es a.0,
       a.1,
       (i.world, e.after i.world i.meant, i.informed),
       λ w h i. subst (λ p. IsSafe p g w) e.public (home_safe (seen es) g w e.sound a.1 a.2 (e.meant w h) i),
+      a.3,
     )

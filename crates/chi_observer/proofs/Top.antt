@@ -5,7 +5,7 @@ use Rattle.chi_observer.specs.declared.flits.HomeFlit.{HomeFlit}
 use Rattle.chi_observer.specs.Copies.{Held, compatible}
 use Rattle.chi_observer.specs.Rules.{granted, fills}
 use Rattle.chi_observer.specs.Tables.{Known, most, goes_with, told_granted, fills_told}
-use Rattle.chi_observer.specs.Worlds.{World, Gives, IsSafe, Informed, home_may, put}
+use Rattle.chi_observer.specs.Worlds.{Public, World, Gives, IsSafe, Informed, home_may, put}
 use Rattle.chi_observer.specs.Observed.{Observed, Sound, Meaning, fits, goes, takes_home}
 use Rattle.chi_observer.specs.Laws.{SomeInformed, HomeFlitsArePossible, SafeFlitsAreTaken}
 use Rattle.chi_observer.proofs.Finite.{left, right, both}
@@ -15,17 +15,17 @@ use Rattle.chi_observer.proofs.Words.{or_words, top_value, fits_by}
 use Rattle.chi_observer.proofs.Copies.{below_all, fills_same}
 use Rattle.chi_observer.proofs.Put.{differ, here, there}
 
-gift : HomeFlit → World → World
-gift g w = record {
-  state = put g.agent.0 (granted g.grant (w.state g.agent.0)) w.state;
+gift : Public → HomeFlit → World → World
+gift p g w = record {
+  state = put g.agent.0 (granted g.grant (p.due g.agent.0) (w.state g.agent.0)) w.state;
   words = put g.agent.0 (if fills g.grant (w.state g.agent.0) then g.shown else w.words g.agent.0) w.words;
   last = w.last;
   home = w.home;
 }
 
-gift_gives : (g : HomeFlit) (w : World) → Gives g w (gift g w)
+gift_gives : (p : Public) (g : HomeFlit) (w : World) → Gives p g w (gift p g w)
 unfolding gift
-gift_gives g w = record {
+gift_gives p g w = record {
   state = here g.agent.0 _ w.state;
   words = λ _. here g.agent.0 _ w.words;
   last = refl;
@@ -91,11 +91,11 @@ module _ (o : Observed) (g : HomeFlit) (sound : Sound o) (low : g.agent.0 < 32) 
 
   all_go : goes o g ≡ true
   unfolding gift top top_words top_is best
-  all_go = below_all 32 (λ m. m == n || goes_with (told_granted g.grant t) (o.told m)) (λ m lm. or_right (m == n) _ (λ h.
+  all_go = below_all 32 (λ m. m == n || goes_with (told_granted g.grant (o.public.due n) t) (o.told m)) (λ m lm. or_right (m == n) _ (λ h.
       let e = differ m n h in
-      subst (λ x. compatible x (most (o.told m)) ≡ true) (ap (λ (z : Held). z.copy) (here n (granted g.grant (tops n)) tops) ∙ most_granted g.grant (o.public.due n) (o.public.snooped n) t)
-      (subst (λ (x : Held). compatible (put n (granted g.grant (tops n)) tops n).copy x.copy ≡ true) (there n (granted g.grant (tops n)) tops m e)
-      (((safe best.world best.meant best.informed).1 (gift g best.world) (gift_gives g best.world)).pairs n m low lm (λ x. e (sym x))))))
+      subst (λ x. compatible x (most (o.told m)) ≡ true) (ap (λ (z : Held). z.copy) (here n (granted g.grant (o.public.due n) (tops n)) tops) ∙ most_granted g.grant (o.public.due n) (o.public.snooped n) t (left _ _ may))
+      (subst (λ (x : Held). compatible (put n (granted g.grant (o.public.due n) (tops n)) tops n).copy x.copy ≡ true) (there n (granted g.grant (o.public.due n) (tops n)) tops m e)
+      (((safe best.world best.meant best.informed).1 (gift o.public g best.world) (gift_gives o.public g best.world)).pairs n m low lm (λ x. e (sym x))))))
 
   taken_home : takes_home o g ≡ true
   taken_home = both _ _ may (both _ _ fitting all_go)

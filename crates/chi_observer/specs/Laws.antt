@@ -38,7 +38,7 @@ abbrev pub HomeFlitsAreSafe : Type 0
 HomeFlitsAreSafe = (o : Observed) (g : HomeFlit) (w : World) → Sound o → g.agent.0 < 32 → takes_home o g ≡ true → Meaning o w → Informed g w → IsSafe o.public g w
 
 abbrev pub HomeFlitsLead : Type 0
-HomeFlitsLead = (o : Observed) (g : HomeFlit) (w w' : World) → Sound o → g.agent.0 < 32 → takes_home o g ≡ true → Meaning o w → Informed g w → Gives g w w' → Meaning (next_home o g) w'
+HomeFlitsLead = (o : Observed) (g : HomeFlit) (w w' : World) → Sound o → g.agent.0 < 32 → takes_home o g ≡ true → Meaning o w → Informed g w → Gives o.public g w w' → Meaning (next_home o g) w'
 
 pub record SomeInformed (o : Observed) (g : HomeFlit) : Type 0 where
   pub world : World
@@ -56,7 +56,7 @@ pub record ComesByHome (o : Observed) (g : HomeFlit) (w' : World) : Type 0 where
   pub given : World
   pub meant : Meaning o before
   pub informed : Informed g before
-  pub gives : Gives g before given
+  pub gives : Gives o.public g before given
   pub drifts : Drift (next_home o g).public given w'
 
 abbrev pub MeaningComesByHome : Type 0

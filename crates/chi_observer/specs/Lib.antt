@@ -1,4 +1,5 @@
 pub mod Copies
+pub mod Judged
 pub mod Rules
 pub mod Worlds
 pub mod Tables

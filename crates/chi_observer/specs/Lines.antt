@@ -1,5 +1,5 @@
 -- The code's observer as what is kept of a line; a flit of either side; reasons (docs/OBSERVER.md, "What is kept", "Faults").
-use Rattle.std.specs.Prelude.{ℕ, Bool, false, List, None, ◌&&◌, ◌||◌, ◌==◌, not, nat_lt}
+use Rattle.std.specs.Prelude.{ℕ, Bool, false, List, None, ◌&&◌, ◌||◌, ◌==◌, not, nat_lt, true, if◌then◌else◌}
 use Rattle.std.specs.List.{slice_index_or}
 use Rattle.chi_observer.specs.declared.told.Told.{Told}
 use Rattle.chi_observer.specs.declared.told.Told.TheVariants.{I}
@@ -13,8 +13,9 @@ use Rattle.chi_observer.specs.declared.flits.Flit.TheVariants.{Up, Down}
 use Rattle.chi_observer.specs.declared.observer.AgentSeen.{AgentSeen}
 use Rattle.chi_observer.specs.declared.observer.Observer.{Observer}
 use Rattle.chi_observer.specs.declared.observer.Reason.{Reason}
-use Rattle.chi_observer.specs.declared.observer.Reason.TheVariants.{NoAgent, NotSent, NotDue, Busy, NoDuty, OtherWords, OtherCopy}
+use Rattle.chi_observer.specs.declared.observer.Reason.TheVariants.{NotJudged, NoAgent, NotSent, NotDue, Busy, NoDuty, OtherWords, OtherCopy}
 use Rattle.chi_observer.specs.Copies.{compatible}
+use Rattle.chi_observer.specs.Judged.{is_judged}
 use Rattle.chi_observer.specs.Rules.{allows, due_after, snooped_after, is_due, needs_duty, needs_quiet, is_busy, due_granted, snooped_granted}
 use Rattle.chi_observer.specs.Tables.{Known, strongest, is_cancelled, told_behind, fits_told, told_by, cancelled_by, fills_told}
 use Rattle.chi_observer.specs.Worlds.{all_below}
@@ -38,15 +39,18 @@ observed s = record {
 }
 
 -- a flit of either side
+abbrev pub takes_flit : Observed → Flit → Bool
+takes_flit o (Up f) = nat_lt f.agent.0 32 && takes o f
+takes_flit o (Down g) = nat_lt g.agent.0 32 && takes_home o g
+
 abbrev pub is_taken : Observed → Flit → Bool
-is_taken o (Up f) = nat_lt f.agent.0 32 && takes o f
-is_taken o (Down g) = nat_lt g.agent.0 32 && takes_home o g
+is_taken o f = is_judged f && takes_flit o f
 
 abbrev pub after : Observed → Flit → Observed
 after o (Up f) = next o f
 after o (Down g) = next_home o g
 
--- which reasons hold
+-- which reasons hold of a flit that is judged
 abbrev pub is_sent_reason : Observed → CacheFlit → Reason → Bool
 is_sent_reason o f NoAgent = not (nat_lt f.agent.0 32)
 is_sent_reason o f NotSent = not (allows f.act (o.public.snooped f.agent.0) && fits_told f.act (o.public.due f.agent.0) (o.told f.agent.0))
@@ -62,16 +66,23 @@ is_given_reason o g OtherWords = fills_told g.grant (o.told g.agent.0) && not (f
 is_given_reason o g OtherCopy = not (goes o g)
 is_given_reason o g other = false
 
+abbrev pub is_judged_reason : Observed → Flit → Reason → Bool
+is_judged_reason o (Up f) r = is_sent_reason o f r
+is_judged_reason o (Down g) r = is_given_reason o g r
+
+abbrev pub is_unjudged : Reason → Bool
+is_unjudged NotJudged = true
+is_unjudged other = false
+
 abbrev pub is_reason : Observed → Flit → Reason → Bool
-is_reason o (Up f) r = is_sent_reason o f r
-is_reason o (Down g) r = is_given_reason o g r
+is_reason o f r = if is_judged f then is_judged_reason o f r else is_unjudged r
 
 -- one agent, behind a flit of its cache, and of the home to it
 abbrev pub agent_after : Act → AgentSeen → Bool → AgentSeen
 agent_after act a differ = record { told = told_behind act a.due a.told; cancelled = is_cancelled act a.due (known_of a) differ; due = due_after act a.due; snooped = snooped_after act a.snooped }
 
 abbrev pub agent_granted : Grant → AgentSeen → AgentSeen
-agent_granted grant a = record { told = told_by grant a.told; cancelled = cancelled_by grant a.cancelled; due = due_granted grant a.due; snooped = snooped_granted grant a.snooped }
+agent_granted grant a = record { told = told_by grant a.due a.told; cancelled = cancelled_by grant a.cancelled; due = due_granted grant a.due; snooped = snooped_granted grant a.snooped }
 
 abbrev pub is_quiet : List AgentSeen → Bool
 is_quiet agents = all_below 32 (λ m. not (is_busy (agent_of agents m).due))

@@ -66,7 +66,7 @@ next o f = record {
 -- A FLIT OF THE HOME
 -- no other copy is told to be what doesn't go with the agent's then
 abbrev pub goes : Observed → HomeFlit → Bool
-goes o g = all_below 32 (λ m. m == g.agent.0 || goes_with (told_granted g.grant (o.told g.agent.0)) (o.told m))
+goes o g = all_below 32 (λ m. m == g.agent.0 || goes_with (told_granted g.grant (o.public.due g.agent.0) (o.told g.agent.0)) (o.told m))
 
 abbrev pub takes_home : Observed → HomeFlit → Bool
 takes_home o g = home_may o.public g && ((not (fills_told g.grant (o.told g.agent.0)) || fits o.home g.shown) && goes o g)
@@ -74,7 +74,7 @@ takes_home o g = home_may o.public g && ((not (fills_told g.grant (o.told g.agen
 abbrev pub next_home : Observed → HomeFlit → Observed
 next_home o g = record {
   public = public_granted g o.public;
-  told = put g.agent.0 (told_granted g.grant (o.told g.agent.0)) o.told;
+  told = put g.agent.0 (told_granted g.grant (o.public.due g.agent.0) (o.told g.agent.0)) o.told;
   home = if fills_told g.grant (o.told g.agent.0) then Some g.shown else o.home;
   current = o.current;
 }

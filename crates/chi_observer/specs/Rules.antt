@@ -3,19 +3,18 @@
 use Rattle.std.specs.Prelude.{Bool, true, false, ◌&&◌, ◌||◌, not, Option, Some, None, if◌then◌else◌}
 use Rattle.chi_flit.specs.declared.state.State.{State}
 use Rattle.chi_flit.specs.declared.state.State.TheVariants.{I, SC, UC, UD, SD}
-use Rattle.chi_flit.specs.declared.snoop.Snoop.{Snoop}
-use Rattle.chi_flit.specs.declared.snoop.Snoop.TheVariants.{SnpUnique, SnpCleanInvalid}
-use Rattle.chi_flit.specs.declared.kind.Kind.{Kind}
-use Rattle.chi_flit.specs.declared.kind.Kind.TheVariants.{ReadNotSharedDirty, ReadShared, ReadUnique, CleanUnique, Evict, WriteBackFull, WriteCleanFull, WriteEvictFull}
-use Rattle.chi_flit.specs.Kind.{is_copy_back, gives_up}
+use Rattle.chi_observer.specs.declared.kinds.Snoop.{Snoop}
+use Rattle.chi_observer.specs.declared.kinds.Snoop.TheVariants.{SnpOnce, SnpCleanShared, SnpUnique, SnpCleanInvalid, SnpMakeInvalid}
+use Rattle.chi_observer.specs.declared.kinds.Kind.{Kind}
+use Rattle.chi_observer.specs.declared.kinds.Kind.TheVariants.{ReadNotSharedDirty, ReadShared, ReadClean, ReadOnce, ReadUnique, CleanUnique, MakeUnique, CleanShared, CleanInvalid, MakeInvalid, Evict, WriteBackFull, WriteCleanFull, WriteEvictFull, WriteUniqueFull}
 use Rattle.chi_observer.specs.declared.flits.Due.{Due}
 use Rattle.chi_observer.specs.declared.flits.Due.TheVariants.{Nothing, Completion, Resending, SureCompletion, WriteData, Acknowledgement}
 use Rattle.chi_observer.specs.declared.flits.Answer.{Answer}
-use Rattle.chi_observer.specs.declared.flits.Answer.TheVariants.{SnpRespI, SnpRespSC, SnpRespDataI, SnpRespDataSC, SnpRespDataSD, SnpRespDataIPD, SnpRespDataSCPD}
+use Rattle.chi_observer.specs.declared.flits.Answer.TheVariants.{SnpRespI, SnpRespSC, SnpRespUC, SnpRespDataI, SnpRespDataSC, SnpRespDataUC, SnpRespDataUD, SnpRespDataSD, SnpRespDataIPD, SnpRespDataSCPD, SnpRespDataUCPD}
 use Rattle.chi_observer.specs.declared.flits.Act.{Act}
-use Rattle.chi_observer.specs.declared.flits.Act.TheVariants.{Request, Resend, SnpResp, CompAck, CopyBackWrData}
+use Rattle.chi_observer.specs.declared.flits.Act.TheVariants.{Request, Resend, SnpResp, CompAck, CopyBackWrData, NonCopyBackWrData}
 use Rattle.chi_observer.specs.declared.flits.Grant.{Grant}
-use Rattle.chi_observer.specs.declared.flits.Grant.TheVariants.{RetryAck, Snp, CompData, CompUC, CompI, CompDBIDResp}
+use Rattle.chi_observer.specs.declared.flits.Grant.TheVariants.{RetryAck, Snp, CompData, CompUC, CompSC, CompI, CompDBIDResp}
 use Rattle.chi_observer.specs.Copies.{Copy, Held, copy_of, holds_data, is_dirty, is_clean, same}
 use Rattle.chi_observer.specs.Copies.Copy.{Invalid, SharedClean, UniqueClean, UniqueEmpty, UniqueDirty, SharedDirty}
 
@@ -24,12 +23,14 @@ use Rattle.chi_observer.specs.Copies.Copy.{Invalid, SharedClean, UniqueClean, Un
 abbrev pub is_issued_from : Kind → Copy → Bool
 is_issued_from ReadNotSharedDirty s = same s Invalid || same s UniqueEmpty
 is_issued_from ReadShared s = same s Invalid || same s UniqueEmpty
+is_issued_from ReadClean s = same s Invalid || same s UniqueEmpty
 is_issued_from ReadUnique s = not (same s UniqueClean || same s UniqueDirty)
 is_issued_from CleanUnique s = not (same s UniqueClean || same s UniqueDirty)
 is_issued_from Evict s = is_clean s
 is_issued_from WriteBackFull s = is_dirty s
 is_issued_from WriteCleanFull s = is_dirty s
 is_issued_from WriteEvictFull s = same s UniqueClean
+is_issued_from other s = false
 
 -- an Evict gives its copy up
 abbrev pub issued : Kind → Copy → Copy
@@ -39,41 +40,88 @@ issued other s = s
 abbrev pub same_kind : Kind → Kind → Bool
 same_kind ReadNotSharedDirty ReadNotSharedDirty = true
 same_kind ReadShared ReadShared = true
+same_kind ReadClean ReadClean = true
+same_kind ReadOnce ReadOnce = true
 same_kind ReadUnique ReadUnique = true
 same_kind CleanUnique CleanUnique = true
+same_kind MakeUnique MakeUnique = true
+same_kind CleanShared CleanShared = true
+same_kind CleanInvalid CleanInvalid = true
+same_kind MakeInvalid MakeInvalid = true
 same_kind Evict Evict = true
 same_kind WriteBackFull WriteBackFull = true
 same_kind WriteCleanFull WriteCleanFull = true
 same_kind WriteEvictFull WriteEvictFull = true
+same_kind WriteUniqueFull WriteUniqueFull = true
 same_kind a b = false
 
+-- copy-backs end with the write data of a copy, and leave none but for WriteCleanFull
+abbrev pub is_copy_back : Kind → Bool
+is_copy_back WriteBackFull = true
+is_copy_back WriteCleanFull = true
+is_copy_back WriteEvictFull = true
+is_copy_back other = false
+
+abbrev pub gives_up : Kind → Bool
+gives_up WriteBackFull = true
+gives_up WriteEvictFull = true
+gives_up other = false
+
 -- what a snoop lets a copy be left as
+abbrev pub is_none : State → Bool
+is_none I = true
+is_none other = false
+
+abbrev pub is_clean_form : State → Bool
+is_clean_form UD = false
+is_clean_form SD = false
+is_clean_form other = true
+
+abbrev pub is_shared_form : State → Bool
+is_shared_form UC = false
+is_shared_form UD = false
+is_shared_form other = true
+
 abbrev pub leaves : Snoop → State → Bool
-leaves SnpUnique I = true
-leaves SnpUnique other = false
-leaves SnpCleanInvalid I = true
-leaves SnpCleanInvalid other = false
-leaves other s = true
+leaves SnpOnce s = true
+leaves SnpCleanShared s = is_clean_form s
+leaves SnpUnique s = is_none s
+leaves SnpCleanInvalid s = is_none s
+leaves SnpMakeInvalid s = is_none s
+leaves other s = is_shared_form s
 
 -- what an answer says is left
 abbrev pub left_by : Answer → State
 left_by SnpRespI = I
 left_by SnpRespSC = SC
+left_by SnpRespUC = UC
 left_by SnpRespDataI = I
 left_by SnpRespDataSC = SC
+left_by SnpRespDataUC = UC
+left_by SnpRespDataUD = UD
 left_by SnpRespDataSD = SD
 left_by SnpRespDataIPD = I
 left_by SnpRespDataSCPD = SC
+left_by SnpRespDataUCPD = UC
+
+-- and is left, with what SnpResp_UC says of one without data too
+abbrev pub answered : Answer → Copy → Copy
+answered SnpRespUC s = s
+answered answer s = copy_of (left_by answer)
 
 -- the copies that it is given from: of a dirty one always with its data, and the duty to write them is kept or passed on
 abbrev pub is_answered_from : Answer → Copy → Bool
 is_answered_from SnpRespI s = not (is_dirty s)
 is_answered_from SnpRespSC s = is_clean s && holds_data s
+is_answered_from SnpRespUC s = same s UniqueClean || same s UniqueEmpty
 is_answered_from SnpRespDataI s = is_clean s && holds_data s
 is_answered_from SnpRespDataSC s = is_clean s && holds_data s
+is_answered_from SnpRespDataUC s = same s UniqueClean
+is_answered_from SnpRespDataUD s = same s UniqueDirty
 is_answered_from SnpRespDataSD s = is_dirty s
 is_answered_from SnpRespDataIPD s = is_dirty s
 is_answered_from SnpRespDataSCPD s = is_dirty s
+is_answered_from SnpRespDataUCPD s = same s UniqueDirty
 
 -- write data have the copy's own form, or that of no copy where it isn't dirty
 abbrev pub is_written_from : State → Copy → Bool
@@ -112,14 +160,15 @@ allows other q = true
 abbrev pub acts : Act → Due → Held → Option Held
 acts (Request kind) d h = if is_free d h && is_issued_from kind h.copy then Some (plain (issued kind h.copy)) else None
 acts (Resend kind) (Resending asked) h = if same_kind kind asked && not h.cancelled then Some h else None
-acts (SnpResp answer) d h = if is_answered_from answer h.copy then Some (record { copy = copy_of (left_by answer); cancelled = h.cancelled }) else None
+acts (SnpResp answer) d h = if is_answered_from answer h.copy then Some (record { copy = answered answer h.copy; cancelled = h.cancelled }) else None
 acts CompAck Acknowledgement h = Some h
-acts (CopyBackWrData form) (WriteData kind) h = if is_written_from form h.copy then Some (record { copy = copy_of (written kind form); cancelled = h.cancelled }) else None
+acts (CopyBackWrData form) (WriteData kind) h = if is_copy_back kind && is_written_from form h.copy then Some (record { copy = copy_of (written kind form); cancelled = h.cancelled }) else None
 acts a d h = None
 
 abbrev pub answer_has_data : Answer → Bool
 answer_has_data SnpRespI = false
 answer_has_data SnpRespSC = false
+answer_has_data SnpRespUC = false
 answer_has_data other = true
 
 abbrev pub form_has_data : State → Bool
@@ -132,6 +181,7 @@ has_data (Resend kind) = false
 has_data (SnpResp answer) = answer_has_data answer
 has_data CompAck = false
 has_data (CopyBackWrData form) = form_has_data form
+has_data NonCopyBackWrData = false
 
 -- what is due then, and which snoop isn't answered
 abbrev pub due_after : Act → Due → Due
@@ -140,6 +190,7 @@ due_after (Resend kind) d = SureCompletion kind
 due_after (SnpResp answer) d = d
 due_after CompAck d = Nothing
 due_after (CopyBackWrData form) d = Nothing
+due_after NonCopyBackWrData d = Nothing
 
 abbrev pub snooped_after : Act → Option Snoop → Option Snoop
 snooped_after (SnpResp answer) q = None
@@ -149,6 +200,7 @@ snooped_after other q = q
 abbrev pub answer_passes : Answer → Bool
 answer_passes SnpRespDataIPD = true
 answer_passes SnpRespDataSCPD = true
+answer_passes SnpRespDataUCPD = true
 answer_passes other = false
 
 abbrev pub form_passes : State → Bool
@@ -171,6 +223,8 @@ completes ReadShared SC = true
 completes ReadShared UC = true
 completes ReadShared UD = true
 completes ReadShared SD = true
+completes ReadClean SC = true
+completes ReadClean UC = true
 completes ReadUnique UC = true
 completes ReadUnique UD = true
 completes kind form = false
@@ -188,6 +242,7 @@ abbrev pub is_due : Grant → Due → Option Snoop → Bool
 is_due RetryAck (Completion kind) q = true
 is_due RetryAck other q = false
 is_due (Snp snoop) d None = true
+is_due (Snp snoop) d (Some other) = false
 is_due g (Completion kind) q = is_completed g kind q
 is_due g (SureCompletion kind) q = is_completed g kind q
 is_due g d q = false
@@ -217,14 +272,20 @@ upgraded SharedClean = UniqueClean
 upgraded SharedDirty = UniqueDirty
 upgraded s = s
 
--- the copy of its agent then: data leave a dirty one as it is, but unique
-abbrev pub copy_granted : Grant → Copy → Copy
-copy_granted (CompData form) s = if is_dirty s then UniqueDirty else copy_of form
-copy_granted CompUC s = upgraded s
-copy_granted other s = s
+-- it ends a CleanUnique
+abbrev pub is_upgraded : Due → Bool
+is_upgraded (Completion CleanUnique) = true
+is_upgraded (SureCompletion CleanUnique) = true
+is_upgraded other = false
 
-abbrev pub granted : Grant → Held → Held
-granted g h = record { copy = copy_granted g h.copy; cancelled = h.cancelled }
+-- the copy of its agent then: data leave a dirty one as it is, but unique
+abbrev pub copy_granted : Grant → Due → Copy → Copy
+copy_granted (CompData form) d s = if is_dirty s then UniqueDirty else copy_of form
+copy_granted CompUC d s = if is_upgraded d then upgraded s else s
+copy_granted other d s = s
+
+abbrev pub granted : Grant → Due → Held → Held
+granted g d h = record { copy = copy_granted g d h.copy; cancelled = h.cancelled }
 
 -- its words are the copy's then
 abbrev pub fills : Grant → Held → Bool
@@ -235,7 +296,8 @@ due_granted RetryAck (Completion kind) = Resending kind
 due_granted RetryAck d = d
 due_granted (Snp snoop) d = d
 due_granted (CompData form) d = Acknowledgement
-due_granted CompUC d = Acknowledgement
+due_granted CompUC d = if is_upgraded d then Acknowledgement else Nothing
+due_granted CompSC d = Nothing
 due_granted CompI d = Nothing
 due_granted CompDBIDResp (Completion kind) = WriteData kind
 due_granted CompDBIDResp (SureCompletion kind) = WriteData kind

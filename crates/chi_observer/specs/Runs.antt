@@ -5,6 +5,7 @@ use Rattle.chi_observer.specs.declared.flits.Due.TheVariants.{Nothing}
 use Rattle.chi_observer.specs.declared.flits.Flit.{Flit}
 use Rattle.chi_observer.specs.declared.flits.Flit.TheVariants.{Up, Down}
 use Rattle.chi_observer.specs.Copies.Copy.{Invalid}
+use Rattle.chi_observer.specs.Judged.{is_judged}
 use Rattle.chi_observer.specs.Rules.{plain}
 use Rattle.chi_observer.specs.Worlds.{Public, World, Coherent, Sends, Drift, Gives, Informed, IsSafe, public_after, public_granted}
 use Rattle.chi_observer.specs.Observed.{Observed, Sound, Meaning, takes, next, takes_home, next_home}
@@ -22,13 +23,13 @@ public_of (Down g ∷ es) = public_granted g (public_of es)
 abbrev pub After : List Flit → World → Type 0
 After [] w = ((n : ℕ) → n < 32 → w.state n ≡ plain Invalid) × (w.home ≡ w.last)
 After (Up f ∷ es) w = (before : World) × (sent : World) × After es before × Sends (public_of es) f before sent × Drift (public_of (Up f ∷ es)) sent w
-After (Down g ∷ es) w = (before : World) × (given : World) × After es before × Informed g before × Gives g before given × Drift (public_of (Down g ∷ es)) given w
+After (Down g ∷ es) w = (before : World) × (given : World) × After es before × Informed g before × Gives (public_of es) g before given × Drift (public_of (Down g ∷ es)) given w
 
--- each flit of a cache may be sent, and each of the home is safe
+-- each flit is one that is judged; each of a cache may be sent, and each of the home is safe
 abbrev pub Legal : List Flit → Type 0
 Legal [] = ⊤
-Legal (Up f ∷ es) = Legal es × (f.agent.0 < 32) × ((w : World) × After (Up f ∷ es) w)
-Legal (Down g ∷ es) = Legal es × (g.agent.0 < 32) × ((w : World) × After es w × Informed g w) × ((w : World) → After es w → Informed g w → IsSafe (public_of es) g w)
+Legal (Up f ∷ es) = Legal es × (f.agent.0 < 32) × ((w : World) × After (Up f ∷ es) w) × (is_judged (Up f) ≡ true)
+Legal (Down g ∷ es) = Legal es × (g.agent.0 < 32) × ((w : World) × After es w × Informed g w) × ((w : World) → After es w → Informed g w → IsSafe (public_of es) g w) × (is_judged (Down g) ≡ true)
 
 -- THE OBSERVER
 abbrev pub nothing_told : Observed
@@ -41,8 +42,8 @@ seen (Down g ∷ es) = next_home (seen es) g
 
 abbrev pub Accepted : List Flit → Type 0
 Accepted [] = ⊤
-Accepted (Up f ∷ es) = Accepted es × (f.agent.0 < 32) × (takes (seen es) f ≡ true)
-Accepted (Down g ∷ es) = Accepted es × (g.agent.0 < 32) × (takes_home (seen es) g ≡ true)
+Accepted (Up f ∷ es) = Accepted es × (f.agent.0 < 32) × (takes (seen es) f ≡ true) × (is_judged (Up f) ≡ true)
+Accepted (Down g ∷ es) = Accepted es × (g.agent.0 < 32) × (takes_home (seen es) g ≡ true) × (is_judged (Down g) ≡ true)
 
 -- what holds behind an accepted trace
 pub record IsExact (es : List Flit) : Type 0 where

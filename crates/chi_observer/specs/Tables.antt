@@ -3,21 +3,21 @@
 use Rattle.std.specs.Prelude.{Bool, true, false, ◌&&◌, ◌||◌, not, if◌then◌else◌}
 use Rattle.chi_flit.specs.declared.state.State.{State}
 use Rattle.chi_flit.specs.declared.state.State.TheVariants as states
-use Rattle.chi_flit.specs.declared.kind.Kind.{Kind}
-use Rattle.chi_flit.specs.declared.kind.Kind.TheVariants.{ReadNotSharedDirty, ReadShared, ReadUnique, CleanUnique, Evict, WriteBackFull, WriteCleanFull, WriteEvictFull}
+use Rattle.chi_observer.specs.declared.kinds.Kind.{Kind}
+use Rattle.chi_observer.specs.declared.kinds.Kind.TheVariants.{ReadNotSharedDirty, ReadShared, ReadClean, ReadUnique, CleanUnique, Evict, WriteBackFull, WriteCleanFull, WriteEvictFull}
 use Rattle.chi_observer.specs.declared.told.Told.{Told}
 use Rattle.chi_observer.specs.declared.told.Told.TheVariants.{I, SC, SCOrI, UC, UCE, UCEOrI, UCOrUCE, UD, SD}
 use Rattle.chi_observer.specs.declared.flits.Due.{Due}
 use Rattle.chi_observer.specs.declared.flits.Due.TheVariants.{Nothing, Resending, WriteData, Acknowledgement}
 use Rattle.chi_observer.specs.declared.flits.Answer.{Answer}
-use Rattle.chi_observer.specs.declared.flits.Answer.TheVariants.{SnpRespI, SnpRespSC, SnpRespDataI, SnpRespDataSC, SnpRespDataSD, SnpRespDataIPD, SnpRespDataSCPD}
+use Rattle.chi_observer.specs.declared.flits.Answer.TheVariants.{SnpRespI, SnpRespSC, SnpRespUC, SnpRespDataI, SnpRespDataSC, SnpRespDataUC, SnpRespDataUD, SnpRespDataSD, SnpRespDataIPD, SnpRespDataSCPD, SnpRespDataUCPD}
 use Rattle.chi_observer.specs.declared.flits.Act.{Act}
 use Rattle.chi_observer.specs.declared.flits.Act.TheVariants.{Request, Resend, SnpResp, CompAck, CopyBackWrData}
 use Rattle.chi_observer.specs.declared.flits.Grant.{Grant}
 use Rattle.chi_observer.specs.declared.flits.Grant.TheVariants.{RetryAck, CompData, CompUC}
 use Rattle.chi_observer.specs.Copies.{Copy, Held, copy_of, holds_data, is_unique, is_dirty, is_clean, same, compatible}
 use Rattle.chi_observer.specs.Copies.Copy.{Invalid, SharedClean, UniqueClean, UniqueEmpty, UniqueDirty, SharedDirty}
-use Rattle.chi_observer.specs.Rules.{is_free, same_kind, left_by, written, gives_data}
+use Rattle.chi_observer.specs.Rules.{is_free, is_copy_back, same_kind, left_by, written, gives_data, is_upgraded}
 
 -- what is told of a copy, and whether a request of its agent that was retried is surely cancelled
 pub record Known : Type 0 where
@@ -98,12 +98,14 @@ told_dirty other = UD
 abbrev pub told_issued : Kind → Told → Told
 told_issued ReadNotSharedDirty t = told_empty t
 told_issued ReadShared t = told_empty t
+told_issued ReadClean t = told_empty t
 told_issued ReadUnique t = told_shared t
 told_issued CleanUnique t = told_shared t
 told_issued Evict t = I
 told_issued WriteBackFull t = told_dirty t
 told_issued WriteCleanFull t = told_dirty t
 told_issued WriteEvictFull t = UC
+told_issued other t = I
 
 -- the flit says that the copy was dirty
 abbrev pub kind_tells_dirty : Kind → Bool
@@ -112,9 +114,11 @@ kind_tells_dirty WriteCleanFull = true
 kind_tells_dirty other = false
 
 abbrev pub answer_tells_dirty : Answer → Bool
+answer_tells_dirty SnpRespDataUD = true
 answer_tells_dirty SnpRespDataSD = true
 answer_tells_dirty SnpRespDataIPD = true
 answer_tells_dirty SnpRespDataSCPD = true
+answer_tells_dirty SnpRespDataUCPD = true
 answer_tells_dirty other = false
 
 abbrev pub tells_dirty : Act → Bool
@@ -128,10 +132,21 @@ abbrev pub is_cancelled : Act → Due → Known → Bool → Bool
 is_cancelled (SnpResp answer) (Resending kind) k differ = k.cancelled || (answer_tells_dirty answer && (is_unique (most k) && (differ || not (same (most k) UniqueDirty))))
 is_cancelled a d k differ = false
 
+-- a unique copy that stays as it is, with data or without
+abbrev pub told_unique : Told → Told
+told_unique UCE = UCE
+told_unique UCEOrI = UCE
+told_unique UCOrUCE = UCOrUCE
+told_unique other = UC
+
+abbrev pub told_answered : Answer → Told → Told
+told_answered SnpRespUC t = told_unique t
+told_answered answer t = told_as (left_by answer)
+
 -- what is told behind a flit
 abbrev pub told_behind : Act → Due → Told → Told
 told_behind (Request kind) d t = told_issued kind t
-told_behind (SnpResp answer) d t = told_as (left_by answer)
+told_behind (SnpResp answer) d t = told_answered answer t
 told_behind (CopyBackWrData form) (WriteData kind) t = told_as (written kind form)
 told_behind a d t = t
 
@@ -142,19 +157,25 @@ told_after a d k differ = record { told = told_behind a d k.told; cancelled = is
 abbrev pub fits_issue : Kind → Told → Bool
 fits_issue ReadNotSharedDirty t = not (is_dirty (strongest t))
 fits_issue ReadShared t = not (is_dirty (strongest t))
+fits_issue ReadClean t = not (is_dirty (strongest t))
 fits_issue ReadUnique t = not (same (strongest t) UniqueDirty)
 fits_issue CleanUnique t = not (same (strongest t) UniqueDirty)
 fits_issue Evict t = is_clean (strongest t)
 fits_issue WriteBackFull t = is_dirty (strongest t) || is_unique (strongest t)
 fits_issue WriteCleanFull t = is_dirty (strongest t) || is_unique (strongest t)
 fits_issue WriteEvictFull t = same (strongest t) UniqueClean
+fits_issue other t = false
 
 -- or that the answer is given from: a store may have been where the agent has no request open
 abbrev pub fits_answer : Answer → Due → Told → Bool
 fits_answer SnpRespI d t = not (is_dirty (strongest t))
 fits_answer SnpRespSC d t = is_clean (strongest t) && holds_data (strongest t)
+fits_answer SnpRespUC d t = is_clean (strongest t) && is_unique (strongest t)
 fits_answer SnpRespDataI d t = is_clean (strongest t) && holds_data (strongest t)
 fits_answer SnpRespDataSC d t = is_clean (strongest t) && holds_data (strongest t)
+fits_answer SnpRespDataUC d t = same (strongest t) UniqueClean
+fits_answer SnpRespDataUD d t = same (strongest t) UniqueDirty || (may_be_free d && is_unique (strongest t))
+fits_answer SnpRespDataUCPD d t = same (strongest t) UniqueDirty || (may_be_free d && is_unique (strongest t))
 fits_answer dirty d t = is_dirty (strongest t) || (may_be_free d && is_unique (strongest t))
 
 abbrev pub fits_form : State → Told → Bool
@@ -167,7 +188,7 @@ fits_told (Request kind) d k = may_be_free d && fits_issue kind k.told
 fits_told (Resend kind) (Resending asked) k = same_kind kind asked && not k.cancelled
 fits_told (SnpResp answer) d k = fits_answer answer d k.told
 fits_told CompAck Acknowledgement k = true
-fits_told (CopyBackWrData form) (WriteData kind) k = fits_form form k.told
+fits_told (CopyBackWrData form) (WriteData kind) k = is_copy_back kind && fits_form form k.told
 fits_told a d k = false
 
 -- and so that there may have been a store since
@@ -183,18 +204,18 @@ told_upgraded UCEOrI = UCE
 told_upgraded SD = UD
 told_upgraded t = t
 
-abbrev pub told_by : Grant → Told → Told
-told_by (CompData form) t = if is_dirty (strongest t) then UD else told_as form
-told_by CompUC t = told_upgraded t
-told_by other t = t
+abbrev pub told_by : Grant → Due → Told → Told
+told_by (CompData form) d t = if is_dirty (strongest t) then UD else told_as form
+told_by CompUC d t = if is_upgraded d then told_upgraded t else t
+told_by other d t = t
 
 -- a request that is retried just now isn't cancelled
 abbrev pub cancelled_by : Grant → Bool → Bool
 cancelled_by RetryAck c = false
 cancelled_by other c = c
 
-abbrev pub told_granted : Grant → Known → Known
-told_granted g k = record { told = told_by g k.told; cancelled = cancelled_by g k.cancelled }
+abbrev pub told_granted : Grant → Due → Known → Known
+told_granted g d k = record { told = told_by g d k.told; cancelled = cancelled_by g k.cancelled }
 
 abbrev pub fills_told : Grant → Known → Bool
 fills_told g k = gives_data g && not (is_dirty (most k))

@@ -1,7 +1,7 @@
 -- The truth of one line: worlds, hidden steps, what a cache may send in a world, and when a flit of the home is safe
 -- there (docs/OBSERVER.md, "Worlds").
 use Rattle.std.specs.Prelude.{◌≡◌, ◌≢◌, ◌⊎◌, ℕ, ◌<◌, List, Bool, true, false, ◌&&◌, ◌||◌, ◌==◌, not, Option, Some, suc, zero, if◌then◌else◌}
-use Rattle.chi_flit.specs.declared.snoop.Snoop.{Snoop}
+use Rattle.chi_observer.specs.declared.kinds.Snoop.{Snoop}
 use Rattle.chi_observer.specs.declared.flits.Due.{Due}
 use Rattle.chi_observer.specs.declared.flits.CacheFlit.{CacheFlit}
 use Rattle.chi_observer.specs.declared.flits.HomeFlit.{HomeFlit}
@@ -106,8 +106,8 @@ home_may p g = is_due g.grant (p.due g.agent.0) (p.snooped g.agent.0)
     && ((not (needs_duty g.grant) || p.duty) && (not (needs_quiet g.grant) || all_below 32 (λ m. not (is_busy (p.due m)))))
 
 -- what it does
-pub record Gives (g : HomeFlit) (w w' : World) : Type 0 where
-  pub state : w'.state g.agent.0 ≡ granted g.grant (w.state g.agent.0)
+pub record Gives (p : Public) (g : HomeFlit) (w w' : World) : Type 0 where
+  pub state : w'.state g.agent.0 ≡ granted g.grant (p.due g.agent.0) (w.state g.agent.0)
   pub home : w'.home ≡ w.home
   pub words : holds_data (w'.state g.agent.0).copy ≡ true → w'.words g.agent.0 ≡ (if fills g.grant (w.state g.agent.0) then g.shown else w.words g.agent.0)
   pub last : w'.last ≡ w.last
@@ -115,7 +115,7 @@ pub record Gives (g : HomeFlit) (w w' : World) : Type 0 where
 
 -- it may be sent and leaves all in order
 abbrev pub IsSafe : Public → HomeFlit → World → Type 0
-IsSafe p g w = (home_may p g ≡ true) × ((w' : World) → Gives g w w' → Coherent w')
+IsSafe p g w = (home_may p g ≡ true) × ((w' : World) → Gives p g w w' → Coherent w')
 
 -- the home sends its own copy
 abbrev pub Informed : HomeFlit → World → Type 0

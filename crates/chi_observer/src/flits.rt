@@ -1,6 +1,10 @@
 //! The flits of a line, as an observer sees them.
 
-use chi_flit::{Agent, Data, Kind, Snoop, State};
+ghost use Rattle.std.specs.Prelude.{◌≡◌};
+ghost use Rattle.chi_observer.specs.Judged.{is_judged, judges_act, judges_grant};
+
+use crate::kinds::{Kind, Snoop};
+use chi_flit::{Agent, Data, State};
 
 /// What is due next of an agent's request to the line.
 /// Source: `docs/OBSERVER.md`, "What is kept".
@@ -26,11 +30,15 @@ pub enum Due {
 pub enum Answer {
     SnpRespI,
     SnpRespSC,
+    SnpRespUC,
     SnpRespDataI,
     SnpRespDataSC,
+    SnpRespDataUC,
+    SnpRespDataUD,
     SnpRespDataSD,
     SnpRespDataIPD,
     SnpRespDataSCPD,
+    SnpRespDataUCPD,
 }
 
 /// What a flit of a cache is.
@@ -47,6 +55,8 @@ pub enum Act {
     CompAck,
     /// Write data, in the form of its sender's state: `UD` for `CopyBackWrData_UD_PD`, `SD` for `_SD_PD`.
     CopyBackWrData(State),
+    /// The write data of a WriteUniqueFull.
+    NonCopyBackWrData,
 }
 
 /// A flit of a cache.
@@ -70,9 +80,11 @@ pub enum Grant {
     Snp(Snoop),
     /// The data of a read, by RESP: `UD` for `CompData_UD_PD`, `SD` for `_SD_PD`.
     CompData(State),
-    /// The completion of a CleanUnique.
+    /// A completion without data, with RESP `UC`.
     CompUC,
-    /// The completion of an Evict.
+    /// A completion without data, with RESP `SC`.
+    CompSC,
+    /// A completion without data, with RESP `I`.
     CompI,
     /// The leave to send write data.
     CompDBIDResp,
@@ -96,4 +108,50 @@ pub enum Flit {
     Up(CacheFlit),
     /// Of the home.
     Down(HomeFlit),
+}
+
+impl Act {
+    /// Whether such flits are judged; a line with another is the caller's to set aside.
+    /// Source: `docs/OBSERVER.md`, "What is judged".
+    pub fn is_judged(self) -> bool
+        ensures { result ≡ judges_act self }
+    {
+        match self {
+            Act::Request(kind) => kind.is_judged(),
+            Act::Resend(kind) => kind.is_judged(),
+            Act::NonCopyBackWrData => false,
+            Act::SnpResp(_) | Act::CompAck | Act::CopyBackWrData(_) => true,
+        }
+    }
+}
+
+impl Grant {
+    /// Whether such flits are judged; a line with another is the caller's to set aside.
+    /// Source: `docs/OBSERVER.md`, "What is judged".
+    pub fn is_judged(self) -> bool
+        ensures { result ≡ judges_grant self }
+    {
+        match self {
+            Grant::Snp(snoop) => snoop.is_judged(),
+            Grant::CompSC => false,
+            Grant::RetryAck
+            | Grant::CompData(_)
+            | Grant::CompUC
+            | Grant::CompI
+            | Grant::CompDBIDResp => true,
+        }
+    }
+}
+
+impl Flit {
+    /// Whether the flit is judged; a line with another is the caller's to set aside.
+    /// Source: `docs/OBSERVER.md`, "What is judged".
+    pub fn is_judged(self) -> bool
+        ensures { result ≡ is_judged self }
+    {
+        match self {
+            Flit::Up(sent) => sent.act.is_judged(),
+            Flit::Down(given) => given.grant.is_judged(),
+        }
+    }
 }

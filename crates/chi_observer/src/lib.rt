@@ -5,12 +5,14 @@
 #![tactic(auto)]
 
 mod flits;
+mod kinds;
 mod laws;
 mod observer;
 mod rules;
 mod told;
 
 pub use flits::{Act, Answer, CacheFlit, Due, Flit, Grant, HomeFlit};
+pub use kinds::{Kind, Snoop};
 pub use laws::{cache_flits, home_flits, meaning, traces};
 pub use observer::{AGENTS, AgentSeen, Observer, Reason};
 pub use told::Told;

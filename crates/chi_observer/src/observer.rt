@@ -6,15 +6,16 @@ ghost use Rattle.chi_observer.specs.Tables.{fills_told, fits_told, is_cancelled,
 ghost use Rattle.chi_observer.specs.Worlds.{all_below, home_may};
 ghost use Rattle.chi_observer.specs.Observed.{differs, fits, goes, takes, takes_home, next, next_home};
 ghost use Rattle.chi_observer.specs.Runs.{nothing_told};
-ghost use Rattle.chi_observer.specs.Lines.{agent_after, agent_granted, after, is_quiet, is_reason, is_taken, known_of, observed, stands_beside};
+ghost use Rattle.chi_observer.specs.Lines.{agent_after, agent_granted, after, is_given_reason, is_judged_reason, is_quiet, is_reason, is_sent_reason, is_taken, known_of, observed, stands_beside, takes_flit};
 
 use crate::flits::{Act, CacheFlit, Due, Flit, Grant, HomeFlit};
+use crate::kinds::Snoop;
 use crate::rules::{
     allows, due_after, due_granted, gives_data, has_data, is_busy, is_due, needs_duty, needs_quiet,
     passes_duty, same_kind, snooped_after, snooped_granted,
 };
 use crate::told::{Told, answer_tells_dirty, may_be_free, tells_dirty};
-use chi_flit::{Data, Snoop};
+use chi_flit::Data;
 
 /// How many agents an observer follows; their numbers are below it.
 /// Source: `docs/OBSERVER.md`, "What is kept".
@@ -52,6 +53,8 @@ pub struct Observer {
 /// Source: `docs/OBSERVER.md`, "Faults".
 #[derive(Clone, Copy, Debug, PartialEq, Eq)]
 pub enum Reason {
+    /// The observer doesn't judge such flits, as `Flit::is_judged` says. The line is the caller's to set aside.
+    NotJudged,
     /// The agent's number is 32 or more.
     NoAgent,
     /// No copy that the agent may have sends this flit of a cache now.
@@ -92,12 +95,25 @@ impl Observer {
     /// that nobody saw explain it, and one of the home where it is safe whatever they were. Else the first rule that
     /// it breaks, and nothing changes.
     /// Source: `docs/OBSERVER.md`, "Flits of a cache", "Flits of the home".
-    #[tactic(auto, using(crate::proofs::Lines::refused))]
     pub fn take(&mut self, flit: Flit) -> Result<(), Reason>
         ensures taken { is_ok result ≡ is_taken (observed self.old) flit }
         ensures after { OnOk result (observed self.new ≡ after (observed self.old) flit) }
         ensures kept { OnErr result (self.new ≡ self.old) }
         ensures reason { IfErr result (λ reason. is_reason (observed self.old) flit reason ≡ true) }
+    {
+        if !flit.is_judged() {
+            return Err(Reason::NotJudged);
+        }
+        self.take_judged(flit)
+    }
+
+    /// Takes a flit that is judged.
+    #[tactic(auto, using(crate::proofs::Lines::refused))]
+    fn take_judged(&mut self, flit: Flit) -> Result<(), Reason>
+        ensures taken { is_ok result ≡ takes_flit (observed self.old) flit }
+        ensures after { OnOk result (observed self.new ≡ after (observed self.old) flit) }
+        ensures kept { OnErr result (self.new ≡ self.old) }
+        ensures reason { IfErr result (λ reason. is_judged_reason (observed self.old) flit reason ≡ true) }
     {
         match flit {
             Flit::Up(sent) => {
@@ -121,7 +137,7 @@ impl Observer {
         ensures taken { is_ok result ≡ takes (observed self.old) flit }
         ensures after { OnOk result (observed self.new ≡ next (observed self.old) flit) }
         ensures kept { OnErr result (self.new ≡ self.old) }
-        ensures reason { IfErr result (λ reason. is_reason (observed self.old) (Flit.Up flit) reason ≡ true) }
+        ensures reason { IfErr result (λ reason. is_sent_reason (observed self.old) flit reason ≡ true) }
     {
         let at = usize::from(flit.agent.0);
         let agent = self.agents[at];
@@ -148,7 +164,7 @@ impl Observer {
         ensures taken { is_ok result ≡ takes_home (observed self.old) flit }
         ensures after { OnOk result (observed self.new ≡ next_home (observed self.old) flit) }
         ensures kept { OnErr result (self.new ≡ self.old) }
-        ensures reason { IfErr result (λ reason. is_reason (observed self.old) (Flit.Down flit) reason ≡ true) }
+        ensures reason { IfErr result (λ reason. is_given_reason (observed self.old) flit reason ≡ true) }
     {
         let at = usize::from(flit.agent.0);
         let agent = self.agents[at];
@@ -165,7 +181,11 @@ impl Observer {
         if fills && !may_be(&self.home, &flit.shown) {
             return Err(Reason::OtherWords);
         }
-        if !stands_beside(&self.agents, flit.agent.0, agent.told.granted(flit.grant)) {
+        if !stands_beside(
+            &self.agents,
+            flit.agent.0,
+            agent.told.granted(flit.grant, agent.due),
+        ) {
             return Err(Reason::OtherCopy);
         }
         self.agents[at] = agent.granted(flit.grant);
@@ -194,7 +214,9 @@ impl AgentSeen {
             }
             (Act::SnpResp(answer), due) => self.told.may_answer(answer, due),
             (Act::CompAck, Due::Acknowledgement) => true,
-            (Act::CopyBackWrData(form), Due::WriteData(_)) => self.told.may_write(form),
+            (Act::CopyBackWrData(form), Due::WriteData(kind)) => {
+                kind.is_copy_back() && self.told.may_write(form)
+            }
             _ => false,
         }
     }
@@ -245,7 +267,7 @@ impl AgentSeen {
         ensures { result ≡ agent_granted grant self }
     {
         AgentSeen {
-            told: self.told.granted(grant),
+            told: self.told.granted(grant, self.due),
             cancelled: !matches!(grant, Grant::RetryAck) && self.cancelled,
             due: due_granted(grant, self.due),
             snooped: snooped_granted(grant, self.snooped),

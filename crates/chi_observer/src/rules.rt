@@ -1,10 +1,11 @@
 //! What flits say by themselves.
 
 ghost use Rattle.std.specs.Prelude.{◌≡◌};
-ghost use Rattle.chi_observer.specs.Rules.{allows, completes, due_after, due_granted, form_passes, gives_data, has_data, is_busy, is_completed, is_due, leaves, left_by, needs_duty, needs_quiet, passes_duty, same_kind, snooped_after, snooped_granted, written};
+ghost use Rattle.chi_observer.specs.Rules.{allows, completes, due_after, due_granted, form_passes, gives_data, has_data, is_busy, is_clean_form, is_completed, is_due, is_shared_form, is_upgraded, leaves, left_by, needs_duty, needs_quiet, passes_duty, same_kind, snooped_after, snooped_granted, written};
 
 use crate::flits::{Act, Answer, Due, Grant};
-use chi_flit::{Kind, Snoop, State};
+use crate::kinds::{Kind, Snoop};
+use chi_flit::State;
 
 /// What an answer says is left of the copy.
 pub(crate) fn left_by(answer: Answer) -> State
@@ -13,6 +14,8 @@ pub(crate) fn left_by(answer: Answer) -> State
     match answer {
         Answer::SnpRespI | Answer::SnpRespDataI | Answer::SnpRespDataIPD => State::I,
         Answer::SnpRespSC | Answer::SnpRespDataSC | Answer::SnpRespDataSCPD => State::SC,
+        Answer::SnpRespUC | Answer::SnpRespDataUC | Answer::SnpRespDataUCPD => State::UC,
+        Answer::SnpRespDataUD => State::UD,
         Answer::SnpRespDataSD => State::SD,
     }
 }
@@ -25,12 +28,19 @@ pub(crate) fn same_kind(kind: Kind, other: Kind) -> bool
         (kind, other),
         (Kind::ReadNotSharedDirty, Kind::ReadNotSharedDirty)
             | (Kind::ReadShared, Kind::ReadShared)
+            | (Kind::ReadClean, Kind::ReadClean)
+            | (Kind::ReadOnce, Kind::ReadOnce)
             | (Kind::ReadUnique, Kind::ReadUnique)
             | (Kind::CleanUnique, Kind::CleanUnique)
+            | (Kind::MakeUnique, Kind::MakeUnique)
+            | (Kind::CleanShared, Kind::CleanShared)
+            | (Kind::CleanInvalid, Kind::CleanInvalid)
+            | (Kind::MakeInvalid, Kind::MakeInvalid)
             | (Kind::Evict, Kind::Evict)
             | (Kind::WriteBackFull, Kind::WriteBackFull)
             | (Kind::WriteCleanFull, Kind::WriteCleanFull)
             | (Kind::WriteEvictFull, Kind::WriteEvictFull)
+            | (Kind::WriteUniqueFull, Kind::WriteUniqueFull)
     )
 }
 
@@ -43,7 +53,11 @@ pub(crate) fn allows(act: Act, snooped: Option<Snoop>) -> bool
             None => false,
             Some(snoop) => leaves(snoop, left_by(answer)),
         },
-        Act::Request(_) | Act::Resend(_) | Act::CompAck | Act::CopyBackWrData(_) => true,
+        Act::Request(_)
+        | Act::Resend(_)
+        | Act::CompAck
+        | Act::CopyBackWrData(_)
+        | Act::NonCopyBackWrData => true,
     }
 }
 
@@ -52,9 +66,27 @@ fn leaves(snoop: Snoop, left: State) -> bool
     ensures { result ≡ leaves snoop left }
 {
     match snoop {
-        Snoop::SnpShared | Snoop::SnpNotSharedDirty => true,
-        Snoop::SnpUnique | Snoop::SnpCleanInvalid => matches!(left, State::I),
+        Snoop::SnpOnce => true,
+        Snoop::SnpClean | Snoop::SnpShared | Snoop::SnpNotSharedDirty => is_shared_form(left),
+        Snoop::SnpCleanShared => is_clean_form(left),
+        Snoop::SnpUnique | Snoop::SnpCleanInvalid | Snoop::SnpMakeInvalid => {
+            matches!(left, State::I)
+        }
     }
+}
+
+/// Whether a copy left so is shared, or none.
+fn is_shared_form(left: State) -> bool
+    ensures { result ≡ is_shared_form left }
+{
+    matches!(left, State::I | State::SC | State::SD)
+}
+
+/// Whether a copy left so is clean, or none.
+fn is_clean_form(left: State) -> bool
+    ensures { result ≡ is_clean_form left }
+{
+    matches!(left, State::I | State::SC | State::UC)
 }
 
 /// What write data of the form leave of the copy.
@@ -76,8 +108,13 @@ pub(crate) fn has_data(act: Act) -> bool
     ensures { result ≡ has_data act }
 {
     match act {
-        Act::Request(_) | Act::Resend(_) | Act::CompAck => false,
-        Act::SnpResp(answer) => !matches!(answer, Answer::SnpRespI | Answer::SnpRespSC),
+        Act::Request(_) | Act::Resend(_) | Act::CompAck | Act::NonCopyBackWrData => false,
+        Act::SnpResp(answer) => {
+            !matches!(
+                answer,
+                Answer::SnpRespI | Answer::SnpRespSC | Answer::SnpRespUC
+            )
+        }
         Act::CopyBackWrData(form) => !matches!(form, State::I),
     }
 }
@@ -90,7 +127,7 @@ pub(crate) fn due_after(act: Act, due: Due) -> Due
         Act::Request(kind) => Due::Completion(kind),
         Act::Resend(kind) => Due::SureCompletion(kind),
         Act::SnpResp(_) => due,
-        Act::CompAck | Act::CopyBackWrData(_) => Due::Nothing,
+        Act::CompAck | Act::CopyBackWrData(_) | Act::NonCopyBackWrData => Due::Nothing,
     }
 }
 
@@ -100,7 +137,11 @@ pub(crate) fn snooped_after(act: Act, snooped: Option<Snoop>) -> Option<Snoop>
 {
     match act {
         Act::SnpResp(_) => None,
-        Act::Request(_) | Act::Resend(_) | Act::CompAck | Act::CopyBackWrData(_) => snooped,
+        Act::Request(_)
+        | Act::Resend(_)
+        | Act::CompAck
+        | Act::CopyBackWrData(_)
+        | Act::NonCopyBackWrData => snooped,
     }
 }
 
@@ -110,10 +151,13 @@ pub(crate) fn passes_duty(act: Act) -> bool
 {
     match act {
         Act::SnpResp(answer) => {
-            matches!(answer, Answer::SnpRespDataIPD | Answer::SnpRespDataSCPD)
+            matches!(
+                answer,
+                Answer::SnpRespDataIPD | Answer::SnpRespDataSCPD | Answer::SnpRespDataUCPD
+            )
         }
         Act::CopyBackWrData(form) => passes_by(form),
-        Act::Request(_) | Act::Resend(_) | Act::CompAck => false,
+        Act::Request(_) | Act::Resend(_) | Act::CompAck | Act::NonCopyBackWrData => false,
     }
 }
 
@@ -131,12 +175,19 @@ fn completes(kind: Kind, form: State) -> bool
     match kind {
         Kind::ReadNotSharedDirty => matches!(form, State::SC | State::UC | State::UD),
         Kind::ReadShared => !matches!(form, State::I),
+        Kind::ReadClean => matches!(form, State::SC | State::UC),
         Kind::ReadUnique => matches!(form, State::UC | State::UD),
-        Kind::CleanUnique
+        Kind::ReadOnce
+        | Kind::CleanUnique
+        | Kind::MakeUnique
+        | Kind::CleanShared
+        | Kind::CleanInvalid
+        | Kind::MakeInvalid
         | Kind::Evict
         | Kind::WriteBackFull
         | Kind::WriteCleanFull
-        | Kind::WriteEvictFull => false,
+        | Kind::WriteEvictFull
+        | Kind::WriteUniqueFull => false,
     }
 }
 
@@ -163,8 +214,18 @@ fn is_completed(grant: Grant, kind: Kind, snooped: Option<Snoop>) -> bool
         Grant::CompUC => snooped.is_none() && matches!(kind, Kind::CleanUnique),
         Grant::CompI => matches!(kind, Kind::Evict),
         Grant::CompDBIDResp => snooped.is_none() && kind.is_copy_back(),
-        Grant::RetryAck | Grant::Snp(_) => false,
+        Grant::CompSC | Grant::RetryAck | Grant::Snp(_) => false,
     }
+}
+
+/// Whether the completion of an agent of whom this is due ends a CleanUnique.
+pub(crate) fn is_upgraded(due: Due) -> bool
+    ensures { result ≡ is_upgraded due }
+{
+    matches!(
+        due,
+        Due::Completion(Kind::CleanUnique) | Due::SureCompletion(Kind::CleanUnique)
+    )
 }
 
 /// Whether a flit of the home has data.
@@ -180,8 +241,12 @@ pub(crate) fn needs_duty(grant: Grant) -> bool
 {
     match grant {
         Grant::CompData(form) => passes_by(form),
-        Grant::RetryAck | Grant::Snp(_) | Grant::CompUC | Grant::CompI | Grant::CompDBIDResp =>
-            false,
+        Grant::RetryAck
+        | Grant::Snp(_)
+        | Grant::CompUC
+        | Grant::CompSC
+        | Grant::CompI
+        | Grant::CompDBIDResp => false,
     }
 }
 
@@ -206,8 +271,13 @@ pub(crate) fn due_granted(grant: Grant, due: Due) -> Due
     match (grant, due) {
         (Grant::RetryAck, Due::Completion(kind)) => Due::Resending(kind),
         (Grant::RetryAck | Grant::Snp(_), _) => due,
-        (Grant::CompData(_) | Grant::CompUC, _) => Due::Acknowledgement,
-        (Grant::CompI, _) => Due::Nothing,
+        (Grant::CompData(_), _) => Due::Acknowledgement,
+        (Grant::CompUC, _) => if is_upgraded(due) {
+            Due::Acknowledgement
+        } else {
+            Due::Nothing
+        },
+        (Grant::CompSC | Grant::CompI, _) => Due::Nothing,
         (Grant::CompDBIDResp, Due::Completion(kind)) => Due::WriteData(kind),
         (Grant::CompDBIDResp, Due::SureCompletion(kind)) => Due::WriteData(kind),
         (Grant::CompDBIDResp, _) => due,
@@ -220,7 +290,11 @@ pub(crate) fn snooped_granted(grant: Grant, snooped: Option<Snoop>) -> Option<Sn
 {
     match grant {
         Grant::Snp(snoop) => Some(snoop),
-        Grant::RetryAck | Grant::CompData(_) | Grant::CompUC | Grant::CompI | Grant::CompDBIDResp =>
-            snooped,
+        Grant::RetryAck
+        | Grant::CompData(_)
+        | Grant::CompUC
+        | Grant::CompSC
+        | Grant::CompI
+        | Grant::CompDBIDResp => snooped,
     }
 }

@@ -2,11 +2,12 @@
 
 ghost use Rattle.std.specs.Prelude.{◌≡◌, ◌&&◌};
 ghost use Rattle.chi_observer.specs.Copies.{compatible, holds_data, is_clean, is_dirty, is_unique};
-ghost use Rattle.chi_observer.specs.Tables.{answer_tells_dirty, fits_answer, fits_form, fits_issue, may_be_free, strongest, tells_dirty, told_as, told_behind, told_by, told_empty, told_issued, told_shared, told_upgraded};
+ghost use Rattle.chi_observer.specs.Tables.{answer_tells_dirty, fits_answer, fits_form, fits_issue, may_be_free, strongest, tells_dirty, told_answered, told_as, told_behind, told_by, told_empty, told_issued, told_shared, told_unique, told_upgraded};
 
 use crate::flits::{Act, Answer, Due, Grant};
-use crate::rules::{left_by, written};
-use chi_flit::{Kind, State};
+use crate::kinds::Kind;
+use crate::rules::{is_upgraded, left_by, written};
+use chi_flit::State;
 
 /// The copies that one may be right behind the last flit that told of it. From there it goes on unseen, by stores and
 /// drops, while its cache has nothing open at the line. `UCE` is the standard's unique copy without data, which
@@ -90,11 +91,17 @@ impl Told {
         ensures { result ≡ fits_issue kind self }
     {
         match kind {
-            Kind::ReadNotSharedDirty | Kind::ReadShared => !self.is_dirty(),
+            Kind::ReadNotSharedDirty | Kind::ReadShared | Kind::ReadClean => !self.is_dirty(),
             Kind::ReadUnique | Kind::CleanUnique => !matches!(self, Told::UD),
             Kind::Evict => self.is_clean(),
             Kind::WriteBackFull | Kind::WriteCleanFull => self.is_dirty() || self.is_unique(),
             Kind::WriteEvictFull => matches!(self, Told::UC | Told::UCOrUCE),
+            Kind::ReadOnce
+            | Kind::MakeUnique
+            | Kind::CleanShared
+            | Kind::CleanInvalid
+            | Kind::MakeInvalid
+            | Kind::WriteUniqueFull => false,
         }
     }
 
@@ -106,6 +113,11 @@ impl Told {
             Answer::SnpRespI => !self.is_dirty(),
             Answer::SnpRespSC | Answer::SnpRespDataI | Answer::SnpRespDataSC => {
                 self.is_clean_data()
+            }
+            Answer::SnpRespUC => self.is_clean() && self.is_unique(),
+            Answer::SnpRespDataUC => matches!(self, Told::UC | Told::UCOrUCE),
+            Answer::SnpRespDataUD | Answer::SnpRespDataUCPD => {
+                matches!(self, Told::UD) || (may_be_free(due) && self.is_unique())
             }
             Answer::SnpRespDataSD | Answer::SnpRespDataIPD | Answer::SnpRespDataSCPD => {
                 self.is_dirty() || (may_be_free(due) && self.is_unique())
@@ -132,12 +144,33 @@ impl Told {
     {
         match act {
             Act::Request(kind) => self.after_request(kind),
-            Act::SnpResp(answer) => told_as(left_by(answer)),
-            Act::Resend(_) | Act::CompAck => self,
+            Act::SnpResp(answer) => self.after_answer(answer),
+            Act::Resend(_) | Act::CompAck | Act::NonCopyBackWrData => self,
             Act::CopyBackWrData(form) => match due {
                 Due::WriteData(kind) => told_as(written(kind, form)),
                 _ => self,
             },
+        }
+    }
+
+    /// What is told behind an answer.
+    fn after_answer(self, answer: Answer) -> Told
+        ensures { result ≡ told_answered answer self }
+    {
+        match answer {
+            Answer::SnpRespUC => self.unique(),
+            _ => told_as(left_by(answer)),
+        }
+    }
+
+    /// What is told of a unique copy that stays as it is.
+    fn unique(self) -> Told
+        ensures { result ≡ told_unique self }
+    {
+        match self {
+            Told::UCE | Told::UCEOrI => Told::UCE,
+            Told::UCOrUCE => Told::UCOrUCE,
+            _ => Told::UC,
         }
     }
 
@@ -146,9 +179,15 @@ impl Told {
         ensures { result ≡ told_issued kind self }
     {
         match kind {
-            Kind::ReadNotSharedDirty | Kind::ReadShared => self.empty(),
+            Kind::ReadNotSharedDirty | Kind::ReadShared | Kind::ReadClean => self.empty(),
             Kind::ReadUnique | Kind::CleanUnique => self.shared(),
-            Kind::Evict => Told::I,
+            Kind::Evict
+            | Kind::ReadOnce
+            | Kind::MakeUnique
+            | Kind::CleanShared
+            | Kind::CleanInvalid
+            | Kind::MakeInvalid
+            | Kind::WriteUniqueFull => Told::I,
             Kind::WriteBackFull | Kind::WriteCleanFull => {
                 if matches!(self, Told::SD) {
                     Told::SD
@@ -182,8 +221,8 @@ impl Told {
     }
 
     /// What is told behind a flit of the home.
-    pub(crate) fn granted(self, grant: Grant) -> Told
-        ensures { result ≡ told_by grant self }
+    pub(crate) fn granted(self, grant: Grant, due: Due) -> Told
+        ensures { result ≡ told_by grant due self }
     {
         match grant {
             Grant::CompData(form) => if self.is_dirty() {
@@ -191,8 +230,13 @@ impl Told {
             } else {
                 told_as(form)
             },
-            Grant::CompUC => self.upgraded(),
-            Grant::RetryAck | Grant::Snp(_) | Grant::CompI | Grant::CompDBIDResp => self,
+            Grant::CompUC => if is_upgraded(due) {
+                self.upgraded()
+            } else {
+                self
+            },
+            Grant::RetryAck | Grant::Snp(_) | Grant::CompSC | Grant::CompI | Grant::CompDBIDResp =>
+                self,
         }
     }
 
@@ -236,7 +280,11 @@ pub(crate) fn answer_tells_dirty(answer: Answer) -> bool
 {
     matches!(
         answer,
-        Answer::SnpRespDataSD | Answer::SnpRespDataIPD | Answer::SnpRespDataSCPD
+        Answer::SnpRespDataUD
+            | Answer::SnpRespDataSD
+            | Answer::SnpRespDataIPD
+            | Answer::SnpRespDataSCPD
+            | Answer::SnpRespDataUCPD
     )
 }
 
@@ -247,6 +295,6 @@ pub(crate) fn tells_dirty(act: Act) -> bool
     match act {
         Act::Request(kind) => matches!(kind, Kind::WriteBackFull | Kind::WriteCleanFull),
         Act::SnpResp(answer) => answer_tells_dirty(answer),
-        Act::Resend(_) | Act::CompAck | Act::CopyBackWrData(_) => false,
+        Act::Resend(_) | Act::CompAck | Act::CopyBackWrData(_) | Act::NonCopyBackWrData => false,
     }
 }

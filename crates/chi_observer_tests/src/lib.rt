@@ -2,4 +2,8 @@
 #![tactic(auto)]
 
 #[cfg(test)]
+mod flits;
+#[cfg(test)]
+mod kinds;
+#[cfg(test)]
 mod traces;

@@ -1,48 +1,15 @@
 //! Short traces of one line, and the first flit of each that isn't taken.
 
-use chi_flit::Kind::{CleanUnique, ReadShared, ReadUnique, WriteBackFull};
-use chi_flit::Snoop::{SnpShared, SnpUnique};
+use crate::flits::{NEW, OLD, down, fault_of, up};
+use chi_flit::NO_DATA;
 use chi_flit::State::{SC, SD, UC, UD};
-use chi_flit::{Agent, Data, NO_DATA};
 use chi_observer::Act::{CompAck, CopyBackWrData, Request, Resend, SnpResp};
 use chi_observer::Answer::{SnpRespDataIPD, SnpRespDataSD, SnpRespI};
 use chi_observer::Grant::{CompDBIDResp, CompData, CompUC, RetryAck, Snp};
-use chi_observer::{Act, CacheFlit, Flit, Grant, HomeFlit, Observer, Reason};
+use chi_observer::Kind::{CleanUnique, ReadShared, ReadUnique, WriteBackFull};
+use chi_observer::Snoop::{SnpShared, SnpUnique};
+use chi_observer::{Flit, Observer, Reason};
 use std::process::Abort;
-
-/// Two values of the line.
-const OLD: Data = [7; 8];
-
-const NEW: Data = [7, 7, 7, 9, 7, 7, 7, 7];
-
-/// A flit of an agent's cache.
-fn up(agent: u8, act: Act, shown: Data) -> Flit {
-    Flit::Up(CacheFlit {
-        agent: Agent(agent),
-        act,
-        shown,
-    })
-}
-
-/// A flit of the home to an agent.
-fn down(agent: u8, grant: Grant, shown: Data) -> Flit {
-    Flit::Down(HomeFlit {
-        agent: Agent(agent),
-        grant,
-        shown,
-    })
-}
-
-/// The first flit that isn't taken, by its place, and why.
-fn fault_of(flits: &[Flit]) -> Option<(usize, Reason)> {
-    let mut observer = Observer::new();
-    for (place, flit) in flits.iter().enumerate() {
-        if let Err(reason) = observer.take(*flit) {
-            return Some((place, reason));
-        }
-    }
-    None
-}
 
 /// What comes of a last flit behind agent 0's read of the old words, alone, and agent 1's request of them for itself.
 fn fault_behind_a_read(rt: &impl Abort, last: &[Flit], wanted: Option<(usize, Reason)>) {

@@ -6,7 +6,7 @@ use Rattle.chi_observer.specs.Tables.{fits_told, renews}
 use Rattle.chi_observer.specs.Lines.{agent_of, known_of}
 use Rattle.chi_observer.specs.Rules.{has_data}
 use Rattle.chi_observer.specs.Observed.{fits}
-use Rattle.chi_observer.proofs.Lines.{sent_by, all_stand}
+use Rattle.chi_observer.proofs.Lines.{sent_by, all_stand, stale}
 use Rattle.chi_observer.proofs.observer.Observer.take_sent.Goals as goal
 
 pub returns-clause-after : goal.returns-clause-after
@@ -35,3 +35,17 @@ returns-clause-taken c =
     (sym c.sends.ensures ∙ sends)
     (same_test c.has_data-shows.result (has_data f.act) c.is_renewed-renewed.result (renews f.act (agent_of old.agents n).due (known_of (agent_of old.agents n))) old.current c.may_be-known.result (fits old.home f.shown) c.has_data-shows.ensures c.is_renewed-renewed.ensures c.may_be-known.ensures test) in
     subst (λ (k : ℕ). true ≡ (allows f.act (agent_of old.agents k).snooped && (fits_told f.act (agent_of old.agents k).due (known_of (agent_of old.agents k)) && (not (has_data f.act) || (renews f.act (agent_of old.agents k).due (known_of (agent_of old.agents k)) || (not old.current || fits old.home f.shown)))))) c.from-at.ensures at_n
+
+pub returns-then-not-known-clause-taken : goal.returns-then-not-known-clause-taken
+returns-then-not-known-clause-taken c =
+    let f = c.args.flit in
+    let old = c.args.self.now in
+    let n = c.from-at.result in
+    let shows : c.has_data-shows.result ≡ true = search (rules, arith, c.if-shows) in
+    let renewed : c.is_renewed-renewed.result ≡ false = search (rules, arith, c.if-not-renewed) in
+    let current : old.current ≡ true = search (rules, arith, c.if-self) in
+    let known : c.may_be-known.result ≡ false = search (rules, arith, c.if-not-known) in
+    subst (λ (k : ℕ). false ≡ (allows f.act (agent_of old.agents k).snooped && (fits_told f.act (agent_of old.agents k).due (known_of (agent_of old.agents k)) && (not (has_data f.act) || (renews f.act (agent_of old.agents k).due (known_of (agent_of old.agents k)) || (not old.current || fits old.home f.shown))))))
+    c.from-at.ensures
+    (stale (allows f.act (agent_of old.agents n).snooped) (fits_told f.act (agent_of old.agents n).due (known_of (agent_of old.agents n))) (has_data f.act) (renews f.act (agent_of old.agents n).due (known_of (agent_of old.agents n))) old.current (fits old.home f.shown)
+    (sym c.has_data-shows.ensures ∙ shows) (sym c.is_renewed-renewed.ensures ∙ renewed) current (sym c.may_be-known.ensures ∙ known))

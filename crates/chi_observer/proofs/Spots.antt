@@ -1,0 +1,175 @@
+-- Families of the places of a table, by flit and by what is due: each is tried only where the flit may be.
+use Rattle.std.proofs.Common.{rules, arith, ◌≡◌, refl}
+use Rattle.std.specs.Prelude.{Bool, true, false, ◌&&◌, Option, Some, None, if◌then◌else◌}
+use Rattle.chi_observer.specs.declared.kinds.Snoop.{Snoop}
+use Rattle.chi_observer.specs.declared.told.Told.{Told}
+use Rattle.chi_observer.specs.declared.flits.Due.{Due}
+use Rattle.chi_observer.specs.declared.flits.Due.TheVariants.{Nothing, Completion, Resending, SureCompletion, WriteData, Acknowledgement}
+use Rattle.chi_observer.specs.declared.flits.Act.{Act}
+use Rattle.chi_observer.specs.declared.flits.Act.TheVariants.{Request, Resend, SnpResp, CompAck, CopyBackWrData, NonCopyBackWrData}
+use Rattle.chi_observer.specs.declared.flits.Grant.{Grant}
+use Rattle.chi_observer.specs.Copies.{Copy, Held}
+use Rattle.chi_observer.specs.Rules.{acts, is_copy_back, is_due, same_kind}
+use Rattle.chi_observer.specs.Tables.{Known, fits_told}
+use Rattle.chi_observer.proofs.Finite.{no, left, right, where_it, tried, all_bools, each_bool, all_forms, each_form, all_kinds, each_kind, all_answers, each_answer, all_grants, each_grant, all_snoops, each_snoop, all_dues, each_due, all_tolds, each_told, all_knowns, each_known, all_copies, each_copy, all_helds, each_held}
+
+-- what is due lets a cache send it
+abbrev pub can_be : Act → Due → Bool
+can_be (Resend kind) (Resending asked) = same_kind kind asked
+can_be (CopyBackWrData form) (WriteData kind) = is_copy_back kind
+can_be (Resend kind) d = false
+can_be (CopyBackWrData form) d = false
+can_be NonCopyBackWrData d = false
+can_be other d = true
+
+empty : (x : Held) → None ≡ Some x → ⊥
+empty x h = search (rules, arith)
+
+if_some : (c : Bool) (x s : Held) → (if c then Some x else None) ≡ Some s → c ≡ true
+if_some true x s h = search (rules, arith)
+if_some false x s h = absurd (empty s h)
+
+pub acted_can : (a : Act) (d : Due) (s s' : Held) → acts a d s ≡ Some s' → can_be a d ≡ true
+acted_can (Resend x) (Resending y) s s' e = left _ _ (if_some _ s s' e)
+acted_can (Resend x) Nothing s s' e = absurd (empty s' e)
+acted_can (Resend x) (Completion y) s s' e = absurd (empty s' e)
+acted_can (Resend x) (SureCompletion y) s s' e = absurd (empty s' e)
+acted_can (Resend x) (WriteData y) s s' e = absurd (empty s' e)
+acted_can (Resend x) Acknowledgement s s' e = absurd (empty s' e)
+acted_can (CopyBackWrData x) (WriteData y) s s' e = left _ _ (if_some _ _ s' e)
+acted_can (CopyBackWrData x) Nothing s s' e = absurd (empty s' e)
+acted_can (CopyBackWrData x) (Completion y) s s' e = absurd (empty s' e)
+acted_can (CopyBackWrData x) (SureCompletion y) s s' e = absurd (empty s' e)
+acted_can (CopyBackWrData x) (Resending y) s s' e = absurd (empty s' e)
+acted_can (CopyBackWrData x) Acknowledgement s s' e = absurd (empty s' e)
+acted_can NonCopyBackWrData d s s' e = absurd (empty s' e)
+acted_can (Request x) d s s' e = refl
+acted_can (SnpResp x) d s s' e = refl
+acted_can CompAck d s s' e = refl
+
+pub fits_can : (a : Act) (d : Due) (t : Known) → fits_told a d t ≡ true → can_be a d ≡ true
+fits_can (Resend x) (Resending y) t e = left _ _ e
+fits_can (Resend x) Nothing t e = no e
+fits_can (Resend x) (Completion y) t e = no e
+fits_can (Resend x) (SureCompletion y) t e = no e
+fits_can (Resend x) (WriteData y) t e = no e
+fits_can (Resend x) Acknowledgement t e = no e
+fits_can (CopyBackWrData x) (WriteData y) t e = left _ _ e
+fits_can (CopyBackWrData x) Nothing t e = no e
+fits_can (CopyBackWrData x) (Completion y) t e = no e
+fits_can (CopyBackWrData x) (SureCompletion y) t e = no e
+fits_can (CopyBackWrData x) (Resending y) t e = no e
+fits_can (CopyBackWrData x) Acknowledgement t e = no e
+fits_can NonCopyBackWrData d t e = no e
+fits_can (Request x) d t e = refl
+fits_can (SnpResp x) d t e = refl
+fits_can CompAck d t e = refl
+
+-- FLITS OF A CACHE
+-- those for which the kind of what is due is of no matter, and those which it has to match
+abbrev pub all_plain : (Act → Bool) → Bool
+all_plain f = all_kinds (λ k. f (Request k)) && (all_answers (λ a. f (SnpResp a)) && f CompAck)
+
+abbrev pub all_paired : (Act → Due → Bool) → Bool
+all_paired f = all_kinds (λ k. all_kinds (λ q. where_it (same_kind k q) (λ _. f (Resend k) (Resending q))))
+    && all_kinds (λ k. where_it (is_copy_back k) (λ _. all_forms (λ s. f (CopyBackWrData s) (WriteData k))))
+
+pub record Tried (f : Act → Due → Bool) : Type 0 where
+  pub plain : (d : Due) → all_plain (λ a. f a d) ≡ true
+  pub paired : all_paired f ≡ true
+
+pub each_tried : (f : Act → Due → Bool) → Tried f → (a : Act) (d : Due) → can_be a d ≡ true → f a d ≡ true
+each_tried f h (Request k) d c = each_kind (λ k. f (Request k) d) (left (all_kinds (λ k. f (Request k) d)) _ (h.plain d)) k
+each_tried f h (SnpResp a) d c = each_answer (λ a. f (SnpResp a) d) (left (all_answers (λ a. f (SnpResp a) d)) _ (right (all_kinds (λ k. f (Request k) d)) _ (h.plain d))) a
+each_tried f h CompAck d c = right (all_answers (λ a. f (SnpResp a) d)) _ (right (all_kinds (λ k. f (Request k) d)) _ (h.plain d))
+each_tried f h (Resend k) (Resending q) c = tried (same_kind k q) (λ _. f (Resend k) (Resending q))
+    (each_kind (λ q. where_it (same_kind k q) (λ _. f (Resend k) (Resending q))) (each_kind (λ k. all_kinds (λ q. where_it (same_kind k q) (λ _. f (Resend k) (Resending q))))
+    (left (all_kinds (λ k. all_kinds (λ q. where_it (same_kind k q) (λ _. f (Resend k) (Resending q))))) _ h.paired) k) q) c
+each_tried f h (Resend k) Nothing c = no c
+each_tried f h (Resend k) (Completion q) c = no c
+each_tried f h (Resend k) (SureCompletion q) c = no c
+each_tried f h (Resend k) (WriteData q) c = no c
+each_tried f h (Resend k) Acknowledgement c = no c
+each_tried f h (CopyBackWrData s) (WriteData k) c = each_form (λ s. f (CopyBackWrData s) (WriteData k)) (tried (is_copy_back k) (λ _. all_forms (λ s. f (CopyBackWrData s) (WriteData k)))
+    (each_kind (λ k. where_it (is_copy_back k) (λ _. all_forms (λ s. f (CopyBackWrData s) (WriteData k))))
+    (right (all_kinds (λ k. all_kinds (λ q. where_it (same_kind k q) (λ _. f (Resend k) (Resending q))))) _ h.paired) k) c) s
+each_tried f h (CopyBackWrData s) Nothing c = no c
+each_tried f h (CopyBackWrData s) (Completion q) c = no c
+each_tried f h (CopyBackWrData s) (SureCompletion q) c = no c
+each_tried f h (CopyBackWrData s) (Resending q) c = no c
+each_tried f h (CopyBackWrData s) Acknowledgement c = no c
+each_tried f h NonCopyBackWrData d c = no c
+
+abbrev pub spots : (Act → Due → Known → Held → Bool → Bool) → Act → Due → Bool
+spots f a d = all_knowns (λ k. all_helds (λ h. all_bools (λ b. f a d k h b)))
+
+pub each_spot : (f : Act → Due → Known → Held → Bool → Bool) → Tried (spots f) → (a : Act) (d : Due) → can_be a d ≡ true → (k : Known) → (h : Held) → (b : Bool) → f a d k h b ≡ true
+each_spot f e a d c k h b = each_bool (λ b. f a d k h b) (each_held (λ h. all_bools (λ b. f a d k h b)) (each_known (λ k. all_helds (λ h. all_bools (λ b. f a d k h b))) (each_tried (spots f) e a d c) k) h) b
+
+abbrev pub sent_spots : (Act → Due → Held → Bool) → Act → Due → Bool
+sent_spots f a d = all_helds (λ h. f a d h)
+
+pub each_sent : (f : Act → Due → Held → Bool) → Tried (sent_spots f) → (a : Act) (d : Due) → can_be a d ≡ true → (h : Held) → f a d h ≡ true
+each_sent f e a d c h = each_held (λ h. f a d h) (each_tried (sent_spots f) e a d c) h
+
+abbrev pub told_spots : (Act → Due → Known → Told → Bool) → Act → Due → Bool
+told_spots f a d = all_knowns (λ k. all_tolds (λ u. f a d k u))
+
+pub each_told_spot : (f : Act → Due → Known → Told → Bool) → Tried (told_spots f) → (a : Act) (d : Due) → can_be a d ≡ true → (k : Known) → (u : Told) → f a d k u ≡ true
+each_told_spot f e a d c k u = each_told (λ u. f a d k u) (each_known (λ k. all_tolds (λ u. f a d k u)) (each_tried (told_spots f) e a d c) k) u
+
+abbrev pub known_spots : (Act → Due → Known → Bool) → Act → Due → Bool
+known_spots f a d = all_knowns (λ k. f a d k)
+
+pub each_known_spot : (f : Act → Due → Known → Bool) → Tried (known_spots f) → (a : Act) (d : Due) → can_be a d ≡ true → (k : Known) → f a d k ≡ true
+each_known_spot f e a d c k = each_known (λ k. f a d k) (each_tried (known_spots f) e a d c) k
+
+-- FLITS OF THE HOME
+abbrev pub all_gifts : (Grant → Due → Option Snoop → Bool) → Bool
+all_gifts f = all_grants (λ g. all_dues (λ d. where_it (is_due g d None) (λ _. f g d None) && all_snoops (λ x. where_it (is_due g d (Some x)) (λ _. f g d (Some x)))))
+
+each_snooped : (f : Option Snoop → Bool) (g : Grant) (d : Due) → (where_it (is_due g d None) (λ _. f None) && all_snoops (λ x. where_it (is_due g d (Some x)) (λ _. f (Some x)))) ≡ true → (q : Option Snoop) → is_due g d q ≡ true → f q ≡ true
+each_snooped f g d h None c = tried (is_due g d None) (λ _. f None) (left (where_it (is_due g d None) (λ _. f None)) _ h) c
+each_snooped f g d h (Some x) c = tried (is_due g d (Some x)) (λ _. f (Some x)) (each_snoop (λ x. where_it (is_due g d (Some x)) (λ _. f (Some x))) (right (where_it (is_due g d None) (λ _. f None)) _ h) x) c
+
+pub each_due_gift : (f : Grant → Due → Option Snoop → Bool) → all_gifts f ≡ true → (g : Grant) (d : Due) (q : Option Snoop) → is_due g d q ≡ true → f g d q ≡ true
+each_due_gift f h g d = each_snooped (f g d) g d
+    (each_due (λ d. where_it (is_due g d None) (λ _. f g d None) && all_snoops (λ x. where_it (is_due g d (Some x)) (λ _. f g d (Some x))))
+    (each_grant (λ g. all_dues (λ d. where_it (is_due g d None) (λ _. f g d None) && all_snoops (λ x. where_it (is_due g d (Some x)) (λ _. f g d (Some x))))) h g) d)
+
+abbrev pub held_gifts : (Grant → Due → Option Snoop → Known → Held → Bool) → Grant → Due → Option Snoop → Bool
+held_gifts f g d q = all_knowns (λ k. all_helds (λ h. f g d q k h))
+
+pub each_gift : (f : Grant → Due → Option Snoop → Known → Held → Bool) → all_gifts (held_gifts f) ≡ true → (g : Grant) (d : Due) (q : Option Snoop) → is_due g d q ≡ true → (k : Known) → (h : Held) → f g d q k h ≡ true
+each_gift f e g d q c k h = each_held (λ h. f g d q k h) (each_known (λ k. all_helds (λ h. f g d q k h)) (each_due_gift (held_gifts f) e g d q c) k) h
+
+abbrev pub told_gifts : (Grant → Due → Option Snoop → Known → Bool) → Grant → Due → Option Snoop → Bool
+told_gifts f g d q = all_knowns (λ k. f g d q k)
+
+pub each_told_gift : (f : Grant → Due → Option Snoop → Known → Bool) → all_gifts (told_gifts f) ≡ true → (g : Grant) (d : Due) (q : Option Snoop) → is_due g d q ≡ true → (k : Known) → f g d q k ≡ true
+each_told_gift f e g d q c k = each_known (λ k. f g d q k) (each_due_gift (told_gifts f) e g d q c) k
+
+-- WITHOUT A FLIT
+abbrev pub all_due_copies : (Due → Known → Held → Bool) → Bool
+all_due_copies f = all_dues (λ d. all_knowns (λ k. all_helds (λ h. f d k h)))
+
+pub each_due_copy : (f : Due → Known → Held → Bool) → all_due_copies f ≡ true → (d : Due) → (k : Known) → (h : Held) → f d k h ≡ true
+each_due_copy f e d k h = each_held (λ h. f d k h) (each_known (λ k. all_helds (λ h. f d k h)) (each_due (λ d. all_knowns (λ k. all_helds (λ h. f d k h))) e d) k) h
+
+abbrev pub all_pairs : (Told → Told → Copy → Copy → Bool) → Bool
+all_pairs f = all_tolds (λ t. all_tolds (λ u. all_copies (λ s. all_copies (λ r. f t u s r))))
+
+pub each_pair : (f : Told → Told → Copy → Copy → Bool) → all_pairs f ≡ true → (t : Told) → (u : Told) → (s : Copy) → (r : Copy) → f t u s r ≡ true
+each_pair f e t u s r = each_copy (λ r. f t u s r) (each_copy (λ s. all_copies (λ r. f t u s r)) (each_told (λ u. all_copies (λ s. all_copies (λ r. f t u s r))) (each_told (λ t. all_tolds (λ u. all_copies (λ s. all_copies (λ r. f t u s r)))) e t) u) s) r
+
+abbrev pub all_told_pairs : (Told → Told → Bool) → Bool
+all_told_pairs f = all_tolds (λ t. all_tolds (λ u. f t u))
+
+pub each_told_pair : (f : Told → Told → Bool) → all_told_pairs f ≡ true → (t : Told) → (u : Told) → f t u ≡ true
+each_told_pair f e t u = each_told (λ u. f t u) (each_told (λ t. all_tolds (λ u. f t u)) e t) u
+
+abbrev pub all_copy_pairs : (Copy → Copy → Bool) → Bool
+all_copy_pairs f = all_copies (λ s. all_copies (λ r. f s r))
+
+pub each_copy_pair : (f : Copy → Copy → Bool) → all_copy_pairs f ≡ true → (s : Copy) → (r : Copy) → f s r ≡ true
+each_copy_pair f e s r = each_copy (λ r. f s r) (each_copy (λ s. all_copies (λ r. f s r)) e s) r

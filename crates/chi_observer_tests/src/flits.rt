@@ -1,0 +1,39 @@
+//! Flits of one line, and the first that isn't taken.
+
+use chi_flit::{Agent, Data};
+use chi_observer::{Act, CacheFlit, Flit, Grant, HomeFlit, Observer, Reason};
+
+/// A value of the line.
+pub(crate) const OLD: Data = [7; 8];
+
+/// Another.
+pub(crate) const NEW: Data = [7, 7, 7, 9, 7, 7, 7, 7];
+
+/// A flit of an agent's cache.
+pub(crate) fn up(agent: u8, act: Act, shown: Data) -> Flit {
+    Flit::Up(CacheFlit {
+        agent: Agent(agent),
+        act,
+        shown,
+    })
+}
+
+/// A flit of the home to an agent.
+pub(crate) fn down(agent: u8, grant: Grant, shown: Data) -> Flit {
+    Flit::Down(HomeFlit {
+        agent: Agent(agent),
+        grant,
+        shown,
+    })
+}
+
+/// The first flit that isn't taken, by its place, and why.
+pub(crate) fn fault_of(flits: &[Flit]) -> Option<(usize, Reason)> {
+    let mut observer = Observer::new();
+    for (place, flit) in flits.iter().enumerate() {
+        if let Err(reason) = observer.take(*flit) {
+            return Some((place, reason));
+        }
+    }
+    None
+}
