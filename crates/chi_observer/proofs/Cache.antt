@@ -1,17 +1,17 @@
 -- A flit of a cache: it is taken where a world sends it, and leads to what is meant.
-use Rattle.std.proofs.Common.{◌≡◌, ℕ, ◌<◌, List, refl, sym, subst, ◌∙◌}
-use Rattle.std.specs.Prelude.{Bool, true, false, ◌&&◌, not, Some}
+use Rattle.std.proofs.Common.{rules, arith, ◌≡◌, ◌≢◌, ℕ, ◌<◌, List, refl, sym, ap, subst, ◌∙◌}
+use Rattle.std.specs.Prelude.{Bool, true, false, ◌&&◌, ◌||◌, not, Some, if◌then◌else◌}
 use Rattle.chi_observer.specs.declared.flits.Due.{Due}
 use Rattle.chi_observer.specs.declared.flits.CacheFlit.{CacheFlit}
-use Rattle.chi_observer.specs.Copies.{Held, holds_data, same}
-use Rattle.chi_observer.specs.Copies.Copy.{UniqueDirty}
-use Rattle.chi_observer.specs.Rules.{has_data, due_after}
+use Rattle.chi_observer.specs.Copies.{Copy, Held, holds_data, same}
+use Rattle.chi_observer.specs.Copies.Copy.{UniqueDirty, Writing}
+use Rattle.chi_observer.specs.Rules.{has_data, writes, tells_words, due_after}
 use Rattle.chi_observer.specs.Tables.{Known, most, reach, fresh, told_after, fits_told, renews}
 use Rattle.chi_observer.specs.Worlds.{World, Clean, Sends}
 use Rattle.chi_observer.specs.Observed.{Observed, Sound, Unstored, Meaning, fits, takes, differs, next}
 use Rattle.chi_observer.specs.Laws.{MeaningIsCoherent, CacheFlitsAreTaken, CacheFlitsLead}
 use Rattle.chi_observer.proofs.Finite.{no, left, right, both, implies, follow}
-use Rattle.chi_observer.proofs.Facts.{surely_dirty, unstored_clean, sent_data, taken_well, forward, below, rival, turned, flip, contrary, implied}
+use Rattle.chi_observer.proofs.Facts.{surely_dirty, unstored_clean, sent_data, sent_whole, taken_well, forward, below, rival, or_here, or_there, beside_writing, turned, flip, contrary, implied}
 use Rattle.chi_observer.proofs.Words.{known_fits, shown_fits, home_is, current_is}
 use Rattle.chi_observer.proofs.Put.{split, everywhere, at_it, at_else}
 
@@ -33,6 +33,13 @@ coherent o w sound m = record {
   pairs = λ n k ln lk d. below (o.public.due n) (o.public.due k) (o.told n) (o.told k) (w.state n) (w.state k) (m.told n ln) (m.told k lk) (sound.pairs n k ln lk d);
   words = m.words;
 }
+
+or_not : (a b : Bool) → b ≡ false → (a || b) ≡ a
+or_not true b h = refl
+or_not false b h = h
+
+writing_empty : (s : Copy) → same s Writing ≡ true → holds_data s ≡ false
+writing_empty s h = search (rules, arith)
 
 module _ (o : Observed) (f : CacheFlit) (w w' : World) (sound : Sound o) (low : f.agent.0 < 32) (m : Meaning o w) (send : Sends o.public f w w') where
   abbrev n : ℕ
@@ -71,7 +78,7 @@ module _ (o : Observed) (f : CacheFlit) (w w' : World) (sound : Sound o) (low : 
 
   unstored : has_data f.act ≡ true → fresh d t s ≡ false → Unstored o w
   unstored h e = split (λ k. k < 32 → fresh (o.public.due k) (o.told k) (w.state k) ≡ false) n (λ _. e)
-      (λ k c lk. rival d (o.public.due k) t (o.told k) s (w.state k) (m.told n low) (holds h) (sound.pairs n k low lk (λ x. c (sym x))))
+      (λ k c lk. rival d (o.public.due k) t (o.told k) s (w.state k) (m.told n low) (or_here _ _ (holds h)) (sound.pairs n k low lk (λ x. c (sym x))))
 
   known_is : has_data f.act ≡ true → fresh d t s ≡ false → o.current ≡ true → (u : List ℕ) → o.home ≡ Some u → u ≡ f.shown
   known_is h e c u k = sym (m.home u k) ∙ sym (m.current c (unstored h e)) ∙ sym (shown_last h)
@@ -117,15 +124,43 @@ module _ (o : Observed) (f : CacheFlit) (w w' : World) (sound : Sound o) (low : 
       (λ k h lk. subst (λ x. fresh (o.public.due k) (o.told k) x ≡ false) (send.others.state k lk h)
       (at_else (λ k x y. k < 32 → fresh x y (w'.state k) ≡ false) n d' t' o.public.due o.told u k h lk))
 
+  last_by : writes f.act ≡ false → w'.last ≡ w.last
+  last_by e = send.last ∙ ap (λ b. if b then f.shown else w.last) e
+
+  -- beside what writes without a copy there is none
+  alone_by : writes f.act ≡ true → (k : ℕ) → k ≢ n → k < 32 → holds_data (w.state k).copy ≡ false
+  alone_by e k h lk = beside_writing s.copy (w.state k).copy (sent_whole f.act d s s' send.act e)
+      (below d (o.public.due k) t (o.told k) s (w.state k) (m.told n low) (m.told k lk) (sound.pairs n k low lk (λ x. h (sym x))))
+
+  here_words : (b : Bool) → writes f.act ≡ b → holds_data s'.copy ≡ true → w'.words n ≡ w'.last
+  here_words true e v = no (sym (no_whole e) ∙ had_data v)
+    where
+      no_whole : writes f.act ≡ true → holds_data s.copy ≡ false
+      no_whole e = writing_empty s.copy (sent_whole f.act d s s' send.act e)
+  here_words false e v = send.words v ∙ m.words n low (had_data v) ∙ sym (last_by e)
+
+  else_words : (k : ℕ) → k ≢ n → k < 32 → holds_data (w.state k).copy ≡ true → (b : Bool) → writes f.act ≡ b → w.words k ≡ w'.last
+  else_words k h lk v true e = no (sym (alone_by e k h lk) ∙ v)
+  else_words k h lk v false e = m.words k lk v ∙ sym (last_by e)
+
+  current_after_it : (next o f).current ≡ true → Unstored (next o f) w' → (b : Bool) → writes f.act ≡ b → w'.last ≡ w'.home
+  current_after_it c u true e = send.last ∙ ap (λ b. if b then f.shown else w.last) e ∙ sym (send.home ∙ ap (λ b. if b then f.shown else w.home) (or_there (has_data f.act) _ e))
+  current_after_it c u false e = last_by e
+      ∙ current_is (has_data f.act) r o.current f.shown w.home w.last (λ h. sym (shown_last h)) (λ e c. m.current c (before e u)) (sym (ap (λ b. if b then true else (if r then false else o.current)) (tells_same e)) ∙ c)
+      ∙ sym (send.home ∙ ap (λ b. if b then f.shown else w.home) (tells_same e))
+    where
+      tells_same : writes f.act ≡ false → tells_words f.act ≡ has_data f.act
+      tells_same e = or_not (has_data f.act) (writes f.act) e
+
   pub led_here : Meaning (next o f) w'
   led_here = record {
     told = everywhere (λ k x y. k < 32 → reach x y (w'.state k) ≡ true) n d' t' o.public.due o.told (λ _. reached)
         (λ k h lk. subst (λ x. reach (o.public.due k) (o.told k) x ≡ true) (sym (send.others.state k lk h)) (m.told k lk));
     words = split (λ k. k < 32 → holds_data (w'.state k).copy ≡ true → w'.words k ≡ w'.last) n
-        (λ lk v. send.words v ∙ m.words n lk (had_data v) ∙ sym send.last)
-        (λ k h lk v. send.others.words k lk h ∙ m.words k lk (subst (λ (x : Held). holds_data x.copy ≡ true) (send.others.state k lk h) v) ∙ sym send.last);
-    home = λ v h. send.home ∙ home_is (has_data f.act) f.shown w.home o.home v m.home h;
-    current = λ c u. send.last ∙ current_is (has_data f.act) r o.current f.shown w.home w.last (λ h. sym (shown_last h)) (λ e c. m.current c (before e u)) c ∙ sym send.home;
+        (λ lk v. here_words (writes f.act) refl v)
+        (λ k h lk v. send.others.words k lk h ∙ else_words k h lk (subst (λ (x : Held). holds_data x.copy ≡ true) (send.others.state k lk h) v) (writes f.act) refl);
+    home = λ v h. send.home ∙ home_is (tells_words f.act) f.shown w.home o.home v m.home h;
+    current = λ c u. current_after_it c u (writes f.act) refl;
   }
 
 pub taken : CacheFlitsAreTaken

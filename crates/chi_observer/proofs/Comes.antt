@@ -5,7 +5,7 @@ use Rattle.chi_observer.specs.declared.flits.Due.{Due}
 use Rattle.chi_observer.specs.declared.flits.CacheFlit.{CacheFlit}
 use Rattle.chi_observer.specs.Copies.{Held, holds_data, same}
 use Rattle.chi_observer.specs.Copies.Copy.{Invalid, UniqueDirty}
-use Rattle.chi_observer.specs.Rules.{allows, has_data}
+use Rattle.chi_observer.specs.Rules.{allows, tells_words}
 use Rattle.chi_observer.specs.Tables.{Known, most, reach, fresh, goes_with, fits_told, told_after, renews}
 use Rattle.chi_observer.specs.Worlds.{World, Elsewhere, Stores, Drops, Cancels, Hidden, put}
 use Rattle.chi_observer.specs.Observed.{Observed, Sound, Unstored, Meaning, takes, differs, next}
@@ -41,10 +41,10 @@ module _ (o : Observed) (f : CacheFlit) (sound : Sound o) (low : f.agent.0 < 32)
   goes : (m : ℕ) → m ≢ at → m < 32 → goes_with left_told (o.told m) ≡ true
   goes m h k = told_goes f.act d (o.told at) (o.told m) b fitting (sound.pairs at m low k (λ e. h (sym e)))
 
-  stays : has_data f.act ≡ false → (same (most (o.told at)) UniqueDirty || renews f.act d (o.told at)) ≡ true → same (most (put at left_told o.told at)) UniqueDirty ≡ true
+  stays : tells_words f.act ≡ false → (same (most (o.told at)) UniqueDirty || renews f.act d (o.told at)) ≡ true → same (most (put at left_told o.told at)) UniqueDirty ≡ true
   stays e h = subst (λ x. same (most x) UniqueDirty ≡ true) (sym (here at left_told o.told)) (stays_dirty f.act d (o.told at) b (both _ _ fitting (both _ _ (flip _ e) h)))
 
-  owner_by : (h r : Bool) → has_data f.act ≡ h → renews f.act d (o.told at) ≡ r → (if h then true else (if r then false else o.current)) ≡ false → (k : ℕ) × (k < 32) × (same (most (put at left_told o.told k)) UniqueDirty ≡ true)
+  owner_by : (h r : Bool) → tells_words f.act ≡ h → renews f.act d (o.told at) ≡ r → (if h then true else (if r then false else o.current)) ≡ false → (k : ℕ) × (k < 32) × (same (most (put at left_told o.told k)) UniqueDirty ≡ true)
   owner_by true r hd hr e = no (sym e)
   owner_by false true hd hr e = (at, low, stays hd (or_true (same (most (o.told at)) UniqueDirty) _ hr))
   owner_by false false hd hr e = let w = sound.owner e in (
@@ -58,7 +58,7 @@ module _ (o : Observed) (f : CacheFlit) (sound : Sound o) (low : f.agent.0 < 32)
   kept_here = record {
     pairs = λ i j li lj e. pairwise (λ i j a b. i < 32 → j < 32 → goes_with a b ≡ true) at left_told o.told
         (λ m h l k. goes m h k) (λ m h k l. goes_back left_told (o.told m) (goes m h k)) (λ i j e li lj. sound.pairs i j li lj e) i j e li lj;
-    owner = owner_by (has_data f.act) (renews f.act d (o.told at)) refl refl;
+    owner = owner_by (tells_words f.act) (renews f.act d (o.told at)) refl refl;
   }
 
 pub kept : CacheFlitsKeepSound

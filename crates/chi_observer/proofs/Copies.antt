@@ -7,10 +7,10 @@ use Rattle.std.proofs.lemmas.Bool.{eqb-true}
 use Rattle.chi_observer.specs.declared.flits.HomeFlit.{HomeFlit}
 use Rattle.chi_observer.specs.Copies.{Copy, Held, holds_data, is_unique, is_dirty, same}
 use Rattle.chi_observer.specs.Copies.Copy.{Invalid, UniqueDirty}
-use Rattle.chi_observer.specs.Rules.{is_free, is_due, gives_data, granted, fills, due_granted}
+use Rattle.chi_observer.specs.Rules.{is_free, is_due, gives_data, needs_alone, granted, fills, due_granted}
 use Rattle.chi_observer.specs.Tables.{Known, most, reach, fresh, goes_with, told_granted, fills_told}
 use Rattle.chi_observer.specs.Worlds.{World, home_may, all_below, put}
-use Rattle.chi_observer.specs.Observed.{Observed, Sound, Meaning, goes, takes_home, next_home}
+use Rattle.chi_observer.specs.Observed.{Observed, Sound, Meaning, is_beside, goes, takes_home, next_home}
 use Rattle.chi_observer.specs.Laws.{HomeFlitsKeepSound}
 use Rattle.chi_observer.proofs.Finite.{no, left, right, both, implies, follow}
 use Rattle.chi_observer.proofs.Facts.{turned, flip, and_false, contrary, goes_back, same_truth, same_truth_is}
@@ -41,8 +41,19 @@ module _ (o : Observed) (g : HomeFlit) (sound : Sound o) (low : g.agent.0 < 32) 
   abbrev left_told : Known
   left_told = told_granted g.grant (o.public.due at) (o.told at)
 
+  stands_else : (m : ℕ) → m ≢ at → m < 32 → is_beside left_told (needs_alone g.grant (o.public.due at)) (o.told m) ≡ true
+  stands_else m h k = one_of (m == at) _ (each_below 32 (λ m. m == at || is_beside left_told (needs_alone g.grant (o.public.due at)) (o.told m)) (right _ (goes o g) (right (home_may o.public g) _ takes)) m k) (unlike m at h)
+
   pub goes_else : (m : ℕ) → m ≢ at → m < 32 → goes_with left_told (o.told m) ≡ true
-  goes_else m h k = one_of (m == at) _ (each_below 32 (λ m. m == at || goes_with left_told (o.told m)) (right _ (goes o g) (right (home_may o.public g) _ takes)) m k) (unlike m at h)
+  goes_else m h k = left _ _ (stands_else m h k)
+
+  -- where the flit says that no other copy is left
+  pub gone_else : needs_alone g.grant (o.public.due at) ≡ true → (m : ℕ) → m ≢ at → m < 32 → same (most (o.told m)) Invalid ≡ true
+  gone_else e m h k = so (needs_alone g.grant (o.public.due at)) _ (right (goes_with left_told (o.told m)) _ (stands_else m h k)) e
+    where
+      so : (a b : Bool) → (not a || b) ≡ true → a ≡ true → b ≡ true
+      so true b h e = h
+      so false b h e = no e
 
   kept_here : Sound (next_home o g)
   kept_here = record {

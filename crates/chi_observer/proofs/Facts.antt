@@ -7,11 +7,11 @@ use Rattle.chi_observer.specs.declared.told.Told.TheVariants.{SD}
 use Rattle.chi_observer.specs.declared.flits.Due.{Due}
 use Rattle.chi_observer.specs.declared.flits.Due.TheVariants.{Nothing, Completion, Resending, SureCompletion, WriteData, Acknowledgement}
 use Rattle.chi_observer.specs.declared.flits.Act.{Act}
-use Rattle.chi_observer.specs.declared.flits.Act.TheVariants.{Request, Resend, SnpResp, CompAck}
+use Rattle.chi_observer.specs.declared.flits.Act.TheVariants.{Request, Resend, SnpResp, CompAck, CopyBackWrData, NonCopyBackWrData}
 use Rattle.chi_observer.specs.declared.flits.Answer.TheVariants.{SnpRespUC}
 use Rattle.chi_observer.specs.Copies.{Copy, Held, holds_data, is_unique, is_dirty, is_clean, same, compatible}
-use Rattle.chi_observer.specs.Copies.Copy.{Invalid, UniqueDirty, SharedDirty}
-use Rattle.chi_observer.specs.Rules.{is_free, is_resending, acts, has_data, due_after}
+use Rattle.chi_observer.specs.Copies.Copy.{Invalid, UniqueDirty, SharedDirty, Writing}
+use Rattle.chi_observer.specs.Rules.{is_free, is_resending, acts, has_data, writes, tells_words, due_after}
 use Rattle.chi_observer.specs.Tables.{Known, strongest, most, may, may_drift, reach, fresh, goes_with, told_behind, told_after, fits_told, tells_dirty, renews}
 use Rattle.chi_observer.proofs.Finite.{no, left, right, both, implies, follow}
 use Rattle.chi_observer.proofs.Spots.{acted_can, fits_can, Tried, all_plain, all_paired, spots, each_spot, sent_spots, each_sent, told_spots, each_told_spot, known_spots, each_known_spot, all_due_copies, each_due_copy, all_pairs, each_pair, all_told_pairs, each_told_pair, all_copy_pairs, each_copy_pair}
@@ -58,7 +58,7 @@ same_held_is a b h = λ i. record { copy = same_is a.copy b.copy (left _ _ h) i;
 abbrev pub of_form : Copy → Held → Held
 of_form s h = record { copy = s; cancelled = h.cancelled }
 
--- what is sent with data has data
+-- what is sent with data has data, and what writes without a copy is told so
 abbrev pub on_some : Option Held → (Held → Bool) → Bool
 on_some None f = true
 on_some (Some s) f = f s
@@ -67,7 +67,7 @@ some_of : (o : Option Held) (s' : Held) (f : Held → Bool) → on_some o f ≡ 
 some_of o s' f h e = subst (λ (x : Option Held). on_some x f ≡ true) e h
 
 sent_table : Act → Due → Held → Bool
-sent_table a d s = on_some (acts a d s) (λ s'. implies (has_data a) (holds_data s.copy))
+sent_table a d s = on_some (acts a d s) (λ s'. implies (has_data a) (holds_data s.copy) && implies (writes a) (same s.copy Writing))
 
 sent_holds_plain : (d : Due) → all_plain (λ a. sent_spots sent_table a d) ≡ true
 unfolding sent_table
@@ -85,9 +85,24 @@ sent_holds_paired = refl
 sent_holds : Tried (sent_spots sent_table)
 sent_holds = record { plain = sent_holds_plain; paired = sent_holds_paired }
 
-pub sent_data : (a : Act) (d : Due) (s s' : Held) → acts a d s ≡ Some s' → has_data a ≡ true → holds_data s.copy ≡ true
+sent_well : (a : Act) (d : Due) (s s' : Held) → acts a d s ≡ Some s' → (implies (has_data a) (holds_data s.copy) && implies (writes a) (same s.copy Writing)) ≡ true
 unfolding sent_table
-sent_data a d s s' e h = follow (has_data a) _ (some_of (acts a d s) s' (λ s'. implies (has_data a) (holds_data s.copy)) (each_sent sent_table sent_holds a d (acted_can a d s s' e) s) e) h
+sent_well a d s s' e = some_of (acts a d s) s' (λ s'. implies (has_data a) (holds_data s.copy) && implies (writes a) (same s.copy Writing)) (each_sent sent_table sent_holds a d (acted_can a d s s' e) s) e
+
+pub sent_data : (a : Act) (d : Due) (s s' : Held) → acts a d s ≡ Some s' → has_data a ≡ true → holds_data s.copy ≡ true
+sent_data a d s s' e = follow (has_data a) _ (left _ (implies (writes a) (same s.copy Writing)) (sent_well a d s s' e))
+
+pub sent_whole : (a : Act) (d : Due) (s s' : Held) → acts a d s ≡ Some s' → writes a ≡ true → same s.copy Writing ≡ true
+sent_whole a d s s' e = follow (writes a) _ (right (implies (has_data a) (holds_data s.copy)) _ (sent_well a d s s' e))
+
+-- data of its own are no data of a copy
+pub no_data : (a : Act) → writes a ≡ true → has_data a ≡ false
+no_data (Request k) h = refl
+no_data (Resend k) h = refl
+no_data (SnpResp a) h = no h
+no_data CompAck h = refl
+no_data (CopyBackWrData s) h = no h
+no_data NonCopyBackWrData h = refl
 
 -- what a flit that is sent leaves; b: its data aren't the value that is known
 abbrev pub taken_well : Act → Due → Known → Held → Bool → Held → Bool
@@ -131,6 +146,7 @@ copy_before (Request kind) d t s' = record { copy = s'.copy; cancelled = is_rese
 copy_before (Resend kind) d t s' = s'
 copy_before CompAck d t s' = s'
 copy_before (SnpResp SnpRespUC) d t s' = s'
+copy_before NonCopyBackWrData d t s' = of_form Writing s'
 copy_before a d t s' = of_form (if tells_dirty a then stored_before t.told else most t) s'
 
 abbrev pub is_some_of : Option Held → Held → Bool
@@ -141,7 +157,8 @@ abbrev pub led_well : Act → Due → Known → Held → Held → Bool → Bool
 led_well a d t s s' b = reach d t s
     && (is_some_of (acts a d s) s'
     && (implies (b || (renews a d t && not (has_data a))) (fresh d t s)
-    && implies (has_data a) (holds_data s.copy)))
+    && (implies (has_data a) (holds_data s.copy)
+    && implies (writes a) (same s.copy Writing && not (holds_data s'.copy)))))
 
 -- right behind the last flit, before hidden steps
 abbrev pub is_settled : Due → Known → Held → Bool
@@ -202,17 +219,25 @@ pub below : (d e : Due) (t u : Known) (s r : Held) → reach d t s ≡ true → 
 unfolding pairs_table
 below d e t u s r a b c = follow (goes_with t u) _ (follow (may_drift u.told r.copy) _ (follow (may_drift t.told s.copy) _ (each_pair pairs_table pairs_holds t.told u.told s.copy r.copy) (drifted d t s a)) (drifted e u r b)) c
 
--- beside a copy with data none may be stored to
+-- beside a copy with data, and beside one that writes, none may be stored to
 rival_table : Told → Told → Copy → Copy → Bool
-rival_table t u s r = implies (may_drift t s) (implies (holds_data s) (implies (compatible (strongest t) (strongest u)) (not (is_unique (strongest u) && same r UniqueDirty))))
+rival_table t u s r = implies (may_drift t s) (implies (holds_data s || same s Writing) (implies (compatible (strongest t) (strongest u)) (not (is_unique (strongest u) && same r UniqueDirty))))
 
 rival_holds : all_pairs rival_table ≡ true
 unfolding rival_table
 rival_holds = refl
 
-pub rival : (d e : Due) (t u : Known) (s r : Held) → reach d t s ≡ true → holds_data s.copy ≡ true → goes_with t u ≡ true → fresh e u r ≡ false
+pub rival : (d e : Due) (t u : Known) (s r : Held) → reach d t s ≡ true → (holds_data s.copy || same s.copy Writing) ≡ true → goes_with t u ≡ true → fresh e u r ≡ false
 unfolding rival_table
-rival d e t u s r a v c = and_false (is_free e r) (is_unique (most u) && same r.copy UniqueDirty) (turned _ (follow (goes_with t u) _ (follow (holds_data s.copy) _ (follow (may_drift t.told s.copy) _ (each_pair rival_table rival_holds t.told u.told s.copy r.copy) (drifted d t s a)) v) c))
+rival d e t u s r a v c = and_false (is_free e r) (is_unique (most u) && same r.copy UniqueDirty) (turned _ (follow (goes_with t u) _ (follow (holds_data s.copy || same s.copy Writing) _ (follow (may_drift t.told s.copy) _ (each_pair rival_table rival_holds t.told u.told s.copy r.copy) (drifted d t s a)) v) c))
+
+pub or_here : (a b : Bool) → a ≡ true → (a || b) ≡ true
+or_here true b h = refl
+or_here false b h = no h
+
+pub or_there : (a b : Bool) → b ≡ true → (a || b) ≡ true
+or_there true b h = refl
+or_there false b h = h
 
 -- what is told then goes with what went with what was told
 told_table : Act → Due → Known → Told → Bool
@@ -251,7 +276,7 @@ unfolding dirty_table
 surely_dirty d t s h r = follow _ _ (each_due_copy dirty_table dirty_holds d t s) (both _ _ h r)
 
 stays_table : Act → Due → Known → Bool
-stays_table a d t = implies (fits_told a d t && (not (has_data a) && (same (most t) UniqueDirty || renews a d t))) (same (strongest (told_behind a d t.told)) UniqueDirty)
+stays_table a d t = implies (fits_told a d t && (not (tells_words a) && (same (most t) UniqueDirty || renews a d t))) (same (strongest (told_behind a d t.told)) UniqueDirty)
 
 stays_holds_plain : (d : Due) → all_plain (λ a. known_spots stays_table a d) ≡ true
 unfolding stays_table
@@ -269,7 +294,7 @@ stays_holds_paired = refl
 stays_holds : Tried (known_spots stays_table)
 stays_holds = record { plain = stays_holds_plain; paired = stays_holds_paired }
 
-pub stays_dirty : (a : Act) (d : Due) (t : Known) (b : Bool) → (fits_told a d t && (not (has_data a) && (same (most t) UniqueDirty || renews a d t))) ≡ true → same (most (told_after a d t b)) UniqueDirty ≡ true
+pub stays_dirty : (a : Act) (d : Due) (t : Known) (b : Bool) → (fits_told a d t && (not (tells_words a) && (same (most t) UniqueDirty || renews a d t))) ≡ true → same (most (told_after a d t b)) UniqueDirty ≡ true
 unfolding stays_table
 stays_dirty a d t b h = follow _ _ (each_known_spot stays_table stays_holds a d (fits_can a d t (left _ _ h)) t) h
 
@@ -385,3 +410,27 @@ unique_holds = refl
 pub beside_unique : (s r : Copy) → is_unique s ≡ true → compatible s r ≡ true → holds_data r ≡ false
 unfolding unique_table
 beside_unique s r h c = turned _ (follow (compatible s r) _ (follow (is_unique s) _ (each_copy_pair unique_table unique_holds s r) h) c)
+
+-- beside one that writes no other has data
+writing_table : Copy → Copy → Bool
+writing_table s r = implies (same s Writing) (implies (compatible s r) (not (holds_data r)))
+
+writing_holds : all_copy_pairs writing_table ≡ true
+unfolding writing_table
+writing_holds = refl
+
+pub beside_writing : (s r : Copy) → same s Writing ≡ true → compatible s r ≡ true → holds_data r ≡ false
+unfolding writing_table
+beside_writing s r h c = turned _ (follow (compatible s r) _ (follow (same s Writing) _ (each_copy_pair writing_table writing_holds s r) h) c)
+
+-- who is told to have none has none
+gone_table : Due → Known → Held → Bool
+gone_table d t s = implies (same (most t) Invalid && reach d t s) (same s.copy Invalid)
+
+gone_holds : all_due_copies gone_table ≡ true
+unfolding gone_table
+gone_holds = refl
+
+pub none_left : (d : Due) (t : Known) (s : Held) → same (most t) Invalid ≡ true → reach d t s ≡ true → same s.copy Invalid ≡ true
+unfolding gone_table
+none_left d t s h r = follow _ _ (each_due_copy gone_table gone_holds d t s) (both _ _ h r)

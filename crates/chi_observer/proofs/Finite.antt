@@ -8,7 +8,8 @@ use Rattle.chi_observer.specs.declared.kinds.Snoop.TheVariants.{SnpOnce, SnpClea
 use Rattle.chi_observer.specs.declared.kinds.Kind.{Kind}
 use Rattle.chi_observer.specs.declared.kinds.Kind.TheVariants.{ReadNotSharedDirty, ReadShared, ReadClean, ReadOnce, ReadUnique, CleanUnique, MakeUnique, CleanShared, CleanInvalid, MakeInvalid, Evict, WriteBackFull, WriteCleanFull, WriteEvictFull, WriteUniqueFull}
 use Rattle.chi_observer.specs.declared.told.Told.{Told}
-use Rattle.chi_observer.specs.declared.told.Told.TheVariants.{I, SC, SCOrI, UC, UCE, UCEOrI, UCOrUCE, UD, SD}
+use Rattle.chi_observer.specs.declared.told.Told.TheVariants.{I, SC, SCOrI, UC, UCOrI, UCE, UCEOrI, UCOrUCE, UD, SD}
+use Rattle.chi_observer.specs.declared.told.Told.TheVariants as tolds
 use Rattle.chi_observer.specs.declared.flits.Due.{Due}
 use Rattle.chi_observer.specs.declared.flits.Due.TheVariants.{Nothing, Completion, Resending, SureCompletion, WriteData, Acknowledgement}
 use Rattle.chi_observer.specs.declared.flits.Answer.{Answer}
@@ -16,7 +17,7 @@ use Rattle.chi_observer.specs.declared.flits.Answer.TheVariants.{SnpRespI, SnpRe
 use Rattle.chi_observer.specs.declared.flits.Grant.{Grant}
 use Rattle.chi_observer.specs.declared.flits.Grant.TheVariants.{RetryAck, Snp, CompData, CompUC, CompSC, CompI, CompDBIDResp}
 use Rattle.chi_observer.specs.Copies.{Copy, Held}
-use Rattle.chi_observer.specs.Copies.Copy.{Invalid, SharedClean, UniqueClean, UniqueEmpty, UniqueDirty, SharedDirty}
+use Rattle.chi_observer.specs.Copies.Copy.{Invalid, SharedClean, UniqueClean, UniqueEmpty, UniqueDirty, SharedDirty, Writing}
 use Rattle.chi_observer.specs.Tables.{Known}
 
 impossible : false ≡ true → ⊥
@@ -98,21 +99,23 @@ each_kind f h WriteEvictFull = left (f WriteEvictFull) _ (right (f WriteCleanFul
 each_kind f h WriteUniqueFull = right (f WriteEvictFull) _ (right (f WriteCleanFull) _ (right (f WriteBackFull) _ (right (f Evict) _ (right (f MakeInvalid) _ (right (f CleanInvalid) _ (right (f CleanShared) _ (right (f MakeUnique) _ (right (f CleanUnique) _ (right (f ReadUnique) _ (right (f ReadOnce) _ (right (f ReadClean) _ (right (f ReadShared) _ (right (f ReadNotSharedDirty) _ h)))))))))))))
 
 abbrev pub all_tolds : (Told → Bool) → Bool
-all_tolds f = f I && (f SC && (f SCOrI && (f UC && (f UCE && (f UCEOrI && (f UCOrUCE && (f UD && f SD)))))))
+all_tolds f = f I && (f SC && (f SCOrI && (f UC && (f UCOrI && (f UCE && (f UCEOrI && (f UCOrUCE && (f UD && (f SD && f tolds.Writing)))))))))
 
 pub each_told : (f : Told → Bool) → all_tolds f ≡ true → (x : Told) → f x ≡ true
 each_told f h I = left (f I) _ h
 each_told f h SC = left (f SC) _ (right (f I) _ h)
 each_told f h SCOrI = left (f SCOrI) _ (right (f SC) _ (right (f I) _ h))
 each_told f h UC = left (f UC) _ (right (f SCOrI) _ (right (f SC) _ (right (f I) _ h)))
-each_told f h UCE = left (f UCE) _ (right (f UC) _ (right (f SCOrI) _ (right (f SC) _ (right (f I) _ h))))
-each_told f h UCEOrI = left (f UCEOrI) _ (right (f UCE) _ (right (f UC) _ (right (f SCOrI) _ (right (f SC) _ (right (f I) _ h)))))
-each_told f h UCOrUCE = left (f UCOrUCE) _ (right (f UCEOrI) _ (right (f UCE) _ (right (f UC) _ (right (f SCOrI) _ (right (f SC) _ (right (f I) _ h))))))
-each_told f h UD = left (f UD) _ (right (f UCOrUCE) _ (right (f UCEOrI) _ (right (f UCE) _ (right (f UC) _ (right (f SCOrI) _ (right (f SC) _ (right (f I) _ h)))))))
-each_told f h SD = right (f UD) _ (right (f UCOrUCE) _ (right (f UCEOrI) _ (right (f UCE) _ (right (f UC) _ (right (f SCOrI) _ (right (f SC) _ (right (f I) _ h)))))))
+each_told f h UCOrI = left (f UCOrI) _ (right (f UC) _ (right (f SCOrI) _ (right (f SC) _ (right (f I) _ h))))
+each_told f h UCE = left (f UCE) _ (right (f UCOrI) _ (right (f UC) _ (right (f SCOrI) _ (right (f SC) _ (right (f I) _ h)))))
+each_told f h UCEOrI = left (f UCEOrI) _ (right (f UCE) _ (right (f UCOrI) _ (right (f UC) _ (right (f SCOrI) _ (right (f SC) _ (right (f I) _ h))))))
+each_told f h UCOrUCE = left (f UCOrUCE) _ (right (f UCEOrI) _ (right (f UCE) _ (right (f UCOrI) _ (right (f UC) _ (right (f SCOrI) _ (right (f SC) _ (right (f I) _ h)))))))
+each_told f h UD = left (f UD) _ (right (f UCOrUCE) _ (right (f UCEOrI) _ (right (f UCE) _ (right (f UCOrI) _ (right (f UC) _ (right (f SCOrI) _ (right (f SC) _ (right (f I) _ h))))))))
+each_told f h SD = left (f SD) _ (right (f UD) _ (right (f UCOrUCE) _ (right (f UCEOrI) _ (right (f UCE) _ (right (f UCOrI) _ (right (f UC) _ (right (f SCOrI) _ (right (f SC) _ (right (f I) _ h)))))))))
+each_told f h tolds.Writing = right (f SD) _ (right (f UD) _ (right (f UCOrUCE) _ (right (f UCEOrI) _ (right (f UCE) _ (right (f UCOrI) _ (right (f UC) _ (right (f SCOrI) _ (right (f SC) _ (right (f I) _ h)))))))))
 
 abbrev pub all_copies : (Copy → Bool) → Bool
-all_copies f = f Invalid && (f SharedClean && (f UniqueClean && (f UniqueEmpty && (f UniqueDirty && f SharedDirty))))
+all_copies f = f Invalid && (f SharedClean && (f UniqueClean && (f UniqueEmpty && (f UniqueDirty && (f SharedDirty && f Writing)))))
 
 pub each_copy : (f : Copy → Bool) → all_copies f ≡ true → (x : Copy) → f x ≡ true
 each_copy f h Invalid = left (f Invalid) _ h
@@ -120,7 +123,8 @@ each_copy f h SharedClean = left (f SharedClean) _ (right (f Invalid) _ h)
 each_copy f h UniqueClean = left (f UniqueClean) _ (right (f SharedClean) _ (right (f Invalid) _ h))
 each_copy f h UniqueEmpty = left (f UniqueEmpty) _ (right (f UniqueClean) _ (right (f SharedClean) _ (right (f Invalid) _ h)))
 each_copy f h UniqueDirty = left (f UniqueDirty) _ (right (f UniqueEmpty) _ (right (f UniqueClean) _ (right (f SharedClean) _ (right (f Invalid) _ h))))
-each_copy f h SharedDirty = right (f UniqueDirty) _ (right (f UniqueEmpty) _ (right (f UniqueClean) _ (right (f SharedClean) _ (right (f Invalid) _ h))))
+each_copy f h SharedDirty = left (f SharedDirty) _ (right (f UniqueDirty) _ (right (f UniqueEmpty) _ (right (f UniqueClean) _ (right (f SharedClean) _ (right (f Invalid) _ h)))))
+each_copy f h Writing = right (f SharedDirty) _ (right (f UniqueDirty) _ (right (f UniqueEmpty) _ (right (f UniqueClean) _ (right (f SharedClean) _ (right (f Invalid) _ h)))))
 
 abbrev pub all_answers : (Answer → Bool) → Bool
 all_answers f = f SnpRespI && (f SnpRespSC && (f SnpRespUC && (f SnpRespDataI && (f SnpRespDataSC && (f SnpRespDataUC && (f SnpRespDataUD && (f SnpRespDataSD && (f SnpRespDataIPD && (f SnpRespDataSCPD && f SnpRespDataUCPD)))))))))

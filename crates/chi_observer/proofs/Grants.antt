@@ -3,13 +3,13 @@ use Rattle.std.proofs.Common.{◌≡◌, refl, sym}
 use Rattle.std.specs.Prelude.{Bool, true, false, ◌&&◌, not, Option, if◌then◌else◌}
 use Rattle.chi_observer.specs.declared.kinds.Snoop.{Snoop}
 use Rattle.chi_observer.specs.declared.told.Told.{Told}
-use Rattle.chi_observer.specs.declared.told.Told.TheVariants.{I, SCOrI, UC, UCOrUCE, SD}
+use Rattle.chi_observer.specs.declared.told.Told.TheVariants.{I, SCOrI, UC, UCOrI, UCOrUCE, SD}
 use Rattle.chi_observer.specs.declared.flits.Due.{Due}
 use Rattle.chi_observer.specs.declared.flits.Grant.{Grant}
-use Rattle.chi_observer.specs.declared.flits.Grant.TheVariants.{CompData, CompUC}
+use Rattle.chi_observer.specs.declared.flits.Grant.TheVariants.{CompData, CompUC, CompDBIDResp}
 use Rattle.chi_observer.specs.Copies.{Copy, Held, holds_data, is_unique, same, compatible}
 use Rattle.chi_observer.specs.Copies.Copy.{Invalid, SharedClean, UniqueClean, UniqueEmpty, UniqueDirty, SharedDirty}
-use Rattle.chi_observer.specs.Rules.{is_due, is_upgraded, due_granted, copy_granted, granted, fills}
+use Rattle.chi_observer.specs.Rules.{is_due, is_upgraded, is_written_whole, due_granted, copy_granted, granted, fills}
 use Rattle.chi_observer.specs.Tables.{Known, strongest, most, reach, fresh, goes_with, told_granted, fills_told}
 use Rattle.chi_observer.proofs.Finite.{no, left, right, implies, follow}
 use Rattle.chi_observer.proofs.Spots.{all_gifts, held_gifts, each_gift, told_gifts, each_told_gift, all_told_pairs, each_told_pair}
@@ -38,10 +38,12 @@ given g d q t s h = follow _ _ (each_gift given_table given_holds g d q (left _ 
 abbrev pub empty_before : Told → Copy
 empty_before I = Invalid
 empty_before SCOrI = Invalid
+empty_before UCOrI = Invalid
 empty_before other = UniqueEmpty
 
 abbrev pub clean_before : Told → Copy
 clean_before UC = UniqueClean
+clean_before UCOrI = UniqueClean
 clean_before UCOrUCE = UniqueClean
 clean_before other = SharedClean
 
@@ -58,6 +60,7 @@ upgraded_from t s' = s'
 abbrev pub form_before : Grant → Due → Told → Copy → Copy
 form_before (CompData form) d t s' = strongest t
 form_before CompUC d t s' = if is_upgraded d then upgraded_from t s' else s'
+form_before CompDBIDResp d t s' = if is_written_whole d then strongest t else s'
 form_before other d t s' = s'
 
 abbrev pub granted_before : Grant → Due → Known → Held → Held

@@ -11,8 +11,9 @@ use Rattle.chi_observer.specs.Observed.{Observed, Sound, Unstored, Meaning, take
 use Rattle.chi_observer.specs.Laws.{HomeFlitsAreSafe, HomeFlitsLead}
 use Rattle.chi_observer.proofs.Finite.{left}
 use Rattle.chi_observer.proofs.Words.{some_is}
-use Rattle.chi_observer.proofs.Copies.{home_kept, reached, unfresh, fills_same, had_data, filled_last}
+use Rattle.chi_observer.proofs.Copies.{home_kept, gone_else, reached, unfresh, fills_same, had_data, filled_last}
 use Rattle.chi_observer.proofs.Put.{split, everywhere, at_it, at_else}
+use Rattle.chi_observer.proofs.Facts.{none_left}
 use Rattle.chi_observer.proofs.Cache.{coherent}
 
 value_cases : (e : Bool) (x : List ℕ) (o : Option (List ℕ)) (v : List ℕ) → (if e then Some x else o) ≡ Some v → ((e ≡ true) × (x ≡ v)) ⊎ ((e ≡ false) × (o ≡ Some v))
@@ -71,4 +72,8 @@ pub home_leads : HomeFlitsLead
 home_leads o g w w' sound low takes m informed gives = lead_here o g w w' sound low takes m informed gives
 
 pub home_safe : HomeFlitsAreSafe
-home_safe o g w sound low takes m informed = (left _ _ takes, λ w' gives. coherent (next_home o g) w' (home_kept o g sound low takes) (home_leads o g w w' sound low takes m informed gives))
+home_safe o g w sound low takes m informed = (
+  left _ _ takes,
+  λ w' gives. coherent (next_home o g) w' (home_kept o g sound low takes) (home_leads o g w w' sound low takes m informed gives),
+  λ e k lk h. none_left (o.public.due k) (o.told k) (w.state k) (gone_else o g sound low takes e k h lk) (m.told k lk),
+)

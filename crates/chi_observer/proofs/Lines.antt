@@ -10,7 +10,7 @@ use Rattle.chi_observer.specs.declared.flits.CacheFlit.{CacheFlit}
 use Rattle.chi_observer.specs.declared.flits.HomeFlit.{HomeFlit}
 use Rattle.chi_observer.specs.declared.observer.AgentSeen.{AgentSeen}
 use Rattle.chi_observer.specs.declared.observer.Observer.{Observer}
-use Rattle.chi_observer.specs.Rules.{has_data, passes_duty, needs_duty}
+use Rattle.chi_observer.specs.Rules.{tells_words, passes_duty, needs_duty}
 use Rattle.chi_observer.specs.Tables.{Known, told_after, renews, fills_told}
 use Rattle.chi_observer.specs.Worlds.{put}
 use Rattle.chi_observer.specs.Observed.{Observed, differs, next, next_home}
@@ -35,7 +35,7 @@ abbrev pub whole : List AgentSeen → Option (List ℕ) → Bool → Bool → Ob
 whole agents home current duty = record { agents = agents; home = home; current = current; duty = duty }
 
 module _ (agents : List AgentSeen) (home : Option (List ℕ)) (current duty : Bool) (x : AgentSeen) (home' : Option (List ℕ)) (current' duty' : Bool) where
-  pub sent_after : (f : CacheFlit) (b : Bool) → f.agent.0 < length agents → x ≡ agent_after f.act (agent_of agents f.agent.0) b → b ≡ differs (observed (whole agents home current duty)) f → home' ≡ (if has_data f.act then Some f.shown else home) → current' ≡ (if has_data f.act then true else (if renews f.act (agent_of agents f.agent.0).due (known_of (agent_of agents f.agent.0)) then false else current)) → duty' ≡ (duty || passes_duty f.act) → observed (whole (slice_set agents f.agent.0 x) home' current' duty') ≡ next (observed (whole agents home current duty)) f
+  pub sent_after : (f : CacheFlit) (b : Bool) → f.agent.0 < length agents → x ≡ agent_after f.act (agent_of agents f.agent.0) b → b ≡ differs (observed (whole agents home current duty)) f → home' ≡ (if tells_words f.act then Some f.shown else home) → current' ≡ (if tells_words f.act then true else (if renews f.act (agent_of agents f.agent.0).due (known_of (agent_of agents f.agent.0)) then false else current)) → duty' ≡ (duty || passes_duty f.act) → observed (whole (slice_set agents f.agent.0 x) home' current' duty') ≡ next (observed (whole agents home current duty)) f
   sent_after f b low e hb hv hc hd =
       let n = f.agent.0 in
       made_same _ _ _ _ _ _ _ _ _ _ _ _
@@ -58,13 +58,13 @@ module _ (agents : List AgentSeen) (home : Option (List ℕ)) (current duty : Bo
       hv
       refl
 
-  pub sent_by : (f : CacheFlit) (n : ℕ) (b shows r : Bool) → n ≡ f.agent.0 → n < length agents → x ≡ agent_after f.act (agent_of agents n) b → b ≡ differs (observed (whole agents home current duty)) f → shows ≡ has_data f.act → r ≡ renews f.act (agent_of agents n).due (known_of (agent_of agents n)) → home' ≡ (if shows then Some f.shown else home) → current' ≡ (if shows then true else (if r then false else current)) → duty' ≡ (duty || passes_duty f.act) → observed (whole (slice_set agents n x) home' current' duty') ≡ next (observed (whole agents home current duty)) f
+  pub sent_by : (f : CacheFlit) (n : ℕ) (b shows r : Bool) → n ≡ f.agent.0 → n < length agents → x ≡ agent_after f.act (agent_of agents n) b → b ≡ differs (observed (whole agents home current duty)) f → shows ≡ tells_words f.act → r ≡ renews f.act (agent_of agents n).due (known_of (agent_of agents n)) → home' ≡ (if shows then Some f.shown else home) → current' ≡ (if shows then true else (if r then false else current)) → duty' ≡ (duty || passes_duty f.act) → observed (whole (slice_set agents n x) home' current' duty') ≡ next (observed (whole agents home current duty)) f
   sent_by f n b shows r hn low e hb hs hr hv hc hd =
       ap (λ (k : ℕ). observed (whole (slice_set agents k x) home' current' duty')) hn
       ∙ sent_after f b (subst (λ (k : ℕ). k < length agents) hn low) (e ∙ ap (λ (k : ℕ). agent_after f.act (agent_of agents k) b) hn) hb
       (hv ∙ ap (λ (z : Bool). if z then Some f.shown else home) hs)
       (hc ∙ ap (λ (z : Bool). if z then true else (if r then false else current)) hs
-      ∙ ap (λ (z : Bool). if has_data f.act then true else (if z then false else current)) (hr ∙ ap (λ (k : ℕ). renews f.act (agent_of agents k).due (known_of (agent_of agents k))) hn))
+      ∙ ap (λ (z : Bool). if tells_words f.act then true else (if z then false else current)) (hr ∙ ap (λ (k : ℕ). renews f.act (agent_of agents k).due (known_of (agent_of agents k))) hn))
       hd
 
   pub given_by : (g : HomeFlit) (n : ℕ) (full : Bool) → n ≡ g.agent.0 → n < length agents → x ≡ agent_granted g.grant (agent_of agents n) → full ≡ fills_told g.grant (known_of (agent_of agents n)) → home' ≡ (if full then Some g.shown else home) → duty' ≡ (duty && not (needs_duty g.grant)) → observed (whole (slice_set agents n x) home' current duty') ≡ next_home (observed (whole agents home current duty)) g

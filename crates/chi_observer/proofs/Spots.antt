@@ -9,7 +9,7 @@ use Rattle.chi_observer.specs.declared.flits.Act.{Act}
 use Rattle.chi_observer.specs.declared.flits.Act.TheVariants.{Request, Resend, SnpResp, CompAck, CopyBackWrData, NonCopyBackWrData}
 use Rattle.chi_observer.specs.declared.flits.Grant.{Grant}
 use Rattle.chi_observer.specs.Copies.{Copy, Held}
-use Rattle.chi_observer.specs.Rules.{acts, is_copy_back, is_due, same_kind}
+use Rattle.chi_observer.specs.Rules.{acts, is_copy_back, is_due, is_whole_write, same_kind}
 use Rattle.chi_observer.specs.Tables.{Known, fits_told}
 use Rattle.chi_observer.proofs.Finite.{no, left, right, where_it, tried, all_bools, each_bool, all_forms, each_form, all_kinds, each_kind, all_answers, each_answer, all_grants, each_grant, all_snoops, each_snoop, all_dues, each_due, all_tolds, each_told, all_knowns, each_known, all_copies, each_copy, all_helds, each_held}
 
@@ -19,6 +19,7 @@ can_be (Resend kind) (Resending asked) = same_kind kind asked
 can_be (CopyBackWrData form) (WriteData kind) = is_copy_back kind
 can_be (Resend kind) d = false
 can_be (CopyBackWrData form) d = false
+can_be NonCopyBackWrData (WriteData kind) = is_whole_write kind
 can_be NonCopyBackWrData d = false
 can_be other d = true
 
@@ -42,7 +43,12 @@ acted_can (CopyBackWrData x) (Completion y) s s' e = absurd (empty s' e)
 acted_can (CopyBackWrData x) (SureCompletion y) s s' e = absurd (empty s' e)
 acted_can (CopyBackWrData x) (Resending y) s s' e = absurd (empty s' e)
 acted_can (CopyBackWrData x) Acknowledgement s s' e = absurd (empty s' e)
-acted_can NonCopyBackWrData d s s' e = absurd (empty s' e)
+acted_can NonCopyBackWrData (WriteData y) s s' e = left _ _ (if_some _ _ s' e)
+acted_can NonCopyBackWrData Nothing s s' e = absurd (empty s' e)
+acted_can NonCopyBackWrData (Completion y) s s' e = absurd (empty s' e)
+acted_can NonCopyBackWrData (SureCompletion y) s s' e = absurd (empty s' e)
+acted_can NonCopyBackWrData (Resending y) s s' e = absurd (empty s' e)
+acted_can NonCopyBackWrData Acknowledgement s s' e = absurd (empty s' e)
 acted_can (Request x) d s s' e = refl
 acted_can (SnpResp x) d s s' e = refl
 acted_can CompAck d s s' e = refl
@@ -60,7 +66,12 @@ fits_can (CopyBackWrData x) (Completion y) t e = no e
 fits_can (CopyBackWrData x) (SureCompletion y) t e = no e
 fits_can (CopyBackWrData x) (Resending y) t e = no e
 fits_can (CopyBackWrData x) Acknowledgement t e = no e
-fits_can NonCopyBackWrData d t e = no e
+fits_can NonCopyBackWrData (WriteData y) t e = left _ _ e
+fits_can NonCopyBackWrData Nothing t e = no e
+fits_can NonCopyBackWrData (Completion y) t e = no e
+fits_can NonCopyBackWrData (SureCompletion y) t e = no e
+fits_can NonCopyBackWrData (Resending y) t e = no e
+fits_can NonCopyBackWrData Acknowledgement t e = no e
 fits_can (Request x) d t e = refl
 fits_can (SnpResp x) d t e = refl
 fits_can CompAck d t e = refl
@@ -70,9 +81,17 @@ fits_can CompAck d t e = refl
 abbrev pub all_plain : (Act → Bool) → Bool
 all_plain f = all_kinds (λ k. f (Request k)) && (all_answers (λ a. f (SnpResp a)) && f CompAck)
 
+abbrev pub all_resends : (Act → Due → Bool) → Bool
+all_resends f = all_kinds (λ k. all_kinds (λ q. where_it (same_kind k q) (λ _. f (Resend k) (Resending q))))
+
+abbrev pub all_copy_backs : (Act → Due → Bool) → Bool
+all_copy_backs f = all_kinds (λ k. where_it (is_copy_back k) (λ _. all_forms (λ s. f (CopyBackWrData s) (WriteData k))))
+
+abbrev pub all_whole_writes : (Act → Due → Bool) → Bool
+all_whole_writes f = all_kinds (λ k. where_it (is_whole_write k) (λ _. f NonCopyBackWrData (WriteData k)))
+
 abbrev pub all_paired : (Act → Due → Bool) → Bool
-all_paired f = all_kinds (λ k. all_kinds (λ q. where_it (same_kind k q) (λ _. f (Resend k) (Resending q))))
-    && all_kinds (λ k. where_it (is_copy_back k) (λ _. all_forms (λ s. f (CopyBackWrData s) (WriteData k))))
+all_paired f = all_resends f && (all_copy_backs f && all_whole_writes f)
 
 pub record Tried (f : Act → Due → Bool) : Type 0 where
   pub plain : (d : Due) → all_plain (λ a. f a d) ≡ true
@@ -84,7 +103,7 @@ each_tried f h (SnpResp a) d c = each_answer (λ a. f (SnpResp a) d) (left (all_
 each_tried f h CompAck d c = right (all_answers (λ a. f (SnpResp a) d)) _ (right (all_kinds (λ k. f (Request k) d)) _ (h.plain d))
 each_tried f h (Resend k) (Resending q) c = tried (same_kind k q) (λ _. f (Resend k) (Resending q))
     (each_kind (λ q. where_it (same_kind k q) (λ _. f (Resend k) (Resending q))) (each_kind (λ k. all_kinds (λ q. where_it (same_kind k q) (λ _. f (Resend k) (Resending q))))
-    (left (all_kinds (λ k. all_kinds (λ q. where_it (same_kind k q) (λ _. f (Resend k) (Resending q))))) _ h.paired) k) q) c
+    (left (all_resends f) _ h.paired) k) q) c
 each_tried f h (Resend k) Nothing c = no c
 each_tried f h (Resend k) (Completion q) c = no c
 each_tried f h (Resend k) (SureCompletion q) c = no c
@@ -92,13 +111,19 @@ each_tried f h (Resend k) (WriteData q) c = no c
 each_tried f h (Resend k) Acknowledgement c = no c
 each_tried f h (CopyBackWrData s) (WriteData k) c = each_form (λ s. f (CopyBackWrData s) (WriteData k)) (tried (is_copy_back k) (λ _. all_forms (λ s. f (CopyBackWrData s) (WriteData k)))
     (each_kind (λ k. where_it (is_copy_back k) (λ _. all_forms (λ s. f (CopyBackWrData s) (WriteData k))))
-    (right (all_kinds (λ k. all_kinds (λ q. where_it (same_kind k q) (λ _. f (Resend k) (Resending q))))) _ h.paired) k) c) s
+    (left (all_copy_backs f) _ (right (all_resends f) _ h.paired)) k) c) s
 each_tried f h (CopyBackWrData s) Nothing c = no c
 each_tried f h (CopyBackWrData s) (Completion q) c = no c
 each_tried f h (CopyBackWrData s) (SureCompletion q) c = no c
 each_tried f h (CopyBackWrData s) (Resending q) c = no c
 each_tried f h (CopyBackWrData s) Acknowledgement c = no c
-each_tried f h NonCopyBackWrData d c = no c
+each_tried f h NonCopyBackWrData (WriteData k) c = tried (is_whole_write k) (λ _. f NonCopyBackWrData (WriteData k))
+    (each_kind (λ k. where_it (is_whole_write k) (λ _. f NonCopyBackWrData (WriteData k))) (right (all_copy_backs f) _ (right (all_resends f) _ h.paired)) k) c
+each_tried f h NonCopyBackWrData Nothing c = no c
+each_tried f h NonCopyBackWrData (Completion q) c = no c
+each_tried f h NonCopyBackWrData (SureCompletion q) c = no c
+each_tried f h NonCopyBackWrData (Resending q) c = no c
+each_tried f h NonCopyBackWrData Acknowledgement c = no c
 
 abbrev pub spots : (Act → Due → Known → Held → Bool → Bool) → Act → Due → Bool
 spots f a d = all_knowns (λ k. all_helds (λ h. all_bools (λ b. f a d k h b)))

@@ -2,11 +2,12 @@
 use Rattle.std.proofs.Common.{◌≡◌, ℕ, ◌<◌, List, [], refl, sym, ap, subst, ◌∙◌}
 use Rattle.std.specs.Prelude.{Bool, true, false, ◌||◌, ◌==◌, not, if◌then◌else◌}
 use Rattle.chi_observer.specs.declared.flits.HomeFlit.{HomeFlit}
-use Rattle.chi_observer.specs.Copies.{Held, compatible}
-use Rattle.chi_observer.specs.Rules.{granted, fills}
+use Rattle.chi_observer.specs.Copies.{Held, compatible, same}
+use Rattle.chi_observer.specs.Copies.Copy.{Invalid}
+use Rattle.chi_observer.specs.Rules.{granted, fills, needs_alone}
 use Rattle.chi_observer.specs.Tables.{Known, most, goes_with, told_granted, fills_told}
 use Rattle.chi_observer.specs.Worlds.{Public, World, Gives, IsSafe, Informed, home_may, put}
-use Rattle.chi_observer.specs.Observed.{Observed, Sound, Meaning, fits, goes, takes_home}
+use Rattle.chi_observer.specs.Observed.{Observed, Sound, Meaning, fits, is_beside, goes, takes_home}
 use Rattle.chi_observer.specs.Laws.{SomeInformed, HomeFlitsArePossible, SafeFlitsAreTaken}
 use Rattle.chi_observer.proofs.Finite.{left, right, both}
 use Rattle.chi_observer.proofs.Facts.{top_copy, reach_self}
@@ -89,13 +90,25 @@ module _ (o : Observed) (g : HomeFlit) (sound : Sound o) (low : g.agent.0 < 32) 
   best : SomeInformed o g
   best = top_is o g low fitting
 
-  all_go : goes o g ≡ true
+  goes_else : (m : ℕ) → m < 32 → (m == n) ≡ false → goes_with (told_granted g.grant (o.public.due n) t) (o.told m) ≡ true
   unfolding gift top top_words top_is best
-  all_go = below_all 32 (λ m. m == n || goes_with (told_granted g.grant (o.public.due n) t) (o.told m)) (λ m lm. or_right (m == n) _ (λ h.
+  goes_else m lm h =
       let e = differ m n h in
       subst (λ x. compatible x (most (o.told m)) ≡ true) (ap (λ (z : Held). z.copy) (here n (granted g.grant (o.public.due n) (tops n)) tops) ∙ most_granted g.grant (o.public.due n) (o.public.snooped n) t (left _ _ may))
       (subst (λ (x : Held). compatible (put n (granted g.grant (o.public.due n) (tops n)) tops n).copy x.copy ≡ true) (there n (granted g.grant (o.public.due n) (tops n)) tops m e)
-      (((safe best.world best.meant best.informed).1 (gift o.public g best.world) (gift_gives o.public g best.world)).pairs n m low lm (λ x. e (sym x))))))
+      (((safe best.world best.meant best.informed).1 (gift o.public g best.world) (gift_gives o.public g best.world)).pairs n m low lm (λ x. e (sym x))))
+
+  gone_else : (m : ℕ) → m < 32 → (m == n) ≡ false → needs_alone g.grant (o.public.due n) ≡ true → same (most (o.told m)) Invalid ≡ true
+  unfolding gift top top_words top_is best
+  gone_else m lm h e = (safe best.world best.meant best.informed).2 e m lm (differ m n h)
+
+  where_alone : (a b : Bool) → (a ≡ true → b ≡ true) → (not a || b) ≡ true
+  where_alone true b h = h refl
+  where_alone false b h = refl
+
+  all_go : goes o g ≡ true
+  all_go = below_all 32 (λ m. m == n || is_beside (told_granted g.grant (o.public.due n) t) (needs_alone g.grant (o.public.due n)) (o.told m)) (λ m lm. or_right (m == n) _ (λ h.
+      both _ _ (goes_else m lm h) (where_alone (needs_alone g.grant (o.public.due n)) _ (gone_else m lm h))))
 
   taken_home : takes_home o g ≡ true
   taken_home = both _ _ may (both _ _ fitting all_go)

@@ -3,7 +3,7 @@ use Rattle.std.specs.Prelude.{Bool, true, false}
 use Rattle.chi_flit.specs.declared.state.State.{State}
 use Rattle.chi_flit.specs.declared.state.State.TheVariants.{I, SC, UC, UD, SD}
 
--- UniqueEmpty is UCE: unique, without data
+-- UniqueEmpty is UCE: unique, without data. Writing is none, while the data of a WriteUniqueFull are due
 pub data Copy : Type 0 where
   Invalid : Copy
   SharedClean : Copy
@@ -11,6 +11,7 @@ pub data Copy : Type 0 where
   UniqueEmpty : Copy
   UniqueDirty : Copy
   SharedDirty : Copy
+  Writing : Copy
 
 -- a copy, and whether its agent has cancelled a request that was retried, which nobody sees
 pub record Held : Type 0 where
@@ -27,6 +28,7 @@ copy_of SD = SharedDirty
 abbrev pub holds_data : Copy → Bool
 holds_data Invalid = false
 holds_data UniqueEmpty = false
+holds_data Writing = false
 holds_data other = true
 
 abbrev pub is_unique : Copy → Bool
@@ -54,9 +56,11 @@ same UniqueClean UniqueClean = true
 same UniqueEmpty UniqueEmpty = true
 same UniqueDirty UniqueDirty = true
 same SharedDirty SharedDirty = true
+same Writing Writing = true
 same a b = false
 
--- whether two caches may have such copies of a line together: beside a unique one there is none, and one is dirty
+-- whether two caches may have such copies of a line together: beside a unique one, and while one writes the whole line,
+-- there is none, and one is dirty
 abbrev pub compatible : Copy → Copy → Bool
 compatible Invalid b = true
 compatible a Invalid = true

@@ -14,7 +14,8 @@ use Rattle.chi_observer.specs.declared.observer.AgentSeen.{AgentSeen}
 use Rattle.chi_observer.specs.declared.observer.Observer.{Observer}
 use Rattle.chi_observer.specs.declared.observer.Reason.{Reason}
 use Rattle.chi_observer.specs.declared.observer.Reason.TheVariants.{NotJudged, NoAgent, NotSent, NotDue, Busy, NoDuty, OtherWords, OtherCopy}
-use Rattle.chi_observer.specs.Copies.{compatible}
+use Rattle.chi_observer.specs.Copies.{compatible, same}
+use Rattle.chi_observer.specs.Copies.Copy.{Invalid}
 use Rattle.chi_observer.specs.Judged.{is_judged}
 use Rattle.chi_observer.specs.Rules.{allows, due_after, snooped_after, is_due, needs_duty, needs_quiet, is_busy, due_granted, snooped_granted}
 use Rattle.chi_observer.specs.Tables.{Known, strongest, is_cancelled, told_behind, fits_told, told_by, cancelled_by, fills_told}
@@ -87,5 +88,5 @@ agent_granted grant a = record { told = told_by grant a.due a.told; cancelled = 
 abbrev pub is_quiet : List AgentSeen → Bool
 is_quiet agents = all_below 32 (λ m. not (is_busy (agent_of agents m).due))
 
-abbrev pub stands_beside : List AgentSeen → ℕ → Told → Bool
-stands_beside agents n t = all_below 32 (λ m. m == n || compatible (strongest t) (strongest (agent_of agents m).told))
+abbrev pub stands_beside : List AgentSeen → ℕ → Told → Bool → Bool
+stands_beside agents n t alone = all_below 32 (λ m. m == n || (compatible (strongest t) (strongest (agent_of agents m).told) && (not alone || same (strongest (agent_of agents m).told) Invalid)))

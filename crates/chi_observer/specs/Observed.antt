@@ -5,8 +5,8 @@ use Rattle.std.specs.Cmp.Lexicographic.{pointwise}
 use Rattle.chi_observer.specs.declared.flits.CacheFlit.{CacheFlit}
 use Rattle.chi_observer.specs.declared.flits.HomeFlit.{HomeFlit}
 use Rattle.chi_observer.specs.Copies.{holds_data, same}
-use Rattle.chi_observer.specs.Copies.Copy.{UniqueDirty}
-use Rattle.chi_observer.specs.Rules.{has_data, allows}
+use Rattle.chi_observer.specs.Copies.Copy.{Invalid, UniqueDirty}
+use Rattle.chi_observer.specs.Rules.{has_data, tells_words, needs_alone, allows}
 use Rattle.chi_observer.specs.Tables.{Known, most, reach, fresh, goes_with, told_after, fits_told, renews, told_granted, fills_told}
 use Rattle.chi_observer.specs.Worlds.{Public, World, home_may, all_below, put, public_after, public_granted}
 
@@ -50,10 +50,10 @@ abbrev pub differs : Observed → CacheFlit → Bool
 differs o f = has_data f.act && (o.current && not (fits o.home f.shown))
 
 abbrev pub home_after : CacheFlit → Option (List ℕ) → Option (List ℕ)
-home_after f home = if has_data f.act then Some f.shown else home
+home_after f home = if tells_words f.act then Some f.shown else home
 
 abbrev pub current_after : CacheFlit → Bool → Bool → Bool
-current_after f renewed current = if has_data f.act then true else (if renewed then false else current)
+current_after f renewed current = if tells_words f.act then true else (if renewed then false else current)
 
 abbrev pub next : Observed → CacheFlit → Observed
 next o f = record {
@@ -64,9 +64,12 @@ next o f = record {
 }
 
 -- A FLIT OF THE HOME
--- no other copy is told to be what doesn't go with the agent's then
+-- no other copy is told to be what doesn't go with the agent's then, nor to be any where the flit says that none is left
+abbrev pub is_beside : Known → Bool → Known → Bool
+is_beside k alone l = goes_with k l && (not alone || same (most l) Invalid)
+
 abbrev pub goes : Observed → HomeFlit → Bool
-goes o g = all_below 32 (λ m. m == g.agent.0 || goes_with (told_granted g.grant (o.public.due g.agent.0) (o.told g.agent.0)) (o.told m))
+goes o g = all_below 32 (λ m. m == g.agent.0 || is_beside (told_granted g.grant (o.public.due g.agent.0) (o.told g.agent.0)) (needs_alone g.grant (o.public.due g.agent.0)) (o.told m))
 
 abbrev pub takes_home : Observed → HomeFlit → Bool
 takes_home o g = home_may o.public g && ((not (fills_told g.grant (o.told g.agent.0)) || fits o.home g.shown) && goes o g)

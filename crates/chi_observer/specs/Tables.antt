@@ -4,20 +4,21 @@ use Rattle.std.specs.Prelude.{Bool, true, false, ◌&&◌, ◌||◌, not, if◌t
 use Rattle.chi_flit.specs.declared.state.State.{State}
 use Rattle.chi_flit.specs.declared.state.State.TheVariants as states
 use Rattle.chi_observer.specs.declared.kinds.Kind.{Kind}
-use Rattle.chi_observer.specs.declared.kinds.Kind.TheVariants.{ReadNotSharedDirty, ReadShared, ReadClean, ReadUnique, CleanUnique, Evict, WriteBackFull, WriteCleanFull, WriteEvictFull}
+use Rattle.chi_observer.specs.declared.kinds.Kind.TheVariants.{ReadNotSharedDirty, ReadShared, ReadClean, ReadUnique, CleanUnique, CleanShared, CleanInvalid, Evict, WriteBackFull, WriteCleanFull, WriteEvictFull, WriteUniqueFull}
 use Rattle.chi_observer.specs.declared.told.Told.{Told}
-use Rattle.chi_observer.specs.declared.told.Told.TheVariants.{I, SC, SCOrI, UC, UCE, UCEOrI, UCOrUCE, UD, SD}
+use Rattle.chi_observer.specs.declared.told.Told.TheVariants.{I, SC, SCOrI, UC, UCOrI, UCE, UCEOrI, UCOrUCE, UD, SD}
 use Rattle.chi_observer.specs.declared.flits.Due.{Due}
 use Rattle.chi_observer.specs.declared.flits.Due.TheVariants.{Nothing, Resending, WriteData, Acknowledgement}
 use Rattle.chi_observer.specs.declared.flits.Answer.{Answer}
 use Rattle.chi_observer.specs.declared.flits.Answer.TheVariants.{SnpRespI, SnpRespSC, SnpRespUC, SnpRespDataI, SnpRespDataSC, SnpRespDataUC, SnpRespDataUD, SnpRespDataSD, SnpRespDataIPD, SnpRespDataSCPD, SnpRespDataUCPD}
 use Rattle.chi_observer.specs.declared.flits.Act.{Act}
-use Rattle.chi_observer.specs.declared.flits.Act.TheVariants.{Request, Resend, SnpResp, CompAck, CopyBackWrData}
+use Rattle.chi_observer.specs.declared.flits.Act.TheVariants.{Request, Resend, SnpResp, CompAck, CopyBackWrData, NonCopyBackWrData}
 use Rattle.chi_observer.specs.declared.flits.Grant.{Grant}
-use Rattle.chi_observer.specs.declared.flits.Grant.TheVariants.{RetryAck, CompData, CompUC}
+use Rattle.chi_observer.specs.declared.flits.Grant.TheVariants.{RetryAck, CompData, CompUC, CompDBIDResp}
 use Rattle.chi_observer.specs.Copies.{Copy, Held, copy_of, holds_data, is_unique, is_dirty, is_clean, same, compatible}
-use Rattle.chi_observer.specs.Copies.Copy.{Invalid, SharedClean, UniqueClean, UniqueEmpty, UniqueDirty, SharedDirty}
-use Rattle.chi_observer.specs.Rules.{is_free, is_copy_back, same_kind, left_by, written, gives_data, is_upgraded}
+use Rattle.chi_observer.specs.Copies.Copy.{Invalid, SharedClean, UniqueClean, UniqueEmpty, UniqueDirty, SharedDirty, Writing}
+use Rattle.chi_observer.specs.declared.told.Told.TheVariants as tolds
+use Rattle.chi_observer.specs.Rules.{is_free, is_copy_back, is_whole_write, same_kind, left_by, written, gives_data, is_upgraded, is_written_whole}
 
 -- what is told of a copy, and whether a request of its agent that was retried is surely cancelled
 pub record Known : Type 0 where
@@ -30,15 +31,18 @@ strongest I = Invalid
 strongest SC = SharedClean
 strongest SCOrI = SharedClean
 strongest UC = UniqueClean
+strongest UCOrI = UniqueClean
 strongest UCE = UniqueEmpty
 strongest UCEOrI = UniqueEmpty
 strongest UCOrUCE = UniqueClean
 strongest UD = UniqueDirty
 strongest SD = SharedDirty
+strongest tolds.Writing = Writing
 
 -- what it may be right behind the flit that told it
 abbrev pub may : Told → Copy → Bool
 may SCOrI s = same s SharedClean || same s Invalid
+may UCOrI s = same s UniqueClean || same s Invalid
 may UCEOrI s = same s UniqueEmpty || same s Invalid
 may UCOrUCE s = same s UniqueClean || same s UniqueEmpty
 may other s = same s (strongest other)
@@ -78,7 +82,7 @@ told_as states.UD = UD
 told_as states.SD = SD
 
 -- FLITS OF A CACHE
--- a kind that is issued with no copy or an empty one; or with a shared one too
+-- a kind that is issued with no copy or an empty one; or with a shared one too; or with no copy or a clean one with data
 abbrev pub told_empty : Told → Told
 told_empty UCE = UCEOrI
 told_empty UCEOrI = UCEOrI
@@ -91,6 +95,14 @@ told_shared SCOrI = SCOrI
 told_shared SD = SD
 told_shared other = told_empty other
 
+abbrev pub told_clean : Told → Told
+told_clean SC = SCOrI
+told_clean SCOrI = SCOrI
+told_clean UC = UCOrI
+told_clean UCOrI = UCOrI
+told_clean UCOrUCE = UCOrI
+told_clean other = I
+
 abbrev pub told_dirty : Told → Told
 told_dirty SD = SD
 told_dirty other = UD
@@ -101,6 +113,7 @@ told_issued ReadShared t = told_empty t
 told_issued ReadClean t = told_empty t
 told_issued ReadUnique t = told_shared t
 told_issued CleanUnique t = told_shared t
+told_issued CleanShared t = told_clean t
 told_issued Evict t = I
 told_issued WriteBackFull t = told_dirty t
 told_issued WriteCleanFull t = told_dirty t
@@ -148,18 +161,26 @@ abbrev pub told_behind : Act → Due → Told → Told
 told_behind (Request kind) d t = told_issued kind t
 told_behind (SnpResp answer) d t = told_answered answer t
 told_behind (CopyBackWrData form) (WriteData kind) t = told_as (written kind form)
+told_behind NonCopyBackWrData d t = I
 told_behind a d t = t
 
 abbrev pub told_after : Act → Due → Known → Bool → Known
 told_after a d k differ = record { told = told_behind a d k.told; cancelled = is_cancelled a d k differ }
 
+-- there may be no copy, or none any more
+abbrev pub may_be_gone : Told → Bool
+may_be_gone t = same (strongest t) Invalid || is_clean (strongest t)
+
 -- the copy may be one that the kind is issued from
 abbrev pub fits_issue : Kind → Told → Bool
-fits_issue ReadNotSharedDirty t = not (is_dirty (strongest t))
-fits_issue ReadShared t = not (is_dirty (strongest t))
-fits_issue ReadClean t = not (is_dirty (strongest t))
-fits_issue ReadUnique t = not (same (strongest t) UniqueDirty)
-fits_issue CleanUnique t = not (same (strongest t) UniqueDirty)
+fits_issue ReadNotSharedDirty t = may_be_gone t
+fits_issue ReadShared t = may_be_gone t
+fits_issue ReadClean t = may_be_gone t
+fits_issue ReadUnique t = may_be_gone t || same (strongest t) SharedDirty
+fits_issue CleanUnique t = may_be_gone t || same (strongest t) SharedDirty
+fits_issue CleanShared t = may_be_gone t
+fits_issue CleanInvalid t = may_be_gone t
+fits_issue WriteUniqueFull t = may_be_gone t
 fits_issue Evict t = is_clean (strongest t)
 fits_issue WriteBackFull t = is_dirty (strongest t) || is_unique (strongest t)
 fits_issue WriteCleanFull t = is_dirty (strongest t) || is_unique (strongest t)
@@ -168,7 +189,7 @@ fits_issue other t = false
 
 -- or that the answer is given from: a store may have been where the agent has no request open
 abbrev pub fits_answer : Answer → Due → Told → Bool
-fits_answer SnpRespI d t = not (is_dirty (strongest t))
+fits_answer SnpRespI d t = may_be_gone t
 fits_answer SnpRespSC d t = is_clean (strongest t) && holds_data (strongest t)
 fits_answer SnpRespUC d t = is_clean (strongest t) && is_unique (strongest t)
 fits_answer SnpRespDataI d t = is_clean (strongest t) && holds_data (strongest t)
@@ -179,7 +200,7 @@ fits_answer SnpRespDataUCPD d t = same (strongest t) UniqueDirty || (may_be_free
 fits_answer dirty d t = is_dirty (strongest t) || (may_be_free d && is_unique (strongest t))
 
 abbrev pub fits_form : State → Told → Bool
-fits_form states.I t = not (is_dirty (strongest t))
+fits_form states.I t = may_be_gone t
 fits_form form t = same (strongest t) (copy_of form)
 
 -- whether some copy that it may be sends the flit
@@ -189,6 +210,7 @@ fits_told (Resend kind) (Resending asked) k = same_kind kind asked && not k.canc
 fits_told (SnpResp answer) d k = fits_answer answer d k.told
 fits_told CompAck Acknowledgement k = true
 fits_told (CopyBackWrData form) (WriteData kind) k = is_copy_back kind && fits_form form k.told
+fits_told NonCopyBackWrData (WriteData kind) k = is_whole_write kind && same (most k) Writing
 fits_told a d k = false
 
 -- and so that there may have been a store since
@@ -200,6 +222,7 @@ abbrev pub told_upgraded : Told → Told
 told_upgraded I = UCE
 told_upgraded SC = UC
 told_upgraded SCOrI = UCOrUCE
+told_upgraded UCOrI = UCOrUCE
 told_upgraded UCEOrI = UCE
 told_upgraded SD = UD
 told_upgraded t = t
@@ -207,6 +230,7 @@ told_upgraded t = t
 abbrev pub told_by : Grant → Due → Told → Told
 told_by (CompData form) d t = if is_dirty (strongest t) then UD else told_as form
 told_by CompUC d t = if is_upgraded d then told_upgraded t else t
+told_by CompDBIDResp d t = if is_written_whole d && not (is_dirty (strongest t)) then tolds.Writing else t
 told_by other d t = t
 
 -- a request that is retried just now isn't cancelled

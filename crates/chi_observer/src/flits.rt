@@ -18,7 +18,7 @@ pub enum Due {
     Resending(Kind),
     /// The home's completion of a request of this kind that was sent with AllowRetry 0.
     SureCompletion(Kind),
-    /// The write data of a copy-back of this kind.
+    /// The write data of a copy-back, or of a WriteUniqueFull.
     WriteData(Kind),
     /// The requester's CompAck.
     Acknowledgement,
@@ -119,8 +119,8 @@ impl Act {
         match self {
             Act::Request(kind) => kind.is_judged(),
             Act::Resend(kind) => kind.is_judged(),
-            Act::NonCopyBackWrData => false,
-            Act::SnpResp(_) | Act::CompAck | Act::CopyBackWrData(_) => true,
+            Act::SnpResp(_) | Act::CompAck | Act::CopyBackWrData(_) | Act::NonCopyBackWrData =>
+                true,
         }
     }
 }

@@ -2,7 +2,7 @@
 
 ghost use Rattle.std.specs.Prelude.{◌≡◌};
 ghost use Rattle.chi_observer.specs.Judged.{judges_kind, judges_snoop};
-ghost use Rattle.chi_observer.specs.Rules.{gives_up, is_copy_back};
+ghost use Rattle.chi_observer.specs.Rules.{gives_up, is_copy_back, is_whole_write};
 
 /// A kind of request.
 /// Source: Arm IHI 0050 Issue B, chapter 4; `docs/OBSERVER.md`, "Flits of a cache".
@@ -69,21 +69,18 @@ impl Kind {
         ensures { result ≡ judges_kind self }
     {
         match self {
-            Kind::ReadOnce
-            | Kind::MakeUnique
-            | Kind::CleanShared
-            | Kind::CleanInvalid
-            | Kind::MakeInvalid
-            | Kind::WriteUniqueFull => false,
+            Kind::ReadOnce | Kind::MakeUnique | Kind::CleanShared | Kind::MakeInvalid => false,
             Kind::ReadNotSharedDirty
             | Kind::ReadShared
             | Kind::ReadClean
             | Kind::ReadUnique
             | Kind::CleanUnique
+            | Kind::CleanInvalid
             | Kind::Evict
             | Kind::WriteBackFull
             | Kind::WriteCleanFull
-            | Kind::WriteEvictFull => true,
+            | Kind::WriteEvictFull
+            | Kind::WriteUniqueFull => true,
         }
     }
 
@@ -95,6 +92,13 @@ impl Kind {
             self,
             Kind::WriteBackFull | Kind::WriteCleanFull | Kind::WriteEvictFull
         )
+    }
+
+    /// Whether it ends with data of its own.
+    pub(crate) fn is_whole_write(self) -> bool
+        ensures { result ≡ is_whole_write self }
+    {
+        matches!(self, Kind::WriteUniqueFull)
     }
 
     /// Whether its write data leave no copy.

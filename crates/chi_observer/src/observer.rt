@@ -2,7 +2,8 @@
 
 ghost use Rattle.std.specs.Prelude.{◌≡◌, ◌<◌, ◌&&◌, ◌||◌, IfErr, OnOk, OnErr, Some, false, if◌then◌else◌, is_ok, not, true};
 ghost use Rattle.chi_observer.specs.Rules.{allows, needs_duty, passes_duty};
-ghost use Rattle.chi_observer.specs.Tables.{fills_told, fits_told, is_cancelled, renews};
+ghost use Rattle.chi_observer.specs.Copies.{Copy, compatible, same};
+ghost use Rattle.chi_observer.specs.Tables.{fills_told, fits_told, is_cancelled, renews, strongest};
 ghost use Rattle.chi_observer.specs.Worlds.{all_below, home_may};
 ghost use Rattle.chi_observer.specs.Observed.{differs, fits, goes, takes, takes_home, next, next_home};
 ghost use Rattle.chi_observer.specs.Runs.{nothing_told};
@@ -11,8 +12,8 @@ ghost use Rattle.chi_observer.specs.Lines.{agent_after, agent_granted, after, is
 use crate::flits::{Act, CacheFlit, Due, Flit, Grant, HomeFlit};
 use crate::kinds::Snoop;
 use crate::rules::{
-    allows, due_after, due_granted, gives_data, has_data, is_busy, is_due, needs_duty, needs_quiet,
-    passes_duty, same_kind, snooped_after, snooped_granted,
+    allows, due_after, due_granted, gives_data, has_data, is_busy, is_due, needs_alone, needs_duty,
+    needs_quiet, passes_duty, same_kind, snooped_after, snooped_granted, tells_words,
 };
 use crate::told::{Told, answer_tells_dirty, may_be_free, tells_dirty};
 use chi_flit::Data;
@@ -151,10 +152,11 @@ impl Observer {
             return Err(Reason::OtherWords);
         }
         let differs = shows_others(shows, self.current, known);
+        let tells = tells_words(flit.act);
         self.agents[at] = agent.after(flit.act, differs);
         self.duty = duty_after(self.duty, flit.act);
-        self.home = shown(shows, flit.shown, self.home);
-        self.current = current_from(shows, renewed, self.current);
+        self.home = shown(tells, flit.shown, self.home);
+        self.current = current_from(tells, renewed, self.current);
         Ok(())
     }
 
@@ -181,11 +183,9 @@ impl Observer {
         if fills && !may_be(&self.home, &flit.shown) {
             return Err(Reason::OtherWords);
         }
-        if !stands_beside(
-            &self.agents,
-            flit.agent.0,
-            agent.told.granted(flit.grant, agent.due),
-        ) {
+        let told = agent.told.granted(flit.grant, agent.due);
+        let alone = needs_alone(flit.grant, agent.due);
+        if !stands_beside(&self.agents, flit.agent.0, told, alone) {
             return Err(Reason::OtherCopy);
         }
         self.agents[at] = agent.granted(flit.grant);
@@ -216,6 +216,9 @@ impl AgentSeen {
             (Act::CompAck, Due::Acknowledgement) => true,
             (Act::CopyBackWrData(form), Due::WriteData(kind)) => {
                 kind.is_copy_back() && self.told.may_write(form)
+            }
+            (Act::NonCopyBackWrData, Due::WriteData(kind)) => {
+                kind.is_whole_write() && matches!(self.told, Told::Writing)
             }
             _ => false,
         }
@@ -331,13 +334,21 @@ fn is_quiet(agents: &[AgentSeen; 32]) -> bool
     quiet
 }
 
-/// Whether a copy that is told so goes with each that another agent may have.
-fn stands_beside(agents: &[AgentSeen; 32], agent: u8, told: Told) -> bool
-    ensures { result ≡ stands_beside agents.now agent told }
+/// Whether a copy that is told so goes with each that another agent may have; `alone` says that there is to be none.
+fn stands_beside(agents: &[AgentSeen; 32], agent: u8, told: Told, alone: bool) -> bool
+    ensures { result ≡ stands_beside agents.now agent told alone }
 {
     let mut beside = true;
     for n in 0..32u8 {
-        beside = (n == agent || told.goes_with(agents[usize::from(n)].told)) && beside;
+        let other = agents[usize::from(n)].told;
+        beside = (n == agent || is_beside(told, other, alone)) && beside;
     }
     beside
+}
+
+/// Whether two agents' copies may have been told so together, and the other is none where it has to be.
+fn is_beside(told: Told, other: Told, alone: bool) -> bool
+    ensures { result ≡ (compatible (strongest told) (strongest other) && (not alone || same (strongest other) Copy.Invalid)) }
+{
+    told.goes_with(other) && (!alone || other.is_gone())
 }

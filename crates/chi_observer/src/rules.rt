@@ -1,7 +1,7 @@
 //! What flits say by themselves.
 
 ghost use Rattle.std.specs.Prelude.{◌≡◌};
-ghost use Rattle.chi_observer.specs.Rules.{allows, completes, due_after, due_granted, form_passes, gives_data, has_data, is_busy, is_clean_form, is_completed, is_due, is_shared_form, is_upgraded, leaves, left_by, needs_duty, needs_quiet, passes_duty, same_kind, snooped_after, snooped_granted, written};
+ghost use Rattle.chi_observer.specs.Rules.{allows, completes, due_after, due_granted, form_passes, gives_data, has_data, is_busy, is_clean_form, is_completed, is_due, is_shared_form, is_upgraded, is_written_whole, leaves, left_by, needs_alone, needs_duty, needs_quiet, passes_duty, same_kind, snooped_after, snooped_granted, tells_words, writes, written};
 
 use crate::flits::{Act, Answer, Due, Grant};
 use crate::kinds::{Kind, Snoop};
@@ -103,7 +103,7 @@ pub(crate) fn written(kind: Kind, form: State) -> State
     }
 }
 
-/// Whether a flit of a cache has data.
+/// Whether a flit of a cache has the data of its copy.
 pub(crate) fn has_data(act: Act) -> bool
     ensures { result ≡ has_data act }
 {
@@ -117,6 +117,20 @@ pub(crate) fn has_data(act: Act) -> bool
         }
         Act::CopyBackWrData(form) => !matches!(form, State::I),
     }
+}
+
+/// Whether a flit of a cache has the whole line, which its cache writes without a copy.
+fn writes(act: Act) -> bool
+    ensures { result ≡ writes act }
+{
+    matches!(act, Act::NonCopyBackWrData)
+}
+
+/// Whether the home has the words of a flit of a cache then.
+pub(crate) fn tells_words(act: Act) -> bool
+    ensures { result ≡ tells_words act }
+{
+    has_data(act) || writes(act)
 }
 
 /// What is due behind a flit of a cache.
@@ -157,7 +171,8 @@ pub(crate) fn passes_duty(act: Act) -> bool
             )
         }
         Act::CopyBackWrData(form) => passes_by(form),
-        Act::Request(_) | Act::Resend(_) | Act::CompAck | Act::NonCopyBackWrData => false,
+        Act::NonCopyBackWrData => true,
+        Act::Request(_) | Act::Resend(_) | Act::CompAck => false,
     }
 }
 
@@ -211,20 +226,51 @@ fn is_completed(grant: Grant, kind: Kind, snooped: Option<Snoop>) -> bool
 {
     match grant {
         Grant::CompData(form) => snooped.is_none() && completes(kind, form),
-        Grant::CompUC => snooped.is_none() && matches!(kind, Kind::CleanUnique),
-        Grant::CompI => matches!(kind, Kind::Evict),
-        Grant::CompDBIDResp => snooped.is_none() && kind.is_copy_back(),
-        Grant::CompSC | Grant::RetryAck | Grant::Snp(_) => false,
+        Grant::CompUC => {
+            snooped.is_none() && matches!(kind, Kind::CleanUnique | Kind::CleanShared)
+        }
+        Grant::CompSC => snooped.is_none() && matches!(kind, Kind::CleanShared),
+        Grant::CompI => {
+            matches!(kind, Kind::Evict)
+                || (snooped.is_none() && matches!(kind, Kind::CleanShared | Kind::CleanInvalid))
+        }
+        Grant::CompDBIDResp => {
+            snooped.is_none() && (kind.is_copy_back() || kind.is_whole_write())
+        }
+        Grant::RetryAck | Grant::Snp(_) => false,
     }
 }
 
-/// Whether the completion of an agent of whom this is due ends a CleanUnique.
+/// Whether the completion of a CleanUnique is due.
 pub(crate) fn is_upgraded(due: Due) -> bool
     ensures { result ≡ is_upgraded due }
 {
     matches!(
         due,
         Due::Completion(Kind::CleanUnique) | Due::SureCompletion(Kind::CleanUnique)
+    )
+}
+
+/// Whether the home's leave to send the data of a WriteUniqueFull is due.
+pub(crate) fn is_written_whole(due: Due) -> bool
+    ensures { result ≡ is_written_whole due }
+{
+    matches!(
+        due,
+        Due::Completion(Kind::WriteUniqueFull) | Due::SureCompletion(Kind::WriteUniqueFull)
+    )
+}
+
+/// Whether a flit of the home says that no other copy is left.
+pub(crate) fn needs_alone(grant: Grant, due: Due) -> bool
+    ensures { result ≡ needs_alone grant due }
+{
+    matches!(
+        (grant, due),
+        (
+            Grant::CompI,
+            Due::Completion(Kind::CleanInvalid) | Due::SureCompletion(Kind::CleanInvalid)
+        )
     )
 }
 

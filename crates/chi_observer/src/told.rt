@@ -1,12 +1,12 @@
 //! What flits have told of a copy.
 
 ghost use Rattle.std.specs.Prelude.{◌≡◌, ◌&&◌};
-ghost use Rattle.chi_observer.specs.Copies.{compatible, holds_data, is_clean, is_dirty, is_unique};
-ghost use Rattle.chi_observer.specs.Tables.{answer_tells_dirty, fits_answer, fits_form, fits_issue, may_be_free, strongest, tells_dirty, told_answered, told_as, told_behind, told_by, told_empty, told_issued, told_shared, told_unique, told_upgraded};
+ghost use Rattle.chi_observer.specs.Copies.{compatible, Copy, holds_data, is_clean, is_dirty, is_unique, same};
+ghost use Rattle.chi_observer.specs.Tables.{answer_tells_dirty, fits_answer, fits_form, fits_issue, may_be_free, may_be_gone, strongest, tells_dirty, told_answered, told_as, told_behind, told_by, told_clean, told_empty, told_issued, told_shared, told_unique, told_upgraded};
 
 use crate::flits::{Act, Answer, Due, Grant};
 use crate::kinds::Kind;
-use crate::rules::{is_upgraded, left_by, written};
+use crate::rules::{is_upgraded, is_written_whole, left_by, written};
 use chi_flit::State;
 
 /// The copies that one may be right behind the last flit that told of it. From there it goes on unseen, by stores and
@@ -23,6 +23,8 @@ pub enum Told {
     SCOrI,
     /// Unique and clean.
     UC,
+    /// Unique and clean, or dropped before the request was sent.
+    UCOrI,
     /// Unique, without data.
     UCE,
     /// Unique without data, or dropped before the request was sent.
@@ -33,6 +35,8 @@ pub enum Told {
     UD,
     /// Shared and dirty.
     SD,
+    /// No copy; the data of a WriteUniqueFull are due, and nobody else has a copy.
+    Writing,
 }
 
 impl Told {
@@ -42,7 +46,7 @@ impl Told {
     {
         matches!(
             self,
-            Told::UC | Told::UCE | Told::UCEOrI | Told::UCOrUCE | Told::UD
+            Told::UC | Told::UCOrI | Told::UCE | Told::UCEOrI | Told::UCOrUCE | Told::UD
         )
     }
 
@@ -59,15 +63,45 @@ impl Told {
     {
         matches!(
             self,
-            Told::SC | Told::SCOrI | Told::UC | Told::UCE | Told::UCEOrI | Told::UCOrUCE
+            Told::SC
+                | Told::SCOrI
+                | Told::UC
+                | Told::UCOrI
+                | Told::UCE
+                | Told::UCEOrI
+                | Told::UCOrUCE
         )
+    }
+
+    /// Whether it may be none, or none any more.
+    fn may_be_gone(self) -> bool
+        ensures { result ≡ may_be_gone self }
+    {
+        !matches!(self, Told::UD | Told::SD | Told::Writing)
+    }
+
+    /// Whether it is surely none.
+    pub(crate) fn is_gone(self) -> bool
+        ensures { result ≡ same (strongest self) Copy.Invalid }
+    {
+        matches!(self, Told::I)
+    }
+
+    /// Whether it may be unique and clean with data.
+    fn is_unique_clean(self) -> bool
+        ensures { result ≡ same (strongest self) Copy.UniqueClean }
+    {
+        matches!(self, Told::UC | Told::UCOrI | Told::UCOrUCE)
     }
 
     /// Whether it may be clean with data.
     fn is_clean_data(self) -> bool
         ensures { result ≡ (is_clean (strongest self) && holds_data (strongest self)) }
     {
-        matches!(self, Told::SC | Told::SCOrI | Told::UC | Told::UCOrUCE)
+        matches!(
+            self,
+            Told::SC | Told::SCOrI | Told::UC | Told::UCOrI | Told::UCOrUCE
+        )
     }
 
     /// Whether two agents' copies may have been told so together.
@@ -80,9 +114,13 @@ impl Told {
                 matches!(other, Told::I | Told::SC | Told::SCOrI | Told::SD)
             }
             Told::SD => matches!(other, Told::I | Told::SC | Told::SCOrI),
-            Told::UC | Told::UCE | Told::UCEOrI | Told::UCOrUCE | Told::UD => {
-                matches!(other, Told::I)
-            }
+            Told::UC
+            | Told::UCOrI
+            | Told::UCE
+            | Told::UCEOrI
+            | Told::UCOrUCE
+            | Told::UD
+            | Told::Writing => matches!(other, Told::I),
         }
     }
 
@@ -91,17 +129,19 @@ impl Told {
         ensures { result ≡ fits_issue kind self }
     {
         match kind {
-            Kind::ReadNotSharedDirty | Kind::ReadShared | Kind::ReadClean => !self.is_dirty(),
-            Kind::ReadUnique | Kind::CleanUnique => !matches!(self, Told::UD),
-            Kind::Evict => self.is_clean(),
-            Kind::WriteBackFull | Kind::WriteCleanFull => self.is_dirty() || self.is_unique(),
-            Kind::WriteEvictFull => matches!(self, Told::UC | Told::UCOrUCE),
-            Kind::ReadOnce
-            | Kind::MakeUnique
+            Kind::ReadNotSharedDirty
+            | Kind::ReadShared
+            | Kind::ReadClean
             | Kind::CleanShared
             | Kind::CleanInvalid
-            | Kind::MakeInvalid
-            | Kind::WriteUniqueFull => false,
+            | Kind::WriteUniqueFull => self.may_be_gone(),
+            Kind::ReadUnique | Kind::CleanUnique => {
+                self.may_be_gone() || matches!(self, Told::SD)
+            }
+            Kind::Evict => self.is_clean(),
+            Kind::WriteBackFull | Kind::WriteCleanFull => self.is_dirty() || self.is_unique(),
+            Kind::WriteEvictFull => self.is_unique_clean(),
+            Kind::ReadOnce | Kind::MakeUnique | Kind::MakeInvalid => false,
         }
     }
 
@@ -110,12 +150,12 @@ impl Told {
         ensures { result ≡ fits_answer answer due self }
     {
         match answer {
-            Answer::SnpRespI => !self.is_dirty(),
+            Answer::SnpRespI => self.may_be_gone(),
             Answer::SnpRespSC | Answer::SnpRespDataI | Answer::SnpRespDataSC => {
                 self.is_clean_data()
             }
             Answer::SnpRespUC => self.is_clean() && self.is_unique(),
-            Answer::SnpRespDataUC => matches!(self, Told::UC | Told::UCOrUCE),
+            Answer::SnpRespDataUC => self.is_unique_clean(),
             Answer::SnpRespDataUD | Answer::SnpRespDataUCPD => {
                 matches!(self, Told::UD) || (may_be_free(due) && self.is_unique())
             }
@@ -130,9 +170,9 @@ impl Told {
         ensures { result ≡ fits_form form self }
     {
         match form {
-            State::I => !self.is_dirty(),
+            State::I => self.may_be_gone(),
             State::SC => matches!(self, Told::SC | Told::SCOrI),
-            State::UC => matches!(self, Told::UC | Told::UCOrUCE),
+            State::UC => self.is_unique_clean(),
             State::UD => matches!(self, Told::UD),
             State::SD => matches!(self, Told::SD),
         }
@@ -145,7 +185,8 @@ impl Told {
         match act {
             Act::Request(kind) => self.after_request(kind),
             Act::SnpResp(answer) => self.after_answer(answer),
-            Act::Resend(_) | Act::CompAck | Act::NonCopyBackWrData => self,
+            Act::NonCopyBackWrData => Told::I,
+            Act::Resend(_) | Act::CompAck => self,
             Act::CopyBackWrData(form) => match due {
                 Due::WriteData(kind) => told_as(written(kind, form)),
                 _ => self,
@@ -181,10 +222,10 @@ impl Told {
         match kind {
             Kind::ReadNotSharedDirty | Kind::ReadShared | Kind::ReadClean => self.empty(),
             Kind::ReadUnique | Kind::CleanUnique => self.shared(),
+            Kind::CleanShared => self.clean(),
             Kind::Evict
             | Kind::ReadOnce
             | Kind::MakeUnique
-            | Kind::CleanShared
             | Kind::CleanInvalid
             | Kind::MakeInvalid
             | Kind::WriteUniqueFull => Told::I,
@@ -220,6 +261,17 @@ impl Told {
         }
     }
 
+    /// What is told behind a request that is issued without data or from a clean copy.
+    fn clean(self) -> Told
+        ensures { result ≡ told_clean self }
+    {
+        match self {
+            Told::SC | Told::SCOrI => Told::SCOrI,
+            Told::UC | Told::UCOrI | Told::UCOrUCE => Told::UCOrI,
+            _ => Told::I,
+        }
+    }
+
     /// What is told behind a flit of the home.
     pub(crate) fn granted(self, grant: Grant, due: Due) -> Told
         ensures { result ≡ told_by grant due self }
@@ -235,8 +287,12 @@ impl Told {
             } else {
                 self
             },
-            Grant::RetryAck | Grant::Snp(_) | Grant::CompSC | Grant::CompI | Grant::CompDBIDResp =>
-                self,
+            Grant::CompDBIDResp => if is_written_whole(due) && !self.is_dirty() {
+                Told::Writing
+            } else {
+                self
+            },
+            Grant::RetryAck | Grant::Snp(_) | Grant::CompSC | Grant::CompI => self,
         }
     }
 
@@ -247,7 +303,7 @@ impl Told {
         match self {
             Told::I | Told::UCEOrI => Told::UCE,
             Told::SC => Told::UC,
-            Told::SCOrI => Told::UCOrUCE,
+            Told::SCOrI | Told::UCOrI => Told::UCOrUCE,
             Told::SD => Told::UD,
             _ => self,
         }

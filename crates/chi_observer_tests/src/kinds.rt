@@ -3,12 +3,19 @@
 use crate::flits::{NEW, OLD, down, fault_of, up};
 use chi_flit::NO_DATA;
 use chi_flit::State::{SC, UC, UD};
-use chi_observer::Act::{CompAck, CopyBackWrData, Request, SnpResp};
-use chi_observer::Answer::{SnpRespDataSD, SnpRespDataUCPD, SnpRespDataUD, SnpRespUC};
-use chi_observer::Grant::{CompDBIDResp, CompData, Snp};
-use chi_observer::Kind::{MakeUnique, ReadClean, ReadUnique, WriteEvictFull};
-use chi_observer::Reason;
-use chi_observer::Snoop::{SnpCleanShared, SnpMakeInvalid, SnpOnce, SnpShared};
+use chi_observer::Act::{CompAck, CopyBackWrData, NonCopyBackWrData, Request, SnpResp};
+use chi_observer::Answer::{
+    SnpRespDataIPD, SnpRespDataSD, SnpRespDataUCPD, SnpRespDataUD, SnpRespI, SnpRespUC,
+};
+use chi_observer::Grant::{CompDBIDResp, CompData, CompI, Snp};
+use chi_observer::Kind::{
+    CleanInvalid, MakeUnique, ReadClean, ReadShared, ReadUnique, WriteEvictFull, WriteUniqueFull,
+};
+use chi_observer::Snoop::{
+    SnpCleanInvalid, SnpCleanShared, SnpMakeInvalid, SnpOnce, SnpShared, SnpUnique,
+};
+use chi_observer::{Flit, Observer, Reason};
+use std::process::Abort;
 
 #[test]
 fn a_copy_stays_unique_at_a_snoop_that_lets_it(rt: HostRuntime) {
@@ -85,4 +92,114 @@ fn what_is_not_judged_is_said(rt: HostRuntime) {
     assert!(rt; fault_of(&flits) == Some((0, Reason::NotJudged)));
     let snoops = [down(0, Snp(SnpMakeInvalid), NO_DATA)];
     assert!(rt; fault_of(&snoops) == Some((0, Reason::NotJudged)));
+}
+
+/// What comes of last flits behind agent 0's read of the old words, alone.
+fn fault_beside_an_owner(rt: &impl Abort, last: &[Flit]) -> Option<(usize, Reason)> {
+    let mut observer = Observer::new();
+    let opening = [
+        up(0, Request(ReadUnique), NO_DATA),
+        down(0, CompData(UC), OLD),
+        up(0, CompAck, NO_DATA),
+    ];
+    for flit in opening {
+        assert!(rt; observer.take(flit) == Ok(()));
+    }
+    for (place, flit) in last.iter().enumerate() {
+        if let Err(reason) = observer.take(*flit) {
+            return Some((place, reason));
+        }
+    }
+    None
+}
+
+#[test]
+fn a_line_is_cleaned_once_no_copy_is_left(rt: HostRuntime) {
+    let last = [
+        up(1, Request(CleanInvalid), NO_DATA),
+        down(0, Snp(SnpCleanInvalid), NO_DATA),
+        up(0, SnpResp(SnpRespDataIPD), NEW),
+        down(1, CompI, NO_DATA),
+        up(1, Request(ReadShared), NO_DATA),
+        down(1, CompData(UC), NEW),
+    ];
+    let found = fault_beside_an_owner(&rt, &last);
+    assert!(rt; found.is_none(), "{found:?}");
+}
+
+#[test]
+fn a_copy_that_is_left_at_a_cleaning_is_a_fault(rt: HostRuntime) {
+    let last = [
+        up(1, Request(CleanInvalid), NO_DATA),
+        down(1, CompI, NO_DATA),
+    ];
+    let found = fault_beside_an_owner(&rt, &last);
+    assert!(rt; found == Some((1, Reason::OtherCopy)), "{found:?}");
+}
+
+/// Agent 1 has the leave to write the whole line.
+fn write_of_the_line() -> [Flit; 4] {
+    [
+        up(1, Request(WriteUniqueFull), NO_DATA),
+        down(0, Snp(SnpUnique), NO_DATA),
+        up(0, SnpResp(SnpRespI), NO_DATA),
+        down(1, CompDBIDResp, NO_DATA),
+    ]
+}
+
+#[test]
+fn a_line_that_is_written_whole_is_read_so(rt: HostRuntime) {
+    let [request, snoop, answer, leave] = write_of_the_line();
+    let last = [
+        request,
+        snoop,
+        answer,
+        leave,
+        up(1, NonCopyBackWrData, NEW),
+        up(0, Request(ReadShared), NO_DATA),
+        down(0, CompData(UD), NEW),
+    ];
+    let found = fault_beside_an_owner(&rt, &last);
+    assert!(rt; found.is_none(), "{found:?}");
+}
+
+#[test]
+fn words_from_before_a_whole_write_are_a_fault(rt: HostRuntime) {
+    let [request, snoop, answer, leave] = write_of_the_line();
+    let last = [
+        request,
+        snoop,
+        answer,
+        leave,
+        up(1, NonCopyBackWrData, NEW),
+        up(0, Request(ReadShared), NO_DATA),
+        down(0, CompData(UD), OLD),
+    ];
+    let found = fault_beside_an_owner(&rt, &last);
+    assert!(rt; found == Some((6, Reason::OtherWords)), "{found:?}");
+}
+
+#[test]
+fn a_copy_beside_a_whole_write_is_a_fault(rt: HostRuntime) {
+    let [request, snoop, answer, leave] = write_of_the_line();
+    let last = [
+        request,
+        snoop,
+        answer,
+        leave,
+        up(0, Request(ReadShared), NO_DATA),
+        down(0, CompData(SC), OLD),
+    ];
+    let found = fault_beside_an_owner(&rt, &last);
+    assert!(rt; found == Some((5, Reason::OtherCopy)), "{found:?}");
+}
+
+#[test]
+fn a_whole_write_beside_a_copy_is_a_fault(rt: HostRuntime) {
+    let last = [
+        up(1, Request(WriteUniqueFull), NO_DATA),
+        down(1, CompDBIDResp, NO_DATA),
+    ];
+    let found = fault_beside_an_owner(&rt, &last);
+    assert!(rt; found == Some((1, Reason::OtherCopy)), "{found:?}");
 }

@@ -7,6 +7,6 @@ pub returns-clause-after : goal.returns-clause-after
 returns-clause-after c =
     let old = c.args.self.now in
     let low : c.from-at.result < length old.agents = search (rules, arith) in
-    given_by old.agents old.home old.current old.duty c.granted-2.result c.shown-self.result old.current c.duty_granted-self.result
+    given_by old.agents old.home old.current old.duty c.granted.result c.shown-self.result old.current c.duty_granted-self.result
     c.args.flit c.from-at.result c.is_filled-fills.result
-    c.from-at.ensures low c.granted-2.ensures c.is_filled-fills.ensures c.shown-self.ensures c.duty_granted-self.ensures
+    c.from-at.ensures low c.granted.ensures c.is_filled-fills.ensures c.shown-self.ensures c.duty_granted-self.ensures

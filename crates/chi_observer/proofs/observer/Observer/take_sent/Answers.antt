@@ -17,8 +17,8 @@ returns-clause-after c =
     c.shows_others-differs.ensures ∙ ap (λ (z : Bool). z && (old.current && not c.may_be-known.result)) c.has_data-shows.ensures
     ∙ ap (λ (z : Bool). has_data c.args.flit.act && (old.current && not z)) c.may_be-known.ensures in
     sent_by old.agents old.home old.current old.duty c.after.result c.shown-self.result c.current_from-self.result c.duty_after-self.result
-    c.args.flit c.from-at.result c.shows_others-differs.result c.has_data-shows.result c.is_renewed-renewed.result
-    c.from-at.ensures low c.after.ensures differs_is c.has_data-shows.ensures c.is_renewed-renewed.ensures c.shown-self.ensures c.current_from-self.ensures c.duty_after-self.ensures
+    c.args.flit c.from-at.result c.shows_others-differs.result c.tells_words-tells.result c.is_renewed-renewed.result
+    c.from-at.ensures low c.after.ensures differs_is c.tells_words-tells.ensures c.is_renewed-renewed.ensures c.shown-self.ensures c.current_from-self.ensures c.duty_after-self.ensures
 
 same_test : (h h' r r' c x x' : Bool) → h ≡ h' → r ≡ r' → x ≡ x' → (h && (not r && (c && not x))) ≡ false → (h' && (not r' && (c && not x'))) ≡ false
 same_test h h' r r' c x x' e f g t = sym (λ i. e i && (not (f i) && (c && not (g i)))) ∙ t
