@@ -6,14 +6,14 @@ use Rattle.chi_observer.specs.declared.flits.CacheFlit.{CacheFlit}
 use Rattle.chi_observer.specs.Copies.{Copy, Held, holds_data, same}
 use Rattle.chi_observer.specs.Copies.Copy.{UniqueDirty, Writing}
 use Rattle.chi_observer.specs.Rules.{has_data, writes, tells_words, due_after}
-use Rattle.chi_observer.specs.Tables.{Known, most, reach, fresh, told_after, fits_told, renews}
+use Rattle.chi_observer.specs.Tables.{Known, most, may, reach, fresh, told_after, fits_told, renews}
 use Rattle.chi_observer.specs.Worlds.{World, Clean, Sends}
 use Rattle.chi_observer.specs.Observed.{Observed, Sound, Unstored, Meaning, fits, takes, differs, next}
 use Rattle.chi_observer.specs.Laws.{MeaningIsCoherent, CacheFlitsAreTaken, CacheFlitsLead}
 use Rattle.chi_observer.proofs.Finite.{no, left, right, both, implies, follow}
 use Rattle.chi_observer.proofs.Facts.{surely_dirty, unstored_clean, sent_data, sent_whole, taken_well, forward, below, rival, or_here, or_there, beside_writing, turned, flip, contrary, implied}
 use Rattle.chi_observer.proofs.Words.{known_fits, shown_fits, home_is, current_is}
-use Rattle.chi_observer.proofs.Put.{split, everywhere, at_it, at_else}
+use Rattle.chi_observer.proofs.Put.{here, split, everywhere, at_it, at_else}
 
 -- where nobody is told unique and dirty, and nobody has stored, the home has the value
 agreed_by : (o : Observed) (w : World) → Sound o → Meaning o w → (c : Bool) → o.current ≡ c → ((k : ℕ) → k < 32 → same (most (o.told k)) UniqueDirty ≡ false) → Unstored o w → w.last ≡ w.home
@@ -98,10 +98,14 @@ module _ (o : Observed) (f : CacheFlit) (w w' : World) (sound : Sound o) (low : 
   fitting = left _ _ facts
 
   facts2 : (implies (not r) (implies (fresh d t s) (fresh d' t' s')) && (implies (has_data f.act) (implies (not r) (not (fresh d t s))) && implies (holds_data s'.copy) (holds_data s.copy))) ≡ true
-  facts2 = right (reach d' t' s') _ (right (fits_told f.act d t) _ facts)
+  facts2 = right (reach d' t' s' && may t'.told s'.copy) _ (right (fits_told f.act d t) _ facts)
 
   reached : reach d' t' s' ≡ true
-  reached = left (reach d' t' s') _ (right (fits_told f.act d t) _ facts)
+  reached = left (reach d' t' s') _ (left (reach d' t' s' && may t'.told s'.copy) _ (right (fits_told f.act d t) _ facts))
+
+  -- and is as it is told
+  pub settled_sent : may ((next o f).told n).told s'.copy ≡ true
+  settled_sent = subst (λ (x : Known). may x.told s'.copy ≡ true) (sym (here n t' o.told)) (right (reach d' t' s') _ (left (reach d' t' s' && may t'.told s'.copy) _ (right (fits_told f.act d t) _ facts)))
 
   keeps : r ≡ false → fresh d' t' s' ≡ false → fresh d t s ≡ false
   keeps e = contrary (fresh d t s) (fresh d' t' s') (follow (not r) _ (left _ _ facts2) (flip r e))

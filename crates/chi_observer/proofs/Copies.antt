@@ -1,5 +1,5 @@
 -- An agent's copy at a flit of the home, and the others beside it.
-use Rattle.std.proofs.Common.{rules, arith, ◌≡◌, ◌≢◌, ℕ, ◌<◌, zero, suc, refl, sym, ap, subst, ◌∙◌}
+use Rattle.std.proofs.Common.{rules, arith, ◌≡◌, ◌≢◌, ℕ, ◌<◌, ◌+◌, zero, suc, refl, sym, ap, subst, ◌∙◌}
 use Rattle.std.specs.Prelude.{Bool, true, false, ◌&&◌, ◌||◌, ◌==◌, not, Option}
 use Rattle.chi_observer.specs.declared.kinds.Snoop.{Snoop}
 use Rattle.chi_observer.specs.declared.flits.Due.{Due}
@@ -7,8 +7,8 @@ use Rattle.std.proofs.lemmas.Bool.{eqb-true}
 use Rattle.chi_observer.specs.declared.flits.HomeFlit.{HomeFlit}
 use Rattle.chi_observer.specs.Copies.{Copy, Held, holds_data, is_unique, is_dirty, same}
 use Rattle.chi_observer.specs.Copies.Copy.{Invalid, UniqueDirty}
-use Rattle.chi_observer.specs.Rules.{is_free, is_due, gives_data, needs_alone, granted, fills, due_granted}
-use Rattle.chi_observer.specs.Tables.{Known, most, reach, fresh, goes_with, told_granted, fills_told}
+use Rattle.chi_observer.specs.Rules.{is_free, is_due, gives_data, needs_alone, needs_quiet, granted, fills, due_granted}
+use Rattle.chi_observer.specs.Tables.{Known, most, may as told_may, reach, fresh, goes_with, told_granted, fills_told}
 use Rattle.chi_observer.specs.Worlds.{World, home_may, all_below, put}
 use Rattle.chi_observer.specs.Observed.{Observed, Sound, Meaning, is_beside, goes, takes_home, next_home}
 use Rattle.chi_observer.specs.Laws.{HomeFlitsKeepSound}
@@ -29,6 +29,19 @@ each_below (suc k) f h m l = each_step k f m (m == k) refl (left (f k) (all_belo
 pub below_all : (k : ℕ) (f : ℕ → Bool) → ((m : ℕ) → m < k → f m ≡ true) → all_below k f ≡ true
 below_all zero f h = refl
 below_all (suc k) f h = both (f k) (all_below k f) (h k (search (rules, arith))) (below_all k f (λ m l. h m (search (rules, arith))))
+
+swap : (a b : Bool) → (a && b) ≡ (b && a)
+swap true true = refl
+swap true false = refl
+swap false true = refl
+swap false false = refl
+
+suc_is : (k : ℕ) → suc k ≡ k + 1
+suc_is k = search (rules, arith)
+
+-- one more
+pub next_below : (k : ℕ) (f : ℕ → Bool) (a b : Bool) → a ≡ all_below k f → b ≡ f k → (a && b) ≡ all_below (k + 1) f
+next_below k f a b h e = (λ i. h i && e i) ∙ swap (all_below k f) (f k) ∙ ap (λ (n : ℕ). all_below n f) (suc_is k)
 
 one_of : (a b : Bool) → (a || b) ≡ true → a ≡ false → b ≡ true
 one_of true b h e = no (sym e)
@@ -99,10 +112,14 @@ module _ (o : Observed) (g : HomeFlit) (low : g.agent.0 < 32) (may : home_may o.
     facts = given g.grant d q t s (both _ _ fitting r)
 
     pub reached : reach d' t' (granted g.grant d s) ≡ true
-    reached = left _ _ facts
+    reached = left _ _ (left _ _ facts)
+
+    -- and is as it is told, but at a snoop
+    pub settled_given : (needs_quiet g.grant || told_may t'.told (granted g.grant d s).copy) ≡ true
+    settled_given = right (reach d' t' (granted g.grant d s)) _ (left _ _ facts)
 
     facts2 : (implies (fresh d t s) (fresh d' t' (granted g.grant d s)) && (same_truth (fills_told g.grant t) (fills g.grant s) && (implies (holds_data (granted g.grant d s).copy && not (fills g.grant s)) (holds_data s.copy) && implies (fills g.grant s) (not (fresh d t s))))) ≡ true
-    facts2 = right (reach d' t' (granted g.grant d s)) _ facts
+    facts2 = right (reach d' t' (granted g.grant d s) && (needs_quiet g.grant || told_may t'.told (granted g.grant d s).copy)) _ facts
 
     pub unfresh : fresh d' t' (granted g.grant d s) ≡ false → fresh d t s ≡ false
     unfresh = contrary (fresh d t s) _ (left _ _ facts2)

@@ -1,6 +1,6 @@
 -- The tables of the home's flits fit the others.
 use Rattle.std.proofs.Common.{◌≡◌, refl, sym}
-use Rattle.std.specs.Prelude.{Bool, true, false, ◌&&◌, not, Option, if◌then◌else◌}
+use Rattle.std.specs.Prelude.{Bool, true, false, ◌&&◌, ◌||◌, not, Option, if◌then◌else◌}
 use Rattle.chi_observer.specs.declared.kinds.Snoop.{Snoop}
 use Rattle.chi_observer.specs.declared.told.Told.{Told}
 use Rattle.chi_observer.specs.declared.told.Told.TheVariants.{I, SCOrI, UC, UCOrI, UCOrUCE, SD}
@@ -9,15 +9,15 @@ use Rattle.chi_observer.specs.declared.flits.Grant.{Grant}
 use Rattle.chi_observer.specs.declared.flits.Grant.TheVariants.{CompData, CompUC, CompDBIDResp}
 use Rattle.chi_observer.specs.Copies.{Copy, Held, holds_data, is_unique, same, compatible}
 use Rattle.chi_observer.specs.Copies.Copy.{Invalid, SharedClean, UniqueClean, UniqueEmpty, UniqueDirty, SharedDirty}
-use Rattle.chi_observer.specs.Rules.{is_due, is_upgraded, is_written_whole, due_granted, copy_granted, granted, fills}
-use Rattle.chi_observer.specs.Tables.{Known, strongest, most, reach, fresh, goes_with, told_granted, fills_told}
+use Rattle.chi_observer.specs.Rules.{is_due, needs_quiet, is_upgraded, is_written_whole, due_granted, copy_granted, granted, fills}
+use Rattle.chi_observer.specs.Tables.{Known, strongest, most, may, reach, fresh, goes_with, told_granted, fills_told}
 use Rattle.chi_observer.proofs.Finite.{no, left, right, implies, follow}
 use Rattle.chi_observer.proofs.Spots.{all_gifts, held_gifts, each_gift, told_gifts, each_told_gift, all_told_pairs, each_told_pair}
 use Rattle.chi_observer.proofs.Facts.{turned, same_truth, same_is, same_held, of_form, is_settled}
 
 -- forward
 abbrev pub given_well : Grant → Due → Option Snoop → Known → Held → Bool
-given_well g d q t s = reach (due_granted g d) (told_granted g d t) (granted g d s)
+given_well g d q t s = (reach (due_granted g d) (told_granted g d t) (granted g d s) && (needs_quiet g || may (told_granted g d t).told (granted g d s).copy))
     && (implies (fresh d t s) (fresh (due_granted g d) (told_granted g d t) (granted g d s))
     && (same_truth (fills_told g t) (fills g s)
     && (implies (holds_data (granted g d s).copy && not (fills g s)) (holds_data s.copy)
@@ -67,7 +67,7 @@ abbrev pub granted_before : Grant → Due → Known → Held → Held
 granted_before g d t s' = of_form (form_before g d t.told s'.copy) s'
 
 abbrev pub got_to : Grant → Due → Option Snoop → Known → Held → Bool
-got_to g d q t s' = reach (due_granted g d) (told_granted g d t) s' && is_settled (due_granted g d) (told_granted g d t) s'
+got_to g d q t s' = reach (due_granted g d) (told_granted g d t) s' && (needs_quiet g || is_settled (due_granted g d) (told_granted g d t) s')
 
 got_table : Grant → Due → Option Snoop → Known → Held → Bool
 got_table g d q t s' = implies (got_to g d q t s') (reach d t (granted_before g d t s') && same_held s' (granted g d (granted_before g d t s')))

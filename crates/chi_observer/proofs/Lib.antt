@@ -13,4 +13,6 @@ mod Home
 mod Origin
 mod Top
 mod Runs
+mod Since
+mod Legal
 mod Lines

@@ -1,21 +1,23 @@
 -- The code's observer after a flit is what is kept then.
-use Rattle.std.proofs.Common.{◌≡◌, ℕ, zero, suc, ◌<◌, List, length, refl, sym, subst, ap, ◌∙◌, slice_set}
+use Rattle.std.proofs.Common.{rules, arith, ◌≡◌, ◌⊎◌, inl, inr, ℕ, zero, suc, ◌<◌, ◌≤◌, List, [], length, refl, sym, subst, ap, ◌∙◌, slice_set}
 use Rattle.std.proofs.Math.Path.{fun_ext}
-use Rattle.std.proofs.lemmas.List.{get_or-set_other}
+use Rattle.std.proofs.lemmas.List.{get_or-set_other, get_or_past}
 use Rattle.std.proofs.lemmas.Grind.{get_or-set_at}
-use Rattle.std.specs.Prelude.{replicate, Bool, true, false, ◌&&◌, ◌||◌, not, Option, Some, None, if◌then◌else◌}
+use Rattle.std.specs.Prelude.{replicate, nat_lt, Bool, true, false, ◌&&◌, ◌||◌, not, Option, Some, None, if◌then◌else◌}
 use Rattle.chi_observer.specs.declared.kinds.Snoop.{Snoop}
 use Rattle.chi_observer.specs.declared.flits.Due.{Due}
 use Rattle.chi_observer.specs.declared.flits.CacheFlit.{CacheFlit}
 use Rattle.chi_observer.specs.declared.flits.HomeFlit.{HomeFlit}
+use Rattle.chi_observer.specs.declared.flits.Flit.{Flit}
 use Rattle.chi_observer.specs.declared.observer.AgentSeen.{AgentSeen}
 use Rattle.chi_observer.specs.declared.observer.Observer.{Observer}
-use Rattle.chi_observer.specs.Rules.{tells_words, passes_duty, needs_duty}
+use Rattle.chi_observer.specs.Rules.{awaits_moment, tells_words, passes_duty, needs_duty}
+use Rattle.chi_observer.specs.Moments.{is_issue, shown_after}
 use Rattle.chi_observer.specs.Tables.{Known, told_after, renews, fills_told}
 use Rattle.chi_observer.specs.Worlds.{put}
 use Rattle.chi_observer.specs.Observed.{Observed, differs, next, next_home}
 use Rattle.chi_observer.specs.Runs.{nothing_told}
-use Rattle.chi_observer.specs.Lines.{nobody, agent_of, known_of, observed, agent_after, agent_granted}
+use Rattle.chi_observer.specs.Lines.{nobody, agent_of, known_of, observed, agent_after, agent_granted, Watched, shown_of, shown_here, none_dirty_of, nothing_watched}
 use Rattle.chi_observer.proofs.Finite.{no}
 use Rattle.chi_observer.proofs.Put.{here, there, split}
 
@@ -31,8 +33,9 @@ made e q d t v c = record { public = record { due = e; snooped = q; duty = d }; 
 made_same : (e e' : ℕ → Due) (q q' : ℕ → Option Snoop) (d d' : Bool) (t t' : ℕ → Known) (v v' : Option (List ℕ)) (c c' : Bool) → e ≡ e' → q ≡ q' → d ≡ d' → t ≡ t' → v ≡ v' → c ≡ c' → made e q d t v c ≡ made e' q' d' t' v' c'
 made_same e e' q q' d d' t t' v v' c c' he hq hd ht hv hc = λ i. made (he i) (hq i) (hd i) (ht i) (hv i) (hc i)
 
+-- what is told doesn't depend on the moments
 abbrev pub whole : List AgentSeen → Option (List ℕ) → Bool → Bool → Observer
-whole agents home current duty = record { agents = agents; home = home; current = current; duty = duty }
+whole agents home current duty = record { agents = agents; home = home; current = current; duty = duty; shown = [] }
 
 module _ (agents : List AgentSeen) (home : Option (List ℕ)) (current duty : Bool) (x : AgentSeen) (home' : Option (List ℕ)) (current' duty' : Bool) where
   pub sent_after : (f : CacheFlit) (b : Bool) → f.agent.0 < length agents → x ≡ agent_after f.act (agent_of agents f.agent.0) b → b ≡ differs (observed (whole agents home current duty)) f → home' ≡ (if tells_words f.act then Some f.shown else home) → current' ≡ (if tells_words f.act then true else (if renews f.act (agent_of agents f.agent.0).due (known_of (agent_of agents f.agent.0)) then false else current)) → duty' ≡ (duty || passes_duty f.act) → observed (whole (slice_set agents f.agent.0 x) home' current' duty') ≡ next (observed (whole agents home current duty)) f
@@ -90,6 +93,18 @@ told_nothing = made_same _ _ _ _ _ _ _ _ _ _ _ _
     refl
     refl
 
+abbrev pub seen_with : Observed → (ℕ → Bool) → Watched
+seen_with o f = record { seen = o; shown = f }
+
+no_moments : (k n : ℕ) → shown_of (replicate k false) n ≡ false
+no_moments zero zero = refl
+no_moments zero (suc n) = refl
+no_moments (suc k) zero = refl
+no_moments (suc k) (suc n) = no_moments k n
+
+pub watched_nothing : seen_with (observed (whole (replicate 32 nobody) None true false)) (λ n. shown_of (replicate 32 false) n) ≡ nothing_watched
+watched_nothing = λ i. seen_with (told_nothing i) (fun_ext (no_moments 32) i)
+
 pub refused : (a b : Bool) → a ≡ false → false ≡ (a && b)
 refused true b h = no (sym h)
 refused false b h = refl
@@ -110,3 +125,23 @@ pub stale : (a f h r c x : Bool) → h ≡ true → r ≡ false → c ≡ true �
 stale true true h r c x hh hr hc hx = sym (λ i. not (hh i) || (hr i || (not (hc i) || hx i)))
 stale true false h r c x hh hr hc hx = refl
 stale false f h r c x hh hr hc hx = refl
+
+-- MOMENTS
+low_by : (n : ℕ) (b : Bool) → nat_lt n 32 ≡ b → (n < 32) ⊎ (32 ≤ n)
+low_by n true h = inl (search (rules, arith))
+low_by n false h = inr (search (rules, arith))
+
+shown_past : (agents : List AgentSeen) (before shown : List Bool) (e : Flit) (n : ℕ) → length agents ≡ 32 → length shown ≡ 32 → 32 ≤ n → shown_of shown n ≡ shown_here agents e (shown_of before n) n
+shown_past agents before shown e n la ls h = get_or_past shown n false (subst (λ (k : ℕ). k ≤ n) (sym ls) h)
+    ∙ sym (ap (λ (a : AgentSeen). awaits_moment a.due && ((not (is_issue e n) && shown_of before n) || none_dirty_of agents e n)) (get_or_past agents n nobody (subst (λ (k : ℕ). k ≤ n) (sym la) h)))
+
+shown_each : (agents : List AgentSeen) (before shown : List Bool) (e : Flit) → length agents ≡ 32 → length shown ≡ 32 → ((n : ℕ) → n < 32 → shown_of shown n ≡ shown_here agents e (shown_of before n) n) → (n : ℕ) → (n < 32) ⊎ (32 ≤ n) → shown_of shown n ≡ shown_here agents e (shown_of before n) n
+shown_each agents before shown e la ls each n (inl h) = each n h
+shown_each agents before shown e la ls each n (inr h) = shown_past agents before shown e n la ls h
+
+pub shown_all : (agents : List AgentSeen) (before shown : List Bool) (e : Flit) → length agents ≡ 32 → length shown ≡ 32 → ((n : ℕ) → n < 32 → shown_of shown n ≡ shown_here agents e (shown_of before n) n) → (n : ℕ) → shown_of shown n ≡ shown_here agents e (shown_of before n) n
+shown_all agents before shown e la ls each n = shown_each agents before shown e la ls each n (low_by n (nat_lt n 32) refl)
+
+-- what is kept then
+pub noted : (mid : Observer) (o : Observed) (before shown : List Bool) (e : Flit) → observed mid ≡ o → ((n : ℕ) → shown_of shown n ≡ shown_here mid.agents e (shown_of before n) n) → seen_with (observed mid) (λ n. shown_of shown n) ≡ seen_with o (λ n. shown_after o e (λ k. shown_of before k) n)
+noted mid o before shown e eo each = ap (λ (f : ℕ → Bool). seen_with (observed mid) f) (fun_ext each) ∙ ap (λ (z : Observed). seen_with z (λ n. shown_after z e (λ k. shown_of before k) n)) eo

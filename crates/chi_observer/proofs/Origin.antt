@@ -1,23 +1,23 @@
 -- Each world behind a flit of the home comes from one before.
 use Rattle.std.proofs.Common.{◌≡◌, ◌≢◌, ℕ, ◌<◌, List, refl, sym, ap, subst, ◌∙◌}
-use Rattle.std.specs.Prelude.{Bool, true, false, ◌&&◌, Some, if◌then◌else◌}
+use Rattle.std.specs.Prelude.{Bool, true, false, ◌&&◌, ◌||◌, Some, if◌then◌else◌}
 use Rattle.chi_observer.specs.declared.flits.Due.{Due}
 use Rattle.chi_observer.specs.declared.flits.HomeFlit.{HomeFlit}
 use Rattle.chi_observer.specs.Copies.{Held, holds_data}
-use Rattle.chi_observer.specs.Rules.{granted, fills, due_granted}
+use Rattle.chi_observer.specs.Rules.{granted, fills, due_granted, needs_quiet}
 use Rattle.chi_observer.specs.Tables.{Known, reach, fresh, told_granted, fills_told}
 use Rattle.chi_observer.specs.Worlds.{World, Gives, Informed, home_may, put}
 use Rattle.chi_observer.specs.Observed.{Observed, Sound, Unstored, Meaning, goes, takes_home, next_home}
 use Rattle.chi_observer.specs.Laws.{MeaningComesByHome}
 use Rattle.chi_observer.proofs.Finite.{left, right, both}
-use Rattle.chi_observer.proofs.Facts.{same_held, same_held_is, is_settled}
+use Rattle.chi_observer.proofs.Facts.{same_held, same_held_is, is_settled, or_there}
 use Rattle.chi_observer.proofs.Grants.{granted_before, got}
 use Rattle.chi_observer.proofs.Words.{fitted, some_value, old_value}
 use Rattle.chi_observer.proofs.Copies.{home_kept, fitting, fills_same, filled_last}
 use Rattle.chi_observer.proofs.Put.{here, there, split}
-use Rattle.chi_observer.proofs.Rewind.{Settled, rewind}
+use Rattle.chi_observer.proofs.Rewind.{Undone, rewind}
 
-module _ (o : Observed) (g : HomeFlit) (w2 : World) (sound : Sound o) (low : g.agent.0 < 32) (takes : takes_home o g ≡ true) (st : Settled (next_home o g) g.agent.0 w2) where
+module _ (o : Observed) (g : HomeFlit) (w2 : World) (sound : Sound o) (low : g.agent.0 < 32) (takes : takes_home o g ≡ true) (un : Undone (next_home o g) g.agent.0 w2) (top : (needs_quiet g.grant || is_settled ((next_home o g).public.due g.agent.0) ((next_home o g).told g.agent.0) (w2.state g.agent.0)) ≡ true) where
   abbrev n : ℕ
   n = g.agent.0
 
@@ -46,14 +46,14 @@ module _ (o : Observed) (g : HomeFlit) (w2 : World) (sound : Sound o) (low : g.a
   allowed = left _ _ takes
 
   reached : reach d' t' s2 ≡ true
-  reached = subst (λ x. reach x t' s2 ≡ true) (here n d' o.public.due) (subst (λ x. reach (put n d' o.public.due n) x s2 ≡ true) (here n t' o.told) (st.undone.told n low))
+  reached = subst (λ x. reach x t' s2 ≡ true) (here n d' o.public.due) (subst (λ x. reach (put n d' o.public.due n) x s2 ≡ true) (here n t' o.told) (un.told n low))
 
-  topped : is_settled d' t' s2 ≡ true
-  topped = subst (λ x. is_settled x t' s2 ≡ true) (here n d' o.public.due) (subst (λ x. is_settled (put n d' o.public.due n) x s2 ≡ true) (here n t' o.told) st.top)
+  topped : (needs_quiet g.grant || is_settled d' t' s2) ≡ true
+  topped = subst (λ x. (needs_quiet g.grant || is_settled x t' s2) ≡ true) (here n d' o.public.due) (subst (λ x. (needs_quiet g.grant || is_settled (put n d' o.public.due n) x s2) ≡ true) (here n t' o.told) top)
 
   told_else : (k : ℕ) → k ≢ n → k < 32 → reach (o.public.due k) (o.told k) (w2.state k) ≡ true
   told_else k h lk = subst (λ x. reach x (o.told k) (w2.state k) ≡ true) (there n d' o.public.due k h)
-      (subst (λ x. reach (put n d' o.public.due k) x (w2.state k) ≡ true) (there n t' o.told k h) (st.undone.told k lk))
+      (subst (λ x. reach (put n d' o.public.due k) x (w2.state k) ≡ true) (there n t' o.told k h) (un.told k lk))
 
   facts : (reach d t was && same_held s2 (granted g.grant d was)) ≡ true
   facts = got g.grant d (o.public.snooped n) t s2 (fitting o g low allowed) (both _ _ reached topped)
@@ -69,7 +69,7 @@ module _ (o : Observed) (g : HomeFlit) (w2 : World) (sound : Sound o) (low : g.a
 
   now : Quiet → o.current ≡ true → w2.last ≡ w2.home
   unfolding Quiet
-  now u c = st.undone.current c (λ k h lk. subst (λ x. fresh x (put n t' o.told k) (w2.state k) ≡ false) (sym (there n d' o.public.due k h))
+  now u c = un.current c (λ k h lk. subst (λ x. fresh x (put n t' o.told k) (w2.state k) ≡ false) (sym (there n d' o.public.due k h))
       (subst (λ x. fresh (o.public.due k) x (w2.state k) ≡ false) (sym (there n t' o.told k h)) (u k h lk)))
 
   quiet_of : Unstored o old → Quiet
@@ -77,11 +77,11 @@ module _ (o : Observed) (g : HomeFlit) (w2 : World) (sound : Sound o) (low : g.a
   quiet_of u k h lk = subst (λ x. fresh (o.public.due k) (o.told k) x ≡ false) (there n was w2.state k h) (u k lk)
 
   home_shown : fills_told g.grant t ≡ true → w2.home ≡ g.shown
-  home_shown f = st.undone.home g.shown (some_value (fills_told g.grant t) g.shown o.home f)
+  home_shown f = un.home g.shown (some_value (fills_told g.grant t) g.shown o.home f)
 
   home_was : (v : List ℕ) → o.home ≡ Some v → (b : Bool) → fills_told g.grant t ≡ b → w2.home ≡ v
   home_was v e true f = home_shown f ∙ sym (fitted (fills_told g.grant t) o.home g.shown v (left _ (goes o g) (right (home_may o.public g) _ takes)) f e)
-  home_was v e false f = st.undone.home v (old_value (fills_told g.grant t) g.shown o.home f ∙ e)
+  home_was v e false f = un.home v (old_value (fills_told g.grant t) g.shown o.home f ∙ e)
 
   pub old_meant : Meaning o old
   old_meant = record {
@@ -90,7 +90,7 @@ module _ (o : Observed) (g : HomeFlit) (w2 : World) (sound : Sound o) (low : g.a
         (λ k h lk. subst (λ x. reach (o.public.due k) (o.told k) x ≡ true) (sym (there n was w2.state k h)) (told_else k h lk));
     words = split (λ k. k < 32 → holds_data (old.state k).copy ≡ true → old.words k ≡ w2.last) n
         (λ _ _. here n w2.last w2.words)
-        (λ k h lk v. there n w2.last w2.words k h ∙ st.undone.words k lk (subst (λ (x : Held). holds_data x.copy ≡ true) (there n was w2.state k h) v));
+        (λ k h lk v. there n w2.last w2.words k h ∙ un.words k lk (subst (λ (x : Held). holds_data x.copy ≡ true) (there n was w2.state k h) v));
     home = λ v e. home_was v e (fills_told g.grant t) refl;
     current = λ c u. now (quiet_of u) c;
   }
@@ -108,20 +108,30 @@ module _ (o : Observed) (g : HomeFlit) (w2 : World) (sound : Sound o) (low : g.a
   pub old_gives : Gives o.public g old w2
   old_gives = record {
     state = gives ∙ ap (granted g.grant d) (sym (here n was w2.state));
-    words = λ v. st.undone.words n low v ∙ subst (λ x. w2.last ≡ (if fills g.grant x then g.shown else put n w2.last w2.words n)) (sym (here n was w2.state)) (words_are (fills g.grant was) refl);
+    words = λ v. un.words n low v ∙ subst (λ x. w2.last ≡ (if fills g.grant x then g.shown else put n w2.last w2.words n)) (sym (here n was w2.state)) (words_are (fills g.grant was) refl);
     last = refl;
     home = refl;
     others = record { state = λ k lk h. sym (there n was w2.state k h); words = λ k lk h. sym (there n w2.last w2.words k h) };
   }
 
+-- the world before
+abbrev pub world_given : Observed → HomeFlit → World → World
+world_given o g w2 = record {
+  state = put g.agent.0 (granted_before g.grant (o.public.due g.agent.0) (o.told g.agent.0) (w2.state g.agent.0)) w2.state;
+  words = put g.agent.0 w2.last w2.words;
+  last = w2.last;
+  home = w2.home;
+}
+
 pub home_comes : MeaningComesByHome
 home_comes o g w' sound low takes m =
     let back = rewind (next_home o g) w' (home_kept o g sound low takes) m g.agent.0 low in
+    let top : (needs_quiet g.grant || is_settled ((next_home o g).public.due g.agent.0) ((next_home o g).told g.agent.0) (back.before.state g.agent.0)) ≡ true = or_there (needs_quiet g.grant) _ back.settled.top in
     record {
-      before = record { state = put g.agent.0 (granted_before g.grant (o.public.due g.agent.0) (o.told g.agent.0) (back.before.state g.agent.0)) back.before.state; words = put g.agent.0 back.before.last back.before.words; last = back.before.last; home = back.before.home };
+      before = world_given o g back.before;
       given = back.before;
-      meant = old_meant o g back.before sound low takes back.settled;
-      informed = old_informed o g back.before sound low takes back.settled;
-      gives = old_gives o g back.before sound low takes back.settled;
+      meant = old_meant o g back.before sound low takes back.settled.undone top;
+      informed = old_informed o g back.before sound low takes back.settled.undone top;
+      gives = old_gives o g back.before sound low takes back.settled.undone top;
       drifts = back.drifts;
     }

@@ -8,19 +8,17 @@ use Rattle.chi_observer.specs.Copies.{Held, holds_data}
 use Rattle.chi_observer.specs.Copies.Copy.{Invalid}
 use Rattle.chi_observer.specs.Rules.{plain}
 use Rattle.chi_observer.specs.Tables.{Known, reach, fresh}
-use Rattle.chi_observer.specs.Worlds.{World, Sends, Gives, Drift, IsSafe, public_after, public_granted}
+use Rattle.chi_observer.specs.Worlds.{World, Sends, Gives, Drift, public_after, public_granted}
 use Rattle.chi_observer.specs.Worlds.Drift.{Stay, Step}
 use Rattle.chi_observer.specs.Observed.{Observed, Sound, Meaning, next, next_home}
-use Rattle.chi_observer.specs.Runs.{public_of, seen, LegalIsAccepted, AcceptedIsLegal, AcceptedIsExact, AcceptedIsCoherent}
+use Rattle.chi_observer.specs.Runs.{public_of, seen, AcceptedIsExact, AcceptedIsCoherent}
 use Rattle.chi_observer.proofs.Finite.{no, implies, follow, all_helds, each_held}
-use Rattle.chi_observer.proofs.Facts.{same_held, same_held_is, top_copy, reach_self}
-use Rattle.chi_observer.proofs.Cache.{coherent, taken, leads}
+use Rattle.chi_observer.proofs.Facts.{same_held, same_held_is}
+use Rattle.chi_observer.proofs.Cache.{coherent, leads}
 use Rattle.chi_observer.proofs.Comes.{closed, kept}
 use Rattle.chi_observer.proofs.Back.{comes}
 use Rattle.chi_observer.proofs.Copies.{home_kept}
-use Rattle.chi_observer.proofs.Home.{home_leads, home_safe}
-use Rattle.chi_observer.proofs.Top.{home_possible, safe_taken}
-use Rattle.chi_observer.proofs.Words.{or_words}
+use Rattle.chi_observer.proofs.Home.{home_leads}
 use Rattle.chi_observer.proofs.Origin.{home_comes}
 
 drifts : (o : Observed) (w w' : World) → Sound o → Drift o.public w w' → Meaning o w → Meaning o w'
@@ -81,38 +79,3 @@ exact (Down g ∷ es) a =
 
 pub coherent_after : AcceptedIsCoherent
 coherent_after es a w h = let e = exact es a in coherent (seen es) w e.sound (e.meant w h)
-
-pub accepted : LegalIsAccepted
-accepted [] l = l
-accepted (Up f ∷ es) l =
-    let a = accepted es l.0 in let e = exact es a in let h = l.2.1 in
-    (a, l.1, taken (seen es) f h.0 h.1 e.sound l.1 (e.meant h.0 h.2) (subst (λ p. Sends p f h.0 h.1) (sym e.public) h.3), l.3)
-accepted (Down g ∷ es) l =
-    let a = accepted es l.0 in let e = exact es a in (
-      a,
-      l.1,
-      safe_taken (seen es) g e.sound l.1 (record { world = l.2.0; meant = e.meant l.2.0 l.2.1; informed = l.2.2 })
-          (λ w m i. subst (λ p. IsSafe p g w) (sym e.public) (l.3 w (e.after w m) i)),
-      l.4,
-    )
-
--- each copy the strongest that it is told
-inhabited : (o : Observed) → (w : World) × Meaning o w
-inhabited o = (
-  record { state = λ k. top_copy (o.public.due k) (o.told k); words = λ _. or_words o.home []; last = or_words o.home []; home = or_words o.home [] },
-  record { told = λ k _. reach_self (o.public.due k) (o.told k); words = λ _ _ _. refl; home = λ v e. ap (λ z. or_words z []) e; current = λ _ _. refl },
-)
-
-pub legal : AcceptedIsLegal
-legal [] a = a
-legal (Up f ∷ es) a =
-    let e = exact (Up f ∷ es) a in let w = inhabited (seen (Up f ∷ es)) in
-    (legal es a.0, a.1, (w.0, e.after w.0 w.1), a.3)
-legal (Down g ∷ es) a =
-    let e = exact es a.0 in let i = home_possible (seen es) g e.sound a.1 a.2 in (
-      legal es a.0,
-      a.1,
-      (i.world, e.after i.world i.meant, i.informed),
-      λ w h i. subst (λ p. IsSafe p g w) e.public (home_safe (seen es) g w e.sound a.1 a.2 (e.meant w h) i),
-      a.3,
-    )

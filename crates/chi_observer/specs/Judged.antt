@@ -1,20 +1,19 @@
 -- What the observer judges (docs/OBSERVER.md, "What is judged").
 use Rattle.std.specs.Prelude.{Bool, true, false}
 use Rattle.chi_observer.specs.declared.kinds.Kind.{Kind}
-use Rattle.chi_observer.specs.declared.kinds.Kind.TheVariants.{ReadOnce, MakeUnique, CleanShared, MakeInvalid}
+use Rattle.chi_observer.specs.declared.kinds.Kind.TheVariants.{ReadOnce, MakeUnique, MakeInvalid}
 use Rattle.chi_observer.specs.declared.kinds.Snoop.{Snoop}
 use Rattle.chi_observer.specs.declared.kinds.Snoop.TheVariants.{SnpMakeInvalid}
 use Rattle.chi_observer.specs.declared.flits.Act.{Act}
 use Rattle.chi_observer.specs.declared.flits.Act.TheVariants.{Request, Resend}
 use Rattle.chi_observer.specs.declared.flits.Grant.{Grant}
-use Rattle.chi_observer.specs.declared.flits.Grant.TheVariants.{Snp, CompSC}
+use Rattle.chi_observer.specs.declared.flits.Grant.TheVariants.{Snp}
 use Rattle.chi_observer.specs.declared.flits.Flit.{Flit}
 use Rattle.chi_observer.specs.declared.flits.Flit.TheVariants.{Up, Down}
 
 abbrev pub judges_kind : Kind → Bool
 judges_kind ReadOnce = false
 judges_kind MakeUnique = false
-judges_kind CleanShared = false
 judges_kind MakeInvalid = false
 judges_kind other = true
 
@@ -29,7 +28,6 @@ judges_act other = true
 
 abbrev pub judges_grant : Grant → Bool
 judges_grant (Snp snoop) = judges_snoop snoop
-judges_grant CompSC = false
 judges_grant other = true
 
 abbrev pub is_judged : Flit → Bool

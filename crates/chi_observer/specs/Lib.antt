@@ -4,6 +4,7 @@ pub mod Rules
 pub mod Worlds
 pub mod Tables
 pub mod Observed
+pub mod Moments
 pub mod Laws
 pub mod Runs
 pub mod Lines

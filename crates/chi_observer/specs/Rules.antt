@@ -207,6 +207,10 @@ writes other = false
 abbrev pub tells_words : Act → Bool
 tells_words a = has_data a || writes a
 
+abbrev pub is_request : Act → Bool
+is_request (Request kind) = true
+is_request other = false
+
 -- what is due then, and which snoop isn't answered
 abbrev pub due_after : Act → Due → Due
 due_after (Request kind) d = Completion kind
@@ -276,6 +280,25 @@ is_due g (Completion kind) q = is_completed g kind q
 is_due g (SureCompletion kind) q = is_completed g kind q
 is_due g d q = false
 
+-- the kind whose completion is due
+abbrev pub is_of : (Kind → Bool) → Due → Bool
+is_of f (Completion kind) = f kind
+is_of f (SureCompletion kind) = f kind
+is_of f other = false
+
+-- a CleanShared is open: its completion needs a moment since its issue at which no other copy was dirty
+abbrev pub awaits_moment : Due → Bool
+awaits_moment (Completion kind) = same_kind CleanShared kind
+awaits_moment (Resending kind) = same_kind CleanShared kind
+awaits_moment (SureCompletion kind) = same_kind CleanShared kind
+awaits_moment other = false
+
+abbrev pub needs_moment : Grant → Due → Bool
+needs_moment CompUC d = is_of (same_kind CleanShared) d
+needs_moment CompSC d = is_of (same_kind CleanShared) d
+needs_moment CompI d = is_of (same_kind CleanShared) d
+needs_moment other d = false
+
 abbrev pub gives_data : Grant → Bool
 gives_data (CompData form) = true
 gives_data other = false
@@ -300,12 +323,6 @@ upgraded Invalid = UniqueEmpty
 upgraded SharedClean = UniqueClean
 upgraded SharedDirty = UniqueDirty
 upgraded s = s
-
--- the kind whose completion is due
-abbrev pub is_of : (Kind → Bool) → Due → Bool
-is_of f (Completion kind) = f kind
-is_of f (SureCompletion kind) = f kind
-is_of f other = false
 
 abbrev pub is_upgraded : Due → Bool
 is_upgraded d = is_of (same_kind CleanUnique) d

@@ -1,13 +1,16 @@
 -- Whole traces, the newest flit first (docs/OBSERVER.md, "Worlds", "What is proved").
-use Rattle.std.specs.Prelude.{◌≡◌, ℕ, ◌<◌, true, false, None, List, [], ◌∷◌, ⊤}
+use Rattle.std.specs.Prelude.{◌≡◌, ◌≢◌, ◌⊎◌, ℕ, ◌<◌, Bool, true, false, None, List, [], ◌∷◌, ⊤}
 use Rattle.chi_observer.specs.declared.told.Told.TheVariants.{I}
 use Rattle.chi_observer.specs.declared.flits.Due.TheVariants.{Nothing}
 use Rattle.chi_observer.specs.declared.flits.Flit.{Flit}
 use Rattle.chi_observer.specs.declared.flits.Flit.TheVariants.{Up, Down}
+use Rattle.chi_observer.specs.declared.flits.HomeFlit.{HomeFlit}
+use Rattle.chi_observer.specs.Copies.{is_dirty}
 use Rattle.chi_observer.specs.Copies.Copy.{Invalid}
 use Rattle.chi_observer.specs.Judged.{is_judged}
-use Rattle.chi_observer.specs.Rules.{plain}
+use Rattle.chi_observer.specs.Rules.{plain, awaits_moment, needs_moment}
 use Rattle.chi_observer.specs.Worlds.{Public, World, Coherent, Sends, Drift, Gives, Informed, IsSafe, public_after, public_granted}
+use Rattle.chi_observer.specs.Moments.{is_issue, shown_after, has_moment}
 use Rattle.chi_observer.specs.Observed.{Observed, Sound, Meaning, takes, next, takes_home, next_home}
 
 -- THE TRUTH
@@ -25,11 +28,29 @@ After [] w = ((n : ℕ) → n < 32 → w.state n ≡ plain Invalid) × (w.home �
 After (Up f ∷ es) w = (before : World) × (sent : World) × After es before × Sends (public_of es) f before sent × Drift (public_of (Up f ∷ es)) sent w
 After (Down g ∷ es) w = (before : World) × (given : World) × After es before × Informed g before × Gives (public_of es) g before given × Drift (public_of (Down g ∷ es)) given w
 
--- each flit is one that is judged; each of a cache may be sent, and each of the home is safe
+-- those that the newest flit leaves, before hidden steps
+abbrev pub Behind : List Flit → World → Type 0
+Behind [] w = After [] w
+Behind (Up f ∷ es) w = (before : World) × After es before × Sends (public_of es) f before w
+Behind (Down g ∷ es) w = (before : World) × After es before × Informed g before × Gives (public_of es) g before w
+
+abbrev pub NoneDirty : List Flit → ℕ → Type 0
+NoneDirty es n = (w : World) → Behind es w → (m : ℕ) → m < 32 → m ≢ n → is_dirty (w.state m).copy ≡ false
+
+-- since the issue of n's CleanShared, which is open, there was a flit behind which surely no other copy was dirty
+abbrev pub HasMoment : List Flit → ℕ → Type 0
+HasMoment [] n = ⊥
+HasMoment (e ∷ es) n = (awaits_moment ((public_of (e ∷ es)).due n) ≡ true) × (((is_issue e n ≡ false) × HasMoment es n) ⊎ NoneDirty (e ∷ es) n)
+
+abbrev pub HasNeeded : List Flit → HomeFlit → Type 0
+HasNeeded es g = needs_moment g.grant ((public_of es).due g.agent.0) ≡ true → HasMoment es g.agent.0
+
+-- each flit is one that is judged; each of a cache may be sent, and each of the home is safe and
+-- has the moment that it needs
 abbrev pub Legal : List Flit → Type 0
 Legal [] = ⊤
 Legal (Up f ∷ es) = Legal es × (f.agent.0 < 32) × ((w : World) × After (Up f ∷ es) w) × (is_judged (Up f) ≡ true)
-Legal (Down g ∷ es) = Legal es × (g.agent.0 < 32) × ((w : World) × After es w × Informed g w) × ((w : World) → After es w → Informed g w → IsSafe (public_of es) g w) × (is_judged (Down g) ≡ true)
+Legal (Down g ∷ es) = Legal es × (g.agent.0 < 32) × ((w : World) × After es w × Informed g w) × ((w : World) → After es w → Informed g w → IsSafe (public_of es) g w) × (is_judged (Down g) ≡ true) × HasNeeded es g
 
 -- THE OBSERVER
 abbrev pub nothing_told : Observed
@@ -40,10 +61,14 @@ seen [] = nothing_told
 seen (Up f ∷ es) = next (seen es) f
 seen (Down g ∷ es) = next_home (seen es) g
 
+abbrev pub shown_by : List Flit → ℕ → Bool
+shown_by [] n = false
+shown_by (e ∷ es) n = shown_after (seen (e ∷ es)) e (shown_by es) n
+
 abbrev pub Accepted : List Flit → Type 0
 Accepted [] = ⊤
 Accepted (Up f ∷ es) = Accepted es × (f.agent.0 < 32) × (takes (seen es) f ≡ true) × (is_judged (Up f) ≡ true)
-Accepted (Down g ∷ es) = Accepted es × (g.agent.0 < 32) × (takes_home (seen es) g ≡ true) × (is_judged (Down g) ≡ true)
+Accepted (Down g ∷ es) = Accepted es × (g.agent.0 < 32) × (takes_home (seen es) g ≡ true) × (is_judged (Down g) ≡ true) × (has_moment (seen es) (shown_by es) g ≡ true)
 
 -- what holds behind an accepted trace
 pub record IsExact (es : List Flit) : Type 0 where

@@ -133,10 +133,10 @@ impl Grant {
     {
         match self {
             Grant::Snp(snoop) => snoop.is_judged(),
-            Grant::CompSC => false,
             Grant::RetryAck
             | Grant::CompData(_)
             | Grant::CompUC
+            | Grant::CompSC
             | Grant::CompI
             | Grant::CompDBIDResp => true,
         }

@@ -69,12 +69,13 @@ impl Kind {
         ensures { result ≡ judges_kind self }
     {
         match self {
-            Kind::ReadOnce | Kind::MakeUnique | Kind::CleanShared | Kind::MakeInvalid => false,
+            Kind::ReadOnce | Kind::MakeUnique | Kind::MakeInvalid => false,
             Kind::ReadNotSharedDirty
             | Kind::ReadShared
             | Kind::ReadClean
             | Kind::ReadUnique
             | Kind::CleanUnique
+            | Kind::CleanShared
             | Kind::CleanInvalid
             | Kind::Evict
             | Kind::WriteBackFull

@@ -33,7 +33,7 @@ pub fn home_flits()
     ensures comes { MeaningComesByHome }
 {}
 
-/// The law that a whole trace is accepted exactly where it is legal; that the worlds behind an accepted one are those
+/// The law that a whole trace of flits that are judged is accepted exactly where it is legal; that the worlds behind an accepted one are those
 /// that the observer's state stands for; and that all of them are coherent.
 /// Source: `docs/OBSERVER.md`, "What is proved".
 pub fn traces()

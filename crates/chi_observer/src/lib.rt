@@ -7,6 +7,7 @@
 mod flits;
 mod kinds;
 mod laws;
+mod moments;
 mod observer;
 mod rules;
 mod told;

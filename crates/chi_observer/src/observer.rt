@@ -2,18 +2,18 @@
 
 ghost use Rattle.std.specs.Prelude.{◌≡◌, ◌<◌, ◌&&◌, ◌||◌, IfErr, OnOk, OnErr, Some, false, if◌then◌else◌, is_ok, not, true};
 ghost use Rattle.chi_observer.specs.Rules.{allows, needs_duty, passes_duty};
-ghost use Rattle.chi_observer.specs.Copies.{Copy, compatible, same};
 ghost use Rattle.chi_observer.specs.Tables.{fills_told, fits_told, is_cancelled, renews, strongest};
 ghost use Rattle.chi_observer.specs.Worlds.{all_below, home_may};
 ghost use Rattle.chi_observer.specs.Observed.{differs, fits, goes, takes, takes_home, next, next_home};
-ghost use Rattle.chi_observer.specs.Runs.{nothing_told};
-ghost use Rattle.chi_observer.specs.Lines.{agent_after, agent_granted, after, is_given_reason, is_judged_reason, is_quiet, is_reason, is_sent_reason, is_taken, known_of, observed, stands_beside, takes_flit};
+ghost use Rattle.chi_observer.specs.Moments.{after, has_moment};
+ghost use Rattle.chi_observer.specs.Lines.{agent_after, agent_granted, goes_beside, is_given_reason, is_judged_reason, is_quiet, is_reason, is_sent_reason, is_taken, known_of, nothing_watched, observed, stands_beside, takes_flit, watch, watched};
 
 use crate::flits::{Act, CacheFlit, Due, Flit, Grant, HomeFlit};
 use crate::kinds::Snoop;
+use crate::moments::shown_behind;
 use crate::rules::{
     allows, due_after, due_granted, gives_data, has_data, is_busy, is_due, needs_alone, needs_duty,
-    needs_quiet, passes_duty, same_kind, snooped_after, snooped_granted, tells_words,
+    needs_moment, needs_quiet, passes_duty, same_kind, snooped_after, snooped_granted, tells_words,
 };
 use crate::told::{Told, answer_tells_dirty, may_be_free, tells_dirty};
 use chi_flit::Data;
@@ -48,6 +48,8 @@ pub struct Observer {
     pub current: bool,
     /// Whether the home has dirty data that it must write or pass on.
     pub duty: bool,
+    /// Of each agent whose CleanShared is open: there was a moment since its issue at which no other copy was dirty.
+    pub shown: [bool; 32],
 }
 
 /// Why a flit isn't taken. What it rests on can be read in the observer, which it leaves as it was.
@@ -64,6 +66,8 @@ pub enum Reason {
     NotDue,
     /// A CompAck or write data are due at the line, and nothing is snooped meanwhile.
     Busy,
+    /// Since the agent's CleanShared was sent another copy may always have been dirty.
+    NoMoment,
     /// The home has no dirty data to pass on.
     NoDuty,
     /// The words are known to be others.
@@ -76,7 +80,7 @@ impl Observer {
     /// An observer of a line that no cache has a copy of, with no request open, and whose memory has any words.
     /// Source: `docs/OBSERVER.md`, "What is kept".
     pub fn new() -> Observer
-        ensures { observed result ≡ nothing_told }
+        ensures { watched result ≡ nothing_watched }
     {
         let nobody = AgentSeen {
             told: Told::I,
@@ -89,6 +93,7 @@ impl Observer {
             home: None,
             current: true,
             duty: false,
+            shown: [false; 32],
         }
     }
 
@@ -97,10 +102,10 @@ impl Observer {
     /// it breaks, and nothing changes.
     /// Source: `docs/OBSERVER.md`, "Flits of a cache", "Flits of the home".
     pub fn take(&mut self, flit: Flit) -> Result<(), Reason>
-        ensures taken { is_ok result ≡ is_taken (observed self.old) flit }
-        ensures after { OnOk result (observed self.new ≡ after (observed self.old) flit) }
+        ensures taken { is_ok result ≡ is_taken (watched self.old) flit }
+        ensures after { OnOk result (watched self.new ≡ watch (watched self.old) flit) }
         ensures kept { OnErr result (self.new ≡ self.old) }
-        ensures reason { IfErr result (λ reason. is_reason (observed self.old) flit reason ≡ true) }
+        ensures reason { IfErr result (λ reason. is_reason (watched self.old) flit reason ≡ true) }
     {
         if !flit.is_judged() {
             return Err(Reason::NotJudged);
@@ -109,12 +114,25 @@ impl Observer {
     }
 
     /// Takes a flit that is judged.
-    #[tactic(auto, using(crate::proofs::Lines::refused))]
     fn take_judged(&mut self, flit: Flit) -> Result<(), Reason>
-        ensures taken { is_ok result ≡ takes_flit (observed self.old) flit }
-        ensures after { OnOk result (observed self.new ≡ after (observed self.old) flit) }
+        ensures taken { is_ok result ≡ takes_flit (watched self.old) flit }
+        ensures after { OnOk result (watched self.new ≡ watch (watched self.old) flit) }
         ensures kept { OnErr result (self.new ≡ self.old) }
-        ensures reason { IfErr result (λ reason. is_judged_reason (observed self.old) flit reason ≡ true) }
+        ensures reason { IfErr result (λ reason. is_judged_reason (watched self.old) flit reason ≡ true) }
+    {
+        self.take_told(flit)?;
+        self.shown = shown_behind(&self.agents, &self.shown, flit);
+        Ok(())
+    }
+
+    /// Takes what a flit that is judged tells of copies.
+    #[tactic(auto, using(crate::proofs::Lines::refused))]
+    fn take_told(&mut self, flit: Flit) -> Result<(), Reason>
+        ensures taken { is_ok result ≡ takes_flit (watched self.old) flit }
+        ensures after { OnOk result (observed self.new ≡ after (observed self.old) flit) }
+        ensures shown { self.new.shown ≡ self.old.shown }
+        ensures kept { OnErr result (self.new ≡ self.old) }
+        ensures reason { IfErr result (λ reason. is_judged_reason (watched self.old) flit reason ≡ true) }
     {
         match flit {
             Flit::Up(sent) => {
@@ -127,9 +145,21 @@ impl Observer {
                 if given.agent.0 >= 32 {
                     return Err(Reason::NoAgent);
                 }
+                if !self.has_moment(given) {
+                    return Err(Reason::NoMoment);
+                }
                 self.take_given(given)
             }
         }
+    }
+
+    /// Whether there was the moment that a flit of the home needs.
+    fn has_moment(&self, flit: HomeFlit) -> bool
+        requires { flit.agent.0 < 32 }
+        ensures { result ≡ has_moment (observed self.now) (watched self.now).shown flit }
+    {
+        let at = usize::from(flit.agent.0);
+        !needs_moment(flit.grant, self.agents[at].due) || self.shown[at]
     }
 
     /// Takes a flit of a cache.
@@ -137,6 +167,7 @@ impl Observer {
         requires { flit.agent.0 < 32 }
         ensures taken { is_ok result ≡ takes (observed self.old) flit }
         ensures after { OnOk result (observed self.new ≡ next (observed self.old) flit) }
+        ensures shown { self.new.shown ≡ self.old.shown }
         ensures kept { OnErr result (self.new ≡ self.old) }
         ensures reason { IfErr result (λ reason. is_sent_reason (observed self.old) flit reason ≡ true) }
     {
@@ -165,6 +196,7 @@ impl Observer {
         requires { flit.agent.0 < 32 }
         ensures taken { is_ok result ≡ takes_home (observed self.old) flit }
         ensures after { OnOk result (observed self.new ≡ next_home (observed self.old) flit) }
+        ensures shown { self.new.shown ≡ self.old.shown }
         ensures kept { OnErr result (self.new ≡ self.old) }
         ensures reason { IfErr result (λ reason. is_given_reason (observed self.old) flit reason ≡ true) }
     {
@@ -348,7 +380,7 @@ fn stands_beside(agents: &[AgentSeen; 32], agent: u8, told: Told, alone: bool) -
 
 /// Whether two agents' copies may have been told so together, and the other is none where it has to be.
 fn is_beside(told: Told, other: Told, alone: bool) -> bool
-    ensures { result ≡ (compatible (strongest told) (strongest other) && (not alone || same (strongest other) Copy.Invalid)) }
+    ensures { result ≡ goes_beside told alone other }
 {
     told.goes_with(other) && (!alone || other.is_gone())
 }

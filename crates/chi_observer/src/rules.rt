@@ -1,7 +1,7 @@
 //! What flits say by themselves.
 
 ghost use Rattle.std.specs.Prelude.{◌≡◌};
-ghost use Rattle.chi_observer.specs.Rules.{allows, completes, due_after, due_granted, form_passes, gives_data, has_data, is_busy, is_clean_form, is_completed, is_due, is_shared_form, is_upgraded, is_written_whole, leaves, left_by, needs_alone, needs_duty, needs_quiet, passes_duty, same_kind, snooped_after, snooped_granted, tells_words, writes, written};
+ghost use Rattle.chi_observer.specs.Rules.{allows, awaits_moment, completes, due_after, due_granted, form_passes, gives_data, has_data, is_busy, is_clean_form, is_completed, is_due, is_shared_form, is_upgraded, is_written_whole, leaves, left_by, needs_alone, needs_duty, needs_moment, needs_quiet, passes_duty, same_kind, snooped_after, snooped_granted, tells_words, writes, written};
 
 use crate::flits::{Act, Answer, Due, Grant};
 use crate::kinds::{Kind, Snoop};
@@ -272,6 +272,29 @@ pub(crate) fn needs_alone(grant: Grant, due: Due) -> bool
             Due::Completion(Kind::CleanInvalid) | Due::SureCompletion(Kind::CleanInvalid)
         )
     )
+}
+
+/// Whether a CleanShared is open, whose completion needs a moment since its issue at which no other copy was dirty.
+pub(crate) fn awaits_moment(due: Due) -> bool
+    ensures { result ≡ awaits_moment due }
+{
+    matches!(
+        due,
+        Due::Completion(Kind::CleanShared)
+            | Due::Resending(Kind::CleanShared)
+            | Due::SureCompletion(Kind::CleanShared)
+    )
+}
+
+/// Whether a flit of the home is such a completion.
+pub(crate) fn needs_moment(grant: Grant, due: Due) -> bool
+    ensures { result ≡ needs_moment grant due }
+{
+    matches!(grant, Grant::CompUC | Grant::CompSC | Grant::CompI)
+        && matches!(
+            due,
+            Due::Completion(Kind::CleanShared) | Due::SureCompletion(Kind::CleanShared)
+        )
 }
 
 /// Whether a flit of the home has data.

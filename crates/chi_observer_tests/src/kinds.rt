@@ -7,9 +7,10 @@ use chi_observer::Act::{CompAck, CopyBackWrData, NonCopyBackWrData, Request, Snp
 use chi_observer::Answer::{
     SnpRespDataIPD, SnpRespDataSD, SnpRespDataUCPD, SnpRespDataUD, SnpRespI, SnpRespUC,
 };
-use chi_observer::Grant::{CompDBIDResp, CompData, CompI, Snp};
+use chi_observer::Grant::{CompDBIDResp, CompData, CompI, CompSC, CompUC, Snp};
 use chi_observer::Kind::{
-    CleanInvalid, MakeUnique, ReadClean, ReadShared, ReadUnique, WriteEvictFull, WriteUniqueFull,
+    CleanInvalid, CleanShared, MakeUnique, ReadClean, ReadShared, ReadUnique, WriteBackFull,
+    WriteEvictFull, WriteUniqueFull,
 };
 use chi_observer::Snoop::{
     SnpCleanInvalid, SnpCleanShared, SnpMakeInvalid, SnpOnce, SnpShared, SnpUnique,
@@ -202,4 +203,61 @@ fn a_whole_write_beside_a_copy_is_a_fault(rt: HostRuntime) {
     ];
     let found = fault_beside_an_owner(&rt, &last);
     assert!(rt; found == Some((1, Reason::OtherCopy)), "{found:?}");
+}
+
+#[test]
+fn a_line_is_cleaned_once_its_owner_has_answered(rt: HostRuntime) {
+    let last = [
+        up(1, Request(CleanShared), NO_DATA),
+        down(0, Snp(SnpCleanShared), NO_DATA),
+        up(0, SnpResp(SnpRespDataUCPD), NEW),
+        down(1, CompI, NO_DATA),
+    ];
+    let found = fault_beside_an_owner(&rt, &last);
+    assert!(rt; found.is_none(), "{found:?}");
+}
+
+#[test]
+fn a_cleaning_that_asks_no_owner_is_a_fault(rt: HostRuntime) {
+    let last = [
+        up(1, Request(CleanShared), NO_DATA),
+        down(1, CompI, NO_DATA),
+    ];
+    let found = fault_beside_an_owner(&rt, &last);
+    assert!(rt; found == Some((1, Reason::NoMoment)), "{found:?}");
+}
+
+#[test]
+fn a_clean_answer_before_the_cleaning_does_not_count(rt: HostRuntime) {
+    let last = [
+        down(0, Snp(SnpCleanShared), NO_DATA),
+        up(0, SnpResp(SnpRespUC), NO_DATA),
+        up(1, Request(CleanShared), NO_DATA),
+        down(1, CompI, NO_DATA),
+    ];
+    let found = fault_beside_an_owner(&rt, &last);
+    assert!(rt; found == Some((3, Reason::NoMoment)), "{found:?}");
+}
+
+#[test]
+fn an_owner_cleans_its_own_copy_and_keeps_it(rt: HostRuntime) {
+    let last = [
+        up(0, Request(CleanShared), NO_DATA),
+        down(0, CompUC, NO_DATA),
+        up(0, Request(WriteEvictFull), NO_DATA),
+    ];
+    let found = fault_beside_an_owner(&rt, &last);
+    assert!(rt; found.is_none(), "{found:?}");
+}
+
+#[test]
+fn a_cleaning_waits_for_write_data(rt: HostRuntime) {
+    let last = [
+        up(0, Request(WriteBackFull), NO_DATA),
+        up(1, Request(CleanShared), NO_DATA),
+        down(0, CompDBIDResp, NO_DATA),
+        down(1, CompSC, NO_DATA),
+    ];
+    let found = fault_beside_an_owner(&rt, &last);
+    assert!(rt; found == Some((3, Reason::NoMoment)), "{found:?}");
 }

@@ -1,4 +1,5 @@
-use Rattle.chi_observer.proofs.Runs.{accepted, legal, exact, coherent_after}
+use Rattle.chi_observer.proofs.Runs.{exact, coherent_after}
+use Rattle.chi_observer.proofs.Legal.{accepted, legal}
 use Rattle.chi_observer.proofs.laws.traces.Goals as goal
 
 pub returns-clause-accepted : goal.returns-clause-accepted

@@ -1,15 +1,16 @@
--- An agent beyond the last is refused.
-use Rattle.std.proofs.Common.{rules, arith, ◌≡◌, sym, subst}
-use Rattle.std.specs.Prelude.{false, nat_lt}
-use Rattle.chi_observer.specs.declared.flits.Flit.{Flit}
-use Rattle.chi_observer.specs.Observed.{takes_home}
-use Rattle.chi_observer.specs.Lines.{takes_flit, observed}
-use Rattle.chi_observer.proofs.Lines.{refused}
+-- What is told, and the moments behind it.
+use Rattle.std.proofs.Common.{◌≡◌, List, ap, ◌∙◌}
+use Rattle.std.specs.Prelude.{Bool}
+use Rattle.chi_observer.specs.Moments.{after}
+use Rattle.chi_observer.specs.Lines.{observed, shown_of, shown_here}
+use Rattle.chi_observer.proofs.Lines.{noted}
 use Rattle.chi_observer.proofs.observer.Observer.take_judged.Goals as goal
 
-pub returns-then-given-ge32-clause-taken : goal.returns-then-given-ge32-clause-taken
-returns-then-given-ge32-clause-taken c =
-    let old = observed c.args.self.now in
-    let given = c.in-Down.given in
-    let high : nat_lt given.agent.0 32 ≡ false = search (rules, arith, c.if-given-ge32) in
-    subst (λ (f : Flit). false ≡ takes_flit old f) (sym c.in-Down.is) (refused (nat_lt given.agent.0 32) (takes_home old given) high)
+pub returns-clause-after : goal.returns-clause-after
+returns-clause-after c =
+    let old = c.args.self.now in
+    let mid = c.take_told.new.self in
+    let flit = c.args.flit in
+    let told : observed mid ≡ after (observed old) flit = c.in_ok-take_told.ensures.after in
+    noted mid (after (observed old) flit) old.shown c.shown_behind-self.result flit told
+    (λ n. c.shown_behind-self.ensures n ∙ ap (λ (xs : List Bool). shown_here mid.agents flit (shown_of xs n) n) c.take_told.ensures.shown)

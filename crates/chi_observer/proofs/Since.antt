@@ -1,0 +1,239 @@
+-- The moments that are kept are those that worlds have.
+use Rattle.std.proofs.Common.{◌≡◌, ◌⊎◌, inl, inr, ℕ, ◌<◌, List, [], ◌∷◌, refl, sym, ap, subst, ◌∙◌}
+use Rattle.std.specs.Prelude.{Bool, true, false, ◌&&◌, ◌||◌, ◌==◌, not, if◌then◌else◌}
+use Rattle.std.proofs.lemmas.Bool.{eqb-true}
+use Rattle.chi_observer.specs.declared.flits.Due.{Due}
+use Rattle.chi_observer.specs.declared.flits.CacheFlit.{CacheFlit}
+use Rattle.chi_observer.specs.declared.flits.HomeFlit.{HomeFlit}
+use Rattle.chi_observer.specs.declared.flits.Flit.{Flit}
+use Rattle.chi_observer.specs.declared.flits.Flit.TheVariants.{Up, Down}
+use Rattle.chi_observer.specs.Copies.{Held, is_unique, is_dirty}
+use Rattle.chi_observer.specs.Copies.Copy.{UniqueDirty}
+use Rattle.chi_observer.specs.Rules.{is_resending, awaits_moment, needs_quiet}
+use Rattle.chi_observer.specs.Tables.{Known, most, may, reach, may_be_free, told_granted}
+use Rattle.chi_observer.specs.Worlds.{Public, World, Sends, Gives, put}
+use Rattle.chi_observer.specs.Observed.{Observed, next, next_home}
+use Rattle.chi_observer.specs.Moments.{is_issue, tells_of, may_be_dirty, none_dirty}
+use Rattle.chi_observer.specs.Runs.{public_of, seen, shown_by, NoneDirty, HasMoment, Accepted}
+use Rattle.chi_observer.proofs.Finite.{no, left, right, both, implies, follow}
+use Rattle.chi_observer.proofs.Spots.{all_due_copies, each_due_copy}
+use Rattle.chi_observer.proofs.Facts.{turned, flip, or_here, or_there, top_copy, reach_self, is_settled}
+use Rattle.chi_observer.proofs.Words.{or_words}
+use Rattle.chi_observer.proofs.Put.{here, there, split, differ, unlike, alike}
+use Rattle.chi_observer.proofs.Rewind.{Undone, Settled}
+use Rattle.chi_observer.proofs.Copies.{each_below, below_all, settled_given}
+use Rattle.chi_observer.proofs.Cache.{leads, settled_sent}
+use Rattle.chi_observer.proofs.Home.{home_leads}
+use Rattle.chi_observer.proofs.Back.{world_before, before_meant, before_sends}
+use Rattle.chi_observer.proofs.Origin.{world_given, old_meant, old_informed, old_gives}
+use Rattle.chi_observer.proofs.Runs.{exact}
+
+one_of : (a b : Bool) → (a || b) ≡ true → a ≡ false → b ≡ true
+one_of true b h e = no (sym e)
+one_of false b h e = h
+
+or_right : (a b : Bool) → (a ≡ false → b ≡ true) → (a || b) ≡ true
+or_right true b h = refl
+or_right false b h = h refl
+
+not_left : (a b : Bool) → not (a || b) ≡ true → not a ≡ true
+not_left true b h = no h
+not_left false b h = refl
+
+not_true : (a : Bool) → (a ≡ true → false ≡ true) → not a ≡ true
+not_true true h = h refl
+not_true false h = refl
+
+-- A COPY THAT CAN'T BE DIRTY
+quiet_table : Due → Known → Held → Bool
+quiet_table d t s = implies (reach d t s && not (may_be_dirty d t false)) (not (is_dirty s.copy))
+
+quiet_holds : all_due_copies quiet_table ≡ true
+unfolding quiet_table
+quiet_holds = refl
+
+told_table : Due → Known → Held → Bool
+told_table d t s = implies (may t.told s.copy && not (is_dirty (most t))) (not (is_dirty s.copy))
+
+told_holds : all_due_copies told_table ≡ true
+unfolding told_table
+told_holds = refl
+
+-- b: right behind the flit it is as it is told
+clean_by : (b : Bool) (d : Due) (t : Known) (s : Held) → reach d t s ≡ true → (b ≡ true → may t.told s.copy ≡ true) → not (may_be_dirty d t b) ≡ true → is_dirty s.copy ≡ false
+unfolding quiet_table told_table
+clean_by true d t s r h n = turned _ (follow (may t.told s.copy && not (is_dirty (most t))) _ (each_due_copy told_table told_holds d t s) (both _ _ (h refl) (not_left (is_dirty (most t)) _ n)))
+clean_by false d t s r h n = turned _ (follow (reach d t s && not (may_be_dirty d t false)) _ (each_due_copy quiet_table quiet_holds d t s) (both _ _ r n))
+
+-- A COPY THAT MAY BE DIRTY
+abbrev pub dirty_top : Due → Known → Held
+dirty_top d t = if is_dirty (most t) then top_copy d t else record { copy = UniqueDirty; cancelled = is_resending d }
+
+abbrev pub can_be_dirty : Due → Known → Bool
+can_be_dirty d t = is_dirty (most t) || (may_be_free d && is_unique (most t))
+
+dirty_table : Due → Known → Held → Bool
+dirty_table d t s = implies (can_be_dirty d t) (reach d t (dirty_top d t) && is_dirty (dirty_top d t).copy)
+
+dirty_holds : all_due_copies dirty_table ≡ true
+unfolding dirty_table
+dirty_holds = refl
+
+dirty_found : (d : Due) (t : Known) → can_be_dirty d t ≡ true → (reach d t (dirty_top d t) && is_dirty (dirty_top d t).copy) ≡ true
+unfolding dirty_table
+dirty_found d t = follow (can_be_dirty d t) _ (each_due_copy dirty_table dirty_holds d t (top_copy d t))
+
+settled_table : Due → Known → Held → Bool
+settled_table d t s = is_settled d t (top_copy d t) && implies (is_dirty (most t)) (is_settled d t (dirty_top d t))
+
+settled_holds : all_due_copies settled_table ≡ true
+unfolding settled_table
+settled_holds = refl
+
+top_settled : (d : Due) (t : Known) → is_settled d t (top_copy d t) ≡ true
+unfolding settled_table
+top_settled d t = left _ (implies (is_dirty (most t)) (is_settled d t (dirty_top d t))) (each_due_copy settled_table settled_holds d t (top_copy d t))
+
+dirty_settled : (d : Due) (t : Known) → is_dirty (most t) ≡ true → is_settled d t (dirty_top d t) ≡ true
+unfolding settled_table
+dirty_settled d t = follow (is_dirty (most t)) _ (right (is_settled d t (top_copy d t)) _ (each_due_copy settled_table settled_holds d t (top_copy d t)))
+
+-- m's copy is dirty, and each other the strongest
+module _ (o : Observed) (m : ℕ) (can : can_be_dirty (o.public.due m) (o.told m) ≡ true) where
+  abbrev tops : ℕ → Held
+  tops k = top_copy (o.public.due k) (o.told k)
+
+  abbrev x : Held
+  x = dirty_top (o.public.due m) (o.told m)
+
+  abbrev dirty_world : World
+  dirty_world = record { state = put m x tops; words = λ _. or_words o.home []; last = or_words o.home []; home = or_words o.home [] }
+
+  dirty_undone : (n : ℕ) → Undone o n dirty_world
+  dirty_undone n = record {
+    told = split (λ k. k < 32 → reach (o.public.due k) (o.told k) (put m x tops k) ≡ true) m
+        (λ _. subst (λ z. reach (o.public.due m) (o.told m) z ≡ true) (sym (here m x tops)) (left _ _ (dirty_found (o.public.due m) (o.told m) can)))
+        (λ k h _. subst (λ z. reach (o.public.due k) (o.told k) z ≡ true) (sym (there m x tops k h)) (reach_self (o.public.due k) (o.told k)));
+    words = λ _ _ _. refl;
+    home = λ v e. ap (λ z. or_words z []) e;
+    current = λ _ _. refl;
+  }
+
+  dirty_there : is_dirty (dirty_world.state m).copy ≡ true
+  dirty_there = subst (λ (z : Held). is_dirty z.copy ≡ true) (sym (here m x tops)) (right (reach (o.public.due m) (o.told m) x) _ (dirty_found (o.public.due m) (o.told m) can))
+
+  settled_at : (n : ℕ) → (m ≡ n → is_dirty (most (o.told m)) ≡ true) → is_settled (o.public.due n) (o.told n) (dirty_world.state n) ≡ true
+  settled_at = split (λ n. (m ≡ n → is_dirty (most (o.told m)) ≡ true) → is_settled (o.public.due n) (o.told n) (put m x tops n) ≡ true) m
+      (λ h. subst (λ z. is_settled (o.public.due m) (o.told m) z ≡ true) (sym (here m x tops)) (dirty_settled (o.public.due m) (o.told m) (h refl)))
+      (λ k d _. subst (λ z. is_settled (o.public.due k) (o.told k) z ≡ true) (sym (there m x tops k d)) (top_settled (o.public.due k) (o.told k)))
+
+weaker : (a b c : Bool) → (a || (not b && c)) ≡ true → (a || c) ≡ true
+weaker true b c h = refl
+weaker false true c h = no h
+weaker false false c h = h
+
+surely : (a b c : Bool) → (a || (not b && c)) ≡ true → b ≡ true → a ≡ true
+surely true b c h e = refl
+surely false true c h e = no h
+surely false false c h e = no e
+
+-- A FLIT OF A CACHE
+module _ (es : List Flit) (f : CacheFlit) (a : Accepted (Up f ∷ es)) (n : ℕ) where
+  abbrev was : Observed
+  was = seen es
+
+  abbrev now : Observed
+  now = next (seen es) f
+
+  pub up_clean : none_dirty (next (seen es) f) (Up f) n ≡ true → NoneDirty (Up f ∷ es) n
+  up_clean h w b m lm ne =
+      let e = exact es a.0 in
+      let sends : Sends was.public f b.0 w = subst (λ p. Sends p f b.0 w) (sym e.public) b.2 in
+      let meant = e.meant b.0 b.1 in
+      clean_by (m == f.agent.0) (now.public.due m) (now.told m) (w.state m)
+      ((leads was f b.0 w e.sound a.1 meant sends).told m lm)
+      (λ same. subst (λ k. may (now.told k).told (w.state k).copy ≡ true) (sym (eqb-true m f.agent.0 same)) (settled_sent was f b.0 w e.sound a.1 meant sends))
+      (one_of (m == n) _ (each_below 32 (λ k. k == n || not (may_be_dirty (now.public.due k) (now.told k) (tells_of (Up f) k))) h m lm) (unlike m n ne))
+
+  pub up_none : NoneDirty (Up f ∷ es) n → none_dirty (next (seen es) f) (Up f) n ≡ true
+  up_none all = below_all 32 (λ k. k == n || not (may_be_dirty (now.public.due k) (now.told k) (tells_of (Up f) k)))
+      (λ m lm. or_right (m == n) _ (λ ne. not_true _ (λ d.
+      let e = exact es a.0 in
+      let can : can_be_dirty (now.public.due m) (now.told m) ≡ true = weaker (is_dirty (most (now.told m))) (m == f.agent.0) _ d in
+      let w2 = dirty_world now m can in
+      let st : Settled now f.agent.0 w2 = record {
+        undone = dirty_undone now m can f.agent.0;
+        top = settled_at now m can f.agent.0 (λ h. surely (is_dirty (most (now.told m))) (m == f.agent.0) _ d (subst (λ k. (m == k) ≡ true) h (alike m)));
+      } in
+      sym (all w2 (world_before was f w2, e.after (world_before was f w2) (before_meant was f w2 e.sound a.1 a.2 st), subst (λ p. Sends p f (world_before was f w2) w2) e.public (before_sends was f w2 e.sound a.1 a.2 st)) m lm (differ m n ne))
+      ∙ dirty_there now m can)))
+
+-- A FLIT OF THE HOME
+module _ (es : List Flit) (g : HomeFlit) (a : Accepted (Down g ∷ es)) (n : ℕ) where
+  abbrev kept : Observed
+  kept = seen es
+
+  abbrev left_so : Observed
+  left_so = next_home (seen es) g
+
+  pub down_clean : none_dirty (next_home (seen es) g) (Down g) n ≡ true → NoneDirty (Down g ∷ es) n
+  down_clean h w b m lm ne =
+      let e = exact es a.0 in
+      let gives : Gives kept.public g b.0 w = subst (λ q. Gives q g b.0 w) (sym e.public) b.3 in
+      let meant = e.meant b.0 b.1 in
+      let settled : (needs_quiet g.grant || may (left_so.told g.agent.0).told (w.state g.agent.0).copy) ≡ true =
+      subst (λ (x : Known). (needs_quiet g.grant || may x.told (w.state g.agent.0).copy) ≡ true) (sym (here g.agent.0 (told_granted g.grant (kept.public.due g.agent.0) (kept.told g.agent.0)) kept.told))
+      (subst (λ (x : Held). (needs_quiet g.grant || may (told_granted g.grant (kept.public.due g.agent.0) (kept.told g.agent.0)).told x.copy) ≡ true) (sym gives.state) (settled_given kept g a.1 (left _ _ a.2) (b.0.state g.agent.0) (meant.told g.agent.0 a.1))) in
+      clean_by (tells_of (Down g) m) (left_so.public.due m) (left_so.told m) (w.state m)
+      ((home_leads kept g b.0 w e.sound a.1 a.2 meant b.2 gives).told m lm)
+      (λ same. subst (λ k. may (left_so.told k).told (w.state k).copy ≡ true) (sym (eqb-true m g.agent.0 (left (m == g.agent.0) _ same)))
+      (one_of (needs_quiet g.grant) _ settled (turned _ (right (m == g.agent.0) _ same))))
+      (one_of (m == n) _ (each_below 32 (λ k. k == n || not (may_be_dirty (left_so.public.due k) (left_so.told k) (tells_of (Down g) k))) h m lm) (unlike m n ne))
+
+  pub down_none : NoneDirty (Down g ∷ es) n → none_dirty (next_home (seen es) g) (Down g) n ≡ true
+  down_none all = below_all 32 (λ k. k == n || not (may_be_dirty (left_so.public.due k) (left_so.told k) (tells_of (Down g) k)))
+      (λ m lm. or_right (m == n) _ (λ ne. not_true _ (λ d.
+      let e = exact es a.0 in
+      let can : can_be_dirty (left_so.public.due m) (left_so.told m) ≡ true = weaker (is_dirty (most (left_so.told m))) (tells_of (Down g) m) _ d in
+      let w2 = dirty_world left_so m can in
+      let un = dirty_undone left_so m can g.agent.0 in
+      let top : (needs_quiet g.grant || is_settled (left_so.public.due g.agent.0) (left_so.told g.agent.0) (w2.state g.agent.0)) ≡ true =
+      or_right (needs_quiet g.grant) _ (λ q. settled_at left_so m can g.agent.0 (λ h. surely (is_dirty (most (left_so.told m))) (tells_of (Down g) m) _ d
+      (both (m == g.agent.0) _ (subst (λ k. (m == k) ≡ true) h (alike m)) (flip _ q)))) in
+      sym (all w2 (world_given kept g w2, e.after (world_given kept g w2) (old_meant kept g w2 e.sound a.1 a.2 un top), old_informed kept g w2 e.sound a.1 a.2 un top, subst (λ q. Gives q g (world_given kept g w2) w2) e.public (old_gives kept g w2 e.sound a.1 a.2 un top)) m lm (differ m n ne))
+      ∙ dirty_there left_so m can)))
+
+-- WHOLE TRACES
+split_or : (a b : Bool) → (a || b) ≡ true → (a ≡ true) ⊎ (b ≡ true)
+split_or true b h = inl refl
+split_or false b h = inr h
+
+keep_cases : (es : List Flit) (e : Flit) (n : ℕ) (c : Bool) → (shown_by es n ≡ true → HasMoment es n) → (c ≡ true → NoneDirty (e ∷ es) n) → ((not (is_issue e n) && shown_by es n) ≡ true) ⊎ (c ≡ true) → ((is_issue e n ≡ false) × HasMoment es n) ⊎ NoneDirty (e ∷ es) n
+keep_cases es e n c before clean (inl x) = inl (turned _ (left _ _ x), before (right (not (is_issue e n)) _ x))
+keep_cases es e n c before clean (inr x) = inr (clean x)
+
+kept_moment : (es : List Flit) (e : Flit) (n : ℕ) (d : Due) → ((public_of (e ∷ es)).due n ≡ d) → (shown_by es n ≡ true → HasMoment es n) → (c : Bool) → (c ≡ true → NoneDirty (e ∷ es) n) → (awaits_moment d && ((not (is_issue e n) && shown_by es n) || c)) ≡ true → HasMoment (e ∷ es) n
+kept_moment es e n d hd before c clean h = (
+  ap awaits_moment hd ∙ left (awaits_moment d) _ h,
+  keep_cases es e n c before clean (split_or (not (is_issue e n) && shown_by es n) c (right (awaits_moment d) _ h)),
+)
+
+lose_cases : (es : List Flit) (e : Flit) (n : ℕ) (c : Bool) → (HasMoment es n → shown_by es n ≡ true) → (NoneDirty (e ∷ es) n → c ≡ true) → ((is_issue e n ≡ false) × HasMoment es n) ⊎ NoneDirty (e ∷ es) n → ((not (is_issue e n) && shown_by es n) || c) ≡ true
+lose_cases es e n c before clean (inl x) = or_here _ c (both _ _ (flip _ x.0) (before x.1))
+lose_cases es e n c before clean (inr x) = or_there (not (is_issue e n) && shown_by es n) c (clean x)
+
+lost_moment : (es : List Flit) (e : Flit) (n : ℕ) (d : Due) → ((public_of (e ∷ es)).due n ≡ d) → (HasMoment es n → shown_by es n ≡ true) → (c : Bool) → (NoneDirty (e ∷ es) n → c ≡ true) → HasMoment (e ∷ es) n → (awaits_moment d && ((not (is_issue e n) && shown_by es n) || c)) ≡ true
+lost_moment es e n d hd before c clean h = both (awaits_moment d) _ (sym (ap awaits_moment hd) ∙ h.0) (lose_cases es e n c before clean h.1)
+
+same_due : (es : List Flit) → Accepted es → (n : ℕ) → (public_of es).due n ≡ (seen es).public.due n
+same_due es a n = ap (λ (p : Public). p.due n) (sym (exact es a).public)
+
+pub moment_shown : (es : List Flit) → Accepted es → (n : ℕ) → shown_by es n ≡ true → HasMoment es n
+moment_shown [] a n h = no h
+moment_shown (Up f ∷ es) a n h = kept_moment es (Up f) n ((next (seen es) f).public.due n) (same_due (Up f ∷ es) a n) (moment_shown es a.0 n) (none_dirty (next (seen es) f) (Up f) n) (up_clean es f a n) h
+moment_shown (Down g ∷ es) a n h = kept_moment es (Down g) n ((next_home (seen es) g).public.due n) (same_due (Down g ∷ es) a n) (moment_shown es a.0 n) (none_dirty (next_home (seen es) g) (Down g) n) (down_clean es g a n) h
+
+pub shown_moment : (es : List Flit) → Accepted es → (n : ℕ) → HasMoment es n → shown_by es n ≡ true
+shown_moment [] a n h = absurd h
+shown_moment (Up f ∷ es) a n h = lost_moment es (Up f) n ((next (seen es) f).public.due n) (same_due (Up f ∷ es) a n) (shown_moment es a.0 n) (none_dirty (next (seen es) f) (Up f) n) (up_none es f a n) h
+shown_moment (Down g ∷ es) a n h = lost_moment es (Down g) n ((next_home (seen es) g).public.due n) (same_due (Down g ∷ es) a n) (shown_moment es a.0 n) (none_dirty (next_home (seen es) g) (Down g) n) (down_none es g a n) h

@@ -1,0 +1,40 @@
+-- Moments at which no other copy was dirty, as the observer keeps them (docs/OBSERVER.md, "Moments").
+use Rattle.std.specs.Prelude.{ℕ, Bool, false, ◌&&◌, ◌||◌, ◌==◌, not}
+use Rattle.chi_observer.specs.declared.flits.HomeFlit.{HomeFlit}
+use Rattle.chi_observer.specs.declared.flits.Flit.{Flit}
+use Rattle.chi_observer.specs.declared.flits.Flit.TheVariants.{Up, Down}
+use Rattle.chi_observer.specs.declared.flits.Due.{Due}
+use Rattle.chi_observer.specs.Copies.{is_unique, is_dirty}
+use Rattle.chi_observer.specs.Rules.{is_request, needs_quiet, awaits_moment, needs_moment}
+use Rattle.chi_observer.specs.Tables.{Known, most, may_be_free}
+use Rattle.chi_observer.specs.Worlds.{all_below}
+use Rattle.chi_observer.specs.Observed.{Observed, next, next_home}
+
+-- what is kept behind a flit of either side
+abbrev pub after : Observed → Flit → Observed
+after o (Up f) = next o f
+after o (Down g) = next_home o g
+
+-- an agent's request
+abbrev pub is_issue : Flit → ℕ → Bool
+is_issue (Up f) n = is_request f.act && n == f.agent.0
+is_issue (Down g) n = false
+
+-- right behind it the copy is as it is told: a snoop tells of none
+abbrev pub tells_of : Flit → ℕ → Bool
+tells_of (Up f) n = n == f.agent.0
+tells_of (Down g) n = n == g.agent.0 && not (needs_quiet g.grant)
+
+abbrev pub may_be_dirty : Due → Known → Bool → Bool
+may_be_dirty d k told = is_dirty (most k) || (not told && (may_be_free d && is_unique (most k)))
+
+-- right behind the flit, behind which o is kept, no other copy can be dirty
+abbrev pub none_dirty : Observed → Flit → ℕ → Bool
+none_dirty o e n = all_below 32 (λ m. m == n || not (may_be_dirty (o.public.due m) (o.told m) (tells_of e m)))
+
+-- of each agent whose CleanShared is open: there was such a moment since its issue
+abbrev pub shown_after : Observed → Flit → (ℕ → Bool) → ℕ → Bool
+shown_after o e shown n = awaits_moment (o.public.due n) && ((not (is_issue e n) && shown n) || none_dirty o e n)
+
+abbrev pub has_moment : Observed → (ℕ → Bool) → HomeFlit → Bool
+has_moment o shown g = not (needs_moment g.grant (o.public.due g.agent.0)) || shown g.agent.0
