@@ -1,6 +1,6 @@
 -- The protocol credits: of each home, requester and type what was retried (R), granted (G), sent again (S) and returned (B)
 -- (docs/OBSERVER.md, "Ids and credits").
-use Rattle.std.specs.Prelude.{◌≡◌, ℕ, ◌+◌, ◌-◌, ◌≤◌, ◌==◌, ◌&&◌, min, nat_lt, Bool, true, false, List, Option, Some, None}
+use Rattle.std.specs.Prelude.{ℕ, ◌+◌, ◌-◌, ◌==◌, ◌&&◌, min, nat_lt, Bool, List, Option, Some, None}
 use Rattle.std.specs.Map.{lookup}
 use Rattle.std.specs.Option.{unwrap_or}
 use Rattle.indexmap.specs.IndexMap.{insert_entry}
@@ -63,9 +63,3 @@ booked booking accounts = insert_entry is_same_account accounts (account_numbers
 abbrev pub booked_all : Option Booking → List (AccountNumbers × Account) → List (AccountNumbers × Account)
 booked_all None accounts = accounts
 booked_all (Some booking) accounts = booked booking accounts
-
--- S + B ≤ G, and G ≤ R unless grants may be early
-pub record IsBalanced (early : Bool) (account : Account) : Type 0 where
-  pub spent : account.resent + account.returned ≤ account.granted
-  pub promised : account.resent + account.returned ≤ account.retried
-  pub granted : early ≡ false → account.granted ≤ account.retried

@@ -4,9 +4,7 @@ use Rattle.std.specs.Map.{lookup}
 use Rattle.chi_trace.specs.declared.fields.NodeId.{NodeId}
 use Rattle.chi_observer.specs.declared.flits.Flit.{Flit}
 use Rattle.chi_observer.specs.declared.observer.Observer.{Observer}
-use Rattle.chi_observer.specs.Observed.{Observed}
-use Rattle.chi_observer.specs.Runs.{nothing_told}
-use Rattle.chi_observer.specs.Lines.{after, is_reason, is_taken, observed}
+use Rattle.chi_observer.specs.Lines.{Watched, is_reason, is_taken, nothing_watched, watch, watched}
 use Rattle.chi_observe.specs.declared.ids.CacheLine.{CacheLine}
 use Rattle.chi_observe.specs.declared.lines.LineSeen.{LineSeen}
 use Rattle.chi_observe.specs.declared.lines.LineStop.{LineStop}
@@ -18,14 +16,14 @@ use Rattle.chi_observe.specs.declared.reasons.LineReason.TheVariants.{OtherHome,
 pub record LineState : Type 0 where
   pub home : NodeId
   pub aside : Bool
-  pub told : Observed
+  pub told : Watched
 
 abbrev pub line_state : LineSeen → LineState
-line_state seen = record { home = seen.home; aside = seen.aside; told = observed seen.observer }
+line_state seen = record { home = seen.home; aside = seen.aside; told = watched seen.observer }
 
 -- a line that no flit has touched
 abbrev pub opened_line : NodeId → LineState
-opened_line home = record { home = home; aside = false; told = nothing_told }
+opened_line home = record { home = home; aside = false; told = nothing_watched }
 
 -- the lines that flits have touched
 abbrev pub lines_in : List (ℕ × LineSeen) → ℕ → Option LineState
@@ -49,7 +47,7 @@ takes_line s home (Some flit) = s.aside || (s.home.0 == home.0 && is_taken s.tol
 
 abbrev pub line_next : LineState → Option Flit → LineState
 line_next s None = record s { aside = true }
-line_next s (Some flit) = if s.aside then s else record s { told = after s.told flit }
+line_next s (Some flit) = if s.aside then s else record s { told = watch s.told flit }
 
 -- which reasons hold
 abbrev pub is_rule_reason : LineState → Option Flit → LineReason → NodeId → Bool

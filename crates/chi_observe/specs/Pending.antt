@@ -15,7 +15,7 @@ use Rattle.chi_observe.specs.Watched.{Watched}
 
 -- a request that was retried and is surely cancelled isn't open
 abbrev pub is_cancelled_at : LineState → Agent → Bool
-is_cancelled_at s agent = not s.aside && (s.told.told agent.0).cancelled
+is_cancelled_at s agent = not s.aside && (s.told.seen.told agent.0).cancelled
 
 abbrev pub cancelled_at : Option Agent → Option LineState → Bool
 cancelled_at (Some agent) (Some s) = is_cancelled_at s agent

@@ -79,11 +79,13 @@ impl fmt::Display for ToldName {
             Told::SC => "SC",
             Told::SCOrI => "SC or I",
             Told::UC => "UC",
+            Told::UCOrI => "UC or I",
             Told::UCE => "UCE",
             Told::UCEOrI => "UCE or I",
             Told::UCOrUCE => "UC or UCE",
             Told::UD => "UD",
             Told::SD => "SD",
+            Told::Writing => "I, and writes the line",
         })
     }
 }
@@ -126,7 +128,7 @@ pub(crate) fn requester_of(seen: &Seen) -> (NodeId, &'static str) {
 }
 
 /// The flits of a cache, by their names in a trace.
-pub(crate) const SENT: [(Act, &str); 35] = [
+pub(crate) const SENT: [(Act, &str); 42] = [
     (
         Act::Request(chi_observer::Kind::ReadNotSharedDirty),
         "ReadNotSharedDirty",
@@ -135,6 +137,11 @@ pub(crate) const SENT: [(Act, &str); 35] = [
     (Act::Request(chi_observer::Kind::ReadClean), "ReadClean"),
     (Act::Request(chi_observer::Kind::ReadUnique), "ReadUnique"),
     (Act::Request(chi_observer::Kind::CleanUnique), "CleanUnique"),
+    (Act::Request(chi_observer::Kind::CleanShared), "CleanShared"),
+    (
+        Act::Request(chi_observer::Kind::CleanInvalid),
+        "CleanInvalid",
+    ),
     (Act::Request(chi_observer::Kind::Evict), "Evict"),
     (
         Act::Request(chi_observer::Kind::WriteBackFull),
@@ -147,6 +154,10 @@ pub(crate) const SENT: [(Act, &str); 35] = [
     (
         Act::Request(chi_observer::Kind::WriteEvictFull),
         "WriteEvictFull",
+    ),
+    (
+        Act::Request(chi_observer::Kind::WriteUniqueFull),
+        "WriteUniqueFull",
     ),
     (
         Act::Resend(chi_observer::Kind::ReadNotSharedDirty),
@@ -168,6 +179,14 @@ pub(crate) const SENT: [(Act, &str); 35] = [
         Act::Resend(chi_observer::Kind::CleanUnique),
         "CleanUnique with AR 0",
     ),
+    (
+        Act::Resend(chi_observer::Kind::CleanShared),
+        "CleanShared with AR 0",
+    ),
+    (
+        Act::Resend(chi_observer::Kind::CleanInvalid),
+        "CleanInvalid with AR 0",
+    ),
     (Act::Resend(chi_observer::Kind::Evict), "Evict with AR 0"),
     (
         Act::Resend(chi_observer::Kind::WriteBackFull),
@@ -180,6 +199,10 @@ pub(crate) const SENT: [(Act, &str); 35] = [
     (
         Act::Resend(chi_observer::Kind::WriteEvictFull),
         "WriteEvictFull with AR 0",
+    ),
+    (
+        Act::Resend(chi_observer::Kind::WriteUniqueFull),
+        "WriteUniqueFull with AR 0",
     ),
     (Act::CompAck, "CompAck"),
     (Act::SnpResp(Answer::SnpRespI), "SnpResp_I"),
@@ -210,10 +233,11 @@ pub(crate) const SENT: [(Act, &str); 35] = [
         Act::CopyBackWrData(chi_flit::State::SD),
         "CopyBackWrData_SD_PD",
     ),
+    (Act::NonCopyBackWrData, "NonCopyBackWrData_I"),
 ];
 
 /// The flits of a home, by their names in a trace.
-pub(crate) const GIVEN: [(Grant, &str); 15] = [
+pub(crate) const GIVEN: [(Grant, &str); 16] = [
     (Grant::RetryAck, "RetryAck"),
     (Grant::Snp(chi_observer::Snoop::SnpOnce), "SnpOnce"),
     (Grant::Snp(chi_observer::Snoop::SnpClean), "SnpClean"),
@@ -237,5 +261,6 @@ pub(crate) const GIVEN: [(Grant, &str); 15] = [
     (Grant::CompData(chi_flit::State::UD), "CompData_UD_PD"),
     (Grant::CompData(chi_flit::State::SD), "CompData_SD_PD"),
     (Grant::CompI, "Comp_I"),
+    (Grant::CompSC, "Comp_SC"),
     (Grant::CompUC, "Comp_UC"),
 ];

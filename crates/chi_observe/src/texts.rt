@@ -165,6 +165,12 @@ fn write_rule<A: Allocator>(
             write!(text, "the home awaits a CompAck or write data of ")?;
             write_node(text, requesters, busy_agent(observer).unwrap_or(32))
         }
+        Reason::NoMoment => {
+            write!(
+                text,
+                "another copy may have been dirty since its request was sent"
+            )
+        }
         Reason::NoDuty => write!(text, "the home has no dirty data to pass on"),
         Reason::OtherWords => {
             let words = WordsName(known_words(observer));
